@@ -1,0 +1,49 @@
+//! The states of the database transaction (NTCIP 1201, `dbCreateTransaction`), and who holds a draft.
+
+use signal_records::Words;
+use std::alloc::AllocError;
+
+/// The states in which a clerk holds the draft.
+#[derive(Clone, Copy, Debug, PartialEq, Eq)]
+pub enum Stage {
+    Transaction,
+    Verify,
+    Done,
+}
+
+/// The four states of the transaction.
+#[derive(Clone, Copy, Debug, PartialEq, Eq)]
+pub enum DbState {
+    Normal,
+    Transaction,
+    Verify,
+    Done,
+}
+
+/// What is known of the draft's consistency (NTCIP 1201, `dbVerifyStatus`). It is never stored.
+#[derive(Clone, Copy, Debug, PartialEq, Eq)]
+pub enum Verdict {
+    NotDone,
+    DoneWithError,
+    DoneWithNoError,
+}
+
+/// Who holds a draft, and how far it has come. There is no holder in state Normal.
+#[derive(Drop)]
+pub struct Holder {
+    pub stage: Stage,
+    /// The clerk who began the transaction.
+    pub owner: Words<40>,
+}
+
+impl Clone for Holder {
+    ghost use Rattle.std.specs.Prelude.{◌≡◌};
+
+    ghost is_clone = { λ holder copy. copy ≡ holder };
+
+    fn clone(&self) -> Result<Holder, AllocError> {
+        let stage = self.stage;
+        let owner = self.owner.clone()?;
+        Ok(Holder { stage, owner })
+    }
+}

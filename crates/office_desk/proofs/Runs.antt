@@ -1,0 +1,79 @@
+-- From a decision to a step that was made, and from steps to runs.
+use Rattle.std.proofs.Common.{◌≡◌, ℕ, List, [], ◌∷◌, ◌++◌, refl, ap, sym, subst, ◌∙◌, inl, inr, Err, length, true, arith}
+use Rattle.std.specs.Prelude.{◌==◌}
+use Rattle.std.proofs.lemmas.Bool.Decides.{nat_tests}
+use Rattle.office_tables_shelf.specs.Change.{changed_by}
+use Rattle.office_tables_shelf.specs.Content.{Content}
+use Rattle.office_tables_shelf.specs.declared.rows.RowChange.{RowChange}
+use Rattle.office_tables_shelf.specs.declared.shelf.ShelfFault.{ShelfFault}
+use Rattle.office_tables_shelf.specs.declared.shelf.ShelfFault.TheVariants.{NoMemory, Store, Damaged}
+use Rattle.office_desk.specs.Answers.{AnswersAny, Answers, Decides, RunsAny, RunsTo}
+use Rattle.office_desk.specs.Damage.{MeetsDamage}
+use Rattle.office_desk.specs.Decisions.{refusal_of}
+use Rattle.office_desk.specs.Office.{Office}
+use Rattle.office_desk.specs.StandFor.{StandForSound}
+use Rattle.office_desk.specs.Step.{Step, Run}
+use Rattle.office_desk.specs.declared.command.Command.{Command}
+use Rattle.office_desk.specs.declared.command.Command.TheVariants.{AddIntersection, State}
+use Rattle.office_desk.specs.declared.refusal.Refusal.TheVariants.{Unavailable, Damaged as RowDamaged}
+use Rattle.office_desk.specs.declared.reply.Reply.{Reply}
+use Rattle.office_desk.specs.declared.reply.Reply.TheVariants.{Refused}
+use Rattle.office_desk.proofs.Stands.{no_damaged_row}
+
+-- ---- a decision
+
+pub unavailable_answers : (tables : Content) (command : Command) (reply : Reply) (changes : List RowChange) → reply ≡ Refused Unavailable → changes ≡ [] → AnswersAny tables command reply (changed_by tables changes)
+unavailable_answers tables command reply changes r e office stands = record {
+  next = office;
+  step = inl (r, refl);
+  stand = subst (λ list. StandForSound (changed_by tables list) office) (sym e) stands;
+}
+
+pub same_answers : (old new : Content) (command : Command) (reply : Reply) (changes : List RowChange) → AnswersAny old command reply (changed_by old changes) → new ≡ changed_by old changes → AnswersAny old command reply new
+same_answers old new command reply changes answers e office stands = subst (Answers office command reply) (sym e) (answers office stands)
+
+pub reply_answers : (tables : Content) (command : Command) (reply told : Reply) (changes : List RowChange) → AnswersAny tables command reply tables → told ≡ reply → changes ≡ [] → AnswersAny tables command told (changed_by tables changes)
+reply_answers tables command reply told changes answers r e office stands =
+    subst (λ list. Answers office command told (changed_by tables list)) (sym e) (subst (λ a. Answers office command a tables) (sym r) (answers office stands))
+
+pub fault_decides : (tables : Content) (command : Command) (fault : ShelfFault) → (fault ≡ Damaged → MeetsDamage tables command) → Decides tables command (Err fault)
+fault_decides tables command NoMemory h = tt
+fault_decides tables command Store h = tt
+fault_decides tables command Damaged h = h refl
+
+damage_refuted : (tables : Content) (command : Command) → MeetsDamage tables command → (office : Office) → StandForSound tables office → ⊥
+damage_refuted tables (AddIntersection id interval name) damage = no_damaged_row tables id damage
+damage_refuted tables (State id) damage = no_damaged_row tables id damage
+
+-- a fault of the shelf, answered as its refusal
+pub fault_answers : (tables : Content) (command : Command) (fault : ShelfFault) (reply : Reply) (changes : List RowChange) → Decides tables command (Err fault) → reply ≡ Refused (refusal_of fault) → changes ≡ [] → AnswersAny tables command reply (changed_by tables changes)
+fault_answers tables command NoMemory reply changes decides r e = unavailable_answers tables command reply changes r e
+fault_answers tables command Store reply changes decides r e = unavailable_answers tables command reply changes r e
+fault_answers tables command Damaged reply changes decides r e = λ office stands. absurd (damage_refuted tables command decides office stands)
+
+pub fault_damage : (tables : Content) (command : Command) (fault : ShelfFault) (reply : Reply) → Decides tables command (Err fault) → reply ≡ Refused (refusal_of fault) → reply ≡ Refused RowDamaged → MeetsDamage tables command
+fault_damage tables command NoMemory reply decides r e = cc
+fault_damage tables command Store reply decides r e = cc
+fault_damage tables command Damaged reply decides r e = decides
+
+pub no_items : (changes : List RowChange) → true ≡ (length changes == 0) → changes ≡ []
+no_items [] e = refl
+no_items (x ∷ xs) e = absurd (grind (arith, nat_tests))
+
+-- ---- runs
+
+-- a run goes on by one step
+run-more : (commands : List Command) (replies : List Reply) (first mid last : Office) (command : Command) (reply : Reply) → Run first commands replies mid → Step mid command reply last → Run first (commands ++ command ∷ []) (replies ++ reply ∷ []) last
+run-more [] [] first mid last command reply run step = (last, subst (λ o. Step o command reply last) run step, refl)
+run-more (c ∷ cs) (r ∷ rs) first mid last command reply run step = (run.0, run.1, run-more cs rs run.0 mid last command reply run.2 step)
+run-more [] (r ∷ rs) first mid last command reply run step = absurd run
+run-more (c ∷ cs) [] first mid last command reply run step = absurd run
+
+pub runs_nothing : (tables : Content) → RunsAny tables [] [] tables
+runs_nothing tables office stands = record { last = office; run = refl; stand = stands }
+
+pub runs_more : (first mid last : Content) (commands : List Command) (replies : List Reply) (command : Command) (reply : Reply) → RunsAny first commands replies mid → AnswersAny mid command reply last → RunsAny first (commands ++ command ∷ []) (replies ++ reply ∷ []) last
+runs_more first mid last commands replies command reply runs answers office stands =
+    let so_far = runs office stands in
+    let now = answers so_far.last so_far.stand in
+    record { last = now.next; run = run-more commands replies office so_far.last now.next command reply so_far.run now.step; stand = now.stand }

@@ -1,0 +1,47 @@
+use Rattle.std.proofs.Common.{◌≡◌, ap, sym, ◌∙◌, refl, length, List, [], inl, inr}
+use Rattle.std.specs.Prelude.{◌==◌}
+use Rattle.office_tables_shelf.specs.Change.{changed_by, writes_after}
+use Rattle.office_tables_shelf.specs.Content.{Content}
+use Rattle.office_tables_shelf.specs.declared.rows.RowChange.{RowChange}
+use Rattle.office_desk.proofs.Runs.{same_answers, unavailable_answers, no_items}
+use Rattle.office_desk.proofs.running.run_on.Goals as goal
+
+pub returns-then-is_empty-clause-step : goal.returns-then-is_empty-clause-step
+returns-then-is_empty-clause-step g c = λ honest.
+    same_answers _ _ _ _ c.decide_on-decided.result.changes.items (c.decide_on-decided.ensures.step honest)
+    (c.decide_on-decided.ensures.kept.same_content honest ∙ ap (changed_by _) (sym (no_items c.decide_on-decided.result.changes.items (sym c.if-is_empty.true ∙ (c.is_empty.ensures ∙ ap (λ xs. length xs == 0) c.as_slice-changes.ensures.value)))))
+
+pub returns-in-Ok-clause-step : goal.returns-in-Ok-clause-step
+returns-in-Ok-clause-step g c = λ honest.
+    let before = c.apply.ensures.honest honest in
+    same_answers _ _ _ _ c.decide_on-decided.result.changes.items (c.decide_on-decided.ensures.step before)
+    (c.in-Ok.ensures.ok honest ∙ (ap (changed_by _) c.as_slice-changes.ensures.value ∙ ap (λ (t : Content). changed_by t c.decide_on-decided.result.changes.items) (c.decide_on-decided.ensures.kept.same_content before)))
+
+pub returns-in-Err-clause-step : goal.returns-in-Err-clause-step
+returns-in-Err-clause-step g c = λ honest.
+    let before = c.apply.ensures.honest honest in
+    same_answers _ _ _ _ [] (unavailable_answers _ _ _ _ refl refl) (c.in-Err.ensures.err honest ∙ c.decide_on-decided.ensures.kept.same_content before)
+
+pub returns-in-Ok-clause-crash : goal.returns-in-Ok-clause-crash
+returns-in-Ok-clause-crash g c = λ honest tables left.
+    let before = c.apply.ensures.honest honest in
+    elim (c.apply.ensures.crash honest tables left) [
+      | inl old ↦ inl (c.decide_on-decided.ensures.kept.same_outcomes before tables old)
+      | inr made ↦ inr (
+        c.decide_on-decided.result.reply,
+        same_answers _ _ _ _ c.decide_on-decided.result.changes.items (c.decide_on-decided.ensures.step before)
+            (made ∙ (ap (changed_by _) c.as_slice-changes.ensures.value ∙ ap (λ (t : Content). changed_by t c.decide_on-decided.result.changes.items) (c.decide_on-decided.ensures.kept.same_content before))),
+      )
+    ]
+
+pub returns-in-Err-clause-crash : goal.returns-in-Err-clause-crash
+returns-in-Err-clause-crash g c = λ honest tables left.
+    let before = c.apply.ensures.honest honest in
+    elim (c.apply.ensures.crash honest tables left) [
+      | inl old ↦ inl (c.decide_on-decided.ensures.kept.same_outcomes before tables old)
+      | inr made ↦ inr (
+        c.decide_on-decided.result.reply,
+        same_answers _ _ _ _ c.decide_on-decided.result.changes.items (c.decide_on-decided.ensures.step before)
+            (made ∙ (ap (changed_by _) c.as_slice-changes.ensures.value ∙ ap (λ (t : Content). changed_by t c.decide_on-decided.result.changes.items) (c.decide_on-decided.ensures.kept.same_content before))),
+      )
+    ]

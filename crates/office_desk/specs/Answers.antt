@@ -1,0 +1,44 @@
+-- What it means that a command was answered rightly, on tables that stand for an office.
+use Rattle.std.specs.Prelude.{◌≡◌, List, Result, Ok, Err}
+use Rattle.office_tables_shelf.specs.Content.{Content}
+use Rattle.office_tables_shelf.specs.Change.{changed_by}
+use Rattle.office_tables_shelf.specs.declared.shelf.ShelfFault.{ShelfFault}
+use Rattle.office_tables_shelf.specs.declared.shelf.ShelfFault.TheVariants.{NoMemory, Store, Damaged}
+use Rattle.office_desk.specs.declared.command.Command.{Command}
+use Rattle.office_desk.specs.declared.decided.Decided.{Decided}
+use Rattle.office_desk.specs.declared.reply.Reply.{Reply}
+use Rattle.office_desk.specs.Damage.{MeetsDamage}
+use Rattle.office_desk.specs.Office.{Office}
+use Rattle.office_desk.specs.Step.{Step, Run}
+use Rattle.office_desk.specs.StandFor.{StandForSound}
+
+-- From an office, the reply is that of a step, and the tables stand for a sound office after it.
+pub record Answers (office : Office) (command : Command) (reply : Reply) (tables : Content) : Type 0 where
+  pub next : Office
+  pub step : Step office command reply next
+  pub stand : StandForSound tables next
+
+-- Whichever sound office the old tables stand for, the reply and the new tables are one step of it.
+abbrev pub AnswersAny : Content → Command → Reply → Content → Type 0
+AnswersAny old command reply new = (office : Office) → StandForSound old office → Answers office command reply new
+
+-- A decision on tables: what it changes makes the step; and Damaged comes only where a row that it reads is no record.
+abbrev pub Decides : Content → Command → Result Decided ShelfFault → Type 0
+Decides tables command (Ok decided) = AnswersAny tables command decided.reply (changed_by tables decided.changes.items)
+Decides tables command (Err Damaged) = MeetsDamage tables command
+Decides tables command (Err NoMemory) = Unit {0}
+Decides tables command (Err Store) = Unit {0}
+
+-- From an office, the replies are those of a run, and the tables stand for a sound office after it.
+pub record RunsTo (office : Office) (commands : List Command) (replies : List Reply) (tables : Content) : Type 0 where
+  pub last : Office
+  pub run : Run office commands replies last
+  pub stand : StandForSound tables last
+
+-- Whichever sound office the old tables stand for, the replies and the new tables are a run of it.
+abbrev pub RunsAny : Content → List Command → List Reply → Content → Type 0
+RunsAny old commands replies new = (office : Office) → StandForSound old office → RunsTo office commands replies new
+
+-- tables that a step of the command, with whichever reply, makes of the old ones
+abbrev pub IsAfterStep : Content → Command → Content → Type 0
+IsAfterStep old command new = (reply : Reply) × AnswersAny old command reply new

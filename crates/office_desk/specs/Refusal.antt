@@ -1,0 +1,16 @@
+-- The table of refusals.
+use Rattle.std.specs.Prelude.{ℕ, List, codes}
+use Rattle.office_desk.specs.declared.refusal.Refusal.{Refusal}
+use Rattle.office_desk.specs.declared.refusal.Refusal.TheVariants.{UnknownIntersection, IntersectionDiffers, Unavailable, Damaged}
+
+-- number, name, and status code of an HTTP answer
+pub record Line : Type 0 where
+  pub number : ℕ
+  pub name : List ℕ
+  pub status : ℕ
+
+abbrev pub line_of : Refusal → Line
+line_of UnknownIntersection = record { number = 10; name = codes "UnknownIntersection"; status = 404 }
+line_of IntersectionDiffers = record { number = 11; name = codes "IntersectionDiffers"; status = 409 }
+line_of Unavailable = record { number = 90; name = codes "Unavailable"; status = 503 }
+line_of Damaged = record { number = 91; name = codes "Damaged"; status = 500 }

@@ -1,0 +1,69 @@
+//! The command AddIntersection.
+ghost use Rattle.std.specs.Prelude.{◌≡◌, ◌≢◌, IfOk};
+ghost use Rattle.office_tables_shelf.specs.Shelf.{IsKept};
+ghost use Rattle.office_desk.specs.Answers.{Decides};
+ghost use Rattle.office_desk.specs.Changes.{changes_of};
+ghost use Rattle.office_desk.specs.Decisions.{AddsRow};
+
+use crate::command::Command;
+use crate::decided::Decided;
+use crate::refusal::Refusal;
+use crate::reply::Reply;
+use draft_core::revision::Revision;
+use office_tables_shelf::rows::{IntersectionRow, RowChange};
+use office_tables_shelf::shelf::{Shelf, ShelfFault};
+use signal_records::{InterId, Interval, NoMemory, Words};
+use std::alloc::Global;
+
+/// The answer for an intersection of which this row was read.
+fn added(
+    alloc: Global,
+    id: InterId,
+    interval: Interval,
+    name: &Words<120>,
+    row: &Option<IntersectionRow>,
+) -> Result<Decided, NoMemory>
+    ensures { IfOk result (λ decided. AddsRow id (record { name = name.now; interval = interval }) row.now decided.reply decided.changes.items) }
+{
+    let text = name.as_str();
+    let days = interval.get();
+    if let Some(row) = row {
+        let reply = if row.name.as_str() == text && row.interval.get() == days {
+            Reply::Same
+        } else {
+            Reply::Refused(Refusal::IntersectionDiffers)
+        };
+        return Ok(Decided::unchanged(alloc, reply));
+    }
+    let mut decided = Decided::unchanged(alloc, Reply::Added);
+    let row = IntersectionRow {
+        name: name.clone()?,
+        interval,
+        revision: Revision::first(),
+        holder: None,
+    };
+    decided.changes.push(RowChange::PutIntersection(id, row))?;
+    Ok(decided)
+}
+
+/// Decides AddIntersection.
+pub fn decide_add<S: Shelf>(
+    shelf: &mut S,
+    alloc: Global,
+    id: InterId,
+    interval: Interval,
+    name: &Words<120>,
+) -> Result<Decided, ShelfFault>
+    ensures step { S.is_honest shelf.new → Decides (S.content shelf.old) (Command.AddIntersection id interval name.now) result }
+    ensures changes { IfOk result (λ decided. decided.changes.items ≡ changes_of decided.reply (Command.AddIntersection id interval name.now)) }
+    ensures undamaged { IfOk result (λ decided. decided.reply ≢ Reply.Refused Refusal.Damaged) }
+    ensures kept { IsKept S.is_honest S.content S.written S.may_leave shelf.old shelf.new }
+{
+    match shelf.intersection(alloc, id) {
+        Ok(row) => match added(alloc, id, interval, name, &row) {
+            Ok(decided) => return Ok(decided),
+            Err(NoMemory) => return Err(ShelfFault::NoMemory),
+        },
+        Err(fault) => return Err(fault),
+    }
+}

@@ -1,0 +1,28 @@
+//! A reply, and what is to be written for it.
+
+use crate::reply::Reply;
+use office_tables_shelf::rows::RowChange;
+use std::alloc::Global;
+
+/// A reply, and what is to be written for it.
+#[derive(Drop)]
+pub struct Decided {
+    pub reply: Reply,
+    /// The rows to be written, in their order; none where the reply is a refusal.
+    pub changes: Vec<RowChange>,
+}
+
+impl Decided {
+    ghost use Rattle.std.specs.Prelude.{◌≡◌, []};
+
+    /// A reply for which nothing is to be written.
+    pub fn unchanged(alloc: Global, reply: Reply) -> Decided
+        ensures reply { result.reply ≡ reply }
+        ensures no_changes { result.changes.items ≡ [] }
+    {
+        Decided {
+            reply,
+            changes: Vec::new(alloc),
+        }
+    }
+}

@@ -1,0 +1,14 @@
+//! The commands and queries of the office, over any shelf.
+#![tactic(auto)]
+
+mod adding;
+pub mod command;
+pub mod decided;
+mod deciding;
+pub mod office;
+pub mod refusal;
+pub mod reply;
+mod running;
+mod showing;
+#[cfg(test)]
+mod tests;

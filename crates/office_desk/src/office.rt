@@ -1,0 +1,103 @@
+//! The office over a shelf.
+ghost use Rattle.std.specs.Prelude.{◌≡◌, ◌≢◌, ◌⊎◌, [], IfOk, OnOk, OnErr};
+ghost use Rattle.office_tables_shelf.specs.Content.{Content};
+ghost use Rattle.office_tables_shelf.specs.Change.{changed_by, writes_after};
+ghost use Rattle.office_tables_shelf.specs.Shelf.{IsKept};
+ghost use Rattle.office_tables_shelf.specs.declared.rows.Table.{Table};
+ghost use Rattle.office_desk.specs.Answers.{AnswersAny, RunsAny, IsAfterStep};
+ghost use Rattle.office_desk.specs.Changes.{IsRefused, IsQuery, changes_of};
+ghost use Rattle.office_desk.specs.Damage.{MeetsDamage};
+
+use crate::command::Command;
+use crate::decided::Decided;
+use crate::deciding::decide_on;
+use crate::refusal::Refusal;
+use crate::reply::Reply;
+use crate::running::{run_all_on, run_on};
+use office_tables_shelf::rows::RowChange;
+use office_tables_shelf::shelf::{Shelf, ShelfFault};
+use signal_records::NoMemory;
+use std::alloc::Global;
+use std::marker::Model;
+
+/// The office over a shelf.
+#[derive(Drop)]
+pub struct Office<S> {
+    shelf: S,
+}
+
+impl<S> Model for Office<S> {
+    ghost Value = { S };
+
+    ghost view = { λ office. office.shelf };
+}
+
+impl<S: Shelf> Office<S> {
+    /// The office whose tables the shelf keeps.
+    pub fn new(shelf: S) -> Office<S>
+        ensures { result ≡ shelf }
+    {
+        Office { shelf }
+    }
+
+    pub fn into_shelf(self) -> S
+        ensures { result ≡ self }
+    {
+        self.shelf
+    }
+
+    /// What a command is answered, and what is to be written for it. Nothing is written yet.
+    pub fn decide(&mut self, alloc: Global, command: &Command) -> Decided
+        ensures step { S.is_honest self.new → AnswersAny (S.content self.old) command.now result.reply (changed_by (S.content self.old) result.changes.items) }
+        ensures kept { IsKept S.is_honest S.content S.written S.may_leave self.old self.new }
+        ensures changes { result.changes.items ≡ changes_of result.reply command.now }
+        ensures refused { IsRefused result.reply → result.changes.items ≡ [] }
+        ensures query { IsQuery command.now → result.changes.items ≡ [] }
+        ensures damaged { result.reply ≡ Reply.Refused Refusal.Damaged → S.is_honest self.new → MeetsDamage (S.content self.old) command.now }
+    {
+        decide_on(&mut self.shelf, alloc, command)
+    }
+
+    /// Makes the changes of a decision in their order, all or none. Refused, it answers NoMemory or Store.
+    pub fn apply(&mut self, alloc: Global, changes: &[RowChange]) -> Result<(), ShelfFault>
+        ensures honest { S.is_honest self.new → S.is_honest self.old }
+        ensures ok { OnOk result (S.is_honest self.new → S.content self.new ≡ changed_by (S.content self.old) changes.now) }
+        ensures err { OnErr result (S.is_honest self.new → S.content self.new ≡ S.content self.old) }
+        ensures undamaged { result ≢ Err ShelfFault.Damaged }
+        ensures written_ok { OnOk result ((table : Table) → S.written self.new table ≡ writes_after table (S.written self.old table) changes.now) }
+        ensures written_err { OnErr result ((table : Table) → S.written self.new table ≡ S.written self.old table) }
+        // A crash leaves what it could before, or the whole result; and that alone once rows were changed.
+        ensures crash { S.is_honest self.new → (tables : Content) → S.may_leave self.new tables →
+            S.may_leave self.old tables ⊎ (tables ≡ changed_by (S.content self.old) changes.now) }
+        ensures settled { OnOk result (S.is_honest self.new → S.content self.new ≢ S.content self.old →
+            (tables : Content) → S.may_leave self.new tables → tables ≡ S.content self.new) }
+    {
+        self.shelf.apply(alloc, changes)
+    }
+
+    /// Runs one command.
+    pub fn run(&mut self, alloc: Global, command: &Command) -> Reply
+        ensures step { S.is_honest self.new → AnswersAny (S.content self.old) command.now result (S.content self.new) }
+        ensures honest { S.is_honest self.new → S.is_honest self.old }
+        ensures refused { IsRefused result → S.is_honest self.new → S.content self.new ≡ S.content self.old }
+        ensures writes { (table : Table) → S.written self.new table ≡ writes_after table (S.written self.old table) (changes_of result command.now) }
+        ensures damaged { result ≡ Reply.Refused Refusal.Damaged → S.is_honest self.new → MeetsDamage (S.content self.old) command.now }
+        // A crash leaves what it could before the call, or the tables after the command's step.
+        ensures crash { S.is_honest self.new → (tables : Content) → S.may_leave self.new tables →
+            S.may_leave self.old tables ⊎ IsAfterStep (S.content self.old) command.now tables }
+        // Where the command changed the tables, and was answered, it leaves those alone.
+        ensures settled { S.is_honest self.new → result ≢ Reply.Refused Refusal.Unavailable → S.content self.new ≢ S.content self.old →
+            (tables : Content) → S.may_leave self.new tables → tables ≡ S.content self.new }
+    {
+        run_on(&mut self.shelf, alloc, command)
+    }
+
+    /// Runs commands in turn. Room for the replies is taken first: refused, nothing is run.
+    pub fn run_all(&mut self, alloc: Global, commands: &[Command]) -> Result<Vec<Reply>, NoMemory>
+        ensures run { IfOk result (λ replies. S.is_honest self.new → RunsAny (S.content self.old) commands.now replies.items (S.content self.new)) }
+        ensures honest { S.is_honest self.new → S.is_honest self.old }
+        ensures err { OnErr result (self.new ≡ self.old) }
+    {
+        run_all_on(&mut self.shelf, alloc, commands)
+    }
+}

@@ -1,0 +1,68 @@
+//! Why a command is refused: one table of numbers, names and status codes.
+
+ghost use Rattle.std.specs.Prelude.{◌≡◌};
+ghost use Rattle.office_desk.specs.Refusal.{line_of};
+
+/// Why a command is refused.
+#[derive(Clone, Copy, Debug, PartialEq, Eq)]
+pub enum Refusal {
+    /// There is no such intersection.
+    UnknownIntersection,
+    /// The intersection is there with another name or interval.
+    IntersectionDiffers,
+    /// Memory or the database refused; nothing was changed.
+    Unavailable,
+    /// A stored row is no record.
+    Damaged,
+}
+
+/// A line of the table of refusals.
+#[derive(Clone, Copy, Debug)]
+pub struct RefusalLine {
+    pub number: u32,
+    pub name: &'static str,
+    /// The status code of an HTTP answer (RFC 9110).
+    pub status: u16,
+}
+
+impl Refusal {
+    /// Its line of the table.
+    fn line(self) -> RefusalLine
+        ensures number { result.number ≡ (line_of self).number }
+        ensures name { result.name.now ≡ (line_of self).name }
+        ensures status { result.status ≡ (line_of self).status }
+    {
+        let (number, name, status) = match self {
+            Refusal::UnknownIntersection => (10, "UnknownIntersection", 404),
+            Refusal::IntersectionDiffers => (11, "IntersectionDiffers", 409),
+            Refusal::Unavailable => (90, "Unavailable", 503),
+            Refusal::Damaged => (91, "Damaged", 500),
+        };
+        RefusalLine {
+            number,
+            name,
+            status,
+        }
+    }
+
+    /// Its number, by which clients know it.
+    pub fn number(self) -> u32
+        ensures { result ≡ (line_of self).number }
+    {
+        self.line().number
+    }
+
+    /// Its name, as answers show it.
+    pub fn name(self) -> &'static str
+        ensures { result.now ≡ (line_of self).name }
+    {
+        self.line().name
+    }
+
+    /// The status code of an HTTP answer that shows it.
+    pub fn status(self) -> u16
+        ensures { result ≡ (line_of self).status }
+    {
+        self.line().status
+    }
+}

@@ -1,0 +1,39 @@
+-- How a decision and its answer make a step of the protocol.
+use Rattle.std.proofs.Common.{◌≡◌, ◌≢◌, ◌⊎◌, inl, inr, ℕ, List, refl, sym, subst}
+use Rattle.std.specs.Prelude.{Result, Ok, Err, IfOk}
+use Rattle.office_tables_shelf.specs.Content.{Content}
+use Rattle.office_desk.specs.Answers.{AnswersAny}
+use Rattle.office_desk.specs.Office.{Office}
+use Rattle.office_desk.specs.StandFor.{StandForSound}
+use Rattle.office_desk.specs.Step.{Step}
+use Rattle.office_desk.specs.declared.refusal.Refusal.TheVariants.{Unavailable}
+use Rattle.office_desk.specs.declared.reply.Reply.{Reply}
+use Rattle.office_desk.specs.declared.reply.Reply.TheVariants.{Refused}
+use Rattle.office_http_wire.specs.Answers.{answer_bytes}
+use Rattle.office_http_wire.specs.Faults.{ask_fault_text}
+use Rattle.office_http_wire.specs.declared.ask.Asked.{Asked}
+use Rattle.office_http_wire.specs.declared.ask.AskFault.{AskFault}
+use Rattle.office_http_wire.specs.declared.ask.AskFault.TheVariants.{NoMemory}
+use Rattle.office_http.specs.Protocol.{AnswersAsked, AnswersRead}
+
+-- a reply that is not unavailable is that of the command's own step
+own_step : (before : Office) (asked : Asked) (reply : Reply) (after : Office) (answer : List ℕ) → reply ≢ Refused Unavailable
+    → answer ≡ answer_bytes reply asked.form → Step before asked.command reply after → AnswersAsked before asked answer after
+own_step before asked reply after answer other text (inl same) = absurd (other same.0)
+own_step before asked reply after answer other text (inr step) = record { reply = reply; step = step; text = text }
+
+-- what was decided, once it is made, is answered by a step
+pub answers_asked : (old new : Content) (asked : Asked) (reply : Reply) (answer : List ℕ) → AnswersAny old asked.command reply new → reply ≢ Refused Unavailable
+    → answer ≡ answer_bytes reply asked.form → (before : Office) → StandForSound old before
+    → (after : Office) × StandForSound new after × AnswersAsked before asked answer after
+answers_asked old new asked reply answer any other text before stands =
+    let step = any before stands in
+    (step.next, step.stand, own_step before asked reply step.next answer other text step.step)
+
+-- a request that asks nothing is answered with its fault, and leaves the office
+pub answers_fault : {V E : Type 0} (items : V → List ℕ) (result : Result V E) (read : Result Asked AskFault) (fault : AskFault) (tables : Content) (before : Office) → StandForSound tables before
+    → (fault ≢ NoMemory → read ≡ Err fault) → IfOk result (λ v. (fault ≢ NoMemory) × (items v ≡ ask_fault_text fault))
+    → IfOk result (λ v. (after : Office) × StandForSound tables after × AnswersRead read before (items v) after)
+answers_fault items (Err e) read fault tables before stands gives text = tt
+answers_fault items (Ok v) read fault tables before stands gives text =
+    (before, stands, subst (λ (r : Result Asked AskFault). AnswersRead r before (items v) before) (sym (gives text.0)) (text.1, refl))

@@ -1,0 +1,35 @@
+-- How the office answers requests.
+use Rattle.std.specs.Prelude.{◌≡◌, ℕ, List, Result, Ok, Err}
+use Rattle.office_desk.specs.Office.{Office}
+use Rattle.office_desk.specs.Step.{answered}
+use Rattle.office_desk.specs.declared.reply.Reply.{Reply}
+use Rattle.office_http_framing.specs.Front.{PlainRequest}
+use Rattle.office_http_framing.specs.Protocol.{Protocol}
+use Rattle.office_http_wire.specs.Answers.{answer_bytes, unavailable_bytes}
+use Rattle.office_http_wire.specs.Commands.{command_at}
+use Rattle.office_http_wire.specs.Faults.{ask_fault_text, framing_fault_text}
+use Rattle.office_http_wire.specs.declared.ask.Asked.{Asked}
+use Rattle.office_http_wire.specs.declared.ask.AskFault.{AskFault}
+
+-- the command takes its step of the office machine, and its reply is written
+pub record AnswersAsked (before : Office) (asked : Asked) (answer : List ℕ) (after : Office) : Type 0 where
+  pub reply : Reply
+  pub step : answered before asked.command ≡ (reply, after)
+  pub text : answer ≡ answer_bytes reply asked.form
+
+-- what was asked takes its step; a request that asks nothing is answered with its fault, and leaves the office
+abbrev pub AnswersRead : Result Asked AskFault → Office → List ℕ → Office → Type 0
+AnswersRead (Ok asked) before answer after = AnswersAsked before asked answer after
+AnswersRead (Err fault) before answer after = (answer ≡ ask_fault_text fault) × (after ≡ before)
+
+-- a request is read as a command or a fault
+abbrev pub AnswersRequest : Office → PlainRequest → List ℕ → Office → Type 0
+AnswersRequest before request answer after = AnswersRead (command_at request.method request.path request.body) before answer after
+
+-- the answers of the office
+abbrev pub office_protocol : Protocol Office
+office_protocol = record {
+  step = AnswersRequest;
+  fault_text = framing_fault_text;
+  unavailable_text = unavailable_bytes;
+}

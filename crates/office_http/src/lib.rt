@@ -1,0 +1,21 @@
+//! The office behind HTTP/1.1: bytes in, bytes out.
+//!
+//! The framing of requests and the engine stand in `office_http_framing`, requests as commands and
+//! replies as answers in `office_http_wire`; their public names are handed on here.
+#![tactic(auto)]
+
+mod machine;
+mod service;
+
+pub use office_http_framing::ends::{
+    Counts, FromRead, Sink, Source, ToWrite, WriteFailed, write_all,
+};
+pub use office_http_framing::engine::{ServeFault, Served};
+pub use office_http_framing::front::{Fault, Front, Request, next_request};
+pub use office_http_wire::{
+    AskFault, Asked, Field, Form, More, answer_of, command_of, fault_answer, unavailable,
+};
+pub use service::serve;
+
+#[cfg(test)]
+mod tests;

@@ -1,0 +1,100 @@
+//! The office as the machine behind the engine.
+
+ghost use Rattle.std.specs.Prelude.{◌≡◌, ◌≢◌, ◌↔◌, List, ℕ, IsTrue, IfOk, OnErr};
+ghost use Rattle.office_http_wire.specs.Faults.{ask_fault_text};
+ghost use Rattle.office_desk.specs.Office.{Office as OfficeState};
+ghost use Rattle.office_desk.specs.StandFor.{StandForSound};
+ghost use Rattle.office_http.specs.Protocol.{AnswersAsked, AnswersRequest};
+
+use office_desk::office::Office;
+use office_desk::refusal::Refusal;
+use office_desk::reply::Reply;
+use office_http_framing::front::{Fault, Request};
+use office_http_framing::machine::{Machine, Unavailable};
+use office_http_wire::{
+    AskFault, Asked, RouteCache, answer_of, ask_fault_answer, framing_fault_answer, unavailable,
+};
+use office_tables_shelf::shelf::Shelf;
+use std::alloc::{AllocError, Global};
+
+/// What is made once for a stream: the table of routes.
+#[derive(Drop)]
+pub(crate) struct StreamTools {
+    pub(crate) routes: RouteCache,
+}
+
+/// Whether memory or the tables were refused.
+fn is_unavailable(reply: &Reply) -> bool
+    ensures { IsTrue result ↔ (reply.now ≡ Reply.Refused Refusal.Unavailable) }
+{
+    matches!(reply, Reply::Refused(Refusal::Unavailable))
+}
+
+/// The whole answer to a request that asks nothing.
+fn answer_fault(alloc: Global, fault: AskFault) -> Result<Vec<u8>, Unavailable>
+    ensures { IfOk result (λ answer. (fault ≢ AskFault.NoMemory) × (answer.items ≡ ask_fault_text fault)) }
+{
+    match ask_fault_answer(alloc, fault) {
+        Ok(answer) => Ok(answer),
+        Err(_) => Err(Unavailable),
+    }
+}
+
+/// Decides a command, builds its whole answer, and then makes its changes; or makes none.
+fn answer_asked<S: Shelf>(
+    office: &mut Office<S>,
+    alloc: Global,
+    asked: &Asked,
+) -> Result<Vec<u8>, Unavailable>
+    ensures honest { S.is_honest office.new → S.is_honest office.old }
+    ensures ok { S.is_honest office.new → (before : OfficeState) → StandForSound (S.content office.old) before → IfOk result (λ answer.
+        (after : OfficeState) × StandForSound (S.content office.new) after × AnswersAsked before asked.now answer.items after) }
+    ensures err { S.is_honest office.new → (before : OfficeState) → StandForSound (S.content office.old) before →
+        OnErr result (StandForSound (S.content office.new) before) }
+{
+    let decided = office.decide(alloc, &asked.command);
+    if is_unavailable(&decided.reply) {
+        return Err(Unavailable);
+    }
+    let Ok(answer) = answer_of(alloc, &decided.reply, asked.form) else {
+        return Err(Unavailable);
+    };
+    match office.apply(alloc, decided.changes.as_slice()) {
+        Ok(()) => Ok(answer),
+        Err(_) => Err(Unavailable),
+    }
+}
+
+impl<S: Shelf> Machine<StreamTools> for Office<S> {
+    ghost use Rattle.office_desk.specs.Office.{Office as OfficeState};
+    ghost use Rattle.office_desk.specs.StandFor.{StandForSound};
+    ghost use Rattle.office_http.specs.Protocol.{office_protocol};
+
+    ghost State = { OfficeState };
+
+    ghost stands_for = { λ shelf office. StandForSound (S.content shelf) office };
+
+    ghost is_honest = { λ shelf. S.is_honest shelf };
+
+    ghost protocol = { office_protocol };
+
+    fn answer(
+        &mut self,
+        alloc: Global,
+        tools: &mut StreamTools,
+        request: &Request<'_>,
+    ) -> Result<Vec<u8>, Unavailable> {
+        match tools.routes.command_of(alloc, request) {
+            Ok(asked) => answer_asked(self, alloc, &asked),
+            Err(fault) => answer_fault(alloc, fault),
+        }
+    }
+
+    fn fault_answer(alloc: Global, fault: Fault) -> Result<Vec<u8>, AllocError> {
+        framing_fault_answer(alloc, fault)
+    }
+
+    fn unavailable() -> &'static [u8] {
+        unavailable()
+    }
+}

@@ -1,0 +1,52 @@
+//! The office served over a stream of bytes.
+
+ghost use Rattle.std.specs.Prelude.{◌≡◌, ◌+◌, ◌*◌, ◌≤◌, IfErr};
+ghost use Rattle.office_desk.specs.Office.{Office as OfficeState};
+ghost use Rattle.office_desk.specs.StandFor.{StandForSound};
+ghost use Rattle.office_http_framing.specs.Limits.{longest_request};
+ghost use Rattle.office_http_framing.specs.Serve.{Did, TellsFault};
+ghost use Rattle.office_http.specs.Protocol.{office_protocol};
+
+use crate::machine::StreamTools;
+use office_desk::office::Office;
+use office_http_framing::ends::{Sink, Source};
+use office_http_framing::engine;
+use office_http_framing::engine::{ServeFault, Served};
+use office_http_wire::RouteCache;
+use office_tables_shelf::shelf::Shelf;
+use std::alloc::Global;
+
+/// Serves the requests that the reader gives, until it ends, a fault of the framing, the last request,
+/// or the limit. Each answer is written before the next read. A request for which memory or the tables
+/// were refused is answered unavailable, and changes nothing.
+///
+/// It takes its buffer first: where that is refused, nothing was read.
+pub fn serve<S: Shelf, R: Source, W: Sink>(
+    alloc: Global,
+    office: &mut Office<S>,
+    reader: &mut R,
+    writer: &mut W,
+    max_requests: u32,
+) -> Result<Served, ServeFault>
+    ensures honest { S.is_honest office.new → S.is_honest office.old }
+
+    // The bytes answered and the meaning of the tables are those of the office machine, run over the
+    // requests of the bytes read.
+    ensures did { S.is_honest office.new → (before : OfficeState) → StandForSound (S.content office.old) before →
+        (after : OfficeState) × StandForSound (S.content office.new) after × Did office_protocol max_requests
+        (R.told reader.old) (R.told reader.new) (W.told writer.old) (W.told writer.new) before after result }
+
+    // Read and Write are answered only where that end told a fault.
+    ensures fault { TellsFault (R.told reader.old) (R.told reader.new)
+        (W.told writer.old) (W.told writer.new) result }
+    // Where the buffer was refused nothing was touched, whatever the tables stood for.
+    ensures untouched { IfErr result (λ why. why ≡ ServeFault.NoMemory →
+        (office.new ≡ office.old) × (R.told reader.new ≡ R.told reader.old) × (W.told writer.new ≡ W.told writer.old)) }
+    ensures reads { (R.told reader.new).counts.calls
+        ≤ (R.told reader.old).counts.calls + longest_request * (max_requests + 1) + 1 }
+{
+    let mut tools = StreamTools {
+        routes: RouteCache::new(),
+    };
+    engine::serve(alloc, office, &mut tools, reader, writer, max_requests)
+}

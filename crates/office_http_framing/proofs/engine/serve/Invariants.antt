@@ -1,0 +1,23 @@
+use Rattle.std.proofs.Common.{◌+◌, ◌-◌, ◌*◌, ◌≤◌, length}
+use Rattle.office_http_framing.specs.Ends.{Grows}
+use Rattle.office_http_framing.proofs.ServeLemmas.{Progress}
+use Rattle.office_http_framing.proofs.engine.serve.Given as goal
+
+abbrev pub invariant-loop-left : goal.invariant-loop-left
+invariant-loop-left g l = record {
+  honest : g.M.Machine.is_honest l.machine → g.M.Machine.is_honest l.fn.machine;
+  progress : g.M.Machine.is_honest l.machine → (before : g.M.Machine.State) → g.M.Machine.stands_for l.fn.machine before →
+      (after : g.M.Machine.State) × g.M.Machine.stands_for l.machine after
+      × Progress g.M.Machine.protocol l.fn.max_requests l.requests l.left l.buffer
+      (g.R.Source.told l.fn.reader).bytes (g.R.Source.told l.reader).bytes
+      (g.W.Sink.told l.fn.writer).bytes (g.W.Sink.told l.writer).bytes before after;
+  room : l.requests + l.left ≤ l.fn.max_requests;
+  held : length l.buffer ≤ 270336;
+  reads : (g.R.Source.told l.reader).counts.calls ≤ (g.R.Source.told l.fn.reader).counts.calls + 270336 * l.requests + length l.buffer;
+  reader : Grows (g.R.Source.told l.fn.reader).counts (g.R.Source.told l.reader).counts;
+  writer : Grows (g.W.Sink.told l.fn.writer).counts (g.W.Sink.told l.writer).counts;
+}
+
+-- each request takes at most as many bytes as the buffer has, and each read gives one at least
+abbrev pub decreases-loop-left : goal.decreases-loop-left
+decreases-loop-left g l = 270337 * l.left + (270336 - length l.buffer)

@@ -1,0 +1,56 @@
+-- What a source and a sink tell of themselves: their bytes, and how their calls went.
+use Rattle.std.specs.Prelude.{◌≡◌, ℕ, ◌+◌, ◌-◌, ◌^◌, ◌<◌, ◌≤◌, ◌⊎◌, Bool, true, false, List, ◌++◌, nat_lt, Option, Result, Ok, Err, ◌==◌, if◌then◌else◌}
+use Rattle.std.specs.Io.KnownBytes.{Appends}
+use Rattle.office_http_framing.specs.declared.ends.Counts.{Counts}
+
+-- the largest count, at which a count stays
+abbrev pub count_limit : ℕ
+count_limit = 2 ^ 64 - 1
+
+-- a count after one more; at its largest value it stays
+abbrev pub raised : ℕ → ℕ
+raised n = if nat_lt n count_limit then n + 1 else n
+
+-- the call failed
+abbrev pub is_failure : {E : Type 0} → Result ℕ E → Bool
+is_failure (Ok n) = false
+is_failure (Err e) = true
+
+-- the call answered 0 bytes
+abbrev pub is_empty : {E : Type 0} → Result ℕ E → Bool
+is_empty (Ok n) = n == 0
+is_empty (Err e) = false
+
+-- the counts after a call with this outcome
+abbrev pub counted : {E : Type 0} → Result ℕ E → Counts → Counts
+counted outcome c = record {
+  calls = raised c.calls;
+  failures = if is_failure outcome then raised c.failures else c.failures;
+  empties = if is_empty outcome then raised c.empties else c.empties;
+}
+
+-- a count rose, or it stands at its largest value and tells nothing
+abbrev pub Rose : ℕ → ℕ → Type 0
+Rose old new = (old < new) ⊎ (count_limit ≤ new)
+
+-- what an end of the stream tells: its bytes, where they are known, and how its calls went
+pub record Told : Type 0 where
+  pub bytes : Option (List ℕ)
+  pub counts : Counts
+
+-- no count fell
+pub record Grows (old new : Counts) : Type 0 where
+  pub calls : old.calls ≤ new.calls
+  pub failures : old.failures ≤ new.failures
+  pub empties : old.empties ≤ new.empties
+
+-- a call failed, or answered 0 bytes
+abbrev pub FailsOrGivesNone : Counts → Counts → Type 0
+FailsOrGivesNone old new = Rose old.failures new.failures ⊎ Rose old.empties new.empties
+
+-- the bytes up to some place were taken
+pub record AppendsPart (old new : Option (List ℕ)) (bytes : List ℕ) : Type 0 where
+  pub part : List ℕ
+  pub rest : List ℕ
+  pub front : bytes ≡ part ++ rest
+  pub taken : Appends old new part

@@ -1,0 +1,131 @@
+//! The engine: it serves the requests of a stream, one after another.
+
+ghost use Rattle.std.specs.Io.KnownBytes.{Appends};
+ghost use Rattle.std.specs.Prelude.{◌≡◌, ◌+◌, ◌*◌, ◌≤◌, ℕ, List, IfErr, MatchResult, OnErr};
+ghost use Rattle.office_http_framing.specs.Ends.{AppendsPart, Grows, FailsOrGivesNone};
+ghost use Rattle.office_http_framing.specs.Front.{plain};
+ghost use Rattle.office_http_framing.specs.Limits.{longest_request};
+ghost use Rattle.office_http_framing.specs.Protocol.{MayAnswer, AnswersFault};
+ghost use Rattle.office_http_framing.specs.Serve.{Did, TellsFault};
+
+use crate::buffer::Buffer;
+use crate::ends::{Sink, Source, WriteFailed, write_all};
+use crate::front::{Fault, Front, Request, next_request};
+use crate::machine::Machine;
+use std::alloc::Global;
+
+/// How a stream was served to its end.
+#[derive(Clone, Copy, Debug, PartialEq, Eq)]
+pub struct Served {
+    /// The whole requests that were dealt with.
+    pub requests: u32,
+}
+
+/// Why a stream was not served to its end.
+#[derive(Clone, Copy, Debug, PartialEq, Eq)]
+pub enum ServeFault {
+    /// The source failed after these requests.
+    Read { requests: u32 },
+    /// The sink failed, or took no byte, at the answer to the last of these requests or to a fault.
+    Write { requests: u32 },
+    /// The buffer was refused, and nothing was read.
+    NoMemory,
+}
+
+/// Answers one request, and writes the answer.
+fn serve_request<Tools, M: Machine<Tools>, W: Sink>(
+    alloc: Global,
+    machine: &mut M,
+    tools: &mut Tools,
+    request: &Request<'_>,
+    writer: &mut W,
+) -> Result<(), WriteFailed>
+    ensures honest { M.is_honest machine.new → M.is_honest machine.old }
+    ensures step { M.is_honest machine.new → (before : M.State) → M.stands_for machine.old before →
+        (answer : List ℕ) × (after : M.State) × MayAnswer M.protocol before (plain request.now) answer after
+        × M.stands_for machine.new after
+        × MatchResult result (λ _. Appends (W.told writer.old).bytes (W.told writer.new).bytes answer)
+        (λ _. AppendsPart (W.told writer.old).bytes (W.told writer.new).bytes answer) }
+    ensures counts { Grows (W.told writer.old).counts (W.told writer.new).counts }
+    ensures fault { OnErr result (FailsOrGivesNone (W.told writer.old).counts (W.told writer.new).counts) }
+{
+    match machine.answer(alloc, tools, request) {
+        Ok(answer) => write_all(writer, &answer),
+        Err(_) => write_all(writer, M::unavailable()),
+    }
+}
+
+/// Writes the answer to a fault.
+fn serve_fault<Tools, M: Machine<Tools>, W: Sink>(
+    alloc: Global,
+    fault: Fault,
+    writer: &mut W,
+) -> Result<(), WriteFailed>
+    ensures answer { (answer : List ℕ) × AnswersFault M.protocol fault answer
+        × MatchResult result (λ _. Appends (W.told writer.old).bytes (W.told writer.new).bytes answer)
+        (λ _. AppendsPart (W.told writer.old).bytes (W.told writer.new).bytes answer) }
+    ensures counts { Grows (W.told writer.old).counts (W.told writer.new).counts }
+    ensures fault { OnErr result (FailsOrGivesNone (W.told writer.old).counts (W.told writer.new).counts) }
+{
+    match M::fault_answer(alloc, fault) {
+        Ok(answer) => write_all(writer, &answer),
+        Err(_) => write_all(writer, M::unavailable()),
+    }
+}
+
+/// Serves the requests that the source gives, until it ends, a fault, the last request, or the
+/// limit. It reads only while it holds no whole request and no fault.
+pub fn serve<Tools, M: Machine<Tools>, R: Source, W: Sink>(
+    alloc: Global,
+    machine: &mut M,
+    tools: &mut Tools,
+    reader: &mut R,
+    writer: &mut W,
+    max_requests: u32,
+) -> Result<Served, ServeFault>
+    ensures honest { M.is_honest machine.new → M.is_honest machine.old }
+
+    // What was read, answered and written.
+    ensures did { M.is_honest machine.new → (before : M.State) → M.stands_for machine.old before →
+        (after : M.State) × M.stands_for machine.new after × Did M.protocol max_requests
+        (R.told reader.old) (R.told reader.new) (W.told writer.old) (W.told writer.new) before after result }
+
+    ensures fault { TellsFault (R.told reader.old) (R.told reader.new)
+        (W.told writer.old) (W.told writer.new) result }
+    // Where the buffer was refused nothing was touched, whatever the machine stood for.
+    ensures untouched { IfErr result (λ why. why ≡ ServeFault.NoMemory →
+        (machine.new ≡ machine.old) × (R.told reader.new ≡ R.told reader.old) × (W.told writer.new ≡ W.told writer.old)) }
+    ensures reads { (R.told reader.new).counts.calls
+        ≤ (R.told reader.old).counts.calls + longest_request * (max_requests + 1) + 1 }
+{
+    let Ok(mut buffer) = Buffer::new(alloc) else {
+        return Err(ServeFault::NoMemory);
+    };
+    let mut requests = 0;
+    let mut left = max_requests;
+    while left > 0 {
+        match next_request(buffer.held()) {
+            Front::Whole { request, length } => {
+                let last = request.last;
+                requests += 1;
+                if serve_request(alloc, machine, tools, &request, writer).is_err() {
+                    return Err(ServeFault::Write { requests });
+                }
+                buffer.consume(length);
+                left = if last { 0 } else { left - 1 };
+            }
+            Front::Bad(fault) => {
+                if serve_fault::<Tools, M, W>(alloc, fault, writer).is_err() {
+                    return Err(ServeFault::Write { requests });
+                }
+                return Ok(Served { requests });
+            }
+            Front::More => match buffer.fill(reader) {
+                Ok(0) => return Ok(Served { requests }),
+                Ok(_) => {}
+                Err(_) => return Err(ServeFault::Read { requests }),
+            },
+        }
+    }
+    Ok(Served { requests })
+}

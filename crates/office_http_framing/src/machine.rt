@@ -1,0 +1,51 @@
+//! What answers the requests: the engine knows no more of it than this trait says.
+
+ghost use Rattle.std.specs.Prelude.{◌≡◌, ℕ, List, IfOk, OnErr};
+
+use crate::front::{Fault, Request};
+use std::alloc::{AllocError, Global};
+
+/// Memory or the store was refused, and nothing was changed.
+#[derive(Clone, Copy, Debug, PartialEq, Eq)]
+pub struct Unavailable;
+
+/// A machine that answers requests one after another, each from the state that the one before it left.
+/// `Tools` are what it makes once for a stream and uses for each request, as a table of routes.
+pub trait Machine<Tools> {
+    ghost use Rattle.office_http_framing.specs.Front.{PlainRequest, plain};
+    ghost use Rattle.office_http_framing.specs.Protocol.{Protocol};
+
+    // What a machine means.
+    ghost State: { Type 0 };
+
+    // The machine means this state.
+    ghost stands_for: { Self → State → Type 0 };
+
+    // What the machine keeps its state on has returned what was written, so far.
+    ghost is_honest: { Self → Type 0 };
+
+    // The answers that it may give, and the states that they leave.
+    ghost protocol: { Protocol State };
+
+    /// Decides the request, builds its whole answer, and then makes its changes; or makes none.
+    fn answer(
+        &mut self,
+        alloc: Global,
+        tools: &mut Tools,
+        request: &Request<'_>,
+    ) -> Result<Vec<u8>, Unavailable>
+        ensures honest { is_honest self.new → is_honest self.old }
+        ensures ok { is_honest self.new → (before : State) → stands_for self.old before → IfOk result (λ answer.
+            (after : State) × stands_for self.new after
+            × protocol.step before (plain request.now) answer.items after) }
+        ensures err { is_honest self.new → (before : State) → stands_for self.old before →
+            OnErr result (stands_for self.new before) };
+
+    /// The whole answer to a fault of the framing, or memory was refused.
+    fn fault_answer(alloc: Global, fault: Fault) -> Result<Vec<u8>, AllocError>
+        ensures { IfOk result (λ answer. answer.items ≡ protocol.fault_text fault) };
+
+    /// The answer that stands in place of one for which memory or the store was refused. It takes no memory.
+    fn unavailable() -> &'static [u8]
+        ensures { result.now ≡ protocol.unavailable_text };
+}

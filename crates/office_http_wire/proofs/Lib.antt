@@ -1,0 +1,5 @@
+pub mod BodyLemmas
+pub mod PathLemmas
+pub mod RouteTable
+pub mod TreeLemmas
+pub mod ValueLemmas

@@ -1,0 +1,10 @@
+pub mod Answers
+pub mod Asks
+pub mod Bodies
+pub mod Commands
+pub mod Faults
+pub mod Fields
+pub mod Paths
+pub mod Routes
+pub mod Trees
+pub mod Values

@@ -1,0 +1,51 @@
+-- The table of routes, and the endpoint that `matchit` finds for a path.
+use Rattle.std.specs.Prelude.{ℕ, List, [], ◌∷◌, Option, None, Result, Ok, Err, option_map, codes, if◌then◌else◌}
+use Rattle.std.specs.Str.{is_utf8}
+use Rattle.matchit.specs.Rows.{RowsOf}
+use Rattle.matchit.specs.Route.{Scan, parse_route}
+use Rattle.matchit.specs.Router.{RouteOf, route_from}
+use Rattle.matchit.specs.Order.{placed}
+use Rattle.matchit.specs.Seek.{first}
+use Rattle.matchit.specs.declared.error.InsertError.{InsertError}
+use Rattle.office_http_wire.specs.declared.route.Endpoint.{Endpoint}
+use Rattle.office_http_wire.specs.declared.route.Endpoint.TheVariants.{AddIntersection, State}
+
+-- the route of an endpoint
+abbrev pub route_text : Endpoint → List ℕ
+route_text AddIntersection = codes "/intersections"
+route_text State = codes "/intersections/{id}"
+
+-- the one method of an endpoint
+abbrev pub method_of : Endpoint → List ℕ
+method_of AddIntersection = codes "POST"
+method_of State = codes "GET"
+
+-- the table's endpoints, in its order
+abbrev pub endpoints : List Endpoint
+endpoints = AddIntersection ∷ State ∷ []
+
+-- a router's rows
+abbrev pub Rows : Type 0
+Rows = RowsOf (RouteOf Endpoint)
+
+-- the rows with one route more, where its text is a route
+abbrev pub with_scan : Result Scan InsertError → Endpoint → Rows → Rows
+with_scan (Ok scan) endpoint rows = placed (scan.pattern, route_from scan endpoint) rows
+with_scan (Err e) endpoint rows = rows
+
+-- the rows with the route of an endpoint
+unfoldable pub with_route : Endpoint → Rows → Rows
+with_route endpoint rows = with_scan (parse_route (route_text endpoint)) endpoint rows
+
+-- the rows with the routes of these endpoints, put in one after another
+abbrev pub with_routes : List Endpoint → Rows → Rows
+with_routes [] rows = rows
+with_routes (endpoint ∷ rest) rows = with_routes rest (with_route endpoint rows)
+
+-- the rows of the whole table
+unfoldable pub route_rows : Rows
+route_rows = with_routes endpoints []
+
+-- the endpoint that `matchit` finds for a path
+unfoldable pub endpoint_of : List ℕ → Option Endpoint
+endpoint_of path = if is_utf8 path then option_map (λ route. route.value) (first route_rows path) else None

@@ -1,0 +1,73 @@
+-- The JSON trees of replies, each object's keys in ascending order.
+use Rattle.std.specs.Prelude.{ℕ, List, [], ◌∷◌, codes, Option, Some, None}
+use Rattle.serde_json.specs.Data.{Data, null, number, string, object, unsigned, Members, no_members, member}
+use Rattle.draft_core.specs.declared.state.DbState.{DbState}
+use Rattle.draft_core.specs.declared.state.DbState.TheVariants.{Normal, Transaction, Verify, Done}
+use Rattle.draft_core.specs.declared.state.Verdict.{Verdict}
+use Rattle.draft_core.specs.declared.state.Verdict.TheVariants.{NotDone, DoneWithError, DoneWithNoError}
+use Rattle.office_desk.specs.Refusal.{Line, line_of}
+use Rattle.office_desk.specs.declared.refusal.Refusal.{Refusal}
+use Rattle.office_desk.specs.declared.reply.IntersectionState.{IntersectionState}
+use Rattle.office_desk.specs.declared.reply.Reply.{Reply}
+use Rattle.office_desk.specs.declared.reply.Reply.TheVariants.{Added, Same, State, Refused}
+
+-- a number, a text, and a value that may be missing
+abbrev pub count : ℕ → Data
+count n = number (unsigned n)
+
+abbrev pub text : List ℕ → Data
+text bytes = string bytes
+
+abbrev pub or_null : {A : Type 0} → (A → Data) → Option A → Data
+or_null tree None = null
+or_null tree (Some x) = tree x
+
+-- an object of these keys, which stand in ascending order
+abbrev pub members : List (List ℕ × Data) → Members
+members [] = no_members
+members (entry ∷ rest) = member entry.0 entry.1 (members rest)
+
+abbrev pub keys : List (List ℕ × Data) → Data
+keys entries = object (members entries)
+
+-- the name of a state of the transaction
+abbrev pub state_name : DbState → List ℕ
+state_name Normal = codes "normal"
+state_name Transaction = codes "transaction"
+state_name Verify = codes "verify"
+state_name Done = codes "done"
+
+-- the name of the verify status
+abbrev pub verdict_name : Verdict → List ℕ
+verdict_name NotDone = codes "notDone"
+verdict_name DoneWithError = codes "doneWithError"
+verdict_name DoneWithNoError = codes "doneWithNoError"
+
+-- a refusal or a fault with no more keys
+abbrev pub error_tree : Line → Data
+error_tree line = keys ((codes "error", text line.name) ∷ (codes "number", count line.number) ∷ [])
+
+abbrev pub refusal_tree : Refusal → Data
+refusal_tree refusal = error_tree (line_of refusal)
+
+-- what State shows of an intersection
+abbrev pub state_tree : IntersectionState → Data
+state_tree shown =
+    keys (
+    (codes "id", count shown.id)
+    ∷ (codes "interval", count shown.interval)
+    ∷ (codes "name", text shown.name)
+    ∷ (codes "owner", or_null text shown.owner)
+    ∷ (codes "revision", count shown.revision)
+    ∷ (codes "rows", count shown.rows)
+    ∷ (codes "state", text (state_name shown.state))
+    ∷ (codes "verify", text (verdict_name shown.verify))
+    ∷ []
+    )
+
+-- the tree of a reply
+abbrev pub tree_of : Reply → Data
+tree_of Added = keys ((codes "result", text (codes "added")) ∷ [])
+tree_of Same = keys ((codes "result", text (codes "same")) ∷ [])
+tree_of (State shown) = state_tree shown
+tree_of (Refused refusal) = refusal_tree refusal

@@ -1,0 +1,69 @@
+//! From a request to a command.
+ghost use Rattle.std.specs.Prelude.{◌≡◌};
+ghost use Rattle.office_http_wire.specs.Asks.{Gives};
+ghost use Rattle.office_http_wire.specs.Commands.{added_intersection, asked_at, asked_in_json, command_at};
+
+use crate::ask::{AskFault, Asked, Field, Form};
+use crate::route::{Endpoint, Routes};
+use crate::{body, path};
+use office_desk::command::Command;
+use office_http_framing::front::Request;
+use std::alloc::Global;
+
+impl Routes {
+    /// What a request asks, or the first fault: no route, another method, a path field from the left,
+    /// no JSON object, a key of the body by name.
+    #[tactic(auto, unfolding(crate::specs::Commands::command_at))]
+    pub fn command_of(&self, alloc: Global, request: &Request) -> Result<Asked, AskFault>
+        ensures { Gives result (command_at request.now.method.now request.now.path.now request.now.body.now) }
+    {
+        let endpoint = self.endpoint_at(request.path)?;
+        if !endpoint.allows(request.method) {
+            return Err(AskFault::Method);
+        }
+        asked(alloc, endpoint, request.path, request.body)
+    }
+}
+
+/// What a request asks, or the first fault, by a table of routes that is made for it alone.
+pub fn command_of(alloc: Global, request: &Request) -> Result<Asked, AskFault>
+    ensures { Gives result (command_at request.now.method.now request.now.path.now request.now.body.now) }
+{
+    let routes = Routes::new(alloc)?;
+    routes.command_of(alloc, request)
+}
+
+// The command of an endpoint.
+#[tactic(auto, unfolding(crate::specs::Commands::asked_at))]
+fn asked(alloc: Global, endpoint: Endpoint, path: &[u8], body: &[u8]) -> Result<Asked, AskFault>
+    ensures { Gives result (asked_at endpoint path.now body.now) }
+{
+    match endpoint {
+        Endpoint::AddIntersection => add_intersection(alloc, body),
+        Endpoint::State => {
+            let id = path::id(path)?;
+            Ok(in_json(Command::State { id }))
+        }
+    }
+}
+
+// A command whose answer is JSON.
+fn in_json(command: Command) -> Asked
+    ensures { result ≡ asked_in_json command }
+{
+    Asked {
+        command,
+        form: Form::Json,
+    }
+}
+
+#[tactic(auto, unfolding(crate::specs::Commands::added_intersection))]
+fn add_intersection(alloc: Global, body: &[u8]) -> Result<Asked, AskFault>
+    ensures { Gives result (added_intersection body.now) }
+{
+    let body = body::read(alloc, body)?;
+    let id = body::id(&body)?;
+    let interval = body::interval(&body)?;
+    let name = body::words(alloc, &body, Field::Name)?;
+    Ok(in_json(Command::AddIntersection { id, interval, name }))
+}

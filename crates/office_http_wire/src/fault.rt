@@ -1,0 +1,88 @@
+//! The answers of requests that ask nothing.
+ghost use Rattle.std.specs.Prelude.{◌≡◌, ◌≢◌, IfOk};
+ghost use Rattle.serde_json.specs.View.{view};
+ghost use Rattle.office_http_wire.specs.declared.ask.AskFault.TheVariants.{NoMemory};
+ghost use Rattle.office_http_wire.specs.Faults.{fault_line, fault_tree, fault_bytes, ask_fault_text, framing_fault_text, IsFault};
+
+use crate::answer::text_of;
+use crate::ask::{AskFault, Field};
+use http::StatusCode;
+use office_http_framing::front::Fault;
+use serde_json::{Value, json};
+use std::alloc::{AllocError, Global};
+
+/// What the answer of a fault shows beside its name and number.
+#[derive(Clone, Copy, Debug, PartialEq, Eq)]
+pub enum More {
+    Nothing,
+    Field(Field),
+}
+
+// A line of the table of faults.
+#[derive(Clone, Copy)]
+struct FaultLine {
+    name: &'static str,
+    status: StatusCode,
+}
+
+// The line of a number, of which there are nine.
+fn line(number: u32) -> FaultLine
+    ensures name { result.name.now ≡ (fault_line number).name }
+    ensures status { result.status ≡ (fault_line number).status }
+{
+    let (name, status) = match number {
+        1 => ("Head", StatusCode::BAD_REQUEST),
+        2 => ("HeadTooLarge", StatusCode::BAD_REQUEST),
+        3 => ("Length", StatusCode::BAD_REQUEST),
+        4 => ("BodyTooLarge", StatusCode::PAYLOAD_TOO_LARGE),
+        5 => ("Coded", StatusCode::NOT_IMPLEMENTED),
+        6 => ("NoRoute", StatusCode::NOT_FOUND),
+        7 => ("Method", StatusCode::METHOD_NOT_ALLOWED),
+        8 => ("Json", StatusCode::BAD_REQUEST),
+        _ => ("Field", StatusCode::BAD_REQUEST),
+    };
+    FaultLine { name, status }
+}
+
+// The tree of a fault.
+fn tree_of_fault(alloc: Global, number: u32, more: More) -> Result<Value, AllocError>
+    ensures { IfOk result (λ tree. view tree ≡ fault_tree number more) }
+{
+    let error = line(number).name;
+    match more {
+        More::Nothing => json!(in alloc; {"error": error, "number": number}),
+        More::Field(field) => {
+            json!(in alloc; {"error": error, "field": field.name(), "number": number})
+        }
+    }
+}
+
+/// The answer of a fault, of a request's framing (1 to 5) or of what it asks (6 to 9).
+pub fn fault_answer(alloc: Global, number: u32, more: More) -> Result<Vec<u8>, AllocError>
+    requires { IsFault number more }
+    ensures { IfOk result (λ answer. answer.items ≡ fault_bytes number more) }
+{
+    let tree = tree_of_fault(alloc, number, more)?;
+    let text = text_of(alloc, line(number).status, &tree)?;
+    Ok(text.into_bytes())
+}
+
+/// The answer of a request that asks nothing. Want of memory has none of its own: that is an error here too.
+pub fn ask_fault_answer(alloc: Global, fault: AskFault) -> Result<Vec<u8>, AllocError>
+    ensures { IfOk result (λ answer. (fault ≢ NoMemory) × (answer.items ≡ ask_fault_text fault)) }
+{
+    match fault {
+        AskFault::NoRoute => fault_answer(alloc, 6, More::Nothing),
+        AskFault::Method => fault_answer(alloc, 7, More::Nothing),
+        AskFault::Json => fault_answer(alloc, 8, More::Nothing),
+        AskFault::Field(field) => fault_answer(alloc, 9, More::Field(field)),
+        AskFault::NoMemory => Err(AllocError),
+    }
+}
+
+/// The answer of a fault of a request's framing.
+pub fn framing_fault_answer(alloc: Global, fault: Fault) -> Result<Vec<u8>, AllocError>
+    ensures { IfOk result (λ answer. answer.items ≡ framing_fault_text fault) }
+{
+    fault_answer(alloc, u32::from(fault.number()), More::Nothing)
+}

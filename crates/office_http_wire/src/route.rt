@@ -1,0 +1,111 @@
+//! The routes of the office, and the table that finds the route of a path.
+ghost use Rattle.std.specs.Prelude.{◌≡◌, bytes_eq, IfOk, IfErr};
+ghost use Rattle.matchit.specs.declared.error.InsertError.TheVariants.{OutOfMemory};
+ghost use Rattle.office_http_wire.specs.Asks.{or_no_route};
+ghost use Rattle.office_http_wire.specs.Routes.{route_rows, route_text, method_of, endpoint_of};
+
+use crate::ask::AskFault;
+use http::Method;
+use matchit::{InsertError, Router};
+use signal_records::NoMemory;
+use std::alloc::Global;
+use std::marker::Model;
+use std::str;
+
+/// What a route leads to. Each route has one endpoint, and each endpoint one method.
+#[derive(Clone, Copy, Debug, PartialEq, Eq)]
+pub enum Endpoint {
+    AddIntersection,
+    State,
+}
+
+impl Endpoint {
+    /// Every endpoint, in the order of the table of routes.
+    pub const ALL: [Endpoint; 2] = [Endpoint::AddIntersection, Endpoint::State];
+
+    /// The one method of the route.
+    pub fn method(self) -> Method
+        ensures { result ≡ method_of self }
+    {
+        match self {
+            Endpoint::AddIntersection => Method::POST,
+            Endpoint::State => Method::GET,
+        }
+    }
+
+    /// Whether a request's method is that of the route.
+    pub fn allows(self, method: &[u8]) -> bool
+        ensures { result ≡ bytes_eq method.now (method_of self) }
+    {
+        method == self.method().as_str().as_bytes()
+    }
+
+    /// The route that leads here, as `matchit` spells it.
+    pub fn route(self) -> &'static str
+        ensures { result.now ≡ route_text self }
+    {
+        match self {
+            Endpoint::AddIntersection => "/intersections",
+            Endpoint::State => "/intersections/{id}",
+        }
+    }
+}
+
+// The router of the whole table.
+fn router(alloc: Global) -> Result<Router<Endpoint>, InsertError>
+    ensures ok { IfOk result (λ router. router ≡ route_rows) }
+    ensures err { IfErr result (λ fault. fault ≡ OutOfMemory) }
+{
+    let mut router = Router::new(alloc);
+    for endpoint in Endpoint::ALL {
+        router.insert(endpoint.route(), endpoint)?;
+    }
+    Ok(router)
+}
+
+/// The table of routes. Making it takes memory, so it is made once and asked for each request.
+#[derive(Drop)]
+pub struct Routes {
+    router: Router<Endpoint>,
+}
+
+impl Model for Routes {
+    ghost use Rattle.std.specs.Prelude.{◌≡◌};
+    ghost use Rattle.office_http_wire.specs.Routes.{Rows, route_rows};
+
+    ghost Value = { Rows };
+
+    ghost view = { λ routes. routes.router };
+
+    ghost invariant = { λ routes. routes.router ≡ route_rows };
+}
+
+impl Routes {
+    /// The whole table.
+    pub fn new(alloc: Global) -> Result<Routes, NoMemory>
+        ensures { IfOk result (λ routes. routes ≡ route_rows) }
+    {
+        // No route is wrong and no two conflict, so that memory alone can be refused.
+        let router = router(alloc).map_err(|_| NoMemory)?;
+        Ok(Routes { router })
+    }
+
+    /// The endpoint of a path: bytes that are not UTF-8 are in no route. It takes no memory.
+    pub fn endpoint_at(&self, path: &[u8]) -> Result<Endpoint, AskFault>
+        ensures { result ≡ or_no_route (endpoint_of path.now) }
+    {
+        let Ok(path) = str::from_utf8(path) else {
+            return Err(AskFault::NoRoute);
+        };
+        match self.router.at(path) {
+            Ok(found) => Ok(copied(found.value)),
+            Err(_) => Err(AskFault::NoRoute),
+        }
+    }
+}
+
+fn copied(endpoint: &Endpoint) -> Endpoint
+    ensures { result ≡ endpoint.now }
+{
+    *endpoint
+}

@@ -1,0 +1,80 @@
+//! The JSON trees of replies.
+ghost use Rattle.std.specs.Prelude.{◌≡◌, IfOk};
+ghost use Rattle.serde_json.specs.View.{view};
+ghost use Rattle.office_http_wire.specs.Trees.{or_null, text, tree_of, refusal_tree, state_tree, state_name, verdict_name};
+
+use draft_core::state::{DbState, Verdict};
+use office_desk::refusal::Refusal;
+use office_desk::reply::{IntersectionState, Reply};
+use serde_json::{Value, json};
+use signal_records::Words;
+use std::alloc::{AllocError, Global};
+
+// The name of a state of the transaction (NTCIP 1201, `dbCreateTransaction`).
+fn state_word(state: DbState) -> &'static str
+    ensures { result.now ≡ state_name state }
+{
+    match state {
+        DbState::Normal => "normal",
+        DbState::Transaction => "transaction",
+        DbState::Verify => "verify",
+        DbState::Done => "done",
+    }
+}
+
+// The name of the verify status (NTCIP 1201, `dbVerifyStatus`).
+fn verdict_word(verdict: Verdict) -> &'static str
+    ensures { result.now ≡ verdict_name verdict }
+{
+    match verdict {
+        Verdict::NotDone => "notDone",
+        Verdict::DoneWithError => "doneWithError",
+        Verdict::DoneWithNoError => "doneWithNoError",
+    }
+}
+
+// A clerk, or null where there is none.
+fn clerk_or_null(alloc: Global, clerk: &Option<Words<40>>) -> Result<Value, AllocError>
+    ensures { IfOk result (λ tree. view tree ≡ or_null text clerk.now) }
+{
+    match clerk {
+        Some(clerk) => json!(in alloc; clerk.as_str()),
+        None => Ok(Value::Null),
+    }
+}
+
+// The tree of a refusal.
+fn refused(alloc: Global, refusal: Refusal) -> Result<Value, AllocError>
+    ensures { IfOk result (λ tree. view tree ≡ refusal_tree refusal) }
+{
+    json!(in alloc; {"error": refusal.name(), "number": refusal.number()})
+}
+
+// The tree of an intersection's state.
+fn of_state(alloc: Global, shown: &IntersectionState) -> Result<Value, AllocError>
+    ensures { IfOk result (λ tree. view tree ≡ state_tree shown.now) }
+{
+    let owner = clerk_or_null(alloc, &shown.owner)?;
+    json!(in alloc; {
+        "id": shown.id.get(),
+        "interval": shown.interval.get(),
+        "name": shown.name.as_str(),
+        "owner": owner,
+        "revision": shown.revision.get(),
+        "rows": shown.rows,
+        "state": state_word(shown.state),
+        "verify": verdict_word(shown.verify),
+    })
+}
+
+/// The tree of a reply.
+pub(crate) fn of_reply(alloc: Global, reply: &Reply) -> Result<Value, AllocError>
+    ensures { IfOk result (λ tree. view tree ≡ tree_of reply.now) }
+{
+    match reply {
+        Reply::Added => json!(in alloc; {"result": "added"}),
+        Reply::Same => json!(in alloc; {"result": "same"}),
+        Reply::State(shown) => of_state(alloc, shown),
+        Reply::Refused(refusal) => refused(alloc, *refusal),
+    }
+}

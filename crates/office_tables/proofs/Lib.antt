@@ -1,0 +1,8 @@
+mod StoredLemmas
+mod QueryLemmas
+mod SchemaLemmas
+mod CallLemmas
+mod WriteLemmas
+mod ContentLemmas
+mod PutLemmas
+mod VersionLemmas

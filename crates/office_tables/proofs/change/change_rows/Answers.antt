@@ -1,0 +1,28 @@
+use Rattle.std.proofs.Common.{arith, ◌+◌, drop, sym, ap, ◌∙◌}
+use Rattle.std.proofs.lemmas.List.{drop_more}
+use Rattle.office_tables_shelf.specs.Change.{changed, changed_by}
+use Rattle.office_tables.specs.Stored.{content_now}
+use Rattle.sqlite.specs.Held.{state}
+use Rattle.sqlite.proofs.StateLemmas.{survives_then}
+use Rattle.office_tables.proofs.CallLemmas.{stands_then}
+use Rattle.office_tables.proofs.change.change_rows.Goals as goal
+
+pub loop-change-preserved : goal.loop-change-preserved
+loop-change-preserved g c =
+    let old = state g.S.Store c.args.tx.now.conn.now in
+    let mid = state g.S.Store c.loop-change.tx.conn.now in
+    let new = state g.S.Store c.change_row.new.tx.conn.now in
+    let was = c.loop-change.invariant in
+    let it = c.in_ok-change_row.ensures in (
+      it.same_reference ∙ was.0,
+      stands_then old mid new was.1 it.stands,
+      survives_then old mid new (λ _. ⊥) (λ _. ⊥) (λ _. ⊥) (λ _ db none. none) (λ _ db none. none) was.2 it.crash,
+      λ clean ready.
+          let before = was.3 (omega (arith, clean, it.crash.clean)) ready in
+          let rest = drop (c.loop-change.change-index + 1) c.args.changes.now in
+          let tables = content_now mid in (
+            it.ready clean before.0,
+            ap (λ t. changed_by t rest) (it.changed clean before.0) ∙ ap (λ x. changed_by (changed tables x) rest) c.change-item.is
+                ∙ sym (ap (changed_by tables) (drop_more c.args.changes.now c.loop-change.change-index c.change-item.result c.loop-change-test.true)) ∙ before.1,
+          ),
+    )

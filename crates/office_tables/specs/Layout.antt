@@ -1,0 +1,54 @@
+-- Where each table keeps its key and its other columns.
+use Rattle.std.specs.Prelude.{ℕ, Bool, List, [], ◌∷◌, map, find, Option, option_map}
+use Rattle.sqlite.specs.Order.{Row, column}
+use Rattle.sqlite.specs.Tree.{Trees}
+use Rattle.sqlite_schema.specs.Rules.{agree}
+use Rattle.sqlite_value.specs.Keys.{plain}
+
+-- the places in a stored row, whose rowid or INTEGER PRIMARY KEY is at place 0; and the places of a key by itself
+pub record Layout : Type 0 where
+  pub tree : ℕ
+  pub keys : List ℕ
+  pub places : List ℕ
+  pub columns : List ℕ
+
+abbrev pub intersection : Layout
+intersection = record { tree = 0; keys = 0 ∷ []; places = 0 ∷ []; columns = 2 ∷ 3 ∷ 4 ∷ 5 ∷ 6 ∷ [] }
+
+abbrev pub timing : Layout
+timing = record { tree = 1; keys = 1 ∷ 2 ∷ 3 ∷ 4 ∷ []; places = 0 ∷ 1 ∷ 2 ∷ 3 ∷ []; columns = 5 ∷ [] }
+
+abbrev pub draft : Layout
+draft = record timing { tree = 3 }
+
+abbrev pub inspection : Layout
+inspection = record { tree = 5; keys = 1 ∷ 2 ∷ []; places = 0 ∷ 1 ∷ []; columns = 3 ∷ 4 ∷ 5 ∷ [] }
+
+abbrev pub work_order : Layout
+work_order = record { tree = 7; keys = 1 ∷ 2 ∷ []; places = 0 ∷ 1 ∷ []; columns = 3 ∷ 4 ∷ 5 ∷ 6 ∷ 7 ∷ [] }
+
+abbrev pub part : Layout
+part = record { tree = 9; keys = 1 ∷ []; places = 0 ∷ []; columns = 2 ∷ [] }
+
+abbrev pub delivery : Layout
+delivery = record { tree = 11; keys = 1 ∷ 2 ∷ []; places = 0 ∷ 1 ∷ []; columns = 3 ∷ 4 ∷ [] }
+
+abbrev pub used_part : Layout
+used_part = record { tree = 13; keys = 1 ∷ 2 ∷ 3 ∷ []; places = 0 ∷ 1 ∷ 2 ∷ []; columns = 4 ∷ 5 ∷ [] }
+
+abbrev pub office_version : Layout
+office_version = record { tree = 15; keys = 0 ∷ []; places = 0 ∷ []; columns = 2 ∷ [] }
+
+abbrev pub values_at : List ℕ → Row → Row
+values_at places row = map (column row) places
+
+-- the row has this key, as SQL's = compares
+abbrev pub has_key : Layout → Row → Row → Bool
+has_key t key row = agree plain t.keys row t.places key
+
+-- the other columns of the row with this key
+abbrev pub columns_in : Layout → List Row → Row → Option Row
+columns_in t rows key = option_map (values_at t.columns) (find (has_key t key) rows)
+
+abbrev pub columns_of : Layout → Trees → Row → Option Row
+columns_of t trees = columns_in t (trees t.tree)

@@ -1,0 +1,12 @@
+pub mod Schema
+pub mod Layout
+pub mod Stored
+pub mod Calls
+pub mod Version
+pub mod SqlShelf
+pub use Rattle.office_tables_shelf.specs.Cells
+pub use Rattle.office_tables_shelf.specs.Content
+pub use Rattle.office_tables_shelf.specs.Rows
+pub use Rattle.office_tables_shelf.specs.Change
+pub use Rattle.office_tables_shelf.specs.Shelf
+pub use Rattle.office_tables_shelf.specs.MapShelf

@@ -1,0 +1,56 @@
+//! Changes of rows in one transaction.
+
+ghost use Rattle.std.specs.Prelude.{◌≡◌, OnOk, OnErr};
+ghost use Rattle.sqlite.specs.State.{HasCleanDisk, Survives};
+ghost use Rattle.sqlite.specs.Held.{state};
+ghost use Rattle.office_tables_shelf.specs.Change.{changed, changed_by};
+ghost use Rattle.office_tables.specs.Stored.{content_now, content_of};
+ghost use Rattle.office_tables.specs.Calls.{IsHonest, IsOffice, IsReady, StandsOn};
+
+use crate::intersection;
+use crate::statement::SqlFault;
+use office_tables_shelf::rows::RowChange;
+use sqlite::{Alter, Connection, Transaction};
+
+fn change_row<S: Alter>(tx: &mut Transaction<'_, S>, change: &RowChange) -> Result<(), SqlFault>
+    ensures same_reference { tx.new.conn.ghost_name ≡ tx.old.conn.ghost_name }
+    ensures ready { HasCleanDisk (state S.Store tx.new.conn.now) → OnOk result (IsReady (state S.Store tx.old.conn.now) → IsReady (state S.Store tx.new.conn.now)) }
+    ensures changed { HasCleanDisk (state S.Store tx.new.conn.now) → OnOk result (IsReady (state S.Store tx.old.conn.now) → content_now (state S.Store tx.new.conn.now) ≡ changed (content_now (state S.Store tx.old.conn.now)) change.now) }
+    ensures stands { StandsOn (state S.Store tx.old.conn.now) (state S.Store tx.new.conn.now) }
+    ensures crash { Survives (state S.Store tx.old.conn.now) (state S.Store tx.new.conn.now) (λ _. ⊥) }
+{
+    match change {
+        RowChange::PutIntersection(id, row) => intersection::put(tx, *id, row),
+    }
+}
+
+fn change_rows<S: Alter>(tx: &mut Transaction<'_, S>, changes: &[RowChange]) -> Result<(), SqlFault>
+    ensures same_reference { tx.new.conn.ghost_name ≡ tx.old.conn.ghost_name }
+    ensures ready { HasCleanDisk (state S.Store tx.new.conn.now) → OnOk result (IsReady (state S.Store tx.old.conn.now) → IsReady (state S.Store tx.new.conn.now)) }
+    ensures changed { HasCleanDisk (state S.Store tx.new.conn.now) → OnOk result (IsReady (state S.Store tx.old.conn.now) → content_now (state S.Store tx.new.conn.now) ≡ changed_by (content_now (state S.Store tx.old.conn.now)) changes.now) }
+    ensures stands { StandsOn (state S.Store tx.old.conn.now) (state S.Store tx.new.conn.now) }
+    ensures crash { Survives (state S.Store tx.old.conn.now) (state S.Store tx.new.conn.now) (λ _. ⊥) }
+{
+    for change in changes {
+        change_row(tx, change)?;
+    }
+    Ok(())
+}
+
+/// Makes all changes in their order, or none.
+pub(crate) fn apply<S: Alter>(
+    conn: &mut Connection<S>,
+    changes: &[RowChange],
+) -> Result<(), SqlFault>
+    requires { IsOffice (state S.Store conn.old) }
+    ensures office { IsOffice (state S.Store conn.new) }
+    ensures honest { IsHonest (state S.Store conn.new) → IsHonest (state S.Store conn.old) }
+    ensures applied { IsHonest (state S.Store conn.new) → OnOk result (content_now (state S.Store conn.new) ≡ changed_by (content_now (state S.Store conn.old)) changes.now) }
+    ensures unchanged { IsHonest (state S.Store conn.new) → OnErr result (content_now (state S.Store conn.new) ≡ content_now (state S.Store conn.old)) }
+    ensures crash { Survives (state S.Store conn.old) (state S.Store conn.new) (λ trees. IsHonest (state S.Store conn.old) → content_of trees ≡ changed_by (content_now (state S.Store conn.old)) changes.now) }
+{
+    let mut tx = conn.transaction();
+    change_rows(&mut tx, changes)?;
+    tx.commit()?;
+    Ok(())
+}

@@ -1,0 +1,152 @@
+//! The tables in SQL.
+
+ghost use Rattle.std.specs.Prelude.{◌≡◌, ◌≢◌, None, Some, IfSome, IfOk, IfErr};
+ghost use Rattle.sqlite.specs.State.{HasCleanDisk};
+ghost use Rattle.sqlite.specs.Held.{state};
+ghost use Rattle.office_tables_shelf.specs.Change.{writes_after};
+ghost use Rattle.office_tables_shelf.specs.Content.{no_content};
+ghost use Rattle.office_tables_shelf.specs.MapShelf.{no_writes};
+ghost use Rattle.office_tables.specs.Stored.{content_now, content_of};
+ghost use Rattle.office_tables.specs.Calls.{IsHonest};
+ghost use Rattle.office_tables.specs.Schema.{no_schema};
+ghost use Rattle.office_tables.specs.Version.{HasRow, version_in, first_version};
+
+use crate::open::{OpenFault, claim, prepared};
+use crate::{change, intersection};
+use office_tables_shelf::rows::{IntersectionRow, RowChange, Table};
+use office_tables_shelf::shelf::{Shelf, ShelfFault};
+use signal_records::InterId;
+use sqlite::{Alter, Connection};
+use std::alloc::Global;
+use std::marker::Model;
+
+/// The tables of the office in a database of SQL.
+#[derive(Drop)]
+pub struct SqlShelf<S: Alter> {
+    conn: Connection<S>,
+    intersection_writes: u64,
+}
+
+impl<S: Alter> Model for SqlShelf<S> {
+    ghost use Rattle.sqlite.specs.Held.{state};
+    ghost use Rattle.office_tables.specs.Calls.{IsOffice};
+    ghost use Rattle.office_tables.specs.SqlShelf.{SqlView, view_code};
+
+    ghost Value = { SqlView S };
+
+    ghost coded = { view_code S.code };
+
+    ghost view = { λ s. record { conn = s.conn; counts = record { intersection = s.intersection_writes } } };
+
+    ghost invariant = { λ s. IsOffice (state S.Store s.conn) };
+}
+
+impl<S: Alter> SqlShelf<S> {
+    /// Takes the tables of the office, which are made where the database has none. Version 1 is stored where none is and no table has a row.
+    /// A transaction that is under way is refused. Where it refuses, the connection is dropped.
+    pub fn open(alloc: Global, conn: Connection<S>) -> Result<SqlShelf<S>, OpenFault>
+    where
+        S: Drop,
+        ensures honest { IfOk result (λ shelf. IsHonest (state S.Store shelf.conn) → HasCleanDisk (state S.Store conn)) }
+        ensures kept { IfOk result (λ shelf. IsHonest (state S.Store shelf.conn) → (state S.Store conn).now.schema ≢ no_schema → content_now (state S.Store shelf.conn) ≡ content_of (state S.Store conn).committed.trees) }
+        ensures made { IfOk result (λ shelf. IsHonest (state S.Store shelf.conn) → (state S.Store conn).now.schema ≡ no_schema → content_now (state S.Store shelf.conn) ≡ no_content) }
+        ensures version { IfOk result (λ shelf. IsHonest (state S.Store shelf.conn) → version_in (state S.Store shelf.conn).now.trees ≡ Some first_version) }
+        ensures no_writes { IfOk result (λ shelf. shelf.counts ≡ no_writes) }
+        ensures crash { IfOk result (λ shelf. IsHonest (state S.Store shelf.conn) → (trees : _) → (state S.Store shelf.conn).may_leave trees → content_of trees ≡ content_now (state S.Store shelf.conn)) }
+    {
+        match SqlShelf::open_returning(alloc, conn) {
+            Ok(shelf) => Ok(shelf),
+            Err((fault, _)) => Err(fault),
+        }
+    }
+
+    /// As `open`, and gives the connection back where it refuses its tables.
+    pub fn open_returning(
+        alloc: Global,
+        conn: Connection<S>,
+    ) -> Result<SqlShelf<S>, (OpenFault, Option<Connection<S>>)>
+    where
+        S: Drop,
+        ensures honest { IfOk result (λ shelf. IsHonest (state S.Store shelf.conn) → HasCleanDisk (state S.Store conn)) }
+        ensures kept { IfOk result (λ shelf. IsHonest (state S.Store shelf.conn) → (state S.Store conn).now.schema ≢ no_schema → content_now (state S.Store shelf.conn) ≡ content_of (state S.Store conn).committed.trees) }
+        ensures made { IfOk result (λ shelf. IsHonest (state S.Store shelf.conn) → (state S.Store conn).now.schema ≡ no_schema → content_now (state S.Store shelf.conn) ≡ no_content) }
+        ensures stored { IfOk result (λ shelf. IsHonest (state S.Store shelf.conn) → version_in (state S.Store shelf.conn).now.trees ≡ Some first_version) }
+        ensures no_writes { IfOk result (λ shelf. shelf.counts ≡ no_writes) }
+        ensures crash { IfOk result (λ shelf. IsHonest (state S.Store shelf.conn) → (trees : _) → (state S.Store shelf.conn).may_leave trees → content_of trees ≡ content_now (state S.Store shelf.conn)) }
+        ensures unreached { IfErr result (λ e. e.1 ≡ None → (e.0 ≢ OpenFault.Version) × (e.0 ≢ OpenFault.Damaged)) }
+        ensures version { IfErr result (λ e. e.0 ≡ OpenFault.Version → IfSome e.1 (λ c. IsHonest (state S.Store c) → (version_in (state S.Store conn).committed.trees ≢ None) × (version_in (state S.Store conn).committed.trees ≢ Some first_version))) }
+        ensures damaged { IfErr result (λ e. e.0 ≡ OpenFault.Damaged → IfSome e.1 (λ c. IsHonest (state S.Store c) → (version_in (state S.Store conn).committed.trees ≡ None) × HasRow (state S.Store conn).committed.trees)) }
+        ensures refused { IfErr result (λ e. IfSome e.1 (λ c. IsHonest (state S.Store c) → (state S.Store conn).now.schema ≢ no_schema → content_now (state S.Store c) ≡ content_of (state S.Store conn).committed.trees)) }
+    {
+        let (mut conn, is_new) = match prepared(alloc, conn) {
+            Ok(found) => found,
+            Err(fault) => return Err((fault, None)),
+        };
+        match claim(&mut conn, is_new) {
+            Ok(()) => Ok(SqlShelf {
+                conn,
+                intersection_writes: 0,
+            }),
+            Err(fault) => Err((fault, Some(conn))),
+        }
+    }
+
+    /// Gives the connection back, with the rows.
+    pub fn into_conn(self) -> Connection<S>
+        ensures { result ≡ self.conn }
+    {
+        let SqlShelf { conn, .. } = self;
+        conn
+    }
+}
+
+/// The row writes of a table after these changes.
+fn counted(table: Table, writes: u64, changes: &[RowChange]) -> u64
+    ensures { result ≡ writes_after table writes changes.now }
+{
+    let mut count = writes;
+    for change in changes {
+        match (table, change) {
+            (Table::Intersection, RowChange::PutIntersection(..)) => {
+                count = count.saturating_add(1);
+            }
+        }
+    }
+    count
+}
+
+impl<S: Alter> Shelf for SqlShelf<S> {
+    ghost use Rattle.sqlite.specs.Held.{state};
+    ghost use Rattle.office_tables_shelf.specs.MapShelf.{count_of};
+    ghost use Rattle.office_tables.specs.Stored.{content_now};
+    ghost use Rattle.office_tables.specs.Calls.{IsHonest};
+    ghost use Rattle.office_tables.specs.SqlShelf.{MayLeave};
+
+    ghost content = { λ s. content_now (state S.Store s.conn) };
+
+    ghost is_honest = { λ s. IsHonest (state S.Store s.conn) };
+
+    ghost may_leave = { λ s tables. MayLeave (state S.Store s.conn) tables };
+
+    ghost written = { λ s table. count_of s.counts table };
+
+    fn intersection(
+        &mut self,
+        alloc: Global,
+        id: InterId,
+    ) -> Result<Option<IntersectionRow>, ShelfFault> {
+        intersection::read(alloc, &mut self.conn, id)
+    }
+
+    fn apply(&mut self, _alloc: Global, changes: &[RowChange]) -> Result<(), ShelfFault> {
+        change::apply(&mut self.conn, changes)?;
+        self.intersection_writes = counted(Table::Intersection, self.intersection_writes, changes);
+        Ok(())
+    }
+
+    fn writes(&self, table: Table) -> u64 {
+        match table {
+            Table::Intersection => self.intersection_writes,
+        }
+    }
+}

@@ -1,0 +1,120 @@
+//! The version that is stored, and whether the tables have rows.
+
+ghost use Rattle.std.specs.Prelude.{◌≡◌, ◌≢◌, ℕ, pos, [], ◌∷◌, length, Some, IsTrue, IfOk, IfSome, OnOk};
+ghost use Rattle.std.specs.Option.{option_map};
+ghost use Rattle.std.specs.List.{AllByRecursion};
+ghost use Rattle.sqlite.specs.State.{HasCleanDisk, Survives};
+ghost use Rattle.sqlite.specs.Held.{state};
+ghost use Rattle.office_tables.specs.Stored.{cells, content_now, content_of};
+ghost use Rattle.office_tables.specs.Calls.{IsHonest, IsOffice, IsQuery, IsReady, Keeps, StandsOn};
+ghost use Rattle.office_tables.specs.Version.{AreEmpty, HasRow, IsListing, ListsRows, version_in, first_version};
+
+use crate::statement::{SqlFault, select, select_one, write};
+use sqlite::{Alter, Connection, Row, Transaction, params};
+
+const FIND: &str = "SELECT version FROM office_version WHERE one = ?1";
+
+const PUT: &str = "INSERT OR REPLACE INTO office_version (one, version) VALUES (?1, ?2)";
+
+/// One query of all rows for each of the eight tables.
+const LISTINGS: [&str; 8] = [
+    "SELECT id FROM intersection",
+    "SELECT inter FROM timing",
+    "SELECT inter FROM draft",
+    "SELECT inter FROM inspection",
+    "SELECT inter FROM work_order",
+    "SELECT hand FROM part",
+    "SELECT day FROM delivery",
+    "SELECT inter FROM used_part",
+];
+
+/// The version that is stored.
+pub(crate) fn stored_version<S: Alter>(conn: &mut Connection<S>) -> Result<Option<Row>, SqlFault>
+    requires { IsOffice (state S.Store conn.old) }
+    ensures found { IsHonest (state S.Store conn.new) → IfOk result (λ row. option_map cells row ≡ version_in (state S.Store conn.old).now.trees) }
+    ensures width { IsHonest (state S.Store conn.new) → IfOk result (λ row. IfSome row (λ r. length r ≡ 1)) }
+    ensures kept { Keeps (state S.Store conn.old) (state S.Store conn.new) }
+    ensures crash { Survives (state S.Store conn.old) (state S.Store conn.new) (λ _. ⊥) }
+{
+    select_one(conn, FIND, params![1u32])
+}
+
+/// Whether this is the row of version 1.
+pub(crate) fn is_first(row: &Row) -> Result<bool, SqlFault>
+    ensures first { length row.now ≡ 1 → IfOk result (λ first. IsTrue first → cells row.now ≡ first_version) }
+    ensures other { IfOk result (λ first. ¬ IsTrue first → cells row.now ≢ first_version) }
+{
+    let number: Result<i64, _> = row.get(0);
+    Ok(number? == 1)
+}
+
+/// Stores version 1.
+fn put_version<S: Alter>(tx: &mut Transaction<'_, S>) -> Result<(), SqlFault>
+    ensures same_reference { tx.new.conn.ghost_name ≡ tx.old.conn.ghost_name }
+    ensures honest { HasCleanDisk (state S.Store tx.new.conn.now) → OnOk result (IsHonest (state S.Store tx.old.conn.now)) }
+    ensures ready { HasCleanDisk (state S.Store tx.new.conn.now) → OnOk result (IsReady (state S.Store tx.old.conn.now) → IsReady (state S.Store tx.new.conn.now)) }
+    ensures same { HasCleanDisk (state S.Store tx.new.conn.now) → OnOk result (IsReady (state S.Store tx.old.conn.now) → content_now (state S.Store tx.new.conn.now) ≡ content_now (state S.Store tx.old.conn.now)) }
+    ensures stored { HasCleanDisk (state S.Store tx.new.conn.now) → OnOk result (IsReady (state S.Store tx.old.conn.now) → version_in (state S.Store tx.new.conn.now).now.trees ≡ Some first_version) }
+    ensures stands { StandsOn (state S.Store tx.old.conn.now) (state S.Store tx.new.conn.now) }
+    ensures crash { Survives (state S.Store tx.old.conn.now) (state S.Store tx.new.conn.now) (λ _. ⊥) }
+{
+    write(tx, PUT, params![1u32, 1u32])?;
+    Ok(())
+}
+
+/// Stores version 1 and keeps the rows of the eight tables.
+pub(crate) fn store_version<S: Alter>(conn: &mut Connection<S>) -> Result<(), SqlFault>
+    requires { IsOffice (state S.Store conn.old) }
+    ensures office { IsOffice (state S.Store conn.new) }
+    ensures honest { IsHonest (state S.Store conn.new) → IsHonest (state S.Store conn.old) }
+    ensures same { IsHonest (state S.Store conn.new) → content_now (state S.Store conn.new) ≡ content_now (state S.Store conn.old) }
+    ensures stored { IsHonest (state S.Store conn.new) → OnOk result (version_in (state S.Store conn.new).now.trees ≡ Some first_version) }
+    ensures crash { Survives (state S.Store conn.old) (state S.Store conn.new) (λ trees. IsHonest (state S.Store conn.old) × (content_of trees ≡ content_now (state S.Store conn.old))) }
+{
+    let mut tx = conn.transaction();
+    put_version(&mut tx)?;
+    tx.commit()?;
+    Ok(())
+}
+
+/// Whether the query of all rows of a table answers none.
+fn is_empty<S: Alter>(conn: &mut Connection<S>, sql: &str) -> Result<bool, SqlFault>
+    requires office { IsOffice (state S.Store conn.old) }
+    requires query { IsQuery sql.now }
+    ensures empty { IsHonest (state S.Store conn.new) → IfOk result (λ empty. IsTrue empty → (tree : ℕ) → ListsRows sql.now tree → (state S.Store conn.old).now.trees tree ≡ []) }
+    ensures has_row { IsHonest (state S.Store conn.new) → IfOk result (λ empty. ¬ IsTrue empty → (tree : ℕ) → ListsRows sql.now tree → (state S.Store conn.old).now.trees tree ≢ []) }
+    ensures kept { Keeps (state S.Store conn.old) (state S.Store conn.new) }
+    ensures crash { Survives (state S.Store conn.old) (state S.Store conn.new) (λ _. ⊥) }
+{
+    let rows = select(conn, sql, &[])?;
+    Ok(rows.as_slice().is_empty())
+}
+
+/// Whether each of the queries answers no row.
+fn show_none<S: Alter>(conn: &mut Connection<S>, queries: &[&str]) -> Result<bool, SqlFault>
+    requires office { IsOffice (state S.Store conn.old) }
+    requires queries { AllByRecursion (λ sql. IsListing sql.now) queries.now }
+    ensures empty { IsHonest (state S.Store conn.new) → IfOk result (λ empty. IsTrue empty → AllByRecursion (λ sql. (tree : ℕ) → ListsRows sql.now tree → (state S.Store conn.old).now.trees tree ≡ []) queries.now) }
+    ensures has_row { IsHonest (state S.Store conn.new) → IfOk result (λ empty. ¬ IsTrue empty → ¬ AllByRecursion (λ sql. (tree : ℕ) → ListsRows sql.now tree → (state S.Store conn.old).now.trees tree ≡ []) queries.now) }
+    ensures kept { Keeps (state S.Store conn.old) (state S.Store conn.new) }
+    ensures crash { Survives (state S.Store conn.old) (state S.Store conn.new) (λ _. ⊥) }
+{
+    let Some((sql, queries)) = queries.split_first() else {
+        return Ok(true);
+    };
+    if !is_empty(conn, sql)? {
+        return Ok(false);
+    }
+    show_none(conn, queries)
+}
+
+/// Whether no table has a row.
+pub(crate) fn are_empty<S: Alter>(conn: &mut Connection<S>) -> Result<bool, SqlFault>
+    requires { IsOffice (state S.Store conn.old) }
+    ensures empty { IsHonest (state S.Store conn.new) → IfOk result (λ empty. IsTrue empty → AreEmpty (state S.Store conn.old).now.trees) }
+    ensures has_row { IsHonest (state S.Store conn.new) → IfOk result (λ empty. ¬ IsTrue empty → HasRow (state S.Store conn.old).now.trees) }
+    ensures kept { Keeps (state S.Store conn.old) (state S.Store conn.new) }
+    ensures crash { Survives (state S.Store conn.old) (state S.Store conn.new) (λ _. ⊥) }
+{
+    show_none(conn, &LISTINGS)
+}

@@ -1,0 +1,114 @@
+-- A tree of records stands for the map of their cells, and follows its changes.
+use Rattle.std.proofs.Common.{◌≡◌, ◌⊎◌, inl, inr, ℕ, Bool, true, false, List, [], ◌∷◌, find, cond, Option, None, Some, option_map, Ordering, nat_cmp, pos, refl, sym, ap, subst, ◌∙◌, arith}
+use Rattle.std.proofs.lemmas.Bool.{cases_Bool}
+use Rattle.std.proofs.lemmas.Bool.Decides.{nat_tests}
+use Rattle.std.specs.BTreeMap.{is_at}
+use Rattle.std.specs.Cmp.{eq_by_cmp_equiv, both_tied}
+use Rattle.std.specs.FinMap.{insert, remove, get, same_map, get-insert, get-remove}
+use Rattle.std.specs.Map.{lookup}
+use Rattle.std.specs.Ordering.{is_eq, ordering_then}
+use Rattle.office_tables_shelf.specs.Cells.{Cell, number, tree_rows, cell_cmp, cells_cmp}
+use Rattle.office_tables_shelf.proofs.CellLemmas.{cells_total, cells_exact, is_under, first_under, get_by, tied}
+use Rattle.std.specs.declared.cmp.Ordering.TheVariants.{Less, Equal, Greater}
+
+module _ {K X : Type 0} (R : K → K → Ordering) (key : K → List Cell) (columns : X → List Cell) where
+  -- what a tree with these entries has at a key
+  abbrev pub entry_at : List (K × X) → K → Option X
+  entry_at es q = lookup (is_at (R q)) es
+
+  abbrev pub key_in : K × X → List Cell
+  key_in e = key e.0
+
+  abbrev pub columns_in : K × X → List Cell
+  columns_in e = columns e.1
+
+  module _ (ties : (a b : K) → is_eq (cells_cmp (key a) (key b)) ≡ is_eq (R a b)) where
+    here : (b : Bool) (e : K × X) (o : Option (K × X)) → option_map columns_in (cond b (Some e) o) ≡ cond b (Some (columns e.1)) (option_map columns_in o)
+    here true e o = refl
+    here false e o = refl
+
+    moved : (b : Bool) (o p : Option X) → option_map columns (cond b o p) ≡ cond b (option_map columns o) (option_map columns p)
+    moved true o p = refl
+    moved false o p = refl
+
+    under_key : (es : List (K × X)) (k : K) → first_under key_in columns_in es (key k) ≡ option_map columns (entry_at es k)
+    under_key [] k = refl
+    under_key (e ∷ es) k =
+        here (is_under key_in columns_in (key k) e) e (find (is_under key_in columns_in (key k)) es)
+        ∙ (λ i. cond (ties k e.0 i) (Some (columns e.1)) (under_key es k i))
+        ∙ sym (moved (is_at (R k) e.0) (Some e.1) (entry_at es k))
+
+    -- the map has at the cells of a key what the tree has at the key
+    pub get_tree : (es : List (K × X)) (k : K) → get (tree_rows key columns es) (key k) ≡ option_map columns (entry_at es k)
+    get_tree es k = get_by key_in columns_in es (key k) ∙ under_key es k
+
+    -- the cells are those of a key, or nothing stands under them
+    some_key : (es : List (K × X)) (q : List Cell) → ((k : K) × (q ≡ key k)) ⊎ (first_under key_in columns_in es q ≡ None)
+    some_key [] q = inr refl
+    some_key (e ∷ es) q = go (cases_Bool (is_under key_in columns_in q e)) (some_key es q)
+      where
+        go : (is_under key_in columns_in q e ≡ true) ⊎ (is_under key_in columns_in q e ≡ false) → ((k : K) × (q ≡ key k)) ⊎ (first_under key_in columns_in es q ≡ None)
+            → ((k : K) × (q ≡ key k)) ⊎ (first_under key_in columns_in (e ∷ es) q ≡ None)
+        go (inl hit) later = inl (e.0, cells_exact q (key e.0) (tied _ hit))
+        go (inr miss) (inl found) = inl found
+        go (inr miss) (inr none) = inr (rw (miss, none))
+
+    -- trees that differ at one key
+    module _ (es fs : List (K × X)) (k : K) (next : Option X) (updates : (q : K) → entry_at fs q ≡ cond (is_at (R k) q) next (entry_at es q)) where
+      abbrev Follows : List Cell → Type 0
+      Follows q = first_under key_in columns_in fs q ≡ cond (is_eq (cells_cmp q (key k))) (option_map columns next) (first_under key_in columns_in es q)
+
+      at_key : (q : K) → Follows (key q)
+      at_key q =
+          under_key fs q ∙ ap (option_map columns) (updates q) ∙ moved (is_at (R k) q) next (entry_at es q)
+          ∙ (λ i. cond ((sym (ties k q) ∙ (eq_by_cmp_equiv cells_total).symm (key k) (key q)) i) (option_map columns next) (sym (under_key es q) i))
+
+      pub follows : (q : List Cell) → Follows q
+      follows q = go (some_key fs q) (some_key es q) (cases_Bool (is_eq (cells_cmp q (key k))))
+        where
+          at : (found : (x : K) × (q ≡ key x)) → Follows q
+          at found = subst Follows (sym found.1) (at_key found.0)
+
+          go : ((x : K) × (q ≡ key x)) ⊎ (first_under key_in columns_in fs q ≡ None) → ((x : K) × (q ≡ key x)) ⊎ (first_under key_in columns_in es q ≡ None)
+              → (is_eq (cells_cmp q (key k)) ≡ true) ⊎ (is_eq (cells_cmp q (key k)) ≡ false) → Follows q
+          go (inl found) old b = at found
+          go (inr none) (inl found) b = at found
+          go (inr none) (inr before) (inl hit) = at (k, cells_exact q (key k) (tied _ hit))
+          go (inr none) (inr before) (inr miss) = rw (none, before, miss)
+
+    pub insert_tree : (es fs : List (K × X)) (k : K) (v : X) → ((q : K) → entry_at fs q ≡ cond (is_at (R k) q) (Some v) (entry_at es q)) → tree_rows key columns fs ≡ insert (tree_rows key columns es) (key k) (columns v)
+    insert_tree es fs k v updates = same_map cells_total cells_exact _ _ (λ q.
+        get_by key_in columns_in fs q ∙ follows es fs k (Some v) updates q
+        ∙ sym (get-insert cells_total (tree_rows key columns es) (key k) (columns v) q ∙ ap (cond (is_eq (cells_cmp q (key k))) (Some (columns v))) (get_by key_in columns_in es q)))
+
+    pub remove_tree : (es fs : List (K × X)) (k : K) → ((q : K) → entry_at fs q ≡ cond (is_at (R k) q) None (entry_at es q)) → tree_rows key columns fs ≡ remove (tree_rows key columns es) (key k)
+    remove_tree es fs k updates = same_map cells_total cells_exact _ _ (λ q.
+        get_by key_in columns_in fs q ∙ follows es fs k None updates q
+        ∙ sym (get-remove cells_total (tree_rows key columns es) (key k) q ∙ ap (cond (is_eq (cells_cmp q (key k))) None) (get_by key_in columns_in es q)))
+
+one_number : (a b : ℕ) → is_eq (cell_cmp (number (pos a)) (number (pos b))) ≡ is_eq (nat_cmp a b)
+unfolding cell_cmp
+one_number a b = grind (arith, nat_tests)
+
+then_ties : (r s r' s' : Ordering) → is_eq r ≡ is_eq r' → is_eq s ≡ is_eq s' → is_eq (ordering_then r s) ≡ is_eq (ordering_then r' s')
+then_ties r s r' s' p q = sym (both_tied (is_eq r) (is_eq s) r s refl refl) ∙ both_tied (is_eq r) (is_eq s) r' s' p q
+
+-- a key that is one number
+pub number_ties : (a b : ℕ) → is_eq (cells_cmp (number (pos a) ∷ []) (number (pos b) ∷ [])) ≡ is_eq (nat_cmp a b)
+unfolding cell_cmp
+number_ties a b = grind (arith, nat_tests)
+
+-- ---- numbers of a range, which compare by their one number
+
+-- how such numbers compare
+abbrev pub ranged_cmp : ℕ → ℕ → Ordering
+ranged_cmp a b = ordering_then (nat_cmp a b) Equal
+
+then_equal : (o : Ordering) → is_eq o ≡ is_eq (ordering_then o Equal)
+then_equal Less = refl
+then_equal Equal = refl
+then_equal Greater = refl
+
+-- a key that is one number of a range
+pub ranged_ties : (a b : ℕ) → is_eq (cells_cmp (number (pos a) ∷ []) (number (pos b) ∷ [])) ≡ is_eq (ranged_cmp a b)
+ranged_ties a b = number_ties a b ∙ then_equal (nat_cmp a b)

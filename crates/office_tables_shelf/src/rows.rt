@@ -1,0 +1,50 @@
+//! The rows of the tables with their types, and changes of them.
+
+use draft_core::revision::Revision;
+use draft_core::state::Holder;
+use signal_records::{InterId, Interval, Words};
+use std::alloc::AllocError;
+
+/// The row of an intersection, beside its number.
+#[derive(Drop)]
+pub struct IntersectionRow {
+    pub name: Words<120>,
+    /// Days from one inspection of the cabinet to the next.
+    pub interval: Interval,
+    /// How often its timing set was committed.
+    pub revision: Revision,
+    /// Who holds a draft of its timing; nobody in state Normal.
+    pub holder: Option<Holder>,
+}
+
+impl Clone for IntersectionRow {
+    ghost use Rattle.std.specs.Prelude.{◌≡◌};
+
+    ghost is_clone = { λ row copy. copy ≡ row };
+
+    fn clone(&self) -> Result<IntersectionRow, AllocError> {
+        let name = self.name.clone()?;
+        let holder = match &self.holder {
+            Some(holder) => Some(holder.clone()?),
+            None => None,
+        };
+        Ok(IntersectionRow {
+            name,
+            interval: self.interval,
+            revision: self.revision,
+            holder,
+        })
+    }
+}
+
+/// A row to be written. An intersection is never removed.
+#[derive(Drop)]
+pub enum RowChange {
+    PutIntersection(InterId, IntersectionRow),
+}
+
+/// A table whose rows are written.
+#[derive(Clone, Copy, Debug, PartialEq, Eq)]
+pub enum Table {
+    Intersection,
+}

@@ -1,0 +1,76 @@
+//! The tables of the office as a trait.
+ghost use Rattle.std.specs.Prelude.{◌≡◌, ◌≢◌, ◌⊎◌, ℕ, IfOk, OnOk, OnErr};
+ghost use Rattle.office_tables_shelf.specs.Content.{Content};
+ghost use Rattle.office_tables_shelf.specs.Change.{changed_by, writes_after};
+ghost use Rattle.office_tables_shelf.specs.Shelf.{IsKept, ReadsIntersection, HasDamagedIntersection};
+ghost use Rattle.office_tables_shelf.specs.declared.rows.Table.{Table};
+
+use crate::rows::{IntersectionRow, RowChange, Table};
+use signal_records::{InterId, NoMemory};
+use std::alloc::Global;
+
+/// Why a call of a shelf failed.
+#[derive(Clone, Copy, Debug, PartialEq, Eq)]
+pub enum ShelfFault {
+    /// A growth was refused.
+    NoMemory,
+    /// The database refused.
+    Store,
+    /// A stored row is no record.
+    Damaged,
+}
+
+impl From<NoMemory> for ShelfFault {
+    ghost use Rattle.std.specs.Prelude.{◌≡◌};
+    ghost use Rattle.office_tables_shelf.specs.declared.shelf.ShelfFault.TheVariants.{NoMemory as OutOfMemory};
+
+    ghost from_gives = { λ _ fault. fault ≡ OutOfMemory };
+
+    fn from(_refused: NoMemory) -> ShelfFault {
+        ShelfFault::NoMemory
+    }
+}
+
+/// The tables of an office, as they are stored.
+///
+/// Every clause on what the tables hold rests on an honest disk after the call, and every call hands
+/// that back to before: so one premise on the last state serves a whole run.
+pub trait Shelf {
+    /// What is stored, whether or not it is a record.
+    ghost content: { Self → Content };
+    /// The disk has returned what was written, so far, and no failure of it has shut the database.
+    ghost is_honest: { Self → Type 0 };
+    /// What a crash at this moment may leave.
+    ghost may_leave: { Self → Content → Type 0 };
+    /// The row writes so far.
+    ghost written: { Self → Table → ℕ };
+
+    /// The row of an intersection, if there is one.
+    fn intersection(
+        &mut self,
+        alloc: Global,
+        id: InterId,
+    ) -> Result<Option<IntersectionRow>, ShelfFault>
+        ensures row { IfOk result (λ row. is_honest self.new → ReadsIntersection (content self.old) id row) }
+        ensures damaged { result ≡ Err ShelfFault.Damaged → is_honest self.new → HasDamagedIntersection (content self.old) id }
+        ensures kept { IsKept is_honest content written may_leave self.old self.new };
+
+    /// Makes the changes in their order, all or none. Refused, it answers NoMemory or Store.
+    fn apply(&mut self, alloc: Global, changes: &[RowChange]) -> Result<(), ShelfFault>
+        ensures honest { is_honest self.new → is_honest self.old }
+        ensures ok { OnOk result (is_honest self.new → content self.new ≡ changed_by (content self.old) changes.now) }
+        ensures err { OnErr result (is_honest self.new → content self.new ≡ content self.old) }
+        ensures undamaged { result ≢ Err ShelfFault.Damaged }
+        ensures written_ok { OnOk result ((table : Table) → written self.new table ≡ writes_after table (written self.old table) changes.now) }
+        ensures written_err { OnErr result ((table : Table) → written self.new table ≡ written self.old table) }
+
+        // A crash leaves what it could before, or the whole result; and that alone once rows were changed.
+        ensures crash { is_honest self.new → (tables : Content) → may_leave self.new tables →
+            may_leave self.old tables ⊎ (tables ≡ changed_by (content self.old) changes.now) }
+        ensures settled { OnOk result (is_honest self.new → content self.new ≢ content self.old →
+            (tables : Content) → may_leave self.new tables → tables ≡ content self.new) };
+
+    /// The row writes of a table so far; the count stays at `u64::MAX` once it is there.
+    fn writes(&self, table: Table) -> u64
+        ensures { result ≡ written self.now table };
+}

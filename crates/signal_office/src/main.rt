@@ -1,0 +1,35 @@
+//! The program of the traffic signal office.
+#![tactic(auto)]
+
+mod fault;
+mod program;
+#[cfg(test)]
+mod tests;
+
+use fault::Fault;
+use office_http::{FromRead, ToWrite};
+use program::{report, run_words};
+use std::env;
+use std::process::ExitCode;
+
+/// Hands the words, the input and both outputs over. Words that are not UTF-8 are not understood.
+fn run(rt: &HostRuntime) -> Result<u8, Fault> {
+    let alloc = rt.alloc();
+    let Ok(args) = env::args(rt) else {
+        return Err(Fault::Usage);
+    };
+    let args: Vec<String> = args.collect(alloc)?;
+    let words: Vec<&str> = args.iter().map(String::as_str).collect(alloc)?;
+    let mut source = FromRead::new(rt.stdin());
+    let mut out = ToWrite::new(rt.stdout());
+    let mut err = ToWrite::new(rt.stderr());
+    Ok(run_words(alloc, &words, &mut source, &mut out, &mut err))
+}
+
+fn main(rt: HostRuntime) -> ExitCode {
+    let status = match run(&rt) {
+        Ok(status) => status,
+        Err(fault) => report(&mut ToWrite::new(rt.stderr()), fault),
+    };
+    ExitCode::from(status)
+}

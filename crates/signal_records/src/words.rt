@@ -1,0 +1,85 @@
+//! Short texts.
+
+ghost use Rattle.std.specs.Prelude.{◌≡◌, ◌↔◌, IsSome, IfSome, IfOk};
+ghost use Rattle.signal_records.specs.Words.{AreWords};
+
+use crate::memory::NoMemory;
+use std::alloc::{AllocError, Global};
+use std::marker::Model;
+
+/// A text of 1 to `MAX` bytes of UTF-8 without control characters: none below U+0020, and no
+/// U+007F. It is seen as the list of its bytes.
+#[derive(Debug, Drop)]
+pub struct Words<const MAX: usize> {
+    text: String,
+}
+
+impl<const MAX: usize> Model for Words<MAX> {
+    ghost use Rattle.std.specs.Prelude.{List, ℕ, string_bytes};
+    ghost use Rattle.signal_records.specs.Words.{AreWords};
+
+    ghost Value = { List ℕ };
+
+    ghost view = { λ w. string_bytes w.text };
+
+    ghost invariant = { λ w. AreWords MAX (string_bytes w.text) };
+}
+
+impl<const MAX: usize> Words<MAX> {
+    /// The text, if the bytes are one.
+    pub fn new(alloc: Global, bytes: &[u8]) -> Result<Option<Self>, NoMemory>
+        ensures accepts { IfOk result (λ words. IsSome words ↔ AreWords MAX bytes.now) }
+        ensures keeps { IfOk result (λ words. IfSome words (λ text. text ≡ bytes.now)) }
+    {
+        if bytes.is_empty() || MAX < bytes.len() {
+            return Ok(None);
+        }
+        if !bytes.iter().all(|&b| 32 <= b && b != 127) {
+            return Ok(None);
+        }
+        let Ok(text) = str::from_utf8(bytes) else {
+            return Ok(None);
+        };
+        Ok(Some(Words {
+            text: String::from_str(alloc, text)?,
+        }))
+    }
+
+    /// The text.
+    pub fn as_str(&self) -> &str
+        ensures text { result.now ≡ self.now }
+        ensures words { AreWords MAX self.now }
+    {
+        self.text.as_str()
+    }
+}
+
+impl<const MAX: usize> Clone for Words<MAX> {
+    ghost is_clone = { λ words copy. copy ≡ words };
+
+    fn clone(&self) -> Result<Words<MAX>, AllocError> {
+        Ok(Words {
+            text: self.text.clone()?,
+        })
+    }
+}
+
+impl<const MAX: usize> PartialEq for Words<MAX> {
+    ghost use Rattle.std.specs.Str.{bytes_eq};
+    ghost use Rattle.std.specs.Cmp.{partial_equiv_from_equiv};
+    ghost use Rattle.std.specs.Cmp.Lexicographic.{nat_list_eq_equiv};
+
+    ghost eq = { bytes_eq };
+
+    ghost laws = { partial_equiv_from_equiv nat_list_eq_equiv };
+
+    fn eq(&self, other: &Words<MAX>) -> bool {
+        self.text.as_str() == other.text.as_str()
+    }
+}
+
+impl<const MAX: usize> Eq for Words<MAX> {
+    ghost use Rattle.std.specs.Cmp.Lexicographic.{nat_list_eq_equiv};
+
+    ghost laws = { nat_list_eq_equiv };
+}
