@@ -3,3 +3,5 @@
 
 pub mod revision;
 pub mod state;
+#[cfg(test)]
+mod tests;

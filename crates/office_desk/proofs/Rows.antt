@@ -1,6 +1,5 @@
 -- A finite map, stored as the rows of a table: what the rows have at a key, what an insertion makes of them, and that a row is told by its cells.
-use Rattle.std.proofs.Common.{◌≡◌, ℕ, List, [], ◌∷◌, Option, Some, None, cond, Ordering, pos, refl, ap, sym, ◌∙◌, arith}
-use Rattle.std.specs.BTreeMap.{is_at}
+use Rattle.std.proofs.Common.{◌≡◌, List, [], ◌∷◌, Option, Some, None, cond, Ordering, refl, ap, sym, ◌∙◌, arith}
 use Rattle.std.specs.Cmp.{IsTotalOrder, eq_by_cmp_equiv}
 use Rattle.std.specs.FinMap.{FinMap, entries, get, insert, find, get-entries, get-insert}
 use Rattle.std.specs.Option.{option_map}
@@ -8,7 +7,7 @@ use Rattle.std.specs.Ordering.{is_eq, eq_by_cmp}
 use Rattle.draft_core.specs.declared.state.Stage.{Stage}
 use Rattle.draft_core.specs.declared.state.Stage.TheVariants.{Transaction, Verify, Done}
 use Rattle.draft_core.specs.declared.state.Holder.{Holder}
-use Rattle.office_tables_shelf.specs.Cells.{Cell, null, number, text, tree_rows, cells_cmp}
+use Rattle.office_tables_shelf.specs.Cells.{Cell, tree_rows, cells_cmp}
 use Rattle.office_tables_shelf.specs.Rows.{stage_number, state_number, owner_cell, intersection_columns}
 use Rattle.office_tables_shelf.specs.declared.rows.IntersectionRow.{IntersectionRow}
 use Rattle.office_tables_shelf.proofs.TreeLemmas.{entry_at, get_tree, insert_tree}

@@ -1,5 +1,5 @@
 -- From a decision to a step that was made, and from steps to runs.
-use Rattle.std.proofs.Common.{◌≡◌, ℕ, List, [], ◌∷◌, ◌++◌, refl, ap, sym, subst, ◌∙◌, inl, inr, Err, length, true, arith}
+use Rattle.std.proofs.Common.{◌≡◌, List, [], ◌∷◌, ◌++◌, refl, sym, subst, ◌∙◌, inl, Err, length, true, arith}
 use Rattle.std.specs.Prelude.{◌==◌}
 use Rattle.std.proofs.lemmas.Bool.Decides.{nat_tests}
 use Rattle.office_tables_shelf.specs.Change.{changed_by}
@@ -7,7 +7,7 @@ use Rattle.office_tables_shelf.specs.Content.{Content}
 use Rattle.office_tables_shelf.specs.declared.rows.RowChange.{RowChange}
 use Rattle.office_tables_shelf.specs.declared.shelf.ShelfFault.{ShelfFault}
 use Rattle.office_tables_shelf.specs.declared.shelf.ShelfFault.TheVariants.{NoMemory, Store, Damaged}
-use Rattle.office_desk.specs.Answers.{AnswersAny, Answers, Decides, RunsAny, RunsTo}
+use Rattle.office_desk.specs.Answers.{AnswersAny, Answers, Decides, RunsAny}
 use Rattle.office_desk.specs.Damage.{MeetsDamage}
 use Rattle.office_desk.specs.Decisions.{refusal_of}
 use Rattle.office_desk.specs.Office.{Office}
@@ -15,7 +15,7 @@ use Rattle.office_desk.specs.StandFor.{StandForSound}
 use Rattle.office_desk.specs.Step.{Step, Run}
 use Rattle.office_desk.specs.declared.command.Command.{Command}
 use Rattle.office_desk.specs.declared.command.Command.TheVariants.{AddIntersection, State}
-use Rattle.office_desk.specs.declared.refusal.Refusal.TheVariants.{Unavailable, Damaged as RowDamaged}
+use Rattle.office_desk.specs.declared.refusal.Refusal.TheVariants.{Unavailable}
 use Rattle.office_desk.specs.declared.reply.Reply.{Reply}
 use Rattle.office_desk.specs.declared.reply.Reply.TheVariants.{Refused}
 use Rattle.office_desk.proofs.Stands.{no_damaged_row}
@@ -36,11 +36,6 @@ pub reply_answers : (tables : Content) (command : Command) (reply told : Reply) 
 reply_answers tables command reply told changes answers r e office stands =
     subst (λ list. Answers office command told (changed_by tables list)) (sym e) (subst (λ a. Answers office command a tables) (sym r) (answers office stands))
 
-pub fault_decides : (tables : Content) (command : Command) (fault : ShelfFault) → (fault ≡ Damaged → MeetsDamage tables command) → Decides tables command (Err fault)
-fault_decides tables command NoMemory h = tt
-fault_decides tables command Store h = tt
-fault_decides tables command Damaged h = h refl
-
 damage_refuted : (tables : Content) (command : Command) → MeetsDamage tables command → (office : Office) → StandForSound tables office → ⊥
 damage_refuted tables (AddIntersection id interval name) damage = no_damaged_row tables id damage
 damage_refuted tables (State id) damage = no_damaged_row tables id damage
@@ -51,10 +46,9 @@ fault_answers tables command NoMemory reply changes decides r e = unavailable_an
 fault_answers tables command Store reply changes decides r e = unavailable_answers tables command reply changes r e
 fault_answers tables command Damaged reply changes decides r e = λ office stands. absurd (damage_refuted tables command decides office stands)
 
-pub fault_damage : (tables : Content) (command : Command) (fault : ShelfFault) (reply : Reply) → Decides tables command (Err fault) → reply ≡ Refused (refusal_of fault) → reply ≡ Refused RowDamaged → MeetsDamage tables command
-fault_damage tables command NoMemory reply decides r e = cc
-fault_damage tables command Store reply decides r e = cc
-fault_damage tables command Damaged reply decides r e = decides
+-- changes that were decided on the first tables, and applied to the same
+pub applied : (first mid new : Content) (given changes : List RowChange) → new ≡ changed_by mid given → mid ≡ first → given ≡ changes → new ≡ changed_by first changes
+applied first mid new given changes made same list = made ∙ (λ i. changed_by (same i) (list i))
 
 pub no_items : (changes : List RowChange) → true ≡ (length changes == 0) → changes ≡ []
 no_items [] e = refl

@@ -1,7 +1,6 @@
 -- The tables that stand for an office: what they hold of an intersection, and what a new one makes of them.
-use Rattle.std.proofs.Common.{◌≡◌, ℕ, List, Option, Some, None, refl, ap, sym, subst, ◌∙◌, arith, cond, true, false, lit≤}
+use Rattle.std.proofs.Common.{◌≡◌, ℕ, Option, Some, None, refl, ap, sym, subst, ◌∙◌, cond, true, false, lit≤}
 use Rattle.std.specs.Prelude.{IfSome}
-use Rattle.std.proofs.lemmas.Bool.Decides.{nat_tests}
 use Rattle.std.specs.Option.{option_map}
 use Rattle.std.specs.FinMap.{get, insert, get-insert}
 use Rattle.std.specs.Cmp.{nat_cmp_total}
@@ -15,7 +14,7 @@ use Rattle.office_tables_shelf.specs.Shelf.{ReadsIntersection, HasDamagedInterse
 use Rattle.office_tables_shelf.specs.declared.rows.IntersectionRow.{IntersectionRow}
 use Rattle.office_tables_shelf.specs.declared.rows.RowChange.TheVariants.{PutIntersection}
 use Rattle.office_desk.specs.Office.{Office, Intersection, IsSound, IsSoundIntersection}
-use Rattle.office_desk.specs.StandFor.{StandFor, StandForSound, row_of, columns_of, intersection_rows}
+use Rattle.office_desk.specs.StandFor.{StandFor, StandForSound, row_of, columns_of}
 use Rattle.office_desk.proofs.Rows.{get_stored, insert_stored, read_from_cells}
 
 -- ---- what is stored of an intersection

@@ -1,6 +1,5 @@
 -- What AddIntersection and State answer, on the row that was read, is a step of the office.
-use Rattle.std.proofs.Common.{◌≡◌, ℕ, List, [], ◌∷◌, Option, Some, None, refl, ap, sym, subst, ◌∙◌, inl, inr, true, false, Bool}
-use Rattle.std.specs.Prelude.{◌≢◌, if◌then◌else◌}
+use Rattle.std.proofs.Common.{◌≡◌, ℕ, List, Option, Some, None, refl, ap, sym, subst, ◌∙◌, inr}
 use Rattle.std.specs.Option.{option_map}
 use Rattle.std.specs.FinMap.{get}
 use Rattle.office_tables_shelf.specs.Change.{changed_by}
@@ -14,9 +13,7 @@ use Rattle.office_desk.specs.Office.{Office, Intersection}
 use Rattle.office_desk.specs.StandFor.{StandForSound, row_of}
 use Rattle.office_desk.specs.Step.{added, shown}
 use Rattle.office_desk.specs.declared.command.Command.TheVariants.{AddIntersection, State}
-use Rattle.office_desk.specs.declared.refusal.Refusal.TheVariants.{IntersectionDiffers, Damaged}
 use Rattle.office_desk.specs.declared.reply.Reply.{Reply}
-use Rattle.office_desk.specs.declared.reply.Reply.TheVariants.{Added, Same, Refused}
 use Rattle.office_desk.proofs.Stands.{row_read, stand_with, sound_with, with_intersection}
 
 -- ---- AddIntersection
@@ -41,14 +38,6 @@ add_answers tables office id i row reply changes stands reads adds =
       }
     ] refl (subst (λ r. AddsRow id i r reply changes) (row_read tables office id row stands.stand reads) adds)
 
-differs : (b : Bool) → (if b then Same else Refused IntersectionDiffers) ≢ Refused Damaged
-differs true = λ e. cc
-differs false = λ e. cc
-
-pub add_undamaged : (id : ℕ) (i : Intersection) (row : Option IntersectionRow) (reply : Reply) (changes : List RowChange) → AddsRow id i row reply changes → reply ≢ Refused Damaged
-add_undamaged id i None reply changes adds = λ e. let apart : Added ≡ Refused Damaged = sym adds.0 ∙ e in cc
-add_undamaged id i (Some row) reply changes adds = λ e. differs _ (sym adds.0 ∙ e)
-
 -- ---- State
 
 state_from_row : (id : ℕ) (i : Option Intersection) → shown_row id (option_map row_of i) ≡ shown id i
@@ -63,7 +52,3 @@ state_answers tables office id row stands reads = record {
   step = inr (λ k. (sym (ap (shown_row id) (row_read tables office id row stands.stand reads) ∙ state_from_row id (get office.intersections id)) k, office));
   stand = stands;
 }
-
-pub state_undamaged : (id : ℕ) (row : Option IntersectionRow) → shown_row id row ≢ Refused Damaged
-state_undamaged id None = λ e. cc
-state_undamaged id (Some row) = λ e. cc

@@ -1,5 +1,5 @@
 -- What it means that a command was answered rightly, on tables that stand for an office.
-use Rattle.std.specs.Prelude.{◌≡◌, List, Result, Ok, Err}
+use Rattle.std.specs.Prelude.{List, Result, Ok, Err}
 use Rattle.office_tables_shelf.specs.Content.{Content}
 use Rattle.office_tables_shelf.specs.Change.{changed_by}
 use Rattle.office_tables_shelf.specs.declared.shelf.ShelfFault.{ShelfFault}

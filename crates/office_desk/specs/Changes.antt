@@ -1,12 +1,11 @@
 -- Which rows an answered command changes.
-use Rattle.std.specs.Prelude.{◌≡◌, ℕ, List, [], ◌∷◌}
+use Rattle.std.specs.Prelude.{List, [], ◌∷◌}
 use Rattle.office_tables_shelf.specs.declared.rows.RowChange.{RowChange}
 use Rattle.office_tables_shelf.specs.declared.rows.RowChange.TheVariants.{PutIntersection}
 use Rattle.office_desk.specs.declared.command.Command.{Command}
 use Rattle.office_desk.specs.declared.command.Command.TheVariants.{AddIntersection, State}
 use Rattle.office_desk.specs.declared.reply.Reply.{Reply}
 use Rattle.office_desk.specs.declared.reply.Reply.TheVariants.{Added, Same, State as Shown, Refused}
-use Rattle.office_desk.specs.Office.{Intersection}
 use Rattle.office_desk.specs.StandFor.{row_of}
 
 abbrev pub IsRefused : Reply → Type 0

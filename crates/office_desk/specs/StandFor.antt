@@ -1,5 +1,5 @@
 -- Which office the tables stand for.
-use Rattle.std.specs.Prelude.{◌≡◌, ℕ, List, None}
+use Rattle.std.specs.Prelude.{◌≡◌, List, None}
 use Rattle.std.specs.FinMap.{entries}
 use Rattle.office_tables_shelf.specs.Cells.{Cell, Rows, tree_rows}
 use Rattle.office_tables_shelf.specs.Content.{Content, no_content}

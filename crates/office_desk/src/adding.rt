@@ -59,11 +59,7 @@ pub fn decide_add<S: Shelf>(
     ensures undamaged { IfOk result (λ decided. decided.reply ≢ Reply.Refused Refusal.Damaged) }
     ensures kept { IsKept S.is_honest S.content S.written S.may_leave shelf.old shelf.new }
 {
-    match shelf.intersection(alloc, id) {
-        Ok(row) => match added(alloc, id, interval, name, &row) {
-            Ok(decided) => return Ok(decided),
-            Err(NoMemory) => return Err(ShelfFault::NoMemory),
-        },
-        Err(fault) => return Err(fault),
-    }
+    let row = shelf.intersection(alloc, id)?;
+    let decided = added(alloc, id, interval, name, &row)?;
+    Ok(decided)
 }

@@ -27,18 +27,7 @@ fn refused(fault: ShelfFault) -> Refusal
     }
 }
 
-fn settled(alloc: Global, _command: &Command, decided: Result<Decided, ShelfFault>) -> Decided
-    ensures step { (tables : Content) → Decides tables _command.now decided → AnswersAny tables _command.now result.reply (changed_by tables result.changes.items) }
-    ensures changes { IfOk decided (λ given. given.changes.items ≡ changes_of given.reply _command.now) → result.changes.items ≡ changes_of result.reply _command.now }
-    ensures damaged { (tables : Content) → Decides tables _command.now decided → IfOk decided (λ given. given.reply ≢ Reply.Refused Refusal.Damaged) →
-        result.reply ≡ Reply.Refused Refusal.Damaged → MeetsDamage tables _command.now }
-{
-    match decided {
-        Ok(decided) => return decided,
-        Err(fault) => return Decided::unchanged(alloc, Reply::Refused(refused(fault))),
-    }
-}
-
+/// Decides a command by what it asks.
 fn try_decide<S: Shelf>(
     shelf: &mut S,
     alloc: Global,
@@ -51,9 +40,9 @@ fn try_decide<S: Shelf>(
 {
     match command {
         Command::AddIntersection { id, interval, name } => {
-            return decide_add(shelf, alloc, *id, *interval, name);
+            decide_add(shelf, alloc, *id, *interval, name)
         }
-        Command::State { id } => return decide_state(shelf, alloc, *id),
+        Command::State { id } => decide_state(shelf, alloc, *id),
     }
 }
 
@@ -64,6 +53,8 @@ pub fn decide_on<S: Shelf>(shelf: &mut S, alloc: Global, command: &Command) -> D
     ensures damaged { result.reply ≡ Reply.Refused Refusal.Damaged → S.is_honest shelf.new → MeetsDamage (S.content shelf.old) command.now }
     ensures kept { IsKept S.is_honest S.content S.written S.may_leave shelf.old shelf.new }
 {
-    let decided = try_decide(shelf, alloc, command);
-    settled(alloc, command, decided)
+    match try_decide(shelf, alloc, command) {
+        Ok(decided) => decided,
+        Err(fault) => Decided::unchanged(alloc, Reply::Refused(refused(fault))),
+    }
 }

@@ -40,13 +40,15 @@ impl<S: Shelf> Office<S> {
         Office { shelf }
     }
 
+    /// Gives the shelf back.
     pub fn into_shelf(self) -> S
         ensures { result ≡ self }
     {
         self.shelf
     }
 
-    /// What a command is answered, and what is to be written for it. Nothing is written yet.
+    /// What a command is answered, and what is to be written for it. Nothing is written yet. Where
+    /// memory or the shelf refuses, it answers Unavailable; where a stored row is no record, Damaged.
     pub fn decide(&mut self, alloc: Global, command: &Command) -> Decided
         ensures step { S.is_honest self.new → AnswersAny (S.content self.old) command.now result.reply (changed_by (S.content self.old) result.changes.items) }
         ensures kept { IsKept S.is_honest S.content S.written S.may_leave self.old self.new }
@@ -75,7 +77,8 @@ impl<S: Shelf> Office<S> {
         self.shelf.apply(alloc, changes)
     }
 
-    /// Runs one command.
+    /// Runs one command: decides it, and makes its changes. Where memory or the shelf refuses, it
+    /// answers Unavailable and changes nothing; where a stored row is no record, Damaged.
     pub fn run(&mut self, alloc: Global, command: &Command) -> Reply
         ensures step { S.is_honest self.new → AnswersAny (S.content self.old) command.now result (S.content self.new) }
         ensures honest { S.is_honest self.new → S.is_honest self.old }

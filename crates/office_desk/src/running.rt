@@ -35,8 +35,8 @@ pub fn run_on<S: Shelf>(shelf: &mut S, alloc: Global, command: &Command) -> Repl
         return decided.reply;
     }
     match shelf.apply(alloc, changes) {
-        Ok(()) => return decided.reply,
-        Err(_fault) => return Reply::Refused(Refusal::Unavailable),
+        Ok(()) => decided.reply,
+        Err(_fault) => Reply::Refused(Refusal::Unavailable),
     }
 }
 

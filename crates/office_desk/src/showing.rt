@@ -60,8 +60,6 @@ pub fn decide_state<S: Shelf>(
     ensures undamaged { IfOk result (λ decided. decided.reply ≢ Reply.Refused Refusal.Damaged) }
     ensures kept { IsKept S.is_honest S.content S.written S.may_leave shelf.old shelf.new }
 {
-    match shelf.intersection(alloc, id) {
-        Ok(row) => return Ok(Decided::unchanged(alloc, shown(id, row))),
-        Err(fault) => return Err(fault),
-    }
+    let row = shelf.intersection(alloc, id)?;
+    Ok(Decided::unchanged(alloc, shown(id, row)))
 }

@@ -1,6 +1,7 @@
 -- How a decision and its answer make a step of the protocol.
-use Rattle.std.proofs.Common.{◌≡◌, ◌≢◌, ◌⊎◌, inl, inr, ℕ, List, refl, sym, subst}
-use Rattle.std.specs.Prelude.{Result, Ok, Err, IfOk}
+use Rattle.std.proofs.Common.{◌≡◌, ◌≢◌, ◌⊎◌, inl, inr, ℕ, true, List, [], ◌∷◌, length, refl, sym, subst, arith}
+use Rattle.std.proofs.lemmas.Bool.Decides.{nat_tests}
+use Rattle.std.specs.Prelude.{◌==◌, Result, Ok, Err, IfOk}
 use Rattle.office_tables_shelf.specs.Content.{Content}
 use Rattle.office_desk.specs.Answers.{AnswersAny}
 use Rattle.office_desk.specs.Office.{Office}
@@ -37,3 +38,8 @@ pub answers_fault : {V E : Type 0} (items : V → List ℕ) (result : Result V E
 answers_fault items (Err e) read fault tables before stands gives text = tt
 answers_fault items (Ok v) read fault tables before stands gives text =
     (before, stands, subst (λ (r : Result Asked AskFault). AnswersRead r before (items v) before) (sym (gives text.0)) (text.1, refl))
+
+-- a list that is found empty
+pub none_of : {X : Type 0} (xs : List X) → true ≡ (length xs == 0) → xs ≡ []
+none_of [] e = refl
+none_of (x ∷ xs) e = absurd (grind (arith, nat_tests))

@@ -59,7 +59,11 @@ fn answer_asked<S: Shelf>(
     let Ok(answer) = answer_of(alloc, &decided.reply, asked.form) else {
         return Err(Unavailable);
     };
-    match office.apply(alloc, decided.changes.as_slice()) {
+    let changes = decided.changes.as_slice();
+    if changes.is_empty() {
+        return Ok(answer);
+    }
+    match office.apply(alloc, changes) {
         Ok(()) => Ok(answer),
         Err(_) => Err(Unavailable),
     }

@@ -4,7 +4,7 @@ ghost use Rattle.std.specs.Prelude.{◌≡◌, ◌+◌, ◌*◌, ◌≤◌, IfEr
 ghost use Rattle.office_desk.specs.Office.{Office as OfficeState};
 ghost use Rattle.office_desk.specs.StandFor.{StandForSound};
 ghost use Rattle.office_http_framing.specs.Limits.{longest_request};
-ghost use Rattle.office_http_framing.specs.Serve.{Did, TellsFault};
+ghost use Rattle.office_http_framing.specs.Serve.{Did, TellsFault, Untouched};
 ghost use Rattle.office_http.specs.Protocol.{office_protocol};
 
 use crate::machine::StreamTools;
@@ -41,7 +41,7 @@ pub fn serve<S: Shelf, R: Source, W: Sink>(
         (W.told writer.old) (W.told writer.new) result }
     // Where the buffer was refused nothing was touched, whatever the tables stood for.
     ensures untouched { IfErr result (λ why. why ≡ ServeFault.NoMemory →
-        (office.new ≡ office.old) × (R.told reader.new ≡ R.told reader.old) × (W.told writer.new ≡ W.told writer.old)) }
+        Untouched (R.told reader.old) (R.told reader.new) (W.told writer.old) (W.told writer.new) office.old office.new) }
     ensures reads { (R.told reader.new).counts.calls
         ≤ (R.told reader.old).counts.calls + longest_request * (max_requests + 1) + 1 }
 {

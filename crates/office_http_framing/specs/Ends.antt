@@ -1,5 +1,5 @@
 -- What a source and a sink tell of themselves: their bytes, and how their calls went.
-use Rattle.std.specs.Prelude.{◌≡◌, ℕ, ◌+◌, ◌-◌, ◌^◌, ◌<◌, ◌≤◌, ◌⊎◌, Bool, true, false, List, ◌++◌, nat_lt, Option, Result, Ok, Err, ◌==◌, if◌then◌else◌}
+use Rattle.std.specs.Prelude.{MatchResult, ◌≡◌, ℕ, ◌+◌, ◌-◌, ◌^◌, ◌<◌, ◌≤◌, ◌⊎◌, Bool, true, false, List, ◌++◌, nat_lt, Option, Result, Ok, Err, ◌==◌, if◌then◌else◌}
 use Rattle.std.specs.Io.KnownBytes.{Appends}
 use Rattle.office_http_framing.specs.declared.ends.Counts.{Counts}
 
@@ -29,6 +29,10 @@ counted outcome c = record {
   empties = if is_empty outcome then raised c.empties else c.empties;
 }
 
+-- the counts before the first call
+abbrev pub no_calls : Counts
+no_calls = record { calls = 0; failures = 0; empties = 0 }
+
 -- a count rose, or it stands at its largest value and tells nothing
 abbrev pub Rose : ℕ → ℕ → Type 0
 Rose old new = (old < new) ⊎ (count_limit ≤ new)
@@ -54,3 +58,9 @@ pub record AppendsPart (old new : Option (List ℕ)) (bytes : List ℕ) : Type 0
   pub rest : List ℕ
   pub front : bytes ≡ part ++ rest
   pub taken : Appends old new part
+
+-- the sink took all the bytes, or on an error those up to some place
+abbrev pub WritesOrBreaksOff : {T E : Type 0} → Result T E → Told → Told → List ℕ → Type 0
+WritesOrBreaksOff result old new bytes =
+    MatchResult result (λ _. Appends old.bytes new.bytes bytes)
+    (λ _. AppendsPart old.bytes new.bytes bytes)

@@ -33,7 +33,8 @@ is_digits value = nat_lt 0 (length value) && list_all is_ascii_digit value
 abbrev pub length_of : List ℕ → Result ℕ Fault
 length_of value =
     let n = digits_value 10 value in
-    if is_digits value then (if nat_le n body_limit then Ok n else Err fault.BodyTooLarge) else Err fault.Length
+    if is_digits value then (if nat_le n body_limit then Ok n else Err fault.BodyTooLarge)
+    else Err fault.Length
 
 -- the length that the values of all Content-Length fields give; two are refused, equal ones too
 abbrev pub length_among : List (List ℕ) → Result ℕ Fault

@@ -12,14 +12,18 @@ pub record IsLeftOpen (bytes : List ℕ) : Type 0 where
 
 -- two answers on one front are one answer, but where it is left open
 pub record HasOneFront (bytes : List ℕ) : Type 0 where
-  pub requests : (r s : PlainRequest) (m n : ℕ) → BeginsWithRequest bytes r m → BeginsWithRequest bytes s n → (r ≡ s) × (m ≡ n)
+  pub requests : (r s : PlainRequest) (m n : ℕ)
+      → BeginsWithRequest bytes r m → BeginsWithRequest bytes s n → (r ≡ s) × (m ≡ n)
   pub no_more : (r : PlainRequest) (m : ℕ) → BeginsWithRequest bytes r m → IsIncomplete bytes → ⊥
-  pub no_fault : (r : PlainRequest) (m : ℕ) (which : Fault) → BeginsWithRequest bytes r m → IsFaulty bytes which → ⊥
+  pub no_fault : (r : PlainRequest) (m : ℕ) (which : Fault)
+      → BeginsWithRequest bytes r m → IsFaulty bytes which → ⊥
   pub left_open : (which : Fault) → IsIncomplete bytes → IsFaulty bytes which → IsLeftOpen bytes
-  pub faults : (which other : Fault) → IsFaulty bytes which → IsFaulty bytes other → (which ≡ other) ⊎ IsLeftOpen bytes
+  pub faults : (which other : Fault)
+      → IsFaulty bytes which → IsFaulty bytes other → (which ≡ other) ⊎ IsLeftOpen bytes
 
 -- the requests of the bytes are one list
 abbrev pub HasOneList : ℕ → List ℕ → Type 0
 HasOneList limit bytes =
     (requests others : List PlainRequest) (ending other : Ending)
-    → AreRequests limit bytes requests ending → AreRequests limit bytes others other → requests ≡ others
+    → AreRequests limit bytes requests ending → AreRequests limit bytes others other
+    → requests ≡ others

@@ -3,27 +3,32 @@ use Rattle.std.specs.Prelude.{◌≡◌, ℕ, ◌⊎◌, List, [], ◌∷◌}
 use Rattle.office_http_framing.specs.declared.front.Fault.{Fault}
 use Rattle.office_http_framing.specs.Front.{PlainRequest}
 
--- The answers of a machine that means a state. By `step`, a request may get the answer and leave the
--- second state; `fault_text` answers a fault of the framing; `unavailable_text` says that memory or the
--- store was refused.
+-- The answers of a machine that means a state. By `step`, a request may get the answer and leave
+-- the second state; `fault_text` answers a fault of the framing; `unavailable_text` says that
+-- memory or the store was refused.
 pub record Protocol (State : Type 0) : Type 1 where
   pub step : State → PlainRequest → List ℕ → State → Type 0
   pub fault_text : Fault → List ℕ
   pub unavailable_text : List ℕ
 
 -- the request takes its step, or is answered unavailable and leaves the state
-abbrev pub MayAnswer : {State : Type 0} → Protocol State → State → PlainRequest → List ℕ → State → Type 0
+abbrev pub MayAnswer : {State : Type 0} →
+    Protocol State → State → PlainRequest → List ℕ → State → Type 0
 MayAnswer protocol before request answer after =
-    protocol.step before request answer after ⊎ ((answer ≡ protocol.unavailable_text) × (after ≡ before))
+    protocol.step before request answer after
+    ⊎ ((answer ≡ protocol.unavailable_text) × (after ≡ before))
 
 -- each request in turn takes its step or is answered unavailable
-abbrev pub Run : {State : Type 0} → Protocol State → State → List PlainRequest → List (List ℕ) → State → Type 0
+abbrev pub Run : {State : Type 0} →
+    Protocol State → State → List PlainRequest → List (List ℕ) → State → Type 0
 Run protocol before [] [] after = before ≡ after
 Run {State} protocol before (request ∷ requests) (answer ∷ answers) after =
-    (mid : State) × MayAnswer protocol before request answer mid × Run protocol mid requests answers after
+    (mid : State) × MayAnswer protocol before request answer mid
+    × Run protocol mid requests answers after
 Run protocol before [] (answer ∷ answers) after = ⊥
 Run protocol before (request ∷ requests) [] after = ⊥
 
 -- the answer to a fault, or the one that says that memory was refused
 abbrev pub AnswersFault : {State : Type 0} → Protocol State → Fault → List ℕ → Type 0
-AnswersFault protocol which answer = (answer ≡ protocol.fault_text which) ⊎ (answer ≡ protocol.unavailable_text)
+AnswersFault protocol which answer =
+    (answer ≡ protocol.fault_text which) ⊎ (answer ≡ protocol.unavailable_text)

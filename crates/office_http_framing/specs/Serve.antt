@@ -19,16 +19,16 @@ Closes protocol (faulty which) last = AnswersFault protocol which last
 
 -- the machine ran over these requests, which are so many, and gave these answers
 pub record RunsOver
-    {State : Type 0} (protocol : Protocol State) (before : State) (requests : List PlainRequest) (answers : List (List ℕ))
-    (after : State) (count : ℕ) : Type 0 where
+    {State : Type 0} (protocol : Protocol State) (before : State) (requests : List PlainRequest)
+    (answers : List (List ℕ)) (after : State) (count : ℕ) : Type 0 where
   pub run : Run protocol before requests answers after
   pub count_is : count ≡ length requests
 
 -- The source gave bytes; the machine ran over their requests; the sink took the answers to them, in
 -- order, and then the answer to the fault if there is one.
 pub record Serves
-    {State : Type 0} (protocol : Protocol State) (limit : ℕ) (source source' sink sink' : Told) (before after : State)
-    (count : ℕ) (ending : Ending) : Type 0 where
+    {State : Type 0} (protocol : Protocol State) (limit : ℕ) (source source' sink sink' : Told)
+    (before after : State) (count : ℕ) (ending : Ending) : Type 0 where
   pub given : List ℕ
   pub requests : List PlainRequest
   pub answers : List (List ℕ)
@@ -39,11 +39,11 @@ pub record Serves
   pub closes : Closes protocol ending last
   pub writes : Appends sink.bytes sink'.bytes (concat answers ++ last)
 
--- The source gave bytes that begin with these requests; the machine ran over them; the sink took all
--- answers but the last, and the last up to some place.
+-- The source gave bytes that begin with these requests; the machine ran over them; the sink took
+-- all answers but the last, and the last up to some place.
 pub record BreaksOffAtAnswer
-    {State : Type 0} (protocol : Protocol State) (limit : ℕ) (source source' sink sink' : Told) (before after : State)
-    (count : ℕ) : Type 0 where
+    {State : Type 0} (protocol : Protocol State) (limit : ℕ) (source source' sink sink' : Told)
+    (before after : State) (count : ℕ) : Type 0 where
   pub given : List ℕ
   pub requests : List PlainRequest
   pub rest : List ℕ
@@ -58,8 +58,8 @@ pub record BreaksOffAtAnswer
 
 -- The same, where the sink took the answers to all requests, and that to a fault up to some place.
 pub record BreaksOffAtFault
-    {State : Type 0} (protocol : Protocol State) (limit : ℕ) (source source' sink sink' : Told) (before after : State)
-    (count : ℕ) : Type 0 where
+    {State : Type 0} (protocol : Protocol State) (limit : ℕ) (source source' sink sink' : Told)
+    (before after : State) (count : ℕ) : Type 0 where
   pub which : Fault
   pub given : List ℕ
   pub requests : List PlainRequest
@@ -73,15 +73,18 @@ pub record BreaksOffAtFault
   pub writes : Appends sink.bytes sink'.bytes (concat answers ++ part)
 
 -- nothing was read, written or changed
-pub record Untouched {State : Type 0} (source source' sink sink' : Told) (before after : State) : Type 0 where
+pub record Untouched
+    {State : Type 0} (source source' sink sink' : Told) (before after : State) : Type 0 where
   pub source_is : source ≡ source'
   pub sink_is : sink ≡ sink'
   pub state_is : before ≡ after
 
 -- what the call did to a machine that meant `before`, by its outcome
-abbrev pub Did : {State : Type 0} → Protocol State → ℕ → Told → Told → Told → Told → State → State → Result Served ServeFault → Type 0
+abbrev pub Did : {State : Type 0} → Protocol State → ℕ → Told → Told → Told → Told → State → State →
+    Result Served ServeFault → Type 0
 Did protocol limit source source' sink sink' before after (Ok served) =
-    (ending : Ending) × Serves protocol limit source source' sink sink' before after served.requests ending
+    (ending : Ending)
+    × Serves protocol limit source source' sink sink' before after served.requests ending
     × (ending ≡ unfinished → Rose source.counts.empties source'.counts.empties)
 Did protocol limit source source' sink sink' before after (Err (stop.Read requests)) =
     Serves protocol limit source source' sink sink' before after requests unfinished
@@ -94,6 +97,8 @@ Did protocol limit source source' sink sink' before after (Err stop.NoMemory) =
 -- a fault of an end is answered only where that end tells one
 abbrev pub TellsFault : Told → Told → Told → Told → Result Served ServeFault → Type 0
 TellsFault source source' sink sink' (Ok served) = ⊤
-TellsFault source source' sink sink' (Err (stop.Read requests)) = Rose source.counts.failures source'.counts.failures
-TellsFault source source' sink sink' (Err (stop.Write requests)) = FailsOrGivesNone sink.counts sink'.counts
+TellsFault source source' sink sink' (Err (stop.Read requests)) =
+    Rose source.counts.failures source'.counts.failures
+TellsFault source source' sink sink' (Err (stop.Write requests)) =
+    FailsOrGivesNone sink.counts sink'.counts
 TellsFault source source' sink sink' (Err stop.NoMemory) = ⊤

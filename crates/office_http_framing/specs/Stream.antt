@@ -27,7 +27,8 @@ EndsAt rest left unfinished = (0 < left) × IsIncomplete rest
 EndsAt rest left (faulty which) = (0 < left) × IsFaulty rest which
 
 -- the requests of the bytes, at most as many as the limit, and how their list ends
-pub record AreRequests (limit : ℕ) (bytes : List ℕ) (requests : List PlainRequest) (ending : Ending) : Type 0 where
+pub record AreRequests
+    (limit : ℕ) (bytes : List ℕ) (requests : List PlainRequest) (ending : Ending) : Type 0 where
   pub rest : List ℕ
   pub left : ℕ
   pub begins : BeginsWith limit bytes requests rest left

@@ -28,7 +28,8 @@ impl Model for Buffer {
 
     ghost view = { λ b. slice_range b.bytes.items b.start b.end };
 
-    ghost invariant = { λ b. (b.start ≤ b.end) × (b.end ≤ BUFFER_LEN) × (vec_len b.bytes ≡ BUFFER_LEN) };
+    ghost invariant = { λ b. (b.start ≤ b.end) × (b.end ≤ BUFFER_LEN)
+        × (vec_len b.bytes ≡ BUFFER_LEN) };
 }
 
 /// Moves the bytes from `start` to `end` to the front.
@@ -75,7 +76,8 @@ impl Buffer {
         ensures bytes { MatchResult result
             (λ n. (piece : List ℕ) × (length piece ≡ n) × (self.new ≡ self.old ++ piece)
             × Consumes (R.told source.old).bytes (R.told source.new).bytes piece)
-            (λ _. (self.new ≡ self.old) × Keeps (R.told source.old).bytes (R.told source.new).bytes) }
+            (λ _. (self.new ≡ self.old)
+            × Keeps (R.told source.old).bytes (R.told source.new).bytes) }
         ensures bound { length self.new ≤ BUFFER_LEN }
         ensures counts { (R.told source.new).counts ≡ counted result (R.told source.old).counts }
     {

@@ -1,9 +1,9 @@
 //! The two ends of a stream: where its bytes come from, and where the answers go.
 
-ghost use Rattle.std.specs.Prelude.{◌≡◌, ◌<◌, length, OnErr, MatchResult};
+ghost use Rattle.std.specs.Prelude.{◌≡◌, ◌<◌, length, OnErr};
 ghost use Rattle.std.specs.Io.{ReadsAtMost, WritesAtMost};
-ghost use Rattle.std.specs.Io.KnownBytes.{Appends, ReadConsumes, WriteAppends};
-ghost use Rattle.office_http_framing.specs.Ends.{AppendsPart, Grows, FailsOrGivesNone};
+ghost use Rattle.std.specs.Io.KnownBytes.{ReadConsumes, WriteAppends};
+ghost use Rattle.office_http_framing.specs.Ends.{Grows, FailsOrGivesNone, WritesOrBreaksOff, no_calls};
 
 use std::io;
 use std::io::{Read, Write};
@@ -33,14 +33,15 @@ impl Counts {
     }
 }
 
-/// Where the bytes of a stream come from.
+/// Where the bytes of a stream come from, seen as those bytes and as the counts of its calls.
 pub trait Source {
     ghost use Rattle.office_http_framing.specs.Ends.{Told, counted};
 
     // The bytes that reads will give from here on, where they are known, and the counts.
     ghost told: { Self → Told };
 
-    /// Reads some bytes to the front of the slice, and says how many: none only at the end.
+    /// Reads some bytes to the front of the slice, which is not empty, and says how many: none only
+    /// at the end. An interrupted read is a failure.
     fn read(&mut self, buf: &mut [u8]) -> io::Result<usize>
         requires { 0 < length buf.old }
         ensures bound { ReadsAtMost result buf.new }
@@ -48,14 +49,15 @@ pub trait Source {
         ensures counts { (told self.new).counts ≡ counted result (told self.old).counts };
 }
 
-/// Where the answers go.
+/// Where the answers go, seen as the bytes that it took and as the counts of its calls.
 pub trait Sink {
     ghost use Rattle.office_http_framing.specs.Ends.{Told, counted};
 
     // The bytes that the sink holds, where they are known, and the counts.
     ghost told: { Self → Told };
 
-    /// Writes some bytes from the front of the slice, and says how many.
+    /// Writes some bytes from the front of the slice, which is not empty, and says how many. An
+    /// interrupted write is a failure.
     fn write(&mut self, buf: &[u8]) -> io::Result<usize>
         requires { 0 < length buf.now }
         ensures bound { WritesAtMost result buf.now }
@@ -73,7 +75,7 @@ pub struct FromRead<R> {
 impl<R> FromRead<R> {
     pub fn new(reader: R) -> FromRead<R>
         ensures reader { result.reader ≡ reader }
-        ensures counts { (result.counts.calls ≡ 0) × (result.counts.failures ≡ 0) × (result.counts.empties ≡ 0) }
+        ensures counts { result.counts ≡ no_calls }
     {
         FromRead {
             reader,
@@ -102,7 +104,7 @@ pub struct ToWrite<W> {
 impl<W> ToWrite<W> {
     pub fn new(writer: W) -> ToWrite<W>
         ensures writer { result.writer ≡ writer }
-        ensures counts { (result.counts.calls ≡ 0) × (result.counts.failures ≡ 0) × (result.counts.empties ≡ 0) }
+        ensures counts { result.counts ≡ no_calls }
     {
         ToWrite {
             writer,
@@ -121,17 +123,17 @@ impl<W: Write> Sink for ToWrite<W> {
     }
 }
 
-/// Why not all bytes were written: the sink failed, or took none. It has been told by the sink's counts.
-#[derive(Clone, Copy, Debug)]
+/// Not all bytes were written: the sink failed, or took none. Its counts tell which.
+#[derive(Clone, Copy, Debug, PartialEq, Eq)]
 pub struct WriteFailed;
 
-/// Writes all the bytes, or those up to some place.
+/// Writes all the bytes, by as many writes as it takes. After an error those up to some place were
+/// written.
 pub fn write_all<W: Sink>(writer: &mut W, bytes: &[u8]) -> Result<(), WriteFailed>
-    ensures bytes { MatchResult result
-        (λ _. Appends (W.told writer.old).bytes (W.told writer.new).bytes bytes.now)
-        (λ _. AppendsPart (W.told writer.old).bytes (W.told writer.new).bytes bytes.now) }
+    ensures bytes { WritesOrBreaksOff result (W.told writer.old) (W.told writer.new) bytes.now }
     ensures counts { Grows (W.told writer.old).counts (W.told writer.new).counts }
-    ensures fault { OnErr result (FailsOrGivesNone (W.told writer.old).counts (W.told writer.new).counts) }
+    ensures fault { OnErr result
+        (FailsOrGivesNone (W.told writer.old).counts (W.told writer.new).counts) }
 {
     let mut rest = bytes;
     while !rest.is_empty() {

@@ -1,12 +1,11 @@
 //! The engine: it serves the requests of a stream, one after another.
 
-ghost use Rattle.std.specs.Io.KnownBytes.{Appends};
-ghost use Rattle.std.specs.Prelude.{◌≡◌, ◌+◌, ◌*◌, ◌≤◌, ℕ, List, IfErr, MatchResult, OnErr};
-ghost use Rattle.office_http_framing.specs.Ends.{AppendsPart, Grows, FailsOrGivesNone};
+ghost use Rattle.std.specs.Prelude.{◌≡◌, ◌+◌, ◌*◌, ◌≤◌, ℕ, List, IfErr, OnErr};
+ghost use Rattle.office_http_framing.specs.Ends.{Grows, FailsOrGivesNone, WritesOrBreaksOff};
 ghost use Rattle.office_http_framing.specs.Front.{plain};
 ghost use Rattle.office_http_framing.specs.Limits.{longest_request};
 ghost use Rattle.office_http_framing.specs.Protocol.{MayAnswer, AnswersFault};
-ghost use Rattle.office_http_framing.specs.Serve.{Did, TellsFault};
+ghost use Rattle.office_http_framing.specs.Serve.{Did, TellsFault, Untouched};
 
 use crate::buffer::Buffer;
 use crate::ends::{Sink, Source, WriteFailed, write_all};
@@ -42,12 +41,13 @@ fn serve_request<Tools, M: Machine<Tools>, W: Sink>(
 ) -> Result<(), WriteFailed>
     ensures honest { M.is_honest machine.new → M.is_honest machine.old }
     ensures step { M.is_honest machine.new → (before : M.State) → M.stands_for machine.old before →
-        (answer : List ℕ) × (after : M.State) × MayAnswer M.protocol before (plain request.now) answer after
+        (answer : List ℕ) × (after : M.State)
+        × MayAnswer M.protocol before (plain request.now) answer after
         × M.stands_for machine.new after
-        × MatchResult result (λ _. Appends (W.told writer.old).bytes (W.told writer.new).bytes answer)
-        (λ _. AppendsPart (W.told writer.old).bytes (W.told writer.new).bytes answer) }
+        × WritesOrBreaksOff result (W.told writer.old) (W.told writer.new) answer }
     ensures counts { Grows (W.told writer.old).counts (W.told writer.new).counts }
-    ensures fault { OnErr result (FailsOrGivesNone (W.told writer.old).counts (W.told writer.new).counts) }
+    ensures fault { OnErr result
+        (FailsOrGivesNone (W.told writer.old).counts (W.told writer.new).counts) }
 {
     match machine.answer(alloc, tools, request) {
         Ok(answer) => write_all(writer, &answer),
@@ -62,10 +62,10 @@ fn serve_fault<Tools, M: Machine<Tools>, W: Sink>(
     writer: &mut W,
 ) -> Result<(), WriteFailed>
     ensures answer { (answer : List ℕ) × AnswersFault M.protocol fault answer
-        × MatchResult result (λ _. Appends (W.told writer.old).bytes (W.told writer.new).bytes answer)
-        (λ _. AppendsPart (W.told writer.old).bytes (W.told writer.new).bytes answer) }
+        × WritesOrBreaksOff result (W.told writer.old) (W.told writer.new) answer }
     ensures counts { Grows (W.told writer.old).counts (W.told writer.new).counts }
-    ensures fault { OnErr result (FailsOrGivesNone (W.told writer.old).counts (W.told writer.new).counts) }
+    ensures fault { OnErr result
+        (FailsOrGivesNone (W.told writer.old).counts (W.told writer.new).counts) }
 {
     match M::fault_answer(alloc, fault) {
         Ok(answer) => write_all(writer, &answer),
@@ -87,14 +87,16 @@ pub fn serve<Tools, M: Machine<Tools>, R: Source, W: Sink>(
 
     // What was read, answered and written.
     ensures did { M.is_honest machine.new → (before : M.State) → M.stands_for machine.old before →
-        (after : M.State) × M.stands_for machine.new after × Did M.protocol max_requests
-        (R.told reader.old) (R.told reader.new) (W.told writer.old) (W.told writer.new) before after result }
-
+        (after : M.State) × M.stands_for machine.new after
+        × Did M.protocol max_requests (R.told reader.old) (R.told reader.new)
+        (W.told writer.old) (W.told writer.new) before after result }
+    // Read and Write are answered only where that end told a failure, or a write of no byte.
     ensures fault { TellsFault (R.told reader.old) (R.told reader.new)
         (W.told writer.old) (W.told writer.new) result }
     // Where the buffer was refused nothing was touched, whatever the machine stood for.
     ensures untouched { IfErr result (λ why. why ≡ ServeFault.NoMemory →
-        (machine.new ≡ machine.old) × (R.told reader.new ≡ R.told reader.old) × (W.told writer.new ≡ W.told writer.old)) }
+        Untouched (R.told reader.old) (R.told reader.new)
+        (W.told writer.old) (W.told writer.new) machine.old machine.new) }
     ensures reads { (R.told reader.new).counts.calls
         ≤ (R.told reader.old).counts.calls + longest_request * (max_requests + 1) + 1 }
 {

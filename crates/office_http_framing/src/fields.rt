@@ -72,7 +72,8 @@ fn length_of(value: &[u8]) -> Result<usize, Fault>
 /// The length that the Content-Length fields give.
 fn length_among(bytes: &[u8], fields: &[HeaderSpan]) -> Result<usize, Fault>
     requires { All (IsHeaderWithin (length bytes.now)) fields.now }
-    ensures { result ≡ length_among (values_named (codes "content-length") (map (header_bytes bytes.now) fields.now)) }
+    ensures { result ≡ length_among
+        (values_named (codes "content-length") (map (header_bytes bytes.now) fields.now)) }
 {
     let mut length = None;
     for field in fields {
@@ -88,7 +89,8 @@ fn length_among(bytes: &[u8], fields: &[HeaderSpan]) -> Result<usize, Fault>
 
 fn has_transfer_encoding(bytes: &[u8], fields: &[HeaderSpan]) -> bool
     requires { All (IsHeaderWithin (length bytes.now)) fields.now }
-    ensures { result ≡ list_any (is_named (codes "transfer-encoding")) (map (header_bytes bytes.now) fields.now) }
+    ensures { result ≡ list_any
+        (is_named (codes "transfer-encoding")) (map (header_bytes bytes.now) fields.now) }
 {
     for field in fields {
         if eq_ignore_case(field.name.of(bytes), b"transfer-encoding") {

@@ -1,5 +1,5 @@
-//! What no clause says: that a stream is served at all, one byte at a time too, that a failure is told,
-//! and that an answer is written before the next request is asked for.
+//! What no clause says: that a stream is served at all, one byte at a time too, that a failure is
+//! told, and that an answer is written before the next request is asked for.
 
 mod echo;
 mod ends;
@@ -8,7 +8,7 @@ use crate::ends::{FromRead, ToWrite};
 use crate::engine::{ServeFault, Served, serve};
 use crate::front::{Fault, Front, next_request};
 use crate::laws::{one_front, one_list_of_requests};
-use crate::tests::echo::Echo;
+use crate::tests::echo::{Echo, Paths};
 use crate::tests::ends::{Drip, Endless, Narrow, Patient, Telling};
 use std::alloc::Global;
 use std::cell::Cell;
@@ -32,7 +32,14 @@ fn serve_at_once(
 ) -> (Result<Served, ServeFault>, Vec<u8>) {
     let mut reader = FromRead::new(stream);
     let mut writer = ToWrite::new(Vec::new(alloc));
-    let outcome = serve(alloc, &mut Echo, &mut reader, &mut writer, max_requests);
+    let outcome = serve(
+        alloc,
+        &mut Echo,
+        &mut Paths,
+        &mut reader,
+        &mut writer,
+        max_requests,
+    );
     (outcome, writer.writer)
 }
 
@@ -57,7 +64,14 @@ fn serves_a_stream_byte_by_byte(rt: HostRuntime) {
     for (n, requests, written) in cuts {
         let mut reader = Drip::new(&STREAM[..n], false);
         let mut writer = ToWrite::new(Vec::new(rt.alloc()));
-        let outcome = serve(rt.alloc(), &mut Echo, &mut reader, &mut writer, 9);
+        let outcome = serve(
+            rt.alloc(),
+            &mut Echo,
+            &mut Paths,
+            &mut reader,
+            &mut writer,
+            9,
+        );
         assert_eq!(rt; outcome, Ok(Served { requests }), "after {n} bytes");
         assert_eq!(rt; writer.writer.as_slice(), &ANSWERS[..written]);
         assert_eq!(rt; reader.counts.empties, 1);
@@ -68,7 +82,14 @@ fn serves_a_stream_byte_by_byte(rt: HostRuntime) {
 fn tells_a_reader_that_fails(rt: HostRuntime) {
     let mut reader = Drip::new(&STREAM[..93], true);
     let mut writer = ToWrite::new(Vec::new(rt.alloc()));
-    let outcome = serve(rt.alloc(), &mut Echo, &mut reader, &mut writer, 9);
+    let outcome = serve(
+        rt.alloc(),
+        &mut Echo,
+        &mut Paths,
+        &mut reader,
+        &mut writer,
+        9,
+    );
     assert_eq!(rt; outcome, Err(ServeFault::Read { requests: 1 }));
     assert_eq!(rt; writer.writer.as_slice(), &ANSWERS[..14]);
     assert_eq!(rt; reader.counts.failures, 1);
@@ -86,7 +107,14 @@ fn tells_a_writer_that_fails_or_takes_none(rt: HostRuntime) {
     for (room, fails, requests) in sinks {
         let mut reader = FromRead::new(STREAM.as_slice());
         let mut writer = Narrow::new(rt.alloc(), room, fails);
-        let outcome = serve(rt.alloc(), &mut Echo, &mut reader, &mut writer, 9);
+        let outcome = serve(
+            rt.alloc(),
+            &mut Echo,
+            &mut Paths,
+            &mut reader,
+            &mut writer,
+            9,
+        );
         assert_eq!(rt;
             outcome,
             Err(ServeFault::Write { requests }),
@@ -101,7 +129,14 @@ fn answers_before_it_asks_again(rt: HostRuntime) {
     let taken = Cell::new(0);
     let mut reader = Patient::new(&STREAM[..93], SECOND.as_slice(), 14, &taken);
     let mut writer = Telling::new(&taken);
-    let outcome = serve(rt.alloc(), &mut Echo, &mut reader, &mut writer, 9);
+    let outcome = serve(
+        rt.alloc(),
+        &mut Echo,
+        &mut Paths,
+        &mut reader,
+        &mut writer,
+        9,
+    );
     assert_eq!(rt; outcome, Ok(Served { requests: 2 }));
     assert_eq!(rt; taken.get(), 31);
 }
@@ -111,7 +146,14 @@ fn ends_at_the_limit(rt: HostRuntime) {
     for (limit, written) in [(0, 0), (1, 17), (3, 51)] {
         let mut reader = Endless::new(SECOND.as_slice());
         let mut writer = ToWrite::new(Vec::new(rt.alloc()));
-        let outcome = serve(rt.alloc(), &mut Echo, &mut reader, &mut writer, limit);
+        let outcome = serve(
+            rt.alloc(),
+            &mut Echo,
+            &mut Paths,
+            &mut reader,
+            &mut writer,
+            limit,
+        );
         assert_eq!(rt; outcome, Ok(Served { requests: limit }));
         assert_eq!(rt; writer.writer.len(), written);
     }

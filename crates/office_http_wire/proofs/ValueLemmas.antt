@@ -1,5 +1,5 @@
 -- Numbers within their range, and words.
-use Rattle.std.proofs.Common.{◌≡◌, ◌≢◌, ℕ, ◌≤◌, List, Bool, true, false, cond, not, nat_le, ◌==◌, ◌↔◌, Option, Some, None, IsSome, IfSome, Result, Ok, Err, IfOk, ◌-◌, ◌^◌, ◌<◌, min, refl, sym, ap, arith}
+use Rattle.std.proofs.Common.{◌≡◌, ◌≢◌, ℕ, ◌≤◌, List, Bool, true, false, cond, nat_le, ◌==◌, ◌↔◌, Option, Some, None, IsSome, IfSome, Result, Ok, Err, IfOk, ◌-◌, ◌^◌, ◌<◌, min, refl, ap, arith}
 use Rattle.std.specs.Bool.{Decides}
 use Rattle.std.specs.List.{All, list_all}
 use Rattle.std.proofs.lemmas.Bool.{leb-true, le-leb}

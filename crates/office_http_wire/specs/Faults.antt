@@ -12,6 +12,7 @@ use Rattle.office_http_wire.specs.Answers.{answer_text, unavailable_bytes}
 use Rattle.office_http_wire.specs.Fields.{field_name}
 use Rattle.office_http_wire.specs.Trees.{count, text, keys}
 
+-- a line of the table
 abbrev pub line : ℕ → List ℕ → ℕ → Line
 line number name status = record { number = number; name = name; status = status }
 
@@ -32,6 +33,7 @@ abbrev pub IsFault : ℕ → More → Type 0
 IsFault n Nothing = (1 ≤ n) × (n ≤ 8)
 IsFault n (FieldMore field) = n ≡ 9
 
+-- the tree of a fault
 abbrev pub fault_tree : ℕ → More → Data
 fault_tree n Nothing = keys ((codes "error", text (fault_line n).name) ∷ (codes "number", count n) ∷ [])
 fault_tree n (FieldMore field) =

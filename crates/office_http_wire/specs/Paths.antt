@@ -6,6 +6,7 @@ use Rattle.office_http_wire.specs.declared.ask.Field.TheVariants.{Id}
 use Rattle.office_http_wire.specs.Asks.{or_field}
 use Rattle.office_http_wire.specs.Values.{number_spelled}
 
+-- the byte of `/`
 abbrev pub is_slash : ℕ → Bool
 is_slash b = b == 47
 

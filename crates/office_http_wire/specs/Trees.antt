@@ -11,22 +11,25 @@ use Rattle.office_desk.specs.declared.reply.IntersectionState.{IntersectionState
 use Rattle.office_desk.specs.declared.reply.Reply.{Reply}
 use Rattle.office_desk.specs.declared.reply.Reply.TheVariants.{Added, Same, State, Refused}
 
--- a number, a text, and a value that may be missing
+-- a number
 abbrev pub count : ℕ → Data
 count n = number (unsigned n)
 
+-- a text
 abbrev pub text : List ℕ → Data
 text bytes = string bytes
 
+-- a value, or null where there is none
 abbrev pub or_null : {A : Type 0} → (A → Data) → Option A → Data
 or_null tree None = null
 or_null tree (Some x) = tree x
 
--- an object of these keys, which stand in ascending order
+-- the members of an object
 abbrev pub members : List (List ℕ × Data) → Members
 members [] = no_members
 members (entry ∷ rest) = member entry.0 entry.1 (members rest)
 
+-- an object of these keys, which stand in ascending order
 abbrev pub keys : List (List ℕ × Data) → Data
 keys entries = object (members entries)
 
@@ -47,6 +50,7 @@ verdict_name DoneWithNoError = codes "doneWithNoError"
 abbrev pub error_tree : Line → Data
 error_tree line = keys ((codes "error", text line.name) ∷ (codes "number", count line.number) ∷ [])
 
+-- the tree of a refusal
 abbrev pub refusal_tree : Refusal → Data
 refusal_tree refusal = error_tree (line_of refusal)
 

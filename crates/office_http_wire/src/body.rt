@@ -11,6 +11,8 @@ use signal_records::{InterId, Interval, Words};
 use std::alloc::Global;
 
 /// The object that the bytes of a body are.
+// Reading needs a large local: a request without a body is not to pay for it.
+#[inline(never)]
 pub(crate) fn read(alloc: Global, bytes: &[u8]) -> Result<Value, AskFault>
     ensures { GivesBody result bytes.now }
 {

@@ -35,6 +35,9 @@ const INTERVAL: &[u8] =
 const NAME: &[u8] =
     b"HTTP/1.1 400 Bad Request\r\nContent-Type: application/json\r\nContent-Length: 43\r\n\r\n{\"error\":\"Field\",\"field\":\"name\",\"number\":9}";
 
+const UNAVAILABLE: &[u8] =
+    b"HTTP/1.1 503 Service Unavailable\r\nContent-Type: application/json\r\nContent-Length: 35\r\n\r\n{\"error\":\"Unavailable\",\"number\":90}";
+
 fn request<'a>(method: &'a [u8], path: &'a [u8], body: &'a [u8]) -> Request<'a> {
     Request {
         method,
@@ -163,6 +166,7 @@ fn framing_faults(rt: HostRuntime) -> Result<(), Fail> {
 #[test]
 fn replies(rt: HostRuntime) -> Result<(), Fail> {
     let alloc = rt.alloc();
+    assert!(rt; unavailable() == UNAVAILABLE);
     let Ok(Some(name)) = Words::new(alloc, b"Main St") else {
         return Err(Fail::from("no name"));
     };
@@ -191,7 +195,7 @@ fn replies(rt: HostRuntime) -> Result<(), Fail> {
             Refusal::Damaged,
             b"HTTP/1.1 500 Internal Server Error\r\nContent-Type: application/json\r\nContent-Length: 31\r\n\r\n{\"error\":\"Damaged\",\"number\":91}",
         ),
-        (Refusal::Unavailable, unavailable()),
+        (Refusal::Unavailable, UNAVAILABLE),
     ];
     for (refusal, answer) in rows {
         assert!(rt; answer_of(alloc, &Reply::Refused(refusal), Form::Json)?.as_slice() == answer);

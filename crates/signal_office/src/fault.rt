@@ -1,10 +1,14 @@
-//! Why the program ends with another status than 0.
+//! Why the program ends with a fault.
 
+use office_files::CsvFault;
+use office_http::{ServeFault, WriteFailed};
 use office_tables::open::OpenFault;
+use signal_records::NoMemory;
 use sqlite::{Error, ErrorCode};
 use std::alloc::AllocError;
+use std::fmt;
 
-/// Why the program ends with another status than 0.
+/// Why the program ends with a fault, or refuses its words.
 #[derive(Clone, Copy, Debug, PartialEq, Eq)]
 pub enum Fault {
     /// The source failed.
@@ -19,24 +23,15 @@ pub enum Fault {
     Version,
     /// A stored row is no record.
     Damaged,
+    /// The CSV file can't be read.
+    File,
+    /// A record of the CSV file spells nothing.
+    Csv(CsvFault),
     /// The words were not understood.
     Usage,
 }
 
 impl Fault {
-    /// The line that says it on standard error.
-    pub fn line(self) -> &'static str {
-        match self {
-            Fault::Read => "fault: read\n",
-            Fault::Write => "fault: write\n",
-            Fault::Memory => "fault: memory\n",
-            Fault::Store => "fault: store\n",
-            Fault::Version => "fault: version\n",
-            Fault::Damaged => "fault: damaged\n",
-            Fault::Usage => "usage: signal_office batch\n",
-        }
-    }
-
     /// The status with which the program ends.
     pub fn status(self) -> u8 {
         match self {
@@ -46,9 +41,54 @@ impl Fault {
     }
 }
 
+/// Writes the line that says it on standard error, without the line's end.
+impl fmt::Display for Fault {
+    fn fmt<W: fmt::Write>(&self, f: &mut fmt::Formatter<W>) -> fmt::Result {
+        match self {
+            Fault::Read => f.write_str("fault: read"),
+            Fault::Write => f.write_str("fault: write"),
+            Fault::Memory => f.write_str("fault: memory"),
+            Fault::Store => f.write_str("fault: store"),
+            Fault::Version => f.write_str("fault: version"),
+            Fault::Damaged => f.write_str("fault: damaged"),
+            Fault::File => f.write_str("fault: file"),
+            Fault::Csv(fault) => write!(f, "fault: {fault}"),
+            Fault::Usage => f.write_str("usage: signal_office batch | verify-file CSV"),
+        }
+    }
+}
+
 impl From<AllocError> for Fault {
     fn from(_: AllocError) -> Fault {
         Fault::Memory
+    }
+}
+
+impl From<NoMemory> for Fault {
+    fn from(_: NoMemory) -> Fault {
+        Fault::Memory
+    }
+}
+
+impl From<WriteFailed> for Fault {
+    fn from(_: WriteFailed) -> Fault {
+        Fault::Write
+    }
+}
+
+impl From<CsvFault> for Fault {
+    fn from(fault: CsvFault) -> Fault {
+        Fault::Csv(fault)
+    }
+}
+
+impl From<ServeFault> for Fault {
+    fn from(fault: ServeFault) -> Fault {
+        match fault {
+            ServeFault::Read { .. } => Fault::Read,
+            ServeFault::Write { .. } => Fault::Write,
+            ServeFault::NoMemory => Fault::Memory,
+        }
     }
 }
 

@@ -2,6 +2,7 @@
 #![tactic(auto)]
 
 mod fault;
+mod plan;
 mod program;
 #[cfg(test)]
 mod tests;
@@ -23,13 +24,13 @@ fn run(rt: &HostRuntime) -> Result<u8, Fault> {
     let mut source = FromRead::new(rt.stdin());
     let mut out = ToWrite::new(rt.stdout());
     let mut err = ToWrite::new(rt.stderr());
-    Ok(run_words(alloc, &words, &mut source, &mut out, &mut err))
+    Ok(run_words(rt, alloc, &words, &mut source, &mut out, &mut err))
 }
 
 fn main(rt: HostRuntime) -> ExitCode {
     let status = match run(&rt) {
         Ok(status) => status,
-        Err(fault) => report(&mut ToWrite::new(rt.stderr()), fault),
+        Err(fault) => report(rt.alloc(), &mut ToWrite::new(rt.stderr()), fault),
     };
     ExitCode::from(status)
 }

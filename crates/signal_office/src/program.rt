@@ -1,37 +1,63 @@
 //! What the program's words ask for, from a source of bytes to its two outputs.
 
 use crate::fault::Fault;
+use crate::plan::violations_in;
 use office_desk::office::Office;
-use office_http::{ServeFault, Sink, Source, serve, write_all};
+use office_files::violation_text;
+use office_http::{Sink, Source, serve, write_all};
 use office_tables::sql_shelf::SqlShelf;
 use sqlite::Connection;
 use std::alloc::Global;
+use std::fs;
+use std::io::ErrorKind;
 
 /// The most requests of one run of `batch`.
 const BATCH_LIMIT: u32 = 1_000_000;
 
+/// The status of `verify-file` where the plan breaks a rule.
+const HAS_VIOLATIONS: u8 = 3;
+
 /// Answers the requests of the source over tables in memory.
-fn batch<R: Source, W: Sink>(alloc: Global, source: &mut R, out: &mut W) -> Result<(), Fault> {
+fn batch<R: Source, W: Sink>(alloc: Global, source: &mut R, out: &mut W) -> Result<u8, Fault> {
     let conn = Connection::open_in_memory(alloc)?;
     let shelf = SqlShelf::open(alloc, conn)?;
     let mut office = Office::new(shelf);
-    match serve(alloc, &mut office, source, out, BATCH_LIMIT) {
-        Ok(_) => Ok(()),
-        Err(ServeFault::Read { .. }) => Err(Fault::Read),
-        Err(ServeFault::Write { .. }) => Err(Fault::Write),
-        Err(ServeFault::NoMemory) => Err(Fault::Memory),
-    }
+    serve(alloc, &mut office, source, out, BATCH_LIMIT)?;
+    Ok(0)
+}
+
+/// Prints the violations of the plan in a CSV file.
+fn verify_file<W: Sink>(
+    rt: &HostRuntime,
+    alloc: Global,
+    path: &str,
+    out: &mut W,
+) -> Result<u8, Fault> {
+    let bytes = match fs::read(rt, path) {
+        Ok(bytes) => bytes,
+        Err(error) if error.kind() == ErrorKind::OutOfMemory => return Err(Fault::Memory),
+        Err(_) => return Err(Fault::File),
+    };
+    let found = violations_in(alloc, &bytes)?;
+    let text = violation_text(alloc, &found)?;
+    write_all(out, &text)?;
+    Ok(if found.is_empty() { 0 } else { HAS_VIOLATIONS })
 }
 
 /// Says a fault on standard error, as far as that takes it, and gives the status.
-pub fn report<W: Sink>(err: &mut W, fault: Fault) -> u8 {
-    let _ = write_all(err, fault.line().as_bytes());
+pub fn report<W: Sink>(alloc: Global, err: &mut W, fault: Fault) -> u8 {
+    let _ = match format!(in alloc; "{fault}\n") {
+        Ok(line) => write_all(err, line.as_bytes()),
+        Err(_) => write_all(err, b"fault: memory\n"),
+    };
     fault.status()
 }
 
 /// Does what the words ask for, and gives the status: 0 done, 1 a fault, 2 the words were not
-/// understood. The first word is the name under which the program was called.
+/// understood, 3 a plan breaks a rule. The first word is the name under which the program was
+/// called.
 pub fn run_words<R: Source, W: Sink, E: Sink>(
+    rt: &HostRuntime,
     alloc: Global,
     words: &[&str],
     source: &mut R,
@@ -40,10 +66,11 @@ pub fn run_words<R: Source, W: Sink, E: Sink>(
 ) -> u8 {
     let done = match words {
         [_, "batch"] => batch(alloc, source, out),
+        [_, "verify-file", path] => verify_file(rt, alloc, path, out),
         _ => Err(Fault::Usage),
     };
     match done {
-        Ok(()) => 0,
-        Err(fault) => report(err, fault),
+        Ok(status) => status,
+        Err(fault) => report(alloc, err, fault),
     }
 }

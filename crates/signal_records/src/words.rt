@@ -74,7 +74,7 @@ impl<const MAX: usize> PartialEq for Words<MAX> {
     ghost laws = { partial_equiv_from_equiv nat_list_eq_equiv };
 
     fn eq(&self, other: &Words<MAX>) -> bool {
-        self.text.as_str() == other.text.as_str()
+        self.as_str() == other.as_str()
     }
 }
 

@@ -5,6 +5,7 @@ use crate::machine::{Machine, Unavailable};
 use std::alloc::{AllocError, Global};
 
 /// The answers of an `Echo`.
+#[derive(Drop)]
 pub struct Paths;
 
 /// A machine with nothing to change. It answers one method with `Unavailable`.
@@ -19,13 +20,20 @@ impl Machine<Paths> for Echo {
 
     ghost stands_for = { λ _ _. Unit {0} };
 
+    ghost is_honest = { λ _. Unit {0} };
+
     ghost protocol = { record {
       step = λ before request answer after. answer ≡ request.path;
       fault_text = λ which. fault_number which ∷ [];
       unavailable_text = codes "!";
     } };
 
-    fn answer(&mut self, alloc: Global, request: &Request<'_>) -> Result<Vec<u8>, Unavailable> {
+    fn answer(
+        &mut self,
+        alloc: Global,
+        _tools: &mut Paths,
+        request: &Request<'_>,
+    ) -> Result<Vec<u8>, Unavailable> {
         if request.method == b"REFUSE".as_slice() {
             return Err(Unavailable);
         }

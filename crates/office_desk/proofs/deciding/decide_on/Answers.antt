@@ -1,7 +1,10 @@
+use Rattle.std.proofs.Common.{ap, ◌∙◌}
+use Rattle.office_desk.specs.declared.refusal.Refusal.{Refusal}
+use Rattle.office_desk.specs.declared.reply.Reply.TheVariants.{Refused}
+use Rattle.office_desk.proofs.Runs.{fault_answers}
 use Rattle.office_desk.proofs.deciding.decide_on.Goals as goal
 
-pub returns-clause-step : goal.returns-clause-step
-returns-clause-step g c = λ honest. c.settled.ensures.step _ (c.try_decide-decided.ensures.step honest)
-
-pub returns-clause-damaged : goal.returns-clause-damaged
-returns-clause-damaged g c = λ damaged honest. c.settled.ensures.damaged _ (c.try_decide-decided.ensures.step honest) c.try_decide-decided.ensures.undamaged damaged
+pub returns-in-Err-clause-step : goal.returns-in-Err-clause-step
+returns-in-Err-clause-step g c = λ honest.
+    fault_answers _ _ c.in-Err.fault _ _ (c.in-Err.ensures.step honest)
+    (c.unchanged.ensures.reply ∙ ap (λ (r : Refusal). Refused r) c.refused.ensures) c.unchanged.ensures.no_changes

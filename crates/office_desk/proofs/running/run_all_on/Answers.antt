@@ -1,5 +1,5 @@
 use Rattle.std.proofs.lemmas.List.{take_more, take_all}
-use Rattle.std.proofs.Common.{◌≡◌, ◌+◌, [], ◌∷◌, ◌++◌, ◌∙◌, ap, subst, sym, arith, length, take, vec_len, vec_capacity}
+use Rattle.std.proofs.Common.{◌≡◌, ◌+◌, [], ◌∷◌, ◌++◌, ◌∙◌, ap, subst, sym, arith, take}
 use Rattle.office_desk.specs.Answers.{RunsAny}
 use Rattle.office_desk.proofs.Runs.{runs_nothing, runs_more}
 use Rattle.office_desk.proofs.running.run_all_on.Goals as goal

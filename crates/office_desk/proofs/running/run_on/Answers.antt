@@ -1,9 +1,7 @@
-use Rattle.std.proofs.Common.{◌≡◌, ap, sym, ◌∙◌, refl, length, List, [], inl, inr}
+use Rattle.std.proofs.Common.{ap, sym, ◌∙◌, refl, length, [], inl, inr}
 use Rattle.std.specs.Prelude.{◌==◌}
-use Rattle.office_tables_shelf.specs.Change.{changed_by, writes_after}
-use Rattle.office_tables_shelf.specs.Content.{Content}
-use Rattle.office_tables_shelf.specs.declared.rows.RowChange.{RowChange}
-use Rattle.office_desk.proofs.Runs.{same_answers, unavailable_answers, no_items}
+use Rattle.office_tables_shelf.specs.Change.{changed_by}
+use Rattle.office_desk.proofs.Runs.{same_answers, unavailable_answers, no_items, applied}
 use Rattle.office_desk.proofs.running.run_on.Goals as goal
 
 pub returns-then-is_empty-clause-step : goal.returns-then-is_empty-clause-step
@@ -15,7 +13,7 @@ pub returns-in-Ok-clause-step : goal.returns-in-Ok-clause-step
 returns-in-Ok-clause-step g c = λ honest.
     let before = c.apply.ensures.honest honest in
     same_answers _ _ _ _ c.decide_on-decided.result.changes.items (c.decide_on-decided.ensures.step before)
-    (c.in-Ok.ensures.ok honest ∙ (ap (changed_by _) c.as_slice-changes.ensures.value ∙ ap (λ (t : Content). changed_by t c.decide_on-decided.result.changes.items) (c.decide_on-decided.ensures.kept.same_content before)))
+    (applied _ _ _ _ _ (c.in-Ok.ensures.ok honest) (c.decide_on-decided.ensures.kept.same_content before) c.as_slice-changes.ensures.value)
 
 pub returns-in-Err-clause-step : goal.returns-in-Err-clause-step
 returns-in-Err-clause-step g c = λ honest.
@@ -30,7 +28,7 @@ returns-in-Ok-clause-crash g c = λ honest tables left.
       | inr made ↦ inr (
         c.decide_on-decided.result.reply,
         same_answers _ _ _ _ c.decide_on-decided.result.changes.items (c.decide_on-decided.ensures.step before)
-            (made ∙ (ap (changed_by _) c.as_slice-changes.ensures.value ∙ ap (λ (t : Content). changed_by t c.decide_on-decided.result.changes.items) (c.decide_on-decided.ensures.kept.same_content before))),
+            (applied _ _ _ _ _ made (c.decide_on-decided.ensures.kept.same_content before) c.as_slice-changes.ensures.value),
       )
     ]
 
@@ -42,6 +40,6 @@ returns-in-Err-clause-crash g c = λ honest tables left.
       | inr made ↦ inr (
         c.decide_on-decided.result.reply,
         same_answers _ _ _ _ c.decide_on-decided.result.changes.items (c.decide_on-decided.ensures.step before)
-            (made ∙ (ap (changed_by _) c.as_slice-changes.ensures.value ∙ ap (λ (t : Content). changed_by t c.decide_on-decided.result.changes.items) (c.decide_on-decided.ensures.kept.same_content before))),
+            (applied _ _ _ _ _ made (c.decide_on-decided.ensures.kept.same_content before) c.as_slice-changes.ensures.value),
       )
     ]

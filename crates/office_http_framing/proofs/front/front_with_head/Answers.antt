@@ -5,7 +5,7 @@ use Rattle.office_http_framing.specs.Front.{is_last, path_of}
 use Rattle.office_http_framing.specs.Fields.{closes}
 use Rattle.office_http_framing.proofs.FrontLemmas.{part_of_window, faulty_fields, framed_head, body_length-bound}
 use Rattle.office_http_framing.proofs.front.front_with_head.Goals as goal
-use Rattle.office_http_framing.proofs.front.front_with_head.Goals.{In-Ok, then-head-eq0, else-head-eq0}
+use Rattle.office_http_framing.proofs.front.front_with_head.Goals.{then-head-eq0, else-head-eq0}
 
 first_minor : (version minor : ℕ) (closing : Bool) → version ≡ minor → version ≡ 0 → (version == 0) ≡ ((minor == 0) || closing)
 first_minor version minor closing same zero = grind (arith, nat_tests)

@@ -1,0 +1,7 @@
+use Rattle.std.proofs.Common.{◌≡◌, map, take, Ok}
+use Rattle.csv.specs.Records.{fields_of}
+use Rattle.office_files.specs.CsvRow.{rows_of}
+use Rattle.office_files.proofs.rows.read_rows.Given as goal
+
+abbrev pub invariant-loop-i : goal.invariant-loop-i
+invariant-loop-i g l = rows_of g.T.CsvRow.reading (map fields_of (take l.i l.record-items)) ≡ Ok l.rows.items

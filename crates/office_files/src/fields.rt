@@ -1,0 +1,19 @@
+//! The fields of a record that was read.
+
+ghost use Rattle.std.specs.Prelude.{◌≡◌, IfOk};
+ghost use Rattle.csv.specs.Records.{fields_of};
+ghost use Rattle.signal_records.specs.Reading.{texts};
+
+use csv::ByteRecord;
+use signal_records::NoMemory;
+use std::alloc::Global;
+
+pub(crate) fn fields_in<'a>(alloc: Global, row: &'a ByteRecord) -> Result<Vec<&'a [u8]>, NoMemory>
+    ensures { IfOk result (λ fields. texts fields.items ≡ fields_of row.now) }
+{
+    let mut fields = Vec::new(alloc);
+    for field in row {
+        fields.push(field)?;
+    }
+    Ok(fields)
+}

@@ -1,0 +1,41 @@
+//! Values that the records of a CSV file spell.
+
+ghost use Rattle.std.specs.Prelude.{◌≡◌, ◌≢◌, ℕ, List, IfOk, IfErr, Result, Ok, Err};
+ghost use Rattle.signal_records.specs.declared.fault.RowFault.{RowFault as Fault};
+ghost use Rattle.signal_records.specs.Reading.{Gives, texts};
+ghost use Rattle.office_files.specs.Csv.{csv_records};
+ghost use Rattle.office_files.specs.CsvFault.{NamesFault};
+ghost use Rattle.office_files.specs.CsvRow.{rows_of};
+
+use crate::fault::CsvFault;
+use crate::fields::fields_in;
+use crate::records::read_records;
+use signal_records::RowFault;
+use std::alloc::Global;
+
+/// A value that the fields of a record spell.
+pub(crate) trait CsvRow: Sized + Drop {
+    /// What the fields spell, or the first fault.
+    ghost reading: { List (List ℕ) → Result Self Fault };
+
+    fn read_fields(alloc: Global, fields: &[&[u8]]) -> Result<Self, RowFault>
+        ensures { Gives result (reading (texts fields.now)) };
+}
+
+/// What the records of a file spell, or the first that spells nothing.
+pub(crate) fn read_rows<T: CsvRow>(alloc: Global, text: &[u8]) -> Result<Vec<T>, CsvFault>
+    ensures rows { IfOk result (λ rows. rows_of T.reading (csv_records text.now) ≡ Ok rows.items) }
+    ensures fault { IfErr result (λ fault. fault ≢ CsvFault.NoMemory → rows_of T.reading (csv_records text.now) ≡ Err fault) }
+    ensures named { IfErr result NamesFault }
+{
+    let records = read_records(alloc, text)?;
+    let mut rows = Vec::new(alloc);
+    for (i, record) in records.iter().enumerate() {
+        let fields = fields_in(alloc, record)?;
+        match T::read_fields(alloc, &fields) {
+            Ok(row) => rows.push(row)?,
+            Err(fault) => return Err(CsvFault::of_record(i + 1, fault)),
+        }
+    }
+    Ok(rows)
+}

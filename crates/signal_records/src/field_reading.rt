@@ -1,0 +1,171 @@
+//! One field of a row: a number, a flag, a mode or a list of phases.
+
+ghost use Rattle.std.specs.Prelude.{◌≡◌, ◌<◌, ◌≤◌, ◌+◌, ◌^◌, length, ◌-◌, min, true, false, IfSome, IfNone, IfOk};
+ghost use Rattle.std.specs.Char.{is_ascii_digit};
+ghost use Rattle.std.specs.List.{list_all};
+ghost use Rattle.std.specs.Str.Parse.{digits_value};
+ghost use Rattle.signal_records.specs.declared.number.TheConstants.{PHASES};
+ghost use Rattle.signal_records.specs.Reading.{Gives, texts, is_numeral, parts, phases_in, number_at, flag_at, mode_at, list_of, list_at};
+
+use crate::fault::RowFault;
+use crate::memory::NoMemory;
+use crate::number::{Number, PHASES};
+use crate::phase_list::{PhaseList, push_phase};
+use crate::record::SplitMode;
+use std::alloc::{AllocError, Global};
+
+/// The number that digits spell, or the greatest `u32` where it is greater.
+fn digits(bytes: &[u8]) -> Option<u32>
+    ensures none { IfNone result (list_all is_ascii_digit bytes.now ≡ false) }
+    ensures some { IfSome result (λ n. list_all is_ascii_digit bytes.now ≡ true) }
+    ensures value { IfSome result (λ n. n ≡ min (digits_value 10 bytes.now) (2 ^ 32 - 1)) }
+{
+    let mut n: u32 = 0;
+    for b in bytes {
+        if !b.is_ascii_digit() {
+            return None;
+        }
+        n = n.saturating_mul(10).saturating_add(u32::from(*b - b'0'));
+    }
+    Some(n)
+}
+
+/// The number that a numeral spells, or the greatest `u32` where it is greater.
+pub(crate) fn numeral(bytes: &[u8]) -> Option<u32>
+    ensures none { IfNone result (is_numeral bytes.now ≡ false) }
+    ensures some { IfSome result (λ n. is_numeral bytes.now ≡ true) }
+    ensures value { IfSome result (λ n. n ≡ min (digits_value 10 bytes.now) (2 ^ 32 - 1)) }
+{
+    match bytes {
+        [] => None,
+        [b'0', _, ..] => None,
+        _ => digits(bytes),
+    }
+}
+
+pub(crate) fn number<Of, const LOW: u32, const HIGH: u32>(
+    fields: &[&[u8]],
+    place: u8,
+) -> Result<Number<Of, LOW, HIGH>, RowFault>
+    requires small { HIGH < 2 ^ 32 - 1 }
+    requires some { 1 ≤ place }
+    requires within { place ≤ length fields.now }
+    ensures { Gives result (number_at LOW HIGH place (texts fields.now)) }
+{
+    number_up_to(HIGH, fields, place)
+}
+
+/// The number at a place, where the last one is given.
+#[tactic(auto, unfolding(crate::specs::Reading::number_at))]
+pub(crate) fn number_up_to<Of, const LOW: u32, const HIGH: u32>(
+    last: u32,
+    fields: &[&[u8]],
+    place: u8,
+) -> Result<Number<Of, LOW, HIGH>, RowFault>
+    requires small { HIGH < 2 ^ 32 - 1 }
+    requires room { last ≤ HIGH }
+    requires some { 1 ≤ place }
+    requires within { place ≤ length fields.now }
+    ensures { Gives result (number_at LOW last place (texts fields.now)) }
+{
+    let n = numeral(fields[place as usize - 1]).ok_or(RowFault::Number(place))?;
+    if last < n {
+        return Err(RowFault::Range(place));
+    }
+    Number::new(n).ok_or(RowFault::Range(place))
+}
+
+#[tactic(auto, unfolding(crate::specs::Reading::number_at))]
+pub(crate) fn byte(fields: &[&[u8]], place: u8) -> Result<u8, RowFault>
+    requires some { 1 ≤ place }
+    requires within { place ≤ length fields.now }
+    ensures { Gives result (number_at 0 255 place (texts fields.now)) }
+{
+    let n = numeral(fields[place as usize - 1]).ok_or(RowFault::Number(place))?;
+    u8::try_from(n).map_err(|_| RowFault::Range(place))
+}
+
+#[tactic(auto, unfolding(crate::specs::Reading::flag_at))]
+pub(crate) fn flag(fields: &[&[u8]], place: u8) -> Result<bool, RowFault>
+    requires some { 1 ≤ place }
+    requires within { place ≤ length fields.now }
+    ensures { Gives result (flag_at place (texts fields.now)) }
+{
+    match numeral(fields[place as usize - 1]) {
+        None => Err(RowFault::Number(place)),
+        Some(0) => Ok(false),
+        Some(1) => Ok(true),
+        Some(_) => Err(RowFault::Range(place)),
+    }
+}
+
+#[tactic(auto, unfolding(crate::specs::Reading::mode_at))]
+pub(crate) fn mode(fields: &[&[u8]], place: u8) -> Result<SplitMode, RowFault>
+    requires some { 1 ≤ place }
+    requires within { place ≤ length fields.now }
+    ensures { Gives result (mode_at place (texts fields.now)) }
+{
+    match numeral(fields[place as usize - 1]) {
+        None => Err(RowFault::Number(place)),
+        Some(2) => Ok(SplitMode::NoRecall),
+        Some(3) => Ok(SplitMode::MinimumVehicleRecall),
+        Some(4) => Ok(SplitMode::MaximumVehicleRecall),
+        Some(5) => Ok(SplitMode::PedestrianRecall),
+        Some(6) => Ok(SplitMode::MaximumVehicleAndPedestrianRecall),
+        Some(7) => Ok(SplitMode::PhaseOmitted),
+        Some(_) => Err(RowFault::Mode),
+    }
+}
+
+#[tactic(auto, unfolding(crate::specs::Reading::list_at))]
+pub(crate) fn list(
+    alloc: Global,
+    last: u32,
+    fields: &[&[u8]],
+    place: u8,
+) -> Result<PhaseList, RowFault>
+    requires room { last ≤ PHASES }
+    requires some { 1 ≤ place }
+    requires within { place ≤ length fields.now }
+    ensures { Gives result (list_at last place (texts fields.now)) }
+{
+    list_of(alloc, last, fields[place as usize - 1], place)
+}
+
+fn list_of(alloc: Global, last: u32, bytes: &[u8], place: u8) -> Result<PhaseList, RowFault>
+    requires { last ≤ PHASES }
+    ensures { Gives result (list_of last place bytes.now) }
+{
+    let parts = parts_of(alloc, bytes)?;
+    match phases_of(alloc, last, &parts)? {
+        Some(phases) => Ok(phases),
+        None => Err(RowFault::List(place)),
+    }
+}
+
+/// The parts between single spaces; the empty field has none.
+fn parts_of(alloc: Global, bytes: &[u8]) -> Result<Vec<&[u8]>, AllocError>
+    ensures { IfOk result (λ found. texts found.items ≡ parts bytes.now) }
+{
+    if bytes.is_empty() {
+        return Ok(Vec::new(alloc));
+    }
+    bytes.split(|b| *b == 32).collect(alloc)
+}
+
+/// The phases that the parts spell, if they spell distinct phases.
+fn phases_of(alloc: Global, last: u32, parts: &[&[u8]]) -> Result<Option<PhaseList>, NoMemory>
+    requires { last ≤ PHASES }
+    ensures { IfOk result (λ found. found ≡ phases_in last (texts parts.now)) }
+{
+    let mut phases = Vec::new(alloc);
+    for part in parts {
+        let Some(n) = numeral(part) else {
+            return Ok(None);
+        };
+        if !push_phase(&mut phases, last, n)? {
+            return Ok(None);
+        }
+    }
+    Ok(Some(PhaseList::from_phases(phases)))
+}

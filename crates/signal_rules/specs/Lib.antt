@@ -1,0 +1,12 @@
+pub mod Lookup
+pub mod PhaseRules
+pub mod SequenceRule
+pub mod SplitRule
+pub mod PatternRules
+pub mod Violations
+pub mod Touched
+pub mod CutPoints
+pub mod Starts
+pub mod Counts
+pub mod Difference
+pub mod Texts

@@ -1,0 +1,120 @@
+//! Judges of subjects, which count what they do, and the violations that a change can have made.
+
+ghost use Rattle.std.specs.Prelude.{◌≡◌, ℕ, ◌+◌, ◌<◌, List, [], length, IfOk};
+ghost use Rattle.std.specs.List.{flat_map};
+ghost use Rattle.signal_records.specs.TimingSet.{Rows};
+ghost use Rattle.signal_rules.specs.declared.violation.Subject.{Subject as SubjectOf};
+ghost use Rattle.signal_rules.specs.declared.violation.Violation.{Violation as ViolationOf};
+ghost use Rattle.signal_rules.specs.Counts.{greatest, RisesAtMost, most_seconds, most_seconds_of};
+ghost use Rattle.signal_rules.specs.Touched.{touched_subjects};
+ghost use Rattle.signal_rules.specs.Violations.{violations_at, violations_of};
+ghost use Rattle.signal_rules.specs.Difference.{DiffersAtMost};
+
+use crate::judging;
+use crate::reach::touched;
+use crate::violation::{Subject, Violation};
+use signal_records::{Key, NoMemory, TimingSet};
+use std::alloc::Global;
+
+/// Answers for a subject of a set, and keeps two counts, which stay at `u64::MAX` once there: its
+/// calls, and the seconds at which it compared phases.
+pub trait Judge {
+    /// The answer for a subject of a set.
+    ghost answers: { Rows → SubjectOf → List ViolationOf };
+
+    ghost calls: { Self → ℕ };
+
+    ghost seconds: { Self → ℕ };
+
+    /// The counts rise after a refusal too, within the same bounds.
+    fn judge(
+        &mut self,
+        alloc: Global,
+        set: &TimingSet,
+        subject: Subject,
+    ) -> Result<Vec<Violation>, NoMemory>
+        ensures answer { IfOk result (λ found. found.items ≡ answers set.now subject) }
+        ensures call { RisesAtMost 1 (calls self.old) (calls self.new) }
+        ensures counted { calls self.old < greatest → calls self.new ≡ calls self.old + 1 }
+        ensures compared { RisesAtMost (most_seconds set.now subject) (seconds self.old) (seconds self.new) };
+}
+
+/// A judge that answers the subject's part of the violations.
+#[derive(Clone, Copy, Debug)]
+pub struct Tally {
+    calls: u64,
+    seconds: u64,
+}
+
+impl Tally {
+    /// Both counts are 0.
+    pub fn new() -> Tally
+        ensures calls { ⟦<Tally as Judge>⟧.calls result ≡ 0 }
+        ensures seconds { ⟦<Tally as Judge>⟧.seconds result ≡ 0 }
+    {
+        Tally {
+            calls: 0,
+            seconds: 0,
+        }
+    }
+
+    /// The calls so far.
+    pub fn count(&self) -> u64
+        ensures { result ≡ ⟦<Tally as Judge>⟧.calls self.now }
+    {
+        self.calls
+    }
+
+    /// The seconds at which phases were compared so far.
+    pub fn seconds(&self) -> u64
+        ensures { result ≡ ⟦<Tally as Judge>⟧.seconds self.now }
+    {
+        self.seconds
+    }
+}
+
+impl Judge for Tally {
+    ghost answers = { violations_at };
+
+    ghost calls = { λ tally. tally.calls };
+
+    ghost seconds = { λ tally. tally.seconds };
+
+    fn judge(
+        &mut self,
+        alloc: Global,
+        set: &TimingSet,
+        subject: Subject,
+    ) -> Result<Vec<Violation>, NoMemory> {
+        let Tally { calls, seconds } = self;
+        *calls = calls.saturating_add(1);
+        let mut found = Vec::new(alloc);
+        judging::judge(alloc, set, subject, seconds, &mut found)?;
+        Ok(found)
+    }
+}
+
+/// The judge's answers on the subjects of the draft that a key reaches, in their order. They are the
+/// violations of the draft, where the base has none, the sets differ at most at the keys, and the
+/// judge answers as a tally does.
+///
+/// The counts rise within their bounds after a refusal too.
+pub fn violations_touched<J: Judge>(
+    alloc: Global,
+    base: &TimingSet,
+    draft: &TimingSet,
+    keys: &[Key],
+    judge: &mut J,
+) -> Result<Vec<Violation>, NoMemory>
+    ensures answers { IfOk result (λ found. found.items ≡ flat_map (J.answers draft.now) (touched_subjects draft.now keys.now)) }
+    ensures whole { violations_of base.now ≡ [] → DiffersAtMost base.now draft.now keys.now → ((s : SubjectOf) → J.answers draft.now s ≡ violations_at draft.now s) → IfOk result (λ found. found.items ≡ violations_of draft.now) }
+    ensures calls { RisesAtMost (length (touched_subjects draft.now keys.now)) (J.calls judge.old) (J.calls judge.new) }
+    ensures seconds { RisesAtMost (most_seconds_of draft.now (touched_subjects draft.now keys.now)) (J.seconds judge.old) (J.seconds judge.new) }
+{
+    let mut found = Vec::new(alloc);
+    for subject in &touched(alloc, draft, keys)? {
+        let part = judge.judge(alloc, draft, *subject)?;
+        found.extend_from_slice(&part)?;
+    }
+    Ok(found)
+}

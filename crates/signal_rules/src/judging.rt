@@ -1,0 +1,179 @@
+//! The violations of a timing set, subject by subject.
+
+ghost use Rattle.std.specs.Prelude.{◌≡◌, [], ◌∷◌, ◌++◌, OnOk, IfOk};
+ghost use Rattle.signal_rules.specs.Violations.{violations_of, violations_at, broken, phase_findings, lane_findings, pattern_findings};
+ghost use Rattle.signal_rules.specs.Counts.{RisesAtMost, sequence_entries, most_seconds};
+
+use crate::lookup::{pattern_at, phase_at, split_at};
+use crate::sequence::{has_sequence, rows_are_right};
+use crate::split::split_is_right;
+use crate::subjects::subjects;
+use crate::violation::{Rule, Subject, Violation};
+use crate::{lanes, pattern, phase};
+use signal_records::{NoMemory, Pattern, PatternNo, Phase, PhaseNo, SeqNo, TimingSet};
+use std::alloc::Global;
+
+/// The violations of a set: phases, sequences, split rows and patterns, each by ascending number,
+/// and for each the rules that it breaks in their order, each once.
+///
+/// `NoMemory` means that a growth was really refused.
+#[tactic(auto, unfolding(crate::specs::Violations::violations_of))]
+pub fn violations(alloc: Global, set: &TimingSet) -> Result<Vec<Violation>, NoMemory>
+    ensures { IfOk result (λ found. found.items ≡ violations_of set.now) }
+{
+    let mut found = Vec::new(alloc);
+    let mut ticks = 0;
+    for subject in &subjects(alloc, set)? {
+        judge(alloc, set, *subject, &mut ticks, &mut found)?;
+    }
+    Ok(found)
+}
+
+/// Adds the subject's part of the violations, which is empty where the set does not have the subject.
+/// Each second that is compared is a tick.
+pub fn judge(
+    alloc: Global,
+    set: &TimingSet,
+    subject: Subject,
+    ticks: &mut u64,
+    found: &mut Vec<Violation>,
+) -> Result<(), NoMemory>
+    ensures found { OnOk result (found.new.items ≡ found.old.items ++ violations_at set.now subject) }
+    ensures ticks { RisesAtMost (most_seconds set.now subject) ticks.old ticks.new }
+{
+    match subject {
+        Subject::Phase(p) => match phase_at(set, p) {
+            Some(phase) => judge_phase(set, p, phase, found),
+            None => Ok(()),
+        },
+        Subject::Seq(n) => judge_sequence(set, n, found),
+        Subject::Split(n, p) => match split_at(set, n, p) {
+            Some(split) => report(split_is_right(set, p, split), subject, Rule::V8, found),
+            None => Ok(()),
+        },
+        Subject::Pattern(n) => match pattern_at(set, n) {
+            Some(pattern) => judge_pattern(alloc, set, n, &pattern, ticks, found),
+            None => Ok(()),
+        },
+    }
+}
+
+/// Adds a violation, if the rule does not hold.
+fn report(
+    holds: bool,
+    subject: Subject,
+    rule: Rule,
+    found: &mut Vec<Violation>,
+) -> Result<(), NoMemory>
+    ensures { OnOk result (found.new.items ≡ found.old.items ++ broken subject ((rule, holds) ∷ [])) }
+{
+    if !holds {
+        found.push(Violation { subject, rule })?;
+    }
+    Ok(())
+}
+
+fn judge_phase(
+    set: &TimingSet,
+    p: PhaseNo,
+    phase: &Phase,
+    found: &mut Vec<Violation>,
+) -> Result<(), NoMemory>
+    ensures { OnOk result (found.new.items ≡ found.old.items ++ broken (Subject.Phase p) (phase_findings set.now p phase.now)) }
+{
+    report(
+        phase::yellow_is_right(phase),
+        Subject::Phase(p),
+        Rule::V1,
+        found,
+    )?;
+    report(
+        phase::red_is_right(phase),
+        Subject::Phase(p),
+        Rule::V2,
+        found,
+    )?;
+    if let Some(ped) = &phase.ped {
+        report(phase::walk_is_long(ped), Subject::Phase(p), Rule::V3, found)?;
+        report(
+            phase::clears_crossing(phase, ped),
+            Subject::Phase(p),
+            Rule::V4,
+            found,
+        )?;
+        report(
+            phase::clears_setback(phase, ped),
+            Subject::Phase(p),
+            Rule::V5,
+            found,
+        )?;
+    }
+    report(
+        phase::mates_agree(set, p, phase),
+        Subject::Phase(p),
+        Rule::V6,
+        found,
+    )
+}
+
+fn judge_sequence(set: &TimingSet, n: SeqNo, found: &mut Vec<Violation>) -> Result<(), NoMemory>
+    ensures { OnOk result (found.new.items ≡ found.old.items ++ violations_at set.now (Subject.Seq n)) }
+{
+    if has_sequence(set, n) {
+        report(rows_are_right(set, n), Subject::Seq(n), Rule::V7, found)?;
+    }
+    Ok(())
+}
+
+fn judge_pattern(
+    alloc: Global,
+    set: &TimingSet,
+    n: PatternNo,
+    pattern: &Pattern,
+    ticks: &mut u64,
+    found: &mut Vec<Violation>,
+) -> Result<(), NoMemory>
+    ensures ticks { RisesAtMost (sequence_entries set.now pattern.now.seq) ticks.old ticks.new }
+    ensures found { OnOk result (found.new.items ≡ found.old.items ++ broken (Subject.Pattern n) (pattern_findings set.now pattern.now)) }
+{
+    let has_rows = pattern::has_rows(set, pattern);
+    report(has_rows, Subject::Pattern(n), Rule::V9, found)?;
+    report(
+        pattern::offset_is_right(pattern),
+        Subject::Pattern(n),
+        Rule::V10,
+        found,
+    )?;
+    report(
+        pattern::has_coordinated(set, pattern.split),
+        Subject::Pattern(n),
+        Rule::V11,
+        found,
+    )?;
+    if has_rows {
+        judge_lanes(alloc, set, n, pattern, ticks, found)?;
+    }
+    Ok(())
+}
+
+/// The rules on the lanes of a pattern, which are compared only where they fill the cycle.
+fn judge_lanes(
+    alloc: Global,
+    set: &TimingSet,
+    n: PatternNo,
+    pattern: &Pattern,
+    ticks: &mut u64,
+    found: &mut Vec<Violation>,
+) -> Result<(), NoMemory>
+    ensures ticks { RisesAtMost (sequence_entries set.now pattern.now.seq) ticks.old ticks.new }
+    ensures found { OnOk result (found.new.items ≡ found.old.items ++ broken (Subject.Pattern n) (lane_findings set.now pattern.now)) }
+{
+    let rings = pattern::used_rings(alloc, set)?;
+    let fill = lanes::rings_fill(set, pattern, &rings);
+    report(fill, Subject::Pattern(n), Rule::V12, found)?;
+    if fill {
+        let agree = lanes::rings_agree(alloc, set, pattern, &rings, ticks)?;
+        report(agree, Subject::Pattern(n), Rule::V13, found)?;
+    }
+    Ok(())
+}

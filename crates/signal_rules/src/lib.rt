@@ -1,0 +1,26 @@
+//! The rules V1 to V13 of a timing set: which of them a set breaks, and which subjects a change touches.
+//!
+//! The objects are those of NTCIP 1202 v03, and the kinds of interval limits are after MUTCD 2009,
+//! part 4, sections 4D.26 and 4E.06; the numbers are this project's. `specs/` has the definitions,
+//! a file for each kind of subject.
+#![tactic(auto)]
+
+mod counting;
+mod judging;
+mod lanes;
+mod lookup;
+mod pattern;
+mod phase;
+mod reach;
+mod sequence;
+mod split;
+mod subjects;
+mod violation;
+
+pub use counting::{Judge, Tally, violations_touched};
+pub use judging::violations;
+pub use reach::touched;
+pub use violation::{Rule, Subject, Violation};
+
+#[cfg(test)]
+mod tests;
