@@ -6,3 +6,4 @@ mod WriteLemmas
 mod ContentLemmas
 mod PutLemmas
 mod VersionLemmas
+mod BlankLemmas

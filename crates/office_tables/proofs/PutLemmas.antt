@@ -1,40 +1,35 @@
 -- What the statements that put a row make of the tables.
 use Rattle.std.proofs.Common.{◌≡◌, ◌≢◌, ◌⊎◌, inl, inr, ℕ, ℤ, ◌==◌, List, [], ◌∷◌, slice_get, cond, Bool, true, false, not, ◌||◌, Option, None, Some, Ok, pos, refl, sym, ap, subst, ◌∙◌, true≢false, eq-eqb}
-use Rattle.std.proofs.lemmas.Bool.{cases_Bool, and_parts, eqb-true, false_from_ne_true}
+use Rattle.std.proofs.lemmas.Bool.{cases_Bool, eqb-true}
 use Rattle.std.specs.List.{AllByRecursion}
 use Rattle.sqlite.specs.declared.types.Value.{Value}
 use Rattle.sqlite.specs.declared.types.Value.TheVariants.{Null, Int, Text}
-use Rattle.sqlite.specs.Values.{or_null, bound_value}
-use Rattle.sqlite.specs.Order.{Row, column, value_cmp}
-use Rattle.sqlite.specs.Cast.{cast, cast_row, cast_all}
+use Rattle.sqlite.specs.Values.{bound_value}
+use Rattle.sqlite.specs.Order.{Row}
+use Rattle.sqlite.specs.Cast.{cast, cast_row}
 use Rattle.sqlite.specs.Kind.TheVariants as kind
-use Rattle.sqlite.specs.Collation.TheVariants.{Binary}
 use Rattle.sqlite.specs.Command.TheVariants.{InsertOr}
 use Rattle.sqlite.specs.Source.{Source}
-use Rattle.sqlite.specs.Ops.{unary, binary, is_null, is_true, from_truth}
+use Rattle.sqlite.specs.Ops.{unary}
 use Rattle.sqlite.specs.Does.{Tally, Does, AtPlace, OnRows}
 use Rattle.sqlite.specs.Rows.{Written, InsertsOr, Sourced, mended, stamped}
 use Rattle.sqlite.specs.Rowids.TheVariants.{Chosen}
 use Rattle.sqlite.specs.Effect.{Database}
-use Rattle.sqlite.specs.Edit.{with_rowid, without_all, is_taken, next_rowid}
+use Rattle.sqlite.specs.Edit.{with_rowid, without_all, is_taken}
 use Rattle.sqlite.specs.State.{State, Runs, mode_of}
 use Rattle.sqlite.specs.Table.{Table}
-use Rattle.sqlite.specs.Tree.{Trees, rowid, has_rowid, put_row, without_rowid}
+use Rattle.sqlite.specs.Tree.{Trees, has_rowid, put_row, without_rowid}
 use Rattle.sqlite.specs.View.{IsShaped}
 use Rattle.sqlite.specs.Listing.{understood}
 use Rattle.sqlite_schema.specs.declared.command.Conflict.TheVariants.{Replace}
 use Rattle.sqlite_schema.specs.declared.schema.Keys.TheVariants.{Enforced}
-use Rattle.sqlite_schema.specs.Rules.{agree, equal}
+use Rattle.sqlite_schema.specs.Rules.{agree}
 use Rattle.sqlite_trees.specs.declared.store.Shape.TheVariants as shape
 use Rattle.sqlite_trees.proofs.ListLemmas.{all_both}
 use Rattle.sqlite_trees.proofs.TreeLemmas.{IsShaped-filter, IsShaped-put_row}
-use Rattle.sqlite_value.specs.Keys.{plain, first_key}
-use Rattle.std.specs.Ordering.{is_eq}
+use Rattle.sqlite_value.specs.Keys.{plain}
 use Rattle.sqlite_rules.specs.Calls.{ids_of}
 use Rattle.sqlite_rules.specs.Keys.{conflicts}
-use Rattle.sqlite_rules.specs.Lists.{Has}
-use Rattle.sqlite_rules.proofs.ListLemmas.{some_from}
-use Rattle.sqlite_rules.proofs.PlaceLemmas.{next_is_free}
 use Rattle.office_tables.specs.Schema.{office_schema, intersection_table, version_table}
 use Rattle.office_tables.specs.Calls.{IsReady, Ran, statement_of}
 use Rattle.office_tables.specs.Layout as layout
@@ -42,7 +37,7 @@ use Rattle.office_tables.specs.Layout.{Layout}
 use Rattle.std.specs.FinMap.{get, insert, get-insert}
 use Rattle.draft_core.specs.declared.state.Holder.{Holder}
 use Rattle.office_tables_shelf.specs.declared.rows.IntersectionRow.{IntersectionRow}
-use Rattle.office_tables_shelf.specs.Cells.{Cell, number, text, cells_cmp}
+use Rattle.office_tables_shelf.specs.Cells.{Cell, number, text}
 use Rattle.office_tables_shelf.specs.Rows.{state_number, owner_cell, intersection_key, intersection_columns}
 use Rattle.office_tables_shelf.proofs.CellLemmas.{cells_total}
 use Rattle.office_tables.specs.Stored.{cell_of, owner_value, cells_at, rows_in, rows_of, are_sound, content_now}

@@ -1,6 +1,5 @@
 -- The queries of all rows of a table.
-use Rattle.std.proofs.Common.{◌≡◌, Bor, ℕ, List, [], ◌∷◌, map, filter, length, codes, Some, None, pos, refl, sym, ap, subst, ◌∙◌, arith, option_map, true}
-use Rattle.std.specs.List.Sorted.{IsPermutation}
+use Rattle.std.proofs.Common.{◌≡◌, Bor, ℕ, List, [], ◌∷◌, filter, length, codes, refl, sym, ap, subst, ◌∙◌, arith}
 use Rattle.std.proofs.lemmas.List.Sorted.{length_permutation}
 use Rattle.std.proofs.lemmas.List.{length-map}
 use Rattle.sqlite.specs.Command.{Command}
@@ -17,7 +16,7 @@ use Rattle.office_tables.specs.Layout as layout
 use Rattle.office_tables_shelf.specs.Content.{no_content}
 use Rattle.office_tables.specs.Stored.{rows_in, content_of}
 use Rattle.sqlite.specs.Tree.{Trees}
-use Rattle.office_tables.specs.Version.{AreEmpty, rows_query, ListsRows}
+use Rattle.office_tables.specs.Version.{AreEmpty, ListsRows}
 use Rattle.office_tables.specs.Calls.{IsQuery, Reads}
 use Rattle.office_tables.proofs.QueryLemmas.{answers}
 

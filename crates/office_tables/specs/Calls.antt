@@ -6,10 +6,12 @@ use Rattle.sqlite.specs.Command.TheVariants.{Nothing}
 use Rattle.sqlite.specs.Tree.{Trees}
 use Rattle.sqlite.specs.View.{IsShaped}
 use Rattle.sqlite_trees.specs.declared.store.Shape.TheVariants as shape
+use Rattle.sqlite_trees.specs.declared.store.Store.{Ghosts}
 use Rattle.sqlite.specs.Order.{Row}
 use Rattle.sqlite.specs.Effect as effect
 use Rattle.sqlite.specs.Effect.{Database}
 use Rattle.sqlite.specs.Given.{IsPlain}
+use Rattle.sqlite.specs.Held.{Held, state}
 use Rattle.sqlite.specs.Listing.{understood, reads_listing}
 use Rattle.sqlite.specs.State.{State, HasCleanDisk, Runs, text_of}
 use Rattle.sqlite_resolve.specs.declared.compiled.Compiled.{Compiled}
@@ -19,6 +21,10 @@ use Rattle.office_tables.specs.Schema.{office_schema}
 -- The disk has returned what was written, and no failure of it has shut the database.
 abbrev pub IsHonest : State → Type 0
 IsHonest s = HasCleanDisk s × IsTrue s.is_open
+
+-- no disk fails under any connection, as over memory
+abbrev pub IsAlwaysHonest : {S : Type 0} → Ghosts S → Type 0
+IsAlwaysHonest {S} g = (h : Held S) → IsHonest (state g h)
 
 -- each table's rows rise by their rowids
 abbrev pub AreOrdered : Trees → Type 0

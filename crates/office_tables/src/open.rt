@@ -1,11 +1,13 @@
 //! Opening the tables of the office.
 
-ghost use Rattle.std.specs.Prelude.{◌≡◌, ◌≢◌, ◌≤◌, true, false, Err, None, Some, IfOk, IfErr, IfSome, OnOk};
+ghost use Rattle.std.specs.Prelude.{◌≡◌, ◌≢◌, ◌≤◌, true, false, Err, None, Some, IsTrue, IfOk, IfErr, IfSome, OnOk};
 ghost use Rattle.std.specs.List.{AllByRecursion};
 ghost use Rattle.sqlite.specs.View.{IsShaped};
 ghost use Rattle.sqlite.specs.State.{HasCleanDisk, IsLive, Opens, Survives};
 ghost use Rattle.sqlite.specs.Held.{state};
 ghost use Rattle.sqlite_trees.specs.View.{doubt};
+ghost use Rattle.sqlite_trees.specs.Objects.{catalog_tree};
+ghost use Rattle.sqlite_catalog.specs.Listing.{AreListed};
 ghost use Rattle.office_tables.specs.Schema.{no_schema};
 ghost use Rattle.office_tables.specs.Stored.{content_now, content_of};
 ghost use Rattle.office_tables.specs.Calls.{IsHonest, IsOffice};
@@ -47,20 +49,22 @@ impl From<SqlFault> for OpenFault {
 }
 
 /// The same database, whose tables were checked again: the rowids of each table rise.
-fn checked<S: Alter + Drop>(alloc: Global, conn: Connection<S>) -> Option<Connection<S>>
-    ensures autocommit { IfSome result (λ c. (state S.Store c).in_transaction ≡ false) }
-    ensures clean { IfSome result (λ c. doubt (state S.Store conn).is_clean ≤ doubt (state S.Store c).is_clean) }
-    ensures opens { IfSome result (λ c. HasCleanDisk (state S.Store c) → Opens (state S.Store c) × IsLive (state S.Store c)) }
-    ensures kept { IfSome result (λ c. HasCleanDisk (state S.Store c) → (state S.Store c).now.trees ≡ (state S.Store conn).committed.trees) }
-    ensures ordered { IfSome result (λ c. HasCleanDisk (state S.Store c) → AllByRecursion (λ t. IsShaped shape.Table ((state S.Store c).now.trees t.tree)) (state S.Store c).now.schema.tables) }
+fn checked<S: Alter + Drop>(alloc: Global, conn: Connection<S>) -> Result<Connection<S>, SqlFault>
+    ensures autocommit { IfOk result (λ c. (state S.Store c).in_transaction ≡ false) }
+    ensures clean { IfOk result (λ c. doubt (state S.Store conn).is_clean ≤ doubt (state S.Store c).is_clean) }
+    ensures opens { IfOk result (λ c. HasCleanDisk (state S.Store c) → Opens (state S.Store c) × IsLive (state S.Store c)) }
+    ensures was_open { IfOk result (λ c. HasCleanDisk (state S.Store c) → IsTrue (state S.Store conn).is_open) }
+    ensures kept { IfOk result (λ c. HasCleanDisk (state S.Store c) → (state S.Store c).now.trees ≡ (state S.Store conn).committed.trees) }
+    ensures blank { IfOk result (λ c. HasCleanDisk (state S.Store c) → AreListed ((state S.Store conn).committed.trees catalog_tree) no_schema → AreEmpty (state S.Store conn).committed.trees) }
+    ensures ordered { IfOk result (λ c. HasCleanDisk (state S.Store c) → AllByRecursion (λ t. IsShaped shape.Table ((state S.Store c).now.trees t.tree)) (state S.Store c).now.schema.tables) }
 {
     let store = conn.into_store();
     if store.is_broken() {
-        return None;
+        return Err(SqlFault::Store);
     }
     match Connection::over(alloc, store) {
-        Ok(conn) => Some(conn),
-        Err(_) => None,
+        Ok(conn) => Ok(conn),
+        Err((error, _)) => Err(SqlFault::from(error)),
     }
 }
 
@@ -134,27 +138,45 @@ pub(crate) fn claim<S: Alter>(conn: &mut Connection<S>, is_new: bool) -> Result<
 /// The same database where its tables are those of the office, which are made where there are none, and whether they were made.
 pub(crate) fn prepared<S: Alter + Drop>(
     alloc: Global,
-    mut conn: Connection<S>,
+    conn: Connection<S>,
 ) -> Result<(Connection<S>, bool), OpenFault>
     ensures office { IfOk result (λ p. IsOffice (state S.Store p.0)) }
     ensures clean { IfOk result (λ p. doubt (state S.Store conn).is_clean ≤ doubt (state S.Store p.0).is_clean) }
     ensures kept { IfOk result (λ p. HasCleanDisk (state S.Store p.0) → p.1 ≡ false → (state S.Store p.0).now.trees ≡ (state S.Store conn).committed.trees) }
-    ensures made { IfOk result (λ p. p.1 ≡ true → (state S.Store conn).now.schema ≡ no_schema) }
-    ensures found { IfOk result (λ p. (state S.Store conn).now.schema ≡ no_schema → p.1 ≡ true) }
+    ensures made { IfOk result (λ p. HasCleanDisk (state S.Store p.0) → p.1 ≡ true → AreEmpty (state S.Store conn).committed.trees) }
+    ensures blank { IfOk result (λ p. (state S.Store conn).now.schema ≡ no_schema → p.1 ≡ true) }
+    ensures not_blank { IfOk result (λ p. p.1 ≡ true → (state S.Store conn).now.schema ≡ no_schema) }
     ensures fault { IfErr result (λ fault. (fault ≢ OpenFault.Version) × (fault ≢ OpenFault.Damaged)) }
 {
     if !conn.is_autocommit() {
         return Err(OpenFault::Store);
     }
     let is_new = is_blank(conn.schema());
+    let found = checked(alloc, conn)?;
     if is_new {
-        make_tables(&mut conn)?;
+        let conn = with_tables(alloc, found)?;
+        return Ok((conn, true));
     }
-    let Some(conn) = checked(alloc, conn) else {
-        return Err(OpenFault::Store);
-    };
-    if !is_office(conn.schema()) {
+    if !is_office(found.schema()) {
         return Err(OpenFault::Store);
     }
-    Ok((conn, is_new))
+    Ok((found, false))
+}
+
+/// The same database with the tables of the office, which had none.
+fn with_tables<S: Alter + Drop>(
+    alloc: Global,
+    mut conn: Connection<S>,
+) -> Result<Connection<S>, OpenFault>
+    requires { (state S.Store conn).in_transaction ≡ false }
+    ensures office { IfOk result (λ c. IsOffice (state S.Store c)) }
+    ensures clean { IfOk result (λ c. doubt (state S.Store conn).is_clean ≤ doubt (state S.Store c).is_clean) }
+    ensures fault { IfErr result (λ fault. (fault ≢ OpenFault.Version) × (fault ≢ OpenFault.Damaged)) }
+{
+    make_tables(&mut conn)?;
+    let found = checked(alloc, conn)?;
+    if !is_office(found.schema()) {
+        return Err(OpenFault::Store);
+    }
+    Ok(found)
 }

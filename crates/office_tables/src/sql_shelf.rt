@@ -1,13 +1,13 @@
 //! The tables in SQL.
 
-ghost use Rattle.std.specs.Prelude.{◌≡◌, ◌≢◌, None, Some, IfSome, IfOk, IfErr};
+ghost use Rattle.std.specs.Prelude.{◌≡◌, ◌≢◌, false, Err, None, Some, IfSome, IfOk, IfErr};
 ghost use Rattle.sqlite.specs.State.{HasCleanDisk};
 ghost use Rattle.sqlite.specs.Held.{state};
 ghost use Rattle.office_tables_shelf.specs.Change.{writes_after};
 ghost use Rattle.office_tables_shelf.specs.Content.{no_content};
 ghost use Rattle.office_tables_shelf.specs.MapShelf.{no_writes};
 ghost use Rattle.office_tables.specs.Stored.{content_now, content_of};
-ghost use Rattle.office_tables.specs.Calls.{IsHonest};
+ghost use Rattle.office_tables.specs.Calls.{IsAlwaysHonest, IsHonest};
 ghost use Rattle.office_tables.specs.Schema.{no_schema};
 ghost use Rattle.office_tables.specs.Version.{HasRow, version_in, first_version};
 
@@ -48,11 +48,13 @@ impl<S: Alter> SqlShelf<S> {
     where
         S: Drop,
         ensures honest { IfOk result (λ shelf. IsHonest (state S.Store shelf.conn) → HasCleanDisk (state S.Store conn)) }
-        ensures kept { IfOk result (λ shelf. IsHonest (state S.Store shelf.conn) → (state S.Store conn).now.schema ≢ no_schema → content_now (state S.Store shelf.conn) ≡ content_of (state S.Store conn).committed.trees) }
+        ensures kept { IfOk result (λ shelf. IsHonest (state S.Store shelf.conn) → content_now (state S.Store shelf.conn) ≡ content_of (state S.Store conn).committed.trees) }
         ensures made { IfOk result (λ shelf. IsHonest (state S.Store shelf.conn) → (state S.Store conn).now.schema ≡ no_schema → content_now (state S.Store shelf.conn) ≡ no_content) }
-        ensures version { IfOk result (λ shelf. IsHonest (state S.Store shelf.conn) → version_in (state S.Store shelf.conn).now.trees ≡ Some first_version) }
+        ensures stored { IfOk result (λ shelf. IsHonest (state S.Store shelf.conn) → version_in (state S.Store shelf.conn).now.trees ≡ Some first_version) }
         ensures no_writes { IfOk result (λ shelf. shelf.counts ≡ no_writes) }
         ensures crash { IfOk result (λ shelf. IsHonest (state S.Store shelf.conn) → (trees : _) → (state S.Store shelf.conn).may_leave trees → content_of trees ≡ content_now (state S.Store shelf.conn)) }
+        ensures version { IsAlwaysHonest S.Store → result ≡ Err OpenFault.Version → (version_in (state S.Store conn).committed.trees ≢ None) × (version_in (state S.Store conn).committed.trees ≢ Some first_version) }
+        ensures damaged { IsAlwaysHonest S.Store → result ≡ Err OpenFault.Damaged → (version_in (state S.Store conn).committed.trees ≡ None) × HasRow (state S.Store conn).committed.trees }
     {
         match SqlShelf::open_returning(alloc, conn) {
             Ok(shelf) => Ok(shelf),
@@ -68,7 +70,7 @@ impl<S: Alter> SqlShelf<S> {
     where
         S: Drop,
         ensures honest { IfOk result (λ shelf. IsHonest (state S.Store shelf.conn) → HasCleanDisk (state S.Store conn)) }
-        ensures kept { IfOk result (λ shelf. IsHonest (state S.Store shelf.conn) → (state S.Store conn).now.schema ≢ no_schema → content_now (state S.Store shelf.conn) ≡ content_of (state S.Store conn).committed.trees) }
+        ensures kept { IfOk result (λ shelf. IsHonest (state S.Store shelf.conn) → content_now (state S.Store shelf.conn) ≡ content_of (state S.Store conn).committed.trees) }
         ensures made { IfOk result (λ shelf. IsHonest (state S.Store shelf.conn) → (state S.Store conn).now.schema ≡ no_schema → content_now (state S.Store shelf.conn) ≡ no_content) }
         ensures stored { IfOk result (λ shelf. IsHonest (state S.Store shelf.conn) → version_in (state S.Store shelf.conn).now.trees ≡ Some first_version) }
         ensures no_writes { IfOk result (λ shelf. shelf.counts ≡ no_writes) }
@@ -91,9 +93,11 @@ impl<S: Alter> SqlShelf<S> {
         }
     }
 
-    /// Gives the connection back, with the rows.
+    /// Gives the connection back with its rows, all of them committed.
     pub fn into_conn(self) -> Connection<S>
-        ensures { result ≡ self.conn }
+        ensures same { result ≡ self.conn }
+        ensures autocommit { (state S.Store result).in_transaction ≡ false }
+        ensures committed { IsHonest (state S.Store result) → (state S.Store result).committed ≡ (state S.Store self.conn).now }
     {
         let SqlShelf { conn, .. } = self;
         conn

@@ -2,6 +2,7 @@
 #![tactic(auto)]
 
 mod fault;
+mod memory;
 mod plan;
 mod program;
 #[cfg(test)]

@@ -1,12 +1,10 @@
 //! What the program's words ask for, from a source of bytes to its two outputs.
 
 use crate::fault::Fault;
+use crate::memory::serve_new_office;
 use crate::plan::violations_in;
-use office_desk::office::Office;
 use office_files::violation_text;
-use office_http::{Sink, Source, serve, write_all};
-use office_tables::sql_shelf::SqlShelf;
-use sqlite::Connection;
+use office_http::{Sink, Source, write_all};
 use std::alloc::Global;
 use std::fs;
 use std::io::ErrorKind;
@@ -19,10 +17,7 @@ const HAS_VIOLATIONS: u8 = 3;
 
 /// Answers the requests of the source over tables in memory.
 fn batch<R: Source, W: Sink>(alloc: Global, source: &mut R, out: &mut W) -> Result<u8, Fault> {
-    let conn = Connection::open_in_memory(alloc)?;
-    let shelf = SqlShelf::open(alloc, conn)?;
-    let mut office = Office::new(shelf);
-    serve(alloc, &mut office, source, out, BATCH_LIMIT)?;
+    serve_new_office(alloc, source, out, BATCH_LIMIT)??;
     Ok(0)
 }
 

@@ -1,7 +1,6 @@
 use Rattle.std.proofs.Common.{◌≡◌, ◌∙◌, ap, sym, subst, length, true≢false}
 use Rattle.std.specs.Prelude.{◌==◌}
 use Rattle.office_tables_shelf.specs.Change.{changed_by}
-use Rattle.office_tables_shelf.specs.Content.{Content}
 use Rattle.office_desk.specs.Answers.{AnswersAny}
 use Rattle.office_http.proofs.MachineLemmas.{answers_asked, none_of}
 use Rattle.office_http.proofs.machine.answer_asked.Goals as goal

@@ -1,9 +1,8 @@
-use Rattle.std.proofs.Common.{◌≡◌, Option, None, Some, Err, IfSome, rules, arith, ap, sym, ◌∙◌, ◌<◌, length}
+use Rattle.std.proofs.Common.{◌≡◌, Option, None, Some, IfSome, rules, arith, ◌<◌, length}
 use Rattle.sqlite.specs.Order.{column}
 use Rattle.signal_records.specs.Words.{AreWords}
 use Rattle.draft_core.specs.declared.state.Holder.{Holder}
 use Rattle.office_tables_shelf.specs.Rows.{owner_cell}
-use Rattle.office_tables_shelf.specs.declared.shelf.ShelfFault.TheVariants.{Damaged}
 use Rattle.office_tables.specs.Stored.{cell_of}
 use Rattle.office_tables.proofs.intersection.holder_of.Goals as goal
 

@@ -1,10 +1,8 @@
 use Rattle.std.proofs.Common.{pos, ◌∷◌, [], subst}
 use Rattle.sqlite.specs.declared.types.Value.TheVariants.{Int, Text}
-use Rattle.sqlite.specs.Values.{bound_value}
 use Rattle.sqlite.specs.Held.{state}
 use Rattle.office_tables_shelf.specs.Rows.{state_number}
 use Rattle.office_tables.specs.Calls.{Ran}
-use Rattle.office_tables.specs.Stored.{owner_value}
 use Rattle.office_tables.proofs.SchemaLemmas.{put_intersection_text, put_intersection_is}
 use Rattle.office_tables.proofs.PutLemmas.{put_intersection, stored_columns, bound_owner}
 use Rattle.office_tables.proofs.intersection.put.Goals as goal
