@@ -1,0 +1,4 @@
+pub mod Transaction
+pub mod DraftRows
+pub mod Moves
+pub mod Writes

@@ -1,4 +1,12 @@
 pub mod Rows
+pub mod EmptySet
 pub mod Stands
+pub mod NewIntersection
+pub mod ReadBack
+pub mod Moved
+pub mod Keeps
+pub mod Transactions
+pub mod TimingLaw
 pub mod Runs
-pub mod Steps
+pub mod Shown
+pub mod Writes

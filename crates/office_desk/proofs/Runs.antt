@@ -7,18 +7,19 @@ use Rattle.office_tables_shelf.specs.Content.{Content}
 use Rattle.office_tables_shelf.specs.declared.rows.RowChange.{RowChange}
 use Rattle.office_tables_shelf.specs.declared.shelf.ShelfFault.{ShelfFault}
 use Rattle.office_tables_shelf.specs.declared.shelf.ShelfFault.TheVariants.{NoMemory, Store, Damaged}
-use Rattle.office_desk.specs.Answers.{AnswersAny, Answers, Decides, RunsAny}
+use Rattle.office_desk.specs.Answers.{AnswersAny, Answers, Decides, RunsAny, RunsTo}
 use Rattle.office_desk.specs.Damage.{MeetsDamage}
 use Rattle.office_desk.specs.Decisions.{refusal_of}
 use Rattle.office_desk.specs.Office.{Office}
 use Rattle.office_desk.specs.StandFor.{StandForSound}
 use Rattle.office_desk.specs.Step.{Step, Run}
 use Rattle.office_desk.specs.declared.command.Command.{Command}
-use Rattle.office_desk.specs.declared.command.Command.TheVariants.{AddIntersection, State}
+use Rattle.office_desk.specs.declared.command.Command.TheVariants as command
 use Rattle.office_desk.specs.declared.refusal.Refusal.TheVariants.{Unavailable}
 use Rattle.office_desk.specs.declared.reply.Reply.{Reply}
 use Rattle.office_desk.specs.declared.reply.Reply.TheVariants.{Refused}
-use Rattle.office_desk.proofs.Stands.{no_damaged_row}
+use Rattle.office_desk.proofs.Stands.{no_damage}
+use Rattle.office_desk.proofs.TimingLaw.{runs_timing}
 
 -- ---- a decision
 
@@ -37,8 +38,17 @@ reply_answers tables command reply told changes answers r e office stands =
     subst (λ list. Answers office command told (changed_by tables list)) (sym e) (subst (λ a. Answers office command a tables) (sym r) (answers office stands))
 
 damage_refuted : (tables : Content) (command : Command) → MeetsDamage tables command → (office : Office) → StandForSound tables office → ⊥
-damage_refuted tables (AddIntersection id interval name) damage = no_damaged_row tables id damage
-damage_refuted tables (State id) damage = no_damaged_row tables id damage
+damage_refuted tables (command.AddIntersection id interval name) damage = no_damage tables id (inl damage)
+damage_refuted tables (command.Begin id clerk) damage = no_damage tables id damage
+damage_refuted tables (command.Edit id clerk changes) damage = no_damage tables id damage
+damage_refuted tables (command.Verify id clerk) damage = no_damage tables id damage
+damage_refuted tables (command.Check id clerk) damage = no_damage tables id damage
+damage_refuted tables (command.Commit id clerk) damage = no_damage tables id damage
+damage_refuted tables (command.Reopen id clerk) damage = no_damage tables id damage
+damage_refuted tables (command.Abandon id clerk) damage = no_damage tables id damage
+damage_refuted tables (command.State id) damage = no_damage tables id damage
+damage_refuted tables (command.Timing id) damage = no_damage tables id damage
+damage_refuted tables (command.Draft id) damage = no_damage tables id damage
 
 -- a fault of the shelf, answered as its refusal
 pub fault_answers : (tables : Content) (command : Command) (fault : ShelfFault) (reply : Reply) (changes : List RowChange) → Decides tables command (Err fault) → reply ≡ Refused (refusal_of fault) → changes ≡ [] → AnswersAny tables command reply (changed_by tables changes)
@@ -63,11 +73,20 @@ run-more (c ∷ cs) (r ∷ rs) first mid last command reply run step = (run.0, r
 run-more [] (r ∷ rs) first mid last command reply run step = absurd run
 run-more (c ∷ cs) [] first mid last command reply run step = absurd run
 
+-- the replies of a run, and what runs after it
+runs_to : (office last : Office) (commands : List Command) (replies : List Reply) (tables : Content) → Run office commands replies last → StandForSound tables last → RunsTo office commands replies tables
+runs_to office last commands replies tables run stand = record {
+  last = last;
+  run = run;
+  stand = stand;
+  running = λ id. runs_timing id _ commands replies office last run refl;
+}
+
 pub runs_nothing : (tables : Content) → RunsAny tables [] [] tables
-runs_nothing tables office stands = record { last = office; run = refl; stand = stands }
+runs_nothing tables office stands = runs_to office office [] [] tables refl stands
 
 pub runs_more : (first mid last : Content) (commands : List Command) (replies : List Reply) (command : Command) (reply : Reply) → RunsAny first commands replies mid → AnswersAny mid command reply last → RunsAny first (commands ++ command ∷ []) (replies ++ reply ∷ []) last
 runs_more first mid last commands replies command reply runs answers office stands =
     let so_far = runs office stands in
     let now = answers so_far.last so_far.stand in
-    record { last = now.next; run = run-more commands replies office so_far.last now.next command reply so_far.run now.step; stand = now.stand }
+    runs_to office now.next _ _ last (run-more commands replies office so_far.last now.next command reply so_far.run now.step) now.stand

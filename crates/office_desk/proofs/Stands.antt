@@ -1,27 +1,40 @@
--- The tables that stand for an office: what they hold of an intersection, and what a new one makes of them.
-use Rattle.std.proofs.Common.{◌≡◌, ℕ, Option, Some, None, refl, ap, sym, subst, ◌∙◌, cond, true, false, lit≤}
-use Rattle.std.specs.Prelude.{IfSome}
+-- The tables that stand for an office: what they hold of an intersection, that each row is a record, and what a new intersection makes of them.
+use Rattle.std.proofs.Common.{◌≡◌, ℕ, List, Option, Some, None, refl, ap, sym, subst, ◌∙◌, cond, true, false, inl, inr}
+use Rattle.std.specs.Prelude.{IfSome, pos}
 use Rattle.std.specs.Option.{option_map}
-use Rattle.std.specs.FinMap.{get, insert, get-insert}
+use Rattle.std.proofs.Common.{arith}
+use Rattle.std.proofs.lemmas.Bool.Decides.{nat_tests}
+use Rattle.std.specs.FinMap.{get, insert, get-insert, nat_cmp-IsAntisymmetric}
 use Rattle.std.specs.Cmp.{nat_cmp_total}
 use Rattle.std.specs.Ordering.{nat_cmp, eq_by_cmp}
+use Rattle.signal_records.specs.Row.{key_of}
+use Rattle.signal_records.specs.Within.{IsRowWithin, current_limits}
+use Rattle.signal_records.specs.Words.{AreWords}
+use Rattle.signal_records.specs.declared.key.Key.{Key}
+use Rattle.signal_records.specs.declared.record.Row.{Row}
+use Rattle.signal_records.specs.declared.record.Change.TheVariants.{Put, Remove}
+use Rattle.draft_core.specs.DraftRows.{RowStands}
+use Rattle.draft_core.specs.Transaction.{Draft, TimingSide, holder_of}
+use Rattle.office_tables_shelf.proofs.CellLemmas.{cell_exact, tied}
 use Rattle.office_tables_shelf.proofs.TreeLemmas.{number_ties}
-use Rattle.office_tables_shelf.specs.Cells.{Rows}
-use Rattle.office_tables_shelf.specs.Change.{changed}
-use Rattle.office_tables_shelf.specs.Content.{Content, no_content}
-use Rattle.office_tables_shelf.specs.Rows.{intersection_key, intersection_columns, IsIntersectionRow}
-use Rattle.office_tables_shelf.specs.Shelf.{ReadsIntersection, HasDamagedIntersection}
+use Rattle.office_tables_shelf.specs.Cells.{Cell, Rows, number}
+use Rattle.office_tables_shelf.specs.Content.{Content}
+use Rattle.office_tables_shelf.specs.Damage.{HasDamagedIntersection, HasDamagedTiming, HasDamagedDraft}
+use Rattle.office_tables_shelf.specs.Rows.{intersection_key, intersection_columns, timing_key, timing_columns, left_columns, IsIntersectionRow}
+use Rattle.office_tables_shelf.specs.Shelf.{ReadsIntersection, is_of}
 use Rattle.office_tables_shelf.specs.declared.rows.IntersectionRow.{IntersectionRow}
-use Rattle.office_tables_shelf.specs.declared.rows.RowChange.TheVariants.{PutIntersection}
-use Rattle.office_desk.specs.Office.{Office, Intersection, IsSound, IsSoundIntersection}
-use Rattle.office_desk.specs.StandFor.{StandFor, StandForSound, row_of, columns_of}
+use Rattle.office_desk.specs.Damage.{HasDamage}
+use Rattle.office_desk.specs.Office.{Office, Intersection, IsSound, IsSoundIntersection, IsSoundDraft, AreRecords, side_at, side_of}
+use Rattle.office_desk.specs.StandFor.{StandFor, StandForSound, DraftRowStands, HasTimingKeys, IsLeft, row_of, columns_of}
+use Rattle.office_desk.specs.Step.{with_intersection}
+use Rattle.office_desk.proofs.EmptySet.{no_records}
 use Rattle.office_desk.proofs.Rows.{get_stored, insert_stored, read_from_cells}
 
 -- ---- what is stored of an intersection
 
 stored_at : (tables : Content) (office : Office) (id : ℕ) → StandFor tables office → get tables.intersection (intersection_key id) ≡ option_map columns_of (get office.intersections id)
 stored_at tables office id stand =
-    ap (λ (t : Content). get t.intersection (intersection_key id)) stand
+    ap (λ (rows : Rows). get rows (intersection_key id)) stand.intersection
     ∙ get_stored nat_cmp_total intersection_key columns_of number_ties office.intersections id
 
 through_row : (i : Option Intersection) → option_map columns_of i ≡ option_map intersection_columns (option_map row_of i)
@@ -32,17 +45,30 @@ through_row (Some i) = refl
 pub row_read : (tables : Content) (office : Office) (id : ℕ) (row : Option IntersectionRow) → StandFor tables office → ReadsIntersection tables id row → row ≡ option_map row_of (get office.intersections id)
 row_read tables office id row stand reads = read_from_cells _ _ (sym reads ∙ stored_at tables office id stand ∙ through_row (get office.intersections id))
 
+-- ---- each row is a record
+
+-- the rows of a sound office's committed sets are records
+pub records_at : (office : Office) (id : ℕ) → IsSound office → AreRecords (side_at office id).committed
+records_at office id sound = go (get office.intersections id) (sound id)
+  where
+    go : (i : Option Intersection) → IfSome i IsSoundIntersection → AreRecords (side_of i).committed
+    go None here = no_records
+    go (Some i) here = here.rows
+
+owner_of : (draft : Option Draft) → IfSome draft IsSoundDraft → IfSome (option_map holder_of draft) (λ holder. AreWords 40 holder.owner)
+owner_of None sound = tt
+owner_of (Some draft) sound = sound.owner
+
 sound_row : (i : Intersection) → IsSoundIntersection i → IsIntersectionRow (row_of i)
 sound_row i sound = record {
   name = sound.name;
   interval_low = sound.interval_low;
   interval_high = sound.interval_high;
-  revision = lit≤ tt;
-  owner = tt;
+  revision = sound.revision;
+  owner = owner_of i.timing.draft sound.draft;
 }
 
--- where the tables stand for a sound office, each row is a record
-pub no_damaged_row : (tables : Content) (id : ℕ) → HasDamagedIntersection tables id → (office : Office) → StandForSound tables office → ⊥
+no_damaged_row : (tables : Content) (id : ℕ) → HasDamagedIntersection tables id → (office : Office) → StandForSound tables office → ⊥
 no_damaged_row tables id damaged office stands =
     go (get office.intersections id) (sym damaged.stored ∙ stored_at tables office id stands.stand) (stands.sound id)
   where
@@ -52,16 +78,142 @@ no_damaged_row tables id damaged office stands =
         let same : damaged.columns ≡ columns_of i = cc in
         damaged.no_row (row_of i) (sound_row i sound) same
 
--- ---- a new intersection
+-- a timing key that begins with the number of an intersection is one of its keys
+own_key : (id other : ℕ) (key : Key) (cells : List Cell) → is_of id cells ≡ true → cells ≡ timing_key other key → cells ≡ timing_key id key
+own_key id other key cells of is =
+    let begins : is_of id (timing_key other key) ≡ true = ap (is_of id) (sym is) ∙ of in
+    let numbers : number (pos id) ≡ number (pos other) = cell_exact _ _ (tied _ begins) in
+    let same : id ≡ other = cc in
+    is ∙ ap (λ n. timing_key n key) (sym same)
 
--- the office with one more intersection, or with another in its place
-abbrev pub with_intersection : Office → ℕ → Intersection → Office
-with_intersection office id i = record office { intersections = insert office.intersections id i }
+no_damaged_timing : (tables : Content) (id : ℕ) → HasDamagedTiming tables id → (office : Office) → StandForSound tables office → ⊥
+no_damaged_timing tables id damaged office stands =
+    let keyed = stands.stand.timing_keys damaged.key damaged.columns damaged.stored in
+    let here : damaged.key ≡ timing_key id keyed.1 = own_key id keyed.0 keyed.1 damaged.key damaged.of keyed.2 in
+    go keyed.1 here (get (side_at office id).committed keyed.1)
+    (sym damaged.stored ∙ ap (get tables.timing) here ∙ stands.stand.timing id keyed.1) (records_at office id stands.sound keyed.1)
+  where
+    go : (key : Key) → damaged.key ≡ timing_key id key → (row : Option Row) → Some damaged.columns ≡ option_map timing_columns row
+        → IfSome row (λ row. IsRowWithin current_limits row × (key_of row ≡ key)) → ⊥
+    go key here None is within = cc
+    go key here (Some row) is within =
+        let same : damaged.columns ≡ timing_columns row = cc in
+        damaged.no_row row within.0 (here ∙ ap (timing_key id) (sym within.1)) same
 
-pub stand_with : (tables : Content) (office : Office) (id : ℕ) (i : Intersection) → StandFor tables office → StandFor (changed tables (PutIntersection id (row_of i))) (with_intersection office id i)
-stand_with tables office id i stand =
-    ap (λ (t : Content). changed t (PutIntersection id (row_of i))) stand
-    ∙ ap (λ (rows : Rows). record no_content { intersection = rows }) (sym (insert_stored nat_cmp_total intersection_key columns_of number_ties office.intersections id i))
+no_damaged_draft : (tables : Content) (id : ℕ) → HasDamagedDraft tables id → (office : Office) → StandForSound tables office → ⊥
+no_damaged_draft tables id damaged office stands =
+    let keyed = stands.stand.draft_keys damaged.key damaged.columns damaged.stored in
+    let here : damaged.key ≡ timing_key id keyed.1 = own_key id keyed.0 keyed.1 damaged.key damaged.of keyed.2 in
+    let held = stands.stand.draft id keyed.1 in
+    go keyed.1 here held.row (sym damaged.stored ∙ ap (get tables.draft) here ∙ held.stored) held.within
+  where
+    go : (key : Key) → damaged.key ≡ timing_key id key → (row : Option (Option Row)) → Some damaged.columns ≡ option_map left_columns row → IfSome row (IsLeft key) → ⊥
+    go key here None is within = cc
+    go key here (Some None) is within =
+        let same : damaged.columns ≡ left_columns None = cc in
+        damaged.no_row (Remove key) within here same
+    go key here (Some (Some row)) is within =
+        let same : damaged.columns ≡ left_columns (Some row) = cc in
+        damaged.no_row (Put row) within.0 (here ∙ ap (timing_key id) (sym within.1)) same
+
+-- where the tables stand for a sound office, each row of an intersection is a record
+pub no_damage : (tables : Content) (id : ℕ) → HasDamage tables id → (office : Office) → StandForSound tables office → ⊥
+no_damage tables id (inl row) = no_damaged_row tables id row
+no_damage tables id (inr (inl timing)) = no_damaged_timing tables id timing
+no_damage tables id (inr (inr draft)) = no_damaged_draft tables id draft
+
+-- ---- another timing side of an intersection
+
+tied_numbers : (q id : ℕ) → eq_by_cmp nat_cmp q id ≡ true → q ≡ id
+tied_numbers q id h = nat_cmp-IsAntisymmetric q id (tied _ h)
+
+apart : (q id : ℕ) → eq_by_cmp nat_cmp q id ≡ false → q ≡ id → ⊥
+apart q id h e = grind (arith, nat_tests)
+
+-- whether two numbers are one
+pub data Compared (q id : ℕ) : Type 0 where
+  one : q ≡ id → eq_by_cmp nat_cmp q id ≡ true → Compared q id
+  two : (q ≡ id → ⊥) → eq_by_cmp nat_cmp q id ≡ false → Compared q id
+
+pub compared : (q id : ℕ) → Compared q id
+compared q id = elim (eq_by_cmp nat_cmp q id) as (λ b. eq_by_cmp nat_cmp q id ≡ b → Compared q id) [
+  | true ↦ λ h. one (tied_numbers q id h) h
+  | false ↦ λ h. two (apart q id h) h
+] refl
+
+side_here : (office : Office) (id q : ℕ) (i : Intersection) → eq_by_cmp nat_cmp q id ≡ true → side_at (with_intersection office id i) q ≡ i.timing
+side_here office id q i b = ap side_of (get-insert nat_cmp_total office.intersections id i q ∙ ap (λ b. cond b (Some i) (get office.intersections q)) b)
+
+side_elsewhere : (office : Office) (id q : ℕ) (i : Intersection) → eq_by_cmp nat_cmp q id ≡ false → side_at (with_intersection office id i) q ≡ side_at office q
+side_elsewhere office id q i b = ap side_of (get-insert nat_cmp_total office.intersections id i q ∙ ap (λ b. cond b (Some i) (get office.intersections q)) b)
+
+-- the draft row at a key, of a timing side
+pub record RowOf (tables : Content) (side : TimingSide) (id : ℕ) (key : Key) : Type 0 where
+  pub row : Option (Option Row)
+  pub stored : get tables.draft (timing_key id key) ≡ option_map left_columns row
+  pub stands : RowStands (get side.committed key) row side.draft key
+  pub within : IfSome row (IsLeft key)
+
+row_at_side : (tables : Content) (office : Office) (id : ℕ) (key : Key) (side : TimingSide) → side_at office id ≡ side → RowOf tables side id key → DraftRowStands tables office id key
+row_at_side tables office id key side same h = record {
+  row = h.row;
+  stored = h.stored;
+  stands = subst (λ (s : TimingSide). RowStands (get s.committed key) h.row s.draft key) (sym same) h.stands;
+  within = h.within;
+}
+
+-- tables that differ in the rows of one intersection
+pub record DiffersAt (old new : Content) (id : ℕ) (i : Intersection) : Type 0 where
+  pub intersection : new.intersection ≡ insert old.intersection (intersection_key id) (columns_of i)
+  pub timing_here : (key : Key) → get new.timing (timing_key id key) ≡ option_map timing_columns (get i.timing.committed key)
+  pub timing_elsewhere : (q : ℕ) → (q ≡ id → ⊥) → (key : Key) → get new.timing (timing_key q key) ≡ get old.timing (timing_key q key)
+  pub timing_keys : HasTimingKeys new.timing
+  pub draft_here : (key : Key) → RowOf new i.timing id key
+  pub draft_elsewhere : (q : ℕ) → (q ≡ id → ⊥) → (key : Key) → get new.draft (timing_key q key) ≡ get old.draft (timing_key q key)
+  pub draft_keys : HasTimingKeys new.draft
+  pub inspection : new.inspection ≡ old.inspection
+  pub work_order : new.work_order ≡ old.work_order
+  pub part : new.part ≡ old.part
+  pub delivery : new.delivery ≡ old.delivery
+  pub used_part : new.used_part ≡ old.used_part
+
+timing_at : (old new : Content) (office : Office) (id : ℕ) (i : Intersection) → StandFor old office → DiffersAt old new id i
+    → (q : ℕ) (key : Key) → get new.timing (timing_key q key) ≡ option_map timing_columns (get (side_at (with_intersection office id i) q).committed key)
+timing_at old new office id i stand new_rows q key = elim (compared q id) [
+  | one e b ↦ ap (λ n. get new.timing (timing_key n key)) e ∙ new_rows.timing_here key ∙ ap (λ (s : TimingSide). option_map timing_columns (get s.committed key)) (sym (side_here office id q i b))
+  | two e b ↦ new_rows.timing_elsewhere q e key ∙ stand.timing q key ∙ ap (λ (s : TimingSide). option_map timing_columns (get s.committed key)) (sym (side_elsewhere office id q i b))
+]
+
+draft_at : (old new : Content) (office : Office) (id : ℕ) (i : Intersection) → StandFor old office → DiffersAt old new id i
+    → (q : ℕ) (key : Key) → DraftRowStands new (with_intersection office id i) q key
+draft_at old new office id i stand new_rows q key = elim (compared q id) [
+  | one e b ↦ row_at_side new (with_intersection office id i) q key i.timing (side_here office id q i b) (subst (λ n. RowOf new i.timing n key) (sym e) (new_rows.draft_here key))
+  | two e b ↦
+      let held = stand.draft q key in
+      row_at_side new (with_intersection office id i) q key (side_at office q) (side_elsewhere office id q i b) (record {
+        row = held.row;
+        stored = new_rows.draft_elsewhere q e key ∙ held.stored;
+        stands = held.stands;
+        within = held.within;
+      })
+]
+
+-- they stand for the office with that intersection
+pub stand_after : (old new : Content) (office : Office) (id : ℕ) (i : Intersection) → StandFor old office → DiffersAt old new id i → StandFor new (with_intersection office id i)
+stand_after old new office id i stand new_rows = record {
+  intersection = new_rows.intersection
+      ∙ ap (λ (rows : Rows). insert rows (intersection_key id) (columns_of i)) stand.intersection
+      ∙ sym (insert_stored nat_cmp_total intersection_key columns_of number_ties office.intersections id i);
+  timing = timing_at old new office id i stand new_rows;
+  timing_keys = new_rows.timing_keys;
+  draft = draft_at old new office id i stand new_rows;
+  draft_keys = new_rows.draft_keys;
+  inspection = new_rows.inspection ∙ stand.inspection;
+  work_order = new_rows.work_order ∙ stand.work_order;
+  part = new_rows.part ∙ stand.part;
+  delivery = new_rows.delivery ∙ stand.delivery;
+  used_part = new_rows.used_part ∙ stand.used_part;
+}
 
 pub sound_with : (office : Office) (id : ℕ) (i : Intersection) → IsSound office → IsSoundIntersection i → IsSound (with_intersection office id i)
 sound_with office id i sound here q = subst (λ o. IfSome o IsSoundIntersection) (sym (get-insert nat_cmp_total office.intersections id i q)) (go (eq_by_cmp nat_cmp q id))

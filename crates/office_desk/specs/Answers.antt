@@ -1,5 +1,5 @@
 -- What it means that a command was answered rightly, on tables that stand for an office.
-use Rattle.std.specs.Prelude.{List, Result, Ok, Err}
+use Rattle.std.specs.Prelude.{◌≡◌, ℕ, List, Result, Ok, Err}
 use Rattle.office_tables_shelf.specs.Content.{Content}
 use Rattle.office_tables_shelf.specs.Change.{changed_by}
 use Rattle.office_tables_shelf.specs.declared.shelf.ShelfFault.{ShelfFault}
@@ -8,8 +8,9 @@ use Rattle.office_desk.specs.declared.command.Command.{Command}
 use Rattle.office_desk.specs.declared.decided.Decided.{Decided}
 use Rattle.office_desk.specs.declared.reply.Reply.{Reply}
 use Rattle.office_desk.specs.Damage.{MeetsDamage}
-use Rattle.office_desk.specs.Office.{Office}
+use Rattle.office_desk.specs.Office.{Office, side_at}
 use Rattle.office_desk.specs.Step.{Step, Run}
+use Rattle.office_desk.specs.Timing.{running}
 use Rattle.office_desk.specs.StandFor.{StandForSound}
 
 -- From an office, the reply is that of a step, and the tables stand for a sound office after it.
@@ -29,11 +30,13 @@ Decides tables command (Err Damaged) = MeetsDamage tables command
 Decides tables command (Err NoMemory) = Unit {0}
 Decides tables command (Err Store) = Unit {0}
 
--- From an office, the replies are those of a run, and the tables stand for a sound office after it.
+-- From an office, the replies are those of a run, the tables stand for a sound office after it, and each committed set is the draft
+-- as it stood just before its last accepted commit, or what it was at the start (empty where there was no intersection).
 pub record RunsTo (office : Office) (commands : List Command) (replies : List Reply) (tables : Content) : Type 0 where
   pub last : Office
   pub run : Run office commands replies last
   pub stand : StandForSound tables last
+  pub running : (id : ℕ) → (side_at last id).committed ≡ running id (side_at office id).committed office commands replies last run
 
 -- Whichever sound office the old tables stand for, the replies and the new tables are a run of it.
 abbrev pub RunsAny : Content → List Command → List Reply → Content → Type 0

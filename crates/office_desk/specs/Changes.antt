@@ -1,28 +1,77 @@
 -- Which rows an answered command changes.
-use Rattle.std.specs.Prelude.{List, [], ◌∷◌}
+use Rattle.std.specs.Prelude.{ℕ, Bool, true, false, ◌+◌, ◌≤◌, List, [], ◌∷◌, length, cond}
+use Rattle.signal_records.specs.declared.record.Change.{Change}
+use Rattle.office_tables_shelf.specs.Change.{table_of}
+use Rattle.office_tables_shelf.specs.Content.{Content}
+use Rattle.office_tables_shelf.specs.Counts.{count_of}
+use Rattle.office_tables_shelf.specs.Shelf.{rows_of}
+use Rattle.office_tables_shelf.specs.declared.counts.WriteCounts.{WriteCounts}
 use Rattle.office_tables_shelf.specs.declared.rows.RowChange.{RowChange}
-use Rattle.office_tables_shelf.specs.declared.rows.RowChange.TheVariants.{PutIntersection}
+use Rattle.office_tables_shelf.specs.declared.rows.Table.{Table}
+use Rattle.office_tables_shelf.specs.declared.rows.Table.TheVariants as table
 use Rattle.office_desk.specs.declared.command.Command.{Command}
-use Rattle.office_desk.specs.declared.command.Command.TheVariants.{AddIntersection, State}
+use Rattle.office_desk.specs.declared.command.Command.TheVariants as command
 use Rattle.office_desk.specs.declared.reply.Reply.{Reply}
-use Rattle.office_desk.specs.declared.reply.Reply.TheVariants.{Added, Same, State as Shown, Refused}
-use Rattle.office_desk.specs.StandFor.{row_of}
+use Rattle.office_desk.specs.declared.reply.Reply.TheVariants.{Added, Same, Moved, State as Shown, Timing as Running, Draft as Drafted, Refused}
 
 abbrev pub IsRefused : Reply → Type 0
 IsRefused Added = ⊥
 IsRefused Same = ⊥
+IsRefused (Moved revision state verdict) = ⊥
 IsRefused (Shown state) = ⊥
+IsRefused (Running timing) = ⊥
+IsRefused (Drafted draft) = ⊥
 IsRefused (Refused refusal) = Unit {0}
 
 -- a query asks, and no more
 abbrev pub IsQuery : Command → Type 0
-IsQuery (AddIntersection id interval name) = ⊥
-IsQuery (State id) = Unit {0}
+IsQuery (command.AddIntersection id interval name) = ⊥
+IsQuery (command.Begin id clerk) = ⊥
+IsQuery (command.Edit id clerk changes) = ⊥
+IsQuery (command.Verify id clerk) = ⊥
+IsQuery (command.Check id clerk) = ⊥
+IsQuery (command.Commit id clerk) = ⊥
+IsQuery (command.Reopen id clerk) = ⊥
+IsQuery (command.Abandon id clerk) = ⊥
+IsQuery (command.State id) = Unit {0}
+IsQuery (command.Timing id) = Unit {0}
+IsQuery (command.Draft id) = Unit {0}
 
--- an intersection that was added has one new row; any other reply leaves the rows
-abbrev pub changes_of : Reply → Command → List RowChange
-changes_of Added (AddIntersection id interval name) = PutIntersection id (row_of (record { name = name; interval = interval })) ∷ []
-changes_of Added (State id) = []
-changes_of Same command = []
-changes_of (Shown state) command = []
-changes_of (Refused refusal) command = []
+-- the most timing rows that a command writes: a commit one for each draft row, any other none
+abbrev pub most_timing_writes : Content → Command → ℕ
+most_timing_writes tables (command.Commit id clerk) = length (rows_of id tables.draft)
+most_timing_writes tables _ = 0
+
+-- the most draft rows that a command writes: an edit one for each change, a commit and an abandon one for each draft row, any other none
+abbrev pub most_draft_writes : Content → Command → ℕ
+most_draft_writes tables (command.Edit id clerk changes) = length changes
+most_draft_writes tables (command.Commit id clerk) = length (rows_of id tables.draft)
+most_draft_writes tables (command.Abandon id clerk) = length (rows_of id tables.draft)
+most_draft_writes tables _ = 0
+
+-- the most rows of each table that a command writes: of an intersection one, of the cabinet none
+abbrev pub most_writes : Content → Command → Table → ℕ
+most_writes tables command table.Intersection = 1
+most_writes tables command table.Timing = most_timing_writes tables command
+most_writes tables command table.Draft = most_draft_writes tables command
+most_writes tables command _ = 0
+
+abbrev pub is_same_table : Table → Table → Bool
+is_same_table table.Intersection table.Intersection = true
+is_same_table table.Timing table.Timing = true
+is_same_table table.Draft table.Draft = true
+is_same_table table.Inspection table.Inspection = true
+is_same_table table.WorkOrder table.WorkOrder = true
+is_same_table table.Part table.Part = true
+is_same_table table.Delivery table.Delivery = true
+is_same_table table.UsedPart table.UsedPart = true
+is_same_table _ _ = false
+
+-- how many of the changes write a table
+abbrev pub writes_in : Table → List RowChange → ℕ
+writes_in table [] = 0
+writes_in table (change ∷ changes) = cond (is_same_table (table_of change) table) 1 0 + writes_in table changes
+
+-- the counts rise at most by the most that the command writes
+abbrev pub RiseAtMost : Content → Command → WriteCounts → WriteCounts → Type 0
+RiseAtMost tables command old new = (table : Table) → count_of new table ≤ count_of old table + most_writes tables command table

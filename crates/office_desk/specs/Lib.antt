@@ -2,7 +2,12 @@ pub mod Refusal
 pub mod Office
 pub mod Step
 pub mod StandFor
+pub mod Timing
 pub mod Answers
 pub mod Changes
 pub mod Damage
+pub mod Adding
+pub mod Reading
+pub mod Moving
+pub mod Transacting
 pub mod Decisions

@@ -1,23 +1,57 @@
 -- What an office is, and when it is sound.
-use Rattle.std.specs.Prelude.{ℕ, ◌≤◌, List, IfSome}
+use Rattle.std.specs.Prelude.{◌≡◌, ℕ, ◌≤◌, List, [], Option, Some, None, IfSome}
 use Rattle.std.specs.Ordering.{nat_cmp}
-use Rattle.std.specs.FinMap.{FinMap, get}
+use Rattle.std.specs.FinMap.{FinMap, get, empty}
+use Rattle.signal_records.specs.Row.{key_of}
+use Rattle.signal_records.specs.TimingSet.{Rows}
+use Rattle.signal_records.specs.Within.{IsRowWithin, current_limits}
 use Rattle.signal_records.specs.Words.{AreWords}
+use Rattle.signal_records.specs.declared.key.Key.{Key}
+use Rattle.signal_rules.specs.Violations.{violations_of}
+use Rattle.draft_core.specs.Transaction.{TimingSide, Draft}
+use Rattle.draft_core.specs.declared.revision.TheConstants.{LAST_REVISION}
 
 -- an intersection of the office
 pub record Intersection : Type 0 where
   pub name : List ℕ
   pub interval : ℕ
+  pub timing : TimingSide
 
 -- an office: its intersections by number
 pub record Office : Type 0 where
   pub intersections : FinMap nat_cmp Intersection
 
--- its name is a name, and its interval is 1 to 3650 days
+-- nothing was committed yet, and nobody holds a draft
+abbrev pub no_timing : TimingSide
+no_timing = record { revision = 0; committed = empty; draft = None }
+
+-- the timing side of an intersection, or of none
+abbrev pub side_of : Option Intersection → TimingSide
+side_of None = no_timing
+side_of (Some i) = i.timing
+
+-- the timing side of the intersection with this number
+abbrev pub side_at : Office → ℕ → TimingSide
+side_at office id = side_of (get office.intersections id)
+
+-- each row is within its limits, and stands under its own key
+abbrev pub AreRecords : Rows → Type 0
+AreRecords set = (key : Key) → IfSome (get set key) (λ row. IsRowWithin current_limits row × (key_of row ≡ key))
+
+-- the owner of a draft is a name, and its rows are records
+pub record IsSoundDraft (draft : Draft) : Type 0 where
+  pub owner : AreWords 40 draft.owner
+  pub rows : AreRecords draft.set
+
+-- its name is a name, its interval is 1 to 3650 days, and its committed set breaks no rule
 pub record IsSoundIntersection (i : Intersection) : Type 0 where
   pub name : AreWords 120 i.name
   pub interval_low : 1 ≤ i.interval
   pub interval_high : i.interval ≤ 3650
+  pub revision : i.timing.revision ≤ LAST_REVISION
+  pub rows : AreRecords i.timing.committed
+  pub no_violations : violations_of i.timing.committed ≡ []
+  pub draft : IfSome i.timing.draft IsSoundDraft
 
 -- each intersection is sound
 abbrev pub IsSound : Office → Type 0

@@ -1,7 +1,7 @@
 -- The table of refusals.
 use Rattle.std.specs.Prelude.{ℕ, List, codes}
 use Rattle.office_desk.specs.declared.refusal.Refusal.{Refusal}
-use Rattle.office_desk.specs.declared.refusal.Refusal.TheVariants.{UnknownIntersection, IntersectionDiffers, Unavailable, Damaged}
+use Rattle.office_desk.specs.declared.refusal.Refusal.TheVariants.{UnknownIntersection, IntersectionDiffers, NotNormal, NotTransaction, NotOwner, NotVerify, NotDone, VerifyFailed, RevisionFull, Unavailable, Damaged}
 
 -- number, name, and status code of an HTTP answer
 pub record Line : Type 0 where
@@ -12,5 +12,12 @@ pub record Line : Type 0 where
 abbrev pub line_of : Refusal → Line
 line_of UnknownIntersection = record { number = 10; name = codes "UnknownIntersection"; status = 404 }
 line_of IntersectionDiffers = record { number = 11; name = codes "IntersectionDiffers"; status = 409 }
+line_of NotNormal = record { number = 12; name = codes "NotNormal"; status = 409 }
+line_of NotTransaction = record { number = 13; name = codes "NotTransaction"; status = 409 }
+line_of NotOwner = record { number = 14; name = codes "NotOwner"; status = 409 }
+line_of NotVerify = record { number = 15; name = codes "NotVerify"; status = 409 }
+line_of NotDone = record { number = 16; name = codes "NotDone"; status = 409 }
+line_of (VerifyFailed count) = record { number = 17; name = codes "VerifyFailed"; status = 409 }
+line_of RevisionFull = record { number = 18; name = codes "RevisionFull"; status = 409 }
 line_of Unavailable = record { number = 90; name = codes "Unavailable"; status = 503 }
 line_of Damaged = record { number = 91; name = codes "Damaged"; status = 500 }

@@ -1,48 +1,104 @@
 -- One step of the office machine, and its runs.
-use Rattle.std.specs.Prelude.{◌≡◌, ◌⊎◌, ℕ, List, [], ◌∷◌, ◌==◌, ◌&&◌, if◌then◌else◌, Option, Some, None}
+use Rattle.std.specs.Prelude.{◌≡◌, ◌⊎◌, ℕ, List, [], ◌∷◌, ◌==◌, ◌&&◌, if◌then◌else◌, Option, Some, None, Result, Ok, Err}
+use Rattle.std.specs.Option.{option_map}
 use Rattle.std.specs.Str.{bytes_eq}
-use Rattle.std.specs.FinMap.{get, insert}
-use Rattle.draft_core.specs.declared.state.DbState.TheVariants.{Normal}
-use Rattle.draft_core.specs.declared.state.Verdict.TheVariants.{NotDone}
+use Rattle.std.specs.FinMap.{get, insert, len}
+use Rattle.signal_rules.specs.Violations.{violations_of}
+use Rattle.draft_core.specs.Transaction.{TimingSide, Draft, state_of, verdict_of, begun, edited, verified, checked, committed, reopened, abandoned}
+use Rattle.draft_core.specs.declared.refusal.DraftRefusal.{DraftRefusal}
+use Rattle.draft_core.specs.declared.refusal.DraftRefusal.TheVariants as draft
 use Rattle.office_desk.specs.declared.command.Command.{Command}
-use Rattle.office_desk.specs.declared.command.Command.TheVariants.{AddIntersection, State}
+use Rattle.office_desk.specs.declared.command.Command.TheVariants as command
 use Rattle.office_desk.specs.declared.reply.Reply.{Reply}
-use Rattle.office_desk.specs.declared.reply.Reply.TheVariants.{Added, Same, State as Shown, Refused}
+use Rattle.office_desk.specs.declared.reply.Reply.TheVariants.{Added, Same, Moved, State as Shown, Timing as Running, Draft as Drafted, Refused}
 use Rattle.office_desk.specs.declared.reply.IntersectionState.{IntersectionState}
-use Rattle.office_desk.specs.declared.refusal.Refusal.TheVariants.{UnknownIntersection, IntersectionDiffers, Unavailable}
-use Rattle.office_desk.specs.Office.{Office, Intersection}
+use Rattle.office_desk.specs.declared.refusal.Refusal.{Refusal}
+use Rattle.office_desk.specs.declared.refusal.Refusal.TheVariants as refusal
+use Rattle.office_desk.specs.Office.{Office, Intersection, no_timing}
 
--- what State shows of an intersection: nothing of its timing was committed yet, and nobody holds a draft
-abbrev pub state_of : ℕ → Intersection → IntersectionState
-state_of id i = record {
-  id = id;
-  interval = i.interval;
-  name = i.name;
-  owner = None;
-  revision = 0;
-  rows = 0;
-  state = Normal;
-  verify = NotDone;
-}
+-- the office with an intersection more, or with another in its place
+abbrev pub with_intersection : Office → ℕ → Intersection → Office
+with_intersection office id i = record office { intersections = insert office.intersections id i }
+
+-- ---- AddIntersection
+
+abbrev pub new_intersection : ℕ → List ℕ → Intersection
+new_intersection interval name = record { name = name; interval = interval; timing = no_timing }
 
 -- an intersection may be added once, and again with the same name and interval
 abbrev pub added : Office → ℕ → ℕ → List ℕ → Option Intersection → Reply × Office
-added office id interval name None = (Added, record office { intersections = insert office.intersections id (record { name = name; interval = interval }) })
-added office id interval name (Some i) = (if bytes_eq i.name name && (i.interval == interval) then Same else Refused IntersectionDiffers, office)
+added office id interval name None = (Added, with_intersection office id (new_intersection interval name))
+added office id interval name (Some i) = (if bytes_eq i.name name && (i.interval == interval) then Same else Refused refusal.IntersectionDiffers, office)
 
--- State of an intersection that is there, or not
-abbrev pub shown : ℕ → Option Intersection → Reply
-shown id None = Refused UnknownIntersection
-shown id (Some i) = Shown (state_of id i)
+-- ---- the transaction
+
+-- a refusal of the transaction; want of memory is no line of its table
+abbrev pub refusal_of_draft : DraftRefusal → Refusal
+refusal_of_draft draft.NotNormal = refusal.NotNormal
+refusal_of_draft draft.NotTransaction = refusal.NotTransaction
+refusal_of_draft draft.NotOwner = refusal.NotOwner
+refusal_of_draft draft.NotVerify = refusal.NotVerify
+refusal_of_draft draft.NotDone = refusal.NotDone
+refusal_of_draft (draft.VerifyFailed count) = refusal.VerifyFailed count
+refusal_of_draft draft.RevisionFull = refusal.RevisionFull
+refusal_of_draft draft.NoMemory = refusal.Unavailable
+
+-- where the transaction stands
+abbrev pub moved_to : TimingSide → Reply
+moved_to side = Moved side.revision (state_of side.draft) (verdict_of side.draft)
+
+-- the line of the table, as reply and next office
+abbrev pub moved : Office → ℕ → Intersection → Result TimingSide DraftRefusal → Reply × Office
+moved office id i (Ok next) = (moved_to next, with_intersection office id (record i { timing = next }))
+moved office id i (Err why) = (Refused (refusal_of_draft why), office)
+
+-- a command of the transaction, by its line of the table
+abbrev pub transacted : Office → ℕ → (TimingSide → Result TimingSide DraftRefusal) → Option Intersection → Reply × Office
+transacted office id line None = (Refused refusal.UnknownIntersection, office)
+transacted office id line (Some i) = moved office id i (line i.timing)
+
+-- ---- queries
+
+abbrev pub state_shown : ℕ → Intersection → IntersectionState
+state_shown id i = record {
+  id = id;
+  interval = i.interval;
+  name = i.name;
+  owner = option_map (λ (d : Draft). d.owner) i.timing.draft;
+  revision = i.timing.revision;
+  rows = len i.timing.committed;
+  state = state_of i.timing.draft;
+  verify = verdict_of i.timing.draft;
+}
+
+abbrev pub draft_shown : Option Draft → Reply
+draft_shown None = Refused refusal.NotTransaction
+draft_shown (Some d) = Drafted (record { owner = d.owner; rows = d.set; violations = violations_of d.set })
+
+-- what a query shows of an intersection that is there, or not
+abbrev pub shown : Option Intersection → (Intersection → Reply) → Reply
+shown None show = Refused refusal.UnknownIntersection
+shown (Some i) show = show i
+
+-- ---- the machine
 
 -- the reply and the next office
 abbrev pub answered : Office → Command → Reply × Office
-answered office (AddIntersection id interval name) = added office id interval name (get office.intersections id)
-answered office (State id) = (shown id (get office.intersections id), office)
+answered office (command.AddIntersection id interval name) = added office id interval name (get office.intersections id)
+answered office (command.Begin id clerk) = transacted office id (λ side. begun side clerk) (get office.intersections id)
+answered office (command.Edit id clerk changes) = transacted office id (λ side. edited side clerk changes) (get office.intersections id)
+answered office (command.Verify id clerk) = transacted office id (λ side. verified side clerk) (get office.intersections id)
+answered office (command.Check id clerk) = transacted office id (λ side. checked side clerk) (get office.intersections id)
+answered office (command.Commit id clerk) = transacted office id (λ side. committed side clerk) (get office.intersections id)
+answered office (command.Reopen id clerk) = transacted office id (λ side. reopened side clerk) (get office.intersections id)
+answered office (command.Abandon id clerk) = transacted office id abandoned (get office.intersections id)
+answered office (command.State id) = (shown (get office.intersections id) (λ i. Shown (state_shown id i)), office)
+answered office (command.Timing id) = (shown (get office.intersections id) (λ i. Running (record { revision = i.timing.revision; rows = i.timing.committed })), office)
+answered office (command.Draft id) = (shown (get office.intersections id) (λ i. draft_shown i.timing.draft), office)
 
 -- A command takes its step, or is answered Unavailable and leaves the office.
 abbrev pub Step : Office → Command → Reply → Office → Type 0
-Step office command reply next = ((reply ≡ Refused Unavailable) × (next ≡ office)) ⊎ (answered office command ≡ (reply, next))
+Step office command reply next = ((reply ≡ Refused refusal.Unavailable) × (next ≡ office)) ⊎ (answered office command ≡ (reply, next))
 
 -- commands in turn
 abbrev pub Run : Office → List Command → List Reply → Office → Type 0

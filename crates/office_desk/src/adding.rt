@@ -1,9 +1,10 @@
 //! The command AddIntersection.
-ghost use Rattle.std.specs.Prelude.{◌≡◌, ◌≢◌, IfOk};
+ghost use Rattle.std.specs.Prelude.{◌≡◌, ◌≢◌, ◌≤◌, [], IfOk};
 ghost use Rattle.office_tables_shelf.specs.Shelf.{IsKept};
+ghost use Rattle.office_tables_shelf.specs.declared.rows.Table.{Table};
+ghost use Rattle.office_desk.specs.Adding.{AddsRow};
 ghost use Rattle.office_desk.specs.Answers.{Decides};
-ghost use Rattle.office_desk.specs.Changes.{changes_of};
-ghost use Rattle.office_desk.specs.Decisions.{AddsRow};
+ghost use Rattle.office_desk.specs.Changes.{IsRefused, most_writes, writes_in};
 
 use crate::command::Command;
 use crate::decided::Decided;
@@ -23,7 +24,7 @@ fn added(
     name: &Words<120>,
     row: &Option<IntersectionRow>,
 ) -> Result<Decided, NoMemory>
-    ensures { IfOk result (λ decided. AddsRow id (record { name = name.now; interval = interval }) row.now decided.reply decided.changes.items) }
+    ensures { IfOk result (λ decided. AddsRow id interval name.now row.now decided.reply decided.changes.items) }
 {
     let text = name.as_str();
     let days = interval.get();
@@ -55,8 +56,9 @@ pub fn decide_add<S: Shelf>(
     name: &Words<120>,
 ) -> Result<Decided, ShelfFault>
     ensures step { S.is_honest shelf.new → Decides (S.content shelf.old) (Command.AddIntersection id interval name.now) result }
-    ensures changes { IfOk result (λ decided. decided.changes.items ≡ changes_of decided.reply (Command.AddIntersection id interval name.now)) }
+    ensures writes { S.is_honest shelf.new → IfOk result (λ decided. (table : Table) → writes_in table decided.changes.items ≤ most_writes (S.content shelf.old) (Command.AddIntersection id interval name.now) table) }
     ensures undamaged { IfOk result (λ decided. decided.reply ≢ Reply.Refused Refusal.Damaged) }
+    ensures refused { IfOk result (λ decided. IsRefused decided.reply → decided.changes.items ≡ []) }
     ensures kept { IsKept S.is_honest S.content S.written S.may_leave shelf.old shelf.new }
 {
     let row = shelf.intersection(alloc, id)?;

@@ -1,8 +1,9 @@
 //! What the office is asked.
 
+use draft_core::changes::Changes;
 use signal_records::{InterId, Interval, Words};
 
-/// What the office is asked.
+/// What the office is asked. A clerk is who asks: only the one who began a transaction may go on with it.
 #[derive(Drop)]
 pub enum Command {
     /// Adds an intersection; the same once more changes nothing.
@@ -12,8 +13,52 @@ pub enum Command {
         interval: Interval,
         name: Words<120>,
     },
+    /// Begins a transaction: the draft is the committed timing set.
+    Begin {
+        id: InterId,
+        clerk: Words<40>,
+    },
+    /// Changes the draft, in the order of the changes.
+    Edit {
+        id: InterId,
+        clerk: Words<40>,
+        changes: Changes,
+    },
+    /// Hands the draft over to be checked.
+    Verify {
+        id: InterId,
+        clerk: Words<40>,
+    },
+    /// Checks the draft against the rules.
+    Check {
+        id: InterId,
+        clerk: Words<40>,
+    },
+    /// Makes a checked draft that breaks no rule the committed timing set.
+    Commit {
+        id: InterId,
+        clerk: Words<40>,
+    },
+    /// Takes a checked draft back into work.
+    Reopen {
+        id: InterId,
+        clerk: Words<40>,
+    },
+    /// Drops the draft; any clerk may.
+    Abandon {
+        id: InterId,
+        clerk: Words<40>,
+    },
     /// Asks what is known of an intersection.
     State {
+        id: InterId,
+    },
+    /// Asks for the committed timing set.
+    Timing {
+        id: InterId,
+    },
+    /// Asks for the draft and the rules that it breaks.
+    Draft {
         id: InterId,
     },
 }

@@ -1,5 +1,6 @@
 //! A reply, and what is to be written for it.
 
+use crate::refusal::Refusal;
 use crate::reply::Reply;
 use office_tables_shelf::rows::RowChange;
 use std::alloc::Global;
@@ -14,6 +15,14 @@ pub struct Decided {
 
 impl Decided {
     ghost use Rattle.std.specs.Prelude.{◌≡◌, []};
+
+    /// A refusal, for which nothing is to be written.
+    pub fn refused(alloc: Global, refusal: Refusal) -> Decided
+        ensures reply { result.reply ≡ Reply.Refused refusal }
+        ensures no_changes { result.changes.items ≡ [] }
+    {
+        Decided::unchanged(alloc, Reply::Refused(refusal))
+    }
 
     /// A reply for which nothing is to be written.
     pub fn unchanged(alloc: Global, reply: Reply) -> Decided

@@ -1,10 +1,10 @@
 //! How a command is decided over a shelf.
-ghost use Rattle.std.specs.Prelude.{◌≡◌, ◌≢◌, IfOk};
-ghost use Rattle.office_tables_shelf.specs.Content.{Content};
+ghost use Rattle.std.specs.Prelude.{◌≡◌, ◌≢◌, ◌≤◌, [], IfOk};
 ghost use Rattle.office_tables_shelf.specs.Change.{changed_by};
 ghost use Rattle.office_tables_shelf.specs.Shelf.{IsKept};
+ghost use Rattle.office_tables_shelf.specs.declared.rows.Table.{Table};
 ghost use Rattle.office_desk.specs.Answers.{Decides, AnswersAny};
-ghost use Rattle.office_desk.specs.Changes.{changes_of};
+ghost use Rattle.office_desk.specs.Changes.{IsRefused, IsQuery, writes_in, most_writes};
 ghost use Rattle.office_desk.specs.Damage.{MeetsDamage};
 ghost use Rattle.office_desk.specs.Decisions.{refusal_of};
 
@@ -13,7 +13,11 @@ use crate::command::Command;
 use crate::decided::Decided;
 use crate::refusal::Refusal;
 use crate::reply::Reply;
-use crate::showing::decide_state;
+use crate::showing::{decide_draft, decide_state, decide_timing};
+use crate::transacting::{
+    decide_abandon, decide_begin, decide_check, decide_commit, decide_edit, decide_reopen,
+    decide_verify,
+};
 use office_tables_shelf::shelf::{Shelf, ShelfFault};
 use std::alloc::Global;
 
@@ -34,22 +38,35 @@ fn try_decide<S: Shelf>(
     command: &Command,
 ) -> Result<Decided, ShelfFault>
     ensures step { S.is_honest shelf.new → Decides (S.content shelf.old) command.now result }
-    ensures changes { IfOk result (λ decided. decided.changes.items ≡ changes_of decided.reply command.now) }
+    ensures writes { S.is_honest shelf.new → IfOk result (λ decided. (table : Table) → writes_in table decided.changes.items ≤ most_writes (S.content shelf.old) command.now table) }
     ensures undamaged { IfOk result (λ decided. decided.reply ≢ Reply.Refused Refusal.Damaged) }
+    ensures refused { IfOk result (λ decided. IsRefused decided.reply → decided.changes.items ≡ []) }
+    ensures query { IsQuery command.now → IfOk result (λ decided. decided.changes.items ≡ []) }
     ensures kept { IsKept S.is_honest S.content S.written S.may_leave shelf.old shelf.new }
 {
     match command {
         Command::AddIntersection { id, interval, name } => {
             decide_add(shelf, alloc, *id, *interval, name)
         }
+        Command::Begin { id, clerk } => decide_begin(shelf, alloc, *id, clerk),
+        Command::Edit { id, clerk, changes } => decide_edit(shelf, alloc, *id, clerk, changes),
+        Command::Verify { id, clerk } => decide_verify(shelf, alloc, *id, clerk),
+        Command::Check { id, clerk } => decide_check(shelf, alloc, *id, clerk),
+        Command::Commit { id, clerk } => decide_commit(shelf, alloc, *id, clerk),
+        Command::Reopen { id, clerk } => decide_reopen(shelf, alloc, *id, clerk),
+        Command::Abandon { id, clerk } => decide_abandon(shelf, alloc, *id, clerk),
         Command::State { id } => decide_state(shelf, alloc, *id),
+        Command::Timing { id } => decide_timing(shelf, alloc, *id),
+        Command::Draft { id } => decide_draft(shelf, alloc, *id),
     }
 }
 
 /// What a command is answered, and what is to be written for it.
 pub fn decide_on<S: Shelf>(shelf: &mut S, alloc: Global, command: &Command) -> Decided
     ensures step { S.is_honest shelf.new → AnswersAny (S.content shelf.old) command.now result.reply (changed_by (S.content shelf.old) result.changes.items) }
-    ensures changes { result.changes.items ≡ changes_of result.reply command.now }
+    ensures writes { S.is_honest shelf.new → (table : Table) → writes_in table result.changes.items ≤ most_writes (S.content shelf.old) command.now table }
+    ensures refused { IsRefused result.reply → result.changes.items ≡ [] }
+    ensures query { IsQuery command.now → result.changes.items ≡ [] }
     ensures damaged { result.reply ≡ Reply.Refused Refusal.Damaged → S.is_honest shelf.new → MeetsDamage (S.content shelf.old) command.now }
     ensures kept { IsKept S.is_honest S.content S.written S.may_leave shelf.old shelf.new }
 {

@@ -5,10 +5,13 @@ mod adding;
 pub mod command;
 pub mod decided;
 mod deciding;
+mod moving;
 pub mod office;
+mod reading;
 pub mod refusal;
 pub mod reply;
 mod running;
 mod showing;
 #[cfg(test)]
 mod tests;
+mod transacting;

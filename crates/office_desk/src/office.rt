@@ -1,11 +1,12 @@
 //! The office over a shelf.
-ghost use Rattle.std.specs.Prelude.{◌≡◌, ◌≢◌, ◌⊎◌, [], IfOk, OnOk, OnErr};
+ghost use Rattle.std.specs.Prelude.{◌≡◌, ◌≢◌, ◌≤◌, ◌⊎◌, [], IfOk, OnOk, OnErr};
 ghost use Rattle.office_tables_shelf.specs.Content.{Content};
-ghost use Rattle.office_tables_shelf.specs.Change.{changed_by, writes_after};
+ghost use Rattle.office_tables_shelf.specs.Change.{changed_by};
+ghost use Rattle.office_tables_shelf.specs.Counts.{counts_after};
 ghost use Rattle.office_tables_shelf.specs.Shelf.{IsKept};
 ghost use Rattle.office_tables_shelf.specs.declared.rows.Table.{Table};
 ghost use Rattle.office_desk.specs.Answers.{AnswersAny, RunsAny, IsAfterStep};
-ghost use Rattle.office_desk.specs.Changes.{IsRefused, IsQuery, changes_of};
+ghost use Rattle.office_desk.specs.Changes.{IsRefused, IsQuery, RiseAtMost, writes_in, most_writes};
 ghost use Rattle.office_desk.specs.Damage.{MeetsDamage};
 
 use crate::command::Command;
@@ -52,7 +53,7 @@ impl<S: Shelf> Office<S> {
     pub fn decide(&mut self, alloc: Global, command: &Command) -> Decided
         ensures step { S.is_honest self.new → AnswersAny (S.content self.old) command.now result.reply (changed_by (S.content self.old) result.changes.items) }
         ensures kept { IsKept S.is_honest S.content S.written S.may_leave self.old self.new }
-        ensures changes { result.changes.items ≡ changes_of result.reply command.now }
+        ensures writes { S.is_honest self.new → (table : Table) → writes_in table result.changes.items ≤ most_writes (S.content self.old) command.now table }
         ensures refused { IsRefused result.reply → result.changes.items ≡ [] }
         ensures query { IsQuery command.now → result.changes.items ≡ [] }
         ensures damaged { result.reply ≡ Reply.Refused Refusal.Damaged → S.is_honest self.new → MeetsDamage (S.content self.old) command.now }
@@ -66,8 +67,8 @@ impl<S: Shelf> Office<S> {
         ensures ok { OnOk result (S.is_honest self.new → S.content self.new ≡ changed_by (S.content self.old) changes.now) }
         ensures err { OnErr result (S.is_honest self.new → S.content self.new ≡ S.content self.old) }
         ensures undamaged { result ≢ Err ShelfFault.Damaged }
-        ensures written_ok { OnOk result ((table : Table) → S.written self.new table ≡ writes_after table (S.written self.old table) changes.now) }
-        ensures written_err { OnErr result ((table : Table) → S.written self.new table ≡ S.written self.old table) }
+        ensures written_ok { OnOk result (S.written self.new ≡ counts_after (S.written self.old) changes.now) }
+        ensures written_err { OnErr result (S.written self.new ≡ S.written self.old) }
         // A crash leaves what it could before, or the whole result; and that alone once rows were changed.
         ensures crash { S.is_honest self.new → (tables : Content) → S.may_leave self.new tables →
             S.may_leave self.old tables ⊎ (tables ≡ changed_by (S.content self.old) changes.now) }
@@ -83,7 +84,9 @@ impl<S: Shelf> Office<S> {
         ensures step { S.is_honest self.new → AnswersAny (S.content self.old) command.now result (S.content self.new) }
         ensures honest { S.is_honest self.new → S.is_honest self.old }
         ensures refused { IsRefused result → S.is_honest self.new → S.content self.new ≡ S.content self.old }
-        ensures writes { (table : Table) → S.written self.new table ≡ writes_after table (S.written self.old table) (changes_of result command.now) }
+        // The rows that it writes are at most those of its kind of command.
+        ensures writes { S.is_honest self.new → RiseAtMost (S.content self.old) command.now (S.written self.old) (S.written self.new) }
+        ensures unwritten { IsRefused result → S.written self.new ≡ S.written self.old }
         ensures damaged { result ≡ Reply.Refused Refusal.Damaged → S.is_honest self.new → MeetsDamage (S.content self.old) command.now }
         // A crash leaves what it could before the call, or the tables after the command's step.
         ensures crash { S.is_honest self.new → (tables : Content) → S.may_leave self.new tables →

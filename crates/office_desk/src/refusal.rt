@@ -10,6 +10,20 @@ pub enum Refusal {
     UnknownIntersection,
     /// The intersection is there with another name or interval.
     IntersectionDiffers,
+    /// A transaction is under way.
+    NotNormal,
+    /// There is no draft that can be changed.
+    NotTransaction,
+    /// Another clerk holds the draft.
+    NotOwner,
+    /// The draft does not wait to be checked.
+    NotVerify,
+    /// The draft was not checked.
+    NotDone,
+    /// The draft breaks rules: how many times.
+    VerifyFailed(usize),
+    /// The timing set was committed as often as can be counted.
+    RevisionFull,
     /// Memory or the database refused; nothing was changed.
     Unavailable,
     /// A stored row is no record.
@@ -35,6 +49,13 @@ impl Refusal {
         let (number, name, status) = match self {
             Refusal::UnknownIntersection => (10, "UnknownIntersection", 404),
             Refusal::IntersectionDiffers => (11, "IntersectionDiffers", 409),
+            Refusal::NotNormal => (12, "NotNormal", 409),
+            Refusal::NotTransaction => (13, "NotTransaction", 409),
+            Refusal::NotOwner => (14, "NotOwner", 409),
+            Refusal::NotVerify => (15, "NotVerify", 409),
+            Refusal::NotDone => (16, "NotDone", 409),
+            Refusal::VerifyFailed(_) => (17, "VerifyFailed", 409),
+            Refusal::RevisionFull => (18, "RevisionFull", 409),
             Refusal::Unavailable => (90, "Unavailable", 503),
             Refusal::Damaged => (91, "Damaged", 500),
         };

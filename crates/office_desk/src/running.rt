@@ -1,10 +1,8 @@
 //! How commands are run over a shelf.
 ghost use Rattle.std.specs.Prelude.{◌≡◌, ◌≢◌, ◌⊎◌, ◌<◌, ◌≤◌, ◌+◌, [], ◌∷◌, ◌++◌, IfOk, OnErr, vec_len, vec_capacity};
 ghost use Rattle.office_tables_shelf.specs.Content.{Content};
-ghost use Rattle.office_tables_shelf.specs.Change.{writes_after};
-ghost use Rattle.office_tables_shelf.specs.declared.rows.Table.{Table};
 ghost use Rattle.office_desk.specs.Answers.{AnswersAny, RunsAny, IsAfterStep};
-ghost use Rattle.office_desk.specs.Changes.{IsRefused, changes_of};
+ghost use Rattle.office_desk.specs.Changes.{IsRefused, RiseAtMost};
 ghost use Rattle.office_desk.specs.Damage.{MeetsDamage};
 
 use crate::command::Command;
@@ -20,7 +18,8 @@ pub fn run_on<S: Shelf>(shelf: &mut S, alloc: Global, command: &Command) -> Repl
     ensures step { S.is_honest shelf.new → AnswersAny (S.content shelf.old) command.now result (S.content shelf.new) }
     ensures honest { S.is_honest shelf.new → S.is_honest shelf.old }
     ensures refused { IsRefused result → S.is_honest shelf.new → S.content shelf.new ≡ S.content shelf.old }
-    ensures writes { (table : Table) → S.written shelf.new table ≡ writes_after table (S.written shelf.old table) (changes_of result command.now) }
+    ensures writes { S.is_honest shelf.new → RiseAtMost (S.content shelf.old) command.now (S.written shelf.old) (S.written shelf.new) }
+    ensures unwritten { IsRefused result → S.written shelf.new ≡ S.written shelf.old }
     ensures damaged { result ≡ Reply.Refused Refusal.Damaged → S.is_honest shelf.new → MeetsDamage (S.content shelf.old) command.now }
     // A crash leaves what it could before the call, or the tables after the command's step.
     ensures crash { S.is_honest shelf.new → (tables : Content) → S.may_leave shelf.new tables →

@@ -1,22 +1,31 @@
-//! The query State.
-ghost use Rattle.std.specs.Prelude.{◌≡◌, ◌≢◌, IfOk};
+//! The queries State, Timing and Draft.
+ghost use Rattle.std.specs.Prelude.{◌≡◌, ◌≢◌, ◌≤◌, ℕ, [], length, map, Some, IfOk};
+ghost use Rattle.std.specs.FinMap.{get, empty};
+ghost use Rattle.signal_records.specs.TimingSet.{after_changes};
+ghost use Rattle.draft_core.specs.Transaction.{state_of_holder};
 ghost use Rattle.office_tables_shelf.specs.Shelf.{IsKept};
+ghost use Rattle.office_tables_shelf.specs.declared.rows.Table.{Table};
 ghost use Rattle.office_desk.specs.Answers.{Decides};
-ghost use Rattle.office_desk.specs.Changes.{changes_of};
-ghost use Rattle.office_desk.specs.Decisions.{shown_row, state_of_row};
+ghost use Rattle.office_desk.specs.Changes.{writes_in, most_writes};
+ghost use Rattle.office_desk.specs.Damage.{HasDamage};
+ghost use Rattle.office_desk.specs.Decisions.{row_shown, IsVerdictOf, ShowsDraft};
 
 use crate::command::Command;
 use crate::decided::Decided;
+use crate::reading::{Found, find, rows_are_within, set_of};
 use crate::refusal::Refusal;
-use crate::reply::{IntersectionState, Reply};
+use crate::reply::{IntersectionState, OpenDraft, Reply, RunningTiming, Violations};
 use draft_core::state::{DbState, Holder, Stage, Verdict};
+use draft_core::timing::Timing;
+use draft_core::{overlay, verdict};
 use office_tables_shelf::rows::IntersectionRow;
 use office_tables_shelf::shelf::{Shelf, ShelfFault};
-use signal_records::InterId;
+use signal_records::{InterId, NoMemory};
+use signal_rules::violations;
 use std::alloc::Global;
 
 fn state_of(holder: &Option<Holder>) -> DbState
-    ensures { result ≡ state_of_row holder.now }
+    ensures { result ≡ state_of_holder holder.now }
 {
     match holder {
         None => DbState::Normal,
@@ -29,12 +38,9 @@ fn state_of(holder: &Option<Holder>) -> DbState
 }
 
 /// What State shows of an intersection of which this row was read.
-fn shown(id: InterId, row: Option<IntersectionRow>) -> Reply
-    ensures { result ≡ shown_row id row }
+fn shown(id: InterId, row: IntersectionRow, rows: usize, verify: Verdict) -> Reply
+    ensures { result ≡ Reply.State (row_shown id row rows verify) }
 {
-    let Some(row) = row else {
-        return Reply::Refused(Refusal::UnknownIntersection);
-    };
     let state = state_of(&row.holder);
     let owner = row.holder.map(|holder| holder.owner);
     Reply::State(IntersectionState {
@@ -43,10 +49,35 @@ fn shown(id: InterId, row: Option<IntersectionRow>) -> Reply
         name: row.name,
         owner,
         revision: row.revision,
-        rows: 0,
+        rows,
         state,
-        verify: Verdict::NotDone,
+        verify,
     })
+}
+
+/// The verdict on the draft of an intersection of which this row was read: only in Done is there
+/// anything to judge.
+fn verdict_at<S: Shelf>(
+    shelf: &mut S,
+    alloc: Global,
+    id: InterId,
+    row: &IntersectionRow,
+) -> Result<Verdict, ShelfFault>
+    ensures verdict { IfOk result (λ verdict. S.is_honest shelf.new → IsVerdictOf (S.content shelf.old) id row.now verdict) }
+    ensures damaged { result ≡ Err ShelfFault.Damaged → S.is_honest shelf.new → HasDamage (S.content shelf.old) id }
+    ensures kept { IsKept S.is_honest S.content S.written S.may_leave shelf.old shelf.new }
+{
+    let Some(holder) = &row.holder else {
+        return Ok(Verdict::NotDone);
+    };
+    match holder.stage {
+        Stage::Transaction | Stage::Verify => return Ok(Verdict::NotDone),
+        Stage::Done => {}
+    }
+    let Some(found) = find(shelf, alloc, id)? else {
+        return Ok(Verdict::NotDone);
+    };
+    Ok(verdict(alloc, &found.timing)?)
 }
 
 /// Decides State.
@@ -56,10 +87,81 @@ pub fn decide_state<S: Shelf>(
     id: InterId,
 ) -> Result<Decided, ShelfFault>
     ensures step { S.is_honest shelf.new → Decides (S.content shelf.old) (Command.State id) result }
-    ensures changes { IfOk result (λ decided. decided.changes.items ≡ changes_of decided.reply (Command.State id)) }
+    ensures changes { IfOk result (λ decided. decided.changes.items ≡ []) }
     ensures undamaged { IfOk result (λ decided. decided.reply ≢ Reply.Refused Refusal.Damaged) }
     ensures kept { IsKept S.is_honest S.content S.written S.may_leave shelf.old shelf.new }
 {
-    let row = shelf.intersection(alloc, id)?;
-    Ok(Decided::unchanged(alloc, shown(id, row)))
+    let Some(row) = shelf.intersection(alloc, id)? else {
+        return Ok(Decided::refused(alloc, Refusal::UnknownIntersection));
+    };
+    let listed = shelf.timing_rows(alloc, id)?;
+    let rows = listed.as_slice();
+    rows_are_within(rows);
+    let verify = verdict_at(shelf, alloc, id, &row)?;
+    Ok(Decided::unchanged(alloc, shown(id, row, rows.len(), verify)))
+}
+
+/// Decides Timing.
+pub fn decide_timing<S: Shelf>(
+    shelf: &mut S,
+    alloc: Global,
+    id: InterId,
+) -> Result<Decided, ShelfFault>
+    ensures step { S.is_honest shelf.new → Decides (S.content shelf.old) (Command.Timing id) result }
+    ensures changes { IfOk result (λ decided. decided.changes.items ≡ []) }
+    ensures undamaged { IfOk result (λ decided. decided.reply ≢ Reply.Refused Refusal.Damaged) }
+    ensures kept { IsKept S.is_honest S.content S.written S.may_leave shelf.old shelf.new }
+{
+    let Some(row) = shelf.intersection(alloc, id)? else {
+        return Ok(Decided::refused(alloc, Refusal::UnknownIntersection));
+    };
+    let listed = shelf.timing_rows(alloc, id)?;
+    let rows = listed.as_slice();
+    rows_are_within(rows);
+    let set = set_of(alloc, rows)?;
+    let timing = RunningTiming {
+        revision: row.revision,
+        rows: set,
+    };
+    Ok(Decided::unchanged(alloc, Reply::Timing(timing)))
+}
+
+/// What Draft shows of an intersection that was found.
+fn draft_of(alloc: Global, found: Found) -> Result<Reply, NoMemory>
+    ensures shows { IfOk result (λ reply. ShowsDraft found reply) }
+    ensures undamaged { IfOk result (λ reply. reply ≢ Reply.Refused Refusal.Damaged) }
+{
+    let Timing {
+        holder,
+        committed,
+        delta,
+        ..
+    } = found.timing;
+    let Some(holder) = holder else {
+        return Ok(Reply::Refused(Refusal::NotTransaction));
+    };
+    let rows = overlay(alloc, &committed, delta.as_slice())?;
+    let violations = Violations::new(violations(alloc, &rows)?);
+    Ok(Reply::Draft(OpenDraft {
+        owner: holder.owner,
+        rows,
+        violations,
+    }))
+}
+
+/// Decides Draft.
+pub fn decide_draft<S: Shelf>(
+    shelf: &mut S,
+    alloc: Global,
+    id: InterId,
+) -> Result<Decided, ShelfFault>
+    ensures step { S.is_honest shelf.new → Decides (S.content shelf.old) (Command.Draft id) result }
+    ensures changes { IfOk result (λ decided. decided.changes.items ≡ []) }
+    ensures undamaged { IfOk result (λ decided. decided.reply ≢ Reply.Refused Refusal.Damaged) }
+    ensures kept { IsKept S.is_honest S.content S.written S.may_leave shelf.old shelf.new }
+{
+    let Some(found) = find(shelf, alloc, id)? else {
+        return Ok(Decided::refused(alloc, Refusal::UnknownIntersection));
+    };
+    Ok(Decided::unchanged(alloc, draft_of(alloc, found)?))
 }

@@ -108,6 +108,13 @@ fn refusals_as_listed(rt: HostRuntime) {
     for (refusal, number, name, status) in [
         (Refusal::UnknownIntersection, 10, "UnknownIntersection", 404),
         (Refusal::IntersectionDiffers, 11, "IntersectionDiffers", 409),
+        (Refusal::NotNormal, 12, "NotNormal", 409),
+        (Refusal::NotTransaction, 13, "NotTransaction", 409),
+        (Refusal::NotOwner, 14, "NotOwner", 409),
+        (Refusal::NotVerify, 15, "NotVerify", 409),
+        (Refusal::NotDone, 16, "NotDone", 409),
+        (Refusal::VerifyFailed(1), 17, "VerifyFailed", 409),
+        (Refusal::RevisionFull, 18, "RevisionFull", 409),
         (Refusal::Unavailable, 90, "Unavailable", 503),
         (Refusal::Damaged, 91, "Damaged", 500),
     ] {

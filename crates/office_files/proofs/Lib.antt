@@ -3,3 +3,10 @@ pub mod ReadingLemmas
 pub mod CsvRowLemmas
 pub mod SpellingLemmas
 pub mod ChangesLemmas
+pub mod WritingLemmas
+pub mod RestoreLemmas
+pub mod TimingLemmas
+pub mod CellsLemmas
+pub mod RecordFieldLemmas
+pub mod FileLaws
+pub mod RecordLaws

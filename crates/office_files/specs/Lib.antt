@@ -2,4 +2,12 @@ pub mod Csv
 pub mod CsvFault
 pub mod CsvRow
 pub mod Changes
+pub mod Timing
+pub mod RecordSpelling
+pub mod RecordReading
+pub mod RecordsWithin
+pub mod Records
 pub mod Violations
+pub mod Cells
+pub mod Sheet
+pub mod Overdue

@@ -1,16 +1,34 @@
-//! The files of the office: timing sets as CSV files, and printed texts.
+//! The files of the office: timing sets and cabinet records as CSV files, and printed texts.
 #![tactic(auto)]
 
+mod cabinet;
+mod cells;
 mod changes;
 mod fault;
 mod fields;
+mod overdue;
+mod record_bounds;
+mod record_fields;
+mod record_reading;
+mod record_writing;
 mod records;
 mod rows;
+mod sheet;
+mod timing;
 mod violations;
+mod writing;
 
+pub use cabinet::{read_records_csv, records_csv};
 pub use changes::read_timing_csv;
 pub use fault::CsvFault;
+pub use overdue::overdue_text;
+pub use sheet::timing_sheet;
+pub use timing::timing_csv;
 pub use violations::violation_text;
 
+#[cfg(test)]
+mod cabinet_tests;
+#[cfg(test)]
+mod sheet_tests;
 #[cfg(test)]
 mod tests;

@@ -4,9 +4,11 @@
 //! replies as answers in `office_http_wire`; their public names are handed on here.
 #![tactic(auto)]
 
+mod listening;
 mod machine;
 mod service;
 
+pub use listening::{FromListener, Listen, ListenCounts, ServeStop, serve_each, serve_on};
 pub use office_http_framing::ends::{
     Counts, FromRead, Sink, Source, ToWrite, WriteFailed, write_all,
 };

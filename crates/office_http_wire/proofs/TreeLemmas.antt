@@ -1,23 +1,64 @@
 -- No tree of a reply or a fault has a float.
-use Rattle.std.proofs.Common.{◌≡◌, ℕ, List, false, ◌||◌, Option, Some, None, refl}
-use Rattle.serde_json.specs.Written.{has_float}
+use Rattle.std.proofs.Common.{◌≡◌, ℕ, List, [], ◌∷◌, map, Bool, true, false, ◌||◌, Option, Some, None, refl}
+use Rattle.std.specs.FinMap.{values}
+use Rattle.serde_json.specs.Data.{Data}
+use Rattle.serde_json.specs.View.{items_of}
+use Rattle.serde_json.specs.Written.{has_float, items_have_float}
+use Rattle.signal_records.specs.TimingSet.{Rows}
+use Rattle.signal_records.specs.Spelling.{spelling}
+use Rattle.signal_records.specs.Within.{current_limits}
+use Rattle.signal_rules.specs.declared.violation.Violation.{Violation}
+use Rattle.office_desk.specs.declared.refusal.Refusal.{Refusal}
+use Rattle.office_desk.specs.declared.refusal.Refusal.TheVariants.{UnknownIntersection, IntersectionDiffers, NotNormal, NotTransaction, NotOwner, NotVerify, NotDone, VerifyFailed, RevisionFull, Unavailable, Damaged}
+use Rattle.office_desk.specs.declared.reply.OpenDraft.{OpenDraft}
 use Rattle.office_desk.specs.declared.reply.Reply.{Reply}
-use Rattle.office_desk.specs.declared.reply.Reply.TheVariants.{Added, Same, State, Refused}
+use Rattle.office_desk.specs.declared.reply.Reply.TheVariants.{Added, Same, Moved, State, Timing, Draft, Refused}
 use Rattle.office_http_wire.specs.declared.fault.More.{More}
-use Rattle.office_http_wire.specs.declared.fault.More.TheVariants.{Nothing, Field as FieldMore}
+use Rattle.office_http_wire.specs.declared.fault.More.TheVariants.{Nothing, Field as FieldMore, Row as RowMore}
 use Rattle.office_http_wire.specs.Faults.{fault_tree}
-use Rattle.office_http_wire.specs.Trees.{text, or_null, tree_of}
+use Rattle.office_http_wire.specs.Trees.{text, or_null, list, row_tree, rows_tree, violation_tree, refusal_tree, draft_tree, tree_of}
+
+-- a list of trees without a float
+list-no_float : {A : Type 0} (tree : A → Data) → ((x : A) → has_float (tree x) ≡ false) → (xs : List A) → items_have_float (items_of (map tree xs)) ≡ false
+list-no_float tree none [] = refl
+list-no_float tree none (x ∷ xs) = rw (none x, list-no_float tree none xs)
+
+rows_tree-no_float : (set : Rows) → has_float (rows_tree set) ≡ false
+rows_tree-no_float set = list-no_float row_tree (λ row. list-no_float text (λ _. refl) (spelling current_limits row)) (values set)
+
+violations-no_float : (violations : List Violation) → has_float (list violation_tree violations) ≡ false
+violations-no_float violations = list-no_float violation_tree (λ _. refl) violations
 
 or_null-no_float : (words : Option (List ℕ)) → (has_float (or_null text words) || false) ≡ false
 or_null-no_float None = refl
 or_null-no_float (Some bytes) = refl
 
+refusal_tree-no_float : (refusal : Refusal) → has_float (refusal_tree refusal) ≡ false
+refusal_tree-no_float UnknownIntersection = refl
+refusal_tree-no_float IntersectionDiffers = refl
+refusal_tree-no_float NotNormal = refl
+refusal_tree-no_float NotTransaction = refl
+refusal_tree-no_float NotOwner = refl
+refusal_tree-no_float NotVerify = refl
+refusal_tree-no_float NotDone = refl
+refusal_tree-no_float (VerifyFailed violations) = refl
+refusal_tree-no_float RevisionFull = refl
+refusal_tree-no_float Unavailable = refl
+refusal_tree-no_float Damaged = refl
+
+draft_tree-no_float : (shown : OpenDraft) → has_float (draft_tree shown) ≡ false
+draft_tree-no_float shown = rw (rows_tree-no_float shown.rows, violations-no_float shown.violations)
+
 pub tree_of-no_float : (reply : Reply) → has_float (tree_of reply) ≡ false
 tree_of-no_float Added = refl
 tree_of-no_float Same = refl
 tree_of-no_float (State shown) = or_null-no_float shown.owner
-tree_of-no_float (Refused refusal) = refl
+tree_of-no_float (Moved revision state verdict) = refl
+tree_of-no_float (Timing shown) = rw (rows_tree-no_float shown.rows)
+tree_of-no_float (Draft shown) = draft_tree-no_float shown
+tree_of-no_float (Refused refusal) = refusal_tree-no_float refusal
 
 pub fault_tree-no_float : (n : ℕ) (more : More) → has_float (fault_tree n more) ≡ false
 fault_tree-no_float n Nothing = refl
 fault_tree-no_float n (FieldMore field) = refl
+fault_tree-no_float n (RowMore at fault) = refl

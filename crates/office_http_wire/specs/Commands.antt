@@ -5,14 +5,15 @@ use Rattle.office_desk.specs.declared.command.Command.TheVariants as command
 use Rattle.office_http_wire.specs.declared.ask.Asked.{Asked}
 use Rattle.office_http_wire.specs.declared.ask.AskFault.{AskFault}
 use Rattle.office_http_wire.specs.declared.ask.AskFault.TheVariants.{Method}
-use Rattle.office_http_wire.specs.declared.ask.Field.TheVariants.{Name}
+use Rattle.office_http_wire.specs.declared.ask.Field.TheVariants.{Clerk, Name}
 use Rattle.office_http_wire.specs.declared.ask.Form.TheVariants.{Json}
 use Rattle.office_http_wire.specs.declared.route.Endpoint.{Endpoint}
-use Rattle.office_http_wire.specs.declared.route.Endpoint.TheVariants.{AddIntersection, State}
+use Rattle.office_http_wire.specs.declared.route.Endpoint.TheVariants.{AddIntersection, State, Timing, Draft, Begin, Edit, Verify, Check, Commit, Reopen, Abandon}
 use Rattle.office_http_wire.specs.Asks.{◌>>=◌, or_no_route}
 use Rattle.office_http_wire.specs.Bodies.{body_of, id_in, interval_in, words_in}
 use Rattle.office_http_wire.specs.Paths.{id_at}
 use Rattle.office_http_wire.specs.Routes.{endpoint_of, method_of}
+use Rattle.office_http_wire.specs.Rows.{changes_in}
 
 -- a command whose answer is JSON
 abbrev pub asked_in_json : Command → Asked
@@ -27,12 +28,54 @@ added_intersection bytes = do
   name ← words_in 120 body Name
   Ok (asked_in_json (command.AddIntersection id interval name))
 
+-- the intersection of the path, and the clerk of the body
+unfoldable pub id_and_clerk_in : List ℕ → List ℕ → Result (ℕ × List ℕ) AskFault
+id_and_clerk_in path bytes = do
+  id ← id_at path
+  body ← body_of bytes
+  clerk ← words_in 40 body Clerk
+  Ok (id, clerk)
+
+-- the body's keys by name, then the rows
+unfoldable pub edited_in : List ℕ → List ℕ → Result Asked AskFault
+edited_in path bytes = do
+  id ← id_at path
+  body ← body_of bytes
+  clerk ← words_in 40 body Clerk
+  changes ← changes_in body
+  Ok (asked_in_json (command.Edit id clerk changes))
+
 -- the command of an endpoint, of the path and the body
 unfoldable pub asked_at : Endpoint → List ℕ → List ℕ → Result Asked AskFault
 asked_at AddIntersection path bytes = added_intersection bytes
 asked_at State path bytes = do
   id ← id_at path
   Ok (asked_in_json (command.State id))
+asked_at Timing path bytes = do
+  id ← id_at path
+  Ok (asked_in_json (command.Timing id))
+asked_at Draft path bytes = do
+  id ← id_at path
+  Ok (asked_in_json (command.Draft id))
+asked_at Begin path bytes = do
+  found ← id_and_clerk_in path bytes
+  Ok (asked_in_json (command.Begin found.0 found.1))
+asked_at Edit path bytes = edited_in path bytes
+asked_at Verify path bytes = do
+  found ← id_and_clerk_in path bytes
+  Ok (asked_in_json (command.Verify found.0 found.1))
+asked_at Check path bytes = do
+  found ← id_and_clerk_in path bytes
+  Ok (asked_in_json (command.Check found.0 found.1))
+asked_at Commit path bytes = do
+  found ← id_and_clerk_in path bytes
+  Ok (asked_in_json (command.Commit found.0 found.1))
+asked_at Reopen path bytes = do
+  found ← id_and_clerk_in path bytes
+  Ok (asked_in_json (command.Reopen found.0 found.1))
+asked_at Abandon path bytes = do
+  found ← id_and_clerk_in path bytes
+  Ok (asked_in_json (command.Abandon found.0 found.1))
 
 -- the command of a request: its route, then the method, then the fields
 unfoldable pub command_at : List ℕ → List ℕ → List ℕ → Result Asked AskFault

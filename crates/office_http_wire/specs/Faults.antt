@@ -1,5 +1,5 @@
 -- The answers of requests that ask nothing.
-use Rattle.std.specs.Prelude.{◌≡◌, ℕ, ◌≤◌, List, [], ◌∷◌, codes, ◌==◌, if◌then◌else◌}
+use Rattle.std.specs.Prelude.{◌≡◌, ℕ, ◌≤◌, List, [], ◌∷◌, codes, ◌==◌, if◌then◌else◌, unwrap_or}
 use Rattle.serde_json.specs.Data.{Data}
 use Rattle.office_desk.specs.Refusal.{Line}
 use Rattle.office_http_framing.specs.Front.{fault_number}
@@ -7,10 +7,11 @@ use Rattle.office_http_framing.specs.declared.front.Fault.{Fault}
 use Rattle.office_http_wire.specs.declared.ask.AskFault.{AskFault}
 use Rattle.office_http_wire.specs.declared.ask.AskFault.TheVariants as ask
 use Rattle.office_http_wire.specs.declared.fault.More.{More}
-use Rattle.office_http_wire.specs.declared.fault.More.TheVariants.{Nothing, Field as FieldMore}
+use Rattle.office_http_wire.specs.declared.fault.More.TheVariants.{Nothing, Field as FieldMore, Row as RowMore}
 use Rattle.office_http_wire.specs.Answers.{answer_text, unavailable_bytes}
 use Rattle.office_http_wire.specs.Fields.{field_name}
 use Rattle.office_http_wire.specs.Trees.{count, text, keys}
+use Rattle.signal_records.specs.RowFault.{fault_name, fault_field}
 
 -- a line of the table
 abbrev pub line : ℕ → List ℕ → ℕ → Line
@@ -26,18 +27,29 @@ fault_line n =
     if n == 5 then line n (codes "Coded") 501 else (
     if n == 6 then line n (codes "NoRoute") 404 else (
     if n == 7 then line n (codes "Method") 405 else (
-    if n == 8 then line n (codes "Json") 400 else line n (codes "Field") 400)))))))
+    if n == 8 then line n (codes "Json") 400 else (
+    if n == 9 then line n (codes "Field") 400 else line n (codes "BadRow") 400))))))))
 
 -- a fault's number, and what its answer shows more
 abbrev pub IsFault : ℕ → More → Type 0
 IsFault n Nothing = (1 ≤ n) × (n ≤ 8)
 IsFault n (FieldMore field) = n ≡ 9
+IsFault n (RowMore at fault) = n ≡ 31
 
 -- the tree of a fault
 abbrev pub fault_tree : ℕ → More → Data
 fault_tree n Nothing = keys ((codes "error", text (fault_line n).name) ∷ (codes "number", count n) ∷ [])
 fault_tree n (FieldMore field) =
     keys ((codes "error", text (fault_line n).name) ∷ (codes "field", text (field_name field)) ∷ (codes "number", count n) ∷ [])
+fault_tree n (RowMore at fault) =
+    keys (
+    (codes "error", text (fault_line n).name)
+    ∷ (codes "fault", text (fault_name fault))
+    ∷ (codes "field", count (unwrap_or (fault_field fault) 0))
+    ∷ (codes "number", count n)
+    ∷ (codes "record", count at)
+    ∷ []
+    )
 
 -- the answer of a fault
 unfoldable pub fault_bytes : ℕ → More → List ℕ
@@ -53,4 +65,5 @@ ask_fault_text ask.NoRoute = fault_bytes 6 Nothing
 ask_fault_text ask.Method = fault_bytes 7 Nothing
 ask_fault_text ask.Json = fault_bytes 8 Nothing
 ask_fault_text (ask.Field field) = fault_bytes 9 (FieldMore field)
+ask_fault_text (ask.BadRow at fault) = fault_bytes 31 (RowMore at fault)
 ask_fault_text ask.NoMemory = unavailable_bytes

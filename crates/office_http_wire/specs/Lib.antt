@@ -6,5 +6,6 @@ pub mod Faults
 pub mod Fields
 pub mod Paths
 pub mod Routes
+pub mod Rows
 pub mod Trees
 pub mod Values

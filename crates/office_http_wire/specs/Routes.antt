@@ -8,21 +8,41 @@ use Rattle.matchit.specs.Order.{placed}
 use Rattle.matchit.specs.Seek.{first}
 use Rattle.matchit.specs.declared.error.InsertError.{InsertError}
 use Rattle.office_http_wire.specs.declared.route.Endpoint.{Endpoint}
-use Rattle.office_http_wire.specs.declared.route.Endpoint.TheVariants.{AddIntersection, State}
+use Rattle.office_http_wire.specs.declared.route.Endpoint.TheVariants.{AddIntersection, State, Timing, Draft, Begin, Edit, Verify, Check, Commit, Reopen, Abandon}
 
 -- the route of an endpoint
 abbrev pub route_text : Endpoint → List ℕ
 route_text AddIntersection = codes "/intersections"
 route_text State = codes "/intersections/{id}"
+route_text Timing = codes "/intersections/{id}/timing"
+route_text Draft = codes "/intersections/{id}/draft"
+route_text Begin = codes "/intersections/{id}/begin"
+route_text Edit = codes "/intersections/{id}/edit"
+route_text Verify = codes "/intersections/{id}/verify"
+route_text Check = codes "/intersections/{id}/check"
+route_text Commit = codes "/intersections/{id}/commit"
+route_text Reopen = codes "/intersections/{id}/reopen"
+route_text Abandon = codes "/intersections/{id}/abandon"
 
 -- the one method of an endpoint
 abbrev pub method_of : Endpoint → List ℕ
 method_of AddIntersection = codes "POST"
 method_of State = codes "GET"
+method_of Timing = codes "GET"
+method_of Draft = codes "GET"
+method_of Begin = codes "POST"
+method_of Edit = codes "POST"
+method_of Verify = codes "POST"
+method_of Check = codes "POST"
+method_of Commit = codes "POST"
+method_of Reopen = codes "POST"
+method_of Abandon = codes "POST"
 
 -- the table's endpoints, in its order
 abbrev pub endpoints : List Endpoint
-endpoints = AddIntersection ∷ State ∷ []
+endpoints =
+    AddIntersection ∷ State ∷ Timing ∷ Draft ∷ Begin
+    ∷ Edit ∷ Verify ∷ Check ∷ Commit ∷ Reopen ∷ Abandon ∷ []
 
 -- a router's rows
 abbrev pub Rows : Type 0

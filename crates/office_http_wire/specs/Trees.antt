@@ -1,15 +1,26 @@
 -- The JSON trees of replies, each object's keys in ascending order.
-use Rattle.std.specs.Prelude.{ℕ, List, [], ◌∷◌, codes, Option, Some, None}
-use Rattle.serde_json.specs.Data.{Data, null, number, string, object, unsigned, Members, no_members, member}
+use Rattle.std.specs.Prelude.{ℕ, List, [], ◌∷◌, map, codes, Option, Some, None}
+use Rattle.std.specs.FinMap.{values}
+use Rattle.serde_json.specs.Data.{Data, null, number, string, array, object, unsigned, Members, no_members, member}
+use Rattle.serde_json.specs.View.{items_of}
 use Rattle.draft_core.specs.declared.state.DbState.{DbState}
 use Rattle.draft_core.specs.declared.state.DbState.TheVariants.{Normal, Transaction, Verify, Done}
 use Rattle.draft_core.specs.declared.state.Verdict.{Verdict}
 use Rattle.draft_core.specs.declared.state.Verdict.TheVariants.{NotDone, DoneWithError, DoneWithNoError}
 use Rattle.office_desk.specs.Refusal.{Line, line_of}
 use Rattle.office_desk.specs.declared.refusal.Refusal.{Refusal}
+use Rattle.office_desk.specs.declared.refusal.Refusal.TheVariants.{VerifyFailed}
 use Rattle.office_desk.specs.declared.reply.IntersectionState.{IntersectionState}
+use Rattle.office_desk.specs.declared.reply.OpenDraft.{OpenDraft}
 use Rattle.office_desk.specs.declared.reply.Reply.{Reply}
-use Rattle.office_desk.specs.declared.reply.Reply.TheVariants.{Added, Same, State, Refused}
+use Rattle.office_desk.specs.declared.reply.Reply.TheVariants.{Added, Same, Moved, State, Timing, Draft, Refused}
+use Rattle.office_desk.specs.declared.reply.RunningTiming.{RunningTiming}
+use Rattle.signal_records.specs.Spelling.{spelling}
+use Rattle.signal_records.specs.TimingSet.{Rows}
+use Rattle.signal_records.specs.Within.{current_limits}
+use Rattle.signal_records.specs.declared.record.Row.{Row}
+use Rattle.signal_rules.specs.Texts.{rule_text, subject_text}
+use Rattle.signal_rules.specs.declared.violation.Violation.{Violation}
 
 -- a number
 abbrev pub count : ℕ → Data
@@ -23,6 +34,10 @@ text bytes = string bytes
 abbrev pub or_null : {A : Type 0} → (A → Data) → Option A → Data
 or_null tree None = null
 or_null tree (Some x) = tree x
+
+-- an array of the trees of a list
+abbrev pub list : {A : Type 0} → (A → Data) → List A → Data
+list tree xs = array (items_of (map tree xs))
 
 -- the members of an object
 abbrev pub members : List (List ℕ × Data) → Members
@@ -52,6 +67,13 @@ error_tree line = keys ((codes "error", text line.name) ∷ (codes "number", cou
 
 -- the tree of a refusal
 abbrev pub refusal_tree : Refusal → Data
+refusal_tree (VerifyFailed violations) =
+    keys (
+    (codes "count", count violations)
+    ∷ (codes "error", text (line_of (VerifyFailed violations)).name)
+    ∷ (codes "number", count (line_of (VerifyFailed violations)).number)
+    ∷ []
+    )
 refusal_tree refusal = error_tree (line_of refusal)
 
 -- what State shows of an intersection
@@ -69,9 +91,40 @@ state_tree shown =
     ∷ []
     )
 
+-- a row, as the array of its fields
+abbrev pub row_tree : Row → Data
+row_tree row = list text (spelling current_limits row)
+
+-- the rows of a timing set, in the order of their keys
+abbrev pub rows_tree : Rows → Data
+rows_tree set = list row_tree (values set)
+
+-- a rule that a subject breaks
+abbrev pub violation_tree : Violation → Data
+violation_tree violation =
+    keys ((codes "rule", text (rule_text violation.rule)) ∷ (codes "subject", text (subject_text violation.subject)) ∷ [])
+
+-- what Timing shows of an intersection
+abbrev pub timing_tree : RunningTiming → Data
+timing_tree shown = keys ((codes "revision", count shown.revision) ∷ (codes "rows", rows_tree shown.rows) ∷ [])
+
+-- what Draft shows of an intersection
+abbrev pub draft_tree : OpenDraft → Data
+draft_tree shown =
+    keys (
+    (codes "owner", text shown.owner)
+    ∷ (codes "rows", rows_tree shown.rows)
+    ∷ (codes "violations", list violation_tree shown.violations)
+    ∷ []
+    )
+
 -- the tree of a reply
 abbrev pub tree_of : Reply → Data
 tree_of Added = keys ((codes "result", text (codes "added")) ∷ [])
 tree_of Same = keys ((codes "result", text (codes "same")) ∷ [])
+tree_of (Moved revision state verdict) =
+    keys ((codes "revision", count revision) ∷ (codes "state", text (state_name state)) ∷ (codes "verify", text (verdict_name verdict)) ∷ [])
 tree_of (State shown) = state_tree shown
+tree_of (Timing shown) = timing_tree shown
+tree_of (Draft shown) = draft_tree shown
 tree_of (Refused refusal) = refusal_tree refusal

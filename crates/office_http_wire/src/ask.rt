@@ -4,7 +4,8 @@ ghost use Rattle.office_http_wire.specs.declared.ask.AskFault.TheVariants.{NoMem
 ghost use Rattle.office_http_wire.specs.Fields.{field_name};
 
 use office_desk::command::Command;
-use signal_records::NoMemory;
+use signal_records::{NoMemory, RowFault};
+use std::alloc::{AllocError, AllocFailed};
 
 /// The form of an answer's content.
 #[derive(Clone, Copy, Debug, PartialEq, Eq)]
@@ -24,9 +25,11 @@ pub struct Asked {
 /// A field of a path or a key of a body.
 #[derive(Clone, Copy, Debug, PartialEq, Eq)]
 pub enum Field {
+    Clerk,
     Id,
     Interval,
     Name,
+    Rows,
 }
 
 impl Field {
@@ -35,9 +38,11 @@ impl Field {
         ensures { result.now ≡ field_name self }
     {
         match self {
+            Field::Clerk => "clerk",
             Field::Id => "id",
             Field::Interval => "interval",
             Field::Name => "name",
+            Field::Rows => "rows",
         }
     }
 }
@@ -53,6 +58,12 @@ pub enum AskFault {
     Json,
     /// A field is missing, of another kind or out of its range.
     Field(Field),
+    /// A row of the body spells no change.
+    BadRow {
+        /// Which row, counted from 1.
+        at: usize,
+        fault: RowFault,
+    },
     NoMemory,
 }
 
@@ -60,6 +71,22 @@ impl From<NoMemory> for AskFault {
     ghost from_gives = { λ _ fault. fault ≡ OutOfMemory };
 
     fn from(_: NoMemory) -> AskFault {
+        AskFault::NoMemory
+    }
+}
+
+impl From<AllocError> for AskFault {
+    ghost from_gives = { λ _ fault. fault ≡ OutOfMemory };
+
+    fn from(_: AllocError) -> AskFault {
+        AskFault::NoMemory
+    }
+}
+
+impl<T: Drop> From<AllocFailed<T>> for AskFault {
+    ghost from_gives = { λ _ fault. fault ≡ OutOfMemory };
+
+    fn from(_: AllocFailed<T>) -> AskFault {
         AskFault::NoMemory
     }
 }

@@ -1,18 +1,19 @@
 //! From a request to a command.
 ghost use Rattle.std.specs.Prelude.{◌≡◌};
 ghost use Rattle.office_http_wire.specs.Asks.{Gives};
-ghost use Rattle.office_http_wire.specs.Commands.{added_intersection, asked_at, asked_in_json, command_at};
+ghost use Rattle.office_http_wire.specs.Commands.{added_intersection, asked_at, asked_in_json, command_at, edited_in, id_and_clerk_in};
 
 use crate::ask::{AskFault, Asked, Field, Form};
 use crate::route::{Endpoint, Routes};
-use crate::{body, path};
+use crate::{body, path, rows};
 use office_desk::command::Command;
 use office_http_framing::front::Request;
+use signal_records::{InterId, Words};
 use std::alloc::Global;
 
 impl Routes {
     /// What a request asks, or the first fault: no route, another method, a path field from the left,
-    /// no JSON object, a key of the body by name.
+    /// no JSON object, a key of the body by name, a row that is no change.
     #[tactic(auto, unfolding(crate::specs::Commands::command_at))]
     pub fn command_of(&self, alloc: Global, request: &Request) -> Result<Asked, AskFault>
         ensures { Gives result (command_at request.now.method.now request.now.path.now request.now.body.now) }
@@ -40,9 +41,33 @@ fn asked(alloc: Global, endpoint: Endpoint, path: &[u8], body: &[u8]) -> Result<
 {
     match endpoint {
         Endpoint::AddIntersection => add_intersection(alloc, body),
-        Endpoint::State => {
-            let id = path::id(path)?;
-            Ok(in_json(Command::State { id }))
+        Endpoint::State => path::id(path).map(|id| in_json(Command::State { id })),
+        Endpoint::Timing => path::id(path).map(|id| in_json(Command::Timing { id })),
+        Endpoint::Draft => path::id(path).map(|id| in_json(Command::Draft { id })),
+        Endpoint::Begin => {
+            let (id, clerk) = id_and_clerk(alloc, path, body)?;
+            Ok(in_json(Command::Begin { id, clerk }))
+        }
+        Endpoint::Edit => edit(alloc, path, body),
+        Endpoint::Verify => {
+            let (id, clerk) = id_and_clerk(alloc, path, body)?;
+            Ok(in_json(Command::Verify { id, clerk }))
+        }
+        Endpoint::Check => {
+            let (id, clerk) = id_and_clerk(alloc, path, body)?;
+            Ok(in_json(Command::Check { id, clerk }))
+        }
+        Endpoint::Commit => {
+            let (id, clerk) = id_and_clerk(alloc, path, body)?;
+            Ok(in_json(Command::Commit { id, clerk }))
+        }
+        Endpoint::Reopen => {
+            let (id, clerk) = id_and_clerk(alloc, path, body)?;
+            Ok(in_json(Command::Reopen { id, clerk }))
+        }
+        Endpoint::Abandon => {
+            let (id, clerk) = id_and_clerk(alloc, path, body)?;
+            Ok(in_json(Command::Abandon { id, clerk }))
         }
     }
 }
@@ -66,4 +91,26 @@ fn add_intersection(alloc: Global, body: &[u8]) -> Result<Asked, AskFault>
     let interval = body::interval(&body)?;
     let name = body::words(alloc, &body, Field::Name)?;
     Ok(in_json(Command::AddIntersection { id, interval, name }))
+}
+
+// The intersection of the path, and the clerk of the body.
+#[tactic(auto, unfolding(crate::specs::Commands::id_and_clerk_in))]
+fn id_and_clerk(alloc: Global, path: &[u8], body: &[u8]) -> Result<(InterId, Words<40>), AskFault>
+    ensures { Gives result (id_and_clerk_in path.now body.now) }
+{
+    let id = path::id(path)?;
+    let body = body::read(alloc, body)?;
+    let clerk = body::words(alloc, &body, Field::Clerk)?;
+    Ok((id, clerk))
+}
+
+#[tactic(auto, unfolding(crate::specs::Commands::edited_in))]
+fn edit(alloc: Global, path: &[u8], body: &[u8]) -> Result<Asked, AskFault>
+    ensures { Gives result (edited_in path.now body.now) }
+{
+    let id = path::id(path)?;
+    let body = body::read(alloc, body)?;
+    let clerk = body::words(alloc, &body, Field::Clerk)?;
+    let changes = rows::of_body(alloc, &body)?;
+    Ok(in_json(Command::Edit { id, clerk, changes }))
 }

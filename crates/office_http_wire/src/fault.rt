@@ -9,6 +9,7 @@ use crate::ask::{AskFault, Field};
 use http::StatusCode;
 use office_http_framing::front::Fault;
 use serde_json::{Value, json};
+use signal_records::RowFault;
 use std::alloc::{AllocError, Global};
 
 /// What the answer of a fault shows beside its name and number.
@@ -16,6 +17,12 @@ use std::alloc::{AllocError, Global};
 pub enum More {
     Nothing,
     Field(Field),
+    /// What is wrong with a row.
+    Row {
+        /// Which row, counted from 1.
+        at: usize,
+        fault: RowFault,
+    },
 }
 
 // A line of the table of faults.
@@ -25,7 +32,7 @@ struct FaultLine {
     status: StatusCode,
 }
 
-// The line of a number, of which there are nine.
+// The line of a number, of which there are ten.
 fn line(number: u32) -> FaultLine
     ensures name { result.name.now ≡ (fault_line number).name }
     ensures status { result.status ≡ (fault_line number).status }
@@ -39,7 +46,8 @@ fn line(number: u32) -> FaultLine
         6 => ("NoRoute", StatusCode::NOT_FOUND),
         7 => ("Method", StatusCode::METHOD_NOT_ALLOWED),
         8 => ("Json", StatusCode::BAD_REQUEST),
-        _ => ("Field", StatusCode::BAD_REQUEST),
+        9 => ("Field", StatusCode::BAD_REQUEST),
+        _ => ("BadRow", StatusCode::BAD_REQUEST),
     };
     FaultLine { name, status }
 }
@@ -54,10 +62,14 @@ fn tree_of_fault(alloc: Global, number: u32, more: More) -> Result<Value, AllocE
         More::Field(field) => {
             json!(in alloc; {"error": error, "field": field.name(), "number": number})
         }
+        More::Row { at, fault } => {
+            let field = fault.field().unwrap_or(0);
+            json!(in alloc; {"error": error, "fault": fault.name(), "field": field, "number": number, "record": at})
+        }
     }
 }
 
-/// The answer of a fault, of a request's framing (1 to 5) or of what it asks (6 to 9).
+/// The answer of a fault, of a request's framing (1 to 5) or of what it asks (6 to 9, and 31).
 pub fn fault_answer(alloc: Global, number: u32, more: More) -> Result<Vec<u8>, AllocError>
     requires { IsFault number more }
     ensures { IfOk result (λ answer. answer.items ≡ fault_bytes number more) }
@@ -76,6 +88,7 @@ pub fn ask_fault_answer(alloc: Global, fault: AskFault) -> Result<Vec<u8>, Alloc
         AskFault::Method => fault_answer(alloc, 7, More::Nothing),
         AskFault::Json => fault_answer(alloc, 8, More::Nothing),
         AskFault::Field(field) => fault_answer(alloc, 9, More::Field(field)),
+        AskFault::BadRow { at, fault } => fault_answer(alloc, 31, More::Row { at, fault }),
         AskFault::NoMemory => Err(AllocError),
     }
 }

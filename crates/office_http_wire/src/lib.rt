@@ -7,8 +7,10 @@ mod body;
 mod cache;
 mod command;
 mod fault;
+mod list_tree;
 mod path;
 mod route;
+mod rows;
 mod tree;
 mod value;
 
@@ -21,3 +23,5 @@ pub use route::{Endpoint, Routes};
 
 #[cfg(test)]
 mod tests;
+#[cfg(test)]
+mod transaction_tests;

@@ -17,11 +17,32 @@ use std::str;
 pub enum Endpoint {
     AddIntersection,
     State,
+    Timing,
+    Draft,
+    Begin,
+    Edit,
+    Verify,
+    Check,
+    Commit,
+    Reopen,
+    Abandon,
 }
 
 impl Endpoint {
     /// Every endpoint, in the order of the table of routes.
-    pub const ALL: [Endpoint; 2] = [Endpoint::AddIntersection, Endpoint::State];
+    pub const ALL: [Endpoint; 11] = [
+        Endpoint::AddIntersection,
+        Endpoint::State,
+        Endpoint::Timing,
+        Endpoint::Draft,
+        Endpoint::Begin,
+        Endpoint::Edit,
+        Endpoint::Verify,
+        Endpoint::Check,
+        Endpoint::Commit,
+        Endpoint::Reopen,
+        Endpoint::Abandon,
+    ];
 
     /// The one method of the route.
     pub fn method(self) -> Method
@@ -30,6 +51,15 @@ impl Endpoint {
         match self {
             Endpoint::AddIntersection => Method::POST,
             Endpoint::State => Method::GET,
+            Endpoint::Timing => Method::GET,
+            Endpoint::Draft => Method::GET,
+            Endpoint::Begin => Method::POST,
+            Endpoint::Edit => Method::POST,
+            Endpoint::Verify => Method::POST,
+            Endpoint::Check => Method::POST,
+            Endpoint::Commit => Method::POST,
+            Endpoint::Reopen => Method::POST,
+            Endpoint::Abandon => Method::POST,
         }
     }
 
@@ -47,6 +77,15 @@ impl Endpoint {
         match self {
             Endpoint::AddIntersection => "/intersections",
             Endpoint::State => "/intersections/{id}",
+            Endpoint::Timing => "/intersections/{id}/timing",
+            Endpoint::Draft => "/intersections/{id}/draft",
+            Endpoint::Begin => "/intersections/{id}/begin",
+            Endpoint::Edit => "/intersections/{id}/edit",
+            Endpoint::Verify => "/intersections/{id}/verify",
+            Endpoint::Check => "/intersections/{id}/check",
+            Endpoint::Commit => "/intersections/{id}/commit",
+            Endpoint::Reopen => "/intersections/{id}/reopen",
+            Endpoint::Abandon => "/intersections/{id}/abandon",
         }
     }
 }

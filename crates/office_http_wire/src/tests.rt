@@ -38,7 +38,7 @@ const NAME: &[u8] =
 const UNAVAILABLE: &[u8] =
     b"HTTP/1.1 503 Service Unavailable\r\nContent-Type: application/json\r\nContent-Length: 35\r\n\r\n{\"error\":\"Unavailable\",\"number\":90}";
 
-fn request<'a>(method: &'a [u8], path: &'a [u8], body: &'a [u8]) -> Request<'a> {
+pub(crate) fn request<'a>(method: &'a [u8], path: &'a [u8], body: &'a [u8]) -> Request<'a> {
     Request {
         method,
         path,

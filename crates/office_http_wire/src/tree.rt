@@ -1,11 +1,12 @@
 //! The JSON trees of replies.
 ghost use Rattle.std.specs.Prelude.{◌≡◌, IfOk};
 ghost use Rattle.serde_json.specs.View.{view};
-ghost use Rattle.office_http_wire.specs.Trees.{or_null, text, tree_of, refusal_tree, state_tree, state_name, verdict_name};
+ghost use Rattle.office_http_wire.specs.Trees.{or_null, text, tree_of, refusal_tree, state_tree, timing_tree, draft_tree, state_name, verdict_name};
 
+use crate::list_tree;
 use draft_core::state::{DbState, Verdict};
 use office_desk::refusal::Refusal;
-use office_desk::reply::{IntersectionState, Reply};
+use office_desk::reply::{IntersectionState, OpenDraft, Reply, RunningTiming};
 use serde_json::{Value, json};
 use signal_records::Words;
 use std::alloc::{AllocError, Global};
@@ -47,7 +48,14 @@ fn clerk_or_null(alloc: Global, clerk: &Option<Words<40>>) -> Result<Value, Allo
 fn refused(alloc: Global, refusal: Refusal) -> Result<Value, AllocError>
     ensures { IfOk result (λ tree. view tree ≡ refusal_tree refusal) }
 {
-    json!(in alloc; {"error": refusal.name(), "number": refusal.number()})
+    let error = refusal.name();
+    let number = refusal.number();
+    match refusal {
+        Refusal::VerifyFailed(count) => {
+            json!(in alloc; {"count": count, "error": error, "number": number})
+        }
+        _ => json!(in alloc; {"error": error, "number": number}),
+    }
 }
 
 // The tree of an intersection's state.
@@ -67,6 +75,23 @@ fn of_state(alloc: Global, shown: &IntersectionState) -> Result<Value, AllocErro
     })
 }
 
+// The tree of a committed timing set.
+fn of_timing(alloc: Global, shown: &RunningTiming) -> Result<Value, AllocError>
+    ensures { IfOk result (λ tree. view tree ≡ timing_tree shown.now) }
+{
+    let rows = list_tree::of_rows(alloc, &shown.rows)?;
+    json!(in alloc; {"revision": shown.revision.get(), "rows": rows})
+}
+
+// The tree of a draft.
+fn of_draft(alloc: Global, shown: &OpenDraft) -> Result<Value, AllocError>
+    ensures { IfOk result (λ tree. view tree ≡ draft_tree shown.now) }
+{
+    let rows = list_tree::of_rows(alloc, &shown.rows)?;
+    let violations = list_tree::of_violations(alloc, shown.violations.as_slice())?;
+    json!(in alloc; {"owner": shown.owner.as_str(), "rows": rows, "violations": violations})
+}
+
 /// The tree of a reply.
 pub(crate) fn of_reply(alloc: Global, reply: &Reply) -> Result<Value, AllocError>
     ensures { IfOk result (λ tree. view tree ≡ tree_of reply.now) }
@@ -74,7 +99,18 @@ pub(crate) fn of_reply(alloc: Global, reply: &Reply) -> Result<Value, AllocError
     match reply {
         Reply::Added => json!(in alloc; {"result": "added"}),
         Reply::Same => json!(in alloc; {"result": "same"}),
+        Reply::Moved {
+            revision,
+            state,
+            verdict,
+        } => {
+            let state = state_word(*state);
+            let verify = verdict_word(*verdict);
+            json!(in alloc; {"revision": revision.get(), "state": state, "verify": verify})
+        }
         Reply::State(shown) => of_state(alloc, shown),
+        Reply::Timing(shown) => of_timing(alloc, shown),
+        Reply::Draft(shown) => of_draft(alloc, shown),
         Reply::Refused(refusal) => refused(alloc, *refusal),
     }
 }

@@ -9,7 +9,7 @@ use Rattle.sqlite_trees.specs.Objects.{catalog_tree, shape_code, number_in, row_
 use Rattle.sqlite_trees.specs.View.{View, IsOrdered}
 use Rattle.sqlite_catalog.specs.Listing.{AreListed, is_table_row, is_index_row, is_view_row}
 use Rattle.sqlite_catalog.proofs.LayoutLemmas.{row_kind}
-use Rattle.office_tables.specs.Schema.{no_schema}
+use Rattle.office_tables_sql.specs.Schema.{no_schema}
 use Rattle.office_tables.specs.Version.{AreEmpty}
 
 no_pairs : {X Y : Type 0} (R : X → Y → Type 0) (xs : List X) → AllZip R xs [] → xs ≡ []

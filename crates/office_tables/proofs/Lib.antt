@@ -1,9 +1,3 @@
-mod StoredLemmas
-mod QueryLemmas
-mod SchemaLemmas
-mod CallLemmas
-mod WriteLemmas
-mod ContentLemmas
-mod PutLemmas
 mod VersionLemmas
+mod StatementLemmas
 mod BlankLemmas

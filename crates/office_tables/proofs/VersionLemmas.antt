@@ -12,13 +12,13 @@ use Rattle.sqlite.specs.Order.{Row}
 use Rattle.sqlite.specs.Program.{overlay}
 use Rattle.sqlite.specs.declared.types.Value.TheVariants.{Null}
 use Rattle.sqlite_tied.specs.Compute.{everything}
-use Rattle.office_tables.specs.Layout as layout
+use Rattle.office_tables_sql.specs.Layout as layout
 use Rattle.office_tables_shelf.specs.Content.{no_content}
-use Rattle.office_tables.specs.Stored.{rows_in, content_of}
+use Rattle.office_tables_sql.specs.Stored.{rows_in, content_of}
 use Rattle.sqlite.specs.Tree.{Trees}
 use Rattle.office_tables.specs.Version.{AreEmpty, ListsRows}
-use Rattle.office_tables.specs.Calls.{IsQuery, Reads}
-use Rattle.office_tables.proofs.QueryLemmas.{answers}
+use Rattle.office_tables_sql.specs.Calls.{IsQuery, Reads}
+use Rattle.office_tables_sql.proofs.QueryLemmas.{answers}
 
 pub lists_intersection : ListsRows (codes "SELECT id FROM intersection") 0
 unfolding understood everything

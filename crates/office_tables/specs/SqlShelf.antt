@@ -5,13 +5,14 @@ use Rattle.sqlite.specs.Held.{Held, held_code}
 use Rattle.sqlite.specs.State.{State}
 use Rattle.sqlite.specs.Tree.{Trees}
 use Rattle.office_tables_shelf.specs.Content.{Content}
-use Rattle.office_tables_shelf.specs.MapShelf.{Counts, counts_code}
-use Rattle.office_tables.specs.Stored.{content_of}
+use Rattle.office_tables_shelf.specs.Counts.{counts_code}
+use Rattle.office_tables_shelf.specs.declared.counts.WriteCounts.{WriteCounts}
+use Rattle.office_tables_sql.specs.Stored.{content_of}
 
 -- the connection, and how often the rows of each table were written
 pub record SqlView (S : Type 0) : Type 0 where
   pub conn : Held S
-  pub counts : Counts
+  pub counts : WriteCounts
 
 -- a crash may leave trees with this content
 abbrev pub MayLeave : State → Content → Type 0
@@ -20,4 +21,4 @@ MayLeave s tables = (trees : Trees) × s.may_leave trees × (content_of trees �
 -- ---- how the logic stores it
 
 abbrev pub view_code : {S : Type 0} → Coded S → Coded (SqlView S)
-view_code {S} store = code_by (Held S × Counts) (coded× (held_code store) counts_code) (λ v. (v.conn, v.counts)) (λ p. record { conn = p.0; counts = p.1 }) (λ _. refl)
+view_code {S} store = code_by (Held S × WriteCounts) (coded× (held_code store) counts_code) (λ v. (v.conn, v.counts)) (λ p. record { conn = p.0; counts = p.1 }) (λ _. refl)

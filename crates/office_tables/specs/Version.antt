@@ -10,10 +10,10 @@ use Rattle.sqlite.specs.Query.{Query, inner, end}
 use Rattle.sqlite.specs.Term.{lit, col}
 use Rattle.sqlite.specs.Tree.{Trees}
 use Rattle.office_tables_shelf.specs.Cells.{Cell, number}
-use Rattle.office_tables.specs.Schema.{office_schema}
-use Rattle.office_tables.specs.Layout as layout
-use Rattle.office_tables.specs.Stored.{rows_of}
-use Rattle.office_tables.specs.Calls.{IsQuery, command_of}
+use Rattle.office_tables_sql.specs.Schema.{office_schema}
+use Rattle.office_tables_sql.specs.Layout as layout
+use Rattle.office_tables_sql.specs.Stored.{rows_of}
+use Rattle.office_tables_sql.specs.Calls.{IsQuery, command_of}
 
 -- the version that is stored, if there is one: the cells under the number 1
 abbrev pub version_in : Trees → Option (List Cell)

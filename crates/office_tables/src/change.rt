@@ -4,15 +4,21 @@ ghost use Rattle.std.specs.Prelude.{◌≡◌, OnOk, OnErr};
 ghost use Rattle.sqlite.specs.State.{HasCleanDisk, Survives};
 ghost use Rattle.sqlite.specs.Held.{state};
 ghost use Rattle.office_tables_shelf.specs.Change.{changed, changed_by};
-ghost use Rattle.office_tables.specs.Stored.{content_now, content_of};
-ghost use Rattle.office_tables.specs.Calls.{IsHonest, IsOffice, IsReady, StandsOn};
+ghost use Rattle.office_tables_sql.specs.Stored.{content_now, content_of};
+ghost use Rattle.office_tables_sql.specs.Calls.{IsHonest, IsOffice, IsReady, StandsOn};
 
-use crate::intersection;
-use crate::statement::SqlFault;
 use office_tables_shelf::rows::RowChange;
+use office_tables_sql::statement::SqlFault;
+use office_tables_sql::{draft, intersection, timing};
 use sqlite::{Alter, Connection, Transaction};
+use std::alloc::Global;
 
-fn change_row<S: Alter>(tx: &mut Transaction<'_, S>, change: &RowChange) -> Result<(), SqlFault>
+/// Makes one change.
+fn change_row<S: Alter>(
+    alloc: Global,
+    tx: &mut Transaction<'_, S>,
+    change: &RowChange,
+) -> Result<(), SqlFault>
     ensures same_reference { tx.new.conn.ghost_name ≡ tx.old.conn.ghost_name }
     ensures ready { HasCleanDisk (state S.Store tx.new.conn.now) → OnOk result (IsReady (state S.Store tx.old.conn.now) → IsReady (state S.Store tx.new.conn.now)) }
     ensures changed { HasCleanDisk (state S.Store tx.new.conn.now) → OnOk result (IsReady (state S.Store tx.old.conn.now) → content_now (state S.Store tx.new.conn.now) ≡ changed (content_now (state S.Store tx.old.conn.now)) change.now) }
@@ -21,10 +27,19 @@ fn change_row<S: Alter>(tx: &mut Transaction<'_, S>, change: &RowChange) -> Resu
 {
     match change {
         RowChange::PutIntersection(id, row) => intersection::put(tx, *id, row),
+        RowChange::PutTiming(id, row) => timing::put(alloc, tx, *id, row),
+        RowChange::RemoveTiming(id, key) => timing::remove(tx, *id, key),
+        RowChange::PutDraft(id, change) => draft::put(alloc, tx, *id, change),
+        RowChange::RemoveDraft(id, key) => draft::remove(tx, *id, key),
     }
 }
 
-fn change_rows<S: Alter>(tx: &mut Transaction<'_, S>, changes: &[RowChange]) -> Result<(), SqlFault>
+/// Makes the changes one after another.
+fn change_rows<S: Alter>(
+    alloc: Global,
+    tx: &mut Transaction<'_, S>,
+    changes: &[RowChange],
+) -> Result<(), SqlFault>
     ensures same_reference { tx.new.conn.ghost_name ≡ tx.old.conn.ghost_name }
     ensures ready { HasCleanDisk (state S.Store tx.new.conn.now) → OnOk result (IsReady (state S.Store tx.old.conn.now) → IsReady (state S.Store tx.new.conn.now)) }
     ensures changed { HasCleanDisk (state S.Store tx.new.conn.now) → OnOk result (IsReady (state S.Store tx.old.conn.now) → content_now (state S.Store tx.new.conn.now) ≡ changed_by (content_now (state S.Store tx.old.conn.now)) changes.now) }
@@ -32,13 +47,14 @@ fn change_rows<S: Alter>(tx: &mut Transaction<'_, S>, changes: &[RowChange]) -> 
     ensures crash { Survives (state S.Store tx.old.conn.now) (state S.Store tx.new.conn.now) (λ _. ⊥) }
 {
     for change in changes {
-        change_row(tx, change)?;
+        change_row(alloc, tx, change)?;
     }
     Ok(())
 }
 
 /// Makes all changes in their order, or none.
 pub(crate) fn apply<S: Alter>(
+    alloc: Global,
     conn: &mut Connection<S>,
     changes: &[RowChange],
 ) -> Result<(), SqlFault>
@@ -50,7 +66,7 @@ pub(crate) fn apply<S: Alter>(
     ensures crash { Survives (state S.Store conn.old) (state S.Store conn.new) (λ trees. IsHonest (state S.Store conn.old) → content_of trees ≡ changed_by (content_now (state S.Store conn.old)) changes.now) }
 {
     let mut tx = conn.transaction();
-    change_rows(&mut tx, changes)?;
+    change_rows(alloc, &mut tx, changes)?;
     tx.commit()?;
     Ok(())
 }

@@ -3,19 +3,20 @@
 ghost use Rattle.std.specs.Prelude.{◌≡◌, ◌≢◌, false, Err, None, Some, IfSome, IfOk, IfErr};
 ghost use Rattle.sqlite.specs.State.{HasCleanDisk};
 ghost use Rattle.sqlite.specs.Held.{state};
-ghost use Rattle.office_tables_shelf.specs.Change.{writes_after};
 ghost use Rattle.office_tables_shelf.specs.Content.{no_content};
-ghost use Rattle.office_tables_shelf.specs.MapShelf.{no_writes};
-ghost use Rattle.office_tables.specs.Stored.{content_now, content_of};
-ghost use Rattle.office_tables.specs.Calls.{IsAlwaysHonest, IsHonest};
-ghost use Rattle.office_tables.specs.Schema.{no_schema};
+ghost use Rattle.office_tables_shelf.specs.Counts.{no_writes};
+ghost use Rattle.office_tables_sql.specs.Stored.{content_now, content_of};
+ghost use Rattle.office_tables_sql.specs.Calls.{IsAlwaysHonest, IsHonest};
+ghost use Rattle.office_tables_sql.specs.Schema.{no_schema};
 ghost use Rattle.office_tables.specs.Version.{HasRow, version_in, first_version};
 
+use crate::change;
 use crate::open::{OpenFault, claim, prepared};
-use crate::{change, intersection};
+use office_tables_shelf::counts::WriteCounts;
 use office_tables_shelf::rows::{IntersectionRow, RowChange, Table};
 use office_tables_shelf::shelf::{Shelf, ShelfFault};
-use signal_records::InterId;
+use office_tables_sql::{draft_list, intersection, intersection_list, timing_list};
+use signal_records::{Change, InterId, Row};
 use sqlite::{Alter, Connection};
 use std::alloc::Global;
 use std::marker::Model;
@@ -24,19 +25,19 @@ use std::marker::Model;
 #[derive(Drop)]
 pub struct SqlShelf<S: Alter> {
     conn: Connection<S>,
-    intersection_writes: u64,
+    counts: WriteCounts,
 }
 
 impl<S: Alter> Model for SqlShelf<S> {
     ghost use Rattle.sqlite.specs.Held.{state};
-    ghost use Rattle.office_tables.specs.Calls.{IsOffice};
+    ghost use Rattle.office_tables_sql.specs.Calls.{IsOffice};
     ghost use Rattle.office_tables.specs.SqlShelf.{SqlView, view_code};
 
     ghost Value = { SqlView S };
 
     ghost coded = { view_code S.code };
 
-    ghost view = { λ s. record { conn = s.conn; counts = record { intersection = s.intersection_writes } } };
+    ghost view = { λ s. record { conn = s.conn; counts = s.counts } };
 
     ghost invariant = { λ s. IsOffice (state S.Store s.conn) };
 }
@@ -87,7 +88,7 @@ impl<S: Alter> SqlShelf<S> {
         match claim(&mut conn, is_new) {
             Ok(()) => Ok(SqlShelf {
                 conn,
-                intersection_writes: 0,
+                counts: WriteCounts::new(),
             }),
             Err(fault) => Err((fault, Some(conn))),
         }
@@ -104,26 +105,10 @@ impl<S: Alter> SqlShelf<S> {
     }
 }
 
-/// The row writes of a table after these changes.
-fn counted(table: Table, writes: u64, changes: &[RowChange]) -> u64
-    ensures { result ≡ writes_after table writes changes.now }
-{
-    let mut count = writes;
-    for change in changes {
-        match (table, change) {
-            (Table::Intersection, RowChange::PutIntersection(..)) => {
-                count = count.saturating_add(1);
-            }
-        }
-    }
-    count
-}
-
 impl<S: Alter> Shelf for SqlShelf<S> {
     ghost use Rattle.sqlite.specs.Held.{state};
-    ghost use Rattle.office_tables_shelf.specs.MapShelf.{count_of};
-    ghost use Rattle.office_tables.specs.Stored.{content_now};
-    ghost use Rattle.office_tables.specs.Calls.{IsHonest};
+    ghost use Rattle.office_tables_sql.specs.Stored.{content_now};
+    ghost use Rattle.office_tables_sql.specs.Calls.{IsHonest};
     ghost use Rattle.office_tables.specs.SqlShelf.{MayLeave};
 
     ghost content = { λ s. content_now (state S.Store s.conn) };
@@ -132,7 +117,7 @@ impl<S: Alter> Shelf for SqlShelf<S> {
 
     ghost may_leave = { λ s tables. MayLeave (state S.Store s.conn) tables };
 
-    ghost written = { λ s table. count_of s.counts table };
+    ghost written = { λ s. s.counts };
 
     fn intersection(
         &mut self,
@@ -142,15 +127,28 @@ impl<S: Alter> Shelf for SqlShelf<S> {
         intersection::read(alloc, &mut self.conn, id)
     }
 
-    fn apply(&mut self, _alloc: Global, changes: &[RowChange]) -> Result<(), ShelfFault> {
-        change::apply(&mut self.conn, changes)?;
-        self.intersection_writes = counted(Table::Intersection, self.intersection_writes, changes);
+    fn intersections(
+        &mut self,
+        alloc: Global,
+    ) -> Result<Vec<(InterId, IntersectionRow)>, ShelfFault> {
+        intersection_list::intersections(alloc, &mut self.conn)
+    }
+
+    fn timing_rows(&mut self, alloc: Global, id: InterId) -> Result<Vec<Row>, ShelfFault> {
+        timing_list::timing_rows(alloc, &mut self.conn, id)
+    }
+
+    fn draft_rows(&mut self, alloc: Global, id: InterId) -> Result<Vec<Change>, ShelfFault> {
+        draft_list::draft_rows(alloc, &mut self.conn, id)
+    }
+
+    fn apply(&mut self, alloc: Global, changes: &[RowChange]) -> Result<(), ShelfFault> {
+        change::apply(alloc, &mut self.conn, changes)?;
+        self.counts.count_all(changes);
         Ok(())
     }
 
     fn writes(&self, table: Table) -> u64 {
-        match table {
-            Table::Intersection => self.intersection_writes,
-        }
+        self.counts.of(table)
     }
 }

@@ -5,11 +5,11 @@ ghost use Rattle.std.specs.Option.{option_map};
 ghost use Rattle.std.specs.List.{AllByRecursion};
 ghost use Rattle.sqlite.specs.State.{HasCleanDisk, Survives};
 ghost use Rattle.sqlite.specs.Held.{state};
-ghost use Rattle.office_tables.specs.Stored.{cells, content_now, content_of};
-ghost use Rattle.office_tables.specs.Calls.{IsHonest, IsOffice, IsQuery, IsReady, Keeps, StandsOn};
+ghost use Rattle.office_tables_sql.specs.Stored.{cells, content_now, content_of};
+ghost use Rattle.office_tables_sql.specs.Calls.{IsHonest, IsOffice, IsQuery, IsReady, Keeps, StandsOn};
 ghost use Rattle.office_tables.specs.Version.{AreEmpty, HasRow, IsListing, ListsRows, version_in, first_version};
 
-use crate::statement::{SqlFault, select, select_one, write};
+use office_tables_sql::statement::{SqlFault, select, select_one, write};
 use sqlite::{Alter, Connection, Row, Transaction, params};
 
 const FIND: &str = "SELECT version FROM office_version WHERE one = ?1";

@@ -1,5 +1,5 @@
 -- The order of cells is total and exact, and what stands under a key is the first of a list.
-use Rattle.std.proofs.Common.{◌≡◌, ℕ, Bool, true, false, List, [], ◌∷◌, map, find, cond, Option, None, Some, option_map, int_cmp, nat_cmp, refl, sym, ap, ◌∙◌, true≢false}
+use Rattle.std.proofs.Common.{◌≡◌, Bool, true, false, List, [], ◌∷◌, map, find, cond, Option, Some, option_map, int_cmp, nat_cmp, refl, sym, ap, ◌∙◌, true≢false}
 use Rattle.std.proofs.lemmas.Cmp.{on_total, then_total, nat_cmp_total, nat_list_cmp_total, lists_total}
 use Rattle.std.proofs.lemmas.Map.Lookups.{exact_pairs, exact_unsigned, exact_signed, exact_bytes}
 use Rattle.std.specs.Cmp.{IsTotalOrder, int_cmp_total}

@@ -1,2 +1,7 @@
 pub mod CellLemmas
 pub mod TreeLemmas
+pub mod ListLemmas
+pub mod PlaceLemmas
+pub mod KeyLemmas
+pub mod RowLemmas
+pub mod CountLemmas

@@ -3,10 +3,15 @@ use Rattle.std.proofs.Common.{◌≡◌, ◌⊎◌, inl, inr, ℕ, Bool, true, f
 use Rattle.std.proofs.lemmas.Bool.{cases_Bool}
 use Rattle.std.proofs.lemmas.Bool.Decides.{nat_tests}
 use Rattle.std.specs.BTreeMap.{is_at}
-use Rattle.std.specs.Cmp.{eq_by_cmp_equiv, both_tied}
+use Rattle.std.specs.Cmp.{eq_by_cmp_equiv, both_tied, nat_cmp_total, tied_itself}
 use Rattle.std.specs.FinMap.{insert, remove, get, same_map, get-insert, get-remove}
 use Rattle.std.specs.Map.{lookup}
-use Rattle.std.specs.Ordering.{is_eq, ordering_then}
+use Rattle.std.specs.Ordering.{is_eq, eq_by_cmp, int_cmp, ordering_then}
+use Rattle.signal_records.specs.Key.{kind_of, first_of, second_of, key_cmp}
+use Rattle.signal_records.specs.declared.key.Key.{Key}
+use Rattle.office_tables_shelf.specs.MapShelf.{place_key}
+use Rattle.office_tables_shelf.specs.Rows.{timing_key}
+use Rattle.office_tables_shelf.specs.declared.place.Place.{Place}
 use Rattle.office_tables_shelf.specs.Cells.{Cell, number, tree_rows, cell_cmp, cells_cmp}
 use Rattle.office_tables_shelf.proofs.CellLemmas.{cells_total, cells_exact, is_under, first_under, get_by, tied}
 use Rattle.std.specs.declared.cmp.Ordering.TheVariants.{Less, Equal, Greater}
@@ -104,11 +109,54 @@ number_ties a b = grind (arith, nat_tests)
 abbrev pub ranged_cmp : ℕ → ℕ → Ordering
 ranged_cmp a b = ordering_then (nat_cmp a b) Equal
 
-then_equal : (o : Ordering) → is_eq o ≡ is_eq (ordering_then o Equal)
-then_equal Less = refl
-then_equal Equal = refl
-then_equal Greater = refl
+then_last : (o : Ordering) → ordering_then o Equal ≡ o
+then_last Less = refl
+then_last Equal = refl
+then_last Greater = refl
 
 -- a key that is one number of a range
 pub ranged_ties : (a b : ℕ) → is_eq (cells_cmp (number (pos a) ∷ []) (number (pos b) ∷ [])) ≡ is_eq (ranged_cmp a b)
-ranged_ties a b = number_ties a b ∙ then_equal (nat_cmp a b)
+ranged_ties a b = number_ties a b ∙ ap is_eq (sym (then_last (nat_cmp a b)))
+
+-- ---- keys of timing and draft rows
+
+whole_order : (a b : ℕ) → int_cmp (pos a) (pos b) ≡ nat_cmp a b
+whole_order a b = grind (arith, nat_tests)
+
+-- whole numbers of cells compare as numbers
+pub number_order : (a b : ℕ) → cell_cmp (number (pos a)) (number (pos b)) ≡ nat_cmp a b
+unfolding cell_cmp
+number_order a b = then_last (int_cmp (pos a) (pos b)) ∙ whole_order a b
+
+alone : (r s : Ordering) → r ≡ s → ordering_then r Equal ≡ s
+alone r s p = then_last r ∙ p
+
+-- the cells of the keys of an intersection have the order of the keys
+pub timing_order : (id : ℕ) (a b : Key) → cells_cmp (timing_key id a) (timing_key id b) ≡ key_cmp a b
+timing_order id a b =
+    (λ i. ordering_then ((number_order id id ∙ tied_itself nat_cmp_total id) i)
+    (ordering_then (number_order (kind_of a) (kind_of b) i)
+    (ordering_then (number_order (first_of a) (first_of b) i)
+    (alone _ _ (number_order (second_of a) (second_of b)) i))))
+
+pub timing_ties : (id : ℕ) (a b : Key) → is_eq (cells_cmp (timing_key id a) (timing_key id b)) ≡ eq_by_cmp key_cmp a b
+timing_ties id a b = ap is_eq (timing_order id a b)
+
+-- how places compare
+abbrev pub place_cmp : Place → Place → Ordering
+place_cmp a b = ordering_then (ranged_cmp a.inter b.inter) (key_cmp a.key b.key)
+
+-- the cells of places have their order
+pub place_order : (a b : Place) → cells_cmp (place_key a) (place_key b) ≡ place_cmp a b
+place_order a b =
+    (λ i. ordering_then ((number_order a.inter b.inter ∙ sym (then_last (nat_cmp a.inter b.inter))) i)
+    (ordering_then (number_order (kind_of a.key) (kind_of b.key) i)
+    (ordering_then (number_order (first_of a.key) (first_of b.key) i)
+    (alone _ _ (number_order (second_of a.key) (second_of b.key)) i))))
+
+pub place_ties : (a b : Place) → is_eq (cells_cmp (place_key a) (place_key b)) ≡ is_eq (place_cmp a b)
+place_ties a b = ap is_eq (place_order a b)
+
+-- the numbers of intersections have their order in cells
+pub number_cells_order : (a b : ℕ) → cells_cmp (number (pos a) ∷ []) (number (pos b) ∷ []) ≡ ranged_cmp a b
+number_cells_order a b = λ i. ordering_then (number_order a b i) Equal

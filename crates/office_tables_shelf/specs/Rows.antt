@@ -1,10 +1,18 @@
 -- How the rows of the tables are stored, cell by cell, and which of them are records.
 use Rattle.std.specs.Prelude.{ℕ, ◌≤◌, pos, List, [], ◌∷◌, Option, Some, None, IfSome}
+use Rattle.std.specs.List.{join_with_byte}
+use Rattle.signal_records.specs.Key.{kind_of, first_of, second_of}
+use Rattle.signal_records.specs.Spelling.{spelling}
+use Rattle.signal_records.specs.Within.{current_limits}
 use Rattle.signal_records.specs.Words.{AreWords}
+use Rattle.signal_records.specs.declared.key.Key.{Key}
+use Rattle.signal_records.specs.declared.record.Row.{Row}
+use Rattle.signal_records.specs.declared.record.Change.{Change}
 use Rattle.draft_core.specs.declared.state.Stage.{Stage}
 use Rattle.draft_core.specs.declared.state.Stage.TheVariants.{Transaction, Verify, Done}
 use Rattle.draft_core.specs.declared.state.Holder.{Holder}
 use Rattle.draft_core.specs.declared.revision.TheConstants.{LAST_REVISION}
+use Rattle.draft_core.specs.DraftRows.{changed_key, left_by}
 use Rattle.office_tables_shelf.specs.Cells.{Cell, null, number, text}
 use Rattle.office_tables_shelf.specs.declared.rows.IntersectionRow.{IntersectionRow}
 
@@ -30,6 +38,31 @@ intersection_key id = number (pos id) ∷ []
 abbrev pub intersection_columns : IntersectionRow → List Cell
 intersection_columns row =
     text row.name ∷ number (pos row.interval) ∷ number (pos row.revision) ∷ number (pos (state_number row.holder)) ∷ owner_cell row.holder ∷ []
+
+-- ---- timing and draft rows: intersection, kind, the numbers of the key
+
+abbrev pub timing_key : ℕ → Key → List Cell
+timing_key id key = number (pos id) ∷ number (pos (kind_of key)) ∷ number (pos (first_of key)) ∷ number (pos (second_of key)) ∷ []
+
+-- the fields of a row with a comma between
+unfoldable pub body_of : Row → List ℕ
+body_of row = join_with_byte 44 (spelling current_limits row)
+
+abbrev pub timing_columns : Row → List Cell
+timing_columns row = text (body_of row) ∷ []
+
+-- what a draft row leaves at its key; null is a removal
+abbrev pub left_columns : Option Row → List Cell
+left_columns None = null ∷ []
+left_columns (Some row) = timing_columns row
+
+abbrev pub draft_key : ℕ → Change → List Cell
+draft_key id change = timing_key id (changed_key change)
+
+abbrev pub draft_columns : Change → List Cell
+draft_columns change = left_columns (left_by change)
+
+-- ---- limits
 
 -- the limits of a row, which its cells alone would pass
 pub record IsIntersectionRow (row : IntersectionRow) : Type 0 where

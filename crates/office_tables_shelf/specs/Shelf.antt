@@ -1,26 +1,46 @@
 -- What the clauses of a shelf cite.
-use Rattle.std.specs.Prelude.{◌≡◌, ◌≢◌, ℕ, List, Option, Some}
+use Rattle.std.specs.Prelude.{◌≡◌, ℕ, pos, Bool, false, List, [], ◌∷◌, map, Option}
 use Rattle.std.specs.Option.{option_map}
-use Rattle.std.specs.FinMap.{get}
-use Rattle.office_tables_shelf.specs.Cells.{Cell}
+use Rattle.std.specs.Ordering.{eq_by_cmp}
+use Rattle.std.specs.FinMap.{get, entries}
+use Rattle.std.specs.FinMap.Entries.{where_key}
+use Rattle.signal_records.specs.Row.{key_of}
+use Rattle.signal_records.specs.declared.record.Row.{Row}
+use Rattle.signal_records.specs.declared.record.Change.{Change}
+use Rattle.office_tables_shelf.specs.Cells.{Cell, Rows, number, cell_cmp, cells_cmp}
 use Rattle.office_tables_shelf.specs.Content.{Content}
-use Rattle.office_tables_shelf.specs.Rows.{intersection_key, intersection_columns, IsIntersectionRow}
+use Rattle.office_tables_shelf.specs.Rows.{intersection_key, intersection_columns, timing_key, timing_columns, draft_key, draft_columns}
 use Rattle.office_tables_shelf.specs.declared.rows.IntersectionRow.{IntersectionRow}
-use Rattle.office_tables_shelf.specs.declared.rows.Table.{Table}
+use Rattle.office_tables_shelf.specs.declared.counts.WriteCounts.{WriteCounts}
 
 -- A call that only reads: the disk is no more honest than it was, and the tables, the counts and what a crash may leave stay.
-pub record IsKept {S : Type 0} (is_honest : S → Type 0) (content : S → Content) (written : S → Table → ℕ) (may_leave : S → Content → Type 0) (old new : S) : Type 0 where
+pub record IsKept {S : Type 0} (is_honest : S → Type 0) (content : S → Content) (written : S → WriteCounts) (may_leave : S → Content → Type 0) (old new : S) : Type 0 where
   pub honest_before : is_honest new → is_honest old
   pub same_content : is_honest new → content new ≡ content old
-  pub same_counts : (table : Table) → written new table ≡ written old table
+  pub same_counts : written new ≡ written old
   pub same_outcomes : is_honest new → (tables : Content) → may_leave new tables → may_leave old tables
 
 -- the cells that stand under a number are those of the row
 abbrev pub ReadsIntersection : Content → ℕ → Option IntersectionRow → Type 0
 ReadsIntersection tables id row = get tables.intersection (intersection_key id) ≡ option_map intersection_columns row
 
--- cells stand under the number that are those of no row within its limits
-pub record HasDamagedIntersection (tables : Content) (id : ℕ) : Type 0 where
-  pub columns : List Cell
-  pub stored : get tables.intersection (intersection_key id) ≡ Some columns
-  pub no_row : (row : IntersectionRow) → IsIntersectionRow row → columns ≢ intersection_columns row
+-- the key cells begin with the number of the intersection
+abbrev pub is_of : ℕ → List Cell → Bool
+is_of id [] = false
+is_of id (cell ∷ cells) = eq_by_cmp cell_cmp (number (pos id)) cell
+
+-- the rows of an intersection in a table, by their keys
+abbrev pub rows_of : ℕ → Rows → List (List Cell × List Cell)
+rows_of id rows = where_key cells_cmp (is_of id) (entries rows)
+
+-- the rows of the table, in the order of their keys, are those of the list
+abbrev pub ListsIntersections : Content → List (ℕ × IntersectionRow) → Type 0
+ListsIntersections tables rows = map (λ e. (intersection_key e.0, intersection_columns e.1)) rows ≡ entries tables.intersection
+
+-- the committed rows of the intersection, in the order of their keys, are those of the list
+abbrev pub ListsTiming : Content → ℕ → List Row → Type 0
+ListsTiming tables id rows = map (λ row. (timing_key id (key_of row), timing_columns row)) rows ≡ rows_of id tables.timing
+
+-- the draft rows of the intersection, in the order of their keys, are those of the list
+abbrev pub ListsDraft : Content → ℕ → List Change → Type 0
+ListsDraft tables id changes = map (λ change. (draft_key id change, draft_columns change)) changes ≡ rows_of id tables.draft

@@ -1,7 +1,10 @@
 //! The tables of the office as a trait, and an implementation in memory.
 #![tactic(auto)]
 
+pub mod counts;
+mod map_rows;
 pub mod map_shelf;
+mod place;
 pub mod rows;
 pub mod shelf;
 #[cfg(test)]

@@ -1,45 +1,55 @@
-//! The tables in memory: the reference shelf of tests. It copies itself at each accepted apply.
-ghost use Rattle.std.specs.Prelude.{◌≡◌, OnOk, IfOk};
-ghost use Rattle.std.specs.FinMap as finite;
-ghost use Rattle.std.specs.Option.{option_map};
-ghost use Rattle.office_tables_shelf.specs.Change.{table_of as table_of_change};
-ghost use Rattle.office_tables_shelf.specs.Rows.{intersection_key, intersection_columns};
-ghost use Rattle.office_tables_shelf.specs.MapShelf.{intersection_rows};
+//! The tables in memory: the reference shelf of tests. It copies itself at each apply.
+ghost use Rattle.std.specs.Prelude.{◌≡◌, OnOk, OnErr, IfOk};
+ghost use Rattle.office_tables_shelf.specs.MapShelf.{IsFreeOfStore};
 
+use crate::counts::WriteCounts;
+use crate::map_rows::{
+    all_intersections, draft_of, intersection_at, put_draft, put_intersection, put_timing,
+    remove_draft, remove_timing, timing_of,
+};
+use crate::place::Place;
 use crate::rows::{IntersectionRow, RowChange, Table};
 use crate::shelf::{Shelf, ShelfFault};
-use signal_records::{InterId, NoMemory};
+use signal_records::{Change, InterId, NoMemory, Row};
 use std::alloc::Global;
 use std::collections::BTreeMap;
 use std::marker::Model;
 
-/// Rows in memory, and how many were written.
+/// Rows in memory, and how often those of each table were written.
 #[derive(Drop)]
 pub struct MapShelf {
-    intersections: BTreeMap<InterId, IntersectionRow>,
-    intersection_writes: u64,
+    intersection: BTreeMap<InterId, IntersectionRow>,
+    /// Each row stands under its own key.
+    timing: BTreeMap<Place, Row>,
+    /// What each draft row leaves at its key: a row, or none where it is a removal.
+    draft: BTreeMap<Place, Option<Row>>,
+    counts: WriteCounts,
 }
 
 impl Model for MapShelf {
     ghost use Rattle.office_tables_shelf.specs.Content.{no_content};
-    ghost use Rattle.office_tables_shelf.specs.MapShelf.{ShelfView, view_code, intersection_rows};
+    ghost use Rattle.office_tables_shelf.specs.MapShelf.{ShelfView, view_code, intersection_rows, timing_rows, draft_rows, AreRowsPlaced, AreLeftPlaced};
 
     ghost Value = { ShelfView };
 
     ghost coded = { view_code };
 
     ghost view = { λ s. record {
-      tables = record no_content { intersection = intersection_rows s.intersections.entries };
-      counts = record { intersection = s.intersection_writes };
+      tables = record no_content {
+        intersection = intersection_rows s.intersection.entries;
+        timing = timing_rows s.timing.entries;
+        draft = draft_rows s.draft.entries;
+      };
+      counts = s.counts;
     } };
+
+    ghost invariant = { λ s. AreRowsPlaced s.timing.entries × AreLeftPlaced s.draft.entries };
 }
 
 impl MapShelf {
-    ghost use Rattle.std.specs.Prelude.{cond};
     ghost use Rattle.office_tables_shelf.specs.Content.{no_content};
-    ghost use Rattle.office_tables_shelf.specs.Change.{changed, count_after, counted, is_same_table};
-    ghost use Rattle.office_tables_shelf.specs.MapShelf.{no_writes, count_of};
-    ghost use Rattle.office_tables_shelf.specs.declared.rows.Table.{Table};
+    ghost use Rattle.office_tables_shelf.specs.Change.{changed, changed_by};
+    ghost use Rattle.office_tables_shelf.specs.Counts.{no_writes, counts_after};
 
     /// Tables without a row, of which no row was written.
     pub fn new(alloc: Global) -> MapShelf
@@ -47,80 +57,72 @@ impl MapShelf {
         ensures no_writes { result.counts ≡ no_writes }
     {
         MapShelf {
-            intersections: BTreeMap::new(alloc),
-            intersection_writes: 0,
+            intersection: BTreeMap::new(alloc),
+            timing: BTreeMap::new(alloc),
+            draft: BTreeMap::new(alloc),
+            counts: WriteCounts::new(),
         }
     }
 
     fn copy(&self) -> Result<MapShelf, NoMemory>
         ensures { IfOk result (λ copy. copy ≡ self.now) }
     {
+        let intersection = self.intersection.clone()?;
+        let timing = self.timing.clone()?;
+        let draft = self.draft.clone()?;
         Ok(MapShelf {
-            intersections: self.intersections.clone()?,
-            intersection_writes: self.intersection_writes,
+            intersection,
+            timing,
+            draft,
+            counts: self.counts,
         })
     }
 
-    /// Makes one change. After a refusal the rows are of no use.
+    /// Makes one change and does not count it. After a refusal the rows are of no use.
     fn change(&mut self, change: &RowChange) -> Result<(), NoMemory>
         ensures tables { OnOk result (self.new.tables ≡ changed self.old.tables change.now) }
-        ensures counts { (table : Table) → count_of self.new.counts table ≡ count_after table change.now (count_of self.old.counts table) }
+        ensures counts { self.new.counts ≡ self.old.counts }
     {
-        self.count(table_of(change));
         match change {
             RowChange::PutIntersection(id, row) => {
-                put_intersection(&mut self.intersections, *id, row.clone()?)?;
+                put_intersection(&mut self.intersection, *id, row.clone()?)?;
             }
+            RowChange::PutTiming(id, row) => put_timing(&mut self.timing, *id, row.clone()?)?,
+            RowChange::RemoveTiming(id, key) => remove_timing(&mut self.timing, *id, *key),
+            RowChange::PutDraft(id, change) => put_draft(&mut self.draft, *id, change)?,
+            RowChange::RemoveDraft(id, key) => remove_draft(&mut self.draft, *id, *key),
         }
         Ok(())
     }
 
-    fn count(&mut self, table: Table)
+    /// Counts the writes of changes.
+    fn count(&mut self, changes: &[RowChange])
         ensures tables { self.new.tables ≡ self.old.tables }
-        ensures counts { (other : Table) → count_of self.new.counts other ≡ cond (is_same_table table other) (counted (count_of self.old.counts other)) (count_of self.old.counts other) }
+        ensures counts { self.new.counts ≡ counts_after self.old.counts changes.now }
     {
-        match table {
-            Table::Intersection => {
-                self.intersection_writes = self.intersection_writes.saturating_add(1);
-            }
+        self.counts.count_all(changes);
+    }
+
+    /// A copy with the changes made, in their order, and counted.
+    fn changed(&self, changes: &[RowChange]) -> Result<MapShelf, NoMemory>
+        ensures tables { IfOk result (λ next. next.tables ≡ changed_by self.now.tables changes.now) }
+        ensures counts { IfOk result (λ next. next.counts ≡ counts_after self.now.counts changes.now) }
+    {
+        let mut next = self.copy()?;
+        for change in changes {
+            next.change(change)?;
         }
-    }
-}
-
-fn table_of(change: &RowChange) -> Table
-    ensures { result ≡ table_of_change change.now }
-{
-    match change {
-        RowChange::PutIntersection(..) => Table::Intersection,
-    }
-}
-
-fn put_intersection(
-    rows: &mut BTreeMap<InterId, IntersectionRow>,
-    id: InterId,
-    row: IntersectionRow,
-) -> Result<(), NoMemory>
-    ensures { OnOk result (intersection_rows rows.new.entries ≡ finite.insert (intersection_rows rows.old.entries) (intersection_key id) (intersection_columns row)) }
-{
-    rows.insert(id, row)?;
-    Ok(())
-}
-
-fn intersection_at(
-    rows: &BTreeMap<InterId, IntersectionRow>,
-    id: InterId,
-) -> Result<Option<IntersectionRow>, NoMemory>
-    ensures { IfOk result (λ row. finite.get (intersection_rows rows.now.entries) (intersection_key id) ≡ option_map intersection_columns row) }
-{
-    match rows.get(&id) {
-        Some(row) => Ok(Some(row.clone()?)),
-        None => Ok(None),
+        next.count(changes);
+        Ok(next)
     }
 }
 
 impl Shelf for MapShelf {
-    ghost use Rattle.std.specs.Prelude.{◌≡◌};
-    ghost use Rattle.office_tables_shelf.specs.MapShelf.{count_of};
+    ghost use Rattle.std.specs.Prelude.{◌≡◌, OnOk, OnErr, IfOk};
+    ghost use Rattle.office_tables_shelf.specs.Change.{changed_by};
+    ghost use Rattle.office_tables_shelf.specs.Counts.{count_of, counts_after};
+    ghost use Rattle.office_tables_shelf.specs.Shelf.{ReadsIntersection, ListsIntersections, ListsTiming, ListsDraft};
+    ghost use Rattle.office_tables_shelf.specs.MapShelf.{IsFreeOfStore};
 
     ghost content = { λ s. s.tables };
 
@@ -128,28 +130,58 @@ impl Shelf for MapShelf {
 
     ghost may_leave = { λ s tables. tables ≡ s.tables };
 
-    ghost written = { λ s table. count_of s.counts table };
+    ghost written = { λ s. s.counts };
 
     fn intersection(
         &mut self,
         _alloc: Global,
         id: InterId,
-    ) -> Result<Option<IntersectionRow>, ShelfFault> {
-        Ok(intersection_at(&self.intersections, id)?)
+    ) -> Result<Option<IntersectionRow>, ShelfFault>
+        ensures row { IfOk result (λ row. ReadsIntersection self.old.tables id row) }
+        ensures unchanged { self.new ≡ self.old }
+        ensures sound { IsFreeOfStore result }
+    {
+        Ok(intersection_at(&self.intersection, id)?)
     }
 
-    fn apply(&mut self, _alloc: Global, changes: &[RowChange]) -> Result<(), ShelfFault> {
-        let mut next = self.copy()?;
-        for change in changes {
-            next.change(change)?;
-        }
-        *self = next;
+    fn intersections(
+        &mut self,
+        alloc: Global,
+    ) -> Result<Vec<(InterId, IntersectionRow)>, ShelfFault>
+        ensures rows { IfOk result (λ rows. ListsIntersections self.old.tables rows.items) }
+        ensures unchanged { self.new ≡ self.old }
+        ensures sound { IsFreeOfStore result }
+    {
+        Ok(all_intersections(alloc, &self.intersection)?)
+    }
+
+    fn timing_rows(&mut self, alloc: Global, id: InterId) -> Result<Vec<Row>, ShelfFault>
+        ensures rows { IfOk result (λ rows. ListsTiming self.old.tables id rows.items) }
+        ensures unchanged { self.new ≡ self.old }
+        ensures sound { IsFreeOfStore result }
+    {
+        Ok(timing_of(alloc, &self.timing, id)?)
+    }
+
+    fn draft_rows(&mut self, alloc: Global, id: InterId) -> Result<Vec<Change>, ShelfFault>
+        ensures rows { IfOk result (λ rows. ListsDraft self.old.tables id rows.items) }
+        ensures unchanged { self.new ≡ self.old }
+        ensures sound { IsFreeOfStore result }
+    {
+        Ok(draft_of(alloc, &self.draft, id)?)
+    }
+
+    fn apply(&mut self, _alloc: Global, changes: &[RowChange]) -> Result<(), ShelfFault>
+        ensures tables { OnOk result (self.new.tables ≡ changed_by self.old.tables changes.now) }
+        ensures counts { OnOk result (self.new.counts ≡ counts_after self.old.counts changes.now) }
+        ensures unchanged { OnErr result (self.new ≡ self.old) }
+        ensures sound { IsFreeOfStore result }
+    {
+        *self = self.changed(changes)?;
         Ok(())
     }
 
     fn writes(&self, table: Table) -> u64 {
-        match table {
-            Table::Intersection => self.intersection_writes,
-        }
+        self.counts.of(table)
     }
 }

@@ -1,8 +1,11 @@
 //! The rows of the tables with their types, and changes of them.
 
+ghost use Rattle.std.specs.Prelude.{◌≡◌};
+ghost use Rattle.office_tables_shelf.specs.Change.{table_of};
+
 use draft_core::revision::Revision;
 use draft_core::state::Holder;
-use signal_records::{InterId, Interval, Words};
+use signal_records::{Change, InterId, Interval, Key, Row, Words};
 use std::alloc::AllocError;
 
 /// The row of an intersection, beside its number.
@@ -37,14 +40,40 @@ impl Clone for IntersectionRow {
     }
 }
 
-/// A row to be written. An intersection is never removed.
+/// A row to be written or removed. An intersection is never removed.
 #[derive(Drop)]
 pub enum RowChange {
     PutIntersection(InterId, IntersectionRow),
+    /// A row of the committed set, under its own key.
+    PutTiming(InterId, Row),
+    RemoveTiming(InterId, Key),
+    /// A draft row that keeps the change; a removal is a row too.
+    PutDraft(InterId, Change),
+    RemoveDraft(InterId, Key),
 }
 
 /// A table whose rows are written.
 #[derive(Clone, Copy, Debug, PartialEq, Eq)]
 pub enum Table {
     Intersection,
+    Timing,
+    Draft,
+    Inspection,
+    WorkOrder,
+    Part,
+    Delivery,
+    UsedPart,
+}
+
+impl RowChange {
+    /// The table that the change writes.
+    pub fn table(&self) -> Table
+        ensures { result ≡ table_of self.now }
+    {
+        match self {
+            RowChange::PutIntersection(..) => Table::Intersection,
+            RowChange::PutTiming(..) | RowChange::RemoveTiming(..) => Table::Timing,
+            RowChange::PutDraft(..) | RowChange::RemoveDraft(..) => Table::Draft,
+        }
+    }
 }

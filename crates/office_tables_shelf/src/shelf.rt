@@ -1,12 +1,14 @@
 //! The tables of the office as a trait.
-ghost use Rattle.std.specs.Prelude.{◌≡◌, ◌≢◌, ◌⊎◌, ℕ, IfOk, OnOk, OnErr};
+ghost use Rattle.std.specs.Prelude.{◌≡◌, ◌≢◌, ◌⊎◌, IfOk, OnOk, OnErr};
 ghost use Rattle.office_tables_shelf.specs.Content.{Content};
-ghost use Rattle.office_tables_shelf.specs.Change.{changed_by, writes_after};
-ghost use Rattle.office_tables_shelf.specs.Shelf.{IsKept, ReadsIntersection, HasDamagedIntersection};
-ghost use Rattle.office_tables_shelf.specs.declared.rows.Table.{Table};
+ghost use Rattle.office_tables_shelf.specs.Change.{changed_by};
+ghost use Rattle.office_tables_shelf.specs.Counts.{count_of, counts_after};
+ghost use Rattle.office_tables_shelf.specs.Shelf.{IsKept, ReadsIntersection, ListsIntersections, ListsTiming, ListsDraft};
+ghost use Rattle.office_tables_shelf.specs.Damage.{HasDamagedIntersection, HasAnyDamagedIntersection, HasDamagedTiming, HasDamagedDraft};
+ghost use Rattle.office_tables_shelf.specs.declared.counts.WriteCounts.{WriteCounts};
 
 use crate::rows::{IntersectionRow, RowChange, Table};
-use signal_records::{InterId, NoMemory};
+use signal_records::{Change, InterId, NoMemory, Row};
 use std::alloc::Global;
 
 /// Why a call of a shelf failed.
@@ -43,7 +45,7 @@ pub trait Shelf {
     /// What a crash at this moment may leave.
     ghost may_leave: { Self → Content → Type 0 };
     /// The row writes so far.
-    ghost written: { Self → Table → ℕ };
+    ghost written: { Self → WriteCounts };
 
     /// The row of an intersection, if there is one.
     fn intersection(
@@ -55,14 +57,35 @@ pub trait Shelf {
         ensures damaged { result ≡ Err ShelfFault.Damaged → is_honest self.new → HasDamagedIntersection (content self.old) id }
         ensures kept { IsKept is_honest content written may_leave self.old self.new };
 
+    /// The rows of all intersections, by their numbers.
+    fn intersections(
+        &mut self,
+        alloc: Global,
+    ) -> Result<Vec<(InterId, IntersectionRow)>, ShelfFault>
+        ensures rows { IfOk result (λ rows. is_honest self.new → ListsIntersections (content self.old) rows.items) }
+        ensures damaged { result ≡ Err ShelfFault.Damaged → is_honest self.new → HasAnyDamagedIntersection (content self.old) }
+        ensures kept { IsKept is_honest content written may_leave self.old self.new };
+
+    /// The committed rows of an intersection, in the order of their keys.
+    fn timing_rows(&mut self, alloc: Global, id: InterId) -> Result<Vec<Row>, ShelfFault>
+        ensures rows { IfOk result (λ rows. is_honest self.new → ListsTiming (content self.old) id rows.items) }
+        ensures damaged { result ≡ Err ShelfFault.Damaged → is_honest self.new → HasDamagedTiming (content self.old) id }
+        ensures kept { IsKept is_honest content written may_leave self.old self.new };
+
+    /// The draft rows of an intersection, in the order of their keys.
+    fn draft_rows(&mut self, alloc: Global, id: InterId) -> Result<Vec<Change>, ShelfFault>
+        ensures rows { IfOk result (λ rows. is_honest self.new → ListsDraft (content self.old) id rows.items) }
+        ensures damaged { result ≡ Err ShelfFault.Damaged → is_honest self.new → HasDamagedDraft (content self.old) id }
+        ensures kept { IsKept is_honest content written may_leave self.old self.new };
+
     /// Makes the changes in their order, all or none. Refused, it answers NoMemory or Store.
     fn apply(&mut self, alloc: Global, changes: &[RowChange]) -> Result<(), ShelfFault>
         ensures honest { is_honest self.new → is_honest self.old }
         ensures ok { OnOk result (is_honest self.new → content self.new ≡ changed_by (content self.old) changes.now) }
         ensures err { OnErr result (is_honest self.new → content self.new ≡ content self.old) }
         ensures undamaged { result ≢ Err ShelfFault.Damaged }
-        ensures written_ok { OnOk result ((table : Table) → written self.new table ≡ writes_after table (written self.old table) changes.now) }
-        ensures written_err { OnErr result ((table : Table) → written self.new table ≡ written self.old table) }
+        ensures written_ok { OnOk result (written self.new ≡ counts_after (written self.old) changes.now) }
+        ensures written_err { OnErr result (written self.new ≡ written self.old) }
 
         // A crash leaves what it could before, or the whole result; and that alone once rows were changed.
         ensures crash { is_honest self.new → (tables : Content) → may_leave self.new tables →
@@ -72,5 +95,5 @@ pub trait Shelf {
 
     /// The row writes of a table so far; the count stays at `u64::MAX` once it is there.
     fn writes(&self, table: Table) -> u64
-        ensures { result ≡ written self.now table };
+        ensures { result ≡ count_of (written self.now) table };
 }

@@ -1,17 +1,19 @@
 -- New tables in memory stand for a new office, and memory needs no premise.
-use Rattle.std.proofs.Common.{◌≡◌, ℕ, List, [], ◌∷◌, length, Option, refl, sym, ap, subst, ◌∙◌, arith}
+use Rattle.std.proofs.Common.{◌≡◌, ℕ, List, [], ◌∷◌, length, Option, Some, None, option_map, refl, sym, ap, subst, ◌∙◌, arith}
 use Rattle.std.specs.Prelude.{IfSome}
 use Rattle.std.specs.Ordering.{nat_cmp}
-use Rattle.std.specs.FinMap.{empty, entries, get-empty, len-empty, len-entries}
+use Rattle.std.specs.FinMap.{empty, entries, get, get-empty, len-empty, len-entries}
 use Rattle.sqlite.specs.Held.{Held, state}
 use Rattle.sqlite.specs.Steps.{over_memory}
 use Rattle.sqlite.proofs.Callers.{memory_is_clean}
 use Rattle.sqlite_trees.specs.declared.memory.MemStore.{MemStore}
-use Rattle.office_tables_shelf.specs.Cells.{tree_rows}
+use Rattle.signal_records.specs.Key.{key_cmp}
+use Rattle.draft_core.specs.DraftRows.{RowStands}
+use Rattle.office_tables_shelf.specs.Cells.{Cell, Rows, tree_rows, cells_cmp}
 use Rattle.office_tables_shelf.specs.Content.{Content, no_content}
-use Rattle.office_tables_shelf.specs.Rows.{intersection_key}
+use Rattle.office_tables_shelf.specs.Rows.{intersection_key, timing_key, timing_columns}
 use Rattle.office_tables.specs.Calls.{IsHonest}
-use Rattle.office_desk.specs.Office.{Intersection, IsSoundIntersection}
+use Rattle.office_desk.specs.Office.{Intersection, IsSoundIntersection, side_of}
 use Rattle.office_desk.specs.StandFor.{StandForSound, columns_of}
 use Rattle.signal_office.specs.Memory.{new_office}
 
@@ -26,9 +28,33 @@ no_items (x ∷ xs) e = absurd (omega arith)
 no_entries : entries (empty {X = Intersection} {R = nat_cmp}) ≡ []
 no_entries = no_items _ (sym (len-entries empty) ∙ len-empty nat_cmp Intersection)
 
+-- a row of no table
+nothing_at : (rows : Rows) (cells columns : List Cell) → rows ≡ empty → get rows cells ≡ Some columns → ⊥
+nothing_at rows cells columns none stored =
+    let read : None ≡ Some columns = sym (ap (λ r. get r cells) none ∙ get-empty cells_cmp cells) ∙ stored in
+    cc
+
 -- tables without a row stand for an office without intersections
 pub nothing_stands : (tables : Content) → tables ≡ no_content → StandForSound tables new_office
 nothing_stands tables none = record {
-  stand = none ∙ ap (λ (es : List (ℕ × Intersection)). record no_content { intersection = tree_rows intersection_key columns_of es }) (sym no_entries);
+  stand = record {
+    intersection = ap (λ (t : Content). t.intersection) none ∙ ap (λ (es : List (ℕ × Intersection)). tree_rows intersection_key columns_of es) (sym no_entries);
+    timing = λ id key.
+        ap (λ (t : Content). get t.timing (timing_key id key)) none ∙ get-empty cells_cmp (timing_key id key)
+        ∙ sym (ap (λ (o : Option Intersection). option_map timing_columns (get (side_of o).committed key)) (get-empty nat_cmp id) ∙ ap (option_map timing_columns) (get-empty key_cmp key));
+    timing_keys = λ cells columns stored. absurd (nothing_at tables.timing cells columns (ap (λ (t : Content). t.timing) none) stored);
+    draft = λ id key. record {
+      row = None;
+      stored = ap (λ (t : Content). get t.draft (timing_key id key)) none ∙ get-empty cells_cmp (timing_key id key);
+      stands = subst (λ (o : Option Intersection). RowStands (get (side_of o).committed key) None (side_of o).draft key) (sym (get-empty nat_cmp id)) refl;
+      within = tt;
+    };
+    draft_keys = λ cells columns stored. absurd (nothing_at tables.draft cells columns (ap (λ (t : Content). t.draft) none) stored);
+    inspection = ap (λ (t : Content). t.inspection) none;
+    work_order = ap (λ (t : Content). t.work_order) none;
+    part = ap (λ (t : Content). t.part) none;
+    delivery = ap (λ (t : Content). t.delivery) none;
+    used_part = ap (λ (t : Content). t.used_part) none;
+  };
   sound = λ id. subst (λ (o : Option Intersection). IfSome o IsSoundIntersection) (sym (get-empty nat_cmp id)) tt;
 }

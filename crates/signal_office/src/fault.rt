@@ -21,7 +21,7 @@ pub enum Fault {
     Store,
     /// The tables have another version.
     Version,
-    /// A stored row is no record.
+    /// No version is stored and a table has a row, or a stored row is no record.
     Damaged,
     /// The CSV file can't be read.
     File,
@@ -53,7 +53,7 @@ impl fmt::Display for Fault {
             Fault::Damaged => f.write_str("fault: damaged"),
             Fault::File => f.write_str("fault: file"),
             Fault::Csv(fault) => write!(f, "fault: {fault}"),
-            Fault::Usage => f.write_str("usage: signal_office batch | verify-file CSV"),
+            Fault::Usage => f.write_str("usage: signal_office batch [--db FILE] | verify-file CSV"),
         }
     }
 }
@@ -102,6 +102,12 @@ impl From<Error> for Fault {
 }
 
 impl From<OpenFault> for Fault {
+    ghost use Rattle.std.specs.Prelude.{◌≡◌, ◌↔◌};
+    ghost use Rattle.office_tables.specs.declared.open.OpenFault.TheVariants as opened;
+    ghost use Rattle.signal_office.specs.declared.fault.Fault.TheVariants as told;
+
+    ghost from_gives = { λ cause fault. ((fault ≡ told.Version) ↔ (cause ≡ opened.Version)) × ((fault ≡ told.Damaged) ↔ (cause ≡ opened.Damaged)) };
+
     fn from(fault: OpenFault) -> Fault {
         match fault {
             OpenFault::Version => Fault::Version,

@@ -2,6 +2,7 @@
 #![tactic(auto)]
 
 mod fault;
+mod file;
 mod memory;
 mod plan;
 mod program;

@@ -1,10 +1,12 @@
 //! What the program's words ask for, from a source of bytes to its two outputs.
 
 use crate::fault::Fault;
+use crate::file::serve_file;
 use crate::memory::serve_new_office;
 use crate::plan::violations_in;
 use office_files::violation_text;
 use office_http::{Sink, Source, write_all};
+use sqlite::Wary;
 use std::alloc::Global;
 use std::fs;
 use std::io::ErrorKind;
@@ -18,6 +20,22 @@ const HAS_VIOLATIONS: u8 = 3;
 /// Answers the requests of the source over tables in memory.
 fn batch<R: Source, W: Sink>(alloc: Global, source: &mut R, out: &mut W) -> Result<u8, Fault> {
     serve_new_office(alloc, source, out, BATCH_LIMIT)??;
+    Ok(0)
+}
+
+/// Answers the requests of the source over the tables of a file, and closes it, so that its log is
+/// copied into it. What was answered stands in the two files before that.
+fn batch_in_file<R: Source, W: Sink>(
+    rt: &HostRuntime,
+    alloc: Global,
+    path: &str,
+    source: &mut R,
+    out: &mut W,
+) -> Result<u8, Fault> {
+    let (office, outcome) = serve_file(rt, alloc, path, Wary, source, out, BATCH_LIMIT)?;
+    let closed = office.into_shelf().into_conn().close();
+    outcome?;
+    closed?;
     Ok(0)
 }
 
@@ -61,6 +79,7 @@ pub fn run_words<R: Source, W: Sink, E: Sink>(
 ) -> u8 {
     let done = match words {
         [_, "batch"] => batch(alloc, source, out),
+        [_, "batch", "--db", path] => batch_in_file(rt, alloc, path, source, out),
         [_, "verify-file", path] => verify_file(rt, alloc, path, out),
         _ => Err(Fault::Usage),
     };

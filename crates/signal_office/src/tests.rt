@@ -2,6 +2,7 @@
 
 use crate::program::run_words;
 use office_http::{Counts, FromRead, Source, ToWrite};
+use sqlite::Connection;
 use std::io::ErrorKind;
 use std::test::Fail;
 use std::{fs, io};
@@ -68,6 +69,83 @@ fn other_words_and_a_broken_source_have_their_status(rt: HostRuntime) {
     let (status, _, err) = run(&rt, &["signal_office", "batch"], &mut broken);
     assert_eq!(rt; status, 1);
     assert_eq!(rt; err.as_slice(), b"fault: read\n".as_slice());
+}
+
+/// Runs a batch over the tables of `office.db`.
+fn run_in_file(rt: &HostRuntime, stream: &[u8]) -> (u8, Vec<u8>, Vec<u8>) {
+    let words = ["signal_office", "batch", "--db", "office.db"];
+    run(rt, &words, &mut FromRead::new(stream))
+}
+
+/// Asks for intersection 12.
+const STATE_REQUEST: &[u8; 34] = b"GET /intersections/12 HTTP/1.1\r\n\r\n";
+
+#[test]
+fn batch_finds_the_tables_of_its_file(rt: HostRuntime) -> Result<(), Fail> {
+    let (status, out, err) = run_in_file(&rt, STREAM);
+    assert_eq!(rt; status, 0);
+    assert_eq!(rt; out.as_slice(), ANSWERS.as_slice());
+    assert!(rt; err.is_empty());
+    let (status, out, err) = run_in_file(&rt, STATE_REQUEST);
+    assert_eq!(rt; status, 0);
+    let answers = ANSWERS.as_slice();
+    assert_eq!(rt; out.as_slice(), &answers[89..]);
+    assert!(rt; err.is_empty());
+    let (status, out, _) = run(
+        &rt,
+        &["signal_office", "batch"],
+        &mut FromRead::new(STATE_REQUEST.as_slice()),
+    );
+    assert_eq!(rt; status, 0);
+    assert!(rt; out.starts_with(b"HTTP/1.1 404 Not Found\r\n"));
+    remove_office(&rt)
+}
+
+/// Removes the file of the tables, and its log.
+fn remove_office(rt: &HostRuntime) -> Result<(), Fail> {
+    fs::remove_file(rt, "office.db")?;
+    let _no_log = fs::remove_file(rt, "office.db-wal");
+    Ok(())
+}
+
+#[test]
+fn batch_says_why_a_file_is_refused(rt: HostRuntime) -> Result<(), Fail> {
+    let cases = [
+        ("UPDATE office_version SET version = 9", "fault: version\n"),
+        ("DELETE FROM office_version", "fault: damaged\n"),
+        ("CREATE TABLE note (text TEXT)", "fault: store\n"),
+    ];
+    for (sql, told) in cases {
+        let (status, _, _) = run_in_file(&rt, STREAM);
+        assert_eq!(rt; status, 0);
+        let mut conn = Connection::open(&rt, "office.db")?;
+        conn.execute_batch(sql)?;
+        conn.close()?;
+        let (status, out, err) = run_in_file(&rt, STATE_REQUEST);
+        assert_eq!(rt; status, 1, "after {sql}");
+        assert!(rt; out.is_empty());
+        assert_eq!(rt; err.as_slice(), told.as_bytes(), "after {sql}");
+        remove_office(&rt)?;
+    }
+    Ok(())
+}
+
+#[test]
+fn batch_refuses_what_is_no_database(rt: HostRuntime) -> Result<(), Fail> {
+    fs::write(&rt, "office.db", PLAN)?;
+    let (status, out, err) = run_in_file(&rt, STREAM);
+    assert_eq!(rt; status, 1);
+    assert!(rt; out.is_empty());
+    assert_eq!(rt; err.as_slice(), b"fault: store\n".as_slice());
+    remove_office(&rt)?;
+    fs::create_dir(&rt, "folder")?;
+    let words = ["signal_office", "batch", "--db", "folder"];
+    let (status, out, err) = run(&rt, &words, &mut FromRead::new(STREAM.as_slice()));
+    assert_eq!(rt; status, 1);
+    assert!(rt; out.is_empty());
+    assert_eq!(rt; err.as_slice(), b"fault: store\n".as_slice());
+    fs::remove_dir(&rt, "folder")?;
+    Ok(())
 }
 
 /// A plan of four phases in two rings, which breaks no rule.

@@ -43,7 +43,10 @@ pub(crate) fn numeral(bytes: &[u8]) -> Option<u32>
     }
 }
 
-pub(crate) fn number<Of, const LOW: u32, const HIGH: u32>(
+/// The number that the field at a place spells in decimal digits without a leading zero, as
+/// `read_row` reads one. Fields are counted from 1. A number of any length is one: Range where it
+/// is out of the range, and else Number.
+pub fn number<Of, const LOW: u32, const HIGH: u32>(
     fields: &[&[u8]],
     place: u8,
 ) -> Result<Number<Of, LOW, HIGH>, RowFault>

@@ -2,6 +2,8 @@ use Rattle.std.proofs.Common.{ap, sym, ◌∙◌, refl, length, [], inl, inr}
 use Rattle.std.specs.Prelude.{◌==◌}
 use Rattle.office_tables_shelf.specs.Change.{changed_by}
 use Rattle.office_desk.proofs.Runs.{same_answers, unavailable_answers, no_items, applied}
+use Rattle.office_tables_shelf.specs.Counts.{counts_after}
+use Rattle.office_desk.proofs.Writes.{rise_at_most}
 use Rattle.office_desk.proofs.running.run_on.Goals as goal
 
 pub returns-then-is_empty-clause-step : goal.returns-then-is_empty-clause-step
@@ -43,3 +45,9 @@ returns-in-Err-clause-crash g c = λ honest tables left.
             (applied _ _ _ _ _ made (c.decide_on-decided.ensures.kept.same_content before) c.as_slice-changes.ensures.value),
       )
     ]
+
+pub returns-in-Ok-clause-writes : goal.returns-in-Ok-clause-writes
+returns-in-Ok-clause-writes g c = λ honest.
+    let before = c.apply.ensures.honest honest in
+    rise_at_most (g.S.Shelf.content c.args.shelf.now) c.args.command.now c.decide_on-decided.result.changes.items (g.S.Shelf.written c.args.shelf.now) (g.S.Shelf.written c.apply.new.self) (c.decide_on-decided.ensures.writes before)
+    (c.in-Ok.ensures.written_ok ∙ (λ k. counts_after (c.decide_on-decided.ensures.kept.same_counts k) (c.as_slice-changes.ensures.value k)))

@@ -1,8 +1,24 @@
-use Rattle.std.proofs.Common.{◌∙◌}
-use Rattle.office_desk.proofs.Runs.{reply_answers}
-use Rattle.office_desk.proofs.Steps.{state_answers}
+use Rattle.std.proofs.Common.{◌∙◌, ap, length, subst}
+use Rattle.office_tables_shelf.specs.Shelf.{ReadsIntersection, ListsTiming}
+use Rattle.office_desk.specs.Decisions.{IsVerdictOf}
+use Rattle.office_desk.specs.Reading.{AreWithin}
+use Rattle.office_desk.proofs.Shown.{state_answers, unknown_state}
 use Rattle.office_desk.proofs.showing.decide_state.Goals as goal
 
+pub returns-in_default-clause-step : goal.returns-in_default-clause-step
+returns-in_default-clause-step g c = λ honest office stands.
+    unknown_state _ office _ _ _ stands (subst (ReadsIntersection (g.S.Shelf.content c.args.shelf.now) c.args.id) c.in_default.is (c.in_ok-row.ensures.row honest)) c.refused.ensures.reply c.refused.ensures.no_changes
+
 pub returns-clause-step : goal.returns-clause-step
-returns-clause-step g c = λ honest.
-    reply_answers _ _ _ _ _ (λ office stands. state_answers _ office _ _ stands (c.in_ok-row.ensures.row honest)) (c.unchanged.ensures.reply ∙ c.shown.ensures) c.unchanged.ensures.no_changes
+returns-clause-step g c = λ honest office stands.
+    let read = c.verdict_at.ensures.kept.honest_before honest in
+    let first = c.timing_rows.ensures.kept.honest_before read in
+    let same = c.intersection.ensures.kept.same_content first in
+    let still = c.timing_rows.ensures.kept.same_content read ∙ same in
+    state_answers (g.S.Shelf.content c.args.shelf.now) office c.args.id c.in-Some.row c.in_ok-listed.listed.items _ c.in_ok-verify.verify _ _ stands
+    (subst (ReadsIntersection (g.S.Shelf.content c.args.shelf.now) c.args.id) c.in-Some.is (c.in_ok-row.ensures.row first))
+    (subst (λ t. ListsTiming t c.args.id c.in_ok-listed.listed.items) same (c.in_ok-listed.ensures.rows read))
+    (subst AreWithin c.as_slice-rows.ensures.value c.rows_are_within.ensures)
+    (ap length c.as_slice-rows.ensures.value)
+    (subst (λ t. IsVerdictOf t c.args.id c.in-Some.row c.in_ok-verify.verify) still (c.in_ok-verify.ensures.verdict honest))
+    (c.unchanged.ensures.reply ∙ c.shown.ensures) c.unchanged.ensures.no_changes

@@ -1,10 +1,10 @@
 use Rattle.std.proofs.Common.{arith, ◌+◌, drop, sym, ap, ◌∙◌}
 use Rattle.std.proofs.lemmas.List.{drop_more}
 use Rattle.office_tables_shelf.specs.Change.{changed, changed_by}
-use Rattle.office_tables.specs.Stored.{content_now}
+use Rattle.office_tables_sql.specs.Stored.{content_now}
 use Rattle.sqlite.specs.Held.{state}
 use Rattle.sqlite.proofs.StateLemmas.{survives_then}
-use Rattle.office_tables.proofs.CallLemmas.{stands_then}
+use Rattle.office_tables_sql.proofs.CallLemmas.{stands_then}
 use Rattle.office_tables.proofs.change.change_rows.Goals as goal
 
 pub loop-change-preserved : goal.loop-change-preserved

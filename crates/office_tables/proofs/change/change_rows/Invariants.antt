@@ -2,8 +2,8 @@ use Rattle.std.proofs.Common.{◌≡◌, drop}
 use Rattle.sqlite.specs.State.{HasCleanDisk, Survives}
 use Rattle.sqlite.specs.Held.{state}
 use Rattle.office_tables_shelf.specs.Change.{changed_by}
-use Rattle.office_tables.specs.Calls.{IsReady, StandsOn}
-use Rattle.office_tables.specs.Stored.{content_now}
+use Rattle.office_tables_sql.specs.Calls.{IsReady, StandsOn}
+use Rattle.office_tables_sql.specs.Stored.{content_now}
 use Rattle.office_tables.proofs.change.change_rows.Given as goal
 
 -- the changes that are left lead to the end, and the last commit stands

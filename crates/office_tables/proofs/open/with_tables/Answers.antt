@@ -16,4 +16,5 @@ returns-clause-office g c =
       schema = λ h. is;
       settled = λ h. (it.opens h.0).0.clean;
       ordered = λ h. subst (λ (x : Schema). AllByRecursion (λ t. IsShaped shape.Table (s.now.trees t.tree)) x.tables) is (it.ordered h.0);
+      sound = λ h. ((it.opens h.0).1 h.1).0;
     }

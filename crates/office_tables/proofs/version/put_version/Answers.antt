@@ -1,9 +1,8 @@
 use Rattle.std.proofs.Common.{pos, [], ◌∷◌, arith}
 use Rattle.sqlite.specs.declared.types.Value.TheVariants.{Int}
 use Rattle.sqlite.specs.Held.{state}
-use Rattle.office_tables.specs.Calls.{Ran}
-use Rattle.office_tables.proofs.SchemaLemmas.{put_version_text, put_version_is}
-use Rattle.office_tables.proofs.PutLemmas.{put_version}
+use Rattle.office_tables_sql.specs.Calls.{Ran}
+use Rattle.office_tables.proofs.StatementLemmas.{put_version_text, put_version_is, put_version}
 use Rattle.office_tables.proofs.version.put_version.Goals as goal
 
 pub write-requires : goal.write-requires

@@ -3,8 +3,8 @@ use Rattle.std.specs.Option.{option_to_list}
 use Rattle.std.proofs.lemmas.Result.{IfOk-weaker}
 use Rattle.sqlite.specs.declared.types.Value.TheVariants.{Int}
 use Rattle.sqlite.specs.Held.{state}
-use Rattle.office_tables.specs.Calls.{Reads}
-use Rattle.office_tables.proofs.SchemaLemmas.{find_version_text, find_version_is, find_version, version_width}
+use Rattle.office_tables_sql.specs.Calls.{Reads}
+use Rattle.office_tables.proofs.StatementLemmas.{find_version_text, find_version_is, find_version, version_width}
 use Rattle.office_tables.proofs.version.stored_version.Goals as goal
 
 pub select_one-requires-clause-query : goal.select_one-requires-clause-query

@@ -1,7 +1,7 @@
 use Rattle.std.proofs.Common.{◌≡◌, Option, None, Some, IfSome, refl}
 use Rattle.sqlite.specs.Held.{state}
 use Rattle.office_tables.specs.declared.open.OpenFault.TheVariants as fault
-use Rattle.office_tables.specs.Calls.{IsHonest}
+use Rattle.office_tables_sql.specs.Calls.{IsHonest}
 use Rattle.office_tables.proofs.sql_shelf.SqlShelf.open.Goals as goal
 
 -- what is known of a connection that came back, where one did

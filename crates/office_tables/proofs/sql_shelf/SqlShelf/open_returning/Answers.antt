@@ -2,7 +2,7 @@ use Rattle.std.proofs.Common.{◌≡◌, Bool, true, false, refl, sym, ap, ◌�
 use Rattle.sqlite.specs.Effect.{Database}
 use Rattle.sqlite.specs.State.{HasCleanDisk}
 use Rattle.sqlite.specs.Held.{state}
-use Rattle.office_tables.specs.Stored.{content_now, content_of}
+use Rattle.office_tables_sql.specs.Stored.{content_now, content_of}
 use Rattle.office_tables.proofs.VersionLemmas.{empty_content}
 use Rattle.office_tables.proofs.sql_shelf.SqlShelf.open_returning.Goals as goal
 

@@ -1,0 +1,3 @@
+pub mod DayLemmas
+pub mod OverdueLemmas
+pub mod PartLemmas

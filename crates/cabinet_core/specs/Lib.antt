@@ -1,0 +1,5 @@
+pub mod Day
+pub mod Part
+pub mod Overdue
+pub mod Cabinet
+pub mod Within

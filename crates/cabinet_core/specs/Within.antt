@@ -1,0 +1,45 @@
+-- Records within their limits.
+use Rattle.std.specs.Prelude.{IfSome}
+use Rattle.std.specs.Int.{IsInRange}
+use Rattle.signal_records.specs.Words.{AreWords}
+use Rattle.cabinet_core.specs.Day.{IsDay}
+use Rattle.cabinet_core.specs.Part.{IsPartCode}
+use Rattle.cabinet_core.specs.declared.record.Inspection.{Inspection}
+use Rattle.cabinet_core.specs.declared.record.Closing.{Closing}
+use Rattle.cabinet_core.specs.declared.record.Order.{Order}
+use Rattle.cabinet_core.specs.declared.record.UsedLine.{UsedLine}
+use Rattle.cabinet_core.specs.declared.record.Delivery.{Delivery}
+
+-- an inspection: numbers to 999,999, clerks to 40 bytes, texts to 500
+pub record IsInspectionWithin (inspection : Inspection) : Type 0 where
+  pub number : IsInRange 1 999_999 inspection.number
+  pub day : IsDay inspection.day
+  pub clerk : AreWords 40 inspection.clerk
+  pub text : AreWords 500 inspection.text
+
+-- what closes an order
+pub record IsClosingWithin (closing : Closing) : Type 0 where
+  pub day : IsDay closing.day
+  pub closer : AreWords 40 closing.closer
+
+-- an order, open or closed
+pub record IsOrderWithin (order : Order) : Type 0 where
+  pub number : IsInRange 1 999_999 order.number
+  pub opened : IsDay order.opened
+  pub clerk : AreWords 40 order.clerk
+  pub text : AreWords 500 order.text
+  pub closing : IfSome order.closing IsClosingWithin
+
+-- a line of an order: lines to 99, pieces to 999,999,999
+pub record IsUsedLineWithin (used : UsedLine) : Type 0 where
+  pub order : IsInRange 1 999_999 used.order
+  pub line : IsInRange 1 99 used.line
+  pub part : IsPartCode used.part
+  pub count : IsInRange 1 999_999_999 used.count
+
+-- a delivery
+pub record IsDeliveryWithin (delivery : Delivery) : Type 0 where
+  pub part : IsPartCode delivery.part
+  pub number : IsInRange 1 999_999 delivery.number
+  pub day : IsDay delivery.day
+  pub count : IsInRange 1 999_999_999 delivery.count

@@ -1,0 +1,61 @@
+//! What the types of the records keep, told to callers: numbers, days and texts are within their
+//! limits.
+
+ghost use Rattle.std.specs.Prelude.{IfSome};
+ghost use Rattle.cabinet_core.specs.Within.{IsInspectionWithin, IsClosingWithin, IsOrderWithin, IsUsedLineWithin, IsDeliveryWithin};
+
+use crate::record::{Closing, Delivery, Inspection, Order, UsedLine};
+
+/// Every inspection is within its limits.
+pub fn inspection_is_within(inspection: &Inspection)
+    ensures { IsInspectionWithin inspection.now }
+{
+    let _numbers = (inspection.number.get(), inspection.day.number());
+    let _clerk = inspection.clerk.as_str();
+    let _text = inspection.text.as_str();
+}
+
+fn closing_is_within(closing: &Closing)
+    ensures { IsClosingWithin closing.now }
+{
+    let _day = closing.day.number();
+    let _closer = closing.closer.as_str();
+}
+
+fn any_closing_is_within(closing: &Option<Closing>)
+    ensures { IfSome closing.now IsClosingWithin }
+{
+    if let Some(closing) = closing {
+        closing_is_within(closing);
+    }
+}
+
+/// Every order is within its limits.
+pub fn order_is_within(order: &Order)
+    ensures { IsOrderWithin order.now }
+{
+    let _numbers = (order.number.get(), order.opened.number());
+    let _clerk = order.clerk.as_str();
+    let _text = order.text.as_str();
+    any_closing_is_within(&order.closing);
+}
+
+/// Every line of an order is within its limits.
+pub fn used_line_is_within(used: &UsedLine)
+    ensures { IsUsedLineWithin used.now }
+{
+    let _numbers = (used.order.get(), used.line.get(), used.count.get());
+    let _part = used.part.as_str();
+}
+
+/// Every delivery is within its limits.
+pub fn delivery_is_within(delivery: &Delivery)
+    ensures { IsDeliveryWithin delivery.now }
+{
+    let _numbers = (
+        delivery.number.get(),
+        delivery.day.number(),
+        delivery.count.get(),
+    );
+    let _part = delivery.part.as_str();
+}

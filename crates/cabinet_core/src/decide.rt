@@ -1,0 +1,213 @@
+//! What becomes of a command on the register. Each decision is given the records that stand under
+//! the command's keys, and changes nothing itself.
+
+ghost use Rattle.std.specs.Prelude.{◌≡◌, ◌+◌, ◌-◌, ◌≤◌, [], ◌∷◌, nat_lt, IfOk, if◌then◌else◌, Some, None};
+ghost use Rattle.cabinet_core.specs.declared.part.TheConstants.{MOST_ON_HAND};
+ghost use Rattle.cabinet_core.specs.declared.decide.CabinetChange.TheVariants.{PutInspection, PutOrder};
+ghost use Rattle.cabinet_core.specs.Cabinet.{Records, on_hand, record_of, is_opened_so, inspect_line, open_line, use_line, close_line, receive_line, use_changes, close_changes, receive_changes};
+
+use crate::part::{Hand, PartCode};
+use crate::record::{Closing, Delivery, Inspection, Opening, Order, UsedLine};
+use crate::refusal::CabinetRefusal;
+use signal_records::Amount;
+use std::alloc::{AllocError, Global};
+
+/// A row of the register to be written, in place of the one under its key.
+#[derive(Drop)]
+pub enum CabinetChange {
+    PutInspection(Inspection),
+    PutOrder(Order),
+    PutLine(UsedLine),
+    PutDelivery(Delivery),
+    /// The part's number on hand.
+    PutPart(PartCode, Hand),
+}
+
+/// What an accepted command does.
+#[derive(Drop)]
+pub enum Recorded {
+    /// It puts these rows, in this order.
+    Added(Vec<CabinetChange>),
+    /// Nothing: what it asks for is there already.
+    Same,
+}
+
+/// Records an inspection. `there` is the one of its number.
+///
+/// `InspectionDiffers` where `there` is another one.
+pub fn inspect(
+    alloc: Global,
+    there: &Option<Inspection>,
+    asked: &Inspection,
+) -> Result<Recorded, CabinetRefusal>
+    ensures { Records result (inspect_line there.now asked.now) (PutInspection asked.now ∷ []) }
+{
+    match there {
+        Some(there) if there == asked => Ok(Recorded::Same),
+        Some(_) => Err(CabinetRefusal::InspectionDiffers),
+        None => {
+            let inspection = CabinetChange::PutInspection(asked.clone()?);
+            Ok(Recorded::Added(vec![in alloc; inspection]?))
+        }
+    }
+}
+
+/// Whether an order was opened so, be it open or closed.
+fn is_opened_so(there: &Order, asked: &Opening) -> bool
+    ensures { result ≡ is_opened_so there.now asked.now }
+{
+    there.number == asked.number
+        && there.opened == asked.day
+        && there.clerk == asked.clerk
+        && there.text == asked.text
+}
+
+fn opened(asked: &Opening) -> Result<Order, AllocError>
+    ensures { IfOk result (λ order. order ≡ record_of asked.now) }
+{
+    Ok(Order {
+        number: asked.number,
+        opened: asked.day,
+        clerk: asked.clerk.clone()?,
+        text: asked.text.clone()?,
+        closing: None,
+    })
+}
+
+/// Opens an order. `there` is the one of its number.
+///
+/// `OrderDiffers` where `there` was opened on another day, by another clerk or with another text.
+pub fn open_order(
+    alloc: Global,
+    there: &Option<Order>,
+    asked: &Opening,
+) -> Result<Recorded, CabinetRefusal>
+    ensures { Records result (open_line there.now asked.now) (PutOrder (record_of asked.now) ∷ []) }
+{
+    match there {
+        Some(there) if is_opened_so(there, asked) => Ok(Recorded::Same),
+        Some(_) => Err(CabinetRefusal::OrderDiffers),
+        None => {
+            let order = CabinetChange::PutOrder(opened(asked)?);
+            Ok(Recorded::Added(vec![in alloc; order]?))
+        }
+    }
+}
+
+/// How many are on hand: none where nothing is stored.
+fn on_hand(hand: Option<Hand>) -> u32
+    ensures value { result ≡ on_hand hand }
+    ensures bound { result ≤ MOST_ON_HAND }
+{
+    match hand {
+        Some(hand) => hand.get(),
+        None => 0,
+    }
+}
+
+/// How many are left when these are used, unless they are more than are on hand.
+fn left_on_hand(hand: Option<Hand>, used: Amount) -> Option<Hand>
+    ensures { result ≡ (if nat_lt (on_hand hand) used then None else Some (on_hand hand - used)) }
+{
+    Hand::new(on_hand(hand).checked_sub(used.get())?)
+}
+
+/// How many are on hand when these have come, unless there is no room for them.
+fn raised_on_hand(hand: Option<Hand>, delivered: Amount) -> Option<Hand>
+    ensures { result ≡ (if nat_lt MOST_ON_HAND (on_hand hand + delivered) then None else Some (on_hand hand + delivered)) }
+{
+    Hand::new(on_hand(hand) + delivered.get())
+}
+
+/// Takes a part from stock for an order. `there` is the line of its number, `order` the order, and
+/// `hand` the part's number on hand, nothing where the part is not known.
+///
+/// The first that holds: `LineDiffers` where `there` is another line; `UnknownOrder` without an
+/// order; `OrderClosed`; `NoStock` where fewer are on hand.
+pub fn use_part(
+    alloc: Global,
+    there: &Option<UsedLine>,
+    order: &Option<Order>,
+    hand: Option<Hand>,
+    asked: &UsedLine,
+) -> Result<Recorded, CabinetRefusal>
+    ensures { Records result (use_line there.now order.now hand asked.now) (use_changes hand asked.now) }
+{
+    if let Some(line) = there {
+        return if line == asked {
+            Ok(Recorded::Same)
+        } else {
+            Err(CabinetRefusal::LineDiffers)
+        };
+    }
+    let Some(order) = order else {
+        return Err(CabinetRefusal::UnknownOrder);
+    };
+    if order.closing.is_some() {
+        return Err(CabinetRefusal::OrderClosed);
+    }
+    let Some(left) = left_on_hand(hand, asked.count) else {
+        return Err(CabinetRefusal::NoStock);
+    };
+    let line = CabinetChange::PutLine(asked.clone()?);
+    let part = CabinetChange::PutPart(asked.part.clone()?, left);
+    Ok(Recorded::Added(vec![in alloc; line, part]?))
+}
+
+/// Closes an order. `order` is the order that is there.
+///
+/// The first that holds: `UnknownOrder` without an order; `CloseDiffers` where it was closed on
+/// another day or by another clerk; `DayBeforeOpening` where it was opened later.
+pub fn close_order(
+    alloc: Global,
+    order: &Option<Order>,
+    asked: &Closing,
+) -> Result<Recorded, CabinetRefusal>
+    ensures { Records result (close_line order.now asked.now) (close_changes order.now asked.now) }
+{
+    let Some(there) = order else {
+        return Err(CabinetRefusal::UnknownOrder);
+    };
+    if let Some(closing) = &there.closing {
+        return if closing == asked {
+            Ok(Recorded::Same)
+        } else {
+            Err(CabinetRefusal::CloseDiffers)
+        };
+    }
+    if asked.day < there.opened {
+        return Err(CabinetRefusal::DayBeforeOpening);
+    }
+    let mut closed = there.clone()?;
+    closed.closing = Some(asked.clone()?);
+    let order = CabinetChange::PutOrder(closed);
+    Ok(Recorded::Added(vec![in alloc; order]?))
+}
+
+/// Takes a delivery into stock. `there` is the delivery of its part and number, and `hand` the
+/// part's number on hand, nothing where the part is not known.
+///
+/// The first that holds: `DeliveryDiffers` where `there` is another one; `StockFull` where more
+/// than 999,999,999 would be on hand.
+pub fn receive(
+    alloc: Global,
+    there: &Option<Delivery>,
+    hand: Option<Hand>,
+    asked: &Delivery,
+) -> Result<Recorded, CabinetRefusal>
+    ensures { Records result (receive_line there.now hand asked.now) (receive_changes hand asked.now) }
+{
+    if let Some(delivery) = there {
+        return if delivery == asked {
+            Ok(Recorded::Same)
+        } else {
+            Err(CabinetRefusal::DeliveryDiffers)
+        };
+    }
+    let Some(raised) = raised_on_hand(hand, asked.count) else {
+        return Err(CabinetRefusal::StockFull);
+    };
+    let part = CabinetChange::PutPart(asked.part.clone()?, raised);
+    let delivery = CabinetChange::PutDelivery(asked.clone()?);
+    Ok(Recorded::Added(vec![in alloc; part, delivery]?))
+}

@@ -1,0 +1,66 @@
+//! Inspections that are overdue.
+
+ghost use Rattle.std.specs.Prelude.{◌≡◌, map, option_map, IfOk};
+ghost use Rattle.std.specs.List.Sorted.{IsStrictlyIncreasing};
+ghost use Rattle.cabinet_core.specs.Overdue.{overdue_list, listed, lateness, id_of};
+
+use crate::day::{Day, due};
+use jiff::civil::Date;
+use signal_records::{InterId, Interval, NoMemory, Words};
+use std::alloc::Global;
+
+/// What is known of an intersection's inspections.
+#[derive(Drop)]
+pub struct Seen {
+    pub id: InterId,
+    pub name: Words<120>,
+    /// Days from one inspection to the next.
+    pub interval: Interval,
+    /// The day of the latest inspection, if there was one.
+    pub last: Option<Day>,
+}
+
+/// An intersection whose inspection is overdue.
+#[derive(Drop)]
+pub struct OverdueRow {
+    pub id: InterId,
+    pub name: Words<120>,
+    /// The day on which the inspection fell due; nothing where there never was one.
+    pub due: Option<Date>,
+}
+
+/// The row of an intersection that is overdue on the day.
+fn overdue_row(day: Day, seen: &Seen) -> Result<Option<OverdueRow>, NoMemory>
+    ensures { IfOk result (λ row. lateness day seen.now ≡ option_map listed row) }
+{
+    let due = match seen.last {
+        None => None,
+        Some(last) => {
+            let due = due(last, seen.interval);
+            if due >= day.date() {
+                return Ok(None);
+            }
+            Some(due)
+        }
+    };
+    Ok(Some(OverdueRow {
+        id: seen.id,
+        name: seen.name.clone()?,
+        due,
+    }))
+}
+
+/// The intersections that are overdue on the day: those that were never inspected, and those
+/// whose inspection fell due before the day. They come in the order of the rows, whose ids ascend.
+pub fn overdue(alloc: Global, day: Day, rows: &[Seen]) -> Result<Vec<OverdueRow>, NoMemory>
+    requires { IsStrictlyIncreasing (map id_of rows.now) }
+    ensures { IfOk result (λ found. map listed found.items ≡ overdue_list day rows.now) }
+{
+    let mut found = Vec::new(alloc);
+    for seen in rows {
+        if let Some(row) = overdue_row(day, seen)? {
+            found.push(row)?;
+        }
+    }
+    Ok(found)
+}

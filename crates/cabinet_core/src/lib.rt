@@ -1,0 +1,23 @@
+//! The cabinet register: days, parts on hand, records, and what becomes of a command on them.
+#![tactic(auto)]
+
+mod bounds;
+mod command;
+mod day;
+mod decide;
+mod inspections;
+mod part;
+mod record;
+mod refusal;
+
+pub use bounds::{delivery_is_within, inspection_is_within, order_is_within, used_line_is_within};
+pub use command::RecordCommand;
+pub use day::{Day, due, read_day, write_day};
+pub use decide::{CabinetChange, Recorded, close_order, inspect, open_order, receive, use_part};
+pub use inspections::{OverdueRow, Seen, overdue};
+pub use part::{Hand, MOST_ON_HAND, PartCode};
+pub use record::{CabinetView, Closing, Delivery, Inspection, Opening, Order, UsedLine};
+pub use refusal::CabinetRefusal;
+
+#[cfg(test)]
+mod tests;

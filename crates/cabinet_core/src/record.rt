@@ -1,0 +1,181 @@
+//! The records of the cabinet register.
+
+ghost use Rattle.std.specs.Prelude.{◌≡◌, option_map};
+
+use crate::day::Day;
+use crate::part::PartCode;
+use signal_records::{Amount, LineNo, RecordNo, Words};
+use std::alloc::AllocError;
+
+/// An inspection of a cabinet.
+#[derive(Drop, PartialEq, Eq)]
+pub struct Inspection {
+    pub number: RecordNo,
+    pub day: Day,
+    pub clerk: Words<40>,
+    /// What was found.
+    pub text: Words<500>,
+}
+
+/// What opens an order.
+#[derive(Drop, PartialEq, Eq)]
+pub struct Opening {
+    pub number: RecordNo,
+    pub day: Day,
+    pub clerk: Words<40>,
+    /// What is to be done.
+    pub text: Words<500>,
+}
+
+/// What closes an order.
+#[derive(Drop, PartialEq, Eq)]
+pub struct Closing {
+    pub day: Day,
+    /// The clerk who closed it.
+    pub closer: Words<40>,
+}
+
+/// An order for work on a cabinet.
+#[derive(Drop, PartialEq, Eq)]
+pub struct Order {
+    pub number: RecordNo,
+    /// The day on which it was opened.
+    pub opened: Day,
+    /// The clerk who opened it.
+    pub clerk: Words<40>,
+    /// What is to be done.
+    pub text: Words<500>,
+    /// When and by whom it was closed; nothing while it is open.
+    pub closing: Option<Closing>,
+}
+
+/// A part that was used for an order.
+#[derive(Drop, PartialEq, Eq)]
+pub struct UsedLine {
+    pub order: RecordNo,
+    pub line: LineNo,
+    pub part: PartCode,
+    /// How many pieces.
+    pub count: Amount,
+}
+
+/// A delivery of a part.
+#[derive(Drop, PartialEq, Eq)]
+pub struct Delivery {
+    pub part: PartCode,
+    pub number: RecordNo,
+    pub day: Day,
+    /// How many pieces.
+    pub count: Amount,
+}
+
+/// What the register holds of an intersection, each list in the order of its numbers.
+#[derive(Drop)]
+pub struct CabinetView {
+    pub inspections: Vec<Inspection>,
+    pub orders: Vec<Order>,
+    pub lines: Vec<UsedLine>,
+}
+
+impl Order {
+    /// The day on which it was closed, unless it is open.
+    pub fn closed(&self) -> Option<Day>
+        ensures { result ≡ option_map (λ closing. closing.day) self.now.closing }
+    {
+        match &self.closing {
+            Some(closing) => Some(closing.day),
+            None => None,
+        }
+    }
+
+    /// The clerk who closed it, unless it is open.
+    pub fn closer(&self) -> Option<&Words<40>>
+        ensures { option_map (λ closer. closer.now) result ≡ option_map (λ closing. closing.closer) self.now.closing }
+    {
+        match &self.closing {
+            Some(closing) => Some(&closing.closer),
+            None => None,
+        }
+    }
+}
+
+impl Clone for Inspection {
+    ghost is_clone = { λ inspection copy. copy ≡ inspection };
+
+    fn clone(&self) -> Result<Inspection, AllocError> {
+        Ok(Inspection {
+            number: self.number,
+            day: self.day,
+            clerk: self.clerk.clone()?,
+            text: self.text.clone()?,
+        })
+    }
+}
+
+impl Clone for Opening {
+    ghost is_clone = { λ opening copy. copy ≡ opening };
+
+    fn clone(&self) -> Result<Opening, AllocError> {
+        Ok(Opening {
+            number: self.number,
+            day: self.day,
+            clerk: self.clerk.clone()?,
+            text: self.text.clone()?,
+        })
+    }
+}
+
+impl Clone for Closing {
+    ghost is_clone = { λ closing copy. copy ≡ closing };
+
+    fn clone(&self) -> Result<Closing, AllocError> {
+        Ok(Closing {
+            day: self.day,
+            closer: self.closer.clone()?,
+        })
+    }
+}
+
+impl Clone for Order {
+    ghost is_clone = { λ order copy. copy ≡ order };
+
+    fn clone(&self) -> Result<Order, AllocError> {
+        let closing = match &self.closing {
+            Some(closing) => Some(closing.clone()?),
+            None => None,
+        };
+        Ok(Order {
+            number: self.number,
+            opened: self.opened,
+            clerk: self.clerk.clone()?,
+            text: self.text.clone()?,
+            closing,
+        })
+    }
+}
+
+impl Clone for UsedLine {
+    ghost is_clone = { λ line copy. copy ≡ line };
+
+    fn clone(&self) -> Result<UsedLine, AllocError> {
+        Ok(UsedLine {
+            order: self.order,
+            line: self.line,
+            part: self.part.clone()?,
+            count: self.count,
+        })
+    }
+}
+
+impl Clone for Delivery {
+    ghost is_clone = { λ delivery copy. copy ≡ delivery };
+
+    fn clone(&self) -> Result<Delivery, AllocError> {
+        Ok(Delivery {
+            part: self.part.clone()?,
+            number: self.number,
+            day: self.day,
+            count: self.count,
+        })
+    }
+}

@@ -1,0 +1,5 @@
+pub mod Overlaid
+pub mod Written
+pub mod Lines
+pub mod Makes
+pub mod Sound

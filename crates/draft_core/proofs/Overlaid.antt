@@ -1,0 +1,81 @@
+-- What changes leave of a set, key by key, and the draft as the committed set with its rows over it.
+use Rattle.std.proofs.Common.{◌≡◌, ◌+◌, Bool, true, false, cond, List, [], ◌∷◌, map, Option, Some, None, refl, ap, sym, subst, ◌∙◌, arith, add-one}
+use Rattle.std.specs.declared.cmp.Ordering.TheVariants.{Less, Equal, Greater}
+use Rattle.std.specs.Option.{option_or}
+use Rattle.std.specs.List.{Contains}
+use Rattle.std.specs.FinMap.{get, get-insert, get-remove, same_map}
+use Rattle.std.specs.Ordering.{is_eq}
+use Rattle.signal_records.specs.declared.key.Key.{Key}
+use Rattle.signal_records.specs.declared.record.Row.{Row}
+use Rattle.signal_records.specs.declared.record.Change.{Change}
+use Rattle.signal_records.specs.declared.record.Change.TheVariants.{Put, Remove}
+use Rattle.signal_records.specs.Key.{key_cmp}
+use Rattle.signal_records.specs.KeyOrder.{key_total, key_exact}
+use Rattle.signal_records.specs.Row.{key_of}
+use Rattle.signal_records.specs.TimingSet.{Rows, after_change, after_changes}
+use Rattle.signal_rules.specs.declared.violation.Violation.{Violation}
+use Rattle.signal_rules.specs.Difference.{DiffersAtMost}
+use Rattle.signal_rules.specs.Violations.{violations_of}
+use Rattle.draft_core.specs.declared.timing.Timing.{Timing}
+use Rattle.draft_core.specs.Transaction.{TimingSide, Draft}
+use Rattle.draft_core.specs.DraftRows.{TimingStands, RowStands, changed_key, left_by, said_at, row_at, overlaid}
+
+over : (b : Bool) (row committed : Option Row) → cond b row committed ≡ overlaid committed (cond b (Some row) None)
+over true row committed = refl
+over false row committed = refl
+
+get-after_change : (set : Rows) (change : Change) (key : Key) → get (after_change set change) key ≡ overlaid (get set key) (said_at change key)
+get-after_change set (Put row) key = get-insert key_total set (key_of row) row key ∙ over (is_eq (key_cmp key (key_of row))) (Some row) (get set key)
+get-after_change set (Remove k) key = get-remove key_total set k key ∙ over (is_eq (key_cmp key k)) None (get set key)
+
+pub overlaid-overlaid : (committed : Option Row) (a b : Option (Option Row)) → overlaid (overlaid committed b) a ≡ overlaid committed (option_or a b)
+overlaid-overlaid committed None b = refl
+overlaid-overlaid committed (Some row) b = refl
+
+-- what changes leave of a set, key by key
+pub get-after_changes : (changes : List Change) (set : Rows) (key : Key) → get (after_changes set changes) key ≡ overlaid (get set key) (row_at changes key)
+get-after_changes [] set key = refl
+get-after_changes (change ∷ changes) set key =
+    get-after_changes changes (after_change set change) key
+    ∙ ap (λ o. overlaid o (row_at changes key)) (get-after_change set change key)
+    ∙ overlaid-overlaid (get set key) (row_at changes key) (said_at change key)
+
+-- the draft's row at a key
+pub draft_row : (timing : Timing) (side : TimingSide) (draft : Draft) → TimingStands timing side → side.draft ≡ Some draft
+    → (key : Key) → get draft.set key ≡ overlaid (get side.committed key) (row_at timing.delta key)
+draft_row timing side draft stands held key = subst (λ d. RowStands (get side.committed key) (row_at timing.delta key) d key) held (stands.rows key)
+
+-- the draft is the committed set with the draft rows over it
+pub draft_is : (timing : Timing) (side : TimingSide) (draft : Draft) → TimingStands timing side → side.draft ≡ Some draft
+    → after_changes timing.committed timing.delta ≡ draft.set
+draft_is timing side draft stands held = same_map key_total key_exact _ _ (λ key.
+    get-after_changes timing.delta timing.committed key
+    ∙ ap (λ set. overlaid (get set key) (row_at timing.delta key)) stands.same_committed
+    ∙ sym (draft_row timing side draft stands held key))
+
+-- what is found in the committed set with the draft rows is the draft's, where the committed set has no violation
+pub draft_violations : (timing : Timing) (side : TimingSide) (draft : Draft) (found : List Violation) (changes : List Change)
+    → TimingStands timing side → side.draft ≡ Some draft → violations_of side.committed ≡ [] → changes ≡ timing.delta
+    → (violations_of timing.committed ≡ [] → found ≡ violations_of (after_changes timing.committed changes)) → found ≡ violations_of draft.set
+draft_violations timing side draft found changes stands held sound same finds =
+    finds (ap violations_of stands.same_committed ∙ sound)
+    ∙ ap (λ list. violations_of (after_changes timing.committed list)) same
+    ∙ ap violations_of (draft_is timing side draft stands held)
+
+contains_later : (k key : Key) (keys : List Key) → Contains keys key → Contains (k ∷ keys) key
+contains_later k key keys h = (h.0 + 1, omega (arith, h.1), rw add-one h.2)
+
+-- changes say nothing of a key that they do not name
+unnamed : (changes : List Change) (key : Key) → ¬ Contains (map changed_key changes) key → row_at changes key ≡ None
+unnamed [] key h = refl
+unnamed (change ∷ changes) key h =
+    let later : row_at changes key ≡ None = unnamed changes key (λ has. h (contains_later (changed_key change) key (map changed_key changes) has)) in
+    elim (key_cmp key (changed_key change)) as (λ o. key_cmp key (changed_key change) ≡ o → option_or (row_at changes key) (cond (is_eq o) (Some (left_by change)) None) ≡ None) [
+      | Less ↦ λ is. ap (λ o. option_or o None) later
+      | Equal ↦ λ is. absurd (h (0, omega arith, sym (key_exact key (changed_key change) is)))
+      | Greater ↦ λ is. ap (λ o. option_or o None) later
+    ] refl
+
+-- a set differs from what changes make of it at most at the keys that they name
+pub differs_at_changed : (changes : List Change) (set : Rows) → DiffersAtMost set (after_changes set changes) (map changed_key changes)
+differs_at_changed changes set = λ key absent. get-after_changes changes set key ∙ ap (overlaid (get set key)) (unnamed changes key absent)

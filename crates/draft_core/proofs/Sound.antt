@@ -1,0 +1,55 @@
+-- A line of the table keeps the committed set as it is, or commits a set that breaks no rule.
+use Rattle.std.proofs.Common.{◌≡◌, ◌≢◌, ℕ, ◌+◌, ◌==◌, Bool, cond, true, false, List, [], ◌∷◌, length, Option, Some, None, Result, Ok, Err, refl, ap, sym, subst, ◌∙◌}
+use Rattle.std.specs.Option.{option_map}
+use Rattle.signal_rules.specs.Violations.{violations_of}
+use Rattle.signal_rules.specs.declared.violation.Violation.{Violation}
+use Rattle.draft_core.specs.declared.revision.TheConstants.{LAST_REVISION}
+use Rattle.draft_core.specs.declared.state.Stage.{Stage}
+use Rattle.draft_core.specs.declared.state.Stage.TheVariants.{Done}
+use Rattle.draft_core.specs.declared.refusal.DraftRefusal.{DraftRefusal}
+use Rattle.draft_core.specs.declared.refusal.DraftRefusal.TheVariants.{NotDone, NotTransaction, NotNormal, RevisionFull, VerifyFailed}
+use Rattle.draft_core.specs.Transaction.{TimingSide, Draft, holder_of, refused_by, unless, owned, begun, begun_from, committed, committed_with, abandoned, abandoned_from}
+
+-- what an owned command gives is the step of the draft that is held
+pub record OwnedStep (side : TimingSide) (step : Draft → Result TimingSide DraftRefusal) (next : TimingSide) : Type 0 where
+  pub draft : Draft
+  pub held : side.draft ≡ Some draft
+  pub gives : step draft ≡ Ok next
+
+unless_inverts : (refusal : Option DraftRefusal) (side : TimingSide) (held : Option Draft) (wrong : DraftRefusal) (step : Draft → Result TimingSide DraftRefusal) (next : TimingSide)
+    → side.draft ≡ held → unless refusal held wrong step ≡ Ok next → OwnedStep side step next
+unless_inverts (Some refusal) side held wrong step next is e = absurd (let f : Err refusal ≡ Ok next = e in cc)
+unless_inverts None side (Some draft) wrong step next is e = record { draft = draft; held = is; gives = e }
+unless_inverts None side None wrong step next is e = absurd (let f : Err wrong ≡ Ok next = e in cc)
+
+pub owned_inverts : (side : TimingSide) (stage : Stage) (wrong : DraftRefusal) (clerk : List ℕ) (step : Draft → Result TimingSide DraftRefusal) (next : TimingSide)
+    → owned side stage wrong clerk step ≡ Ok next → OwnedStep side step next
+owned_inverts side stage wrong clerk step next e = unless_inverts (refused_by (option_map holder_of side.draft) stage wrong clerk) side side.draft wrong step next refl e
+
+-- a commit: the draft breaks no rule and becomes the committed set, the revision was not the last and rises by one, and nobody holds a draft
+pub record Commits (side : TimingSide) (draft : Draft) (next : TimingSide) : Type 0 where
+  pub sound : violations_of draft.set ≡ []
+  pub before : (side.revision == LAST_REVISION) ≡ false
+  pub becomes : next ≡ record { revision = side.revision + 1; committed = draft.set; draft = None }
+
+before_last : (side : TimingSide) (draft : Draft) (last : Bool) (next : TimingSide)
+    → cond last (Err RevisionFull) (Ok (let made : TimingSide = record { revision = side.revision + 1; committed = draft.set; draft = None } in made)) ≡ Ok next
+    → (last ≡ false) × (next ≡ record { revision = side.revision + 1; committed = draft.set; draft = None })
+before_last side draft true next e = absurd (let f : Err RevisionFull ≡ Ok next = e in cc)
+before_last side draft false next e =
+    let made : TimingSide = record { revision = side.revision + 1; committed = draft.set; draft = None } in
+    let same : made ≡ next = cc in
+    (refl, sym same)
+
+commits_with : (side : TimingSide) (draft : Draft) (found : List Violation) (next : TimingSide) → violations_of draft.set ≡ found
+    → committed_with side draft found ≡ Ok next → Commits side draft next
+commits_with side draft (v ∷ vs) next is e = absurd (let f : Err (VerifyFailed (length (v ∷ vs))) ≡ Ok next = e in cc)
+commits_with side draft [] next is e =
+    let parts = before_last side draft (side.revision == LAST_REVISION) next e in
+    record { sound = is; before = parts.0; becomes = parts.1 }
+
+pub committed_inverts : (side : TimingSide) (clerk : List ℕ) (next : TimingSide) → committed side clerk ≡ Ok next
+    → (draft : Draft) × (side.draft ≡ Some draft) × Commits side draft next
+committed_inverts side clerk next e =
+    let step = owned_inverts side Done NotDone clerk (λ draft. committed_with side draft (violations_of draft.set)) next e in
+    (step.draft, step.held, commits_with side step.draft (violations_of step.draft.set) next refl step.gives)

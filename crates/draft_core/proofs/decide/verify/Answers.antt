@@ -1,0 +1,9 @@
+use Rattle.std.proofs.Common.{refl, sym}
+use Rattle.draft_core.specs.declared.state.Stage.TheVariants.{Verify}
+use Rattle.draft_core.proofs.Lines.{owned_moves}
+use Rattle.draft_core.proofs.Makes.{stays_makes}
+use Rattle.draft_core.proofs.decide.verify.Goals as goal
+
+pub returns-clause-line : goal.returns-clause-line
+returns-clause-line c = λ side stands. owned_moves _ side _ _ _ _ _ stands (sym c.in_default.ensures) (λ draft held.
+    stays_makes _ side draft (record draft { stage = Verify }) c.args.clerk.now _ stands held refl refl c.stays.ensures.revision c.stays.ensures.state c.stays.ensures.verdict c.stays.ensures.changes)

@@ -1,0 +1,14 @@
+use Rattle.std.proofs.Common.{◌≡◌, sym, ap, ◌∙◌}
+use Rattle.signal_rules.specs.Violations.{violations_of}
+use Rattle.draft_core.specs.declared.state.Holder.{Holder}
+use Rattle.draft_core.specs.declared.state.Stage.TheVariants.{Done}
+use Rattle.draft_core.specs.Transaction.{verdict_on, verdict_of}
+use Rattle.draft_core.proofs.Lines.{held_by}
+use Rattle.draft_core.proofs.Overlaid.{draft_violations}
+use Rattle.draft_core.proofs.judging.verdict.Goals as goal
+
+pub returns-in-Done : goal.returns-in-Done
+returns-in-Done c = λ side stands sound. held_by _ side c.in-Some.holder (λ d. c.verdict_on.result ≡ verdict_of d) stands c.in-Some.is (λ draft held same.
+    c.verdict_on.ensures
+    ∙ ap (verdict_on Done) (c.as_slice-in-Done.ensures.value ∙ draft_violations _ side draft _ _ stands held sound c.as_slice.ensures c.in_ok-found-in-Done.ensures)
+    ∙ sym (ap (λ stage. verdict_on stage (violations_of draft.set)) (ap (λ (h : Holder). h.stage) same ∙ c.in-Done.is)))

@@ -1,0 +1,88 @@
+-- What a decision of the transaction has to give.
+use Rattle.std.specs.Prelude.{◌≡◌, ◌⊎◌, ℕ, ◌+◌, List, [], ◌∷◌, cond, Option, Some, None, Result, Ok, Err}
+use Rattle.std.specs.Option.{option_map}
+use Rattle.std.specs.FinMap.{get}
+use Rattle.std.specs.Ordering.{eq_by_cmp}
+use Rattle.signal_records.specs.Key.{key_cmp}
+use Rattle.signal_records.specs.declared.key.Key.{Key}
+use Rattle.signal_records.specs.declared.record.Row.{Row}
+use Rattle.signal_rules.specs.Violations.{violations_of}
+use Rattle.draft_core.specs.declared.state.DbState.{DbState}
+use Rattle.draft_core.specs.declared.state.DbState.TheVariants.{Normal, Transaction as InTransaction, Verify as InVerify, Done as InDone}
+use Rattle.draft_core.specs.declared.state.Stage.TheVariants.{Transaction, Verify, Done}
+use Rattle.draft_core.specs.declared.state.Holder.{Holder}
+use Rattle.draft_core.specs.declared.timing.Timing.{Timing}
+use Rattle.draft_core.specs.declared.timing.Move.{Move}
+use Rattle.draft_core.specs.declared.timing.TimingChange.{TimingChange}
+use Rattle.draft_core.specs.declared.timing.TimingChange.TheVariants.{Committed, Drafted, DraftGone}
+use Rattle.draft_core.specs.declared.refusal.DraftRefusal.{DraftRefusal}
+use Rattle.draft_core.specs.declared.refusal.DraftRefusal.TheVariants.{NoMemory}
+use Rattle.draft_core.specs.DraftRows.{TimingStands, RowStands, row_at, said_at, changed_key, left_by, overlaid}
+use Rattle.draft_core.specs.Transaction.{TimingSide, holder_of, state_of, verdict_of}
+
+-- ---- what a list of changes makes of the rows
+
+-- the committed row at a key after changes
+abbrev pub committed_after : List TimingChange → Key → Option Row → Option Row
+committed_after [] key committed = committed
+committed_after (Committed change ∷ changes) key committed = committed_after changes key (overlaid committed (said_at change key))
+committed_after (Drafted change ∷ changes) key committed = committed_after changes key committed
+committed_after (DraftGone gone ∷ changes) key committed = committed_after changes key committed
+
+-- the draft row at a key after changes
+abbrev pub row_after : List TimingChange → Key → Option (Option Row) → Option (Option Row)
+row_after [] key row = row
+row_after (Committed change ∷ changes) key row = row_after changes key row
+row_after (Drafted change ∷ changes) key row = row_after changes key (cond (eq_by_cmp key_cmp key (changed_key change)) (Some (left_by change)) row)
+row_after (DraftGone gone ∷ changes) key row = row_after changes key (cond (eq_by_cmp key_cmp key gone) None row)
+
+-- how many timing rows changes write
+abbrev pub timing_writes : List TimingChange → ℕ
+timing_writes [] = 0
+timing_writes (Committed change ∷ changes) = timing_writes changes + 1
+timing_writes (Drafted change ∷ changes) = timing_writes changes
+timing_writes (DraftGone gone ∷ changes) = timing_writes changes
+
+-- how many draft rows changes write
+abbrev pub draft_writes : List TimingChange → ℕ
+draft_writes [] = 0
+draft_writes (Committed change ∷ changes) = draft_writes changes
+draft_writes (Drafted change ∷ changes) = draft_writes changes + 1
+draft_writes (DraftGone gone ∷ changes) = draft_writes changes + 1
+
+-- ---- a move, and the line of the table that it follows
+
+-- who owned the draft before, or the clerk who begins one
+abbrev pub owner_after : Option Holder → List ℕ → List ℕ
+owner_after None clerk = clerk
+owner_after (Some holder) clerk = holder.owner
+
+-- who holds the draft after a move to a state: nobody in Normal
+abbrev pub next_holder : Option Holder → List ℕ → DbState → Option Holder
+next_holder holder clerk Normal = None
+next_holder holder clerk InTransaction = Some (record { stage = Transaction; owner = owner_after holder clerk })
+next_holder holder clerk InVerify = Some (record { stage = Verify; owner = owner_after holder clerk })
+next_holder holder clerk InDone = Some (record { stage = Done; owner = owner_after holder clerk })
+
+-- a move shows the next timing side, and its changes make it
+pub record Makes (timing : Timing) (clerk : List ℕ) (move : Move) (next : TimingSide) : Type 0 where
+  pub same_revision : move.revision ≡ next.revision
+  pub same_state : move.state ≡ state_of next.draft
+  pub same_verdict : move.verdict ≡ verdict_of next.draft
+  pub same_holder : next_holder timing.holder clerk move.state ≡ option_map holder_of next.draft
+  pub committed : (key : Key) → get next.committed key ≡ committed_after move.changes.items key (get timing.committed key)
+  pub rows : (key : Key) → RowStands (get next.committed key) (row_after move.changes.items key (row_at timing.delta key)) next.draft key
+
+-- a decision follows its line of the table, or found no memory
+abbrev pub Follows : Timing → List ℕ → Result Move DraftRefusal → Result TimingSide DraftRefusal → Type 0
+Follows timing clerk (Ok move) (Ok next) = Makes timing clerk move next
+Follows timing clerk (Ok move) (Err refusal) = ⊥
+Follows timing clerk (Err refusal) line = (refusal ≡ NoMemory) ⊎ (line ≡ Err refusal)
+
+-- whichever timing side is stood for
+abbrev pub FollowsLine : Timing → List ℕ → Result Move DraftRefusal → (TimingSide → Result TimingSide DraftRefusal) → Type 0
+FollowsLine timing clerk result line = (side : TimingSide) → TimingStands timing side → Follows timing clerk result (line side)
+
+-- whichever timing side is stood for, if its committed set breaks no rule
+abbrev pub FollowsSoundLine : Timing → List ℕ → Result Move DraftRefusal → (TimingSide → Result TimingSide DraftRefusal) → Type 0
+FollowsSoundLine timing clerk result line = (side : TimingSide) → TimingStands timing side → violations_of side.committed ≡ [] → Follows timing clerk result (line side)

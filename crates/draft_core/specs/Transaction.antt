@@ -1,0 +1,120 @@
+-- The timing side of an intersection, and what each command of the transaction makes of it (NTCIP 1201, `dbCreateTransaction`; the profile is this project's).
+use Rattle.std.specs.Prelude.{ℕ, ◌+◌, Bool, true, false, List, [], ◌∷◌, length, ◌==◌, if◌then◌else◌, Option, Some, None, Result, Ok, Err}
+use Rattle.std.specs.Str.{bytes_eq}
+use Rattle.std.specs.Option.{option_map}
+use Rattle.signal_records.specs.TimingSet.{Rows, after_changes}
+use Rattle.signal_records.specs.declared.record.Change.{Change}
+use Rattle.signal_rules.specs.Violations.{violations_of}
+use Rattle.signal_rules.specs.declared.violation.Violation.{Violation}
+use Rattle.draft_core.specs.declared.revision.TheConstants.{LAST_REVISION}
+use Rattle.draft_core.specs.declared.state.Stage.{Stage}
+use Rattle.draft_core.specs.declared.state.Stage.TheVariants.{Transaction, Verify, Done}
+use Rattle.draft_core.specs.declared.state.DbState.{DbState}
+use Rattle.draft_core.specs.declared.state.DbState.TheVariants.{Normal, Transaction as InTransaction, Verify as InVerify, Done as InDone}
+use Rattle.draft_core.specs.declared.state.Verdict.{Verdict}
+use Rattle.draft_core.specs.declared.state.Verdict.TheVariants.{NotDone as NotJudged, DoneWithError, DoneWithNoError}
+use Rattle.draft_core.specs.declared.state.Holder.{Holder}
+use Rattle.draft_core.specs.declared.refusal.DraftRefusal.{DraftRefusal}
+use Rattle.draft_core.specs.declared.refusal.DraftRefusal.TheVariants.{NotNormal, NotTransaction, NotOwner, NotVerify, NotDone, VerifyFailed, RevisionFull}
+
+-- a draft is a whole set
+pub record Draft : Type 0 where
+  pub stage : Stage
+  pub owner : List ℕ
+  pub set : Rows
+
+-- how often a set was committed, the committed set, and the draft where a clerk holds one
+pub record TimingSide : Type 0 where
+  pub revision : ℕ
+  pub committed : Rows
+  pub draft : Option Draft
+
+abbrev pub holder_of : Draft → Holder
+holder_of draft = record { stage = draft.stage; owner = draft.owner }
+
+abbrev pub in_stage : Stage → DbState
+in_stage Transaction = InTransaction
+in_stage Verify = InVerify
+in_stage Done = InDone
+
+abbrev pub state_of : Option Draft → DbState
+state_of None = Normal
+state_of (Some draft) = in_stage draft.stage
+
+-- the same, read from who holds the draft
+abbrev pub state_of_holder : Option Holder → DbState
+state_of_holder None = Normal
+state_of_holder (Some holder) = in_stage holder.stage
+
+abbrev pub verdict_on : Stage → List Violation → Verdict
+verdict_on Transaction violations = NotJudged
+verdict_on Verify violations = NotJudged
+verdict_on Done [] = DoneWithNoError
+verdict_on Done (violation ∷ violations) = DoneWithError
+
+-- it is read from the draft, and never kept (NTCIP 1201, `dbVerifyStatus`)
+abbrev pub verdict_of : Option Draft → Verdict
+verdict_of None = NotJudged
+verdict_of (Some draft) = verdict_on draft.stage (violations_of draft.set)
+
+abbrev pub is_stage : Stage → Stage → Bool
+is_stage Transaction Transaction = true
+is_stage Verify Verify = true
+is_stage Done Done = true
+is_stage _ _ = false
+
+-- the state is tested first, then the owner
+abbrev pub refused_by : Option Holder → Stage → DraftRefusal → List ℕ → Option DraftRefusal
+refused_by None stage wrong clerk = Some wrong
+refused_by (Some holder) stage wrong clerk =
+    if is_stage holder.stage stage then (if bytes_eq holder.owner clerk then None else Some NotOwner) else Some wrong
+
+-- the step, where there is no refusal and a draft is held
+abbrev pub unless : Option DraftRefusal → Option Draft → DraftRefusal → (Draft → Result TimingSide DraftRefusal) → Result TimingSide DraftRefusal
+unless (Some refusal) draft wrong step = Err refusal
+unless None (Some draft) wrong step = step draft
+unless None None wrong step = Err wrong
+
+-- a command that only the owner may give, and only in one stage
+abbrev pub owned : TimingSide → Stage → DraftRefusal → List ℕ → (Draft → Result TimingSide DraftRefusal) → Result TimingSide DraftRefusal
+owned side stage wrong clerk step = unless (refused_by (option_map holder_of side.draft) stage wrong clerk) side.draft wrong step
+
+abbrev pub with_draft : TimingSide → Draft → TimingSide
+with_draft side draft = record side { draft = Some draft }
+
+-- ---- the transaction table, a line for each command: the next timing side, or why not
+
+abbrev pub begun_from : TimingSide → List ℕ → Option Draft → Result TimingSide DraftRefusal
+begun_from side clerk None = Ok (with_draft side (record { stage = Transaction; owner = clerk; set = side.committed }))
+begun_from side clerk (Some draft) = Err NotNormal
+
+abbrev pub begun : TimingSide → List ℕ → Result TimingSide DraftRefusal
+begun side clerk = begun_from side clerk side.draft
+
+abbrev pub edited : TimingSide → List ℕ → List Change → Result TimingSide DraftRefusal
+edited side clerk changes = owned side Transaction NotTransaction clerk (λ draft. Ok (with_draft side (record draft { stage = Transaction; set = after_changes draft.set changes })))
+
+abbrev pub verified : TimingSide → List ℕ → Result TimingSide DraftRefusal
+verified side clerk = owned side Transaction NotTransaction clerk (λ draft. Ok (with_draft side (record draft { stage = Verify })))
+
+abbrev pub checked : TimingSide → List ℕ → Result TimingSide DraftRefusal
+checked side clerk = owned side Verify NotVerify clerk (λ draft. Ok (with_draft side (record draft { stage = Done })))
+
+abbrev pub reopened : TimingSide → List ℕ → Result TimingSide DraftRefusal
+reopened side clerk = owned side Done NotDone clerk (λ draft. Ok (with_draft side (record draft { stage = Transaction })))
+
+-- with violations first, and then at the last revision, nothing is committed
+abbrev pub committed_with : TimingSide → Draft → List Violation → Result TimingSide DraftRefusal
+committed_with side draft [] = if side.revision == LAST_REVISION then Err RevisionFull else Ok (record { revision = side.revision + 1; committed = draft.set; draft = None })
+committed_with side draft (violation ∷ violations) = Err (VerifyFailed (length (violation ∷ violations)))
+
+abbrev pub committed : TimingSide → List ℕ → Result TimingSide DraftRefusal
+committed side clerk = owned side Done NotDone clerk (λ draft. committed_with side draft (violations_of draft.set))
+
+-- any clerk may abandon a draft
+abbrev pub abandoned_from : TimingSide → Option Draft → Result TimingSide DraftRefusal
+abandoned_from side None = Err NotTransaction
+abandoned_from side (Some draft) = Ok (record side { draft = None })
+
+abbrev pub abandoned : TimingSide → Result TimingSide DraftRefusal
+abandoned side = abandoned_from side side.draft

@@ -1,0 +1,164 @@
+//! The transaction table as decisions: what each command changes, or why it is refused.
+
+ghost use Rattle.std.specs.Prelude.{◌≡◌, ◌≤◌, [], length, Some, IfOk, List, ℕ};
+ghost use Rattle.signal_rules.specs.Violations.{violations_of};
+ghost use Rattle.draft_core.specs.Transaction as table;
+ghost use Rattle.draft_core.specs.Transaction.{TimingSide, Draft};
+ghost use Rattle.draft_core.specs.DraftRows.{TimingStands};
+ghost use Rattle.draft_core.specs.Moves.{Follows, FollowsLine, FollowsSoundLine, timing_writes, draft_writes};
+
+use crate::holding::refused_by;
+use crate::judging::{next_revision, verdict_on};
+use crate::overlaying::violations_after;
+use crate::refusal::DraftRefusal;
+use crate::state::{DbState, Stage, Verdict};
+use crate::timing::{Move, Timing};
+use crate::writes::{drafting, dropping, settling};
+use signal_records::{Change, Words};
+use std::alloc::Global;
+
+/// A move that writes no row.
+fn stays(alloc: Global, timing: &Timing, state: DbState, verdict: Verdict) -> Move
+    ensures revision { result.revision ≡ timing.now.revision }
+    ensures state { result.state ≡ state }
+    ensures verdict { result.verdict ≡ verdict }
+    ensures changes { result.changes.items ≡ [] }
+{
+    Move {
+        revision: timing.revision,
+        state,
+        verdict,
+        changes: Vec::new(alloc),
+    }
+}
+
+/// The clerk takes the draft, which equals the committed set.
+///
+/// `NotNormal` in each state but Normal.
+pub fn begin(alloc: Global, timing: &Timing, _clerk: &Words<40>) -> Result<Move, DraftRefusal>
+    ensures line { FollowsLine timing.now _clerk.now result (λ side. table.begun side _clerk.now) }
+    ensures bounds { IfOk result (λ move. move.changes.items ≡ []) }
+{
+    if timing.holder.is_some() {
+        return Err(DraftRefusal::NotNormal);
+    }
+    let state = DbState::Transaction;
+    Ok(stays(alloc, timing, state, Verdict::NotDone))
+}
+
+/// Makes changes to the draft.
+///
+/// `NotTransaction` in each state but Transaction, and then `NotOwner` for another clerk.
+pub fn edit(
+    alloc: Global,
+    timing: &Timing,
+    clerk: &Words<40>,
+    changes: &[Change],
+) -> Result<Move, DraftRefusal>
+    ensures line { FollowsLine timing.now clerk.now result (λ side. table.edited side clerk.now changes.now) }
+    ensures bounds { IfOk result (λ move. (timing_writes move.changes.items ≡ 0) × (draft_writes move.changes.items ≤ length changes.now)) }
+{
+    let wrong = DraftRefusal::NotTransaction;
+    if let Some(refusal) = refused_by(&timing.holder, Stage::Transaction, wrong, clerk) {
+        return Err(refusal);
+    }
+    Ok(Move {
+        revision: timing.revision,
+        state: DbState::Transaction,
+        verdict: Verdict::NotDone,
+        changes: drafting(alloc, changes)?,
+    })
+}
+
+/// Ends the editing: the draft waits to be checked.
+///
+/// `NotTransaction` in each state but Transaction, and then `NotOwner` for another clerk.
+pub fn verify(alloc: Global, timing: &Timing, clerk: &Words<40>) -> Result<Move, DraftRefusal>
+    ensures line { FollowsLine timing.now clerk.now result (λ side. table.verified side clerk.now) }
+    ensures bounds { IfOk result (λ move. move.changes.items ≡ []) }
+{
+    let wrong = DraftRefusal::NotTransaction;
+    if let Some(refusal) = refused_by(&timing.holder, Stage::Transaction, wrong, clerk) {
+        return Err(refusal);
+    }
+    Ok(stays(alloc, timing, DbState::Verify, Verdict::NotDone))
+}
+
+/// Checks the draft: the verdict says whether it breaks rules.
+///
+/// `NotVerify` in each state but Verify, and then `NotOwner` for another clerk.
+pub fn check(alloc: Global, timing: &Timing, clerk: &Words<40>) -> Result<Move, DraftRefusal>
+    ensures line { FollowsSoundLine timing.now clerk.now result (λ side. table.checked side clerk.now) }
+    ensures bounds { IfOk result (λ move. move.changes.items ≡ []) }
+{
+    let wrong = DraftRefusal::NotVerify;
+    if let Some(refusal) = refused_by(&timing.holder, Stage::Verify, wrong, clerk) {
+        return Err(refusal);
+    }
+    let found = violations_after(alloc, &timing.committed, timing.delta.as_slice())?;
+    let verdict = verdict_on(found.as_slice());
+    Ok(stays(alloc, timing, DbState::Done, verdict))
+}
+
+/// Makes the draft the committed set, and raises the revision by one.
+///
+/// `NotDone` in each state but Done, `NotOwner` for another clerk, `VerifyFailed` for a draft that
+/// breaks rules, and `RevisionFull` at the last revision, in this order.
+pub fn commit(alloc: Global, timing: &Timing, clerk: &Words<40>) -> Result<Move, DraftRefusal>
+    ensures line { FollowsSoundLine timing.now clerk.now result (λ side. table.committed side clerk.now) }
+    ensures bounds { IfOk result (λ move. (timing_writes move.changes.items ≤ length timing.now.delta) × (draft_writes move.changes.items ≤ length timing.now.delta)) }
+{
+    let wrong = DraftRefusal::NotDone;
+    if let Some(refusal) = refused_by(&timing.holder, Stage::Done, wrong, clerk) {
+        return Err(refusal);
+    }
+    settled(alloc, timing)
+}
+
+/// Commits a draft that its owner may commit.
+fn settled(alloc: Global, timing: &Timing) -> Result<Move, DraftRefusal>
+    ensures line { (side : TimingSide) → (draft : Draft) → (clerk : List ℕ) → TimingStands timing.now side → side.draft ≡ Some draft → violations_of side.committed ≡ [] →
+        Follows timing.now clerk result (table.committed_with side draft (violations_of draft.set)) }
+    ensures bounds { IfOk result (λ move. (timing_writes move.changes.items ≤ length timing.now.delta) × (draft_writes move.changes.items ≤ length timing.now.delta)) }
+{
+    let found = violations_after(alloc, &timing.committed, timing.delta.as_slice())?;
+    let revision = next_revision(timing.revision, found.as_slice())?;
+    Ok(Move {
+        revision,
+        state: DbState::Normal,
+        verdict: Verdict::NotDone,
+        changes: settling(alloc, timing.delta.as_slice())?,
+    })
+}
+
+/// Goes back to editing. The draft is kept.
+///
+/// `NotDone` in each state but Done, and then `NotOwner` for another clerk.
+pub fn reopen(alloc: Global, timing: &Timing, clerk: &Words<40>) -> Result<Move, DraftRefusal>
+    ensures line { FollowsLine timing.now clerk.now result (λ side. table.reopened side clerk.now) }
+    ensures bounds { IfOk result (λ move. move.changes.items ≡ []) }
+{
+    let wrong = DraftRefusal::NotDone;
+    if let Some(refusal) = refused_by(&timing.holder, Stage::Done, wrong, clerk) {
+        return Err(refusal);
+    }
+    Ok(stays(alloc, timing, DbState::Transaction, Verdict::NotDone))
+}
+
+/// Drops the draft. Any clerk may.
+///
+/// `NotTransaction` in state Normal.
+pub fn abandon(alloc: Global, timing: &Timing, _clerk: &Words<40>) -> Result<Move, DraftRefusal>
+    ensures line { FollowsLine timing.now _clerk.now result table.abandoned }
+    ensures bounds { IfOk result (λ move. (timing_writes move.changes.items ≡ 0) × (draft_writes move.changes.items ≤ length timing.now.delta)) }
+{
+    if timing.holder.is_none() {
+        return Err(DraftRefusal::NotTransaction);
+    }
+    Ok(Move {
+        revision: timing.revision,
+        state: DbState::Normal,
+        verdict: Verdict::NotDone,
+        changes: dropping(alloc, timing.delta.as_slice())?,
+    })
+}

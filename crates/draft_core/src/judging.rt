@@ -1,0 +1,57 @@
+//! What is known of a draft's consistency, and whether it may be committed.
+
+ghost use Rattle.std.specs.Prelude.{◌≡◌, [], IfOk};
+ghost use Rattle.signal_rules.specs.Violations.{violations_of};
+ghost use Rattle.draft_core.specs.Transaction as table;
+ghost use Rattle.draft_core.specs.Transaction.{TimingSide};
+ghost use Rattle.draft_core.specs.DraftRows.{TimingStands};
+ghost use Rattle.draft_core.specs.Writes as writes;
+ghost use Rattle.draft_core.specs.declared.state.Stage.TheVariants as stage;
+
+use crate::overlaying::violations_after;
+use crate::refusal::DraftRefusal;
+use crate::revision::Revision;
+use crate::state::{Holder, Stage, Verdict};
+use crate::timing::Timing;
+use signal_records::NoMemory;
+use signal_rules::Violation;
+use std::alloc::Global;
+
+/// The verdict on the draft of an intersection whose committed set breaks no rule. It is read
+/// from the draft each time, and never kept; a draft that was not checked is not judged.
+pub fn verdict(alloc: Global, timing: &Timing) -> Result<Verdict, NoMemory>
+    ensures { (side : TimingSide) → TimingStands timing.now side → violations_of side.committed ≡ [] → IfOk result (λ verdict. verdict ≡ table.verdict_of side.draft) }
+{
+    match &timing.holder {
+        None => return Ok(Verdict::NotDone),
+        Some(holder) => match holder.stage {
+            Stage::Transaction => return Ok(Verdict::NotDone),
+            Stage::Verify => return Ok(Verdict::NotDone),
+            Stage::Done => {
+                let found = violations_after(alloc, &timing.committed, timing.delta.as_slice())?;
+                return Ok(verdict_on(found.as_slice()));
+            }
+        },
+    }
+}
+
+/// The verdict on a draft with these violations.
+pub fn verdict_on(found: &[Violation]) -> Verdict
+    ensures { result ≡ table.verdict_on stage.Done found.now }
+{
+    match found {
+        [] => Verdict::DoneWithNoError,
+        _ => Verdict::DoneWithError,
+    }
+}
+
+/// The next revision, or why a draft with these violations is not committed: the violations come
+/// before the last revision.
+pub fn next_revision(revision: Revision, found: &[Violation]) -> Result<Revision, DraftRefusal>
+    ensures { result ≡ writes.next_revision revision found.now }
+{
+    if !found.is_empty() {
+        return Err(DraftRefusal::VerifyFailed(found.len()));
+    }
+    revision.next().ok_or(DraftRefusal::RevisionFull)
+}

@@ -1,0 +1,140 @@
+-- A step of the transaction leads from a sound timing side to a sound one.
+use Rattle.std.proofs.Common.{◌≡◌, ◌+◌, ◌≤◌, ◌==◌, ℕ, Bool, true, false, List, [], ◌∷◌, cond, Option, Some, None, Result, Ok, Err, refl, ap, sym, subst, ◌∙◌, arith}
+use Rattle.std.proofs.lemmas.Bool.Decides.{nat_tests}
+use Rattle.std.specs.Prelude.{IfSome}
+use Rattle.std.specs.Ordering.{eq_by_cmp}
+use Rattle.std.specs.FinMap.{get, get-insert, get-remove}
+use Rattle.signal_records.specs.Key.{key_cmp}
+use Rattle.signal_records.specs.KeyOrder.{key_total, key_exact}
+use Rattle.signal_records.specs.Row.{key_of}
+use Rattle.signal_records.specs.TimingSet.{Rows, after_change, after_changes}
+use Rattle.signal_records.specs.Within.{IsRowWithin, IsChangeWithin, current_limits}
+use Rattle.signal_records.specs.Words.{AreWords}
+use Rattle.signal_records.specs.declared.key.Key.{Key}
+use Rattle.signal_records.specs.declared.record.Row.{Row}
+use Rattle.signal_records.specs.declared.record.Change.{Change}
+use Rattle.signal_records.specs.declared.record.Change.TheVariants.{Put, Remove}
+use Rattle.signal_rules.specs.Violations.{violations_of}
+use Rattle.draft_core.specs.Transaction.{TimingSide, Draft, with_draft, begun, begun_from, edited, verified, checked, committed, reopened, abandoned, abandoned_from}
+use Rattle.draft_core.specs.declared.revision.TheConstants.{LAST_REVISION}
+use Rattle.draft_core.specs.declared.refusal.DraftRefusal.{DraftRefusal}
+use Rattle.draft_core.specs.declared.refusal.DraftRefusal.TheVariants.{NotNormal, NotTransaction, NotVerify, NotDone}
+use Rattle.draft_core.specs.declared.state.Stage.TheVariants.{Transaction, Verify, Done}
+use Rattle.draft_core.proofs.Sound.{OwnedStep, owned_inverts, committed_inverts}
+use Rattle.office_tables_shelf.proofs.CellLemmas.{tied}
+use Rattle.office_desk.specs.Office.{Intersection, IsSoundIntersection, IsSoundDraft, AreRecords}
+use Rattle.office_desk.specs.Reading.{AreChangesWithin}
+use Rattle.office_desk.specs.Transacting.{line_of, IsAskWithin}
+use Rattle.office_desk.specs.declared.transacting.Ask.{Ask}
+use Rattle.office_desk.specs.declared.transacting.Ask.TheVariants.{Begin, Edit, Verify as AskVerify, Check, Commit, Reopen, Abandon}
+
+-- ---- records after changes
+
+abbrev IsRecord : Key → Row → Type 0
+IsRecord key row = IsRowWithin current_limits row × (key_of row ≡ key)
+
+put_record : (set : Rows) (row : Row) → AreRecords set → IsRowWithin current_limits row → AreRecords (after_change set (Put row))
+put_record set row records within key =
+    subst (λ o. IfSome o (IsRecord key)) (sym (get-insert key_total set (key_of row) row key))
+    (elim (eq_by_cmp key_cmp key (key_of row)) as (λ b. eq_by_cmp key_cmp key (key_of row) ≡ b → IfSome (cond b (Some row) (get set key)) (IsRecord key)) [
+      | true ↦ λ named. (within, sym (key_exact key (key_of row) (tied _ named)))
+      | false ↦ λ named. records key
+    ] refl)
+
+gone_record : (set : Rows) (k : Key) → AreRecords set → AreRecords (after_change set (Remove k))
+gone_record set k records key =
+    subst (λ o. IfSome o (IsRecord key)) (sym (get-remove key_total set k key))
+    (elim (eq_by_cmp key_cmp key k) as (λ b. IfSome (cond b None (get set key)) (IsRecord key)) [
+      | true ↦ tt
+      | false ↦ records key
+    ])
+
+records_after : (changes : List Change) (set : Rows) → AreRecords set → AreChangesWithin changes → AreRecords (after_changes set changes)
+records_after [] set records within = records
+records_after (Put row ∷ changes) set records within = records_after changes (after_change set (Put row)) (put_record set row records within.0) within.1
+records_after (Remove k ∷ changes) set records within = records_after changes (after_change set (Remove k)) (gone_record set k records) within.1
+
+-- ---- sound timing sides
+
+pub record IsSoundSide (side : TimingSide) : Type 0 where
+  pub revision : side.revision ≤ LAST_REVISION
+  pub rows : AreRecords side.committed
+  pub no_violations : violations_of side.committed ≡ []
+  pub draft : IfSome side.draft IsSoundDraft
+
+pub side_sound : (i : Intersection) → IsSoundIntersection i → IsSoundSide i.timing
+side_sound i sound = record { revision = sound.revision; rows = sound.rows; no_violations = sound.no_violations; draft = sound.draft }
+
+pub sound_intersection : (i : Intersection) (next : TimingSide) → IsSoundIntersection i → IsSoundSide next → IsSoundIntersection (record i { timing = next })
+sound_intersection i next sound side = record {
+  name = sound.name;
+  interval_low = sound.interval_low;
+  interval_high = sound.interval_high;
+  revision = side.revision;
+  rows = side.rows;
+  no_violations = side.no_violations;
+  draft = side.draft;
+}
+
+held_sound : (side : TimingSide) (draft : Draft) → IsSoundSide side → side.draft ≡ Some draft → IsSoundDraft draft
+held_sound side draft sound held = subst (λ d. IfSome d IsSoundDraft) held sound.draft
+
+-- with another draft, which is sound
+drafted_sound : (side : TimingSide) (draft : Draft) (next : TimingSide) → IsSoundSide side → IsSoundDraft draft → ◌≡◌ {A = Result TimingSide DraftRefusal} (Ok (with_draft side draft)) (Ok next) → IsSoundSide next
+drafted_sound side draft next sound drafted is =
+    let same : with_draft side draft ≡ next = cc in
+    subst IsSoundSide same (record { revision = sound.revision; rows = sound.rows; no_violations = sound.no_violations; draft = drafted })
+
+begun_sound : (side : TimingSide) (clerk : List ℕ) (held : Option Draft) (next : TimingSide) → IsSoundSide side → AreWords 40 clerk → begun_from side clerk held ≡ Ok next → IsSoundSide next
+begun_sound side clerk None next sound words is = drafted_sound side (record { stage = Transaction; owner = clerk; set = side.committed }) next sound (record { owner = words; rows = sound.rows }) is
+begun_sound side clerk (Some draft) next sound words is = absurd (let f : Err NotNormal ≡ Ok next = is in cc)
+
+edited_sound : (side : TimingSide) (clerk : List ℕ) (changes : List Change) (next : TimingSide) → IsSoundSide side → AreChangesWithin changes → edited side clerk changes ≡ Ok next → IsSoundSide next
+edited_sound side clerk changes next sound within is =
+    let step = owned_inverts side Transaction NotTransaction clerk (λ draft. Ok (with_draft side (record draft { stage = Transaction; set = after_changes draft.set changes }))) next is in
+    let held = held_sound side step.draft sound step.held in
+    drafted_sound side (record step.draft { stage = Transaction; set = after_changes step.draft.set changes }) next sound (record { owner = held.owner; rows = records_after changes step.draft.set held.rows within }) step.gives
+
+verified_sound : (side : TimingSide) (clerk : List ℕ) (next : TimingSide) → IsSoundSide side → verified side clerk ≡ Ok next → IsSoundSide next
+verified_sound side clerk next sound is =
+    let step = owned_inverts side Transaction NotTransaction clerk (λ draft. Ok (with_draft side (record draft { stage = Verify }))) next is in
+    let held = held_sound side step.draft sound step.held in
+    drafted_sound side (record step.draft { stage = Verify }) next sound (record { owner = held.owner; rows = held.rows }) step.gives
+
+checked_sound : (side : TimingSide) (clerk : List ℕ) (next : TimingSide) → IsSoundSide side → checked side clerk ≡ Ok next → IsSoundSide next
+checked_sound side clerk next sound is =
+    let step = owned_inverts side Verify NotVerify clerk (λ draft. Ok (with_draft side (record draft { stage = Done }))) next is in
+    let held = held_sound side step.draft sound step.held in
+    drafted_sound side (record step.draft { stage = Done }) next sound (record { owner = held.owner; rows = held.rows }) step.gives
+
+reopened_sound : (side : TimingSide) (clerk : List ℕ) (next : TimingSide) → IsSoundSide side → reopened side clerk ≡ Ok next → IsSoundSide next
+reopened_sound side clerk next sound is =
+    let step = owned_inverts side Done NotDone clerk (λ draft. Ok (with_draft side (record draft { stage = Transaction }))) next is in
+    let held = held_sound side step.draft sound step.held in
+    drafted_sound side (record step.draft { stage = Transaction }) next sound (record { owner = held.owner; rows = held.rows }) step.gives
+
+not_last : (n : ℕ) → (n == 999999) ≡ false → n ≤ 999999 → n + 1 ≤ 999999
+not_last n e h = grind (arith, nat_tests)
+
+committed_sound : (side : TimingSide) (clerk : List ℕ) (next : TimingSide) → IsSoundSide side → committed side clerk ≡ Ok next → IsSoundSide next
+committed_sound side clerk next sound is =
+    let made = committed_inverts side clerk next is in
+    let held = held_sound side made.0 sound made.1 in
+    subst IsSoundSide (sym made.2.becomes) (record { revision = not_last side.revision made.2.before sound.revision; rows = held.rows; no_violations = made.2.sound; draft = tt })
+
+abandoned_sound : (side : TimingSide) (held : Option Draft) (next : TimingSide) → IsSoundSide side → abandoned_from side held ≡ Ok next → IsSoundSide next
+abandoned_sound side None next sound is = absurd (let f : Err NotTransaction ≡ Ok next = is in cc)
+abandoned_sound side (Some draft) next sound is =
+    let made : TimingSide = record side { draft = None } in
+    let same : made ≡ next = cc in
+    subst IsSoundSide same (record { revision = sound.revision; rows = sound.rows; no_violations = sound.no_violations; draft = tt })
+
+-- each line of the table keeps a timing side sound
+pub line_keeps : (ask : Ask) (clerk : List ℕ) (side next : TimingSide) → AreWords 40 clerk → IsAskWithin ask → IsSoundSide side → line_of ask clerk side ≡ Ok next → IsSoundSide next
+line_keeps Begin clerk side next words within sound is = begun_sound side clerk side.draft next sound words is
+line_keeps (Edit changes) clerk side next words within sound is = edited_sound side clerk changes.now next sound within is
+line_keeps AskVerify clerk side next words within sound is = verified_sound side clerk next sound is
+line_keeps Check clerk side next words within sound is = checked_sound side clerk next sound is
+line_keeps Commit clerk side next words within sound is = committed_sound side clerk next sound is
+line_keeps Reopen clerk side next words within sound is = reopened_sound side clerk next sound is
+line_keeps Abandon clerk side next words within sound is = abandoned_sound side side.draft next sound is

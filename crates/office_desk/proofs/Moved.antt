@@ -1,0 +1,257 @@
+-- The rows of a move make the tables stand for the office with the next timing side.
+use Rattle.std.proofs.Common.{◌≡◌, ℕ, Bool, true, false, List, [], ◌∷◌, cond, Option, Some, None, refl, ap, sym, subst, ◌∙◌}
+use Rattle.std.proofs.lemmas.Bool.{cases_Bool}
+use Rattle.std.specs.Prelude.{◌⊎◌, IfSome}
+use Rattle.std.proofs.Common.{inl, inr}
+use Rattle.std.specs.Option.{option_map}
+use Rattle.std.specs.Ordering.{eq_by_cmp}
+use Rattle.std.specs.FinMap.{get, insert, remove, get-insert, get-remove}
+use Rattle.signal_records.specs.Key.{key_cmp}
+use Rattle.signal_records.specs.KeyOrder.{key_exact}
+use Rattle.signal_records.specs.Row.{key_of}
+use Rattle.signal_records.specs.declared.key.Key.{Key}
+use Rattle.signal_records.specs.declared.record.Row.{Row}
+use Rattle.signal_records.specs.declared.record.Change.{Change}
+use Rattle.signal_records.specs.declared.record.Change.TheVariants.{Put, Remove}
+use Rattle.signal_records.specs.TimingSet as set
+use Rattle.draft_core.specs.DraftRows.{row_at, said_at, overlaid, changed_key, left_by}
+use Rattle.draft_core.specs.Moves.{Makes, committed_after, row_after}
+use Rattle.draft_core.specs.Transaction.{TimingSide}
+use Rattle.draft_core.specs.declared.timing.Move.{Move}
+use Rattle.draft_core.specs.declared.timing.TimingChange.{TimingChange}
+use Rattle.draft_core.specs.declared.timing.TimingChange.TheVariants.{Committed, Drafted, DraftGone}
+use Rattle.office_tables_shelf.specs.Cells.{Cell, Rows, cells_cmp}
+use Rattle.office_tables_shelf.specs.Change.{changed, changed_by}
+use Rattle.office_tables_shelf.specs.Content.{Content}
+use Rattle.office_tables_shelf.specs.Rows.{intersection_key, intersection_columns, timing_key, timing_columns, left_columns}
+use Rattle.office_tables_shelf.specs.declared.rows.IntersectionRow.{IntersectionRow}
+use Rattle.office_tables_shelf.specs.declared.rows.RowChange.TheVariants.{PutIntersection}
+use Rattle.office_tables_shelf.proofs.CellLemmas.{cells_total, cells_exact, tied}
+use Rattle.office_tables_shelf.proofs.KeyLemmas.{timing_key_tells, get_listed_draft}
+use Rattle.office_tables_shelf.proofs.TreeLemmas.{timing_ties}
+use Rattle.office_desk.specs.declared.reading.Found.{Found}
+use Rattle.office_desk.specs.Moving.{row_change_of, row_changes_of, moved_row, IsDraftedWithin, AreDraftedWithin}
+use Rattle.office_desk.specs.Office.{Office, Intersection, side_at, side_of}
+use Rattle.office_desk.specs.Reading.{FoundStands}
+use Rattle.office_desk.specs.StandFor.{StandFor, HasTimingKeys, IsLeft, row_of}
+use Rattle.office_desk.specs.Step.{with_intersection}
+use Rattle.office_desk.proofs.ReadBack.{left_at, left_within}
+use Rattle.office_desk.proofs.Stands.{DiffersAt, RowOf, stand_after}
+
+-- ---- what a table has under the keys of an intersection after one change
+
+module _ (rows : Rows) (id : ℕ) (k : Key) where
+  get-put : (columns : List Cell) (key : Key) → get (insert rows (timing_key id k) columns) (timing_key id key) ≡ cond (eq_by_cmp key_cmp key k) (Some columns) (get rows (timing_key id key))
+  get-put columns key = get-insert cells_total rows (timing_key id k) columns (timing_key id key) ∙ ap (λ b. cond b (Some columns) (get rows (timing_key id key))) (timing_ties id key k)
+
+  get-gone : (key : Key) → get (remove rows (timing_key id k)) (timing_key id key) ≡ cond (eq_by_cmp key_cmp key k) None (get rows (timing_key id key))
+  get-gone key = get-remove cells_total rows (timing_key id k) (timing_key id key) ∙ ap (λ b. cond b None (get rows (timing_key id key))) (timing_ties id key k)
+
+  other_key : (q : ℕ) (key : Key) → (q ≡ id → ⊥) → eq_by_cmp cells_cmp (timing_key q key) (timing_key id k) ≡ false
+  other_key q key ne = go (cases_Bool (eq_by_cmp cells_cmp (timing_key q key) (timing_key id k)))
+    where
+      go : (eq_by_cmp cells_cmp (timing_key q key) (timing_key id k) ≡ true) ⊎ (eq_by_cmp cells_cmp (timing_key q key) (timing_key id k) ≡ false) → eq_by_cmp cells_cmp (timing_key q key) (timing_key id k) ≡ false
+      go (inl hit) = absurd (ne (timing_key_tells q id key k (cells_exact _ _ (tied _ hit))).0)
+      go (inr miss) = miss
+
+  put_elsewhere : (columns : List Cell) (q : ℕ) → (q ≡ id → ⊥) → (key : Key) → get (insert rows (timing_key id k) columns) (timing_key q key) ≡ get rows (timing_key q key)
+  put_elsewhere columns q ne key = get-insert cells_total rows (timing_key id k) columns (timing_key q key) ∙ ap (λ b. cond b (Some columns) (get rows (timing_key q key))) (other_key q key ne)
+
+  gone_elsewhere : (q : ℕ) → (q ≡ id → ⊥) → (key : Key) → get (remove rows (timing_key id k)) (timing_key q key) ≡ get rows (timing_key q key)
+  gone_elsewhere q ne key = get-remove cells_total rows (timing_key id k) (timing_key q key) ∙ ap (λ b. cond b None (get rows (timing_key q key))) (other_key q key ne)
+
+  put_keys : (put : List Cell) → HasTimingKeys rows → HasTimingKeys (insert rows (timing_key id k) put)
+  put_keys put has cells columns at =
+      elim (eq_by_cmp cells_cmp cells (timing_key id k)) as (λ b. eq_by_cmp cells_cmp cells (timing_key id k) ≡ b → cond b (Some put) (get rows cells) ≡ Some columns → (n : ℕ) × (j : Key) × (cells ≡ timing_key n j)) [
+        | true ↦ λ hit e. (id, k, cells_exact _ _ (tied _ hit))
+        | false ↦ λ miss e. has cells columns e
+      ] refl (sym (get-insert cells_total rows (timing_key id k) put cells) ∙ at)
+
+  gone_keys : HasTimingKeys rows → HasTimingKeys (remove rows (timing_key id k))
+  gone_keys has cells columns at =
+      elim (eq_by_cmp cells_cmp cells (timing_key id k)) as (λ b. cond b None (get rows cells) ≡ Some columns → (n : ℕ) × (j : Key) × (cells ≡ timing_key n j)) [
+        | true ↦ λ e. absurd (let f : None ≡ Some columns = e in cc)
+        | false ↦ λ e. has cells columns e
+      ] (sym (get-remove cells_total rows (timing_key id k) cells) ∙ at)
+
+-- ---- what stays
+
+-- all but the timing and draft rows of one intersection
+record Stays (id : ℕ) (old new : Content) : Type 0 where
+  intersection : new.intersection ≡ old.intersection
+  timing : (q : ℕ) → (q ≡ id → ⊥) → (key : Key) → get new.timing (timing_key q key) ≡ get old.timing (timing_key q key)
+  timing_keys : HasTimingKeys old.timing → HasTimingKeys new.timing
+  draft : (q : ℕ) → (q ≡ id → ⊥) → (key : Key) → get new.draft (timing_key q key) ≡ get old.draft (timing_key q key)
+  draft_keys : HasTimingKeys old.draft → HasTimingKeys new.draft
+  inspection : new.inspection ≡ old.inspection
+  work_order : new.work_order ≡ old.work_order
+  part : new.part ≡ old.part
+  delivery : new.delivery ≡ old.delivery
+  used_part : new.used_part ≡ old.used_part
+
+with_timing : (id : ℕ) (tables : Content) (rows : Rows) → ((q : ℕ) → (q ≡ id → ⊥) → (key : Key) → get rows (timing_key q key) ≡ get tables.timing (timing_key q key))
+    → (HasTimingKeys tables.timing → HasTimingKeys rows) → Stays id tables (record tables { timing = rows })
+with_timing id tables rows others keys = record {
+  intersection = refl;
+  timing = others;
+  timing_keys = keys;
+  draft = λ q ne key. refl;
+  draft_keys = λ has. has;
+  inspection = refl;
+  work_order = refl;
+  part = refl;
+  delivery = refl;
+  used_part = refl;
+}
+
+with_drafts : (id : ℕ) (tables : Content) (rows : Rows) → ((q : ℕ) → (q ≡ id → ⊥) → (key : Key) → get rows (timing_key q key) ≡ get tables.draft (timing_key q key))
+    → (HasTimingKeys tables.draft → HasTimingKeys rows) → Stays id tables (record tables { draft = rows })
+with_drafts id tables rows others keys = record {
+  intersection = refl;
+  timing = λ q ne key. refl;
+  timing_keys = λ has. has;
+  draft = others;
+  draft_keys = keys;
+  inspection = refl;
+  work_order = refl;
+  part = refl;
+  delivery = refl;
+  used_part = refl;
+}
+
+one_stays : (id : ℕ) (change : TimingChange) (tables : Content) → Stays id tables (changed tables (row_change_of id change))
+one_stays id (Committed (Put row)) tables = with_timing id tables _ (put_elsewhere tables.timing id (key_of row) (timing_columns row)) (put_keys tables.timing id (key_of row) (timing_columns row))
+one_stays id (Committed (Remove k)) tables = with_timing id tables _ (gone_elsewhere tables.timing id k) (gone_keys tables.timing id k)
+one_stays id (Drafted change) tables = with_drafts id tables _ (put_elsewhere tables.draft id (changed_key change) (left_columns (left_by change))) (put_keys tables.draft id (changed_key change) (left_columns (left_by change)))
+one_stays id (DraftGone k) tables = with_drafts id tables _ (gone_elsewhere tables.draft id k) (gone_keys tables.draft id k)
+
+all_stay : (id : ℕ) (changes : List TimingChange) (tables : Content) → Stays id tables (changed_by tables (row_changes_of id changes))
+all_stay id [] tables = record {
+  intersection = refl;
+  timing = λ q ne key. refl;
+  timing_keys = λ has. has;
+  draft = λ q ne key. refl;
+  draft_keys = λ has. has;
+  inspection = refl;
+  work_order = refl;
+  part = refl;
+  delivery = refl;
+  used_part = refl;
+}
+all_stay id (change ∷ changes) tables =
+    let first = one_stays id change tables in
+    let rest = all_stay id changes (changed tables (row_change_of id change)) in
+    record {
+      intersection = rest.intersection ∙ first.intersection;
+      timing = λ q ne key. rest.timing q ne key ∙ first.timing q ne key;
+      timing_keys = λ has. rest.timing_keys (first.timing_keys has);
+      draft = λ q ne key. rest.draft q ne key ∙ first.draft q ne key;
+      draft_keys = λ has. rest.draft_keys (first.draft_keys has);
+      inspection = rest.inspection ∙ first.inspection;
+      work_order = rest.work_order ∙ first.work_order;
+      part = rest.part ∙ first.part;
+      delivery = rest.delivery ∙ first.delivery;
+      used_part = rest.used_part ∙ first.used_part;
+    }
+
+-- ---- the rows of the intersection after a move
+
+put_committed : (b : Bool) (row : Row) (c : Option Row) → cond b (Some (timing_columns row)) (option_map timing_columns c) ≡ option_map timing_columns (overlaid c (cond b (Some (Some row)) None))
+put_committed true row c = refl
+put_committed false row c = refl
+
+gone_committed : (b : Bool) (c : Option Row) → cond b None (option_map timing_columns c) ≡ option_map timing_columns (overlaid c (cond b (Some None) None))
+gone_committed true c = refl
+gone_committed false c = refl
+
+timing_after : (id : ℕ) (changes : List TimingChange) (tables : Content) (key : Key) (c : Option Row) → get tables.timing (timing_key id key) ≡ option_map timing_columns c
+    → get (changed_by tables (row_changes_of id changes)).timing (timing_key id key) ≡ option_map timing_columns (committed_after changes key c)
+timing_after id [] tables key c e = e
+timing_after id (Committed (Put row) ∷ changes) tables key c e =
+    timing_after id changes (changed tables (row_change_of id (Committed (Put row)))) key (overlaid c (said_at (Put row) key))
+    (get-put tables.timing id (key_of row) (timing_columns row) key ∙ ap (cond (eq_by_cmp key_cmp key (key_of row)) (Some (timing_columns row))) e ∙ put_committed (eq_by_cmp key_cmp key (key_of row)) row c)
+timing_after id (Committed (Remove k) ∷ changes) tables key c e =
+    timing_after id changes (changed tables (row_change_of id (Committed (Remove k)))) key (overlaid c (said_at (Remove k) key))
+    (get-gone tables.timing id k key ∙ ap (cond (eq_by_cmp key_cmp key k) None) e ∙ gone_committed (eq_by_cmp key_cmp key k) c)
+timing_after id (Drafted change ∷ changes) tables key c e = timing_after id changes (changed tables (row_change_of id (Drafted change))) key c e
+timing_after id (DraftGone k ∷ changes) tables key c e = timing_after id changes (changed tables (row_change_of id (DraftGone k))) key c e
+
+put_draft : (b : Bool) (left : Option Row) (row : Option (Option Row)) → cond b (Some (left_columns left)) (option_map left_columns row) ≡ option_map left_columns (cond b (Some left) row)
+put_draft true left row = refl
+put_draft false left row = refl
+
+gone_draft : (b : Bool) (row : Option (Option Row)) → cond b None (option_map left_columns row) ≡ option_map left_columns (cond b None row)
+gone_draft true row = refl
+gone_draft false row = refl
+
+draft_after : (id : ℕ) (changes : List TimingChange) (tables : Content) (key : Key) (row : Option (Option Row)) → get tables.draft (timing_key id key) ≡ option_map left_columns row
+    → get (changed_by tables (row_changes_of id changes)).draft (timing_key id key) ≡ option_map left_columns (row_after changes key row)
+draft_after id [] tables key row e = e
+draft_after id (Committed (Put r) ∷ changes) tables key row e = draft_after id changes (changed tables (row_change_of id (Committed (Put r)))) key row e
+draft_after id (Committed (Remove k) ∷ changes) tables key row e = draft_after id changes (changed tables (row_change_of id (Committed (Remove k)))) key row e
+draft_after id (Drafted change ∷ changes) tables key row e =
+    draft_after id changes (changed tables (row_change_of id (Drafted change))) key (cond (eq_by_cmp key_cmp key (changed_key change)) (Some (left_by change)) row)
+    (get-put tables.draft id (changed_key change) (left_columns (left_by change)) key ∙ ap (cond (eq_by_cmp key_cmp key (changed_key change)) (Some (left_columns (left_by change)))) e
+    ∙ put_draft (eq_by_cmp key_cmp key (changed_key change)) (left_by change) row)
+draft_after id (DraftGone k ∷ changes) tables key row e =
+    draft_after id changes (changed tables (row_change_of id (DraftGone k))) key (cond (eq_by_cmp key_cmp key k) None row)
+    (get-gone tables.draft id k key ∙ ap (cond (eq_by_cmp key_cmp key k) None) e ∙ gone_draft (eq_by_cmp key_cmp key k) row)
+
+drafted_left : (change : Change) (key : Key) (row : Option (Option Row)) → IsDraftedWithin (Drafted change) → IfSome row (IsLeft key)
+    → IfSome (cond (eq_by_cmp key_cmp key (changed_key change)) (Some (left_by change)) row) (IsLeft key)
+drafted_left change key row within left =
+    elim (eq_by_cmp key_cmp key (changed_key change)) as (λ b. eq_by_cmp key_cmp key (changed_key change) ≡ b → IfSome (cond b (Some (left_by change)) row) (IsLeft key)) [
+      | true ↦ λ named. left_at change key (key_exact _ _ (tied _ named)) within
+      | false ↦ λ named. left
+    ] refl
+
+gone_left : (b : Bool) (key : Key) (row : Option (Option Row)) → IfSome row (IsLeft key) → IfSome (cond b None row) (IsLeft key)
+gone_left true key row left = tt
+gone_left false key row left = left
+
+left_after : (changes : List TimingChange) (key : Key) (row : Option (Option Row)) → AreDraftedWithin changes → IfSome row (IsLeft key) → IfSome (row_after changes key row) (IsLeft key)
+left_after [] key row within left = left
+left_after (Committed change ∷ changes) key row within left = left_after changes key row within.1 left
+left_after (Drafted change ∷ changes) key row within left = left_after changes key _ within.1 (drafted_left change key row within.0 left)
+left_after (DraftGone k ∷ changes) key row within left = left_after changes key _ within.1 (gone_left (eq_by_cmp key_cmp key k) key row left)
+
+-- ---- the tables after a move
+
+abbrev pub with_timing_side : Intersection → TimingSide → Intersection
+with_timing_side i next = record i { timing = next }
+
+row_is : (tables : Content) (id : ℕ) (i : Intersection) (found : Found) (clerk : List ℕ) (move : Move) (next : TimingSide) → FoundStands tables id i found → Makes found.timing clerk move next
+    → moved_row found clerk move ≡ row_of (with_timing_side i next)
+row_is tables id i found clerk move next stands makes =
+    λ k. record { name = stands.same_name k; interval = stands.same_interval k; revision = makes.same_revision k; holder = makes.same_holder k }
+
+pub move_stands : (tables : Content) (office : Office) (id : ℕ) (i : Intersection) (found : Found) (clerk : List ℕ) (move : Move) (next : TimingSide)
+    → StandFor tables office → get office.intersections id ≡ Some i → FoundStands tables id i found → AreDraftedWithin move.changes.items → Makes found.timing clerk move next
+    → StandFor (changed_by tables (PutIntersection id (moved_row found clerk move) ∷ row_changes_of id move.changes.items)) (with_intersection office id (with_timing_side i next))
+move_stands tables office id i found clerk move next stand there stands within makes =
+    let first : Content = changed tables (PutIntersection id (moved_row found clerk move)) in
+    let changes = move.changes.items in
+    let rest = all_stay id changes first in
+    let side : side_at office id ≡ i.timing = ap side_of there in
+    let timing_now : (key : Key) → get tables.timing (timing_key id key) ≡ option_map timing_columns (get found.timing.committed key) = λ key.
+    stand.timing id key ∙ ap (λ (s : TimingSide). option_map timing_columns (get s.committed key)) side
+    ∙ ap (λ (rows : set.Rows). option_map timing_columns (get rows key)) (sym stands.timing_stands.same_committed) in
+    stand_after tables (changed_by first (row_changes_of id changes)) office id (with_timing_side i next) stand (record {
+      intersection = rest.intersection ∙ ap (λ (row : IntersectionRow). insert tables.intersection (intersection_key id) (intersection_columns row)) (row_is tables id i found clerk move next stands makes);
+      timing_here = λ key. timing_after id changes first key (get found.timing.committed key) (timing_now key) ∙ ap (option_map timing_columns) (sym (makes.committed key));
+      timing_elsewhere = rest.timing;
+      timing_keys = rest.timing_keys stand.timing_keys;
+      draft_here = λ key. record {
+        row = row_after changes key (row_at found.timing.delta key);
+        stored = draft_after id changes first key (row_at found.timing.delta key) (get_listed_draft tables id found.timing.delta stands.listed key);
+        stands = makes.rows key;
+        within = left_after changes key (row_at found.timing.delta key) within (left_within found.timing.delta key stands.within);
+      };
+      draft_elsewhere = rest.draft;
+      draft_keys = rest.draft_keys stand.draft_keys;
+      inspection = rest.inspection;
+      work_order = rest.work_order;
+      part = rest.part;
+      delivery = rest.delivery;
+      used_part = rest.used_part;
+    })

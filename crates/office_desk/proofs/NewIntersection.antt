@@ -1,0 +1,78 @@
+-- What AddIntersection answers, on the row that was read, is a step of the office.
+use Rattle.std.proofs.Common.{◌≡◌, ℕ, List, Option, Some, None, refl, ap, sym, subst, ◌∙◌, inr, lit≤}
+use Rattle.std.specs.Option.{option_map}
+use Rattle.std.specs.FinMap.{get}
+use Rattle.draft_core.specs.DraftRows.{RowStands}
+use Rattle.draft_core.specs.Transaction.{TimingSide}
+use Rattle.office_tables_shelf.specs.Change.{changed, changed_by}
+use Rattle.office_tables_shelf.specs.Content.{Content}
+use Rattle.office_tables_shelf.specs.Rows.{timing_columns}
+use Rattle.office_tables_shelf.specs.Shelf.{ReadsIntersection}
+use Rattle.office_tables_shelf.specs.declared.rows.IntersectionRow.{IntersectionRow}
+use Rattle.office_tables_shelf.specs.declared.rows.RowChange.{RowChange}
+use Rattle.office_tables_shelf.specs.declared.rows.RowChange.TheVariants.{PutIntersection}
+use Rattle.office_desk.specs.Adding.{AddsRow, AreLimited}
+use Rattle.office_desk.specs.Answers.{Answers}
+use Rattle.office_desk.specs.Office.{Office, Intersection, IsSoundIntersection, no_timing, side_of, side_at}
+use Rattle.office_desk.specs.StandFor.{StandFor, StandForSound, row_of}
+use Rattle.office_desk.specs.Step.{added, new_intersection, with_intersection}
+use Rattle.office_desk.specs.declared.command.Command.TheVariants.{AddIntersection}
+use Rattle.office_desk.specs.declared.reply.Reply.{Reply}
+use Rattle.office_desk.proofs.EmptySet.{no_records, no_violations}
+use Rattle.office_desk.proofs.Stands.{row_read, RowOf, stand_after, sound_with}
+
+new_stands : (tables : Content) (office : Office) (id interval : ℕ) (name : List ℕ) → StandFor tables office → get office.intersections id ≡ None
+    → StandFor (changed tables (PutIntersection id (row_of (new_intersection interval name)))) (with_intersection office id (new_intersection interval name))
+new_stands tables office id interval name stand absent =
+    let empty_side : side_at office id ≡ no_timing = ap side_of absent in
+    stand_after tables (changed tables (PutIntersection id (row_of (new_intersection interval name)))) office id (new_intersection interval name) stand (record {
+      intersection = refl;
+      timing_here = λ key. stand.timing id key ∙ ap (λ (s : TimingSide). option_map timing_columns (get s.committed key)) empty_side;
+      timing_elsewhere = λ q ne key. refl;
+      timing_keys = stand.timing_keys;
+      draft_here = λ key. let held = stand.draft id key in record {
+        row = held.row;
+        stored = held.stored;
+        stands = subst (λ (s : TimingSide). RowStands (get s.committed key) held.row s.draft key) empty_side held.stands;
+        within = held.within;
+      };
+      draft_elsewhere = λ q ne key. refl;
+      draft_keys = stand.draft_keys;
+      inspection = refl;
+      work_order = refl;
+      part = refl;
+      delivery = refl;
+      used_part = refl;
+    })
+
+new_is_sound : (interval : ℕ) (name : List ℕ) → AreLimited name interval → IsSoundIntersection (new_intersection interval name)
+new_is_sound interval name limited = record {
+  name = limited.name;
+  interval_low = limited.interval_low;
+  interval_high = limited.interval_high;
+  revision = lit≤ tt;
+  rows = no_records;
+  no_violations = no_violations;
+  draft = tt;
+}
+
+pub add_answers : (tables : Content) (office : Office) (id interval : ℕ) (name : List ℕ) (row : Option IntersectionRow) (reply : Reply) (changes : List RowChange)
+    → StandForSound tables office → ReadsIntersection tables id row → AddsRow id interval name row reply changes
+    → Answers office (AddIntersection id interval name) reply (changed_by tables changes)
+add_answers tables office id interval name row reply changes stands reads adds =
+    let i = new_intersection interval name in
+    elim (get office.intersections id) as (λ o. get office.intersections id ≡ o → AddsRow id interval name (option_map row_of o) reply changes → Answers office (AddIntersection id interval name) reply (changed_by tables changes)) [
+      | None ↦ λ absent f. record {
+        next = with_intersection office id i;
+        step = inr (ap (added office id interval name) absent ∙ (λ k. (sym f.0 k, with_intersection office id i)));
+        stand = subst (λ list. StandForSound (changed_by tables list) (with_intersection office id i)) (sym f.1) (record {
+          stand = new_stands tables office id interval name stands.stand absent;
+          sound = sound_with office id i stands.sound (new_is_sound interval name f.2);
+        });
+      }
+      | Some there ↦ λ is f. record {
+        next = office;
+        step = inr (ap (added office id interval name) is ∙ (λ k. (sym f.0 k, office)));
+        stand = subst (λ list. StandForSound (changed_by tables list) office) (sym f.1) stands;
+      }
+    ] refl (subst (λ r. AddsRow id interval name r reply changes) (row_read tables office id row stands.stand reads) adds)

@@ -1,0 +1,191 @@
+-- What was read of an intersection, for whichever sound office the tables stand for.
+use Rattle.std.proofs.Common.{◌≡◌, ℕ, Bool, true, false, List, [], ◌∷◌, map, length, cond, Option, Some, None, refl, ap, sym, subst, ◌∙◌}
+use Rattle.std.specs.Prelude.{IfSome}
+use Rattle.std.proofs.lemmas.List.{length-map}
+use Rattle.std.specs.Option.{option_map, option_or}
+use Rattle.std.specs.Ordering.{eq_by_cmp}
+use Rattle.std.specs.FinMap as finite
+use Rattle.std.specs.FinMap.{get, len, entries, from_entries, len-entries, get-from_entries, same_map}
+use Rattle.std.specs.List.Sorted.{IsStrictlySortedBy}
+use Rattle.signal_records.specs.Key.{key_cmp}
+use Rattle.signal_records.specs.KeyOrder.{key_total, key_exact}
+use Rattle.signal_records.specs.Row.{key_of}
+use Rattle.signal_records.specs.Within.{IsRowWithin, IsChangeWithin, current_limits}
+use Rattle.signal_records.specs.declared.key.Key.{Key}
+use Rattle.signal_records.specs.declared.record.Row.{Row}
+use Rattle.signal_records.specs.declared.record.Change.{Change}
+use Rattle.signal_records.specs.declared.record.Change.TheVariants.{Put, Remove}
+use Rattle.signal_records.proofs.Sets.{entries_in_order}
+use Rattle.draft_core.specs.DraftRows.{TimingStands, RowStands, row_at, said_at, left_by, changed_key}
+use Rattle.draft_core.specs.Transaction.{TimingSide, holder_of}
+use Rattle.draft_core.specs.declared.timing.Timing.{Timing}
+use Rattle.office_tables_shelf.specs.Content.{Content}
+use Rattle.office_tables_shelf.specs.Rows.{timing_key, timing_columns, left_columns}
+use Rattle.office_tables_shelf.specs.Shelf.{ReadsIntersection, ListsTiming, ListsDraft}
+use Rattle.office_tables_shelf.specs.declared.rows.IntersectionRow.{IntersectionRow}
+use Rattle.office_tables_shelf.proofs.CellLemmas.{tied}
+use Rattle.office_tables_shelf.proofs.KeyLemmas.{row_in, timing_keys_rise, get_set_of_rows, get_listed_timing, get_listed_draft}
+use Rattle.office_tables_shelf.proofs.RowLemmas.{timing_columns_tell, left_columns_tell}
+use Rattle.office_desk.specs.declared.reading.Found.{Found}
+use Rattle.office_desk.specs.Office.{Office, Intersection, side_at, side_of}
+use Rattle.office_desk.specs.Reading.{AreWithin, AreChangesWithin, IsMadeOf, FoundStands, Finds, set_of_rows}
+use Rattle.office_desk.specs.StandFor.{StandForSound, DraftRowStands, IsLeft, row_of}
+use Rattle.office_desk.proofs.Stands.{row_read, records_at}
+
+-- ---- the committed set
+
+abbrev IsWithin : Row → Type 0
+IsWithin = IsRowWithin current_limits
+
+row_within : (b : Bool) (row : Row) (o : Option Row) → IsWithin row → IfSome o IsWithin → IfSome (cond b (Some row) o) IsWithin
+row_within true row o here later = here
+row_within false row o here later = later
+
+rows_within : (rows : List Row) (key : Key) → AreWithin rows → IfSome (row_in rows key) IsWithin
+rows_within [] key within = tt
+rows_within (row ∷ rows) key within = row_within (eq_by_cmp key_cmp key (key_of row)) row (row_in rows key) within.0 (rows_within rows key within.1)
+
+record_within : (key : Key) (o : Option Row) → IfSome o (λ row. IsWithin row × (key_of row ≡ key)) → IfSome o IsWithin
+record_within key None h = tt
+record_within key (Some row) h = h.0
+
+rows_tell : (a b : Option Row) → option_map timing_columns a ≡ option_map timing_columns b → IfSome a IsWithin → IfSome b IsWithin → a ≡ b
+rows_tell None None e in_a in_b = refl
+rows_tell None (Some y) e in_a in_b = cc
+rows_tell (Some x) None e in_a in_b = cc
+rows_tell (Some x) (Some y) e in_a in_b =
+    let same : timing_columns x ≡ timing_columns y = cc in
+    ap (λ (row : Row). Some row) (timing_columns_tell x y in_a in_b same)
+
+-- the list has at a key what the committed set has
+listed_at : (tables : Content) (office : Office) (id : ℕ) (rows : List Row) → StandForSound tables office → ListsTiming tables id rows → AreWithin rows
+    → (key : Key) → row_in rows key ≡ get (side_at office id).committed key
+listed_at tables office id rows stands lists within key =
+    rows_tell (row_in rows key) (get (side_at office id).committed key)
+    (sym (get_listed_timing tables id rows lists key) ∙ stands.stand.timing id key)
+    (rows_within rows key within) (record_within key _ (records_at office id stands.sound key))
+
+-- the set of the rows that were read is the committed set
+pub committed_read : (tables : Content) (office : Office) (id : ℕ) (rows : List Row) → StandForSound tables office → ListsTiming tables id rows → AreWithin rows
+    → set_of_rows rows ≡ (side_at office id).committed
+committed_read tables office id rows stands lists within = same_map key_total key_exact _ _ (λ key.
+    get_set_of_rows rows (timing_keys_rise tables id rows lists) key ∙ listed_at tables office id rows stands lists within key)
+
+abbrev keyed : Row → Key × Row
+keyed row = (key_of row, row)
+
+found_in : (rows : List Row) (key : Key) → finite.find key_cmp key (map keyed rows) ≡ row_in rows key
+found_in [] key = refl
+found_in (row ∷ rows) key = ap (cond (eq_by_cmp key_cmp key (key_of row)) (Some row)) (found_in rows key)
+
+keys_of_rows : (rows : List Row) → map (λ (e : Key × Row). e.0) (map keyed rows) ≡ map key_of rows
+keys_of_rows [] = refl
+keys_of_rows (row ∷ rows) = ap (λ keys. key_of row ∷ keys) (keys_of_rows rows)
+
+-- there are as many rows as the committed set has
+pub count_read : (tables : Content) (office : Office) (id : ℕ) (rows : List Row) → StandForSound tables office → ListsTiming tables id rows → AreWithin rows
+    → length rows ≡ len (side_at office id).committed
+count_read tables office id rows stands lists within =
+    let committed = (side_at office id).committed in
+    let rise = subst (IsStrictlySortedBy key_cmp) (sym (keys_of_rows rows)) (timing_keys_rise tables id rows lists) in
+    let same : from_entries {R = key_cmp} (map keyed rows) ≡ committed = same_map key_total key_exact _ _ (λ key.
+    get-from_entries key_total (map keyed rows) key ∙ found_in rows key ∙ listed_at tables office id rows stands lists within key) in
+    sym (length-map rows keyed) ∙ ap length (sym (entries_in_order (map keyed rows) rise)) ∙ sym (len-entries (from_entries {R = key_cmp} (map keyed rows))) ∙ ap len same
+
+-- ---- the draft rows
+
+abbrev IsLeftWithin : Option Row → Type 0
+IsLeftWithin left = IfSome left IsWithin
+
+abbrev Named : Change → Key → Bool
+Named change key = eq_by_cmp key_cmp key (changed_key change)
+
+pub left_at : (change : Change) (key : Key) → key ≡ changed_key change → IsChangeWithin current_limits change → IsLeft key (left_by change)
+left_at (Put row) key is within = (within, sym is)
+left_at (Remove k) key is within = subst (λ k. IsLeft k None) (sym is) within
+
+said : (change : Change) (key : Key) → IsChangeWithin current_limits change → IfSome (said_at change key) (IsLeft key)
+said change key within = go (Named change key) refl
+  where
+    go : (b : Bool) → Named change key ≡ b → IfSome (cond b (Some (left_by change)) None) (IsLeft key)
+    go true named = left_at change key (key_exact _ _ (tied _ named)) within
+    go false named = tt
+
+later_or : (key : Key) (a b : Option (Option Row)) → IfSome a (IsLeft key) → IfSome b (IsLeft key) → IfSome (option_or a b) (IsLeft key)
+later_or key None b in_a in_b = in_b
+later_or key (Some a) b in_a in_b = in_a
+
+-- what changes within their limits leave at a key
+pub left_within : (changes : List Change) (key : Key) → AreChangesWithin changes → IfSome (row_at changes key) (IsLeft key)
+left_within [] key within = tt
+left_within (change ∷ changes) key within = later_or key (row_at changes key) (said_at change key) (left_within changes key within.1) (said change key within.0)
+
+is_within : (key : Key) (left : Option Row) → IsLeft key left → IsLeftWithin left
+is_within key None h = tt
+is_within key (Some row) h = h.0
+
+drafts_tell : (key : Key) (a b : Option (Option Row)) → option_map left_columns a ≡ option_map left_columns b → IfSome a (IsLeft key) → IfSome b (IsLeft key) → a ≡ b
+drafts_tell key None None e in_a in_b = refl
+drafts_tell key None (Some y) e in_a in_b = cc
+drafts_tell key (Some x) None e in_a in_b = cc
+drafts_tell key (Some x) (Some y) e in_a in_b =
+    let same : left_columns x ≡ left_columns y = cc in
+    ap (λ (left : Option Row). Some left) (left_columns_tell x y (is_within key x in_a) (is_within key y in_b) same)
+
+-- ---- the timing side
+
+drafts_read : (tables : Content) (office : Office) (id : ℕ) (changes : List Change) → StandForSound tables office → ListsDraft tables id changes → AreChangesWithin changes
+    → (key : Key) → RowStands (get (side_at office id).committed key) (row_at changes key) (side_at office id).draft key
+drafts_read tables office id changes stands drafts within key =
+    let held = stands.stand.draft id key in
+    let same : held.row ≡ row_at changes key = drafts_tell key held.row (row_at changes key) (sym held.stored ∙ get_listed_draft tables id changes drafts key) held.within (left_within changes key within) in
+    subst (λ row. RowStands (get (side_at office id).committed key) row (side_at office id).draft key) same held.stands
+
+-- what was read of an intersection stands for its timing side
+pub timing_read : (tables : Content) (office : Office) (id : ℕ) (row : IntersectionRow) (i : Intersection) (rows : List Row) (changes : List Change)
+    → StandForSound tables office → get office.intersections id ≡ Some i → row ≡ row_of i
+    → ListsTiming tables id rows → AreWithin rows → ListsDraft tables id changes → AreChangesWithin changes
+    → TimingStands (record { revision = row.revision; holder = row.holder; committed = set_of_rows rows; delta = changes }) i.timing
+timing_read tables office id row i rows changes stands there is lists rows_in drafts changes_in =
+    let side : side_at office id ≡ i.timing = ap side_of there in
+    record {
+      same_revision = ap (λ (r : IntersectionRow). r.revision) is;
+      same_committed = committed_read tables office id rows stands lists rows_in ∙ ap (λ (s : TimingSide). s.committed) side;
+      same_holder = ap (λ (r : IntersectionRow). r.holder) is;
+      rows = λ key. subst (λ (s : TimingSide). RowStands (get s.committed key) (row_at changes key) s.draft key) side (drafts_read tables office id changes stands drafts changes_in key);
+    }
+
+-- ---- what was found
+
+not_there : (o : Option Intersection) → None ≡ option_map row_of o → o ≡ None
+not_there None e = refl
+not_there (Some i) e = cc
+
+pub none_found : (tables : Content) (office : Office) (id : ℕ) → StandForSound tables office → ReadsIntersection tables id None → get office.intersections id ≡ None
+none_found tables office id stands reads = not_there _ (row_read tables office id None stands.stand reads)
+
+pub finds_none : (tables : Content) (office : Office) (id : ℕ) → StandForSound tables office → ReadsIntersection tables id None → Finds tables id (get office.intersections id) None
+finds_none tables office id stands reads = subst (λ o. Finds tables id o None) (sym (none_found tables office id stands reads)) tt
+
+same_timing : (row : IntersectionRow) (rows : List Row) (changes : List Change) (found : Found) → IsMadeOf row rows changes found
+    → (let timing : Timing = record { revision = row.revision; holder = row.holder; committed = set_of_rows rows; delta = changes } in timing) ≡ found.timing
+same_timing row rows changes found made =
+    λ k. record { revision = sym made.same_revision k; holder = sym made.same_holder k; committed = sym made.same_committed k; delta = sym made.same_delta k }
+
+pub finds_some : (tables : Content) (office : Office) (id : ℕ) (row : IntersectionRow) (rows : List Row) (changes : List Change) (found : Found)
+    → StandForSound tables office → ReadsIntersection tables id (Some row) → ListsTiming tables id rows → ListsDraft tables id changes → IsMadeOf row rows changes found
+    → Finds tables id (get office.intersections id) (Some found)
+finds_some tables office id row rows changes found stands reads lists drafts made =
+    elim (get office.intersections id) as (λ o. get office.intersections id ≡ o → Some row ≡ option_map row_of o → Finds tables id o (Some found)) [
+      | None ↦ λ there e. absurd (let f : Some row ≡ None = e in cc)
+      | Some i ↦ λ there e.
+          let is : row ≡ row_of i = cc in
+          record {
+            same_name = made.same_name ∙ ap (λ (r : IntersectionRow). r.name) is;
+            same_interval = made.same_interval ∙ ap (λ (r : IntersectionRow). r.interval) is;
+            timing_stands = subst (λ (t : Timing). TimingStands t i.timing) (same_timing row rows changes found made)
+                (timing_read tables office id row i rows changes stands there is lists made.rows_within drafts made.changes_within);
+            listed = subst (ListsDraft tables id) (sym made.same_delta) drafts;
+            within = subst AreChangesWithin (sym made.same_delta) made.changes_within;
+          }
+    ] refl (row_read tables office id (Some row) stands.stand reads)

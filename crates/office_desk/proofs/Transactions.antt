@@ -1,0 +1,246 @@
+-- What a command of the transaction answers, on what was found, is a step of the office.
+use Rattle.std.proofs.Common.{◌≡◌, ◌≢◌, ◌⊎◌, ◌+◌, ◌≤◌, ℕ, Bool, true, false, List, [], ◌∷◌, length, cond, Option, Some, None, Result, Ok, Err, refl, ap, sym, subst, ◌∙◌, inl, inr, arith}
+use Rattle.std.specs.Prelude.{IfSome, IfOk, OnErr, map}
+use Rattle.std.specs.FinMap.{get}
+use Rattle.std.proofs.lemmas.List.{length-map}
+use Rattle.signal_records.specs.Words.{AreWords}
+use Rattle.signal_records.specs.declared.record.Change.{Change}
+use Rattle.signal_records.specs.declared.record.Change.TheVariants.{Put, Remove}
+use Rattle.signal_rules.specs.Violations.{violations_of}
+use Rattle.draft_core.specs.Moves.{Follows, FollowsSoundLine, Makes, timing_writes, draft_writes}
+use Rattle.draft_core.specs.Transaction.{TimingSide, state_of, verdict_of}
+use Rattle.draft_core.specs.declared.refusal.DraftRefusal.{DraftRefusal}
+use Rattle.draft_core.specs.declared.refusal.DraftRefusal.TheVariants as draft
+use Rattle.draft_core.specs.declared.timing.Move.{Move}
+use Rattle.draft_core.specs.declared.timing.TimingChange.{TimingChange}
+use Rattle.draft_core.specs.declared.timing.TimingChange.TheVariants.{Committed, Drafted, DraftGone}
+use Rattle.office_tables_shelf.specs.Change.{changed_by}
+use Rattle.office_tables_shelf.specs.Content.{Content}
+use Rattle.office_tables_shelf.specs.Rows.{draft_key, draft_columns}
+use Rattle.office_tables_shelf.specs.Shelf.{ListsDraft, rows_of}
+use Rattle.office_tables_shelf.specs.declared.rows.RowChange.{RowChange}
+use Rattle.office_tables_shelf.specs.declared.rows.RowChange.TheVariants.{PutIntersection}
+use Rattle.office_tables_shelf.specs.declared.rows.Table.{Table}
+use Rattle.office_tables_shelf.specs.declared.rows.Table.TheVariants as table
+use Rattle.office_tables_shelf.specs.declared.shelf.ShelfFault.{ShelfFault}
+use Rattle.office_tables_shelf.specs.declared.shelf.ShelfFault.TheVariants.{NoMemory, Store, Damaged}
+use Rattle.office_desk.specs.Answers.{Answers, AnswersAny, Decides}
+use Rattle.office_desk.specs.Changes.{IsRefused, is_same_table, most_writes, writes_in}
+use Rattle.office_desk.specs.Damage.{HasDamage, MeetsDamage}
+use Rattle.office_desk.specs.Moving.{WritesMove, WritesDecision, moved_row, row_change_of, row_changes_of}
+use Rattle.office_desk.specs.Office.{Office, Intersection, IsSoundIntersection}
+use Rattle.office_desk.specs.Reading.{FoundStands, Finds, FindsAny}
+use Rattle.office_desk.specs.StandFor.{StandForSound}
+use Rattle.office_desk.specs.Step.{answered, transacted, moved, moved_to, refusal_of_draft, with_intersection}
+use Rattle.office_desk.specs.Transacting.{command_of, line_of, IsAskWithin, IsBounded, most_committed, most_drafted}
+use Rattle.office_desk.specs.declared.command.Command.{Command}
+use Rattle.office_desk.specs.declared.decided.Decided.{Decided}
+use Rattle.office_desk.specs.declared.reading.Found.{Found}
+use Rattle.office_desk.specs.declared.refusal.Refusal.TheVariants as refusal
+use Rattle.office_desk.specs.declared.reply.Reply.{Reply}
+use Rattle.office_desk.specs.declared.reply.Reply.TheVariants.{Moved, Refused}
+use Rattle.office_desk.specs.declared.transacting.Ask.{Ask}
+use Rattle.office_desk.specs.declared.transacting.Ask.TheVariants.{Begin, Edit, Verify, Check, Commit, Reopen, Abandon}
+use Rattle.office_desk.proofs.Keeps.{IsSoundSide, line_keeps, side_sound, sound_intersection}
+use Rattle.office_desk.proofs.Moved.{move_stands, with_timing_side}
+use Rattle.office_desk.proofs.Stands.{sound_with}
+
+-- ---- the step
+
+by_line : (ask : Ask) (office : Office) (id : ℕ) (clerk : List ℕ) → answered office (command_of id clerk ask) ≡ transacted office id (line_of ask clerk) (get office.intersections id)
+by_line Begin office id clerk = refl
+by_line (Edit changes) office id clerk = refl
+by_line Verify office id clerk = refl
+by_line Check office id clerk = refl
+by_line Commit office id clerk = refl
+by_line Reopen office id clerk = refl
+by_line Abandon office id clerk = refl
+
+answered_at : (ask : Ask) (office : Office) (id : ℕ) (clerk : List ℕ) (i : Intersection) (l : Result TimingSide DraftRefusal) → get office.intersections id ≡ Some i → line_of ask clerk i.timing ≡ l
+    → answered office (command_of id clerk ask) ≡ moved office id i l
+answered_at ask office id clerk i l there line = by_line ask office id clerk ∙ ap (transacted office id (line_of ask clerk)) there ∙ ap (moved office id i) line
+
+-- an accepted command
+accepted : (tables : Content) (office : Office) (id : ℕ) (clerk : List ℕ) (ask : Ask) (i : Intersection) (found : Found) (move : Move) (next : TimingSide) (reply : Reply) (changes : List RowChange)
+    → StandForSound tables office → get office.intersections id ≡ Some i → IsSoundIntersection i → FoundStands tables id i found → AreWords 40 clerk → IsAskWithin ask
+    → line_of ask clerk i.timing ≡ Ok next → Makes found.timing clerk move next → WritesMove id clerk found move reply changes
+    → Answers office (command_of id clerk ask) reply (changed_by tables changes)
+accepted tables office id clerk ask i found move next reply changes stands there sound here words within line makes writes =
+    let told : reply ≡ moved_to next = writes.told ∙ (λ k. Moved (makes.same_revision k) (makes.same_state k) (makes.same_verdict k)) in
+    let after = with_intersection office id (with_timing_side i next) in
+    record {
+      next = after;
+      step = inr (answered_at ask office id clerk i (Ok next) there line ∙ (λ k. (sym told k, after)));
+      stand = subst (λ list. StandForSound (changed_by tables list) after) (sym writes.rows) (record {
+        stand = move_stands tables office id i found clerk move next stands.stand there here writes.within makes;
+        sound = sound_with office id (with_timing_side i next) stands.sound (sound_intersection i next sound (line_keeps ask clerk i.timing next words within (side_sound i sound) line));
+      });
+    }
+
+-- a refused one
+turned_down : (tables : Content) (office : Office) (id : ℕ) (clerk : List ℕ) (ask : Ask) (i : Intersection) (why : DraftRefusal) (reply : Reply) (changes : List RowChange)
+    → StandForSound tables office → get office.intersections id ≡ Some i → line_of ask clerk i.timing ≡ Err why → reply ≡ Refused (refusal_of_draft why) → changes ≡ []
+    → Answers office (command_of id clerk ask) reply (changed_by tables changes)
+turned_down tables office id clerk ask i why reply changes stands there line told none = record {
+  next = office;
+  step = inr (answered_at ask office id clerk i (Err why) there line ∙ (λ k. (sym told k, office)));
+  stand = subst (λ list. StandForSound (changed_by tables list) office) (sym none) stands;
+}
+
+-- one on an intersection that is not there
+pub unknown_answers : (tables : Content) (id : ℕ) (clerk : List ℕ) (ask : Ask) (reply : Reply) (changes : List RowChange) → FindsAny tables id None
+    → reply ≡ Refused refusal.UnknownIntersection → changes ≡ [] → AnswersAny tables (command_of id clerk ask) reply (changed_by tables changes)
+unknown_answers tables id clerk ask reply changes finds told none office stands = record {
+  next = office;
+  step = inr (by_line ask office id clerk ∙ ap (transacted office id (line_of ask clerk)) (absent (get office.intersections id) (finds office stands)) ∙ (λ k. (sym told k, office)));
+  stand = subst (λ list. StandForSound (changed_by tables list) office) (sym none) stands;
+}
+  where
+    absent : (o : Option Intersection) → Finds tables id o None → o ≡ None
+    absent None h = refl
+    absent (Some i) h = absurd h
+
+settled : (tables : Content) (office : Office) (id : ℕ) (clerk : List ℕ) (ask : Ask) (i : Intersection) (found : Found) (decision : Result Move DraftRefusal) (l : Result TimingSide DraftRefusal) (reply : Reply) (changes : List RowChange)
+    → StandForSound tables office → get office.intersections id ≡ Some i → IsSoundIntersection i → FoundStands tables id i found → AreWords 40 clerk → IsAskWithin ask
+    → line_of ask clerk i.timing ≡ l → Follows found.timing clerk decision l → WritesDecision id clerk found decision reply changes
+    → Answers office (command_of id clerk ask) reply (changed_by tables changes)
+settled tables office id clerk ask i found (Ok move) (Ok next) reply changes stands there sound here words within line follows writes =
+    accepted tables office id clerk ask i found move next reply changes stands there sound here words within line follows writes
+settled tables office id clerk ask i found (Ok move) (Err why) reply changes stands there sound here words within line follows writes = absurd follows
+settled tables office id clerk ask i found (Err why) l reply changes stands there sound here words within line (inl memory) writes = absurd (writes.0 memory)
+settled tables office id clerk ask i found (Err why) l reply changes stands there sound here words within line (inr same) writes =
+    turned_down tables office id clerk ask i why reply changes stands there (line ∙ same) writes.1 writes.2
+
+move_answers : (tables : Content) (id : ℕ) (clerk : List ℕ) (ask : Ask) (found : Found) (decision : Result Move DraftRefusal) (reply : Reply) (changes : List RowChange)
+    → AreWords 40 clerk → IsAskWithin ask → FindsAny tables id (Some found) → FollowsSoundLine found.timing clerk decision (λ side. line_of ask clerk side)
+    → WritesDecision id clerk found decision reply changes → AnswersAny tables (command_of id clerk ask) reply (changed_by tables changes)
+move_answers tables id clerk ask found decision reply changes words within finds follows writes office stands =
+    elim (get office.intersections id) as (λ o. get office.intersections id ≡ o → Finds tables id o (Some found) → IfSome o IsSoundIntersection → Answers office (command_of id clerk ask) reply (changed_by tables changes)) [
+      | None ↦ λ there here sound. absurd here
+      | Some i ↦ λ there here sound.
+          settled tables office id clerk ask i found decision (line_of ask clerk i.timing) reply changes stands there sound here words within refl
+          (follows i.timing here.timing_stands sound.no_violations) writes
+    ] refl (finds office stands) (stands.sound id)
+
+-- a decision on what was found
+pub transact_decides : (tables : Content) (id : ℕ) (clerk : List ℕ) (ask : Ask) (found : Found) (decision : Result Move DraftRefusal) (result : Result Decided ShelfFault)
+    → AreWords 40 clerk → IsAskWithin ask → FindsAny tables id (Some found) → FollowsSoundLine found.timing clerk decision (λ side. line_of ask clerk side)
+    → IfOk result (λ decided. WritesDecision id clerk found decision decided.reply decided.changes.items) → OnErr result (result ≡ Err NoMemory)
+    → Decides tables (command_of id clerk ask) result
+transact_decides tables id clerk ask found decision (Ok decided) words within finds follows writes fault =
+    move_answers tables id clerk ask found decision decided.reply decided.changes.items words within finds follows writes
+transact_decides tables id clerk ask found decision (Err NoMemory) words within finds follows writes fault = tt
+transact_decides tables id clerk ask found decision (Err Store) words within finds follows writes fault = tt
+transact_decides tables id clerk ask found decision (Err Damaged) words within finds follows writes fault = absurd (let f : Err Damaged ≡ Err NoMemory = fault in cc)
+
+meets : (tables : Content) (id : ℕ) (clerk : List ℕ) (ask : Ask) → HasDamage tables id → MeetsDamage tables (command_of id clerk ask)
+meets tables id clerk Begin damage = damage
+meets tables id clerk (Edit changes) damage = damage
+meets tables id clerk Verify damage = damage
+meets tables id clerk Check damage = damage
+meets tables id clerk Commit damage = damage
+meets tables id clerk Reopen damage = damage
+meets tables id clerk Abandon damage = damage
+
+-- a fault that the shelf answered
+pub fault_decides : (tables : Content) (id : ℕ) (clerk : List ℕ) (ask : Ask) (fault : ShelfFault) → (fault ≡ Damaged → HasDamage tables id) → Decides tables (command_of id clerk ask) (Err fault)
+fault_decides tables id clerk ask NoMemory damage = tt
+fault_decides tables id clerk ask Store damage = tt
+fault_decides tables id clerk ask Damaged damage = meets tables id clerk ask (damage refl)
+
+-- ---- replies
+
+not_damaged : (why : DraftRefusal) → Refused (refusal_of_draft why) ≢ Refused refusal.Damaged
+not_damaged draft.NotNormal e = cc
+not_damaged draft.NotTransaction e = cc
+not_damaged draft.NotOwner e = cc
+not_damaged draft.NotVerify e = cc
+not_damaged draft.NotDone e = cc
+not_damaged (draft.VerifyFailed count) e = cc
+not_damaged draft.RevisionFull e = cc
+not_damaged draft.NoMemory e = cc
+
+pub reply_undamaged : (id : ℕ) (clerk : List ℕ) (found : Found) (decision : Result Move DraftRefusal) (reply : Reply) (changes : List RowChange) → WritesDecision id clerk found decision reply changes → reply ≢ Refused refusal.Damaged
+reply_undamaged id clerk found (Ok move) reply changes writes e = absurd (let f : Moved move.revision move.state move.verdict ≡ Refused refusal.Damaged = sym writes.told ∙ e in cc)
+reply_undamaged id clerk found (Err why) reply changes writes e = not_damaged why (sym writes.1 ∙ e)
+
+pub refused_unchanged : (id : ℕ) (clerk : List ℕ) (found : Found) (decision : Result Move DraftRefusal) (reply : Reply) (changes : List RowChange) → WritesDecision id clerk found decision reply changes → IsRefused reply → changes ≡ []
+refused_unchanged id clerk found (Ok move) reply changes writes refused = absurd (subst IsRefused writes.told refused)
+refused_unchanged id clerk found (Err why) reply changes writes refused = writes.2
+
+-- ---- how many rows are written
+
+timing_written : (id : ℕ) (changes : List TimingChange) → writes_in table.Timing (row_changes_of id changes) ≡ timing_writes changes
+timing_written id [] = refl
+timing_written id (Committed (Put row) ∷ changes) = let later = timing_written id changes in omega (arith, later)
+timing_written id (Committed (Remove key) ∷ changes) = let later = timing_written id changes in omega (arith, later)
+timing_written id (Drafted change ∷ changes) = let later = timing_written id changes in omega (arith, later)
+timing_written id (DraftGone key ∷ changes) = let later = timing_written id changes in omega (arith, later)
+
+draft_written : (id : ℕ) (changes : List TimingChange) → writes_in table.Draft (row_changes_of id changes) ≡ draft_writes changes
+draft_written id [] = refl
+draft_written id (Committed (Put row) ∷ changes) = let later = draft_written id changes in omega (arith, later)
+draft_written id (Committed (Remove key) ∷ changes) = let later = draft_written id changes in omega (arith, later)
+draft_written id (Drafted change ∷ changes) = let later = draft_written id changes in omega (arith, later)
+draft_written id (DraftGone key ∷ changes) = let later = draft_written id changes in omega (arith, later)
+
+-- other tables are not written
+none_written : (other : Table) → is_same_table table.Timing other ≡ false → is_same_table table.Draft other ≡ false → (id : ℕ) (changes : List TimingChange) → writes_in other (row_changes_of id changes) ≡ 0
+none_written other t d id [] = refl
+none_written other t d id (Committed (Put row) ∷ changes) = let later = none_written other t d id changes in rw t (omega (arith, later))
+none_written other t d id (Committed (Remove key) ∷ changes) = let later = none_written other t d id changes in rw t (omega (arith, later))
+none_written other t d id (Drafted change ∷ changes) = let later = none_written other t d id changes in rw d (omega (arith, later))
+none_written other t d id (DraftGone key ∷ changes) = let later = none_written other t d id changes in rw d (omega (arith, later))
+
+timing_bound : (tables : Content) (id : ℕ) (clerk : List ℕ) (ask : Ask) → most_writes tables (command_of id clerk ask) table.Timing ≡ most_committed ask (length (rows_of id tables.draft))
+timing_bound tables id clerk Begin = refl
+timing_bound tables id clerk (Edit changes) = refl
+timing_bound tables id clerk Verify = refl
+timing_bound tables id clerk Check = refl
+timing_bound tables id clerk Commit = refl
+timing_bound tables id clerk Reopen = refl
+timing_bound tables id clerk Abandon = refl
+
+draft_bound : (tables : Content) (id : ℕ) (clerk : List ℕ) (ask : Ask) → most_writes tables (command_of id clerk ask) table.Draft ≡ most_drafted ask (length (rows_of id tables.draft))
+draft_bound tables id clerk Begin = refl
+draft_bound tables id clerk (Edit changes) = refl
+draft_bound tables id clerk Verify = refl
+draft_bound tables id clerk Check = refl
+draft_bound tables id clerk Commit = refl
+draft_bound tables id clerk Reopen = refl
+draft_bound tables id clerk Abandon = refl
+
+no_more : (written n most : ℕ) → written ≡ n → n ≤ most → 0 + written ≤ most
+no_more written n most same bound = omega arith
+
+one_more : (written : ℕ) → written ≡ 0 → 1 + written ≤ 1
+one_more written none = omega arith
+
+-- the rows of a move are within the command's bounds
+move_writes : (tables : Content) (id : ℕ) (clerk : List ℕ) (ask : Ask) (row : _) (rows : ℕ) (changes : List TimingChange) (other : Table) → rows ≡ length (rows_of id tables.draft) → IsBounded ask rows changes
+    → writes_in other (PutIntersection id row ∷ row_changes_of id changes) ≤ most_writes tables (command_of id clerk ask) other
+move_writes tables id clerk ask row rows changes table.Intersection many bounds = one_more _ (none_written table.Intersection refl refl id changes)
+move_writes tables id clerk ask row rows changes table.Timing many bounds = rw (timing_bound tables id clerk ask, ← many) (no_more _ _ _ (timing_written id changes) bounds.timing)
+move_writes tables id clerk ask row rows changes table.Draft many bounds = rw (draft_bound tables id clerk ask, ← many) (no_more _ _ _ (draft_written id changes) bounds.draft)
+move_writes tables id clerk ask row rows changes table.Inspection many bounds = no_more _ 0 0 (none_written table.Inspection refl refl id changes) (omega arith)
+move_writes tables id clerk ask row rows changes table.WorkOrder many bounds = no_more _ 0 0 (none_written table.WorkOrder refl refl id changes) (omega arith)
+move_writes tables id clerk ask row rows changes table.Part many bounds = no_more _ 0 0 (none_written table.Part refl refl id changes) (omega arith)
+move_writes tables id clerk ask row rows changes table.Delivery many bounds = no_more _ 0 0 (none_written table.Delivery refl refl id changes) (omega arith)
+move_writes tables id clerk ask row rows changes table.UsedPart many bounds = no_more _ 0 0 (none_written table.UsedPart refl refl id changes) (omega arith)
+
+pub transact_writes : (tables : Content) (id : ℕ) (clerk : List ℕ) (ask : Ask) (found : Found) (decision : Result Move DraftRefusal) (reply : Reply) (changes : List RowChange)
+    → WritesDecision id clerk found decision reply changes → IfOk decision (λ move. IsBounded ask (length found.timing.delta) move.changes.items) → ListsDraft tables id found.timing.delta
+    → (other : Table) → writes_in other changes ≤ most_writes tables (command_of id clerk ask) other
+transact_writes tables id clerk ask found (Ok move) reply changes writes bounds lists other =
+    subst (λ list. writes_in other list ≤ most_writes tables (command_of id clerk ask) other) (sym writes.rows)
+    (move_writes tables id clerk ask (moved_row found clerk move) (length found.timing.delta) move.changes.items other (sym (length-map found.timing.delta _) ∙ ap length lists) bounds)
+transact_writes tables id clerk ask found (Err why) reply changes writes bounds lists other =
+    subst (λ list. writes_in other list ≤ most_writes tables (command_of id clerk ask) other) (sym writes.2) (omega arith)
+
+-- the same of the decision as a result
+pub transact_bounds : (tables : Content) (id : ℕ) (clerk : List ℕ) (ask : Ask) (found : Found) (decision : Result Move DraftRefusal) (result : Result Decided ShelfFault)
+    → IfOk result (λ decided. WritesDecision id clerk found decision decided.reply decided.changes.items)
+    → IfOk decision (λ move. IsBounded ask (length found.timing.delta) move.changes.items) → ListsDraft tables id found.timing.delta
+    → IfOk result (λ decided. (other : Table) → writes_in other decided.changes.items ≤ most_writes tables (command_of id clerk ask) other)
+transact_bounds tables id clerk ask found decision (Ok decided) writes bounds lists = transact_writes tables id clerk ask found decision decided.reply decided.changes.items writes bounds lists
+transact_bounds tables id clerk ask found decision (Err fault) writes bounds lists = tt

@@ -1,0 +1,8 @@
+use Rattle.std.proofs.Common.{◌≡◌, ◌∷◌, ◌++◌, drop}
+use Rattle.office_tables_shelf.specs.declared.rows.RowChange.TheVariants.{PutIntersection}
+use Rattle.office_desk.specs.Moving.{row_changes_of}
+use Rattle.office_desk.proofs.moving.row_changes.Given as goal
+
+-- the rows so far, and those of the changes that are left
+abbrev pub invariant-loop-change : goal.invariant-loop-change
+invariant-loop-change l = l.made.items ++ row_changes_of l.id (drop l.change-index l.changes) ≡ PutIntersection l.id l.fn.row ∷ row_changes_of l.id l.changes

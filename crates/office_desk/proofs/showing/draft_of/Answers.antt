@@ -1,0 +1,10 @@
+use Rattle.std.proofs.Common.{◌∙◌, ap}
+use Rattle.signal_records.specs.TimingSet.{after_changes}
+use Rattle.office_desk.proofs.Shown.{draft_shows, no_draft_shows}
+use Rattle.office_desk.proofs.showing.draft_of.Goals as goal
+
+pub returns-in_default-clause-shows : goal.returns-in_default-clause-shows
+returns-in_default-clause-shows c = λ side stands. no_draft_shows _ side stands c.in_default.is
+
+pub returns-clause-shows : goal.returns-clause-shows
+returns-clause-shows c = λ side stands. draft_shows _ side c.in-Some.holder _ _ stands c.in-Some.is (c.in_ok-rows.ensures ∙ ap (after_changes c.args.found.timing.committed) c.as_slice.ensures) (c.new-violations.ensures ∙ c.in_ok-violations.ensures)

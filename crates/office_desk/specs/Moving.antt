@@ -1,0 +1,52 @@
+-- What a step of the transaction writes.
+use Rattle.std.specs.Prelude.{◌≡◌, ◌≢◌, ℕ, List, [], ◌∷◌, map, Result, Ok, Err}
+use Rattle.std.specs.List.{AllByRecursion}
+use Rattle.signal_records.specs.Within.{IsChangeWithin, current_limits}
+use Rattle.signal_records.specs.declared.record.Change.TheVariants.{Put, Remove}
+use Rattle.draft_core.specs.Moves.{next_holder}
+use Rattle.draft_core.specs.declared.timing.Move.{Move}
+use Rattle.draft_core.specs.declared.timing.TimingChange.{TimingChange}
+use Rattle.draft_core.specs.declared.timing.TimingChange.TheVariants.{Committed, Drafted, DraftGone}
+use Rattle.draft_core.specs.declared.refusal.DraftRefusal.{DraftRefusal}
+use Rattle.draft_core.specs.declared.refusal.DraftRefusal.TheVariants.{NoMemory}
+use Rattle.office_tables_shelf.specs.declared.rows.IntersectionRow.{IntersectionRow}
+use Rattle.office_tables_shelf.specs.declared.rows.RowChange.{RowChange}
+use Rattle.office_tables_shelf.specs.declared.rows.RowChange.TheVariants.{PutIntersection, PutTiming, RemoveTiming, PutDraft, RemoveDraft}
+use Rattle.office_desk.specs.declared.reading.Found.{Found}
+use Rattle.office_desk.specs.declared.reply.Reply.{Reply}
+use Rattle.office_desk.specs.declared.reply.Reply.TheVariants.{Moved, Refused}
+use Rattle.office_desk.specs.Step.{refusal_of_draft}
+
+-- a change of an intersection's timing side, as a row
+abbrev pub row_change_of : ℕ → TimingChange → RowChange
+row_change_of id (Committed (Put row)) = PutTiming id row
+row_change_of id (Committed (Remove key)) = RemoveTiming id key
+row_change_of id (Drafted change) = PutDraft id change
+row_change_of id (DraftGone key) = RemoveDraft id key
+
+abbrev pub row_changes_of : ℕ → List TimingChange → List RowChange
+row_changes_of id = map (row_change_of id)
+
+-- a draft row that is written is within its limits
+abbrev pub IsDraftedWithin : TimingChange → Type 0
+IsDraftedWithin (Committed change) = Unit {0}
+IsDraftedWithin (Drafted change) = IsChangeWithin current_limits change
+IsDraftedWithin (DraftGone key) = Unit {0}
+
+abbrev pub AreDraftedWithin : List TimingChange → Type 0
+AreDraftedWithin = AllByRecursion IsDraftedWithin
+
+-- the intersection's row after a move
+abbrev pub moved_row : Found → List ℕ → Move → IntersectionRow
+moved_row found clerk move = record { name = found.name; interval = found.interval; revision = move.revision; holder = next_holder found.timing.holder clerk move.state }
+
+-- the reply shows the move, and the rows are the intersection's own and those of the move
+pub record WritesMove (id : ℕ) (clerk : List ℕ) (found : Found) (move : Move) (reply : Reply) (changes : List RowChange) : Type 0 where
+  pub told : reply ≡ Moved move.revision move.state move.verdict
+  pub rows : changes ≡ PutIntersection id (moved_row found clerk move) ∷ row_changes_of id move.changes.items
+  pub within : AreDraftedWithin move.changes.items
+
+-- a decision of the transaction as reply and rows: a refusal writes none
+abbrev pub WritesDecision : ℕ → List ℕ → Found → Result Move DraftRefusal → Reply → List RowChange → Type 0
+WritesDecision id clerk found (Ok move) reply changes = WritesMove id clerk found move reply changes
+WritesDecision id clerk found (Err refusal) reply changes = (refusal ≢ NoMemory) × (reply ≡ Refused (refusal_of_draft refusal)) × (changes ≡ [])

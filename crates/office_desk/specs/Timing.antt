@@ -1,0 +1,33 @@
+-- The running timing of an intersection over a run of commands.
+use Rattle.std.specs.Prelude.{ℕ, Bool, true, false, ◌==◌, ◌&&◌, cond, List, [], ◌∷◌, Option, Some, None}
+use Rattle.signal_records.specs.TimingSet.{Rows}
+use Rattle.draft_core.specs.Transaction.{Draft}
+use Rattle.office_desk.specs.declared.command.Command.{Command}
+use Rattle.office_desk.specs.declared.command.Command.TheVariants as command
+use Rattle.office_desk.specs.declared.reply.Reply.{Reply}
+use Rattle.office_desk.specs.declared.reply.Reply.TheVariants.{Moved}
+use Rattle.office_desk.specs.Office.{Office, side_at}
+use Rattle.office_desk.specs.Step.{Run}
+
+-- the command commits the draft of this intersection
+abbrev pub is_commit_of : ℕ → Command → Bool
+is_commit_of id (command.Commit other clerk) = id == other
+is_commit_of id _ = false
+
+-- the reply accepts a step of the transaction
+abbrev pub is_moved : Reply → Bool
+is_moved (Moved revision state verdict) = true
+is_moved _ = false
+
+-- the draft of an intersection as it stands, or what is said in place of none
+abbrev pub set_of_draft : Option Draft → Rows → Rows
+set_of_draft None instead = instead
+set_of_draft (Some draft) instead = draft.set
+
+-- the draft just before the last accepted commit of the intersection, or what ran before
+abbrev pub running : ℕ → Rows → (first : Office) (commands : List Command) (replies : List Reply) (last : Office) → Run first commands replies last → Rows
+running id before first [] [] last run = before
+running id before first (command ∷ commands) (reply ∷ replies) last run =
+    running id (cond (is_commit_of id command && is_moved reply) (set_of_draft (side_at first id).draft before) before) run.0 commands replies last run.2
+running id before first [] (reply ∷ replies) last run = before
+running id before first (command ∷ commands) [] last run = before

@@ -1,0 +1,53 @@
+-- The commands of the transaction on one intersection.
+use Rattle.std.specs.Prelude.{ℕ, ◌≤◌, List, length, Result}
+use Rattle.signal_records.specs.declared.record.Change.{Change}
+use Rattle.draft_core.specs.Moves.{timing_writes, draft_writes}
+use Rattle.draft_core.specs.Transaction.{TimingSide, begun, edited, verified, checked, committed, reopened, abandoned}
+use Rattle.draft_core.specs.declared.refusal.DraftRefusal.{DraftRefusal}
+use Rattle.draft_core.specs.declared.timing.TimingChange.{TimingChange}
+use Rattle.office_desk.specs.declared.command.Command.{Command}
+use Rattle.office_desk.specs.declared.command.Command.TheVariants as command
+use Rattle.office_desk.specs.declared.transacting.Ask.{Ask}
+use Rattle.office_desk.specs.declared.transacting.Ask.TheVariants.{Begin, Edit, Verify, Check, Commit, Reopen, Abandon}
+use Rattle.office_desk.specs.Reading.{AreChangesWithin}
+
+-- the command that asks it
+abbrev pub command_of : ℕ → List ℕ → Ask → Command
+command_of id clerk Begin = command.Begin id clerk
+command_of id clerk (Edit changes) = command.Edit id clerk changes.now
+command_of id clerk Verify = command.Verify id clerk
+command_of id clerk Check = command.Check id clerk
+command_of id clerk Commit = command.Commit id clerk
+command_of id clerk Reopen = command.Reopen id clerk
+command_of id clerk Abandon = command.Abandon id clerk
+
+-- its line of the transaction table
+abbrev pub line_of : Ask → List ℕ → TimingSide → Result TimingSide DraftRefusal
+line_of Begin clerk side = begun side clerk
+line_of (Edit changes) clerk side = edited side clerk changes.now
+line_of Verify clerk side = verified side clerk
+line_of Check clerk side = checked side clerk
+line_of Commit clerk side = committed side clerk
+line_of Reopen clerk side = reopened side clerk
+line_of Abandon clerk side = abandoned side
+
+-- the changes that it brings are within their limits
+abbrev pub IsAskWithin : Ask → Type 0
+IsAskWithin (Edit changes) = AreChangesWithin changes.now
+IsAskWithin _ = Unit {0}
+
+-- the most timing rows that it writes, of a draft with so many rows
+abbrev pub most_committed : Ask → ℕ → ℕ
+most_committed Commit rows = rows
+most_committed _ rows = 0
+
+-- the most draft rows that it writes
+abbrev pub most_drafted : Ask → ℕ → ℕ
+most_drafted (Edit changes) rows = length changes.now
+most_drafted Commit rows = rows
+most_drafted Abandon rows = rows
+most_drafted _ rows = 0
+
+pub record IsBounded (ask : Ask) (rows : ℕ) (changes : List TimingChange) : Type 0 where
+  pub timing : timing_writes changes ≤ most_committed ask rows
+  pub draft : draft_writes changes ≤ most_drafted ask rows

@@ -1,0 +1,130 @@
+//! What a step of the transaction is answered, and the rows that it writes.
+ghost use Rattle.std.specs.Prelude.{◌≡◌, ◌≢◌, [], ◌∷◌, IfOk, OnErr};
+ghost use Rattle.office_desk.specs.Changes.{IsRefused};
+ghost use Rattle.office_desk.specs.Moving.{AreDraftedWithin, IsDraftedWithin, WritesDecision, WritesMove, row_change_of, row_changes_of};
+ghost use Rattle.office_desk.specs.Step.{refusal_of_draft};
+
+use crate::decided::Decided;
+use crate::reading::Found;
+use crate::refusal::Refusal;
+use crate::reply::Reply;
+use draft_core::refusal::DraftRefusal;
+use draft_core::timing::{Move, TimingChange};
+use draft_core::{copy_change, next_holder};
+use office_tables_shelf::rows::{IntersectionRow, RowChange};
+use office_tables_shelf::shelf::ShelfFault;
+use signal_records::{Change, InterId, NoMemory, Words, change_is_within};
+use std::alloc::Global;
+
+/// A change of an intersection's timing side, as a row.
+fn row_change(id: InterId, change: &TimingChange) -> Result<RowChange, NoMemory>
+    ensures { IfOk result (λ made. made ≡ row_change_of id change.now) }
+{
+    Ok(match change {
+        TimingChange::Committed(Change::Put(row)) => RowChange::PutTiming(id, row.clone()?),
+        TimingChange::Committed(Change::Remove(key)) => RowChange::RemoveTiming(id, *key),
+        TimingChange::Drafted(change) => RowChange::PutDraft(id, copy_change(change)?),
+        TimingChange::DraftGone(key) => RowChange::RemoveDraft(id, *key),
+    })
+}
+
+fn draft_is_within(change: &TimingChange)
+    ensures { IsDraftedWithin change.now }
+{
+    if let TimingChange::Drafted(change) = change {
+        change_is_within(change);
+    }
+}
+
+/// Every draft row that is written is within its limits, as its type says.
+fn drafts_are_within(changes: &[TimingChange])
+    ensures { AreDraftedWithin changes.now }
+{
+    for change in changes {
+        draft_is_within(change);
+    }
+}
+
+/// The intersection's row, and then those of a move, in its order.
+fn row_changes(
+    alloc: Global,
+    id: InterId,
+    row: IntersectionRow,
+    changes: &[TimingChange],
+) -> Result<Vec<RowChange>, NoMemory>
+    ensures { IfOk result (λ made. made.items ≡ RowChange.PutIntersection id row ∷ row_changes_of id changes.now) }
+{
+    let mut made = Vec::new(alloc);
+    made.push(RowChange::PutIntersection(id, row))?;
+    for change in changes {
+        made.push(row_change(id, change)?)?;
+    }
+    Ok(made)
+}
+
+/// The answer to a move.
+fn moved(
+    alloc: Global,
+    id: InterId,
+    clerk: &Words<40>,
+    found: Found,
+    step: Move,
+) -> Result<Decided, NoMemory>
+    ensures { IfOk result (λ decided. WritesMove id clerk.now found step decided.reply decided.changes.items) }
+{
+    drafts_are_within(step.changes.as_slice());
+    let revision = step.revision;
+    let holder = next_holder(alloc, &found.timing.holder, clerk, step.state)?;
+    let row = IntersectionRow {
+        name: found.name,
+        interval: found.interval,
+        revision,
+        holder,
+    };
+    let changes = row_changes(alloc, id, row, step.changes.as_slice())?;
+    let reply = Reply::Moved {
+        revision,
+        state: step.state,
+        verdict: step.verdict,
+    };
+    Ok(Decided { reply, changes })
+}
+
+/// A refusal of the transaction as one of the office.
+fn refused(refusal: DraftRefusal) -> Refusal
+    ensures { result ≡ refusal_of_draft refusal }
+{
+    match refusal {
+        DraftRefusal::NotNormal => Refusal::NotNormal,
+        DraftRefusal::NotTransaction => Refusal::NotTransaction,
+        DraftRefusal::NotOwner => Refusal::NotOwner,
+        DraftRefusal::NotVerify => Refusal::NotVerify,
+        DraftRefusal::NotDone => Refusal::NotDone,
+        DraftRefusal::VerifyFailed(count) => Refusal::VerifyFailed(count),
+        DraftRefusal::RevisionFull => Refusal::RevisionFull,
+        DraftRefusal::NoMemory => Refusal::Unavailable,
+    }
+}
+
+/// The answer to a decision of the transaction.
+pub fn answer(
+    alloc: Global,
+    id: InterId,
+    clerk: &Words<40>,
+    found: Found,
+    decision: Result<Move, DraftRefusal>,
+) -> Result<Decided, ShelfFault>
+    ensures writes { IfOk result (λ decided. WritesDecision id clerk.now found decision decided.reply decided.changes.items) }
+    ensures fault { OnErr result (result ≡ Err ShelfFault.NoMemory) }
+{
+    match decision {
+        Ok(step) => match moved(alloc, id, clerk, found, step) {
+            Ok(decided) => return Ok(decided),
+            Err(NoMemory) => return Err(ShelfFault::NoMemory),
+        },
+        Err(DraftRefusal::NoMemory) => return Err(ShelfFault::NoMemory),
+        Err(refusal) => {
+            return Ok(Decided::unchanged(alloc, Reply::Refused(refused(refusal))));
+        }
+    }
+}

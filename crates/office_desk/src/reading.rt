@@ -1,0 +1,134 @@
+//! What is read of an intersection.
+ghost use Rattle.std.specs.Prelude.{◌≡◌, IfOk, OnErr, IfSome, map};
+ghost use Rattle.signal_records.specs.TimingSet.{after_changes};
+ghost use Rattle.office_tables_shelf.specs.Damage.{HasDamagedTiming};
+ghost use Rattle.office_tables_shelf.specs.Shelf.{IsKept, ListsDraft};
+ghost use Rattle.office_desk.specs.Damage.{HasDamage};
+ghost use Rattle.office_desk.specs.Office.{Office, side_at};
+ghost use Rattle.office_desk.specs.Reading.{AreWithin, AreChangesWithin, IsMadeOf, FindsAny, set_of_rows};
+ghost use Rattle.office_desk.specs.StandFor.{StandForSound};
+
+use draft_core::changes::Changes;
+use draft_core::timing::Timing;
+use office_tables_shelf::rows::IntersectionRow;
+use office_tables_shelf::shelf::{Shelf, ShelfFault};
+use signal_records::{
+    Change, InterId, Interval, NoMemory, Row, TimingSet, Words, change_is_within, row_is_within,
+};
+use std::alloc::Global;
+
+/// An intersection as it is kept.
+#[derive(Drop)]
+pub struct Found {
+    pub name: Words<120>,
+    /// Days from one inspection of its cabinet to the next.
+    pub interval: Interval,
+    pub timing: Timing,
+}
+
+/// Every row is within its limits, as its type says.
+pub fn rows_are_within(rows: &[Row])
+    ensures { AreWithin rows.now }
+{
+    for row in rows {
+        row_is_within(row);
+    }
+}
+
+/// Every change is within its limits, as its type says.
+pub fn changes_are_within(changes: &[Change])
+    ensures { AreChangesWithin changes.now }
+{
+    for change in changes {
+        change_is_within(change);
+    }
+}
+
+/// The changes that put rows.
+fn puts_of(alloc: Global, rows: &[Row]) -> Result<Vec<Change>, NoMemory>
+    ensures { IfOk result (λ changes. changes.items ≡ map (λ row. Change.Put row) rows.now) }
+{
+    let mut changes = Vec::new(alloc);
+    for row in rows {
+        changes.push(Change::Put(row.clone()?))?;
+    }
+    Ok(changes)
+}
+
+/// The set of rows.
+pub fn set_of(alloc: Global, rows: &[Row]) -> Result<TimingSet, NoMemory>
+    ensures { IfOk result (λ set. set ≡ set_of_rows rows.now) }
+{
+    let changes = puts_of(alloc, rows)?;
+    let mut set = TimingSet::new(alloc);
+    set.apply(alloc, changes.as_slice())?;
+    Ok(set)
+}
+
+/// The committed set of an intersection; the empty one where there is no such intersection.
+pub fn committed_set<S: Shelf>(
+    shelf: &mut S,
+    alloc: Global,
+    id: InterId,
+) -> Result<TimingSet, ShelfFault>
+    ensures set { IfOk result (λ set. S.is_honest shelf.new → (office : Office) → StandForSound (S.content shelf.old) office → set ≡ (side_at office id).committed) }
+    ensures damaged { result ≡ Err ShelfFault.Damaged → S.is_honest shelf.new → HasDamagedTiming (S.content shelf.old) id }
+    ensures kept { IsKept S.is_honest S.content S.written S.may_leave shelf.old shelf.new }
+{
+    let rows = shelf.timing_rows(alloc, id)?;
+    let list = rows.as_slice();
+    rows_are_within(list);
+    let set = set_of(alloc, list)?;
+    Ok(set)
+}
+
+/// The intersection of which these rows were read.
+fn made_of(
+    alloc: Global,
+    row: IntersectionRow,
+    rows: &[Row],
+    changes: Vec<Change>,
+) -> Result<Found, NoMemory>
+    ensures { IfOk result (λ found. IsMadeOf row rows.now changes.items found) }
+{
+    rows_are_within(rows);
+    changes_are_within(changes.as_slice());
+    let committed = set_of(alloc, rows)?;
+    let IntersectionRow {
+        name,
+        interval,
+        revision,
+        holder,
+    } = row;
+    Ok(Found {
+        name,
+        interval,
+        timing: Timing {
+            revision,
+            holder,
+            committed,
+            delta: Changes::new(changes),
+        },
+    })
+}
+
+/// Reads an intersection, its committed set and its draft rows.
+pub fn find<S: Shelf>(
+    shelf: &mut S,
+    alloc: Global,
+    id: InterId,
+) -> Result<Option<Found>, ShelfFault>
+    ensures found { IfOk result (λ found. S.is_honest shelf.new → FindsAny (S.content shelf.old) id found) }
+    ensures listed { IfOk result (λ found. S.is_honest shelf.new → IfSome found (λ found. ListsDraft (S.content shelf.old) id found.timing.delta)) }
+    ensures damaged { result ≡ Err ShelfFault.Damaged → S.is_honest shelf.new → HasDamage (S.content shelf.old) id }
+    ensures kept { IsKept S.is_honest S.content S.written S.may_leave shelf.old shelf.new }
+{
+    let Some(row) = shelf.intersection(alloc, id)? else {
+        return Ok(None);
+    };
+    let rows = shelf.timing_rows(alloc, id)?;
+    let changes = shelf.draft_rows(alloc, id)?;
+    let list = rows.as_slice();
+    let found = made_of(alloc, row, list, changes)?;
+    Ok(Some(found))
+}

@@ -1,0 +1,8 @@
+use Rattle.std.proofs.Common.{arith, codes}
+use Rattle.office_files.specs.Sheet.{sequence_line}
+use Rattle.office_files.proofs.CellsLemmas.{section_more}
+use Rattle.office_files.proofs.sheet.push_sequences.Goals as goal
+
+pub loop-row-preserved : goal.loop-row-preserved
+loop-row-preserved c =
+    section_more sequence_line c.args.rows.now c.loop-row.row-index c.row-item.result _ (codes "Sequences\n    No  Ring Phases\n") _ _ (omega arith) c.row-item.is c.loop-row.invariant c.in_ok-push_sequence.ensures

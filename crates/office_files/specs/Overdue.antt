@@ -1,0 +1,23 @@
+-- The report of overdue inspections.
+use Rattle.std.specs.Prelude.{ℕ, List, ◌++◌, length, flat_map, codes, decimal, Option, Some, None}
+use Rattle.jiff.specs.Words.{date_text}
+use Rattle.jiff.specs.declared.civil.dates.Date.{Date}
+use Rattle.cabinet_core.specs.Day.{day_text}
+use Rattle.cabinet_core.specs.declared.inspections.OverdueRow.{OverdueRow}
+use Rattle.office_files.specs.Cells.{right_aligned}
+
+-- the due day, or that there never was an inspection, left in ten places
+abbrev pub due_written : Option Date → List ℕ
+due_written None = codes "never     "
+due_written (Some due) = date_text due
+
+-- `  12  2027-03-01  Main St`
+abbrev pub overdue_line : OverdueRow → List ℕ
+overdue_line row =
+    right_aligned 4 (decimal row.id) ++ codes "  " ++ due_written row.due ++ codes "  " ++ row.name ++ codes "\n"
+
+-- the heading, a line for each intersection, and their count
+abbrev pub overdue_report : ℕ → List OverdueRow → List ℕ
+overdue_report day rows =
+    codes "Overdue on " ++ day_text day ++ codes "\n" ++ flat_map overdue_line rows
+    ++ codes "Count " ++ decimal (length rows) ++ codes "\n"

@@ -1,0 +1,50 @@
+-- The commands that a CSV file spells, and the file of a cabinet.
+use Rattle.std.specs.Prelude.{ℕ, ◌==◌, List, [], ◌∷◌, ◌++◌, map, flat_map, Bool, All, Option, Some, None, Result}
+use Rattle.std.specs.List.{filter}
+use Rattle.cabinet_core.specs.declared.record.Opening.{Opening}
+use Rattle.cabinet_core.specs.declared.record.Order.{Order}
+use Rattle.cabinet_core.specs.declared.record.UsedLine.{UsedLine}
+use Rattle.cabinet_core.specs.declared.record.Closing.{Closing}
+use Rattle.cabinet_core.specs.declared.record.CabinetView.{CabinetView}
+use Rattle.cabinet_core.specs.declared.command.RecordCommand.{RecordCommand}
+use Rattle.cabinet_core.specs.declared.command.RecordCommand.TheVariants as command
+use Rattle.office_files.specs.declared.fault.CsvFault.{CsvFault}
+use Rattle.office_files.specs.Csv.{csv_records, csv_text}
+use Rattle.office_files.specs.CsvRow.{rows_of}
+use Rattle.office_files.specs.RecordReading.{record_at}
+use Rattle.office_files.specs.RecordSpelling.{record_spelling}
+use Rattle.office_files.specs.RecordsWithin.{IsRecordWithin}
+
+-- each record is a command of the register
+abbrev pub commands_of : List ℕ → Result (List RecordCommand) CsvFault
+commands_of text = rows_of record_at (csv_records text)
+
+-- commands whose numbers, days and texts are within their limits
+abbrev pub AreRecordsWithin : List RecordCommand → Type 0
+AreRecordsWithin commands = All IsRecordWithin commands
+
+-- what opened the order
+abbrev pub opening_of : Order → Opening
+opening_of order = record { number = order.number; day = order.opened; clerk = order.clerk; text = order.text }
+
+-- the line is of this order
+abbrev pub is_line_of : ℕ → UsedLine → Bool
+is_line_of order line = line.order == order
+
+-- the closing, where there is one
+abbrev pub close_commands : ℕ → ℕ → Option Closing → List RecordCommand
+close_commands id order None = []
+close_commands id order (Some closing) = command.CloseOrder id order closing ∷ []
+
+-- what made an order as it stands: its opening, its lines, its closing
+abbrev pub order_commands : ℕ → List UsedLine → Order → List RecordCommand
+order_commands id lines order =
+    command.OpenOrder id (opening_of order) ∷ (map (command.UsePart id) (filter (is_line_of order.number) lines) ++ close_commands id order.number order.closing)
+
+-- what made a cabinet as it stands: its inspections, and then order by order
+abbrev pub view_commands : ℕ → CabinetView → List RecordCommand
+view_commands id view = map (command.Inspect id) view.inspections.items ++ flat_map (order_commands id view.lines.items) view.orders.items
+
+-- a record for each of them
+abbrev pub records_csv_text : ℕ → CabinetView → List ℕ
+records_csv_text id view = csv_text (map record_spelling (view_commands id view))

@@ -1,0 +1,65 @@
+-- The timing sheet of an intersection.
+use Rattle.std.specs.Prelude.{ℕ, List, [], ◌++◌, flat_map, codes, decimal, Option, Some, None}
+use Rattle.signal_records.specs.declared.record.Ped.{Ped}
+use Rattle.signal_records.specs.declared.record.Phase.{Phase}
+use Rattle.signal_records.specs.declared.record.Row.{Row}
+use Rattle.signal_records.specs.declared.record.Row.TheVariants as row
+use Rattle.signal_records.specs.SplitMode.{mode_code}
+use Rattle.office_files.specs.Cells.{number_column, tenths_column, flag_column, numbers_text}
+
+-- the five columns of a pedestrian part, or a dash in each
+abbrev pub ped_columns : Option Ped → List ℕ
+ped_columns None = codes "     -     -     -     -     -"
+ped_columns (Some ped) =
+    number_column ped.walk ++ number_column ped.clear ++ tenths_column ped.width ++ tenths_column ped.setback ++ flag_column ped.short
+
+-- the columns of a phase before those of its pedestrian part
+abbrev pub interval_columns : ℕ → Phase → List ℕ
+interval_columns p phase =
+    number_column p ++ number_column phase.ring ++ number_column phase.min_green ++ tenths_column phase.passage
+    ++ number_column phase.max1 ++ tenths_column phase.yellow ++ tenths_column phase.red
+
+-- the line of a row in the section of its kind
+abbrev pub phase_line : Row → List ℕ
+phase_line (row.Phase p phase) = interval_columns p phase ++ ped_columns phase.ped ++ numbers_text phase.mates ++ codes "\n"
+phase_line other = []
+
+abbrev pub sequence_line : Row → List ℕ
+sequence_line (row.Seq n ring seq) = number_column n ++ number_column ring ++ numbers_text seq.list ++ codes "\n"
+sequence_line other = []
+
+abbrev pub split_line : Row → List ℕ
+split_line (row.Split n p split) =
+    number_column n ++ number_column p ++ number_column split.time ++ number_column (mode_code split.mode) ++ flag_column split.coord ++ codes "\n"
+split_line other = []
+
+abbrev pub pattern_line : Row → List ℕ
+pattern_line (row.Pattern n pattern) =
+    number_column n ++ number_column pattern.cycle ++ number_column pattern.offset ++ number_column pattern.split ++ number_column pattern.seq ++ codes "\n"
+pattern_line other = []
+
+-- the four sections, each with its heading
+abbrev pub phases_section : List Row → List ℕ
+phases_section rows =
+    codes "Phases\n    No  Ring   Min  Pass   Max   Yel   Red  Walk Clear Width Setbk Short Mates\n" ++ flat_map phase_line rows
+
+abbrev pub sequences_section : List Row → List ℕ
+sequences_section rows = codes "Sequences\n    No  Ring Phases\n" ++ flat_map sequence_line rows
+
+abbrev pub splits_section : List Row → List ℕ
+splits_section rows = codes "Splits\n    No Phase  Time  Mode Coord\n" ++ flat_map split_line rows
+
+abbrev pub patterns_section : List Row → List ℕ
+patterns_section rows = codes "Patterns\n    No Cycle  Offs Split   Seq\n" ++ flat_map pattern_line rows
+
+abbrev pub sections : List Row → List ℕ
+sections rows = phases_section rows ++ sequences_section rows ++ splits_section rows ++ patterns_section rows
+
+-- the two lines at the top
+abbrev pub title : ℕ → List ℕ → ℕ → List ℕ
+title id name revision =
+    codes "Intersection " ++ decimal id ++ codes ": " ++ name ++ codes "\nRevision " ++ decimal revision ++ codes "\n"
+
+-- the sheet of rows in key order
+abbrev pub sheet_text : ℕ → List ℕ → ℕ → List Row → List ℕ
+sheet_text id name revision rows = title id name revision ++ sections rows

@@ -1,0 +1,17 @@
+-- The CSV file of a timing set.
+use Rattle.std.specs.Prelude.{ℕ, List, map}
+use Rattle.std.specs.FinMap.{values}
+use Rattle.signal_records.specs.declared.record.Change.{Change}
+use Rattle.signal_records.specs.declared.record.Change.TheVariants.{Put}
+use Rattle.signal_records.specs.Spelling.{spelling}
+use Rattle.signal_records.specs.TimingSet.{Rows}
+use Rattle.signal_records.specs.Within.{current_limits}
+use Rattle.office_files.specs.Csv.{csv_text}
+
+-- the rows in key order, a record for each
+abbrev pub timing_csv_text : Rows → List ℕ
+timing_csv_text set = csv_text (map (spelling current_limits) (values set))
+
+-- the changes that put the rows of a set, in key order
+abbrev pub puts_of : Rows → List Change
+puts_of set = map Put (values set)

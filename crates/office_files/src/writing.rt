@@ -1,0 +1,42 @@
+//! CSV files out of values.
+
+ghost use Rattle.std.specs.Prelude.{◌≡◌, ℕ, List, map, IfOk, OnOk, All};
+ghost use Rattle.csv.specs.Records.{fields_of};
+ghost use Rattle.office_files.specs.Csv.{csv_text};
+
+use csv::{ByteRecord, WriterBuilder};
+use signal_records::NoMemory;
+use std::alloc::Global;
+
+/// A value that is written as one record of a CSV file.
+pub(crate) trait CsvRecord {
+    /// The fields that spell the value.
+    ghost spelling: { Self → List (List ℕ) };
+
+    /// What holds of every value of the type.
+    ghost IsWithin: { Self → Type 0 };
+
+    /// The record of the value.
+    fn record(&self, alloc: Global) -> Result<ByteRecord, NoMemory>
+        ensures fields { IfOk result (λ row. fields_of row ≡ spelling self.now) }
+        ensures within { OnOk result (IsWithin self.now) };
+}
+
+/// The file that has a record for each value, in order, as the crate writes it by default; but
+/// records may differ in length.
+pub(crate) fn write_records<T: CsvRecord>(alloc: Global, values: &[T]) -> Result<Vec<u8>, NoMemory>
+    ensures text { IfOk result (λ text. text.items ≡ csv_text (map T.spelling values.now)) }
+    ensures within { OnOk result (All T.IsWithin values.now) }
+{
+    let mut writer = WriterBuilder::new()
+        .flexible(true)
+        .from_writer(Vec::new(alloc));
+    for value in values {
+        let record = value.record(alloc)?;
+        // A vector refuses to be written to for want of memory alone.
+        let Ok(()) = writer.write_byte_record(&record) else {
+            return Err(NoMemory);
+        };
+    }
+    writer.into_inner().map_err(|_| NoMemory)
+}

@@ -1,0 +1,13 @@
+mod PartPuts
+mod DeliveryPuts
+mod InspectionPuts
+mod UsedPuts
+mod OrderPuts
+mod PartReads
+mod DeliveryReads
+mod CodeReading
+mod FirstColumn
+mod InspectionLists
+mod UsedLists
+mod OrderLists
+mod PartLists

@@ -1,0 +1,18 @@
+use Rattle.std.proofs.Common.{◌≡◌, map, ap, subst, ◌∙◌}
+use Rattle.std.proofs.lemmas.Result.{IfOk-weaker}
+use Rattle.std.specs.List.{Any}
+use Rattle.sqlite.specs.Held.{state}
+use Rattle.office_tables_sql.specs.Stored.{content_now}
+use Rattle.office_tables_cabinet.specs.CabinetShown.{shown_order, order_entry}
+use Rattle.office_tables_cabinet.proofs.OrderLists.{damaged}
+use Rattle.office_tables_cabinet.proofs.order.orders.Goals as goal
+
+pub returns-clause-rows : goal.returns-clause-rows
+returns-clause-rows g c =
+    IfOk-weaker c.orders_from.result (λ found. map (order_entry c.args.id) found.items ≡ map shown_order c.deref.result.now) _
+    (λ found same honest. same ∙ ap (map shown_order) c.deref.ensures.value ∙ c.in_ok-rows.ensures.rows honest) c.orders_from.ensures.ok
+
+pub returns-clause-damaged : goal.returns-clause-damaged
+returns-clause-damaged g c is honest =
+    damaged (content_now (state g.S.Store c.args.conn.now)) c.args.id c.in_ok-rows.rows.items (c.in_ok-rows.ensures.rows honest) (c.in_ok-rows.ensures.width honest)
+    (subst (Any _) c.deref.ensures.value (c.orders_from.ensures.damaged is))

@@ -1,0 +1,63 @@
+-- How the rows of the cabinet's tables are stored, cell by cell: the key of a row, and its other columns.
+use Rattle.std.specs.Prelude.{ℕ, pos, List, [], ◌∷◌, Option, Some, None}
+use Rattle.office_tables_shelf.specs.Cells.{Cell, null, number, text}
+use Rattle.cabinet_core.specs.declared.record.Inspection.{Inspection}
+use Rattle.cabinet_core.specs.declared.record.Closing.{Closing}
+use Rattle.cabinet_core.specs.declared.record.Order.{Order}
+use Rattle.cabinet_core.specs.declared.record.UsedLine.{UsedLine}
+use Rattle.cabinet_core.specs.declared.record.Delivery.{Delivery}
+
+-- ---- parts, by their codes
+
+abbrev pub part_key : List ℕ → List Cell
+part_key code = text code ∷ []
+
+-- how many are on hand
+abbrev pub part_columns : ℕ → List Cell
+part_columns hand = number (pos hand) ∷ []
+
+-- ---- deliveries, by the part and their numbers
+
+abbrev pub delivery_key : List ℕ → ℕ → List Cell
+delivery_key part n = text part ∷ number (pos n) ∷ []
+
+-- day, amount
+abbrev pub delivery_columns : Delivery → List Cell
+delivery_columns delivery = number (pos delivery.day) ∷ number (pos delivery.count) ∷ []
+
+-- ---- inspections, by the intersection and their numbers
+
+abbrev pub inspection_key : ℕ → ℕ → List Cell
+inspection_key id n = number (pos id) ∷ number (pos n) ∷ []
+
+-- day, clerk, body
+abbrev pub inspection_columns : Inspection → List Cell
+inspection_columns inspection = number (pos inspection.day) ∷ text inspection.clerk ∷ text inspection.text ∷ []
+
+-- ---- used parts, by the intersection, the order and the line
+
+abbrev pub used_key : ℕ → ℕ → ℕ → List Cell
+used_key id order line = number (pos id) ∷ number (pos order) ∷ number (pos line) ∷ []
+
+-- part, amount
+abbrev pub used_columns : UsedLine → List Cell
+used_columns used = text used.part ∷ number (pos used.count) ∷ []
+
+-- ---- orders, by the intersection and their numbers
+
+abbrev pub order_key : ℕ → ℕ → List Cell
+order_key id n = number (pos id) ∷ number (pos n) ∷ []
+
+-- the columns `closed` and `closer`: both null while the order is open
+abbrev pub closed_cell : Option Closing → Cell
+closed_cell None = null
+closed_cell (Some closing) = number (pos closing.day)
+
+abbrev pub closer_cell : Option Closing → Cell
+closer_cell None = null
+closer_cell (Some closing) = text closing.closer
+
+-- opened, clerk, body, closed, closer
+abbrev pub order_columns : Order → List Cell
+order_columns order =
+    number (pos order.opened) ∷ text order.clerk ∷ text order.text ∷ closed_cell order.closing ∷ closer_cell order.closing ∷ []

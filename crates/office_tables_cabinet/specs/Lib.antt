@@ -1,0 +1,4 @@
+pub mod CabinetRows
+pub mod CabinetStored
+pub mod CabinetReads
+pub mod CabinetShown

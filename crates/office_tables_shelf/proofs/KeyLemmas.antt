@@ -1,0 +1,173 @@
+-- What stands at a key, told from the list of the rows of an intersection.
+use Rattle.std.proofs.Common.{◌≡◌, ◌⊎◌, inl, inr, ℕ, pos, Bool, true, false, List, [], ◌∷◌, map, find, cond, Option, None, Some, option_map, T, refl, sym, ap, subst, ◌∙◌}
+use Rattle.std.proofs.lemmas.Bool.{cases_Bool}
+use Rattle.std.specs.Option.{option_or}
+use Rattle.std.specs.Cmp.{tied_itself}
+use Rattle.std.specs.FinMap as finite
+use Rattle.std.specs.FinMap.{get, empty, entries, entries_sorted, get-empty, get-entries, get-insert}
+use Rattle.std.specs.FinMap.Entries.{is_sorted, below_all, is_sorted-where_key, find-where_key}
+use Rattle.std.specs.List.{AllByRecursion}
+use Rattle.std.specs.List.Sorted.{IsStrictlySortedBy}
+use Rattle.std.specs.Ordering.{is_eq, eq_by_cmp}
+use Rattle.std.specs.declared.cmp.Ordering.TheVariants.{Less, Equal}
+use Rattle.signal_records.specs.Key.{kind_of, first_of, second_of, key_cmp}
+use Rattle.signal_records.specs.KeyOrder.{key_at, key_at-place_of, key_total, key_exact}
+use Rattle.signal_records.specs.Row.{key_of}
+use Rattle.signal_records.specs.TimingSet as set
+use Rattle.signal_records.specs.declared.key.Key.{Key}
+use Rattle.signal_records.specs.declared.record.Row.{Row}
+use Rattle.signal_records.specs.declared.record.Change.{Change}
+use Rattle.signal_records.specs.declared.record.Change.TheVariants.{Put}
+use Rattle.draft_core.specs.DraftRows.{changed_key, left_by, row_at}
+use Rattle.office_tables_shelf.specs.Cells.{Cell, Rows, number, cells_cmp}
+use Rattle.office_tables_shelf.specs.Content.{Content}
+use Rattle.office_tables_shelf.specs.Rows.{timing_key, timing_columns, left_columns, draft_columns}
+use Rattle.office_tables_shelf.specs.Shelf.{is_of, rows_of, ListsTiming, ListsDraft}
+use Rattle.office_tables_shelf.proofs.CellLemmas.{cells_exact, cell_total, is_under, first_under, find_entry, tied}
+use Rattle.office_tables_shelf.proofs.ListLemmas.{parts, less}
+use Rattle.office_tables_shelf.proofs.TreeLemmas.{timing_order, timing_ties}
+
+-- ---- the rows of a list
+
+-- the first of a list under a key
+abbrev pub first_at : {X : Type 0} → (X → Key) → List X → Key → Option X
+first_at key xs q = find (λ x. eq_by_cmp key_cmp q (key x)) xs
+
+-- the row of a list under a key
+abbrev pub row_in : List Row → Key → Option Row
+row_in = first_at key_of
+
+of_itself : (id : ℕ) (key : Key) → is_of id (timing_key id key) ≡ true
+of_itself id key = ap is_eq (tied_itself cell_total (number (pos id)))
+
+module _ {X : Type 0} (key : X → Key) (columns : X → List Cell) (id : ℕ) where
+  abbrev cells_at : X → List Cell
+  cells_at x = timing_key id (key x)
+
+  abbrev pub placed : X → List Cell × List Cell
+  placed x = (timing_key id (key x), columns x)
+
+  first_same : (xs : List X) (q : Key) → first_under cells_at columns xs (timing_key id q) ≡ option_map columns (first_at key xs q)
+  first_same [] q = refl
+  first_same (x ∷ xs) q =
+      here (is_under cells_at columns (timing_key id q) x) x (find (is_under cells_at columns (timing_key id q)) xs)
+      ∙ (λ i. cond (timing_ties id q (key x) i) (Some (columns x)) (first_same xs q i))
+      ∙ sym (here (eq_by_cmp key_cmp q (key x)) x (first_at key xs q))
+    where
+      here : (b : Bool) (y : X) (o : Option X) → option_map columns (cond b (Some y) o) ≡ cond b (Some (columns y)) (option_map columns o)
+      here true y o = refl
+      here false y o = refl
+
+  -- what a table has at a key is what the list of its rows has
+  pub get_listed : (rows : Rows) (xs : List X) → map placed xs ≡ rows_of id rows → (q : Key) → get rows (timing_key id q) ≡ option_map columns (first_at key xs q)
+  get_listed rows xs lists q =
+      let at = timing_key id q in
+      let alike : (k : List Cell) → cells_cmp at k ≡ Equal → is_of id k ≡ is_of id at = λ k tie. ap (is_of id) (sym (cells_exact at k tie)) in
+      get-entries rows at
+      ∙ sym (find-where_key cells_cmp (is_of id) at alike (entries rows) ∙ ap (λ b. cond b (finite.find cells_cmp at (entries rows)) None) (of_itself id q))
+      ∙ sym (ap (finite.find cells_cmp at) lists)
+      ∙ find_entry cells_at columns xs at
+      ∙ first_same xs q
+
+  rising_from : (x : X) (xs : List X) → T (below_all cells_cmp (timing_key id (key x)) (map placed xs)) → AllByRecursion (λ k. key_cmp (key x) k ≡ Less) (map key xs)
+  rising_from x [] h = tt
+  rising_from x (y ∷ xs) h = let hs = parts _ _ h in (sym (timing_order id (key x) (key y)) ∙ less _ hs.0, rising_from x xs hs.1)
+
+  rising_all : (xs : List X) → T (is_sorted cells_cmp (map placed xs)) → IsStrictlySortedBy key_cmp (map key xs)
+  unfolding IsStrictlySortedBy
+  rising_all [] h = tt
+  rising_all (x ∷ xs) h = let hs = parts _ _ h in (rising_from x xs hs.0, rising_all xs hs.1)
+
+  -- the keys of a list of a table's rows strictly rise
+  pub listed_rise : (rows : Rows) (xs : List X) → map placed xs ≡ rows_of id rows → IsStrictlySortedBy key_cmp (map key xs)
+  listed_rise rows xs lists = rising_all xs (subst (λ es. T (is_sorted cells_cmp es)) (sym lists) (is_sorted-where_key cells_cmp (is_of id) (entries rows) (entries_sorted rows)))
+
+  -- no other of a list with rising keys has the key
+  none_above : (x : X) (xs : List X) (q : Key) → AllByRecursion (λ k. key_cmp (key x) k ≡ Less) (map key xs) → key_cmp q (key x) ≡ Equal → first_at key xs q ≡ None
+  none_above x [] q above tie = refl
+  none_above x (y ∷ xs) q above tie =
+      let apart : eq_by_cmp key_cmp q (key y) ≡ false = ap is_eq (ap (λ k. key_cmp k (key y)) (key_exact q (key x) tie) ∙ above.0) in
+      rw apart (none_above x xs q above.1 tie)
+
+-- ---- the committed set
+
+-- changes that put the rows
+abbrev pub puts : List Row → List Change
+puts rows = map Put rows
+
+at_put : (set_before : set.Rows) (row : Row) (rows : List Row) (key : Key) → AllByRecursion (λ k. key_cmp (key_of row) k ≡ Less) (map key_of rows)
+    → option_or (row_in rows key) (cond (eq_by_cmp key_cmp key (key_of row)) (Some row) (get set_before key)) ≡ option_or (row_in (row ∷ rows) key) (get set_before key)
+at_put before row rows key above = go (cases_Bool (eq_by_cmp key_cmp key (key_of row)))
+  where
+    go : (eq_by_cmp key_cmp key (key_of row) ≡ true) ⊎ (eq_by_cmp key_cmp key (key_of row) ≡ false)
+        → option_or (row_in rows key) (cond (eq_by_cmp key_cmp key (key_of row)) (Some row) (get before key)) ≡ option_or (row_in (row ∷ rows) key) (get before key)
+    go (inl hit) = rw (hit, none_above key_of timing_columns 0 row rows key above (tied _ hit))
+    go (inr miss) = rw miss
+
+after_puts : (before : set.Rows) (rows : List Row) (key : Key) → IsStrictlySortedBy key_cmp (map key_of rows) → get (set.after_changes before (puts rows)) key ≡ option_or (row_in rows key) (get before key)
+unfolding IsStrictlySortedBy
+after_puts before [] key rise = refl
+after_puts before (row ∷ rows) key rise =
+    after_puts (set.after_change before (Put row)) rows key rise.1
+    ∙ ap (option_or (row_in rows key)) (get-insert key_total before (key_of row) row key)
+    ∙ at_put before row rows key rise.0
+
+or_none : {A : Type 0} (o : Option A) → option_or o None ≡ o
+or_none None = refl
+or_none (Some x) = refl
+
+-- the set made of rows with rising keys has at a key the row of that key
+pub get_set_of_rows : (rows : List Row) → IsStrictlySortedBy key_cmp (map key_of rows) → (key : Key) → get (set.after_changes empty (puts rows)) key ≡ row_in rows key
+get_set_of_rows rows rise key = after_puts empty rows key rise ∙ ap (option_or (row_in rows key)) (get-empty key_cmp key) ∙ or_none (row_in rows key)
+
+pub timing_keys_rise : (tables : Content) (id : ℕ) (rows : List Row) → ListsTiming tables id rows → IsStrictlySortedBy key_cmp (map key_of rows)
+timing_keys_rise tables id rows lists = listed_rise key_of timing_columns id tables.timing rows lists
+
+-- the table of committed rows has at a key what the list has
+pub get_listed_timing : (tables : Content) (id : ℕ) (rows : List Row) → ListsTiming tables id rows → (key : Key) → get tables.timing (timing_key id key) ≡ option_map timing_columns (row_in rows key)
+get_listed_timing tables id rows lists key = get_listed key_of timing_columns id tables.timing rows lists key
+
+-- and what the set made of the list has
+pub get_timing : (tables : Content) (id : ℕ) (rows : List Row) → ListsTiming tables id rows → (key : Key) → get tables.timing (timing_key id key) ≡ option_map timing_columns (get (set.after_changes empty (puts rows)) key)
+get_timing tables id rows lists key =
+    get_listed_timing tables id rows lists key
+    ∙ ap (option_map timing_columns) (sym (get_set_of_rows rows (timing_keys_rise tables id rows lists) key))
+
+-- ---- the draft
+
+pub draft_keys_rise : (tables : Content) (id : ℕ) (changes : List Change) → ListsDraft tables id changes → IsStrictlySortedBy key_cmp (map changed_key changes)
+draft_keys_rise tables id changes lists = listed_rise changed_key draft_columns id tables.draft changes lists
+
+-- where each key is named once, the last change that names it is the first
+pub row_at_first : (changes : List Change) → IsStrictlySortedBy key_cmp (map changed_key changes) → (key : Key) → row_at changes key ≡ option_map left_by (first_at changed_key changes key)
+unfolding IsStrictlySortedBy
+row_at_first [] rise key = refl
+row_at_first (change ∷ changes) rise key = go (cases_Bool (eq_by_cmp key_cmp key (changed_key change))) (row_at_first changes rise.1 key)
+  where
+    go : (eq_by_cmp key_cmp key (changed_key change) ≡ true) ⊎ (eq_by_cmp key_cmp key (changed_key change) ≡ false)
+        → row_at changes key ≡ option_map left_by (first_at changed_key changes key)
+        → row_at (change ∷ changes) key ≡ option_map left_by (first_at changed_key (change ∷ changes) key)
+    go (inl hit) later = rw (later, hit, none_above changed_key draft_columns 0 change changes key rise.0 (tied _ hit))
+    go (inr miss) later = rw (miss, later) (or_none (option_map left_by (first_at changed_key changes key)))
+
+twice : (o : Option Change) → option_map draft_columns o ≡ option_map left_columns (option_map left_by o)
+twice None = refl
+twice (Some change) = refl
+
+-- the table of draft rows has at a key what the changes of the list leave there
+pub get_listed_draft : (tables : Content) (id : ℕ) (changes : List Change) → ListsDraft tables id changes → (key : Key) → get tables.draft (timing_key id key) ≡ option_map left_columns (row_at changes key)
+get_listed_draft tables id changes lists key =
+    get_listed changed_key draft_columns id tables.draft changes lists key
+    ∙ twice (first_at changed_key changes key)
+    ∙ ap (option_map left_columns) (sym (row_at_first changes (draft_keys_rise tables id changes lists) key))
+
+-- ---- keys
+
+-- the cells of a key tell the intersection and the key
+pub timing_key_tells : (id other : ℕ) (key k : Key) → timing_key id key ≡ timing_key other k → (id ≡ other) × (key ≡ k)
+timing_key_tells id other key k same =
+    let of : id ≡ other = cc in
+    let kind : kind_of key ≡ kind_of k = cc in
+    let first : first_of key ≡ first_of k = cc in
+    let second : second_of key ≡ second_of k = cc in
+    (of, sym (key_at-place_of key) ∙ (λ i. key_at (kind i) (first i) (second i)) ∙ key_at-place_of k)

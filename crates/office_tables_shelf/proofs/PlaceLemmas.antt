@@ -1,0 +1,112 @@
+-- Trees of timing and draft rows: each row stays under its own key, and those of an intersection are listed in order.
+use Rattle.std.proofs.Common.{◌≡◌, ◌⊎◌, inl, inr, ℕ, ◌==◌, Bool, true, false, eqb, eqb-true, List, [], ◌∷◌, map, cond, if◌then◌else◌, Option, Some, None, Ordering, nat_cmp, refl, sym, ap, subst, ◌∙◌, arith}
+use Rattle.std.proofs.lemmas.Bool.{cases_Bool}
+use Rattle.std.proofs.lemmas.Bool.Decides.{nat_tests}
+use Rattle.std.specs.BTreeMap.{insert_entry}
+use Rattle.std.specs.FinMap.Entries.{where_key}
+use Rattle.std.specs.List.{AllByRecursion}
+use Rattle.std.specs.List.Sorted.{IsStrictlySortedBy}
+use Rattle.std.specs.Map.{keys_of, remove_entry}
+use Rattle.std.specs.Ordering.{is_eq, match_ordering, ordering_then}
+use Rattle.std.specs.Prelude.{IfSome}
+use Rattle.std.specs.declared.cmp.Ordering.TheVariants.{Less, Equal, Greater}
+use Rattle.signal_records.specs.KeyOrder.{key_exact}
+use Rattle.signal_records.specs.Row.{key_of}
+use Rattle.signal_records.specs.declared.key.Key.{Key}
+use Rattle.signal_records.specs.declared.record.Row.{Row}
+use Rattle.signal_records.specs.declared.record.Change.{Change}
+use Rattle.signal_records.specs.declared.record.Change.TheVariants.{Put, Remove}
+use Rattle.draft_core.specs.DraftRows.{changed_key, left_by}
+use Rattle.office_tables_shelf.specs.Cells.{Cell, cells_cmp, tree_rows}
+use Rattle.office_tables_shelf.specs.MapShelf.{place_key, change_at, timing_rows, draft_rows, AreRowsPlaced, AreLeftPlaced}
+use Rattle.office_tables_shelf.specs.Rows.{timing_key, timing_columns, left_columns, draft_key, draft_columns}
+use Rattle.office_tables_shelf.specs.Shelf.{is_of, rows_of}
+use Rattle.office_tables_shelf.specs.declared.place.Place.{Place}
+use Rattle.office_tables_shelf.proofs.ListLemmas.{tree_entries}
+use Rattle.office_tables_shelf.proofs.TreeLemmas.{place_cmp, place_order, number_order}
+
+then_both : (r s : Ordering) → ordering_then r s ≡ Equal → s ≡ Equal
+then_both Less s h = absurd cc
+then_both Equal s h = h
+then_both Greater s h = absurd cc
+
+-- ---- rows under their own keys
+
+module _ {X : Type 0} (Stands : Key → X → Type 0) where
+  abbrev pub AreStanding : List (Place × X) → Type 0
+  AreStanding = AllByRecursion (λ e. Stands e.0.key e.1)
+
+  pub standing_inserted : (es : List (Place × X)) (place : Place) (x : X) → Stands place.key x → AreStanding es → AreStanding (insert_entry place_cmp es place x)
+  standing_inserted [] place x here h = (here, tt)
+  standing_inserted (e ∷ es) place x here h =
+      elim (place_cmp place e.0) as (λ o. place_cmp place e.0 ≡ o → AreStanding (match_ordering o ((place, x) ∷ e ∷ es) ((e.0, x) ∷ es) (e ∷ insert_entry place_cmp es place x))) [
+        | Less ↦ λ is. (here, h)
+        | Equal ↦ λ is. (subst (λ k. Stands k x) (key_exact place.key e.0.key (then_both _ _ is)) here, h.1)
+        | Greater ↦ λ is. (h.0, standing_inserted es place x here h.1)
+      ] refl
+
+  pub standing_removed : (es : List (Place × X)) (test : Place → Bool) → AreStanding es → AreStanding (remove_entry test es)
+  standing_removed [] test h = tt
+  standing_removed (e ∷ es) test h =
+      elim (test e.0) as (λ b. AreStanding (cond b es (e ∷ remove_entry test es))) [
+        | true ↦ h.1
+        | false ↦ (h.0, standing_removed es test h.1)
+      ]
+
+-- what a change leaves stands under its key
+pub left_stands : (change : Change) (key : Key) (left : Option Row) → key ≡ changed_key change → left ≡ left_by change → IfSome left (λ row. key_of row ≡ key)
+left_stands (Put row) key left at is = rw is (sym at)
+left_stands (Remove k) key left at is = rw is tt
+
+-- ---- the rows of an intersection
+
+of_place : (id : ℕ) (place : Place) → is_of id (place_key place) ≡ (place.inter == id)
+of_place id place = ap is_eq (number_order id place.inter) ∙ same id place.inter
+  where
+    same : (m n : ℕ) → is_eq (nat_cmp m n) ≡ eqb n m
+    same m n = grind (arith, nat_tests)
+
+module _ {X Y : Type 0} (f : Place × X → Y) where
+  -- what f makes of the entries of an intersection, in their order
+  abbrev pub under : ℕ → List (Place × X) → List Y
+  under id [] = []
+  under id (e ∷ es) = if e.0.inter == id then f e ∷ under id es else under id es
+
+  module _ (Stands : Key → X → Type 0) (columns : X → List Cell) (shown : ℕ → Y → List Cell × List Cell) (shows : (e : Place × X) → Stands e.0.key e.1 → shown e.0.inter (f e) ≡ (place_key e.0, columns e.1)) where
+    abbrev cells_in : Place × X → List Cell × List Cell
+    cells_in e = (place_key e.0, columns e.1)
+
+    under_where : (id : ℕ) (es : List (Place × X)) → AllByRecursion (λ e. Stands e.0.key e.1) es → map (shown id) (under id es) ≡ where_key cells_cmp (is_of id) (map cells_in es)
+    under_where id [] h = refl
+    under_where id (e ∷ es) h = go (cases_Bool (e.0.inter == id)) (under_where id es h.1)
+      where
+        go : ((e.0.inter == id) ≡ true) ⊎ ((e.0.inter == id) ≡ false) → map (shown id) (under id es) ≡ where_key cells_cmp (is_of id) (map cells_in es) → map (shown id) (under id (e ∷ es)) ≡ where_key cells_cmp (is_of id) (map cells_in (e ∷ es))
+        go (inl hit) rest =
+            let here : shown id (f e) ≡ cells_in e = subst (λ n. shown n (f e) ≡ cells_in e) (eqb-true e.0.inter id hit) (shows e h.0) in
+            rw (of_place id e.0, hit) (λ i. here i ∷ rest i)
+        go (inr miss) rest = rw (of_place id e.0, miss) rest
+
+    pub under_listed : (id : ℕ) (es : List (Place × X)) → IsStrictlySortedBy place_cmp (keys_of es) → AllByRecursion (λ e. Stands e.0.key e.1) es → map (shown id) (under id es) ≡ rows_of id (tree_rows place_key columns es)
+    under_listed id es sorted h = under_where id es h ∙ ap (where_key cells_cmp (is_of id)) (sym (tree_entries place_cmp place_key columns place_order es sorted))
+
+-- the row of an entry
+abbrev pub row_of : Place × Row → Row
+row_of e = e.1
+
+pub timing_listed : (id : ℕ) (es : List (Place × Row)) → IsStrictlySortedBy place_cmp (keys_of es) → AreRowsPlaced es
+    → map (λ row. (timing_key id (key_of row), timing_columns row)) (under row_of id es) ≡ rows_of id (timing_rows es)
+timing_listed = under_listed row_of (λ key row. key_of row ≡ key) timing_columns (λ id row. (timing_key id (key_of row), timing_columns row))
+    (λ e here i. (timing_key e.0.inter (here i), timing_columns e.1))
+
+-- the change of an entry
+abbrev pub change_of : Place × Option Row → Change
+change_of e = change_at e.0.key e.1
+
+draft_shows : (place : Place) (left : Option Row) → IfSome left (λ row. key_of row ≡ place.key) → ◌≡◌ {A = List Cell × List Cell} (draft_key place.inter (change_at place.key left), draft_columns (change_at place.key left)) (place_key place, left_columns left)
+draft_shows place (Some row) here = λ i. (timing_key place.inter (here i), timing_columns row)
+draft_shows place None here = refl
+
+pub draft_listed : (id : ℕ) (es : List (Place × Option Row)) → IsStrictlySortedBy place_cmp (keys_of es) → AreLeftPlaced es
+    → map (λ change. (draft_key id change, draft_columns change)) (under change_of id es) ≡ rows_of id (draft_rows es)
+draft_listed = under_listed change_of (λ key left. IfSome left (λ row. key_of row ≡ key)) left_columns (λ id change. (draft_key id change, draft_columns change))
+    (λ e here. draft_shows e.0 e.1 here)

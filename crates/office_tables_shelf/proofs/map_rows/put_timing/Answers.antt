@@ -1,0 +1,19 @@
+use Rattle.signal_records.specs.Row.{key_of}
+use Rattle.office_tables_shelf.specs.MapShelf.{place_key}
+use Rattle.office_tables_shelf.specs.Rows.{timing_columns}
+use Rattle.office_tables_shelf.specs.declared.place.Place.{Place}
+use Rattle.std.proofs.Common.{◌≡◌, sym}
+use Rattle.office_tables_shelf.proofs.PlaceLemmas.{standing_inserted}
+use Rattle.office_tables_shelf.proofs.TreeLemmas.{place_cmp, place_ties, insert_tree}
+use Rattle.office_tables_shelf.proofs.map_rows.put_timing.Goals as goal
+
+pub returns-clause-rows : goal.returns-clause-rows
+returns-clause-rows c =
+    let place : Place = record { inter = c.args.inter; key = key_of c.args.row } in
+    let e = rw c.key-key.ensures at c.in_ok-insert.ensures.updates.0 in
+    insert_tree place_cmp place_key timing_columns place_ties c.args.rows.now.entries c.insert.new.self.entries place c.args.row e
+
+pub returns-clause-placed : goal.returns-clause-placed
+returns-clause-placed c = λ placed.
+    rw c.in_ok-insert.ensures.entries
+    (standing_inserted (λ key row. key_of row ≡ key) c.args.rows.now.entries (record { inter = c.args.inter; key = c.key-key.result }) c.args.row (sym c.key-key.ensures) placed)

@@ -1,0 +1,60 @@
+-- How often the rows of each table were written.
+use Rattle.std.specs.Prelude.{ℕ, ◌+◌, ◌-◌, ◌^◌, min, List, [], ◌∷◌, refl}
+use Rattle.std.specs.Coded.{Coded, code_by, coded×, coded_ℕ}
+use Rattle.office_tables_shelf.specs.Change.{table_of}
+use Rattle.office_tables_shelf.specs.declared.counts.WriteCounts.{WriteCounts}
+use Rattle.office_tables_shelf.specs.declared.rows.RowChange.{RowChange}
+use Rattle.office_tables_shelf.specs.declared.rows.Table.{Table}
+use Rattle.office_tables_shelf.specs.declared.rows.Table.TheVariants as table
+
+abbrev pub no_writes : WriteCounts
+no_writes = record { intersection = 0; timing = 0; draft = 0; inspection = 0; work_order = 0; part = 0; delivery = 0; used_part = 0 }
+
+abbrev pub count_of : WriteCounts → Table → ℕ
+count_of counts table.Intersection = counts.intersection
+count_of counts table.Timing = counts.timing
+count_of counts table.Draft = counts.draft
+count_of counts table.Inspection = counts.inspection
+count_of counts table.WorkOrder = counts.work_order
+count_of counts table.Part = counts.part
+count_of counts table.Delivery = counts.delivery
+count_of counts table.UsedPart = counts.used_part
+
+-- a count after one more; at its largest value it stays
+abbrev pub counted : ℕ → ℕ
+counted n = min (n + 1) (2 ^ 64 - 1)
+
+-- the counts after one more write of a table
+abbrev pub count_at : WriteCounts → Table → WriteCounts
+count_at counts table.Intersection = record counts { intersection = counted counts.intersection }
+count_at counts table.Timing = record counts { timing = counted counts.timing }
+count_at counts table.Draft = record counts { draft = counted counts.draft }
+count_at counts table.Inspection = record counts { inspection = counted counts.inspection }
+count_at counts table.WorkOrder = record counts { work_order = counted counts.work_order }
+count_at counts table.Part = record counts { part = counted counts.part }
+count_at counts table.Delivery = record counts { delivery = counted counts.delivery }
+count_at counts table.UsedPart = record counts { used_part = counted counts.used_part }
+
+-- the counts after changes
+abbrev pub counts_after : WriteCounts → List RowChange → WriteCounts
+counts_after counts [] = counts
+counts_after counts (change ∷ changes) = counts_after (count_at counts (table_of change)) changes
+
+-- ---- how the logic stores them
+
+abbrev pub Eight : Type 0
+Eight = ℕ × (ℕ × (ℕ × (ℕ × (ℕ × (ℕ × (ℕ × ℕ))))))
+
+abbrev pub counts_code : Coded WriteCounts
+counts_code = code_by Eight (coded× coded_ℕ (coded× coded_ℕ (coded× coded_ℕ (coded× coded_ℕ (coded× coded_ℕ (coded× coded_ℕ (coded× coded_ℕ coded_ℕ)))))))
+    (λ c. (c.intersection, (c.timing, (c.draft, (c.inspection, (c.work_order, (c.part, (c.delivery, c.used_part))))))))
+    (λ p. record {
+      intersection = p.0;
+      timing = p.1.0;
+      draft = p.1.1.0;
+      inspection = p.1.1.1.0;
+      work_order = p.1.1.1.1.0;
+      part = p.1.1.1.1.1.0;
+      delivery = p.1.1.1.1.1.1.0;
+      used_part = p.1.1.1.1.1.1.1;
+    }) (λ _. refl)

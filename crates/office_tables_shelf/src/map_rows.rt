@@ -1,0 +1,160 @@
+//! The tables in memory as trees of records: a row put, removed, found, and the rows listed.
+ghost use Rattle.std.specs.Prelude.{◌≡◌, OnOk, IfOk};
+ghost use Rattle.std.specs.FinMap as finite;
+ghost use Rattle.std.specs.Option.{option_map};
+ghost use Rattle.signal_records.specs.Row.{key_of};
+ghost use Rattle.draft_core.specs.DraftRows.{changed_key, left_by};
+ghost use Rattle.office_tables_shelf.specs.Rows.{intersection_key, intersection_columns, timing_key, timing_columns, draft_key, draft_columns};
+ghost use Rattle.office_tables_shelf.specs.Content.{no_content};
+ghost use Rattle.office_tables_shelf.specs.Shelf.{ListsIntersections, ListsTiming, ListsDraft};
+ghost use Rattle.office_tables_shelf.specs.MapShelf.{intersection_rows, timing_rows, draft_rows, change_at as left_at, AreRowsPlaced, AreLeftPlaced};
+
+use crate::place::Place;
+use crate::rows::IntersectionRow;
+use signal_records::{Change, InterId, Key, NoMemory, Row};
+use std::alloc::Global;
+use std::collections::BTreeMap;
+
+/// Puts the row of an intersection.
+pub fn put_intersection(
+    rows: &mut BTreeMap<InterId, IntersectionRow>,
+    id: InterId,
+    row: IntersectionRow,
+) -> Result<(), NoMemory>
+    ensures { OnOk result (intersection_rows rows.new.entries ≡ finite.insert (intersection_rows rows.old.entries) (intersection_key id) (intersection_columns row)) }
+{
+    rows.insert(id, row)?;
+    Ok(())
+}
+
+/// The row of an intersection, if there is one.
+pub fn intersection_at(
+    rows: &BTreeMap<InterId, IntersectionRow>,
+    id: InterId,
+) -> Result<Option<IntersectionRow>, NoMemory>
+    ensures { IfOk result (λ row. finite.get (intersection_rows rows.now.entries) (intersection_key id) ≡ option_map intersection_columns row) }
+{
+    match rows.get(&id) {
+        Some(row) => Ok(Some(row.clone()?)),
+        None => Ok(None),
+    }
+}
+
+/// The rows of all intersections, by their numbers.
+pub fn all_intersections(
+    alloc: Global,
+    rows: &BTreeMap<InterId, IntersectionRow>,
+) -> Result<Vec<(InterId, IntersectionRow)>, NoMemory>
+    ensures { IfOk result (λ list. ListsIntersections (record no_content { intersection = intersection_rows rows.now.entries }) list.items) }
+{
+    let mut list = Vec::new(alloc);
+    for (id, row) in rows {
+        list.push((*id, row.clone()?))?;
+    }
+    Ok(list)
+}
+
+/// Puts a committed row under its own key.
+pub fn put_timing(rows: &mut BTreeMap<Place, Row>, inter: InterId, row: Row) -> Result<(), NoMemory>
+    ensures rows { OnOk result (timing_rows rows.new.entries ≡ finite.insert (timing_rows rows.old.entries) (timing_key inter (key_of row)) (timing_columns row)) }
+    ensures placed { AreRowsPlaced rows.old.entries → AreRowsPlaced rows.new.entries }
+{
+    let key = row.key();
+    rows.insert(Place { inter, key }, row)?;
+    Ok(())
+}
+
+/// Removes the committed row under a key, if there is one.
+pub fn remove_timing(rows: &mut BTreeMap<Place, Row>, inter: InterId, key: Key)
+    ensures rows { timing_rows rows.new.entries ≡ finite.remove (timing_rows rows.old.entries) (timing_key inter key) }
+    ensures placed { AreRowsPlaced rows.old.entries → AreRowsPlaced rows.new.entries }
+{
+    rows.remove(&Place { inter, key });
+}
+
+/// The committed rows of an intersection, in the order of their keys.
+pub fn timing_of(
+    alloc: Global,
+    rows: &BTreeMap<Place, Row>,
+    inter: InterId,
+) -> Result<Vec<Row>, NoMemory>
+    ensures { IfOk result (λ list. AreRowsPlaced rows.now.entries → ListsTiming (record no_content { timing = timing_rows rows.now.entries }) inter list.items) }
+{
+    let mut list = Vec::new(alloc);
+    for (place, row) in rows {
+        if place.inter == inter {
+            list.push(row.clone()?)?;
+        }
+    }
+    Ok(list)
+}
+
+/// The key that a change names.
+fn key_of_change(change: &Change) -> Key
+    ensures { result ≡ changed_key change.now }
+{
+    match change {
+        Change::Put(row) => row.key(),
+        Change::Remove(key) => *key,
+    }
+}
+
+/// The row that a change leaves at its key.
+fn left_by_change(change: &Change) -> Result<Option<Row>, NoMemory>
+    ensures { IfOk result (λ left. left ≡ left_by change.now) }
+{
+    match change {
+        Change::Put(row) => Ok(Some(row.clone()?)),
+        Change::Remove(_) => Ok(None),
+    }
+}
+
+/// Puts a draft row that keeps the change: what it leaves at its key.
+pub fn put_draft(
+    rows: &mut BTreeMap<Place, Option<Row>>,
+    inter: InterId,
+    change: &Change,
+) -> Result<(), NoMemory>
+    ensures rows { OnOk result (draft_rows rows.new.entries ≡ finite.insert (draft_rows rows.old.entries) (draft_key inter change.now) (draft_columns change.now)) }
+    ensures placed { AreLeftPlaced rows.old.entries → AreLeftPlaced rows.new.entries }
+{
+    let key = key_of_change(change);
+    let left = left_by_change(change)?;
+    rows.insert(Place { inter, key }, left)?;
+    Ok(())
+}
+
+/// Removes the draft row under a key, if there is one.
+pub fn remove_draft(rows: &mut BTreeMap<Place, Option<Row>>, inter: InterId, key: Key)
+    ensures rows { draft_rows rows.new.entries ≡ finite.remove (draft_rows rows.old.entries) (timing_key inter key) }
+    ensures placed { AreLeftPlaced rows.old.entries → AreLeftPlaced rows.new.entries }
+{
+    rows.remove(&Place { inter, key });
+}
+
+/// The change that leaves this at a key.
+fn change_at(key: Key, left: &Option<Row>) -> Result<Change, NoMemory>
+    ensures { IfOk result (λ change. change ≡ left_at key left.now) }
+{
+    match left {
+        Some(row) => Ok(Change::Put(row.clone()?)),
+        None => Ok(Change::Remove(key)),
+    }
+}
+
+/// The draft rows of an intersection, in the order of their keys.
+pub fn draft_of(
+    alloc: Global,
+    rows: &BTreeMap<Place, Option<Row>>,
+    inter: InterId,
+) -> Result<Vec<Change>, NoMemory>
+    ensures { IfOk result (λ list. AreLeftPlaced rows.now.entries → ListsDraft (record no_content { draft = draft_rows rows.now.entries }) inter list.items) }
+{
+    let mut list = Vec::new(alloc);
+    for (place, left) in rows {
+        if place.inter == inter {
+            list.push(change_at(place.key, left)?)?;
+        }
+    }
+    Ok(list)
+}

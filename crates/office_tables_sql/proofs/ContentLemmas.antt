@@ -1,0 +1,150 @@
+-- What a new row does to the map of a table's rows.
+use Rattle.std.proofs.Common.{◌≡◌, ◌⊎◌, inl, inr, ℤ, List, [], ◌∷◌, filter, find, Bool, true, false, not, None, Some, cond, option_map, refl, sym, ap, subst, ◌∙◌, true≢false}
+use Rattle.std.proofs.lemmas.Bool.{cases_Bool, false_from_ne_true, not-true, not-false, or_parts}
+use Rattle.std.proofs.lemmas.Cmp.{tied_back}
+use Rattle.std.specs.declared.cmp.Ordering.{Ordering}
+use Rattle.std.specs.declared.cmp.Ordering.TheVariants.{Less, Equal, Greater}
+use Rattle.std.specs.Ordering.{is_eq, match_ordering, ordering_reverse}
+use Rattle.sqlite.specs.declared.types.Value.TheVariants.{Int}
+use Rattle.sqlite.specs.Order.{Row, value_cmp}
+use Rattle.sqlite.specs.Tree.{rowid, has_rowid, put_row, without_rowid, IsTable}
+use Rattle.sqlite.specs.View.{IsShaped}
+use Rattle.sqlite.specs.Edit.{is_taken, without_all, id_in}
+use Rattle.sqlite.specs.Table.{Table}
+use Rattle.sqlite_trees.specs.declared.store.Shape.TheVariants as shape
+use Rattle.sqlite_schema.specs.declared.schema.Index.{Index}
+use Rattle.sqlite_schema.specs.Rules.{agree}
+use Rattle.sqlite_value.specs.Keys.{plain}
+use Rattle.sqlite_value.proofs.OrderLemmas.{value_cmp_total}
+use Rattle.sqlite_rules.specs.Calls.{ids_of}
+use Rattle.sqlite_rules.specs.Keys.{AreConflicts, conflicts}
+use Rattle.sqlite_rules.specs.Lists.{Has}
+use Rattle.sqlite_rules.proofs.ListLemmas.{all_has, has_filtered}
+use Rattle.sqlite_rules.proofs.TableLemmas.{int_is, without_all_has}
+use Rattle.std.specs.Cmp.{alike_right}
+use Rattle.std.specs.FinMap.{insert, same_map, get-insert}
+use Rattle.office_tables_shelf.specs.Cells.{Cell, cells_cmp}
+use Rattle.office_tables_shelf.proofs.CellLemmas.{cells_total, cells_exact, tied}
+use Rattle.office_tables_sql.specs.Stored.{cells_at, rows_in, are_sound}
+use Rattle.office_tables_sql.proofs.StoredLemmas.{agree_ties, has_cells, get_rows, HaveKeys}
+use Rattle.office_tables_sql.specs.Layout.{Layout}
+
+module _ (p : Row → Bool) where
+  find_filter : (q : Row → Bool) (rows : List Row) → ((r : Row) → Has rows r → q r ≡ false → p r ≡ false) → find p (filter q rows) ≡ find p rows
+  find_filter q [] out = refl
+  find_filter q (r ∷ rows) out = go (cases_Bool (q r)) (find_filter q rows (λ x there. out x (inr there)))
+    where
+      go : (q r ≡ true) ⊎ (q r ≡ false) → find p (filter q rows) ≡ find p rows → find p (filter q (r ∷ rows)) ≡ find p (r ∷ rows)
+      go (inl kept) later = elim (cases_Bool (p r)) [ inl hit ↦ rw (kept, hit) | inr miss ↦ rw (kept, miss, later) ]
+      go (inr gone) later = rw (gone, out r (inl refl) gone, later)
+
+  pub find_without : (ids : List ℤ) (rows : List Row) → ((r : Row) (id : ℤ) → Has rows r → Has ids id → has_rowid id r ≡ true → p r ≡ false) → find p (without_all rows ids) ≡ find p rows
+  find_without [] rows out = refl
+  find_without (id ∷ ids) rows out =
+      find_without ids (without_rowid id rows) (λ r i there h. out r i (has_filtered _ rows r there).0 (inr h))
+      ∙ find_filter (λ r. not (has_rowid id r)) rows (λ r there gone. out r id there (inl refl) (not-false _ gone))
+
+  find_put_other : (new : Row) (rows : List Row) → is_taken rows new ≡ false → p new ≡ false → find p (put_row new rows) ≡ find p rows
+  find_put_other new [] free miss = rw miss
+  find_put_other new (r ∷ rows) free miss = go (value_cmp (rowid r) (rowid new)) (or_parts _ _ free).0 (find_put_other new rows (or_parts _ _ free).1 miss)
+    where
+      go : (o : Ordering) → is_eq o ≡ false → find p (put_row new rows) ≡ find p rows → find p (match_ordering o (r ∷ put_row new rows) (new ∷ rows) (new ∷ r ∷ rows)) ≡ find p (r ∷ rows)
+      go Less other later = elim (cases_Bool (p r)) [ inl hit ↦ rw hit | inr none ↦ rw (none, later) ]
+      go Equal other later = absurd (true≢false other)
+      go Greater other later = rw miss
+
+  find_put : (new : Row) (rows : List Row) → p new ≡ true → ((r : Row) → Has rows r → p r ≡ false) → find p (put_row new rows) ≡ Some new
+  find_put new [] hit none = rw hit
+  find_put new (r ∷ rows) hit none = go (value_cmp (rowid r) (rowid new)) (find_put new rows hit (λ x there. none x (inr there)))
+    where
+      go : (o : Ordering) → find p (put_row new rows) ≡ Some new → find p (match_ordering o (r ∷ put_row new rows) (new ∷ rows) (new ∷ r ∷ rows)) ≡ Some new
+      go Less later = rw (none r (inl refl), later)
+      go Equal later = rw hit
+      go Greater later = rw hit
+
+pub left_without : (ids : List ℤ) (rows : List Row) (r : Row) (id : ℤ) → Has (without_all rows ids) r → Has ids id → has_rowid id r ≡ false
+left_without [] rows r id there h = absurd h
+left_without (i ∷ ids) rows r id there (inl is) = subst (λ n. has_rowid n r ≡ false) (sym is) (not-true _ (has_filtered _ rows r (without_all_has ids (without_rowid i rows) r there)).1)
+left_without (i ∷ ids) rows r id there (inr h) = left_without ids (without_rowid i rows) r id there h
+
+pub has_id : (found : List Row) (id : ℤ) → Has (ids_of found) id → (x : Row) × Has found x × (id ≡ id_in (rowid x))
+has_id [] id h = absurd h
+has_id (x ∷ found) id (inl is) = (x, inl refl, is)
+has_id (x ∷ found) id (inr h) = let later = has_id found id h in (later.0, inr later.1, later.2)
+
+pub id_has : (found : List Row) (x : Row) → Has found x → Has (ids_of found) (id_in (rowid x))
+id_has [] x h = absurd h
+id_has (y ∷ found) x (inl is) = inl (ap (λ r. id_in (rowid r)) is)
+id_has (y ∷ found) x (inr h) = inr (id_has found x h)
+
+pub level : (o : Ordering) → o ≡ ordering_reverse o → o ≡ Equal
+level Less h = absurd cc
+level Equal h = refl
+level Greater h = absurd cc
+
+-- cells tie with themselves
+pub tie_self : (key : List Cell) → is_eq (cells_cmp key key) ≡ true
+tie_self key = ap is_eq (level (cells_cmp key key) (cells_total.antisymm key key))
+
+-- no rowid comes twice
+pub one_rowid : (rows : List Row) (a b : Row) → IsTable rows → Has rows a → Has rows b → value_cmp (rowid a) (rowid b) ≡ Equal → a ≡ b
+one_rowid [] a b up h k same = absurd h
+one_rowid (r ∷ rows) a b up (inl x) (inl y) same = x ∙ sym y
+one_rowid (r ∷ rows) a b up (inl x) (inr k) same = absurd (let less = subst (λ v. value_cmp (rowid v) (rowid b) ≡ Less) (sym x) (all_has _ rows b up.0 k) in cc)
+one_rowid (r ∷ rows) a b up (inr h) (inl y) same =
+    absurd (let less = subst (λ v. value_cmp (rowid v) (rowid a) ≡ Less) (sym y) (all_has _ rows a up.0 h) in let back = tied_back value_cmp_total (rowid a) (rowid b) same in cc)
+one_rowid (r ∷ rows) a b up (inr h) (inr k) same = one_rowid rows a b up.1 h k same
+
+-- the rows that a new row meets are those with its key
+pub record MeetsKey (t : Layout) (indexes : List Index) (table : Table) (rows : List Row) (new stored : Row) : Type 0 where
+  pub meets : (r : Row) → Has rows r → conflicts None indexes table new r ≡ agree plain t.keys r t.keys stored
+
+module _ (t : Layout) (indexes : List Index) (table : Table) (rows : List Row) (new stored : Row) (found : List Row) (hits : AreConflicts None indexes table rows new found)
+    (shaped : IsShaped shape.Table rows) (same : MeetsKey t indexes table rows new stored) where
+  -- a row that goes has the key, and one that stays has not
+  gone : (r : Row) (id : ℤ) → Has rows r → Has (ids_of found) id → has_rowid id r ≡ true → agree plain t.keys r t.keys stored ≡ true
+  gone r id there among at_id =
+      let x = has_id found id among in
+      let hit = hits.sound x.0 x.1 in
+      let other = hit.0 in
+      let is : id ≡ id_in (rowid other) = x.2 ∙ ap (λ v. id_in (rowid v)) hit.3 in
+      let int = int_is (rowid other) (all_has _ rows other shaped.1 hit.1) in
+      let equal : value_cmp (rowid r) (rowid other) ≡ Equal = subst (λ v. value_cmp (rowid r) v ≡ Equal) (ap Int is ∙ sym int) (tied _ at_id) in
+      let one = one_rowid rows r other shaped.0 there hit.1 equal in
+      sym (same.meets r there) ∙ ap (conflicts None indexes table new) one ∙ hit.2
+
+  stays : (r : Row) → Has (without_all rows (ids_of found)) r → agree plain t.keys r t.keys stored ≡ false
+  stays r left = false_from_ne_true _ (λ agrees.
+      let there = without_all_has (ids_of found) rows r left in
+      let met = hits.complete r there (same.meets r there ∙ agrees) in
+      let int = int_is (rowid r) (all_has _ rows r shaped.1 there) in
+      let out = left_without (ids_of found) rows r (id_in (rowid r)) left (id_has found (rowid r ∷ []) met) in
+      let tie : value_cmp (rowid r) (Int (id_in (rowid r))) ≡ Equal = subst (λ v. value_cmp (rowid r) v ≡ Equal) int (level (value_cmp (rowid r) (rowid r)) (value_cmp_total.antisymm (rowid r) (rowid r))) in
+      true≢false (sym (ap is_eq tie) ∙ out))
+
+  -- the map of the rows has the new one put at its key
+  pub put_rows : HaveKeys t rows → are_sound t.keys stored ≡ true → is_taken (without_all rows (ids_of found)) stored ≡ false
+      → rows_in t (put_row stored (without_all rows (ids_of found))) ≡ insert (rows_in t rows) (cells_at t.keys stored) (cells_at t.columns stored)
+  put_rows sound given fresh = same_map cells_total cells_exact _ _ (λ key.
+      get_rows t (put_row stored rest) key ∙ go key (cases_Bool (has_cells t key stored))
+      ∙ sym (get-insert cells_total (rows_in t rows) (cells_at t.keys stored) (cells_at t.columns stored) key ∙ ap (cond (has_cells t key stored) (Some (cells_at t.columns stored))) (get_rows t rows key)))
+    where
+      rest : List Row
+      rest = without_all rows (ids_of found)
+
+      -- rows with the new one's cells have its key in SQL too, and the other way round
+      ties : (r : Row) → Has rows r → agree plain t.keys r t.keys stored ≡ is_eq (cells_cmp (cells_at t.keys r) (cells_at t.keys stored))
+      ties r there = agree_ties t.keys t.keys r stored (sound r there) given
+
+      go : (key : List Cell) → (has_cells t key stored ≡ true) ⊎ (has_cells t key stored ≡ false)
+          → option_map (cells_at t.columns) (find (has_cells t key) (put_row stored rest)) ≡ cond (has_cells t key stored) (Some (cells_at t.columns stored)) (option_map (cells_at t.columns) (find (has_cells t key) rows))
+      go key (inl hit) =
+          let none = λ (r : Row) (left : Has rest r). false_from_ne_true (has_cells t key r) (λ has.
+          let tie = cells_total.congr key (cells_at t.keys r) (cells_at t.keys stored) (tied _ has) in
+          true≢false (sym (ties r (without_all_has (ids_of found) rows r left) ∙ ap is_eq (sym tie) ∙ hit) ∙ stays r left)) in
+          rw (hit, find_put (has_cells t key) stored rest hit none)
+      go key (inr miss) =
+          let out = λ (r : Row) (id : ℤ) (there : Has rows r) (among : Has (ids_of found) id) (at_id : has_rowid id r ≡ true). (
+          let tie = tied _ (sym (ties r there) ∙ gone r id there among at_id) in
+          ap is_eq (alike_right cells_total (cells_at t.keys r) (cells_at t.keys stored) key tie) ∙ miss) in
+          rw (miss, find_put_other (has_cells t key) stored rest fresh miss, find_without (has_cells t key) (ids_of found) rows out)

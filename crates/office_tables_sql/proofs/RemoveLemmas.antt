@@ -1,0 +1,148 @@
+-- What DELETE by key makes of a table.
+use Rattle.std.proofs.Common.{◌≡◌, ◌≢◌, ◌⊎◌, inl, inr, ℕ, ℤ, List, [], ◌∷◌, map, filter, find, slice_get, Bool, true, false, None, Some, cond, option_map, Ok, refl, sym, ap, subst, ◌∙◌, true≢false}
+use Rattle.std.proofs.lemmas.Bool.{cases_Bool, false_from_ne_true}
+use Rattle.std.proofs.lemmas.List.Sorted.{IsPermutation-sym}
+use Rattle.std.specs.List.Sorted.{IsPermutation}
+use Rattle.std.specs.List.{AllByRecursion}
+use Rattle.std.specs.declared.cmp.Ordering.TheVariants.{Equal}
+use Rattle.std.specs.Ordering.{is_eq}
+use Rattle.sqlite.specs.declared.types.Value.TheVariants.{Null, Int}
+use Rattle.sqlite.specs.Command.TheVariants.{Delete}
+use Rattle.sqlite.specs.Does.{Tally, Does, AtPlace, OnRows}
+use Rattle.sqlite.specs.Effect.{Database}
+use Rattle.sqlite.specs.Edit.{edit_of, without_all, id_in, taken_by}
+use Rattle.sqlite.specs.Order.{Row, value_cmp}
+use Rattle.sqlite.specs.Program.{overlay}
+use Rattle.sqlite.specs.Rowids.TheVariants.{Given}
+use Rattle.sqlite.specs.Rows.{Written}
+use Rattle.sqlite.specs.State.{State, Runs, mode_of}
+use Rattle.sqlite.specs.Listing.{understood}
+use Rattle.sqlite.specs.Table.{Table}
+use Rattle.sqlite.specs.Tree.{Trees, rowid, has_rowid}
+use Rattle.sqlite.specs.View.{IsShaped}
+use Rattle.sqlite.proofs.Callers.{one_step}
+use Rattle.sqlite_schema.specs.declared.schema.Keys.TheVariants.{Enforced}
+use Rattle.sqlite_schema.specs.declared.program.Program.{Program}
+use Rattle.sqlite_trees.specs.declared.store.Shape.TheVariants as shape
+use Rattle.sqlite_trees.proofs.ListLemmas.{all-permutation}
+use Rattle.sqlite_value.proofs.OrderLemmas.{value_cmp_total}
+use Rattle.sqlite_rules.specs.Calls.{ids_of}
+use Rattle.sqlite_rules.specs.Lists.{Has}
+use Rattle.sqlite_rules.proofs.ListLemmas.{all_has, all_from, has_filtered, has_kept}
+use Rattle.sqlite_rules.proofs.TableLemmas.{int_is, without_all_has}
+use Rattle.office_tables_sql.specs.Schema.{office_schema}
+use Rattle.office_tables_sql.specs.Layout.{Layout, values_at, has_key}
+use Rattle.std.specs.Cmp.{alike_right}
+use Rattle.std.specs.FinMap.{remove, same_map, get-remove}
+use Rattle.office_tables_shelf.specs.Cells.{Cell, cells_cmp}
+use Rattle.office_tables_shelf.proofs.CellLemmas.{cells_total, cells_exact, tied}
+use Rattle.office_tables_sql.specs.Stored.{cells_at, rows_in, are_sound}
+use Rattle.office_tables_sql.proofs.StoredLemmas.{agree_ties, has_cells, get_rows, HaveKeys}
+use Rattle.office_tables_sql.specs.Calls.{IsReady, Ran, statement_of}
+use Rattle.office_tables_sql.proofs.QueryLemmas.{find_query, ArePaired, answers}
+use Rattle.office_tables_sql.proofs.SchemaLemmas.{IsWrite}
+use Rattle.office_tables_sql.proofs.WriteLemmas.{IsIdle, went_on, same_value}
+use Rattle.office_tables_sql.proofs.ContentLemmas.{find_without, left_without, has_id, id_has, one_rowid, level}
+use Rattle.office_tables_sql.proofs.PutLemmas.{still_ordered, shaped_without}
+
+pub permuted : {X : Type 0} (xs ys : List X) → IsPermutation xs ys → (y : X) → Has ys y → Has xs y
+permuted xs ys same y there = all_has (Has xs) ys y (all-permutation (Has xs) xs ys same (all_from (Has xs) xs (λ x h. h))) there
+
+has_map : {X Y : Type 0} (f : X → Y) (xs : List X) (y : Y) → Has (map f xs) y → (x : X) × Has xs x × (y ≡ f x)
+has_map f [] y h = absurd h
+has_map f (x ∷ xs) y (inl is) = (x, inl refl, is)
+has_map f (x ∷ xs) y (inr h) = let later = has_map f xs y h in (later.0, inr later.1, later.2)
+
+map_has : {X Y : Type 0} (f : X → Y) (xs : List X) (x : X) → Has xs x → Has (map f xs) (f x)
+map_has f [] x h = absurd h
+map_has f (z ∷ xs) x (inl is) = inl (ap f is)
+map_has f (z ∷ xs) x (inr h) = inr (map_has f xs x h)
+
+-- the rows with the key are taken out by their rowids
+module _ (t : Layout) (rows : List Row) (key : Row) (found : List Row) (hits : IsPermutation (map (values_at (0 ∷ [])) (filter (has_key t key) rows)) found) (shaped : IsShaped shape.Table rows) where
+  gone : (r : Row) (id : ℤ) → Has rows r → Has (ids_of found) id → has_rowid id r ≡ true → has_key t key r ≡ true
+  gone r id there among at_id =
+      let x = has_id found id among in
+      let hit = has_map (values_at (0 ∷ [])) (filter (has_key t key) rows) x.0 (permuted _ found hits x.0 x.1) in
+      let other = hit.0 in
+      let was = has_filtered (has_key t key) rows other hit.1 in
+      let is : id ≡ id_in (rowid other) = x.2 ∙ ap (λ v. id_in (rowid v)) hit.2 in
+      let int = int_is (rowid other) (all_has _ rows other shaped.1 was.0) in
+      let equal : value_cmp (rowid r) (rowid other) ≡ Equal = subst (λ v. value_cmp (rowid r) v ≡ Equal) (ap Int is ∙ sym int) (tied _ at_id) in
+      ap (has_key t key) (one_rowid rows r other shaped.0 there was.0 equal) ∙ was.1
+
+  stays : (r : Row) → Has (without_all rows (ids_of found)) r → has_key t key r ≡ false
+  stays r left = false_from_ne_true _ (λ has.
+      let there = without_all_has (ids_of found) rows r left in
+      let met = permuted found _ (IsPermutation-sym _ found hits) (rowid r ∷ []) (map_has (values_at (0 ∷ [])) (filter (has_key t key) rows) r (has_kept (has_key t key) rows r there has)) in
+      let int = int_is (rowid r) (all_has _ rows r shaped.1 there) in
+      let out = left_without (ids_of found) rows r (id_in (rowid r)) left (id_has found (rowid r ∷ []) met) in
+      let tie : value_cmp (rowid r) (Int (id_in (rowid r))) ≡ Equal = subst (λ v. value_cmp (rowid r) v ≡ Equal) int (level (value_cmp (rowid r) (rowid r)) (value_cmp_total.antisymm (rowid r) (rowid r))) in
+      true≢false (sym (ap is_eq tie) ∙ out))
+
+  find_none : (p : Row → Bool) (all : List Row) → ((r : Row) → Has all r → p r ≡ false) → find p all ≡ None
+  find_none p [] none = refl
+  find_none p (r ∷ all) none = rw (none r (inl refl), find_none p all (λ x h. none x (inr h)))
+
+  -- the map of the rows has that key removed
+  pub removed_rows : HaveKeys t rows → are_sound t.places key ≡ true → rows_in t (without_all rows (ids_of found)) ≡ remove (rows_in t rows) (cells_at t.places key)
+  removed_rows sound given = same_map cells_total cells_exact _ _ (λ other.
+      get_rows t rest other ∙ go other (cases_Bool (is_eq (cells_cmp other (cells_at t.places key))))
+      ∙ sym (get-remove cells_total (rows_in t rows) (cells_at t.places key) other ∙ ap (cond (is_eq (cells_cmp other (cells_at t.places key))) None) (get_rows t rows other)))
+    where
+      rest : List Row
+      rest = without_all rows (ids_of found)
+
+      ties : (r : Row) → Has rows r → has_key t key r ≡ is_eq (cells_cmp (cells_at t.keys r) (cells_at t.places key))
+      ties r there = agree_ties t.keys t.places r key (sound r there) given
+
+      go : (other : List Cell) → (is_eq (cells_cmp other (cells_at t.places key)) ≡ true) ⊎ (is_eq (cells_cmp other (cells_at t.places key)) ≡ false)
+          → option_map (cells_at t.columns) (find (has_cells t other) rest) ≡ cond (is_eq (cells_cmp other (cells_at t.places key))) None (option_map (cells_at t.columns) (find (has_cells t other) rows))
+      go other (inl hit) =
+          let none = λ (r : Row) (left : Has rest r). false_from_ne_true (has_cells t other r) (λ has.
+          let tie = cells_total.congr other (cells_at t.keys r) (cells_at t.places key) (tied _ has) in
+          true≢false (sym (ties r (without_all_has (ids_of found) rows r left) ∙ ap is_eq (sym tie) ∙ hit) ∙ stays r left)) in
+          rw (hit, find_none (has_cells t other) rest none)
+      go other (inr miss) =
+          let out = λ (r : Row) (id : ℤ) (there : Has rows r) (among : Has (ids_of found) id) (at_id : has_rowid id r ≡ true). (
+          let tie = tied _ (sym (ties r there) ∙ gone r id there among at_id) in
+          ap is_eq (alike_right cells_total (cells_at t.keys r) (cells_at t.places key) other tie) ∙ miss) in
+          rw (miss, find_without (has_cells t other) (ids_of found) rows out)
+
+-- the table is written and no other is
+pub record RemovesIn (t : Layout) (tree : ℕ) (key : Row) (old new : Trees) : Type 0 where
+  pub at : rows_in t (new tree) ≡ remove (rows_in t (old tree)) (cells_at t.places key)
+  pub others : AllByRecursion (λ x. x.tree ≢ tree → new x.tree ≡ old x.tree) office_schema.tables
+
+module _ (t : Layout) (paired : ArePaired t.keys t.places) (table : Table) (at : ℕ) (place : slice_get office_schema.tables at ≡ Some table) (low : (trees : Trees) → overlay trees [] t.tree ≡ trees table.tree)
+    (idle : IsIdle office_schema table) (sql : List ℕ) (is : IsWrite sql (Delete at (record { lets = []; body = find_query t (0 ∷ []) }))) (key : Row) (whole : are_sound t.places key ≡ true) where
+  pub remove_keyed : (old new : State) (count : ℕ) → IsShaped shape.Table (old.now.trees table.tree) → HaveKeys t (old.now.trees table.tree) → IsReady old → Ran sql key old new count → IsReady new × RemovesIn t table.tree key old.now.trees new.now.trees
+  remove_keyed old new count was keys ready did =
+      let text = statement_of sql (understood office_schema sql) in
+      let q : Program = record { lets = []; body = find_query t (0 ∷ []) } in
+      let db = old.now.trees in
+      let writes = subst (λ c. Runs old new None c text key count) is.is (did.runs ready.schema) in
+      let does = subst (λ s. Does old.step_limit (mode_of old) key (record old.now { schema = s }) text None (Delete at q) (Ok (writes.tally, new.now))) ready.schema writes.changed in
+      let run = λ (x : Table). OnRows (record { limit = old.step_limit; keys = Enforced; schema = office_schema; table = x; params = key }) (mode_of old) None (Delete at q) db in
+      let went = went_on (subst (λ o. AtPlace run o (Ok (writes.tally, new.now))) place does) in
+      let asked = went_on went.1 in
+      let cut = went_on asked.2 in
+      let edit = edit_of db table (ids_of asked.0) Given 0 [] in
+      let it = one_step office_schema Enforced db cut.0 edit (idle.on_delete (taken_by db edit)) cut.1 in
+      let shown = went_on (went_on went.2).2 in
+      let trees : went.0.trees ≡ cut.0 = ap (λ (w : Written). w.trees) (same_value cut.2) in
+      let now : new.now ≡ record { schema = office_schema; trees = went.0.trees } = ap (λ (p : Tally × Database). p.1) (same_value shown.2) in
+      let next : new.now.trees ≡ cut.0 = ap (λ (d : Database). d.trees) now ∙ trees in
+      let rows = db table.tree in
+      let same = answers t paired (0 ∷ []) key (overlay db []) asked.0 (asked.1.answer Null) in
+      let hits = subst (λ all. IsPermutation (map (values_at (0 ∷ [])) (filter (has_key t key) all)) asked.0) (low db) same in
+      let left : new.now.trees table.tree ≡ without_all rows (ids_of asked.0) = ap (λ (x : Trees). x table.tree) next ∙ it.rows in
+      let others = subst (λ (x : Trees). AllByRecursion (λ (y : Table). y.tree ≢ table.tree → x y.tree ≡ db y.tree) office_schema.tables) (sym next) it.tables in (
+        record {
+          inside = did.inside;
+          schema = ap (λ (d : Database). d.schema) now;
+          sound = writes.sound;
+          ordered = still_ordered office_schema.tables table.tree db new.now.trees ready.ordered others (subst (IsShaped shape.Table) (sym left) (shaped_without (ids_of asked.0) rows was));
+        },
+        record { at = ap (rows_in t) left ∙ removed_rows t rows key asked.0 hits was keys whole; others = others },
+      )

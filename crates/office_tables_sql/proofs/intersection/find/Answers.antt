@@ -1,0 +1,23 @@
+use Rattle.std.proofs.Common.{pos, [], ◌∷◌}
+use Rattle.std.specs.Option.{option_to_list}
+use Rattle.std.proofs.lemmas.Result.{IfOk-weaker}
+use Rattle.sqlite.specs.declared.types.Value.TheVariants.{Int}
+use Rattle.sqlite.specs.Held.{state}
+use Rattle.office_tables_sql.specs.Calls.{Reads}
+use Rattle.office_tables_sql.proofs.SchemaLemmas.{find_intersection_text, find_intersection_is, find_intersection, intersection_width}
+use Rattle.office_tables_sql.proofs.intersection.find.Goals as goal
+
+pub select_one-requires-clause-query : goal.select_one-requires-clause-query
+select_one-requires-clause-query g c = find_intersection_is.query
+
+pub returns-clause-found : goal.returns-clause-found
+returns-clause-found g c honest =
+    let db = (state g.S.Store c.args.conn.now).now in
+    IfOk-weaker c.select_one.result (λ row. Reads find_intersection_text (Int (pos c.args.id) ∷ []) db (option_to_list row)) _
+    (find_intersection c.args.id db (c.requires.ordered (c.select_one.ensures.kept.honest honest)).0) (rw (c.params-to_sql.ensures, c.get.ensures.value) at (c.select_one.ensures.row honest))
+
+pub returns-clause-width : goal.returns-clause-width
+returns-clause-width g c honest =
+    let db = (state g.S.Store c.args.conn.now).now in
+    IfOk-weaker c.select_one.result (λ row. Reads find_intersection_text (Int (pos c.args.id) ∷ []) db (option_to_list row)) _
+    (intersection_width c.args.id db) (rw (c.params-to_sql.ensures, c.get.ensures.value) at (c.select_one.ensures.row honest))

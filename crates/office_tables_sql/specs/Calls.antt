@@ -1,0 +1,85 @@
+-- What the calls of a shelf need of a connection and leave of it.
+use Rattle.std.specs.Prelude.{◌≡◌, ℕ, false, List, [], Result, Ok, Err, None, IsTrue}
+use Rattle.std.specs.List.{AllByRecursion}
+use Rattle.sqlite.specs.Command.{Command}
+use Rattle.sqlite.specs.Command.TheVariants.{Nothing}
+use Rattle.sqlite.specs.Tree.{Trees}
+use Rattle.sqlite.specs.View.{IsShaped}
+use Rattle.sqlite_trees.specs.declared.store.Shape.TheVariants as shape
+use Rattle.sqlite_trees.specs.declared.store.Store.{Ghosts}
+use Rattle.sqlite.specs.Order.{Row}
+use Rattle.sqlite.specs.Effect as effect
+use Rattle.sqlite.specs.Effect.{Database, IsDatabase}
+use Rattle.sqlite.specs.Given.{IsPlain}
+use Rattle.sqlite.specs.Held.{Held, state}
+use Rattle.sqlite.specs.Listing.{understood, reads_listing}
+use Rattle.sqlite.specs.State.{State, HasCleanDisk, Runs, text_of}
+use Rattle.sqlite_resolve.specs.declared.compiled.Compiled.{Compiled}
+use Rattle.sqlite_resolve.specs.declared.error.CompileError.{CompileError}
+use Rattle.office_tables_sql.specs.Schema.{office_schema}
+
+-- The disk has returned what was written, and no failure of it has shut the database.
+abbrev pub IsHonest : State → Type 0
+IsHonest s = HasCleanDisk s × IsTrue s.is_open
+
+-- no disk fails under any connection, as over memory
+abbrev pub IsAlwaysHonest : {S : Type 0} → Ghosts S → Type 0
+IsAlwaysHonest {S} g = (h : Held S) → IsHonest (state g h)
+
+-- each table's rows rise by their rowids
+abbrev pub AreOrdered : Trees → Type 0
+AreOrdered trees = AllByRecursion (λ t. IsShaped shape.Table (trees t.tree)) office_schema.tables
+
+-- no transaction is under way, and the tables are those of the office and obey their schema
+pub record IsOffice (s : State) : Type 0 where
+  pub autocommit : s.in_transaction ≡ false
+  pub schema : IsHonest s → s.now.schema ≡ office_schema
+  pub settled : IsHonest s → s.now ≡ s.committed
+  pub ordered : IsHonest s → AreOrdered s.now.trees
+  pub sound : IsHonest s → IsDatabase s.now
+
+-- inside a transaction over the tables of the office
+pub record IsReady (s : State) : Type 0 where
+  pub inside : IsTrue s.in_transaction
+  pub schema : s.now.schema ≡ office_schema
+  pub ordered : AreOrdered s.now.trees
+  pub sound : IsDatabase s.now
+
+-- the tables are as they were, and the shelf goes on
+pub record Keeps (old new : State) : Type 0 where
+  pub office : IsOffice new
+  pub honest : IsHonest new → IsHonest old
+  pub same : IsHonest new → new.now ≡ old.now
+
+-- the command of a text, and the part of the text that says it
+abbrev pub command_of : Result Compiled CompileError → Command
+command_of (Ok c) = c.command
+command_of (Err e) = Nothing
+
+abbrev pub statement_of : List ℕ → Result Compiled CompileError → List ℕ
+statement_of sql (Ok c) = text_of sql c
+statement_of sql (Err e) = []
+
+-- the text is a query on the office's tables
+pub record IsQuery (sql : List ℕ) : Type 0 where
+  pub plain : IsPlain (understood office_schema sql)
+  pub unlisted : reads_listing office_schema sql ≡ false
+
+-- the rows are the answer of that query
+abbrev pub Reads : List ℕ → Row → Database → List Row → Type 0
+Reads sql params db rows = effect.Reads (command_of (understood office_schema sql)) db params rows
+
+-- the text is a write on the office's tables
+abbrev pub IsWriting : List ℕ → Type 0
+IsWriting sql = IsPlain (understood office_schema sql)
+
+-- that write was made, in a transaction that goes on
+pub record Ran (sql : List ℕ) (params : Row) (old new : State) (count : ℕ) : Type 0 where
+  pub was_open : IsTrue old.is_open
+  pub inside : IsTrue new.in_transaction
+  pub runs : old.now.schema ≡ office_schema → Runs old new None (command_of (understood office_schema sql)) (statement_of sql (understood office_schema sql)) params count
+
+-- the last commit stands
+pub record StandsOn (old new : State) : Type 0 where
+  pub honest : IsHonest new → IsHonest old
+  pub committed : IsHonest new → new.committed ≡ old.committed

@@ -1,0 +1,97 @@
+//! The values of a stored row, as what they stand for.
+
+ghost use Rattle.std.specs.Prelude.{◌≡◌, ◌≢◌, ◌≤◌, ◌<◌, ◌^◌, ℕ, pos, length, List, Option, IfOk, IfSome};
+ghost use Rattle.sqlite.specs.Order.{column};
+ghost use Rattle.signal_records.specs.Words.{AreWords};
+ghost use Rattle.office_tables_shelf.specs.Cells.{number, text};
+ghost use Rattle.office_tables_sql.specs.Stored.{cell_of, text_or_null};
+ghost use Rattle.draft_core.specs.declared.revision.TheConstants.{LAST_REVISION};
+
+use draft_core::revision::Revision;
+use office_tables_shelf::shelf::ShelfFault;
+use signal_records::{Number, Words};
+use sqlite::types::FromSql;
+use sqlite::{Error, ErrorCode, Row};
+use std::alloc::Global;
+
+/// The value of a column, as a `T`.
+pub fn value_at<T: FromSql>(row: &Row, at: usize) -> Result<T, ShelfFault>
+    ensures ok { IfOk result (λ x. T.FromSql.reads_as (column row.now at) x) }
+    ensures damaged { result ≡ Err ShelfFault.Damaged → at < length row.now → ¬ T.FromSql.is_readable (column row.now at) }
+{
+    match row.get(at) {
+        Ok(value) => Ok(value),
+        Err(Error::SqliteFailure(ErrorCode::OutOfMemory)) => Err(ShelfFault::NoMemory),
+        Err(_) => Err(ShelfFault::Damaged),
+    }
+}
+
+/// The number in a column.
+pub fn number_at(row: &Row, at: usize) -> Result<u32, ShelfFault>
+    ensures ok { IfOk result (λ n. cell_of (column row.now at) ≡ number (pos n)) }
+    ensures damaged { result ≡ Err ShelfFault.Damaged → at < length row.now → (n : ℕ) → n < 2 ^ 32 → cell_of (column row.now at) ≢ number (pos n) }
+{
+    value_at(row, at)
+}
+
+/// The number in a column, which has to be in the range.
+pub fn ranged_at<Of, const LOW: u32, const HIGH: u32>(
+    row: &Row,
+    at: usize,
+) -> Result<Number<Of, LOW, HIGH>, ShelfFault>
+    ensures ok { IfOk result (λ n. cell_of (column row.now at) ≡ number (pos n)) }
+    ensures damaged { result ≡ Err ShelfFault.Damaged → at < length row.now → (n : ℕ) → LOW ≤ n → n ≤ HIGH → cell_of (column row.now at) ≢ number (pos n) }
+{
+    let n = number_at(row, at)?;
+    match Number::new(n) {
+        Some(number) => Ok(number),
+        None => Err(ShelfFault::Damaged),
+    }
+}
+
+/// The revision in a column.
+pub fn revision_at(row: &Row, at: usize) -> Result<Revision, ShelfFault>
+    ensures ok { IfOk result (λ n. cell_of (column row.now at) ≡ number (pos n)) }
+    ensures damaged { result ≡ Err ShelfFault.Damaged → at < length row.now → (n : ℕ) → n ≤ LAST_REVISION → cell_of (column row.now at) ≢ number (pos n) }
+{
+    let n = number_at(row, at)?;
+    match Revision::new(n) {
+        Some(revision) => Ok(revision),
+        None => Err(ShelfFault::Damaged),
+    }
+}
+
+/// The text in a column.
+pub fn words_at<const MAX: usize>(
+    alloc: Global,
+    row: &Row,
+    at: usize,
+) -> Result<Words<MAX>, ShelfFault>
+    ensures ok { IfOk result (λ words. cell_of (column row.now at) ≡ text words) }
+    ensures damaged { result ≡ Err ShelfFault.Damaged → at < length row.now → (words : List ℕ) → AreWords MAX words → cell_of (column row.now at) ≢ text words }
+{
+    let text: String = value_at(row, at)?;
+    match Words::new(alloc, text.as_bytes())? {
+        Some(words) => Ok(words),
+        None => Err(ShelfFault::Damaged),
+    }
+}
+
+/// The text in a column, where it is not NULL.
+pub fn words_or_null_at<const MAX: usize>(
+    alloc: Global,
+    row: &Row,
+    at: usize,
+) -> Result<Option<Words<MAX>>, ShelfFault>
+    ensures ok { IfOk result (λ words. cell_of (column row.now at) ≡ text_or_null words) }
+    ensures damaged { result ≡ Err ShelfFault.Damaged → at < length row.now → (words : Option (List ℕ)) → IfSome words (AreWords MAX) → cell_of (column row.now at) ≢ text_or_null words }
+{
+    let text: Option<String> = value_at(row, at)?;
+    let Some(text) = text else {
+        return Ok(None);
+    };
+    match Words::new(alloc, text.as_bytes())? {
+        Some(words) => Ok(Some(words)),
+        None => Err(ShelfFault::Damaged),
+    }
+}

@@ -1,0 +1,74 @@
+#!/usr/bin/env bash
+# Checks a file that the program writes with a tool that is none of ours: the stock sqlite3 where it is there,
+# and else the module sqlite3 of python3. It builds nothing, and prints `ok` at the end.
+#
+#     tests/file.sh [PROGRAM]      the program is the one that ./office runs, where none is named
+set -eu
+top=$(cd "$(dirname "$0")/.." && pwd)
+program=${1:-$top/crates/signal_office/out/signal_office}
+folder=$(mktemp -d)
+trap 'rm -rf "$folder"' EXIT
+file=$folder/office.db
+
+fail() {
+  echo "file.sh: $1" >&2
+  exit 1
+}
+
+# Prints the rows of a query, the columns with | between.
+query() {
+  if command -v sqlite3 >"$folder/which" 2>&1; then
+    sqlite3 -batch -noheader "$file" "$1"
+  else
+    python3 - "$file" "$1" <<'PYTHON'
+import sqlite3
+import sys
+
+db = sqlite3.connect(sys.argv[1], isolation_level=None)
+for row in db.execute(sys.argv[2]):
+    print("|".join("" if value is None else str(value) for value in row))
+PYTHON
+  fi
+}
+
+# Runs the program on the requests of standard input, over the file.
+batch() {
+  "$program" batch --db "$file" >"$folder/answers" || fail "batch ended with status $?"
+}
+
+# Compares what was found with what is wanted.
+same() {
+  [ "$2" = "$3" ] || fail "$1: found '$2', wanted '$3'"
+}
+
+[ -x "$program" ] || fail "there is no program at $program"
+
+body='{"id":12,"interval":365,"name":"Main St"}'
+printf 'POST /intersections HTTP/1.1\r\nContent-Length: %d\r\n\r\n%s' "${#body}" "$body" | batch
+same "the answer to the first run" "$(tail -n 1 "$folder/answers")" '{"result":"added"}'
+
+same "the tables" \
+  "$(query "SELECT name FROM sqlite_master WHERE type = 'table' ORDER BY name" | tr '\n' ' ')" \
+  "delivery draft inspection intersection office_version part timing used_part work_order "
+same "the row of the intersection" \
+  "$(query "SELECT id, name, days, revision, state, owner FROM intersection")" "12|Main St|365|0|0|"
+same "the stored version" "$(query "SELECT one, version FROM office_version")" "1|1"
+same "the check of the file" "$(query "PRAGMA integrity_check")" "ok"
+
+printf 'GET /intersections/12 HTTP/1.1\r\n\r\n' | batch
+same "the answer to the second run" "$(tail -n 1 "$folder/answers")" \
+  '{"id":12,"interval":365,"name":"Main St","owner":null,"revision":0,"rows":0,"state":"normal","verify":"notDone"}'
+
+# What another tool writes is found as well.
+query "INSERT INTO intersection VALUES (13, 'Oak St', 30, 0, 0, NULL)"
+printf 'GET /intersections/13 HTTP/1.1\r\n\r\n' | batch
+same "the answer to the third run" "$(tail -n 1 "$folder/answers")" \
+  '{"id":13,"interval":30,"name":"Oak St","owner":null,"revision":0,"rows":0,"state":"normal","verify":"notDone"}'
+
+query "UPDATE office_version SET version = 9"
+status=0
+"$program" batch --db "$file" </dev/null >"$folder/answers" 2>"$folder/errors" || status=$?
+same "the status over another version" "$status" 1
+same "the fault over another version" "$(cat "$folder/errors")" "fault: version"
+
+echo ok
