@@ -1,8 +1,10 @@
 #!/usr/bin/env bash
-# Starts the program as a server on the loopback network, asks it over one connection that is kept open,
-# compares what it answers, and waits for its end. The program's path is the first word, the port the
-# second, if another than 8312 is wanted. Prints ok.
+# Starts the program as a server on the loopback network over a file, asks it over one connection that is
+# kept open, makes a whole transaction and a run of the cabinet register over seventeen more, compares what it answers, and waits for its end. Then
+# it prints the timing sheet from the file. The program's path is the first word, the port the second, if
+# another than 8312 is wanted. Prints ok.
 set -eu
+top=$(cd "$(dirname "$0")/.." && pwd)
 program=${1:?usage: tests/server.sh PROGRAM [PORT]}
 port=${2:-8312}
 address=http://127.0.0.1:$port
@@ -26,7 +28,7 @@ expect() {
   printf '%s' "$3" | cmp -s - "$2" || fail "$1: $(cat "$2")"
 }
 
-"$program" serve --port "$port" --count 1 >"$folder/told" 2>"$folder/fault" </dev/null &
+"$program" serve --port "$port" --count 18 --db "$folder/office.db" >"$folder/told" 2>"$folder/fault" </dev/null &
 server=$!
 
 # It listens once it has said so. At most ten seconds.
@@ -48,7 +50,43 @@ expect "the answer to the second request" "$folder/state" \
 # Both came over one connection, which the first request made.
 expect "statuses and new connections" "$folder/statuses" $'200 1\n200 0\n'
 
-# The connection is closed, and it was the only one: the program ends, with status 0.
+# ask NAME PATH BODY ANSWER: posts the body over a connection of its own, and compares the answer.
+ask() {
+  curl --silent --show-error --max-time 10 --noproxy '*' --data-binary "$3" --output "$folder/answer" "$address/$2"
+  expect "$1" "$folder/answer" "$4"
+}
+
+rows=$(sed 's/,/","/g; s/^/["/; s/$/"]/' "$top/bench/plan.csv" | paste -sd, -)
+ask begin intersections/12/begin '{"clerk":"Ana"}' '{"revision":0,"state":"transaction","verify":"notDone"}'
+ask edit intersections/12/edit "{\"clerk\":\"Ana\",\"rows\":[$rows]}" '{"revision":0,"state":"transaction","verify":"notDone"}'
+ask verify intersections/12/verify '{"clerk":"Ana"}' '{"revision":0,"state":"verify","verify":"notDone"}'
+ask check intersections/12/check '{"clerk":"Ana"}' '{"revision":0,"state":"done","verify":"doneWithNoError"}'
+ask commit intersections/12/commit '{"clerk":"Ana"}' '{"revision":1,"state":"normal","verify":"notDone"}'
+ask "a commit too many" intersections/12/commit '{"clerk":"Ana"}' '{"error":"NotDone","number":16}'
+
+# The cabinet: a delivery, an order that uses parts of it and is closed, an inspection, and what is shown of them.
+ask "a delivery" deliveries '{"count":10,"day":"2026-05-01","number":1,"part":"RELAY"}' '{"result":"added"}'
+order='{"clerk":"Ana","day":"2026-05-01","number":1,"text":"Replace flash relay"}'
+ask "an order" intersections/12/orders "$order" '{"result":"added"}'
+ask "the order again" intersections/12/orders "$order" '{"result":"same"}'
+ask "a used part" intersections/12/orders/1/parts '{"count":2,"line":1,"part":"RELAY"}' '{"result":"added"}'
+ask "too many parts" intersections/12/orders/1/parts '{"count":9,"line":2,"part":"RELAY"}' '{"error":"NoStock","number":25}'
+ask "an inspection" intersections/12/inspections '{"clerk":"Ana","day":"2026-03-01","number":1,"text":"Fan cleaned"}' '{"result":"added"}'
+ask "a closing" intersections/12/orders/1/close '{"clerk":"Bo","day":"2026-05-03"}' '{"result":"added"}'
+
+# show NAME PATH ANSWER: gets the path over a connection of its own, and compares the answer.
+show() {
+  curl --silent --show-error --max-time 10 --noproxy '*' --output "$folder/answer" "$address/$2"
+  expect "$1" "$folder/answer" "$3"
+}
+
+show "stock" stock '{"hand":[{"count":8,"part":"RELAY"}]}'
+show "open orders" intersections/12/open-orders '{"open":[]}'
+show "a cabinet" intersections/12/cabinet \
+  '{"inspections":[{"clerk":"Ana","day":"2026-03-01","number":1,"text":"Fan cleaned"}],"orders":[{"clerk":"Ana","closed":"2026-05-03","closer":"Bo","number":1,"opened":"2026-05-01","text":"Replace flash relay","used":[{"count":2,"line":1,"part":"RELAY"}]}]}'
+show "overdue" overdue/2027-03-02 '{"overdue":[{"due":"2027-03-01","id":12,"name":"Main St"}]}'
+
+# That was the last of the eighteen connections: the program ends, with status 0.
 for _ in $(seq 100); do
   kill -0 "$server" 2>/dev/null || break
   sleep 0.1
@@ -59,4 +97,33 @@ wait "$server" || status=$?
 server=
 [ "$status" = 0 ] || fail "status $status"
 [ ! -s "$folder/fault" ] || fail "on standard error: $(cat "$folder/fault")"
+
+"$program" sheet --db "$folder/office.db" 12 >"$folder/sheet" || fail "sheet ended with status $?"
+cmp -s "$folder/sheet" - <<'SHEET' || fail "the sheet: $(cat "$folder/sheet")"
+Intersection 12: Main St
+Revision 1
+Phases
+    No  Ring   Min  Pass   Max   Yel   Red  Walk Clear Width Setbk Short Mates
+     2     1     8   2.0    40   4.0   1.5     7    12  49.0   6.0     0 6
+     4     1     8   2.0    40   4.0   1.5     -     -     -     -     - 8
+     6     2     8   2.0    40   4.0   1.5     -     -     -     -     - 2
+     8     2     8   2.0    40   4.0   1.5     -     -     -     -     - 4
+Sequences
+    No  Ring Phases
+     1     1 2 4
+     1     2 6 8
+Splits
+    No Phase  Time  Mode Coord
+     1     2    35     2     1
+     1     4    25     2     0
+     1     6    35     2     1
+     1     8    25     2     0
+Patterns
+    No Cycle  Offs Split   Seq
+     1    60     0     1     1
+SHEET
+status=0
+"$program" sheet --db "$folder/office.db" 13 2>"$folder/fault" || status=$?
+[ "$status" = 1 ] || fail "status of an unknown intersection: $status"
+expect "the fault" "$folder/fault" $'fault: unknown intersection\n'
 echo ok

@@ -1,8 +1,7 @@
 //! Inspections that are overdue.
 
 ghost use Rattle.std.specs.Prelude.{◌≡◌, map, option_map, IfOk};
-ghost use Rattle.std.specs.List.Sorted.{IsStrictlyIncreasing};
-ghost use Rattle.cabinet_core.specs.Overdue.{overdue_list, listed, lateness, id_of};
+ghost use Rattle.cabinet_core.specs.Overdue.{overdue_list, listed, lateness};
 
 use crate::day::{Day, due};
 use jiff::civil::Date;
@@ -51,9 +50,8 @@ fn overdue_row(day: Day, seen: &Seen) -> Result<Option<OverdueRow>, NoMemory>
 }
 
 /// The intersections that are overdue on the day: those that were never inspected, and those
-/// whose inspection fell due before the day. They come in the order of the rows, whose ids ascend.
+/// whose inspection fell due before the day. They come in the order of the rows.
 pub fn overdue(alloc: Global, day: Day, rows: &[Seen]) -> Result<Vec<OverdueRow>, NoMemory>
-    requires { IsStrictlyIncreasing (map id_of rows.now) }
     ensures { IfOk result (λ found. map listed found.items ≡ overdue_list day rows.now) }
 {
     let mut found = Vec::new(alloc);

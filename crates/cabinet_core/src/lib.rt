@@ -18,6 +18,3 @@ pub use inspections::{OverdueRow, Seen, overdue};
 pub use part::{Hand, MOST_ON_HAND, PartCode};
 pub use record::{CabinetView, Closing, Delivery, Inspection, Opening, Order, UsedLine};
 pub use refusal::CabinetRefusal;
-
-#[cfg(test)]
-mod tests;

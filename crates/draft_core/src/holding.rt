@@ -46,7 +46,7 @@ fn in_stage(stage: Stage) -> DbState
 
 /// Why a command of the owner, in one stage only, is refused. The state is tested first, then the
 /// owner.
-pub fn refused_by(
+pub(crate) fn refused_by(
     holder: &Option<Holder>,
     stage: Stage,
     wrong: DraftRefusal,

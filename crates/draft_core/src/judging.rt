@@ -36,7 +36,7 @@ pub fn verdict(alloc: Global, timing: &Timing) -> Result<Verdict, NoMemory>
 }
 
 /// The verdict on a draft with these violations.
-pub fn verdict_on(found: &[Violation]) -> Verdict
+pub(crate) fn verdict_on(found: &[Violation]) -> Verdict
     ensures { result ≡ table.verdict_on stage.Done found.now }
 {
     match found {
@@ -47,7 +47,10 @@ pub fn verdict_on(found: &[Violation]) -> Verdict
 
 /// The next revision, or why a draft with these violations is not committed: the violations come
 /// before the last revision.
-pub fn next_revision(revision: Revision, found: &[Violation]) -> Result<Revision, DraftRefusal>
+pub(crate) fn next_revision(
+    revision: Revision,
+    found: &[Violation],
+) -> Result<Revision, DraftRefusal>
     ensures { result ≡ writes.next_revision revision found.now }
 {
     if !found.is_empty() {

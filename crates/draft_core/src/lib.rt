@@ -9,8 +9,6 @@ mod overlaying;
 pub mod refusal;
 pub mod revision;
 pub mod state;
-#[cfg(test)]
-mod tests;
 pub mod timing;
 mod writes;
 

@@ -55,7 +55,7 @@ fn changed_keys(alloc: Global, changes: &[Change]) -> Result<Vec<Key>, NoMemory>
 
 /// The violations of a set after changes. Where the set itself has none, only the subjects that
 /// a change touches need to be judged.
-pub fn violations_after(
+pub(crate) fn violations_after(
     alloc: Global,
     committed: &TimingSet,
     changes: &[Change],

@@ -9,7 +9,7 @@ use signal_records::{Change, NoMemory};
 use std::alloc::Global;
 
 /// Each change is kept as a draft row.
-pub fn drafting(alloc: Global, changes: &[Change]) -> Result<Vec<TimingChange>, NoMemory>
+pub(crate) fn drafting(alloc: Global, changes: &[Change]) -> Result<Vec<TimingChange>, NoMemory>
     ensures { IfOk result (λ made. made.items ≡ writes.drafting changes.now) }
 {
     let mut made = Vec::new(alloc);
@@ -20,7 +20,7 @@ pub fn drafting(alloc: Global, changes: &[Change]) -> Result<Vec<TimingChange>, 
 }
 
 /// Each draft row is made a change of the committed set, and goes.
-pub fn settling(alloc: Global, changes: &[Change]) -> Result<Vec<TimingChange>, NoMemory>
+pub(crate) fn settling(alloc: Global, changes: &[Change]) -> Result<Vec<TimingChange>, NoMemory>
     ensures { IfOk result (λ made. made.items ≡ writes.settling changes.now) }
 {
     let mut made = Vec::new(alloc);
@@ -32,7 +32,7 @@ pub fn settling(alloc: Global, changes: &[Change]) -> Result<Vec<TimingChange>, 
 }
 
 /// Each draft row goes.
-pub fn dropping(alloc: Global, changes: &[Change]) -> Result<Vec<TimingChange>, NoMemory>
+pub(crate) fn dropping(alloc: Global, changes: &[Change]) -> Result<Vec<TimingChange>, NoMemory>
     ensures { IfOk result (λ made. made.items ≡ writes.dropping changes.now) }
 {
     let mut made = Vec::new(alloc);

@@ -1,5 +1,6 @@
 pub mod Rows
 pub mod EmptySet
+pub mod KeptRegister
 pub mod Stands
 pub mod NewIntersection
 pub mod ReadBack
@@ -7,6 +8,10 @@ pub mod Moved
 pub mod Keeps
 pub mod Transactions
 pub mod TimingLaw
-pub mod Runs
+pub mod RegisterLaws
 pub mod Shown
+pub mod IntersectionTable
+pub mod Recorded
+pub mod OverdueRows
+pub mod Runs
 pub mod Writes

@@ -35,6 +35,7 @@ use Rattle.office_desk.specs.Office.{Office, Intersection, side_at, side_of}
 use Rattle.office_desk.specs.Reading.{FoundStands}
 use Rattle.office_desk.specs.StandFor.{StandFor, HasTimingKeys, IsLeft, row_of}
 use Rattle.office_desk.specs.Step.{with_intersection}
+use Rattle.office_desk.proofs.KeptRegister.{KeepsRegister, kept_twice}
 use Rattle.office_desk.proofs.ReadBack.{left_at, left_within}
 use Rattle.office_desk.proofs.Stands.{DiffersAt, RowOf, stand_after}
 
@@ -83,11 +84,7 @@ record Stays (id : ℕ) (old new : Content) : Type 0 where
   timing_keys : HasTimingKeys old.timing → HasTimingKeys new.timing
   draft : (q : ℕ) → (q ≡ id → ⊥) → (key : Key) → get new.draft (timing_key q key) ≡ get old.draft (timing_key q key)
   draft_keys : HasTimingKeys old.draft → HasTimingKeys new.draft
-  inspection : new.inspection ≡ old.inspection
-  work_order : new.work_order ≡ old.work_order
-  part : new.part ≡ old.part
-  delivery : new.delivery ≡ old.delivery
-  used_part : new.used_part ≡ old.used_part
+  register : KeepsRegister old new
 
 with_timing : (id : ℕ) (tables : Content) (rows : Rows) → ((q : ℕ) → (q ≡ id → ⊥) → (key : Key) → get rows (timing_key q key) ≡ get tables.timing (timing_key q key))
     → (HasTimingKeys tables.timing → HasTimingKeys rows) → Stays id tables (record tables { timing = rows })
@@ -97,11 +94,7 @@ with_timing id tables rows others keys = record {
   timing_keys = keys;
   draft = λ q ne key. refl;
   draft_keys = λ has. has;
-  inspection = refl;
-  work_order = refl;
-  part = refl;
-  delivery = refl;
-  used_part = refl;
+  register = record { inspection = refl; work_order = refl; part = refl; delivery = refl; used_part = refl };
 }
 
 with_drafts : (id : ℕ) (tables : Content) (rows : Rows) → ((q : ℕ) → (q ≡ id → ⊥) → (key : Key) → get rows (timing_key q key) ≡ get tables.draft (timing_key q key))
@@ -112,11 +105,7 @@ with_drafts id tables rows others keys = record {
   timing_keys = λ has. has;
   draft = others;
   draft_keys = keys;
-  inspection = refl;
-  work_order = refl;
-  part = refl;
-  delivery = refl;
-  used_part = refl;
+  register = record { inspection = refl; work_order = refl; part = refl; delivery = refl; used_part = refl };
 }
 
 one_stays : (id : ℕ) (change : TimingChange) (tables : Content) → Stays id tables (changed tables (row_change_of id change))
@@ -132,11 +121,7 @@ all_stay id [] tables = record {
   timing_keys = λ has. has;
   draft = λ q ne key. refl;
   draft_keys = λ has. has;
-  inspection = refl;
-  work_order = refl;
-  part = refl;
-  delivery = refl;
-  used_part = refl;
+  register = record { inspection = refl; work_order = refl; part = refl; delivery = refl; used_part = refl };
 }
 all_stay id (change ∷ changes) tables =
     let first = one_stays id change tables in
@@ -147,11 +132,7 @@ all_stay id (change ∷ changes) tables =
       timing_keys = λ has. rest.timing_keys (first.timing_keys has);
       draft = λ q ne key. rest.draft q ne key ∙ first.draft q ne key;
       draft_keys = λ has. rest.draft_keys (first.draft_keys has);
-      inspection = rest.inspection ∙ first.inspection;
-      work_order = rest.work_order ∙ first.work_order;
-      part = rest.part ∙ first.part;
-      delivery = rest.delivery ∙ first.delivery;
-      used_part = rest.used_part ∙ first.used_part;
+      register = kept_twice tables (changed tables (row_change_of id change)) _ first.register rest.register;
     }
 
 -- ---- the rows of the intersection after a move
@@ -249,9 +230,5 @@ move_stands tables office id i found clerk move next stand there stands within m
       };
       draft_elsewhere = rest.draft;
       draft_keys = rest.draft_keys stand.draft_keys;
-      inspection = rest.inspection;
-      work_order = rest.work_order;
-      part = rest.part;
-      delivery = rest.delivery;
-      used_part = rest.used_part;
+      register = kept_twice tables first _ (record { inspection = refl; work_order = refl; part = refl; delivery = refl; used_part = refl }) rest.register;
     })

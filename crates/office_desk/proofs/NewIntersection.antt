@@ -38,15 +38,11 @@ new_stands tables office id interval name stand absent =
       };
       draft_elsewhere = λ q ne key. refl;
       draft_keys = stand.draft_keys;
-      inspection = refl;
-      work_order = refl;
-      part = refl;
-      delivery = refl;
-      used_part = refl;
+      register = record { inspection = refl; work_order = refl; part = refl; delivery = refl; used_part = refl };
     })
 
-new_is_sound : (interval : ℕ) (name : List ℕ) → AreLimited name interval → IsSoundIntersection (new_intersection interval name)
-new_is_sound interval name limited = record {
+new_is_sound : (id interval : ℕ) (name : List ℕ) → AreLimited id name interval → IsSoundIntersection (new_intersection interval name)
+new_is_sound id interval name limited = record {
   name = limited.name;
   interval_low = limited.interval_low;
   interval_high = limited.interval_high;
@@ -67,7 +63,7 @@ add_answers tables office id interval name row reply changes stands reads adds =
         step = inr (ap (added office id interval name) absent ∙ (λ k. (sym f.0 k, with_intersection office id i)));
         stand = subst (λ list. StandForSound (changed_by tables list) (with_intersection office id i)) (sym f.1) (record {
           stand = new_stands tables office id interval name stands.stand absent;
-          sound = sound_with office id i stands.sound (new_is_sound interval name f.2);
+          sound = sound_with office id i f.2.number stands.sound (new_is_sound id interval name f.2);
         });
       }
       | Some there ↦ λ is f. record {

@@ -54,7 +54,7 @@ holder_from_cells (Some h) (Some k) e f =
     let same_owner : h.owner ≡ k.owner = cc in
     λ i. Some (record { stage = same_stage i; owner = same_owner i })
 
-row_from_cells : (a b : IntersectionRow) → intersection_columns a ≡ intersection_columns b → a ≡ b
+pub row_from_cells : (a b : IntersectionRow) → intersection_columns a ≡ intersection_columns b → a ≡ b
 row_from_cells a b e =
     let same_name : a.name ≡ b.name = cc in
     let same_interval : a.interval ≡ b.interval = cc in

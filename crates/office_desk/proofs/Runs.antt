@@ -1,5 +1,5 @@
 -- From a decision to a step that was made, and from steps to runs.
-use Rattle.std.proofs.Common.{◌≡◌, List, [], ◌∷◌, ◌++◌, refl, sym, subst, ◌∙◌, inl, Err, length, true, arith}
+use Rattle.std.proofs.Common.{◌≡◌, List, [], ◌∷◌, ◌++◌, ℕ, Option, Some, None, refl, sym, subst, ◌∙◌, inl, inr, Err, length, true, arith}
 use Rattle.std.specs.Prelude.{◌==◌}
 use Rattle.std.proofs.lemmas.Bool.Decides.{nat_tests}
 use Rattle.office_tables_shelf.specs.Change.{changed_by}
@@ -8,17 +8,22 @@ use Rattle.office_tables_shelf.specs.declared.rows.RowChange.{RowChange}
 use Rattle.office_tables_shelf.specs.declared.shelf.ShelfFault.{ShelfFault}
 use Rattle.office_tables_shelf.specs.declared.shelf.ShelfFault.TheVariants.{NoMemory, Store, Damaged}
 use Rattle.office_desk.specs.Answers.{AnswersAny, Answers, Decides, RunsAny, RunsTo}
-use Rattle.office_desk.specs.Damage.{MeetsDamage}
+use Rattle.cabinet_core.specs.declared.command.RecordCommand.{RecordCommand}
+use Rattle.office_desk_cabinet.proofs.Undamaged.{no_damaged_inspection, no_damaged_order, no_damaged_used, no_damaged_part, undamaged_record}
+use Rattle.office_desk.specs.Damage.{MeetsCabinetDamage, MeetsDamage}
 use Rattle.office_desk.specs.Decisions.{refusal_of}
-use Rattle.office_desk.specs.Office.{Office}
+use Rattle.office_desk.specs.Office.{Office, IsSound}
 use Rattle.office_desk.specs.StandFor.{StandForSound}
-use Rattle.office_desk.specs.Step.{Step, Run}
+use Rattle.office_desk.specs.Step.{Step, Run, cabinet_of}
 use Rattle.office_desk.specs.declared.command.Command.{Command}
 use Rattle.office_desk.specs.declared.command.Command.TheVariants as command
 use Rattle.office_desk.specs.declared.refusal.Refusal.TheVariants.{Unavailable}
 use Rattle.office_desk.specs.declared.reply.Reply.{Reply}
 use Rattle.office_desk.specs.declared.reply.Reply.TheVariants.{Refused}
+use Rattle.office_desk.proofs.IntersectionTable.{no_damaged_intersection}
+use Rattle.office_desk.proofs.Recorded.{register_of}
 use Rattle.office_desk.proofs.Stands.{no_damage}
+use Rattle.office_desk.proofs.RegisterLaws.{runs_register}
 use Rattle.office_desk.proofs.TimingLaw.{runs_timing}
 
 -- ---- a decision
@@ -37,6 +42,11 @@ pub reply_answers : (tables : Content) (command : Command) (reply told : Reply) 
 reply_answers tables command reply told changes answers r e office stands =
     subst (λ list. Answers office command told (changed_by tables list)) (sym e) (subst (λ a. Answers office command a tables) (sym r) (answers office stands))
 
+record_refuted : (tables : Content) (c : RecordCommand) (about : Option ℕ) → MeetsCabinetDamage tables c about → (office : Office) → StandForSound tables office → ⊥
+record_refuted tables c None damage office stands = undamaged_record tables office.register c (register_of tables office stands) damage
+record_refuted tables c (Some id) (inl row) office stands = no_damage tables id (inl row) office stands
+record_refuted tables c (Some id) (inr damage) office stands = undamaged_record tables office.register c (register_of tables office stands) damage
+
 damage_refuted : (tables : Content) (command : Command) → MeetsDamage tables command → (office : Office) → StandForSound tables office → ⊥
 damage_refuted tables (command.AddIntersection id interval name) damage = no_damage tables id (inl damage)
 damage_refuted tables (command.Begin id clerk) damage = no_damage tables id damage
@@ -49,6 +59,16 @@ damage_refuted tables (command.Abandon id clerk) damage = no_damage tables id da
 damage_refuted tables (command.State id) damage = no_damage tables id damage
 damage_refuted tables (command.Timing id) damage = no_damage tables id damage
 damage_refuted tables (command.Draft id) damage = no_damage tables id damage
+damage_refuted tables (command.Record c) damage = record_refuted tables c (cabinet_of c) damage
+damage_refuted tables (command.Cabinet id) (inl row) = no_damage tables id (inl row)
+damage_refuted tables (command.Cabinet id) (inr (inl inspection)) = λ office stands. no_damaged_inspection tables office.register id (register_of tables office stands) inspection
+damage_refuted tables (command.Cabinet id) (inr (inr (inl order))) = λ office stands. no_damaged_order tables office.register id (register_of tables office stands) order
+damage_refuted tables (command.Cabinet id) (inr (inr (inr used))) = λ office stands. no_damaged_used tables office.register id (register_of tables office stands) used
+damage_refuted tables (command.OpenOrders id) (inl row) = no_damage tables id (inl row)
+damage_refuted tables (command.OpenOrders id) (inr order) = λ office stands. no_damaged_order tables office.register id (register_of tables office stands) order
+damage_refuted tables command.Stock damage = λ office stands. no_damaged_part tables office.register (register_of tables office stands) damage
+damage_refuted tables (command.Overdue day) (inl row) = no_damaged_intersection tables row
+damage_refuted tables (command.Overdue day) (inr inspection) = λ office stands. no_damaged_inspection tables office.register inspection.0 (register_of tables office stands) inspection.1
 
 -- a fault of the shelf, answered as its refusal
 pub fault_answers : (tables : Content) (command : Command) (fault : ShelfFault) (reply : Reply) (changes : List RowChange) → Decides tables command (Err fault) → reply ≡ Refused (refusal_of fault) → changes ≡ [] → AnswersAny tables command reply (changed_by tables changes)
@@ -74,19 +94,20 @@ run-more [] (r ∷ rs) first mid last command reply run step = absurd run
 run-more (c ∷ cs) [] first mid last command reply run step = absurd run
 
 -- the replies of a run, and what runs after it
-runs_to : (office last : Office) (commands : List Command) (replies : List Reply) (tables : Content) → Run office commands replies last → StandForSound tables last → RunsTo office commands replies tables
-runs_to office last commands replies tables run stand = record {
+runs_to : (office last : Office) (commands : List Command) (replies : List Reply) (tables : Content) → IsSound office → Run office commands replies last → StandForSound tables last → RunsTo office commands replies tables
+runs_to office last commands replies tables sound run stand = record {
   last = last;
   run = run;
   stand = stand;
   running = λ id. runs_timing id _ commands replies office last run refl;
+  register = runs_register commands replies office last run sound stand.sound;
 }
 
 pub runs_nothing : (tables : Content) → RunsAny tables [] [] tables
-runs_nothing tables office stands = runs_to office office [] [] tables refl stands
+runs_nothing tables office stands = runs_to office office [] [] tables stands.sound refl stands
 
 pub runs_more : (first mid last : Content) (commands : List Command) (replies : List Reply) (command : Command) (reply : Reply) → RunsAny first commands replies mid → AnswersAny mid command reply last → RunsAny first (commands ++ command ∷ []) (replies ++ reply ∷ []) last
 runs_more first mid last commands replies command reply runs answers office stands =
     let so_far = runs office stands in
     let now = answers so_far.last so_far.stand in
-    runs_to office now.next _ _ last (run-more commands replies office so_far.last now.next command reply so_far.run now.step) now.stand
+    runs_to office now.next _ _ last stands.sound (run-more commands replies office so_far.last now.next command reply so_far.run now.step) now.stand

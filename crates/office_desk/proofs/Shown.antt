@@ -137,7 +137,7 @@ found_none tables office id stands finds = go (get office.intersections id) (fin
     go (Some i) f = absurd f
 
 pub sound_there : (tables : Content) (office : Office) (id : ℕ) (i : Intersection) → StandForSound tables office → get office.intersections id ≡ Some i → IsSoundIntersection i
-sound_there tables office id i stands is = subst (λ o. IfSome o IsSoundIntersection) is (stands.sound id)
+sound_there tables office id i stands is = subst (λ o. IfSome o IsSoundIntersection) is (stands.sound.intersections id)
 
 -- the verdict that draft_core reads from what was found
 pub verdict_found : (tables : Content) (id : ℕ) (row : IntersectionRow) (found : Found) (verdict : Verdict) → FindsAny tables id (Some found)

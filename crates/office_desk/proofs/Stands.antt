@@ -6,6 +6,7 @@ use Rattle.std.proofs.Common.{arith}
 use Rattle.std.proofs.lemmas.Bool.Decides.{nat_tests}
 use Rattle.std.specs.FinMap.{get, insert, get-insert, nat_cmp-IsAntisymmetric}
 use Rattle.std.specs.Cmp.{nat_cmp_total}
+use Rattle.std.specs.Int.{IsInRange}
 use Rattle.std.specs.Ordering.{nat_cmp, eq_by_cmp}
 use Rattle.signal_records.specs.Row.{key_of}
 use Rattle.signal_records.specs.Within.{IsRowWithin, current_limits}
@@ -28,11 +29,12 @@ use Rattle.office_desk.specs.Office.{Office, Intersection, IsSound, IsSoundInter
 use Rattle.office_desk.specs.StandFor.{StandFor, StandForSound, DraftRowStands, HasTimingKeys, IsLeft, row_of, columns_of}
 use Rattle.office_desk.specs.Step.{with_intersection}
 use Rattle.office_desk.proofs.EmptySet.{no_records}
+use Rattle.office_desk.proofs.KeptRegister.{KeepsRegister, still_stands}
 use Rattle.office_desk.proofs.Rows.{get_stored, insert_stored, read_from_cells}
 
 -- ---- what is stored of an intersection
 
-stored_at : (tables : Content) (office : Office) (id : ℕ) → StandFor tables office → get tables.intersection (intersection_key id) ≡ option_map columns_of (get office.intersections id)
+pub stored_at : (tables : Content) (office : Office) (id : ℕ) → StandFor tables office → get tables.intersection (intersection_key id) ≡ option_map columns_of (get office.intersections id)
 stored_at tables office id stand =
     ap (λ (rows : Rows). get rows (intersection_key id)) stand.intersection
     ∙ get_stored nat_cmp_total intersection_key columns_of number_ties office.intersections id
@@ -49,7 +51,7 @@ row_read tables office id row stand reads = read_from_cells _ _ (sym reads ∙ s
 
 -- the rows of a sound office's committed sets are records
 pub records_at : (office : Office) (id : ℕ) → IsSound office → AreRecords (side_at office id).committed
-records_at office id sound = go (get office.intersections id) (sound id)
+records_at office id sound = go (get office.intersections id) (sound.intersections id)
   where
     go : (i : Option Intersection) → IfSome i IsSoundIntersection → AreRecords (side_of i).committed
     go None here = no_records
@@ -59,7 +61,7 @@ owner_of : (draft : Option Draft) → IfSome draft IsSoundDraft → IfSome (opti
 owner_of None sound = tt
 owner_of (Some draft) sound = sound.owner
 
-sound_row : (i : Intersection) → IsSoundIntersection i → IsIntersectionRow (row_of i)
+pub sound_row : (i : Intersection) → IsSoundIntersection i → IsIntersectionRow (row_of i)
 sound_row i sound = record {
   name = sound.name;
   interval_low = sound.interval_low;
@@ -70,7 +72,7 @@ sound_row i sound = record {
 
 no_damaged_row : (tables : Content) (id : ℕ) → HasDamagedIntersection tables id → (office : Office) → StandForSound tables office → ⊥
 no_damaged_row tables id damaged office stands =
-    go (get office.intersections id) (sym damaged.stored ∙ stored_at tables office id stands.stand) (stands.sound id)
+    go (get office.intersections id) (sym damaged.stored ∙ stored_at tables office id stands.stand) (stands.sound.intersections id)
   where
     go : (i : Option Intersection) → Some damaged.columns ≡ option_map columns_of i → IfSome i IsSoundIntersection → ⊥
     go None is sound = cc
@@ -171,11 +173,7 @@ pub record DiffersAt (old new : Content) (id : ℕ) (i : Intersection) : Type 0 
   pub draft_here : (key : Key) → RowOf new i.timing id key
   pub draft_elsewhere : (q : ℕ) → (q ≡ id → ⊥) → (key : Key) → get new.draft (timing_key q key) ≡ get old.draft (timing_key q key)
   pub draft_keys : HasTimingKeys new.draft
-  pub inspection : new.inspection ≡ old.inspection
-  pub work_order : new.work_order ≡ old.work_order
-  pub part : new.part ≡ old.part
-  pub delivery : new.delivery ≡ old.delivery
-  pub used_part : new.used_part ≡ old.used_part
+  pub register : KeepsRegister old new
 
 timing_at : (old new : Content) (office : Office) (id : ℕ) (i : Intersection) → StandFor old office → DiffersAt old new id i
     → (q : ℕ) (key : Key) → get new.timing (timing_key q key) ≡ option_map timing_columns (get (side_at (with_intersection office id i) q).committed key)
@@ -208,16 +206,22 @@ stand_after old new office id i stand new_rows = record {
   timing_keys = new_rows.timing_keys;
   draft = draft_at old new office id i stand new_rows;
   draft_keys = new_rows.draft_keys;
-  inspection = new_rows.inspection ∙ stand.inspection;
-  work_order = new_rows.work_order ∙ stand.work_order;
-  part = new_rows.part ∙ stand.part;
-  delivery = new_rows.delivery ∙ stand.delivery;
-  used_part = new_rows.used_part ∙ stand.used_part;
+  register = still_stands old new office.register new_rows.register stand.register;
 }
 
-pub sound_with : (office : Office) (id : ℕ) (i : Intersection) → IsSound office → IsSoundIntersection i → IsSound (with_intersection office id i)
-sound_with office id i sound here q = subst (λ o. IfSome o IsSoundIntersection) (sym (get-insert nat_cmp_total office.intersections id i q)) (go (eq_by_cmp nat_cmp q id))
+pub sound_with : (office : Office) (id : ℕ) (i : Intersection) → IsInRange 1 9999 id → IsSound office → IsSoundIntersection i → IsSound (with_intersection office id i)
+sound_with office id i range sound here = record {
+  numbers = λ q. subst (λ o. IfSome o (λ _. IsInRange 1 9999 q)) (sym (get-insert nat_cmp_total office.intersections id i q)) (numbered q);
+  intersections = λ q. subst (λ o. IfSome o IsSoundIntersection) (sym (get-insert nat_cmp_total office.intersections id i q)) (go q (eq_by_cmp nat_cmp q id));
+  register = sound.register;
+}
   where
-    go : (b : _) → IfSome (cond b (Some i) (get office.intersections q)) IsSoundIntersection
-    go true = here
-    go false = sound q
+    go : (q : ℕ) (b : _) → IfSome (cond b (Some i) (get office.intersections q)) IsSoundIntersection
+    go q true = here
+    go q false = sound.intersections q
+
+    numbered : (q : ℕ) → IfSome (cond (eq_by_cmp nat_cmp q id) (Some i) (get office.intersections q)) (λ _. IsInRange 1 9999 q)
+    numbered q = elim (compared q id) [
+      | one e b ↦ subst (λ c. IfSome (cond c (Some i) (get office.intersections q)) (λ _. IsInRange 1 9999 q)) (sym b) (subst (IsInRange 1 9999) (sym e) range)
+      | two e b ↦ subst (λ c. IfSome (cond c (Some i) (get office.intersections q)) (λ _. IsInRange 1 9999 q)) (sym b) (sound.numbers q)
+    ]

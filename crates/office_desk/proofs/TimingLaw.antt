@@ -17,7 +17,8 @@ use Rattle.draft_core.specs.declared.revision.TheConstants.{LAST_REVISION}
 use Rattle.draft_core.specs.declared.state.Stage.{Stage}
 use Rattle.draft_core.specs.declared.state.Stage.TheVariants.{Transaction}
 use Rattle.office_desk.specs.Office.{Office, Intersection, no_timing, side_of, side_at}
-use Rattle.office_desk.specs.Step.{Step, Run, answered, added, moved, transacted, with_intersection, new_intersection, moved_to}
+use Rattle.cabinet_core.specs.declared.command.RecordCommand.{RecordCommand}
+use Rattle.office_desk.specs.Step.{Step, Run, answered, added, moved, transacted, with_intersection, new_intersection, moved_to, cabinet_of, known, recorded, recorded_at}
 use Rattle.office_desk.specs.Timing.{is_commit_of, is_moved, set_of_draft, running}
 use Rattle.office_desk.specs.declared.command.Command.{Command}
 use Rattle.office_desk.specs.declared.command.Command.TheVariants as command
@@ -187,6 +188,21 @@ add_after q id interval name office next reply e = go (get office.intersections 
 shown_after : (q : ℕ) (office next : Office) (command : Command) (said reply : Reply) → is_commit_of q command ≡ false → ◌≡◌ {A = Reply × Office} (said, office) (reply, next) → After q office command reply next
 shown_after q office next command said reply other e = quiet q office next command reply other (ap (λ (p : Reply × Office). (side_at p.1 q).committed) (sym e))
 
+-- a command of the register keeps every timing side
+record_after : (q : ℕ) (office next : Office) (c : RecordCommand) (reply : Reply) → answered office (command.Record c) ≡ (reply, next) → After q office (command.Record c) reply next
+record_after q office next c reply e = quiet q office next (command.Record c) reply refl (ap (λ (p : Reply × Office). (side_at p.1 q).committed) (sym e) ∙ at (cabinet_of c))
+  where
+    Same : Reply × Office → Type 0
+    Same p = (side_at p.1 q).committed ≡ (side_at office q).committed
+
+    here : (o : Option Intersection) → Same (known office o (recorded office c))
+    here None = refl
+    here (Some i) = refl
+
+    at : (about : Option ℕ) → Same (recorded_at office about (recorded office c))
+    at None = refl
+    at (Some id) = here (get office.intersections id)
+
 answer_after : (q : ℕ) (office next : Office) (command : Command) (reply : Reply) → answered office command ≡ (reply, next) → After q office command reply next
 answer_after q office next (command.AddIntersection id interval name) reply e = add_after q id interval name office next reply e
 answer_after q office next (command.Begin id clerk) reply e = transact_keeps q id office next (command.Begin id clerk) reply (λ side. begun side clerk) (begun_keeps clerk) refl e
@@ -199,6 +215,11 @@ answer_after q office next (command.Abandon id clerk) reply e = transact_keeps q
 answer_after q office next (command.State id) reply e = shown_after q office next (command.State id) _ reply refl e
 answer_after q office next (command.Timing id) reply e = shown_after q office next (command.Timing id) _ reply refl e
 answer_after q office next (command.Draft id) reply e = shown_after q office next (command.Draft id) _ reply refl e
+answer_after q office next (command.Record c) reply e = record_after q office next c reply e
+answer_after q office next (command.Cabinet id) reply e = shown_after q office next (command.Cabinet id) _ reply refl e
+answer_after q office next (command.OpenOrders id) reply e = shown_after q office next (command.OpenOrders id) _ reply refl e
+answer_after q office next command.Stock reply e = shown_after q office next command.Stock _ reply refl e
+answer_after q office next (command.Overdue day) reply e = shown_after q office next (command.Overdue day) _ reply refl e
 
 step_after : (q : ℕ) (office next : Office) (command : Command) (reply : Reply) → Step office command reply next → After q office command reply next
 step_after q office next command reply (inl left) = stays q office next command reply (ap is_moved left.0) left.1

@@ -2,6 +2,7 @@
 use Rattle.std.proofs.Common.{◌≡◌, ◌≢◌, ◌⊎◌, ◌+◌, ◌≤◌, ℕ, Bool, true, false, List, [], ◌∷◌, length, cond, Option, Some, None, Result, Ok, Err, refl, ap, sym, subst, ◌∙◌, inl, inr, arith}
 use Rattle.std.specs.Prelude.{IfSome, IfOk, OnErr, map}
 use Rattle.std.specs.FinMap.{get}
+use Rattle.std.specs.Int.{IsInRange}
 use Rattle.std.proofs.lemmas.List.{length-map}
 use Rattle.signal_records.specs.Words.{AreWords}
 use Rattle.signal_records.specs.declared.record.Change.{Change}
@@ -25,7 +26,8 @@ use Rattle.office_tables_shelf.specs.declared.rows.Table.TheVariants as table
 use Rattle.office_tables_shelf.specs.declared.shelf.ShelfFault.{ShelfFault}
 use Rattle.office_tables_shelf.specs.declared.shelf.ShelfFault.TheVariants.{NoMemory, Store, Damaged}
 use Rattle.office_desk.specs.Answers.{Answers, AnswersAny, Decides}
-use Rattle.office_desk.specs.Changes.{IsRefused, is_same_table, most_writes, writes_in}
+use Rattle.office_desk.specs.Changes.{IsRefused, most_intersection_writes, most_writes}
+use Rattle.office_tables_shelf.specs.Counts.{is_same_table, writes_in}
 use Rattle.office_desk.specs.Damage.{HasDamage, MeetsDamage}
 use Rattle.office_desk.specs.Moving.{WritesMove, WritesDecision, moved_row, row_change_of, row_changes_of}
 use Rattle.office_desk.specs.Office.{Office, Intersection, IsSoundIntersection}
@@ -73,7 +75,7 @@ accepted tables office id clerk ask i found move next reply changes stands there
       step = inr (answered_at ask office id clerk i (Ok next) there line ∙ (λ k. (sym told k, after)));
       stand = subst (λ list. StandForSound (changed_by tables list) after) (sym writes.rows) (record {
         stand = move_stands tables office id i found clerk move next stands.stand there here writes.within makes;
-        sound = sound_with office id (with_timing_side i next) stands.sound (sound_intersection i next sound (line_keeps ask clerk i.timing next words within (side_sound i sound) line));
+        sound = sound_with office id (with_timing_side i next) (subst (λ o. IfSome o (λ _. IsInRange 1 9999 id)) there (stands.sound.numbers id)) stands.sound (sound_intersection i next sound (line_keeps ask clerk i.timing next words within (side_sound i sound) line));
       });
     }
 
@@ -120,7 +122,7 @@ move_answers tables id clerk ask found decision reply changes words within finds
       | Some i ↦ λ there here sound.
           settled tables office id clerk ask i found decision (line_of ask clerk i.timing) reply changes stands there sound here words within refl
           (follows i.timing here.timing_stands sound.no_violations) writes
-    ] refl (finds office stands) (stands.sound id)
+    ] refl (finds office stands) (stands.sound.intersections id)
 
 -- a decision on what was found
 pub transact_decides : (tables : Content) (id : ℕ) (clerk : List ℕ) (ask : Ask) (found : Found) (decision : Result Move DraftRefusal) (result : Result Decided ShelfFault)
@@ -210,6 +212,15 @@ draft_bound tables id clerk Commit = refl
 draft_bound tables id clerk Reopen = refl
 draft_bound tables id clerk Abandon = refl
 
+intersection_bound : (id : ℕ) (clerk : List ℕ) (ask : Ask) → most_intersection_writes (command_of id clerk ask) ≡ 1
+intersection_bound id clerk Begin = refl
+intersection_bound id clerk (Edit changes) = refl
+intersection_bound id clerk Verify = refl
+intersection_bound id clerk Check = refl
+intersection_bound id clerk Commit = refl
+intersection_bound id clerk Reopen = refl
+intersection_bound id clerk Abandon = refl
+
 no_more : (written n most : ℕ) → written ≡ n → n ≤ most → 0 + written ≤ most
 no_more written n most same bound = omega arith
 
@@ -219,14 +230,14 @@ one_more written none = omega arith
 -- the rows of a move are within the command's bounds
 move_writes : (tables : Content) (id : ℕ) (clerk : List ℕ) (ask : Ask) (row : _) (rows : ℕ) (changes : List TimingChange) (other : Table) → rows ≡ length (rows_of id tables.draft) → IsBounded ask rows changes
     → writes_in other (PutIntersection id row ∷ row_changes_of id changes) ≤ most_writes tables (command_of id clerk ask) other
-move_writes tables id clerk ask row rows changes table.Intersection many bounds = one_more _ (none_written table.Intersection refl refl id changes)
+move_writes tables id clerk ask row rows changes table.Intersection many bounds = rw (intersection_bound id clerk ask) (one_more _ (none_written table.Intersection refl refl id changes))
 move_writes tables id clerk ask row rows changes table.Timing many bounds = rw (timing_bound tables id clerk ask, ← many) (no_more _ _ _ (timing_written id changes) bounds.timing)
 move_writes tables id clerk ask row rows changes table.Draft many bounds = rw (draft_bound tables id clerk ask, ← many) (no_more _ _ _ (draft_written id changes) bounds.draft)
-move_writes tables id clerk ask row rows changes table.Inspection many bounds = no_more _ 0 0 (none_written table.Inspection refl refl id changes) (omega arith)
-move_writes tables id clerk ask row rows changes table.WorkOrder many bounds = no_more _ 0 0 (none_written table.WorkOrder refl refl id changes) (omega arith)
-move_writes tables id clerk ask row rows changes table.Part many bounds = no_more _ 0 0 (none_written table.Part refl refl id changes) (omega arith)
-move_writes tables id clerk ask row rows changes table.Delivery many bounds = no_more _ 0 0 (none_written table.Delivery refl refl id changes) (omega arith)
-move_writes tables id clerk ask row rows changes table.UsedPart many bounds = no_more _ 0 0 (none_written table.UsedPart refl refl id changes) (omega arith)
+move_writes tables id clerk ask row rows changes table.Inspection many bounds = no_more _ 0 _ (none_written table.Inspection refl refl id changes) (omega arith)
+move_writes tables id clerk ask row rows changes table.WorkOrder many bounds = no_more _ 0 _ (none_written table.WorkOrder refl refl id changes) (omega arith)
+move_writes tables id clerk ask row rows changes table.Part many bounds = no_more _ 0 _ (none_written table.Part refl refl id changes) (omega arith)
+move_writes tables id clerk ask row rows changes table.Delivery many bounds = no_more _ 0 _ (none_written table.Delivery refl refl id changes) (omega arith)
+move_writes tables id clerk ask row rows changes table.UsedPart many bounds = no_more _ 0 _ (none_written table.UsedPart refl refl id changes) (omega arith)
 
 pub transact_writes : (tables : Content) (id : ℕ) (clerk : List ℕ) (ask : Ask) (found : Found) (decision : Result Move DraftRefusal) (reply : Reply) (changes : List RowChange)
     → WritesDecision id clerk found decision reply changes → IfOk decision (λ move. IsBounded ask (length found.timing.delta) move.changes.items) → ListsDraft tables id found.timing.delta

@@ -8,7 +8,8 @@ use Rattle.office_tables_shelf.specs.declared.counts.WriteCounts.{WriteCounts}
 use Rattle.office_tables_shelf.specs.declared.rows.RowChange.{RowChange}
 use Rattle.office_tables_shelf.specs.declared.rows.Table.{Table}
 use Rattle.office_tables_shelf.specs.declared.rows.Table.TheVariants as table
-use Rattle.office_desk.specs.Changes.{RiseAtMost, is_same_table, most_writes, writes_in}
+use Rattle.office_desk.specs.Changes.{RiseAtMost, most_writes}
+use Rattle.office_tables_shelf.specs.Counts.{is_same_table, writes_in}
 use Rattle.office_desk.specs.declared.command.Command.{Command}
 
 capped : (n : ℕ) → counted n ≤ n + 1

@@ -1,18 +1,17 @@
 -- Which rows an answered command changes.
-use Rattle.std.specs.Prelude.{ℕ, Bool, true, false, ◌+◌, ◌≤◌, List, [], ◌∷◌, length, cond}
+use Rattle.std.specs.Prelude.{ℕ, ◌+◌, ◌≤◌, length}
 use Rattle.signal_records.specs.declared.record.Change.{Change}
-use Rattle.office_tables_shelf.specs.Change.{table_of}
 use Rattle.office_tables_shelf.specs.Content.{Content}
 use Rattle.office_tables_shelf.specs.Counts.{count_of}
 use Rattle.office_tables_shelf.specs.Shelf.{rows_of}
 use Rattle.office_tables_shelf.specs.declared.counts.WriteCounts.{WriteCounts}
-use Rattle.office_tables_shelf.specs.declared.rows.RowChange.{RowChange}
 use Rattle.office_tables_shelf.specs.declared.rows.Table.{Table}
 use Rattle.office_tables_shelf.specs.declared.rows.Table.TheVariants as table
+use Rattle.office_desk_cabinet.specs.Registers.{most_record_writes}
 use Rattle.office_desk.specs.declared.command.Command.{Command}
 use Rattle.office_desk.specs.declared.command.Command.TheVariants as command
 use Rattle.office_desk.specs.declared.reply.Reply.{Reply}
-use Rattle.office_desk.specs.declared.reply.Reply.TheVariants.{Added, Same, Moved, State as Shown, Timing as Running, Draft as Drafted, Refused}
+use Rattle.office_desk.specs.declared.reply.Reply.TheVariants.{Added, Same, Moved, State as Shown, Timing as Running, Draft as Drafted, Cabinet, OpenOrders, Stock, Overdue, Refused}
 
 abbrev pub IsRefused : Reply → Type 0
 IsRefused Added = ⊥
@@ -21,6 +20,10 @@ IsRefused (Moved revision state verdict) = ⊥
 IsRefused (Shown state) = ⊥
 IsRefused (Running timing) = ⊥
 IsRefused (Drafted draft) = ⊥
+IsRefused (Cabinet cabinet) = ⊥
+IsRefused (OpenOrders numbers) = ⊥
+IsRefused (Stock stock) = ⊥
+IsRefused (Overdue rows) = ⊥
 IsRefused (Refused refusal) = Unit {0}
 
 -- a query asks, and no more
@@ -36,6 +39,11 @@ IsQuery (command.Abandon id clerk) = ⊥
 IsQuery (command.State id) = Unit {0}
 IsQuery (command.Timing id) = Unit {0}
 IsQuery (command.Draft id) = Unit {0}
+IsQuery (command.Record c) = ⊥
+IsQuery (command.Cabinet id) = Unit {0}
+IsQuery (command.OpenOrders id) = Unit {0}
+IsQuery command.Stock = Unit {0}
+IsQuery (command.Overdue day) = Unit {0}
 
 -- the most timing rows that a command writes: a commit one for each draft row, any other none
 abbrev pub most_timing_writes : Content → Command → ℕ
@@ -49,28 +57,22 @@ most_draft_writes tables (command.Commit id clerk) = length (rows_of id tables.d
 most_draft_writes tables (command.Abandon id clerk) = length (rows_of id tables.draft)
 most_draft_writes tables _ = 0
 
--- the most rows of each table that a command writes: of an intersection one, of the cabinet none
+-- the most rows of an intersection that a command writes: one, and a command of the register none
+abbrev pub most_intersection_writes : Command → ℕ
+most_intersection_writes (command.Record c) = 0
+most_intersection_writes _ = 1
+
+-- the most rows of a table of the register that a command writes
+abbrev pub most_register_writes : Command → Table → ℕ
+most_register_writes (command.Record c) table = most_record_writes c table
+most_register_writes _ table = 0
+
+-- the most rows of each table that a command writes
 abbrev pub most_writes : Content → Command → Table → ℕ
-most_writes tables command table.Intersection = 1
+most_writes tables command table.Intersection = most_intersection_writes command
 most_writes tables command table.Timing = most_timing_writes tables command
 most_writes tables command table.Draft = most_draft_writes tables command
-most_writes tables command _ = 0
-
-abbrev pub is_same_table : Table → Table → Bool
-is_same_table table.Intersection table.Intersection = true
-is_same_table table.Timing table.Timing = true
-is_same_table table.Draft table.Draft = true
-is_same_table table.Inspection table.Inspection = true
-is_same_table table.WorkOrder table.WorkOrder = true
-is_same_table table.Part table.Part = true
-is_same_table table.Delivery table.Delivery = true
-is_same_table table.UsedPart table.UsedPart = true
-is_same_table _ _ = false
-
--- how many of the changes write a table
-abbrev pub writes_in : Table → List RowChange → ℕ
-writes_in table [] = 0
-writes_in table (change ∷ changes) = cond (is_same_table (table_of change) table) 1 0 + writes_in table changes
+most_writes tables command table = most_register_writes command table
 
 -- the counts rise at most by the most that the command writes
 abbrev pub RiseAtMost : Content → Command → WriteCounts → WriteCounts → Type 0

@@ -1,8 +1,10 @@
 pub mod Refusal
+pub mod Lists
 pub mod Office
 pub mod Step
 pub mod StandFor
 pub mod Timing
+pub mod RegisterRuns
 pub mod Answers
 pub mod Changes
 pub mod Damage
@@ -11,3 +13,4 @@ pub mod Reading
 pub mod Moving
 pub mod Transacting
 pub mod Decisions
+pub mod Recording

@@ -1,5 +1,6 @@
 -- What an office is, and when it is sound.
 use Rattle.std.specs.Prelude.{◌≡◌, ℕ, ◌≤◌, List, [], Option, Some, None, IfSome}
+use Rattle.std.specs.Int.{IsInRange}
 use Rattle.std.specs.Ordering.{nat_cmp}
 use Rattle.std.specs.FinMap.{FinMap, get, empty}
 use Rattle.signal_records.specs.Row.{key_of}
@@ -9,6 +10,7 @@ use Rattle.signal_records.specs.Words.{AreWords}
 use Rattle.signal_records.specs.declared.key.Key.{Key}
 use Rattle.signal_rules.specs.Violations.{violations_of}
 use Rattle.draft_core.specs.Transaction.{TimingSide, Draft}
+use Rattle.office_desk_cabinet.specs.Register.{Register, IsSoundRegister}
 use Rattle.draft_core.specs.declared.revision.TheConstants.{LAST_REVISION}
 
 -- an intersection of the office
@@ -17,9 +19,10 @@ pub record Intersection : Type 0 where
   pub interval : ℕ
   pub timing : TimingSide
 
--- an office: its intersections by number
+-- an office: its intersections by number, and its cabinet register
 pub record Office : Type 0 where
   pub intersections : FinMap nat_cmp Intersection
+  pub register : Register
 
 -- nothing was committed yet, and nobody holds a draft
 abbrev pub no_timing : TimingSide
@@ -53,6 +56,8 @@ pub record IsSoundIntersection (i : Intersection) : Type 0 where
   pub no_violations : violations_of i.timing.committed ≡ []
   pub draft : IfSome i.timing.draft IsSoundDraft
 
--- each intersection is sound
-abbrev pub IsSound : Office → Type 0
-IsSound office = (id : ℕ) → IfSome (get office.intersections id) IsSoundIntersection
+-- each intersection is sound and has a number of 1 to 9999, and the register is sound
+pub record IsSound (office : Office) : Type 0 where
+  pub numbers : (id : ℕ) → IfSome (get office.intersections id) (λ _. IsInRange 1 9999 id)
+  pub intersections : (id : ℕ) → IfSome (get office.intersections id) IsSoundIntersection
+  pub register : IsSoundRegister office.register

@@ -1,7 +1,7 @@
 -- The table of refusals.
 use Rattle.std.specs.Prelude.{ℕ, List, codes}
 use Rattle.office_desk.specs.declared.refusal.Refusal.{Refusal}
-use Rattle.office_desk.specs.declared.refusal.Refusal.TheVariants.{UnknownIntersection, IntersectionDiffers, NotNormal, NotTransaction, NotOwner, NotVerify, NotDone, VerifyFailed, RevisionFull, Unavailable, Damaged}
+use Rattle.office_desk.specs.declared.refusal.Refusal.TheVariants.{UnknownIntersection, IntersectionDiffers, NotNormal, NotTransaction, NotOwner, NotVerify, NotDone, VerifyFailed, RevisionFull, InspectionDiffers, OrderDiffers, UnknownOrder, OrderClosed, DayBeforeOpening, NoStock, StockFull, DeliveryDiffers, LineDiffers, CloseDiffers, Unavailable, Damaged}
 
 -- number, name, and status code of an HTTP answer
 pub record Line : Type 0 where
@@ -19,5 +19,15 @@ line_of NotVerify = record { number = 15; name = codes "NotVerify"; status = 409
 line_of NotDone = record { number = 16; name = codes "NotDone"; status = 409 }
 line_of (VerifyFailed count) = record { number = 17; name = codes "VerifyFailed"; status = 409 }
 line_of RevisionFull = record { number = 18; name = codes "RevisionFull"; status = 409 }
+line_of InspectionDiffers = record { number = 20; name = codes "InspectionDiffers"; status = 409 }
+line_of OrderDiffers = record { number = 21; name = codes "OrderDiffers"; status = 409 }
+line_of UnknownOrder = record { number = 22; name = codes "UnknownOrder"; status = 404 }
+line_of OrderClosed = record { number = 23; name = codes "OrderClosed"; status = 409 }
+line_of DayBeforeOpening = record { number = 24; name = codes "DayBeforeOpening"; status = 409 }
+line_of NoStock = record { number = 25; name = codes "NoStock"; status = 409 }
+line_of StockFull = record { number = 26; name = codes "StockFull"; status = 409 }
+line_of DeliveryDiffers = record { number = 27; name = codes "DeliveryDiffers"; status = 409 }
+line_of LineDiffers = record { number = 28; name = codes "LineDiffers"; status = 409 }
+line_of CloseDiffers = record { number = 29; name = codes "CloseDiffers"; status = 409 }
 line_of Unavailable = record { number = 90; name = codes "Unavailable"; status = 503 }
 line_of Damaged = record { number = 91; name = codes "Damaged"; status = 500 }

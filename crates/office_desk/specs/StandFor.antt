@@ -1,7 +1,7 @@
 -- Which office the tables stand for.
 use Rattle.std.specs.Prelude.{◌≡◌, ℕ, List, Option, Some, None, IfSome}
 use Rattle.std.specs.Option.{option_map}
-use Rattle.std.specs.FinMap.{entries, get, empty}
+use Rattle.std.specs.FinMap.{entries, get}
 use Rattle.signal_records.specs.Row.{key_of}
 use Rattle.signal_records.specs.Within.{IsRowWithin, IsKeyWithin, current_limits}
 use Rattle.signal_records.specs.declared.key.Key.{Key}
@@ -12,6 +12,7 @@ use Rattle.office_tables_shelf.specs.Cells.{Cell, Rows, tree_rows}
 use Rattle.office_tables_shelf.specs.Content.{Content}
 use Rattle.office_tables_shelf.specs.Rows.{intersection_key, intersection_columns, timing_key, timing_columns, left_columns}
 use Rattle.office_tables_shelf.specs.declared.rows.IntersectionRow.{IntersectionRow}
+use Rattle.office_desk_cabinet.specs.RegisterStands.{RegisterStands}
 use Rattle.office_desk.specs.Office.{Office, Intersection, IsSound, side_at}
 
 -- the row of an intersection
@@ -52,11 +53,7 @@ pub record StandFor (tables : Content) (office : Office) : Type 0 where
   pub timing_keys : HasTimingKeys tables.timing
   pub draft : (id : ℕ) (key : Key) → DraftRowStands tables office id key
   pub draft_keys : HasTimingKeys tables.draft
-  pub inspection : tables.inspection ≡ empty
-  pub work_order : tables.work_order ≡ empty
-  pub part : tables.part ≡ empty
-  pub delivery : tables.delivery ≡ empty
-  pub used_part : tables.used_part ≡ empty
+  pub register : RegisterStands tables office.register
 
 -- the tables stand for a sound office
 pub record StandForSound (tables : Content) (office : Office) : Type 0 where

@@ -1,16 +1,26 @@
 -- One step of the office machine, and its runs.
-use Rattle.std.specs.Prelude.{◌≡◌, ◌⊎◌, ℕ, List, [], ◌∷◌, ◌==◌, ◌&&◌, if◌then◌else◌, Option, Some, None, Result, Ok, Err}
+use Rattle.std.specs.Prelude.{◌≡◌, ◌⊎◌, ℕ, List, [], ◌∷◌, ◌==◌, ◌&&◌, if◌then◌else◌, map, Option, Some, None, Result, Ok, Err}
 use Rattle.std.specs.Option.{option_map}
 use Rattle.std.specs.Str.{bytes_eq}
-use Rattle.std.specs.FinMap.{get, insert, len}
+use Rattle.std.specs.FinMap.{get, insert, len, entries}
 use Rattle.signal_rules.specs.Violations.{violations_of}
 use Rattle.draft_core.specs.Transaction.{TimingSide, Draft, state_of, verdict_of, begun, edited, verified, checked, committed, reopened, abandoned}
 use Rattle.draft_core.specs.declared.refusal.DraftRefusal.{DraftRefusal}
 use Rattle.draft_core.specs.declared.refusal.DraftRefusal.TheVariants as draft
+use Rattle.cabinet_core.specs.Cabinet.{Line, added as added_line, same as same_line, refused as refused_line}
+use Rattle.cabinet_core.specs.Overdue.{Listed, overdue_list}
+use Rattle.cabinet_core.specs.declared.command.RecordCommand.{RecordCommand}
+use Rattle.cabinet_core.specs.declared.command.RecordCommand.TheVariants as register
+use Rattle.cabinet_core.specs.declared.inspections.Seen.{Seen}
+use Rattle.cabinet_core.specs.declared.refusal.CabinetRefusal.{CabinetRefusal}
+use Rattle.cabinet_core.specs.declared.refusal.CabinetRefusal.TheVariants as cabinet
+use Rattle.office_desk_cabinet.specs.Register.{Register, records_at, open_at, last_at, stock_of}
+use Rattle.office_desk_cabinet.specs.RegisterStep.{line_at, after_record}
+use Rattle.office_desk.specs.Lists.{CabinetLists}
 use Rattle.office_desk.specs.declared.command.Command.{Command}
 use Rattle.office_desk.specs.declared.command.Command.TheVariants as command
 use Rattle.office_desk.specs.declared.reply.Reply.{Reply}
-use Rattle.office_desk.specs.declared.reply.Reply.TheVariants.{Added, Same, Moved, State as Shown, Timing as Running, Draft as Drafted, Refused}
+use Rattle.office_desk.specs.declared.reply.Reply.TheVariants.{Added, Same, Moved, State as Shown, Timing as Running, Draft as Drafted, Cabinet, OpenOrders, Stock, Overdue, Refused}
 use Rattle.office_desk.specs.declared.reply.IntersectionState.{IntersectionState}
 use Rattle.office_desk.specs.declared.refusal.Refusal.{Refusal}
 use Rattle.office_desk.specs.declared.refusal.Refusal.TheVariants as refusal
@@ -80,6 +90,60 @@ abbrev pub shown : Option Intersection → (Intersection → Reply) → Reply
 shown None show = Refused refusal.UnknownIntersection
 shown (Some i) show = show i
 
+-- ---- the register
+
+abbrev pub refusal_of_record : CabinetRefusal → Refusal
+refusal_of_record cabinet.InspectionDiffers = refusal.InspectionDiffers
+refusal_of_record cabinet.OrderDiffers = refusal.OrderDiffers
+refusal_of_record cabinet.UnknownOrder = refusal.UnknownOrder
+refusal_of_record cabinet.OrderClosed = refusal.OrderClosed
+refusal_of_record cabinet.DayBeforeOpening = refusal.DayBeforeOpening
+refusal_of_record cabinet.NoStock = refusal.NoStock
+refusal_of_record cabinet.StockFull = refusal.StockFull
+refusal_of_record cabinet.DeliveryDiffers = refusal.DeliveryDiffers
+refusal_of_record cabinet.LineDiffers = refusal.LineDiffers
+refusal_of_record cabinet.CloseDiffers = refusal.CloseDiffers
+refusal_of_record cabinet.NoMemory = refusal.Unavailable
+
+-- a line of the register's table as a reply
+abbrev pub told : Line → Reply
+told added_line = Added
+told same_line = Same
+told (refused_line why) = Refused (refusal_of_record why)
+
+-- a command of the register
+abbrev pub recorded : Office → RecordCommand → Reply × Office
+recorded office command = (told (line_at office.register command), record office { register = after_record office.register command })
+
+-- the intersection whose cabinet a command is about; a delivery is about none
+abbrev pub cabinet_of : RecordCommand → Option ℕ
+cabinet_of (register.Inspect id inspection) = Some id
+cabinet_of (register.OpenOrder id opening) = Some id
+cabinet_of (register.UsePart id line) = Some id
+cabinet_of (register.CloseOrder id order closing) = Some id
+cabinet_of (register.Receive delivery) = None
+
+-- the intersection that a command is about has to be there
+abbrev pub known : Office → Option Intersection → Reply × Office → Reply × Office
+known office None answer = (Refused refusal.UnknownIntersection, office)
+known office (Some i) answer = answer
+
+abbrev pub recorded_at : Office → Option ℕ → Reply × Office → Reply × Office
+recorded_at office None answer = answer
+recorded_at office (Some id) answer = known office (get office.intersections id) answer
+
+-- what is known of the inspections of an intersection
+abbrev pub seen_of : Register → ℕ × Intersection → Seen
+seen_of r e = record { id = e.0; name = e.1.name; interval = e.1.interval; last = last_at r e.0 }
+
+-- all that the register holds of an intersection
+abbrev pub cabinet_shown : Register → ℕ → CabinetLists
+cabinet_shown r id = record { id = id; inspections = records_at id r.inspections; orders = records_at id r.orders; lines = records_at id r.lines }
+
+-- the intersections that are overdue on a day
+abbrev pub overdue_on : Office → ℕ → List Listed
+overdue_on office day = overdue_list day (map (seen_of office.register) (entries office.intersections))
+
 -- ---- the machine
 
 -- the reply and the next office
@@ -95,6 +159,11 @@ answered office (command.Abandon id clerk) = transacted office id abandoned (get
 answered office (command.State id) = (shown (get office.intersections id) (λ i. Shown (state_shown id i)), office)
 answered office (command.Timing id) = (shown (get office.intersections id) (λ i. Running (record { revision = i.timing.revision; rows = i.timing.committed })), office)
 answered office (command.Draft id) = (shown (get office.intersections id) (λ i. draft_shown i.timing.draft), office)
+answered office (command.Record c) = recorded_at office (cabinet_of c) (recorded office c)
+answered office (command.Cabinet id) = (shown (get office.intersections id) (λ i. Cabinet (cabinet_shown office.register id)), office)
+answered office (command.OpenOrders id) = (shown (get office.intersections id) (λ i. OpenOrders (open_at office.register id)), office)
+answered office command.Stock = (Stock (stock_of office.register), office)
+answered office (command.Overdue day) = (Overdue (overdue_on office day), office)
 
 -- A command takes its step, or is answered Unavailable and leaves the office.
 abbrev pub Step : Office → Command → Reply → Office → Type 0

@@ -4,7 +4,8 @@ ghost use Rattle.office_tables_shelf.specs.Shelf.{IsKept};
 ghost use Rattle.office_tables_shelf.specs.declared.rows.Table.{Table};
 ghost use Rattle.office_desk.specs.Adding.{AddsRow};
 ghost use Rattle.office_desk.specs.Answers.{Decides};
-ghost use Rattle.office_desk.specs.Changes.{IsRefused, most_writes, writes_in};
+ghost use Rattle.office_desk.specs.Changes.{IsRefused, most_writes};
+ghost use Rattle.office_tables_shelf.specs.Counts.{writes_in};
 
 use crate::command::Command;
 use crate::decided::Decided;
@@ -26,6 +27,7 @@ fn added(
 ) -> Result<Decided, NoMemory>
     ensures { IfOk result (λ decided. AddsRow id interval name.now row.now decided.reply decided.changes.items) }
 {
+    let _number = id.get();
     let text = name.as_str();
     let days = interval.get();
     if let Some(row) = row {

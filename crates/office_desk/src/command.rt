@@ -1,5 +1,6 @@
 //! What the office is asked.
 
+use cabinet_core::{Day, RecordCommand};
 use draft_core::changes::Changes;
 use signal_records::{InterId, Interval, Words};
 
@@ -60,5 +61,21 @@ pub enum Command {
     /// Asks for the draft and the rules that it breaks.
     Draft {
         id: InterId,
+    },
+    /// Records what was done in a cabinet, or what came into stock.
+    Record(RecordCommand),
+    /// Asks for all that the register holds of an intersection.
+    Cabinet {
+        id: InterId,
+    },
+    /// Asks which orders of an intersection are open.
+    OpenOrders {
+        id: InterId,
+    },
+    /// Asks how many of each part are on hand.
+    Stock,
+    /// Asks which intersections are overdue for an inspection on a day.
+    Overdue {
+        day: Day,
     },
 }

@@ -4,14 +4,18 @@ ghost use Rattle.office_tables_shelf.specs.Change.{changed_by};
 ghost use Rattle.office_tables_shelf.specs.Shelf.{IsKept};
 ghost use Rattle.office_tables_shelf.specs.declared.rows.Table.{Table};
 ghost use Rattle.office_desk.specs.Answers.{Decides, AnswersAny};
-ghost use Rattle.office_desk.specs.Changes.{IsRefused, IsQuery, writes_in, most_writes};
+ghost use Rattle.office_desk.specs.Changes.{IsRefused, IsQuery, most_writes};
+ghost use Rattle.office_tables_shelf.specs.Counts.{writes_in};
 ghost use Rattle.office_desk.specs.Damage.{MeetsDamage};
 ghost use Rattle.office_desk.specs.Decisions.{refusal_of};
 
 use crate::adding::decide_add;
 use crate::command::Command;
 use crate::decided::Decided;
+use crate::overdue::decide_overdue;
+use crate::recording::decide_record_command;
 use crate::refusal::Refusal;
+use crate::register_showing::{decide_cabinet, decide_open_orders, decide_stock};
 use crate::reply::Reply;
 use crate::showing::{decide_draft, decide_state, decide_timing};
 use crate::transacting::{
@@ -58,6 +62,11 @@ fn try_decide<S: Shelf>(
         Command::State { id } => decide_state(shelf, alloc, *id),
         Command::Timing { id } => decide_timing(shelf, alloc, *id),
         Command::Draft { id } => decide_draft(shelf, alloc, *id),
+        Command::Record(command) => decide_record_command(shelf, alloc, command),
+        Command::Cabinet { id } => decide_cabinet(shelf, alloc, *id),
+        Command::OpenOrders { id } => decide_open_orders(shelf, alloc, *id),
+        Command::Stock => decide_stock(shelf, alloc),
+        Command::Overdue { day } => decide_overdue(shelf, alloc, *day),
     }
 }
 

@@ -7,11 +7,12 @@ pub mod decided;
 mod deciding;
 mod moving;
 pub mod office;
+mod overdue;
 mod reading;
+mod recording;
 pub mod refusal;
+mod register_showing;
 pub mod reply;
 mod running;
 mod showing;
-#[cfg(test)]
-mod tests;
 mod transacting;

@@ -6,7 +6,8 @@ ghost use Rattle.office_tables_shelf.specs.Counts.{counts_after};
 ghost use Rattle.office_tables_shelf.specs.Shelf.{IsKept};
 ghost use Rattle.office_tables_shelf.specs.declared.rows.Table.{Table};
 ghost use Rattle.office_desk.specs.Answers.{AnswersAny, RunsAny, IsAfterStep};
-ghost use Rattle.office_desk.specs.Changes.{IsRefused, IsQuery, RiseAtMost, writes_in, most_writes};
+ghost use Rattle.office_desk.specs.Changes.{IsRefused, IsQuery, RiseAtMost, most_writes};
+ghost use Rattle.office_tables_shelf.specs.Counts.{writes_in};
 ghost use Rattle.office_desk.specs.Damage.{MeetsDamage};
 
 use crate::command::Command;

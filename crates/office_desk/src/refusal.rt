@@ -24,6 +24,26 @@ pub enum Refusal {
     VerifyFailed(usize),
     /// The timing set was committed as often as can be counted.
     RevisionFull,
+    /// Another inspection of the intersection has the number.
+    InspectionDiffers,
+    /// Another order on the intersection has the number.
+    OrderDiffers,
+    /// There is no such order.
+    UnknownOrder,
+    /// The order is closed.
+    OrderClosed,
+    /// The order was opened on a later day.
+    DayBeforeOpening,
+    /// Fewer pieces are on hand.
+    NoStock,
+    /// More than 999,999,999 pieces would be on hand.
+    StockFull,
+    /// Another delivery of the part has the number.
+    DeliveryDiffers,
+    /// Another line of the order has the number.
+    LineDiffers,
+    /// The order was closed on another day or by another clerk.
+    CloseDiffers,
     /// Memory or the database refused; nothing was changed.
     Unavailable,
     /// A stored row is no record.
@@ -56,6 +76,16 @@ impl Refusal {
             Refusal::NotDone => (16, "NotDone", 409),
             Refusal::VerifyFailed(_) => (17, "VerifyFailed", 409),
             Refusal::RevisionFull => (18, "RevisionFull", 409),
+            Refusal::InspectionDiffers => (20, "InspectionDiffers", 409),
+            Refusal::OrderDiffers => (21, "OrderDiffers", 409),
+            Refusal::UnknownOrder => (22, "UnknownOrder", 404),
+            Refusal::OrderClosed => (23, "OrderClosed", 409),
+            Refusal::DayBeforeOpening => (24, "DayBeforeOpening", 409),
+            Refusal::NoStock => (25, "NoStock", 409),
+            Refusal::StockFull => (26, "StockFull", 409),
+            Refusal::DeliveryDiffers => (27, "DeliveryDiffers", 409),
+            Refusal::LineDiffers => (28, "LineDiffers", 409),
+            Refusal::CloseDiffers => (29, "CloseDiffers", 409),
             Refusal::Unavailable => (90, "Unavailable", 503),
             Refusal::Damaged => (91, "Damaged", 500),
         };

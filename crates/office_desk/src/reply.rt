@@ -1,9 +1,10 @@
 //! What the office answers.
 
 use crate::refusal::Refusal;
+use cabinet_core::{CabinetView, Hand, OverdueRow, PartCode};
 use draft_core::revision::Revision;
 use draft_core::state::{DbState, Verdict};
-use signal_records::{InterId, Interval, TimingSet, Words};
+use signal_records::{InterId, Interval, RecordNo, TimingSet, Words};
 use signal_rules::Violation;
 use std::marker::Model;
 
@@ -76,6 +77,146 @@ pub struct OpenDraft {
     pub violations: Violations,
 }
 
+/// All that the register holds of an intersection. It is seen as its lists.
+#[derive(Drop)]
+pub struct CabinetShown {
+    id: InterId,
+    view: CabinetView,
+}
+
+impl Model for CabinetShown {
+    ghost use Rattle.office_desk.specs.Lists.{CabinetLists};
+
+    ghost Value = { CabinetLists };
+
+    ghost view = { λ s. record { id = s.id; inspections = s.view.inspections.items; orders = s.view.orders.items; lines = s.view.lines.items } };
+}
+
+impl CabinetShown {
+    ghost use Rattle.std.specs.Prelude.{◌≡◌};
+
+    /// What the register holds of the intersection with the number.
+    pub fn new(id: InterId, view: CabinetView) -> CabinetShown
+        ensures { result ≡ record { id = id; inspections = view.inspections.items; orders = view.orders.items; lines = view.lines.items } }
+    {
+        CabinetShown { id, view }
+    }
+
+    /// The number of the intersection.
+    pub fn id(&self) -> InterId
+        ensures { result ≡ self.now.id }
+    {
+        self.id
+    }
+
+    /// The lists.
+    pub fn view(&self) -> &CabinetView
+        ensures inspections { result.now.inspections.items ≡ self.now.inspections }
+        ensures orders { result.now.orders.items ≡ self.now.orders }
+        ensures lines { result.now.lines.items ≡ self.now.lines }
+    {
+        &self.view
+    }
+}
+
+/// Numbers of orders, ascending. They are seen as a list.
+#[derive(Drop)]
+pub struct OrderNumbers {
+    list: Vec<RecordNo>,
+}
+
+impl Model for OrderNumbers {
+    ghost use Rattle.std.specs.Prelude.{ℕ, List};
+
+    ghost Value = { List ℕ };
+
+    ghost view = { λ n. n.list.items };
+}
+
+impl OrderNumbers {
+    ghost use Rattle.std.specs.Prelude.{◌≡◌};
+
+    /// The numbers of a list.
+    pub fn new(list: Vec<RecordNo>) -> OrderNumbers
+        ensures { result ≡ list.items }
+    {
+        OrderNumbers { list }
+    }
+
+    /// The numbers.
+    pub fn as_slice(&self) -> &[RecordNo]
+        ensures { result.now ≡ self.now }
+    {
+        self.list.as_slice()
+    }
+}
+
+/// Parts by their codes, each with how many are on hand. They are seen as a list.
+#[derive(Drop)]
+pub struct Stock {
+    list: Vec<(PartCode, Hand)>,
+}
+
+impl Model for Stock {
+    ghost use Rattle.std.specs.Prelude.{ℕ, List};
+
+    ghost Value = { List (List ℕ × ℕ) };
+
+    ghost view = { λ s. s.list.items };
+}
+
+impl Stock {
+    ghost use Rattle.std.specs.Prelude.{◌≡◌};
+
+    /// The parts of a list.
+    pub fn new(list: Vec<(PartCode, Hand)>) -> Stock
+        ensures { result ≡ list.items }
+    {
+        Stock { list }
+    }
+
+    /// The parts.
+    pub fn as_slice(&self) -> &[(PartCode, Hand)]
+        ensures { result.now ≡ self.now }
+    {
+        self.list.as_slice()
+    }
+}
+
+/// Intersections whose inspection is overdue, by their numbers. They are seen as the list of what each row says.
+#[derive(Drop)]
+pub struct OverdueList {
+    rows: Vec<OverdueRow>,
+}
+
+impl Model for OverdueList {
+    ghost use Rattle.std.specs.Prelude.{List, map};
+    ghost use Rattle.cabinet_core.specs.Overdue.{Listed, listed};
+
+    ghost Value = { List Listed };
+
+    ghost view = { λ s. map listed s.rows.items };
+}
+
+impl OverdueList {
+    ghost use Rattle.std.specs.Prelude.{◌≡◌, map};
+    ghost use Rattle.cabinet_core.specs.Overdue.{listed};
+
+    /// The rows of a list.
+    pub fn new(rows: Vec<OverdueRow>) -> OverdueList
+        ensures { result ≡ map listed rows.items }
+    {
+        OverdueList { rows }
+    }
+
+    /// The rows.
+    pub fn as_slice(&self) -> &[OverdueRow]
+        ensures { map listed result.now ≡ self.now }
+    {
+        self.rows.as_slice()
+    }
+}
+
 /// What the office answers.
 #[derive(Drop)]
 pub enum Reply {
@@ -92,5 +233,9 @@ pub enum Reply {
     State(IntersectionState),
     Timing(RunningTiming),
     Draft(OpenDraft),
+    Cabinet(CabinetShown),
+    OpenOrders(OrderNumbers),
+    Stock(Stock),
+    Overdue(OverdueList),
     Refused(Refusal),
 }

@@ -4,7 +4,8 @@ ghost use Rattle.draft_core.specs.Moves.{FollowsSoundLine};
 ghost use Rattle.office_tables_shelf.specs.Shelf.{IsKept};
 ghost use Rattle.office_tables_shelf.specs.declared.rows.Table.{Table};
 ghost use Rattle.office_desk.specs.Answers.{Decides};
-ghost use Rattle.office_desk.specs.Changes.{IsRefused, most_writes, writes_in};
+ghost use Rattle.office_desk.specs.Changes.{IsRefused, most_writes};
+ghost use Rattle.office_tables_shelf.specs.Counts.{writes_in};
 ghost use Rattle.office_desk.specs.Transacting.{IsAskWithin, IsBounded, command_of, line_of};
 
 use crate::command::Command;

@@ -25,10 +25,3 @@ pub use overdue::overdue_text;
 pub use sheet::timing_sheet;
 pub use timing::timing_csv;
 pub use violations::violation_text;
-
-#[cfg(test)]
-mod cabinet_tests;
-#[cfg(test)]
-mod sheet_tests;
-#[cfg(test)]
-mod tests;

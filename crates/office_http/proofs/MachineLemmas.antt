@@ -13,8 +13,8 @@ use Rattle.office_desk.specs.declared.reply.Reply.TheVariants.{Refused}
 use Rattle.office_http_wire.specs.Answers.{answer_bytes}
 use Rattle.office_http_wire.specs.Faults.{ask_fault_text}
 use Rattle.office_http_wire.specs.declared.ask.Asked.{Asked}
-use Rattle.office_http_wire.specs.declared.ask.AskFault.{AskFault}
-use Rattle.office_http_wire.specs.declared.ask.AskFault.TheVariants.{NoMemory}
+use Rattle.office_http_fields.specs.declared.ask.AskFault.{AskFault}
+use Rattle.office_http_fields.specs.declared.ask.AskFault.TheVariants.{NoMemory}
 use Rattle.office_http.specs.Protocol.{AnswersAsked, AnswersRead}
 
 -- a reply that is not unavailable is that of the command's own step

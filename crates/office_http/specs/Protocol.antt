@@ -9,7 +9,7 @@ use Rattle.office_http_wire.specs.Answers.{answer_bytes, unavailable_bytes}
 use Rattle.office_http_wire.specs.Commands.{command_at}
 use Rattle.office_http_wire.specs.Faults.{ask_fault_text, framing_fault_text}
 use Rattle.office_http_wire.specs.declared.ask.Asked.{Asked}
-use Rattle.office_http_wire.specs.declared.ask.AskFault.{AskFault}
+use Rattle.office_http_fields.specs.declared.ask.AskFault.{AskFault}
 
 -- the command takes its step of the office machine, and its reply is written
 pub record AnswersAsked (before : Office) (asked : Asked) (answer : List ℕ) (after : Office) : Type 0 where

@@ -18,6 +18,3 @@ pub use office_http_wire::{
     AskFault, Asked, Field, Form, More, answer_of, command_of, fault_answer, unavailable,
 };
 pub use service::serve;
-
-#[cfg(test)]
-mod tests;

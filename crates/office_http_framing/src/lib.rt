@@ -9,5 +9,3 @@ mod fields;
 pub mod front;
 pub mod laws;
 pub mod machine;
-#[cfg(test)]
-mod tests;

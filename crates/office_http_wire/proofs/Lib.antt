@@ -1,6 +1,3 @@
-pub mod BodyLemmas
-pub mod PathLemmas
 pub mod RouteTable
 pub mod RowLemmas
 pub mod TreeLemmas
-pub mod ValueLemmas

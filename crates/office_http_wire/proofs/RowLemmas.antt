@@ -10,11 +10,11 @@ use Rattle.signal_records.specs.Reading.{change_at, texts}
 use Rattle.signal_records.specs.Within.{current_limits}
 use Rattle.signal_records.specs.declared.fault.RowFault.{RowFault}
 use Rattle.signal_records.specs.declared.record.Change.{Change}
-use Rattle.office_http_wire.specs.declared.ask.AskFault.{AskFault}
-use Rattle.office_http_wire.specs.declared.ask.AskFault.TheVariants.{BadRow}
-use Rattle.office_http_wire.specs.declared.ask.Field.TheVariants.{Rows as FieldRows}
-use Rattle.office_http_wire.specs.Fields.{field_name}
-use Rattle.office_http_wire.specs.Asks.{◌>>=◌}
+use Rattle.office_http_fields.specs.declared.ask.AskFault.{AskFault}
+use Rattle.office_http_fields.specs.declared.ask.AskFault.TheVariants.{BadRow}
+use Rattle.office_http_fields.specs.declared.ask.Field.TheVariants.{Rows as FieldRows}
+use Rattle.office_http_fields.specs.Fields.{field_name}
+use Rattle.office_http_fields.specs.Asks.{◌>>=◌}
 use Rattle.office_http_wire.specs.Rows.{RowRefs, rows_seen, list_of, list_in, each, texts_in, rows_in, changes_of}
 
 -- what is done, before what the rest gives

@@ -3,15 +3,16 @@ use Rattle.std.specs.Prelude.{ℕ, List, Result, Ok, Err, bytes_eq, if◌then◌
 use Rattle.office_desk.specs.declared.command.Command.{Command}
 use Rattle.office_desk.specs.declared.command.Command.TheVariants as command
 use Rattle.office_http_wire.specs.declared.ask.Asked.{Asked}
-use Rattle.office_http_wire.specs.declared.ask.AskFault.{AskFault}
-use Rattle.office_http_wire.specs.declared.ask.AskFault.TheVariants.{Method}
-use Rattle.office_http_wire.specs.declared.ask.Field.TheVariants.{Clerk, Name}
+use Rattle.office_http_fields.specs.declared.ask.AskFault.{AskFault}
+use Rattle.office_http_fields.specs.declared.ask.AskFault.TheVariants.{Method}
+use Rattle.office_http_fields.specs.declared.ask.Field.TheVariants.{Clerk, Name}
 use Rattle.office_http_wire.specs.declared.ask.Form.TheVariants.{Json}
 use Rattle.office_http_wire.specs.declared.route.Endpoint.{Endpoint}
-use Rattle.office_http_wire.specs.declared.route.Endpoint.TheVariants.{AddIntersection, State, Timing, Draft, Begin, Edit, Verify, Check, Commit, Reopen, Abandon}
-use Rattle.office_http_wire.specs.Asks.{◌>>=◌, or_no_route}
-use Rattle.office_http_wire.specs.Bodies.{body_of, id_in, interval_in, words_in}
-use Rattle.office_http_wire.specs.Paths.{id_at}
+use Rattle.office_http_wire.specs.declared.route.Endpoint.TheVariants.{AddIntersection, State, Timing, Draft, Begin, Edit, Verify, Check, Commit, Reopen, Abandon, Record, Cabinet, OpenOrders, Stock, Overdue}
+use Rattle.office_http_fields.specs.Asks.{◌>>=◌, or_no_route}
+use Rattle.office_http_fields.specs.Bodies.{body_of, id_in, interval_in, words_in}
+use Rattle.office_http_fields.specs.Paths.{day_at, id_at}
+use Rattle.office_http_register.specs.Recording.{recorded_at}
 use Rattle.office_http_wire.specs.Routes.{endpoint_of, method_of}
 use Rattle.office_http_wire.specs.Rows.{changes_in}
 
@@ -76,6 +77,19 @@ asked_at Reopen path bytes = do
 asked_at Abandon path bytes = do
   found ← id_and_clerk_in path bytes
   Ok (asked_in_json (command.Abandon found.0 found.1))
+asked_at (Record kind) path bytes = do
+  record_command ← recorded_at kind path bytes
+  Ok (asked_in_json (command.Record record_command))
+asked_at Cabinet path bytes = do
+  id ← id_at path
+  Ok (asked_in_json (command.Cabinet id))
+asked_at OpenOrders path bytes = do
+  id ← id_at path
+  Ok (asked_in_json (command.OpenOrders id))
+asked_at Stock path bytes = Ok (asked_in_json command.Stock)
+asked_at Overdue path bytes = do
+  day ← day_at path
+  Ok (asked_in_json (command.Overdue day))
 
 -- the command of a request: its route, then the method, then the fields
 unfoldable pub command_at : List ℕ → List ℕ → List ℕ → Result Asked AskFault

@@ -4,13 +4,13 @@ use Rattle.serde_json.specs.Data.{Data}
 use Rattle.office_desk.specs.Refusal.{Line}
 use Rattle.office_http_framing.specs.Front.{fault_number}
 use Rattle.office_http_framing.specs.declared.front.Fault.{Fault}
-use Rattle.office_http_wire.specs.declared.ask.AskFault.{AskFault}
-use Rattle.office_http_wire.specs.declared.ask.AskFault.TheVariants as ask
+use Rattle.office_http_fields.specs.declared.ask.AskFault.{AskFault}
+use Rattle.office_http_fields.specs.declared.ask.AskFault.TheVariants as ask
 use Rattle.office_http_wire.specs.declared.fault.More.{More}
 use Rattle.office_http_wire.specs.declared.fault.More.TheVariants.{Nothing, Field as FieldMore, Row as RowMore}
 use Rattle.office_http_wire.specs.Answers.{answer_text, unavailable_bytes}
-use Rattle.office_http_wire.specs.Fields.{field_name}
-use Rattle.office_http_wire.specs.Trees.{count, text, keys}
+use Rattle.office_http_fields.specs.Fields.{field_name}
+use Rattle.office_http_fields.specs.Json.{count, text, keys}
 use Rattle.signal_records.specs.RowFault.{fault_name, fault_field}
 
 -- a line of the table

@@ -1,11 +1,6 @@
 pub mod Answers
-pub mod Asks
-pub mod Bodies
 pub mod Commands
 pub mod Faults
-pub mod Fields
-pub mod Paths
 pub mod Routes
 pub mod Rows
 pub mod Trees
-pub mod Values

@@ -7,8 +7,18 @@ use Rattle.matchit.specs.Router.{RouteOf, route_from}
 use Rattle.matchit.specs.Order.{placed}
 use Rattle.matchit.specs.Seek.{first}
 use Rattle.matchit.specs.declared.error.InsertError.{InsertError}
+use Rattle.office_http_register.specs.declared.kind.RecordKind.{RecordKind}
+use Rattle.office_http_register.specs.declared.kind.RecordKind.TheVariants.{Inspect, OpenOrder, UsePart, CloseOrder, Receive}
 use Rattle.office_http_wire.specs.declared.route.Endpoint.{Endpoint}
-use Rattle.office_http_wire.specs.declared.route.Endpoint.TheVariants.{AddIntersection, State, Timing, Draft, Begin, Edit, Verify, Check, Commit, Reopen, Abandon}
+use Rattle.office_http_wire.specs.declared.route.Endpoint.TheVariants.{AddIntersection, State, Timing, Draft, Begin, Edit, Verify, Check, Commit, Reopen, Abandon, Record, Cabinet, OpenOrders, Stock, Overdue}
+
+-- the route that records something in the register
+abbrev pub record_route_text : RecordKind → List ℕ
+record_route_text Inspect = codes "/intersections/{id}/inspections"
+record_route_text OpenOrder = codes "/intersections/{id}/orders"
+record_route_text UsePart = codes "/intersections/{id}/orders/{order}/parts"
+record_route_text CloseOrder = codes "/intersections/{id}/orders/{order}/close"
+record_route_text Receive = codes "/deliveries"
 
 -- the route of an endpoint
 abbrev pub route_text : Endpoint → List ℕ
@@ -23,6 +33,11 @@ route_text Check = codes "/intersections/{id}/check"
 route_text Commit = codes "/intersections/{id}/commit"
 route_text Reopen = codes "/intersections/{id}/reopen"
 route_text Abandon = codes "/intersections/{id}/abandon"
+route_text (Record kind) = record_route_text kind
+route_text Cabinet = codes "/intersections/{id}/cabinet"
+route_text OpenOrders = codes "/intersections/{id}/open-orders"
+route_text Stock = codes "/stock"
+route_text Overdue = codes "/overdue/{day}"
 
 -- the one method of an endpoint
 abbrev pub method_of : Endpoint → List ℕ
@@ -37,12 +52,19 @@ method_of Check = codes "POST"
 method_of Commit = codes "POST"
 method_of Reopen = codes "POST"
 method_of Abandon = codes "POST"
+method_of (Record kind) = codes "POST"
+method_of Cabinet = codes "GET"
+method_of OpenOrders = codes "GET"
+method_of Stock = codes "GET"
+method_of Overdue = codes "GET"
 
 -- the table's endpoints, in its order
 abbrev pub endpoints : List Endpoint
 endpoints =
     AddIntersection ∷ State ∷ Timing ∷ Draft ∷ Begin
-    ∷ Edit ∷ Verify ∷ Check ∷ Commit ∷ Reopen ∷ Abandon ∷ []
+    ∷ Edit ∷ Verify ∷ Check ∷ Commit ∷ Reopen ∷ Abandon
+    ∷ Record Inspect ∷ Record OpenOrder ∷ Record UsePart ∷ Record CloseOrder ∷ Record Receive
+    ∷ Cabinet ∷ OpenOrders ∷ Stock ∷ Overdue ∷ []
 
 -- a router's rows
 abbrev pub Rows : Type 0

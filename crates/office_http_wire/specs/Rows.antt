@@ -8,11 +8,11 @@ use Rattle.signal_records.specs.Reading.{change_at, texts}
 use Rattle.signal_records.specs.Within.{current_limits}
 use Rattle.signal_records.specs.declared.fault.RowFault.{RowFault}
 use Rattle.signal_records.specs.declared.record.Change.{Change}
-use Rattle.office_http_wire.specs.declared.ask.AskFault.{AskFault}
-use Rattle.office_http_wire.specs.declared.ask.AskFault.TheVariants.{BadRow}
-use Rattle.office_http_wire.specs.declared.ask.Field.TheVariants.{Rows}
-use Rattle.office_http_wire.specs.Asks.{◌>>=◌, or_field}
-use Rattle.office_http_wire.specs.Fields.{field_name}
+use Rattle.office_http_fields.specs.declared.ask.AskFault.{AskFault}
+use Rattle.office_http_fields.specs.declared.ask.AskFault.TheVariants.{BadRow}
+use Rattle.office_http_fields.specs.declared.ask.Field.TheVariants.{Rows}
+use Rattle.office_http_fields.specs.Asks.{◌>>=◌, or_field}
+use Rattle.office_http_fields.specs.Fields.{field_name}
 
 -- the items of an array, as a list
 abbrev pub list_of : Items → List Data

@@ -1,8 +1,7 @@
 -- The JSON trees of replies, each object's keys in ascending order.
-use Rattle.std.specs.Prelude.{ℕ, List, [], ◌∷◌, map, codes, Option, Some, None}
+use Rattle.std.specs.Prelude.{ℕ, List, [], ◌∷◌, codes}
 use Rattle.std.specs.FinMap.{values}
-use Rattle.serde_json.specs.Data.{Data, null, number, string, array, object, unsigned, Members, no_members, member}
-use Rattle.serde_json.specs.View.{items_of}
+use Rattle.serde_json.specs.Data.{Data}
 use Rattle.draft_core.specs.declared.state.DbState.{DbState}
 use Rattle.draft_core.specs.declared.state.DbState.TheVariants.{Normal, Transaction, Verify, Done}
 use Rattle.draft_core.specs.declared.state.Verdict.{Verdict}
@@ -13,40 +12,16 @@ use Rattle.office_desk.specs.declared.refusal.Refusal.TheVariants.{VerifyFailed}
 use Rattle.office_desk.specs.declared.reply.IntersectionState.{IntersectionState}
 use Rattle.office_desk.specs.declared.reply.OpenDraft.{OpenDraft}
 use Rattle.office_desk.specs.declared.reply.Reply.{Reply}
-use Rattle.office_desk.specs.declared.reply.Reply.TheVariants.{Added, Same, Moved, State, Timing, Draft, Refused}
+use Rattle.office_desk.specs.declared.reply.Reply.TheVariants.{Added, Same, Moved, State, Timing, Draft, Cabinet, OpenOrders, Stock, Overdue, Refused}
 use Rattle.office_desk.specs.declared.reply.RunningTiming.{RunningTiming}
+use Rattle.office_http_fields.specs.Json.{count, text, or_null, list, keys}
+use Rattle.office_http_register.specs.Trees.{cabinet_tree, open_tree, stock_tree, overdue_tree}
 use Rattle.signal_records.specs.Spelling.{spelling}
 use Rattle.signal_records.specs.TimingSet.{Rows}
 use Rattle.signal_records.specs.Within.{current_limits}
 use Rattle.signal_records.specs.declared.record.Row.{Row}
 use Rattle.signal_rules.specs.Texts.{rule_text, subject_text}
 use Rattle.signal_rules.specs.declared.violation.Violation.{Violation}
-
--- a number
-abbrev pub count : ℕ → Data
-count n = number (unsigned n)
-
--- a text
-abbrev pub text : List ℕ → Data
-text bytes = string bytes
-
--- a value, or null where there is none
-abbrev pub or_null : {A : Type 0} → (A → Data) → Option A → Data
-or_null tree None = null
-or_null tree (Some x) = tree x
-
--- an array of the trees of a list
-abbrev pub list : {A : Type 0} → (A → Data) → List A → Data
-list tree xs = array (items_of (map tree xs))
-
--- the members of an object
-abbrev pub members : List (List ℕ × Data) → Members
-members [] = no_members
-members (entry ∷ rest) = member entry.0 entry.1 (members rest)
-
--- an object of these keys, which stand in ascending order
-abbrev pub keys : List (List ℕ × Data) → Data
-keys entries = object (members entries)
 
 -- the name of a state of the transaction
 abbrev pub state_name : DbState → List ℕ
@@ -127,4 +102,8 @@ tree_of (Moved revision state verdict) =
 tree_of (State shown) = state_tree shown
 tree_of (Timing shown) = timing_tree shown
 tree_of (Draft shown) = draft_tree shown
+tree_of (Cabinet shown) = cabinet_tree shown.inspections shown.orders shown.lines
+tree_of (OpenOrders numbers) = open_tree numbers
+tree_of (Stock parts) = stock_tree parts
+tree_of (Overdue rows) = overdue_tree rows
 tree_of (Refused refusal) = refusal_tree refusal

@@ -1,10 +1,11 @@
 //! A table of routes that is kept from one request to the next.
 ghost use Rattle.std.specs.Prelude.{◌≡◌, None, OnOk, IsSome};
-ghost use Rattle.office_http_wire.specs.Asks.{Gives};
+ghost use Rattle.office_http_fields.specs.Asks.{Gives};
 ghost use Rattle.office_http_wire.specs.Commands.{command_at};
 
-use crate::ask::{AskFault, Asked};
+use crate::ask::Asked;
 use crate::route::Routes;
+use office_http_fields::AskFault;
 use office_http_framing::front::Request;
 use std::alloc::Global;
 

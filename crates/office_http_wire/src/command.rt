@@ -1,13 +1,15 @@
 //! From a request to a command.
 ghost use Rattle.std.specs.Prelude.{◌≡◌};
-ghost use Rattle.office_http_wire.specs.Asks.{Gives};
+ghost use Rattle.office_http_fields.specs.Asks.{Gives};
 ghost use Rattle.office_http_wire.specs.Commands.{added_intersection, asked_at, asked_in_json, command_at, edited_in, id_and_clerk_in};
 
-use crate::ask::{AskFault, Asked, Field, Form};
+use crate::ask::{Asked, Form};
 use crate::route::{Endpoint, Routes};
-use crate::{body, path, rows};
+use crate::rows;
 use office_desk::command::Command;
+use office_http_fields::{AskFault, Field, body, path};
 use office_http_framing::front::Request;
+use office_http_register as register;
 use signal_records::{InterId, Words};
 use std::alloc::Global;
 
@@ -69,6 +71,14 @@ fn asked(alloc: Global, endpoint: Endpoint, path: &[u8], body: &[u8]) -> Result<
             let (id, clerk) = id_and_clerk(alloc, path, body)?;
             Ok(in_json(Command::Abandon { id, clerk }))
         }
+        Endpoint::Record(kind) => {
+            let command = register::command_of(alloc, kind, path, body)?;
+            Ok(in_json(Command::Record(command)))
+        }
+        Endpoint::Cabinet => path::id(path).map(|id| in_json(Command::Cabinet { id })),
+        Endpoint::OpenOrders => path::id(path).map(|id| in_json(Command::OpenOrders { id })),
+        Endpoint::Stock => Ok(in_json(Command::Stock)),
+        Endpoint::Overdue => path::day(path).map(|day| in_json(Command::Overdue { day })),
     }
 }
 
@@ -87,8 +97,8 @@ fn add_intersection(alloc: Global, body: &[u8]) -> Result<Asked, AskFault>
     ensures { Gives result (added_intersection body.now) }
 {
     let body = body::read(alloc, body)?;
-    let id = body::id(&body)?;
-    let interval = body::interval(&body)?;
+    let id = body::number(&body, Field::Id)?;
+    let interval = body::number(&body, Field::Interval)?;
     let name = body::words(alloc, &body, Field::Name)?;
     Ok(in_json(Command::AddIntersection { id, interval, name }))
 }

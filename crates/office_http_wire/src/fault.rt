@@ -1,12 +1,12 @@
 //! The answers of requests that ask nothing.
 ghost use Rattle.std.specs.Prelude.{◌≡◌, ◌≢◌, IfOk};
 ghost use Rattle.serde_json.specs.View.{view};
-ghost use Rattle.office_http_wire.specs.declared.ask.AskFault.TheVariants.{NoMemory};
+ghost use Rattle.office_http_fields.specs.declared.ask.AskFault.TheVariants.{NoMemory};
 ghost use Rattle.office_http_wire.specs.Faults.{fault_line, fault_tree, fault_bytes, ask_fault_text, framing_fault_text, IsFault};
 
 use crate::answer::text_of;
-use crate::ask::{AskFault, Field};
 use http::StatusCode;
+use office_http_fields::{AskFault, Field};
 use office_http_framing::front::Fault;
 use serde_json::{Value, json};
 use signal_records::RowFault;

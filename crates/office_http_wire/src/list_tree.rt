@@ -1,7 +1,8 @@
 //! The JSON trees of lists: the rows of a timing set, and the rules that a draft breaks.
 ghost use Rattle.std.specs.Prelude.{◌≡◌, map, IfOk, string_bytes};
 ghost use Rattle.serde_json.specs.View.{view};
-ghost use Rattle.office_http_wire.specs.Trees.{list, text, row_tree, rows_tree, violation_tree};
+ghost use Rattle.office_http_fields.specs.Json.{list, text};
+ghost use Rattle.office_http_wire.specs.Trees.{row_tree, rows_tree, violation_tree};
 
 use serde_json::{Value, json};
 use signal_records::{Row, TimingSet, write_row};

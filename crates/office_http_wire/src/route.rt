@@ -1,12 +1,13 @@
 //! The routes of the office, and the table that finds the route of a path.
 ghost use Rattle.std.specs.Prelude.{◌≡◌, bytes_eq, IfOk, IfErr};
 ghost use Rattle.matchit.specs.declared.error.InsertError.TheVariants.{OutOfMemory};
-ghost use Rattle.office_http_wire.specs.Asks.{or_no_route};
-ghost use Rattle.office_http_wire.specs.Routes.{route_rows, route_text, method_of, endpoint_of};
+ghost use Rattle.office_http_fields.specs.Asks.{or_no_route};
+ghost use Rattle.office_http_wire.specs.Routes.{route_rows, route_text, record_route_text, method_of, endpoint_of};
 
-use crate::ask::AskFault;
 use http::Method;
 use matchit::{InsertError, Router};
+use office_http_fields::AskFault;
+use office_http_register::RecordKind;
 use signal_records::NoMemory;
 use std::alloc::Global;
 use std::marker::Model;
@@ -26,11 +27,16 @@ pub enum Endpoint {
     Commit,
     Reopen,
     Abandon,
+    Record(RecordKind),
+    Cabinet,
+    OpenOrders,
+    Stock,
+    Overdue,
 }
 
 impl Endpoint {
     /// Every endpoint, in the order of the table of routes.
-    pub const ALL: [Endpoint; 11] = [
+    pub const ALL: [Endpoint; 20] = [
         Endpoint::AddIntersection,
         Endpoint::State,
         Endpoint::Timing,
@@ -42,6 +48,15 @@ impl Endpoint {
         Endpoint::Commit,
         Endpoint::Reopen,
         Endpoint::Abandon,
+        Endpoint::Record(RecordKind::Inspect),
+        Endpoint::Record(RecordKind::OpenOrder),
+        Endpoint::Record(RecordKind::UsePart),
+        Endpoint::Record(RecordKind::CloseOrder),
+        Endpoint::Record(RecordKind::Receive),
+        Endpoint::Cabinet,
+        Endpoint::OpenOrders,
+        Endpoint::Stock,
+        Endpoint::Overdue,
     ];
 
     /// The one method of the route.
@@ -60,6 +75,11 @@ impl Endpoint {
             Endpoint::Commit => Method::POST,
             Endpoint::Reopen => Method::POST,
             Endpoint::Abandon => Method::POST,
+            Endpoint::Record(_) => Method::POST,
+            Endpoint::Cabinet => Method::GET,
+            Endpoint::OpenOrders => Method::GET,
+            Endpoint::Stock => Method::GET,
+            Endpoint::Overdue => Method::GET,
         }
     }
 
@@ -86,7 +106,25 @@ impl Endpoint {
             Endpoint::Commit => "/intersections/{id}/commit",
             Endpoint::Reopen => "/intersections/{id}/reopen",
             Endpoint::Abandon => "/intersections/{id}/abandon",
+            Endpoint::Record(kind) => record_route(kind),
+            Endpoint::Cabinet => "/intersections/{id}/cabinet",
+            Endpoint::OpenOrders => "/intersections/{id}/open-orders",
+            Endpoint::Stock => "/stock",
+            Endpoint::Overdue => "/overdue/{day}",
         }
+    }
+}
+
+// The route that records something in the register.
+fn record_route(kind: RecordKind) -> &'static str
+    ensures { result.now ≡ record_route_text kind }
+{
+    match kind {
+        RecordKind::Inspect => "/intersections/{id}/inspections",
+        RecordKind::OpenOrder => "/intersections/{id}/orders",
+        RecordKind::UsePart => "/intersections/{id}/orders/{order}/parts",
+        RecordKind::CloseOrder => "/intersections/{id}/orders/{order}/close",
+        RecordKind::Receive => "/deliveries",
     }
 }
 

@@ -2,12 +2,12 @@
 ghost use Rattle.std.specs.Prelude.{◌≡◌, ◌≢◌, IfOk, option_map, option_and_then};
 ghost use Rattle.serde_json.specs.Find.{get, as_array};
 ghost use Rattle.serde_json.specs.View.{view, items_view};
-ghost use Rattle.office_http_wire.specs.Asks.{Gives};
-ghost use Rattle.office_http_wire.specs.Fields.{field_name};
+ghost use Rattle.office_http_fields.specs.Asks.{Gives};
+ghost use Rattle.office_http_fields.specs.Fields.{field_name};
 ghost use Rattle.office_http_wire.specs.Rows.{texts_in, rows_in, changes_of, changes_in, ShowsTexts, ShowsRows, rows_seen};
 
-use crate::ask::{AskFault, Field};
 use draft_core::changes::Changes;
+use office_http_fields::{AskFault, Field};
 use serde_json::Value;
 use signal_records::{RowFault, read_change};
 use std::alloc::{AllocError, Global};

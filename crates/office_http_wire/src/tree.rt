@@ -1,12 +1,14 @@
 //! The JSON trees of replies.
 ghost use Rattle.std.specs.Prelude.{◌≡◌, IfOk};
 ghost use Rattle.serde_json.specs.View.{view};
-ghost use Rattle.office_http_wire.specs.Trees.{or_null, text, tree_of, refusal_tree, state_tree, timing_tree, draft_tree, state_name, verdict_name};
+ghost use Rattle.office_http_fields.specs.Json.{or_null, text};
+ghost use Rattle.office_http_wire.specs.Trees.{tree_of, refusal_tree, state_tree, timing_tree, draft_tree, state_name, verdict_name};
 
 use crate::list_tree;
 use draft_core::state::{DbState, Verdict};
 use office_desk::refusal::Refusal;
 use office_desk::reply::{IntersectionState, OpenDraft, Reply, RunningTiming};
+use office_http_register::{of_cabinet, of_open_orders, of_overdue, of_stock};
 use serde_json::{Value, json};
 use signal_records::Words;
 use std::alloc::{AllocError, Global};
@@ -111,6 +113,10 @@ pub(crate) fn of_reply(alloc: Global, reply: &Reply) -> Result<Value, AllocError
         Reply::State(shown) => of_state(alloc, shown),
         Reply::Timing(shown) => of_timing(alloc, shown),
         Reply::Draft(shown) => of_draft(alloc, shown),
+        Reply::Cabinet(shown) => of_cabinet(alloc, shown.view()),
+        Reply::OpenOrders(numbers) => of_open_orders(alloc, numbers.as_slice()),
+        Reply::Stock(parts) => of_stock(alloc, parts.as_slice()),
+        Reply::Overdue(rows) => of_overdue(alloc, rows.as_slice()),
         Reply::Refused(refusal) => refused(alloc, *refusal),
     }
 }

@@ -7,6 +7,7 @@ ghost use Rattle.office_tables_shelf.specs.Change.{changed, changed_by};
 ghost use Rattle.office_tables_sql.specs.Stored.{content_now, content_of};
 ghost use Rattle.office_tables_sql.specs.Calls.{IsHonest, IsOffice, IsReady, StandsOn};
 
+use office_tables_cabinet::{delivery, inspection, order, part, used};
 use office_tables_shelf::rows::RowChange;
 use office_tables_sql::statement::SqlFault;
 use office_tables_sql::{draft, intersection, timing};
@@ -31,6 +32,11 @@ fn change_row<S: Alter>(
         RowChange::RemoveTiming(id, key) => timing::remove(tx, *id, key),
         RowChange::PutDraft(id, change) => draft::put(alloc, tx, *id, change),
         RowChange::RemoveDraft(id, key) => draft::remove(tx, *id, key),
+        RowChange::PutInspection(id, found) => inspection::put(tx, *id, found),
+        RowChange::PutOrder(id, found) => order::put(tx, *id, found),
+        RowChange::PutLine(id, line) => used::put(tx, *id, line),
+        RowChange::PutPart(code, hand) => part::put(tx, code, *hand),
+        RowChange::PutDelivery(found) => delivery::put(tx, found),
     }
 }
 

@@ -4,8 +4,6 @@
 mod change;
 pub mod open;
 pub mod sql_shelf;
-#[cfg(test)]
-mod tests;
 mod version;
 
 pub use office_tables_shelf::{counts, map_shelf, rows, shelf};

@@ -12,11 +12,13 @@ ghost use Rattle.office_tables.specs.Version.{HasRow, version_in, first_version}
 
 use crate::change;
 use crate::open::{OpenFault, claim, prepared};
+use cabinet_core::{Delivery, Hand, Inspection, Order, PartCode, UsedLine};
+use office_tables_cabinet::{delivery, inspection, order, part, used};
 use office_tables_shelf::counts::WriteCounts;
 use office_tables_shelf::rows::{IntersectionRow, RowChange, Table};
 use office_tables_shelf::shelf::{Shelf, ShelfFault};
 use office_tables_sql::{draft_list, intersection, intersection_list, timing_list};
-use signal_records::{Change, InterId, Row};
+use signal_records::{Change, InterId, RecordNo, Row};
 use sqlite::{Alter, Connection};
 use std::alloc::Global;
 use std::marker::Model;
@@ -140,6 +142,35 @@ impl<S: Alter> Shelf for SqlShelf<S> {
 
     fn draft_rows(&mut self, alloc: Global, id: InterId) -> Result<Vec<Change>, ShelfFault> {
         draft_list::draft_rows(alloc, &mut self.conn, id)
+    }
+
+    fn inspections(&mut self, alloc: Global, id: InterId) -> Result<Vec<Inspection>, ShelfFault> {
+        inspection::inspections(alloc, &mut self.conn, id)
+    }
+
+    fn orders(&mut self, alloc: Global, id: InterId) -> Result<Vec<Order>, ShelfFault> {
+        order::orders(alloc, &mut self.conn, id)
+    }
+
+    fn used_lines(&mut self, alloc: Global, id: InterId) -> Result<Vec<UsedLine>, ShelfFault> {
+        used::used_lines(alloc, &mut self.conn, id)
+    }
+
+    fn delivery(
+        &mut self,
+        _alloc: Global,
+        part: &PartCode,
+        number: RecordNo,
+    ) -> Result<Option<Delivery>, ShelfFault> {
+        delivery::delivery(&mut self.conn, part, number)
+    }
+
+    fn hand(&mut self, _alloc: Global, part: &PartCode) -> Result<Option<Hand>, ShelfFault> {
+        part::hand(&mut self.conn, part)
+    }
+
+    fn parts(&mut self, alloc: Global) -> Result<Vec<(PartCode, Hand)>, ShelfFault> {
+        part::parts(alloc, &mut self.conn)
     }
 
     fn apply(&mut self, alloc: Global, changes: &[RowChange]) -> Result<(), ShelfFault> {

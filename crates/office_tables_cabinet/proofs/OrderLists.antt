@@ -25,7 +25,7 @@ use Rattle.office_tables_sql.specs.Stored.{cells_at}
 use Rattle.office_tables_sql.proofs.ListLemmas.{distinct_keys, unique_by}
 use Rattle.office_tables_sql.proofs.ListedLemmas.{IsListing, list_query, listing, shown_width, stands}
 use Rattle.office_tables_sql.proofs.SchemaLemmas.{IsRead, AreShaped}
-use Rattle.office_tables_cabinet.specs.CabinetReads.{HasDamagedOrder}
+use Rattle.office_tables_shelf.specs.CabinetReads.{HasDamagedOrder}
 use Rattle.office_tables_cabinet.specs.CabinetShown.{shown_order, IsNoOrder}
 use Rattle.office_tables_cabinet.specs.declared.order.TheConstants.{LIST}
 use Rattle.office_tables_cabinet.proofs.FirstColumn.{of_first, first_is}

@@ -29,7 +29,7 @@ use Rattle.office_tables_sql.proofs.SchemaLemmas.{IsWrite}
 use Rattle.office_tables_sql.proofs.WriteLemmas.{IsIdle}
 use Rattle.office_tables_sql.proofs.PutLemmas.{cast_int, cast_null}
 use Rattle.office_tables_sql.proofs.KeyedLemmas.{put_keyed}
-use Rattle.office_tables_cabinet.specs.CabinetRows.{order_key, order_columns, closed_cell, closer_cell}
+use Rattle.office_tables_shelf.specs.CabinetRows.{order_key, order_columns, closed_cell, closer_cell}
 use Rattle.office_tables_cabinet.specs.CabinetStored.{closed_value, closer_value}
 use Rattle.office_tables_cabinet.specs.declared.order.TheConstants.{PUT}
 

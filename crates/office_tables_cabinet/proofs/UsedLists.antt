@@ -25,7 +25,7 @@ use Rattle.office_tables_sql.specs.Stored.{cells_at}
 use Rattle.office_tables_sql.proofs.ListLemmas.{distinct_keys, unique_by}
 use Rattle.office_tables_sql.proofs.ListedLemmas.{IsListing, list_query, listing, shown_width, stands}
 use Rattle.office_tables_sql.proofs.SchemaLemmas.{IsRead, AreShaped}
-use Rattle.office_tables_cabinet.specs.CabinetReads.{HasDamagedUsed}
+use Rattle.office_tables_shelf.specs.CabinetReads.{HasDamagedUsed}
 use Rattle.office_tables_cabinet.specs.CabinetShown.{shown_used, IsNoUsed}
 use Rattle.office_tables_cabinet.specs.declared.used.TheConstants.{LIST}
 use Rattle.office_tables_cabinet.proofs.FirstColumn.{of_first, first_is}

@@ -25,7 +25,7 @@ use Rattle.office_tables_sql.proofs.SchemaLemmas.{IsWrite}
 use Rattle.office_tables_sql.proofs.WriteLemmas.{IsIdle}
 use Rattle.office_tables_sql.proofs.PutLemmas.{cast_int}
 use Rattle.office_tables_sql.proofs.KeyedLemmas.{put_keyed}
-use Rattle.office_tables_cabinet.specs.CabinetRows.{used_key, used_columns}
+use Rattle.office_tables_shelf.specs.CabinetRows.{used_key, used_columns}
 use Rattle.office_tables_cabinet.specs.declared.used.TheConstants.{PUT}
 
 abbrev pub put_text : List ℕ

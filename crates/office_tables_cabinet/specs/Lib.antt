@@ -1,4 +1,2 @@
-pub mod CabinetRows
 pub mod CabinetStored
-pub mod CabinetReads
 pub mod CabinetShown

@@ -8,8 +8,8 @@ ghost use Rattle.sqlite.specs.Held.{state};
 ghost use Rattle.office_tables_shelf.specs.Shelf.{rows_of};
 ghost use Rattle.office_tables_sql.specs.Stored.{content_now};
 ghost use Rattle.office_tables_sql.specs.Calls.{IsHonest, IsOffice, IsReady, Keeps, StandsOn};
-ghost use Rattle.office_tables_cabinet.specs.CabinetReads.{ListsInspections, HasDamagedInspection};
-ghost use Rattle.office_tables_cabinet.specs.CabinetRows.{inspection_key, inspection_columns};
+ghost use Rattle.office_tables_shelf.specs.CabinetReads.{ListsInspections, HasDamagedInspection};
+ghost use Rattle.office_tables_shelf.specs.CabinetRows.{inspection_key, inspection_columns};
 ghost use Rattle.office_tables_cabinet.specs.CabinetShown.{shown_inspection, inspection_entry, IsNoInspection};
 
 use crate::value::day_at;

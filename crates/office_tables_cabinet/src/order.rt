@@ -14,8 +14,8 @@ ghost use Rattle.cabinet_core.specs.declared.record.Closing.{Closing};
 ghost use Rattle.office_tables_shelf.specs.Shelf.{rows_of};
 ghost use Rattle.office_tables_sql.specs.Stored.{cell_of, content_now};
 ghost use Rattle.office_tables_sql.specs.Calls.{IsHonest, IsOffice, IsReady, Keeps, StandsOn};
-ghost use Rattle.office_tables_cabinet.specs.CabinetReads.{ListsOrders, HasDamagedOrder};
-ghost use Rattle.office_tables_cabinet.specs.CabinetRows.{order_key, order_columns, closed_cell, closer_cell};
+ghost use Rattle.office_tables_shelf.specs.CabinetReads.{ListsOrders, HasDamagedOrder};
+ghost use Rattle.office_tables_shelf.specs.CabinetRows.{order_key, order_columns, closed_cell, closer_cell};
 ghost use Rattle.office_tables_cabinet.specs.CabinetShown.{shown_order, order_entry, IsNoOrder};
 
 use crate::value::{check_null, day_at};

@@ -8,8 +8,8 @@ ghost use Rattle.sqlite.specs.Held.{state};
 ghost use Rattle.office_tables_shelf.specs.Shelf.{rows_of};
 ghost use Rattle.office_tables_sql.specs.Stored.{content_now};
 ghost use Rattle.office_tables_sql.specs.Calls.{IsHonest, IsOffice, IsReady, Keeps, StandsOn};
-ghost use Rattle.office_tables_cabinet.specs.CabinetReads.{ListsUsed, HasDamagedUsed};
-ghost use Rattle.office_tables_cabinet.specs.CabinetRows.{used_key, used_columns};
+ghost use Rattle.office_tables_shelf.specs.CabinetReads.{ListsUsed, HasDamagedUsed};
+ghost use Rattle.office_tables_shelf.specs.CabinetRows.{used_key, used_columns};
 ghost use Rattle.office_tables_cabinet.specs.CabinetShown.{shown_used, used_entry, IsNoUsed};
 
 use crate::value::code_at;

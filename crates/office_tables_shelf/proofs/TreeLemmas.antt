@@ -109,7 +109,7 @@ number_ties a b = grind (arith, nat_tests)
 abbrev pub ranged_cmp : ℕ → ℕ → Ordering
 ranged_cmp a b = ordering_then (nat_cmp a b) Equal
 
-then_last : (o : Ordering) → ordering_then o Equal ≡ o
+pub then_last : (o : Ordering) → ordering_then o Equal ≡ o
 then_last Less = refl
 then_last Equal = refl
 then_last Greater = refl

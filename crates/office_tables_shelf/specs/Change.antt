@@ -4,8 +4,9 @@ use Rattle.std.specs.FinMap.{insert, remove}
 use Rattle.signal_records.specs.Row.{key_of}
 use Rattle.office_tables_shelf.specs.Content.{Content}
 use Rattle.office_tables_shelf.specs.Rows.{intersection_key, intersection_columns, timing_key, timing_columns, draft_key, draft_columns}
+use Rattle.office_tables_shelf.specs.CabinetRows.{inspection_key, inspection_columns, order_key, order_columns, used_key, used_columns, part_key, part_columns, delivery_key, delivery_columns}
 use Rattle.office_tables_shelf.specs.declared.rows.RowChange.{RowChange}
-use Rattle.office_tables_shelf.specs.declared.rows.RowChange.TheVariants.{PutIntersection, PutTiming, RemoveTiming, PutDraft, RemoveDraft}
+use Rattle.office_tables_shelf.specs.declared.rows.RowChange.TheVariants.{PutIntersection, PutTiming, RemoveTiming, PutDraft, RemoveDraft, PutInspection, PutOrder, PutLine, PutPart, PutDelivery}
 use Rattle.office_tables_shelf.specs.declared.rows.Table.{Table}
 use Rattle.office_tables_shelf.specs.declared.rows.Table.TheVariants as table
 
@@ -16,6 +17,11 @@ changed tables (PutTiming id row) = record tables { timing = insert tables.timin
 changed tables (RemoveTiming id key) = record tables { timing = remove tables.timing (timing_key id key) }
 changed tables (PutDraft id change) = record tables { draft = insert tables.draft (draft_key id change) (draft_columns change) }
 changed tables (RemoveDraft id key) = record tables { draft = remove tables.draft (timing_key id key) }
+changed tables (PutInspection id inspection) = record tables { inspection = insert tables.inspection (inspection_key id inspection.number) (inspection_columns inspection) }
+changed tables (PutOrder id order) = record tables { work_order = insert tables.work_order (order_key id order.number) (order_columns order) }
+changed tables (PutLine id line) = record tables { used_part = insert tables.used_part (used_key id line.order line.line) (used_columns line) }
+changed tables (PutPart code hand) = record tables { part = insert tables.part (part_key code) (part_columns hand) }
+changed tables (PutDelivery delivery) = record tables { delivery = insert tables.delivery (delivery_key delivery.part delivery.number) (delivery_columns delivery) }
 
 -- the tables after changes, in their order
 abbrev pub changed_by : Content → List RowChange → Content
@@ -29,3 +35,8 @@ table_of (PutTiming id row) = table.Timing
 table_of (RemoveTiming id key) = table.Timing
 table_of (PutDraft id change) = table.Draft
 table_of (RemoveDraft id key) = table.Draft
+table_of (PutInspection id inspection) = table.Inspection
+table_of (PutOrder id order) = table.WorkOrder
+table_of (PutLine id line) = table.UsedPart
+table_of (PutPart code hand) = table.Part
+table_of (PutDelivery delivery) = table.Delivery

@@ -1,8 +1,11 @@
 pub mod Cells
 pub mod Content
 pub mod Rows
+pub mod CabinetRows
 pub mod Change
 pub mod Counts
 pub mod Shelf
 pub mod Damage
+pub mod MapCabinet
 pub mod MapShelf
+pub mod CabinetReads

@@ -2,10 +2,9 @@
 #![tactic(auto)]
 
 pub mod counts;
+mod map_cabinet;
 mod map_rows;
 pub mod map_shelf;
 mod place;
 pub mod rows;
 pub mod shelf;
-#[cfg(test)]
-mod tests;

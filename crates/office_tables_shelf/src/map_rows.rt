@@ -54,6 +54,15 @@ pub fn all_intersections(
     Ok(list)
 }
 
+/// A copy of the rows of intersections.
+pub(crate) fn copied_intersections(
+    rows: &BTreeMap<InterId, IntersectionRow>,
+) -> Result<BTreeMap<InterId, IntersectionRow>, NoMemory>
+    ensures { IfOk result (λ copy. copy.entries ≡ rows.now.entries) }
+{
+    Ok(rows.clone()?)
+}
+
 /// Puts a committed row under its own key.
 pub fn put_timing(rows: &mut BTreeMap<Place, Row>, inter: InterId, row: Row) -> Result<(), NoMemory>
     ensures rows { OnOk result (timing_rows rows.new.entries ≡ finite.insert (timing_rows rows.old.entries) (timing_key inter (key_of row)) (timing_columns row)) }
@@ -140,6 +149,15 @@ fn change_at(key: Key, left: &Option<Row>) -> Result<Change, NoMemory>
         Some(row) => Ok(Change::Put(row.clone()?)),
         None => Ok(Change::Remove(key)),
     }
+}
+
+/// A copy of what draft rows leave.
+pub(crate) fn copied_drafts(
+    rows: &BTreeMap<Place, Option<Row>>,
+) -> Result<BTreeMap<Place, Option<Row>>, NoMemory>
+    ensures { IfOk result (λ copy. copy.entries ≡ rows.now.entries) }
+{
+    Ok(rows.clone()?)
 }
 
 /// The draft rows of an intersection, in the order of their keys.

@@ -3,14 +3,19 @@ ghost use Rattle.std.specs.Prelude.{◌≡◌, OnOk, OnErr, IfOk};
 ghost use Rattle.office_tables_shelf.specs.MapShelf.{IsFreeOfStore};
 
 use crate::counts::WriteCounts;
-use crate::map_rows::{
-    all_intersections, draft_of, intersection_at, put_draft, put_intersection, put_timing,
-    remove_draft, remove_timing, timing_of,
+use crate::map_cabinet::{
+    all_parts, copied_parts, delivery_at, hand_of, inspections_of, lines_of, orders_of,
+    put_delivery, put_inspection, put_line, put_order, put_part,
 };
-use crate::place::Place;
+use crate::map_rows::{
+    all_intersections, copied_drafts, copied_intersections, draft_of, intersection_at, put_draft,
+    put_intersection, put_timing, remove_draft, remove_timing, timing_of,
+};
+use crate::place::{DeliveryPlace, LinePlace, Place, RecordPlace};
 use crate::rows::{IntersectionRow, RowChange, Table};
 use crate::shelf::{Shelf, ShelfFault};
-use signal_records::{Change, InterId, NoMemory, Row};
+use cabinet_core::{Delivery, Hand, Inspection, Order, PartCode, UsedLine};
+use signal_records::{Change, InterId, NoMemory, RecordNo, Row};
 use std::alloc::Global;
 use std::collections::BTreeMap;
 use std::marker::Model;
@@ -23,11 +28,17 @@ pub struct MapShelf {
     timing: BTreeMap<Place, Row>,
     /// What each draft row leaves at its key: a row, or none where it is a removal.
     draft: BTreeMap<Place, Option<Row>>,
+    /// Each inspection, order, used part and delivery stands under its own numbers.
+    inspection: BTreeMap<RecordPlace, Inspection>,
+    work_order: BTreeMap<RecordPlace, Order>,
+    used_part: BTreeMap<LinePlace, UsedLine>,
+    part: BTreeMap<PartCode, Hand>,
+    delivery: BTreeMap<DeliveryPlace, Delivery>,
     counts: WriteCounts,
 }
 
 impl Model for MapShelf {
-    ghost use Rattle.office_tables_shelf.specs.Content.{no_content};
+    ghost use Rattle.office_tables_shelf.specs.MapCabinet.{inspection_rows, order_rows, used_rows, part_rows, delivery_rows, AreInspectionsPlaced, AreOrdersPlaced, AreUsedPlaced, AreDeliveriesPlaced};
     ghost use Rattle.office_tables_shelf.specs.MapShelf.{ShelfView, view_code, intersection_rows, timing_rows, draft_rows, AreRowsPlaced, AreLeftPlaced};
 
     ghost Value = { ShelfView };
@@ -35,15 +46,20 @@ impl Model for MapShelf {
     ghost coded = { view_code };
 
     ghost view = { λ s. record {
-      tables = record no_content {
+      tables = record {
         intersection = intersection_rows s.intersection.entries;
         timing = timing_rows s.timing.entries;
         draft = draft_rows s.draft.entries;
+        inspection = inspection_rows s.inspection.entries;
+        work_order = order_rows s.work_order.entries;
+        part = part_rows s.part.entries;
+        delivery = delivery_rows s.delivery.entries;
+        used_part = used_rows s.used_part.entries;
       };
       counts = s.counts;
     } };
 
-    ghost invariant = { λ s. AreRowsPlaced s.timing.entries × AreLeftPlaced s.draft.entries };
+    ghost invariant = { λ s. AreRowsPlaced s.timing.entries × (AreLeftPlaced s.draft.entries × (AreInspectionsPlaced s.inspection.entries × (AreOrdersPlaced s.work_order.entries × (AreUsedPlaced s.used_part.entries × AreDeliveriesPlaced s.delivery.entries)))) };
 }
 
 impl MapShelf {
@@ -60,6 +76,11 @@ impl MapShelf {
             intersection: BTreeMap::new(alloc),
             timing: BTreeMap::new(alloc),
             draft: BTreeMap::new(alloc),
+            inspection: BTreeMap::new(alloc),
+            work_order: BTreeMap::new(alloc),
+            used_part: BTreeMap::new(alloc),
+            part: BTreeMap::new(alloc),
+            delivery: BTreeMap::new(alloc),
             counts: WriteCounts::new(),
         }
     }
@@ -67,13 +88,23 @@ impl MapShelf {
     fn copy(&self) -> Result<MapShelf, NoMemory>
         ensures { IfOk result (λ copy. copy ≡ self.now) }
     {
-        let intersection = self.intersection.clone()?;
+        let intersection = copied_intersections(&self.intersection)?;
         let timing = self.timing.clone()?;
-        let draft = self.draft.clone()?;
+        let draft = copied_drafts(&self.draft)?;
+        let inspection = self.inspection.clone()?;
+        let work_order = self.work_order.clone()?;
+        let used_part = self.used_part.clone()?;
+        let part = copied_parts(&self.part)?;
+        let delivery = self.delivery.clone()?;
         Ok(MapShelf {
             intersection,
             timing,
             draft,
+            inspection,
+            work_order,
+            used_part,
+            part,
+            delivery,
             counts: self.counts,
         })
     }
@@ -91,6 +122,17 @@ impl MapShelf {
             RowChange::RemoveTiming(id, key) => remove_timing(&mut self.timing, *id, *key),
             RowChange::PutDraft(id, change) => put_draft(&mut self.draft, *id, change)?,
             RowChange::RemoveDraft(id, key) => remove_draft(&mut self.draft, *id, *key),
+            RowChange::PutInspection(id, inspection) => {
+                put_inspection(&mut self.inspection, *id, inspection.clone()?)?;
+            }
+            RowChange::PutOrder(id, order) => {
+                put_order(&mut self.work_order, *id, order.clone()?)?;
+            }
+            RowChange::PutLine(id, used) => put_line(&mut self.used_part, *id, used.clone()?)?,
+            RowChange::PutPart(part, hand) => put_part(&mut self.part, part.clone()?, *hand)?,
+            RowChange::PutDelivery(delivery) => {
+                put_delivery(&mut self.delivery, delivery.clone()?)?;
+            }
         }
         Ok(())
     }
@@ -121,6 +163,7 @@ impl Shelf for MapShelf {
     ghost use Rattle.std.specs.Prelude.{◌≡◌, OnOk, OnErr, IfOk};
     ghost use Rattle.office_tables_shelf.specs.Change.{changed_by};
     ghost use Rattle.office_tables_shelf.specs.Counts.{count_of, counts_after};
+    ghost use Rattle.office_tables_shelf.specs.CabinetReads.{ListsInspections, ListsOrders, ListsUsed, ReadsDelivery, ReadsHand, ListsParts};
     ghost use Rattle.office_tables_shelf.specs.Shelf.{ReadsIntersection, ListsIntersections, ListsTiming, ListsDraft};
     ghost use Rattle.office_tables_shelf.specs.MapShelf.{IsFreeOfStore};
 
@@ -169,6 +212,59 @@ impl Shelf for MapShelf {
         ensures sound { IsFreeOfStore result }
     {
         Ok(draft_of(alloc, &self.draft, id)?)
+    }
+
+    fn inspections(&mut self, alloc: Global, id: InterId) -> Result<Vec<Inspection>, ShelfFault>
+        ensures rows { IfOk result (λ found. ListsInspections self.old.tables id found.items) }
+        ensures unchanged { self.new ≡ self.old }
+        ensures sound { IsFreeOfStore result }
+    {
+        Ok(inspections_of(alloc, &self.inspection, id)?)
+    }
+
+    fn orders(&mut self, alloc: Global, id: InterId) -> Result<Vec<Order>, ShelfFault>
+        ensures rows { IfOk result (λ found. ListsOrders self.old.tables id found.items) }
+        ensures unchanged { self.new ≡ self.old }
+        ensures sound { IsFreeOfStore result }
+    {
+        Ok(orders_of(alloc, &self.work_order, id)?)
+    }
+
+    fn used_lines(&mut self, alloc: Global, id: InterId) -> Result<Vec<UsedLine>, ShelfFault>
+        ensures rows { IfOk result (λ found. ListsUsed self.old.tables id found.items) }
+        ensures unchanged { self.new ≡ self.old }
+        ensures sound { IsFreeOfStore result }
+    {
+        Ok(lines_of(alloc, &self.used_part, id)?)
+    }
+
+    fn delivery(
+        &mut self,
+        _alloc: Global,
+        part: &PartCode,
+        number: RecordNo,
+    ) -> Result<Option<Delivery>, ShelfFault>
+        ensures row { IfOk result (λ found. ReadsDelivery self.old.tables part.now number found) }
+        ensures unchanged { self.new ≡ self.old }
+        ensures sound { IsFreeOfStore result }
+    {
+        Ok(delivery_at(&self.delivery, part, number)?)
+    }
+
+    fn hand(&mut self, _alloc: Global, part: &PartCode) -> Result<Option<Hand>, ShelfFault>
+        ensures row { IfOk result (λ found. ReadsHand self.old.tables part.now found) }
+        ensures unchanged { self.new ≡ self.old }
+        ensures sound { IsFreeOfStore result }
+    {
+        Ok(hand_of(&self.part, part))
+    }
+
+    fn parts(&mut self, alloc: Global) -> Result<Vec<(PartCode, Hand)>, ShelfFault>
+        ensures rows { IfOk result (λ found. ListsParts self.old.tables found.items) }
+        ensures unchanged { self.new ≡ self.old }
+        ensures sound { IsFreeOfStore result }
+    {
+        Ok(all_parts(alloc, &self.part)?)
     }
 
     fn apply(&mut self, _alloc: Global, changes: &[RowChange]) -> Result<(), ShelfFault>

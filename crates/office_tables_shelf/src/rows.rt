@@ -3,6 +3,7 @@
 ghost use Rattle.std.specs.Prelude.{◌≡◌};
 ghost use Rattle.office_tables_shelf.specs.Change.{table_of};
 
+use cabinet_core::{Delivery, Hand, Inspection, Order, PartCode, UsedLine};
 use draft_core::revision::Revision;
 use draft_core::state::Holder;
 use signal_records::{Change, InterId, Interval, Key, Row, Words};
@@ -50,6 +51,16 @@ pub enum RowChange {
     /// A draft row that keeps the change; a removal is a row too.
     PutDraft(InterId, Change),
     RemoveDraft(InterId, Key),
+    /// An inspection of the intersection's cabinet, under its number.
+    PutInspection(InterId, Inspection),
+    /// An order on the intersection, under its number.
+    PutOrder(InterId, Order),
+    /// A part used for an order on the intersection, under order and line.
+    PutLine(InterId, UsedLine),
+    /// How many of a part are on hand.
+    PutPart(PartCode, Hand),
+    /// A delivery, under its part and its number.
+    PutDelivery(Delivery),
 }
 
 /// A table whose rows are written.
@@ -74,6 +85,11 @@ impl RowChange {
             RowChange::PutIntersection(..) => Table::Intersection,
             RowChange::PutTiming(..) | RowChange::RemoveTiming(..) => Table::Timing,
             RowChange::PutDraft(..) | RowChange::RemoveDraft(..) => Table::Draft,
+            RowChange::PutInspection(..) => Table::Inspection,
+            RowChange::PutOrder(..) => Table::WorkOrder,
+            RowChange::PutLine(..) => Table::UsedPart,
+            RowChange::PutPart(..) => Table::Part,
+            RowChange::PutDelivery(..) => Table::Delivery,
         }
     }
 }

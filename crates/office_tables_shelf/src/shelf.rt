@@ -5,10 +5,12 @@ ghost use Rattle.office_tables_shelf.specs.Change.{changed_by};
 ghost use Rattle.office_tables_shelf.specs.Counts.{count_of, counts_after};
 ghost use Rattle.office_tables_shelf.specs.Shelf.{IsKept, ReadsIntersection, ListsIntersections, ListsTiming, ListsDraft};
 ghost use Rattle.office_tables_shelf.specs.Damage.{HasDamagedIntersection, HasAnyDamagedIntersection, HasDamagedTiming, HasDamagedDraft};
+ghost use Rattle.office_tables_shelf.specs.CabinetReads.{ListsInspections, HasDamagedInspection, ListsOrders, HasDamagedOrder, ListsUsed, HasDamagedUsed, ReadsDelivery, HasDamagedDelivery, ReadsHand, HasDamagedHand, ListsParts, HasDamagedPart};
 ghost use Rattle.office_tables_shelf.specs.declared.counts.WriteCounts.{WriteCounts};
 
 use crate::rows::{IntersectionRow, RowChange, Table};
-use signal_records::{Change, InterId, NoMemory, Row};
+use cabinet_core::{Delivery, Hand, Inspection, Order, PartCode, UsedLine};
+use signal_records::{Change, InterId, NoMemory, RecordNo, Row};
 use std::alloc::Global;
 
 /// Why a call of a shelf failed.
@@ -76,6 +78,47 @@ pub trait Shelf {
     fn draft_rows(&mut self, alloc: Global, id: InterId) -> Result<Vec<Change>, ShelfFault>
         ensures rows { IfOk result (λ rows. is_honest self.new → ListsDraft (content self.old) id rows.items) }
         ensures damaged { result ≡ Err ShelfFault.Damaged → is_honest self.new → HasDamagedDraft (content self.old) id }
+        ensures kept { IsKept is_honest content written may_leave self.old self.new };
+
+    /// The inspections of an intersection's cabinet, in the order of their numbers.
+    fn inspections(&mut self, alloc: Global, id: InterId) -> Result<Vec<Inspection>, ShelfFault>
+        ensures rows { IfOk result (λ found. is_honest self.new → ListsInspections (content self.old) id found.items) }
+        ensures damaged { result ≡ Err ShelfFault.Damaged → is_honest self.new → HasDamagedInspection (content self.old) id }
+        ensures kept { IsKept is_honest content written may_leave self.old self.new };
+
+    /// The orders on an intersection, in the order of their numbers.
+    fn orders(&mut self, alloc: Global, id: InterId) -> Result<Vec<Order>, ShelfFault>
+        ensures rows { IfOk result (λ found. is_honest self.new → ListsOrders (content self.old) id found.items) }
+        ensures damaged { result ≡ Err ShelfFault.Damaged → is_honest self.new → HasDamagedOrder (content self.old) id }
+        ensures kept { IsKept is_honest content written may_leave self.old self.new };
+
+    /// The parts used for the orders on an intersection, in the order of orders and lines.
+    fn used_lines(&mut self, alloc: Global, id: InterId) -> Result<Vec<UsedLine>, ShelfFault>
+        ensures rows { IfOk result (λ found. is_honest self.new → ListsUsed (content self.old) id found.items) }
+        ensures damaged { result ≡ Err ShelfFault.Damaged → is_honest self.new → HasDamagedUsed (content self.old) id }
+        ensures kept { IsKept is_honest content written may_leave self.old self.new };
+
+    /// The delivery of a part with a number, if there is one.
+    fn delivery(
+        &mut self,
+        alloc: Global,
+        part: &PartCode,
+        number: RecordNo,
+    ) -> Result<Option<Delivery>, ShelfFault>
+        ensures row { IfOk result (λ found. is_honest self.new → ReadsDelivery (content self.old) part.now number found) }
+        ensures damaged { result ≡ Err ShelfFault.Damaged → is_honest self.new → HasDamagedDelivery (content self.old) part.now number }
+        ensures kept { IsKept is_honest content written may_leave self.old self.new };
+
+    /// How many of a part are on hand, if there ever was a delivery of it.
+    fn hand(&mut self, alloc: Global, part: &PartCode) -> Result<Option<Hand>, ShelfFault>
+        ensures row { IfOk result (λ found. is_honest self.new → ReadsHand (content self.old) part.now found) }
+        ensures damaged { result ≡ Err ShelfFault.Damaged → is_honest self.new → HasDamagedHand (content self.old) part.now }
+        ensures kept { IsKept is_honest content written may_leave self.old self.new };
+
+    /// The parts with how many are on hand, in the order of their codes.
+    fn parts(&mut self, alloc: Global) -> Result<Vec<(PartCode, Hand)>, ShelfFault>
+        ensures rows { IfOk result (λ found. is_honest self.new → ListsParts (content self.old) found.items) }
+        ensures damaged { result ≡ Err ShelfFault.Damaged → is_honest self.new → HasDamagedPart (content self.old) }
         ensures kept { IsKept is_honest content written may_leave self.old self.new };
 
     /// Makes the changes in their order, all or none. Refused, it answers NoMemory or Store.

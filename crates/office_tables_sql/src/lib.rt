@@ -10,8 +10,6 @@ pub mod intersection_list;
 pub mod listed;
 pub mod schema;
 pub mod statement;
-#[cfg(test)]
-mod tests;
 pub mod timing;
 pub mod timing_list;
 pub mod value;

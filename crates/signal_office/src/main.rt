@@ -1,25 +1,16 @@
 //! The program of the traffic signal office.
 #![tactic(auto)]
 
-mod fault;
-mod file;
-mod memory;
-mod plan;
-mod program;
-#[cfg(test)]
-mod tests;
-
-use fault::Fault;
 use office_http::{FromRead, ToWrite};
-use program::{report, run_words};
+use signal_office_run::{Fault, report, run_words};
 use std::env;
 use std::process::ExitCode;
 
-/// Hands the words, the input and both outputs over. Words that are not UTF-8 are not understood.
+/// Hands the words, the input and both outputs over. Words that are not UTF-8 are refused.
 fn run(rt: &HostRuntime) -> Result<u8, Fault> {
     let alloc = rt.alloc();
     let Ok(args) = env::args(rt) else {
-        return Err(Fault::Usage);
+        return Err(Fault::Words);
     };
     let args: Vec<String> = args.collect(alloc)?;
     let words: Vec<&str> = args.iter().map(String::as_str).collect(alloc)?;

@@ -1,14 +1,29 @@
-//! Tests of the office over both of its shelves: in memory, and in SQL.
+//! Tests of the tables, of the office over both of its shelves, and of the program. They stand in a crate of their own, since a crate with
+//! tests is proved twice.
 #![tactic(auto)]
 
 #[cfg(test)]
 mod asking;
 #[cfg(test)]
+mod body_tests;
+#[cfg(test)]
 mod damage_tests;
+#[cfg(test)]
+mod desk_tests;
 #[cfg(test)]
 mod following;
 #[cfg(test)]
+mod line_tests;
+#[cfg(test)]
+mod map_shelf_tests;
+#[cfg(test)]
+mod program_tests;
+#[cfg(test)]
+mod register_tests;
+#[cfg(test)]
 mod shelf_tests;
+#[cfg(test)]
+mod table_tests;
 #[cfg(test)]
 mod telling;
 #[cfg(test)]

@@ -92,6 +92,9 @@ pub fn reply_text(alloc: Global, reply: &Reply) -> Result<String, Fail> {
         Reply::Timing(timing) => timing_text(alloc, timing),
         Reply::Draft(draft) => draft_text(alloc, draft),
         Reply::Refused(refusal) => Ok(format!(in alloc; "{refusal:?}")?),
+        Reply::Cabinet(_) | Reply::OpenOrders(_) | Reply::Stock(_) | Reply::Overdue(_) => {
+            Ok(String::from_str(alloc, "a list of the register")?)
+        }
     }
 }
 

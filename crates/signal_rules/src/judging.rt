@@ -31,7 +31,7 @@ pub fn violations(alloc: Global, set: &TimingSet) -> Result<Vec<Violation>, NoMe
 
 /// Adds the subject's part of the violations, which is empty where the set does not have the subject.
 /// Each second that is compared is a tick.
-pub fn judge(
+pub(crate) fn judge(
     alloc: Global,
     set: &TimingSet,
     subject: Subject,

@@ -15,7 +15,7 @@ use signal_records::{NoMemory, Pattern, PhaseNo, RingNo, Split, TimingSet};
 use std::alloc::Global;
 
 /// V12: the splits of each ring's row sum up to the cycle.
-pub fn rings_fill(set: &TimingSet, pattern: &Pattern, rings: &[RingNo]) -> bool
+pub(crate) fn rings_fill(set: &TimingSet, pattern: &Pattern, rings: &[RingNo]) -> bool
     ensures { result ≡ rings_fill set.now pattern.now rings.now }
 {
     for ring in rings {
@@ -53,7 +53,7 @@ fn time_of(split: Option<Split>) -> u8
 
 /// V13, where the rings fill the cycle: they agree at each second at which one of them starts a phase,
 /// and so at each second. Each comparison is a tick.
-pub fn rings_agree(
+pub(crate) fn rings_agree(
     alloc: Global,
     set: &TimingSet,
     pattern: &Pattern,
@@ -183,7 +183,7 @@ fn list_each_other(set: &TimingSet, p: PhaseNo, q: PhaseNo) -> bool
 }
 
 /// `phaseConcurrency` of the first phase has the second.
-pub fn lists(set: &TimingSet, p: PhaseNo, q: PhaseNo) -> bool
+pub(crate) fn lists(set: &TimingSet, p: PhaseNo, q: PhaseNo) -> bool
     ensures { result ≡ lists set.now p q }
 {
     match phase_at(set, p) {

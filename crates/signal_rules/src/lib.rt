@@ -21,6 +21,3 @@ pub use counting::{Judge, Tally, violations_touched};
 pub use judging::violations;
 pub use reach::touched;
 pub use violation::{Rule, Subject, Violation};
-
-#[cfg(test)]
-mod tests;

@@ -9,7 +9,7 @@ use signal_records::{NoMemory, Pattern, PhaseNo, RingNo, Split, SplitNo, TimingS
 use std::alloc::Global;
 
 /// V9, of `patternSequenceNumber` and `patternSplitNumber`.
-pub fn has_rows(set: &TimingSet, pattern: &Pattern) -> bool
+pub(crate) fn has_rows(set: &TimingSet, pattern: &Pattern) -> bool
     ensures { result ≡ has_rows set.now pattern.now }
 {
     has_sequence(set, pattern.seq) && has_splits(set, pattern.split)
@@ -27,14 +27,14 @@ fn has_splits(set: &TimingSet, n: SplitNo) -> bool
 }
 
 /// V10, of `patternOffsetTime` and `patternCycleTime`.
-pub fn offset_is_right(pattern: &Pattern) -> bool
+pub(crate) fn offset_is_right(pattern: &Pattern) -> bool
     ensures { result ≡ offset_is_right pattern.now }
 {
     u32::from(pattern.offset) < pattern.cycle.get()
 }
 
 /// V11, of `splitCoordPhase`.
-pub fn has_coordinated(set: &TimingSet, n: SplitNo) -> bool
+pub(crate) fn has_coordinated(set: &TimingSet, n: SplitNo) -> bool
     ensures { result ≡ has_coordinated set.now n }
 {
     for p in PhaseNo::all() {
@@ -55,7 +55,7 @@ fn is_coordinated(split: Option<Split>) -> bool
 }
 
 /// The rings that have a phase.
-pub fn used_rings(alloc: Global, set: &TimingSet) -> Result<Vec<RingNo>, NoMemory>
+pub(crate) fn used_rings(alloc: Global, set: &TimingSet) -> Result<Vec<RingNo>, NoMemory>
     ensures { IfOk result (λ rings. rings.items ≡ used_rings set.now) }
 {
     let mut rings = Vec::new(alloc);

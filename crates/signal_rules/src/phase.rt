@@ -8,21 +8,21 @@ use crate::lookup::phase_at;
 use signal_records::{Ped, Phase, PhaseNo, TimingSet};
 
 /// V1, of `phaseYellowChange`.
-pub fn yellow_is_right(phase: &Phase) -> bool
+pub(crate) fn yellow_is_right(phase: &Phase) -> bool
     ensures { result ≡ yellow_is_right phase.now }
 {
     30 <= phase.yellow && phase.yellow <= 60
 }
 
 /// V2, of `phaseRedClear`.
-pub fn red_is_right(phase: &Phase) -> bool
+pub(crate) fn red_is_right(phase: &Phase) -> bool
     ensures { result ≡ red_is_right phase.now }
 {
     phase.red <= 60
 }
 
 /// V3, of `phaseWalk`.
-pub fn walk_is_long(ped: &Ped) -> bool
+pub(crate) fn walk_is_long(ped: &Ped) -> bool
     ensures { result ≡ walk_is_long ped.now }
 {
     (if ped.short { 4 } else { 7 }) <= ped.walk
@@ -39,14 +39,14 @@ fn clearance(phase: &Phase, ped: &Ped) -> u32
 }
 
 /// V4: tenths of a second, at 3.5 feet a second, against tenths of a foot.
-pub fn clears_crossing(phase: &Phase, ped: &Ped) -> bool
+pub(crate) fn clears_crossing(phase: &Phase, ped: &Ped) -> bool
     ensures { result ≡ clears_crossing phase.now ped.now }
 {
     2 * ped.width.get() <= 7 * clearance(phase, ped)
 }
 
 /// V5: tenths of a second, at 3 feet a second, against tenths of a foot.
-pub fn clears_setback(phase: &Phase, ped: &Ped) -> bool
+pub(crate) fn clears_setback(phase: &Phase, ped: &Ped) -> bool
     ensures { result ≡ clears_setback phase.now ped.now }
 {
     let time = 10 * u32::from(ped.walk) + clearance(phase, ped);
@@ -54,7 +54,7 @@ pub fn clears_setback(phase: &Phase, ped: &Ped) -> bool
 }
 
 /// V6, of `phaseConcurrency`.
-pub fn mates_agree(set: &TimingSet, p: PhaseNo, phase: &Phase) -> bool
+pub(crate) fn mates_agree(set: &TimingSet, p: PhaseNo, phase: &Phase) -> bool
     ensures { result ≡ mates_agree set.now p phase.now }
 {
     for mate in phase.mates.as_slice() {

@@ -9,7 +9,7 @@ use crate::lookup::{has_row, phase_at, ring_row};
 use signal_records::{Phase, PhaseNo, RingNo, SeqNo, TimingSet};
 
 /// Whether a sequence has a row.
-pub fn has_sequence(set: &TimingSet, n: SeqNo) -> bool
+pub(crate) fn has_sequence(set: &TimingSet, n: SeqNo) -> bool
     ensures { result ≡ has_sequence set.now n }
 {
     for ring in RingNo::all() {
@@ -21,7 +21,7 @@ pub fn has_sequence(set: &TimingSet, n: SeqNo) -> bool
 }
 
 /// V7, of `sequenceData` of all rings.
-pub fn rows_are_right(set: &TimingSet, n: SeqNo) -> bool
+pub(crate) fn rows_are_right(set: &TimingSet, n: SeqNo) -> bool
     ensures { result ≡ rows_are_right set.now n }
 {
     for ring in RingNo::all() {
@@ -70,7 +70,7 @@ fn stands_once(row: &[PhaseNo], p: PhaseNo) -> bool
 }
 
 /// A phase that is not in the set is in no ring.
-pub fn in_ring(ring: RingNo, phase: Option<&Phase>) -> bool
+pub(crate) fn in_ring(ring: RingNo, phase: Option<&Phase>) -> bool
     ensures { result ≡ in_ring ring (option_copied phase.entry) }
 {
     match phase {

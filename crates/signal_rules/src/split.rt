@@ -8,7 +8,7 @@ use crate::lookup::phase_at;
 use signal_records::{Phase, PhaseNo, Split, SplitMode, TimingSet, need};
 
 /// V8, of the row of a phase.
-pub fn split_is_right(set: &TimingSet, p: PhaseNo, split: Split) -> bool
+pub(crate) fn split_is_right(set: &TimingSet, p: PhaseNo, split: Split) -> bool
     ensures { result ≡ split_is_right (phase_at set.now p) split }
 {
     match phase_at(set, p) {

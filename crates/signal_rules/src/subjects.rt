@@ -11,7 +11,7 @@ use signal_records::{NoMemory, PatternNo, PhaseNo, SeqNo, SplitNo, TimingSet};
 use std::alloc::Global;
 
 /// Phases, sequences, split rows and patterns, each by ascending number.
-pub fn subjects(alloc: Global, set: &TimingSet) -> Result<Vec<Subject>, NoMemory>
+pub(crate) fn subjects(alloc: Global, set: &TimingSet) -> Result<Vec<Subject>, NoMemory>
     ensures { IfOk result (λ found. found.items ≡ subjects set.now) }
 {
     let mut subjects = Vec::new(alloc);

@@ -1,6 +1,6 @@
 use Rattle.std.proofs.Common.{◌≡◌, map, take, string_bytes}
 use Rattle.serde_json.specs.View.{view}
-use Rattle.office_http_wire.specs.Trees.{text}
+use Rattle.office_http_fields.specs.Json.{text}
 use Rattle.office_http_wire.proofs.list_tree.of_texts.Given as goal
 
 -- the trees so far

@@ -1,0 +1,36 @@
+-- Changes of the intersections and of their timing leave the register as it was.
+use Rattle.std.proofs.Common.{◌≡◌, List, refl, ap, sym, ◌∙◌}
+use Rattle.std.specs.FinMap.{get}
+use Rattle.office_tables_shelf.specs.Cells.{Rows}
+use Rattle.office_tables_shelf.specs.CabinetRows.{part_key}
+use Rattle.office_tables_shelf.specs.Content.{Content}
+use Rattle.office_desk_cabinet.specs.Register.{Register}
+use Rattle.office_desk_cabinet.specs.RegisterStands.{RegisterStands}
+
+-- the tables of the register stay
+pub record KeepsRegister (old new : Content) : Type 0 where
+  pub inspection : new.inspection ≡ old.inspection
+  pub work_order : new.work_order ≡ old.work_order
+  pub part : new.part ≡ old.part
+  pub delivery : new.delivery ≡ old.delivery
+  pub used_part : new.used_part ≡ old.used_part
+
+pub kept_twice : (old mid new : Content) → KeepsRegister old mid → KeepsRegister mid new → KeepsRegister old new
+kept_twice old mid new first rest = record {
+  inspection = rest.inspection ∙ first.inspection;
+  work_order = rest.work_order ∙ first.work_order;
+  part = rest.part ∙ first.part;
+  delivery = rest.delivery ∙ first.delivery;
+  used_part = rest.used_part ∙ first.used_part;
+}
+
+-- and still stand for the register
+pub still_stands : (old new : Content) (r : Register) → KeepsRegister old new → RegisterStands old r → RegisterStands new r
+still_stands old new r kept stands = record {
+  inspection = λ key. ap (λ (rows : Rows). get rows key) kept.inspection ∙ stands.inspection key;
+  work_order = λ key. ap (λ (rows : Rows). get rows key) kept.work_order ∙ stands.work_order key;
+  used_part = λ key. ap (λ (rows : Rows). get rows key) kept.used_part ∙ stands.used_part key;
+  delivery = λ key. ap (λ (rows : Rows). get rows key) kept.delivery ∙ stands.delivery key;
+  part = λ code. ap (λ (rows : Rows). get rows (part_key code)) kept.part ∙ stands.part code;
+  part_keys = λ key columns at. stands.part_keys key columns (sym (ap (λ (rows : Rows). get rows key) kept.part) ∙ at);
+}

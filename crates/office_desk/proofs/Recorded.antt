@@ -1,0 +1,150 @@
+-- What the commands and queries of the register answer is a step of the office.
+use Rattle.std.proofs.Common.{◌≡◌, ℕ, Bool, true, false, List, [], Option, Some, None, is_some, refl, ap, sym, subst, ◌∙◌, inr}
+use Rattle.std.specs.Option.{option_map}
+use Rattle.std.specs.FinMap.{get}
+use Rattle.cabinet_core.specs.declared.command.RecordCommand.{RecordCommand}
+use Rattle.cabinet_core.specs.declared.record.CabinetView.{CabinetView}
+use Rattle.office_tables_shelf.specs.Cells.{Rows}
+use Rattle.office_tables_shelf.specs.Change.{changed_by}
+use Rattle.office_tables_shelf.specs.Content.{Content}
+use Rattle.office_tables_shelf.specs.Rows.{timing_key}
+use Rattle.office_tables_shelf.specs.Shelf.{ReadsIntersection}
+use Rattle.office_tables_shelf.specs.declared.rows.IntersectionRow.{IntersectionRow}
+use Rattle.office_tables_shelf.specs.declared.rows.RowChange.{RowChange}
+use Rattle.office_desk_cabinet.specs.Register.{Register, open_at, stock_of}
+use Rattle.office_desk_cabinet.specs.RegisterStands.{RegisterStandsSound}
+use Rattle.office_desk_cabinet.specs.RegisterStep.{after_record}
+use Rattle.office_desk_cabinet.specs.Registers.{LeavesTiming, RegistersFrom, ShowsCabinet, line_told, rows_told}
+use Rattle.office_desk_cabinet.specs.declared.registered.Registered.{Registered}
+use Rattle.office_desk.specs.Answers.{Answers}
+use Rattle.office_desk.specs.Office.{Office, Intersection}
+use Rattle.office_desk.specs.Recording.{IsKnownIn, is_known}
+use Rattle.office_desk.specs.StandFor.{StandForSound, row_of}
+use Rattle.office_desk.specs.Step.{answered, cabinet_of, cabinet_shown, known, recorded, recorded_at, shown, told}
+use Rattle.office_desk.specs.declared.command.Command.{Command}
+use Rattle.office_desk.specs.declared.command.Command.TheVariants as command
+use Rattle.office_desk.specs.declared.refusal.Refusal.TheVariants as refusal
+use Rattle.office_desk.specs.declared.reply.Reply.{Reply}
+use Rattle.office_desk.specs.declared.reply.Reply.TheVariants as reply
+use Rattle.office_desk.proofs.Shown.{query_answers}
+use Rattle.office_desk.proofs.Stands.{row_read}
+
+-- ---- whether the intersection is there
+
+same_there : (o : Option Intersection) → is_some (option_map row_of o) ≡ is_some o
+same_there None = refl
+same_there (Some i) = refl
+
+pub known_read : (tables : Content) (id : ℕ) (row : Option IntersectionRow) → ReadsIntersection tables id row → IsKnownIn tables (Some id) (is_some row)
+known_read tables id row reads office stands = ap (λ (o : Option IntersectionRow). is_some o) (row_read tables office id row stands.stand reads) ∙ same_there (get office.intersections id)
+
+at_known : (office : Office) (about : Option ℕ) (answer : Reply × Office) → true ≡ is_known office about → recorded_at office about answer ≡ answer
+at_known office None answer there = refl
+at_known office (Some id) answer there = go (get office.intersections id) there
+  where
+    go : (o : Option Intersection) → true ≡ is_some o → known office o answer ≡ answer
+    go None e = absurd (let f : true ≡ false = e in cc)
+    go (Some i) e = refl
+
+at_unknown : (office : Office) (about : Option ℕ) (answer : Reply × Office) → false ≡ is_known office about → recorded_at office about answer ≡ (reply.Refused refusal.UnknownIntersection, office)
+at_unknown office None answer gone = absurd (let f : false ≡ true = gone in cc)
+at_unknown office (Some id) answer gone = go (get office.intersections id) gone
+  where
+    go : (o : Option Intersection) → false ≡ is_some o → known office o answer ≡ (reply.Refused refusal.UnknownIntersection, office)
+    go None e = refl
+    go (Some i) e = absurd (let f : false ≡ true = e in cc)
+
+-- what is known of an intersection that is asked for
+pub about_known : (tables : Content) (asked about : Option ℕ) (was known : Bool) → asked ≡ about → was ≡ known → IsKnownIn tables asked was → IsKnownIn tables about known
+about_known tables asked about was known same is there office stands = sym is ∙ there office stands ∙ ap (is_known office) same
+
+-- ---- a command
+
+pub register_of : (tables : Content) (office : Office) → StandForSound tables office → RegisterStandsSound tables office.register
+register_of tables office stands = record { stand = stands.stand.register; sound = stands.sound.register }
+
+-- where the register's rows alone were changed, the tables stand for the office with the next register
+stands_after : (tables : Content) (changes : List RowChange) (office : Office) (next : Register) → StandForSound tables office → LeavesTiming tables changes → RegisterStandsSound (changed_by tables changes) next
+    → StandForSound (changed_by tables changes) (record office { register = next })
+stands_after tables changes office next stands leaves register = record {
+  stand = record {
+    intersection = leaves.intersection ∙ stands.stand.intersection;
+    timing = λ id key. ap (λ (rows : Rows). get rows (timing_key id key)) leaves.timing ∙ stands.stand.timing id key;
+    timing_keys = λ cells columns at. stands.stand.timing_keys cells columns (sym (ap (λ (rows : Rows). get rows cells) leaves.timing) ∙ at);
+    draft = λ id key. let held = stands.stand.draft id key in record {
+      row = held.row;
+      stored = ap (λ (rows : Rows). get rows (timing_key id key)) leaves.draft ∙ held.stored;
+      stands = held.stands;
+      within = held.within;
+    };
+    draft_keys = λ cells columns at. stands.stand.draft_keys cells columns (sym (ap (λ (rows : Rows). get rows cells) leaves.draft) ∙ at);
+    register = register.stand;
+  };
+  sound = record { numbers = stands.sound.numbers; intersections = stands.sound.intersections; register = register.sound };
+}
+
+pub record_answers : (tables : Content) (office : Office) (c : RecordCommand) (done : Registered) (said : Reply) (changes : List RowChange)
+    → StandForSound tables office → IsKnownIn tables (cabinet_of c) true → ((r : Register) → RegisterStandsSound tables r → RegistersFrom tables c done r) → LeavesTiming tables (rows_told done)
+    → said ≡ told (line_told done) → changes ≡ rows_told done → Answers office (command.Record c) said (changed_by tables changes)
+record_answers tables office c done said changes stands there registers leaves is rows =
+    let from = registers office.register (register_of tables office stands) in
+    let next : Office = record office { register = after_record office.register c } in
+    let same : said ≡ (recorded office c).0 = is ∙ ap told from.line in
+    record {
+      next = next;
+      step = inr (at_known office (cabinet_of c) (recorded office c) (there office stands) ∙ (λ k. (sym same k, next)));
+      stand = subst (λ list. StandForSound (changed_by tables list) next) (sym rows) (stands_after tables (rows_told done) office (after_record office.register c) stands leaves from.stand);
+    }
+
+pub record_unknown : (tables : Content) (office : Office) (c : RecordCommand) (said : Reply) (changes : List RowChange)
+    → StandForSound tables office → IsKnownIn tables (cabinet_of c) false → said ≡ reply.Refused refusal.UnknownIntersection → changes ≡ [] → Answers office (command.Record c) said (changed_by tables changes)
+record_unknown tables office c said changes stands gone is none =
+    query_answers tables office (command.Record c) (reply.Refused refusal.UnknownIntersection) said changes stands (at_unknown office (cabinet_of c) (recorded office c) (gone office stands)) is none
+
+-- ---- queries
+
+shown_there : (o : Option Intersection) (said : Reply) → true ≡ is_some o → shown o (λ _. said) ≡ said
+shown_there None said e = absurd (let f : true ≡ false = e in cc)
+shown_there (Some i) said e = refl
+
+shown_gone : (o : Option Intersection) (said : Reply) → false ≡ is_some o → shown o (λ _. said) ≡ reply.Refused refusal.UnknownIntersection
+shown_gone None said e = refl
+shown_gone (Some i) said e = absurd (let f : false ≡ true = e in cc)
+
+-- a query on the cabinet of an intersection shows what it says only where that is there
+pub cabinet_answers : (tables : Content) (office : Office) (id : ℕ) (view : CabinetView) (said : Reply) (changes : List RowChange)
+    → StandForSound tables office → IsKnownIn tables (Some id) true → ((r : Register) → RegisterStandsSound tables r → ShowsCabinet r id view)
+    → said ≡ reply.Cabinet (record { id = id; inspections = view.inspections.items; orders = view.orders.items; lines = view.lines.items }) → changes ≡ []
+    → Answers office (command.Cabinet id) said (changed_by tables changes)
+cabinet_answers tables office id view said changes stands there shows is none =
+    let lists = shows office.register (register_of tables office stands) in
+    query_answers tables office (command.Cabinet id) (reply.Cabinet (cabinet_shown office.register id)) said changes stands
+    (λ k. (shown_there (get office.intersections id) (reply.Cabinet (cabinet_shown office.register id)) (there office stands) k, office))
+    (is ∙ (λ k. reply.Cabinet (record { id = id; inspections = lists.inspections k; orders = lists.orders k; lines = lists.lines k }))) none
+
+pub cabinet_unknown : (tables : Content) (office : Office) (id : ℕ) (said : Reply) (changes : List RowChange)
+    → StandForSound tables office → IsKnownIn tables (Some id) false → said ≡ reply.Refused refusal.UnknownIntersection → changes ≡ [] → Answers office (command.Cabinet id) said (changed_by tables changes)
+cabinet_unknown tables office id said changes stands gone is none =
+    query_answers tables office (command.Cabinet id) _ said changes stands
+    (λ k. (shown_gone (get office.intersections id) (reply.Cabinet (cabinet_shown office.register id)) (gone office stands) k, office)) is none
+
+pub orders_answer : (tables : Content) (office : Office) (id : ℕ) (numbers : List ℕ) (said : Reply) (changes : List RowChange)
+    → StandForSound tables office → IsKnownIn tables (Some id) true → ((r : Register) → RegisterStandsSound tables r → numbers ≡ open_at r id)
+    → said ≡ reply.OpenOrders numbers → changes ≡ [] → Answers office (command.OpenOrders id) said (changed_by tables changes)
+orders_answer tables office id numbers said changes stands there shows is none =
+    query_answers tables office (command.OpenOrders id) (reply.OpenOrders (open_at office.register id)) said changes stands
+    (λ k. (shown_there (get office.intersections id) (reply.OpenOrders (open_at office.register id)) (there office stands) k, office))
+    (is ∙ ap (λ (list : List ℕ). reply.OpenOrders list) (shows office.register (register_of tables office stands))) none
+
+pub orders_unknown : (tables : Content) (office : Office) (id : ℕ) (said : Reply) (changes : List RowChange)
+    → StandForSound tables office → IsKnownIn tables (Some id) false → said ≡ reply.Refused refusal.UnknownIntersection → changes ≡ [] → Answers office (command.OpenOrders id) said (changed_by tables changes)
+orders_unknown tables office id said changes stands gone is none =
+    query_answers tables office (command.OpenOrders id) _ said changes stands
+    (λ k. (shown_gone (get office.intersections id) (reply.OpenOrders (open_at office.register id)) (gone office stands) k, office)) is none
+
+pub stock_answers : (tables : Content) (office : Office) (parts : List (List ℕ × ℕ)) (said : Reply) (changes : List RowChange)
+    → StandForSound tables office → ((r : Register) → RegisterStandsSound tables r → parts ≡ stock_of r)
+    → said ≡ reply.Stock parts → changes ≡ [] → Answers office command.Stock said (changed_by tables changes)
+stock_answers tables office parts said changes stands shows is none =
+    query_answers tables office command.Stock (reply.Stock (stock_of office.register)) said changes stands refl
+    (is ∙ ap (λ (list : List (List ℕ × ℕ)). reply.Stock list) (shows office.register (register_of tables office stands))) none

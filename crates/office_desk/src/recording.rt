@@ -1,0 +1,103 @@
+//! The commands of the register.
+ghost use Rattle.std.specs.Prelude.{◌≡◌, ◌≢◌, ◌≤◌, [], IfOk, Err};
+ghost use Rattle.office_tables_shelf.specs.Counts.{writes_in};
+ghost use Rattle.office_tables_shelf.specs.Shelf.{IsKept};
+ghost use Rattle.office_tables_shelf.specs.declared.rows.Table.{Table};
+ghost use Rattle.office_desk_cabinet.specs.Registers.{line_told, rows_told};
+ghost use Rattle.office_desk.specs.Answers.{Decides};
+ghost use Rattle.office_desk.specs.Changes.{IsRefused, most_writes};
+ghost use Rattle.office_desk.specs.Recording.{IsKnownIn, HasDamagedAbout};
+ghost use Rattle.office_desk.specs.Step.{cabinet_of as about_of, refusal_of_record, told as reply_of};
+
+use crate::command::Command;
+use crate::decided::Decided;
+use crate::refusal::Refusal;
+use crate::reply::Reply;
+use cabinet_core::{CabinetRefusal, RecordCommand};
+use office_desk_cabinet::{Registered, decide_record};
+use office_tables_shelf::shelf::{Shelf, ShelfFault};
+use signal_records::InterId;
+use std::alloc::Global;
+
+/// The intersection whose cabinet a command is about; a delivery is about none.
+fn cabinet_of(command: &RecordCommand) -> Option<InterId>
+    ensures { result ≡ about_of command.now }
+{
+    match command {
+        RecordCommand::Inspect { id, .. }
+        | RecordCommand::OpenOrder { id, .. }
+        | RecordCommand::UsePart { id, .. }
+        | RecordCommand::CloseOrder { id, .. } => Some(*id),
+        RecordCommand::Receive { .. } => None,
+    }
+}
+
+/// Whether the intersection is there, where one is asked for.
+pub(crate) fn is_known<S: Shelf>(
+    shelf: &mut S,
+    alloc: Global,
+    about: Option<InterId>,
+) -> Result<bool, ShelfFault>
+    ensures known { IfOk result (λ known. S.is_honest shelf.new → IsKnownIn (S.content shelf.old) about known) }
+    ensures damaged { result ≡ Err ShelfFault.Damaged → S.is_honest shelf.new → HasDamagedAbout (S.content shelf.old) about }
+    ensures kept { IsKept S.is_honest S.content S.written S.may_leave shelf.old shelf.new }
+{
+    let Some(id) = about else {
+        return Ok(true);
+    };
+    let row = shelf.intersection(alloc, id)?;
+    Ok(row.is_some())
+}
+
+/// A refusal of the register as one of the office.
+fn refused(refusal: CabinetRefusal) -> Refusal
+    ensures { result ≡ refusal_of_record refusal }
+{
+    match refusal {
+        CabinetRefusal::InspectionDiffers => Refusal::InspectionDiffers,
+        CabinetRefusal::OrderDiffers => Refusal::OrderDiffers,
+        CabinetRefusal::UnknownOrder => Refusal::UnknownOrder,
+        CabinetRefusal::OrderClosed => Refusal::OrderClosed,
+        CabinetRefusal::DayBeforeOpening => Refusal::DayBeforeOpening,
+        CabinetRefusal::NoStock => Refusal::NoStock,
+        CabinetRefusal::StockFull => Refusal::StockFull,
+        CabinetRefusal::DeliveryDiffers => Refusal::DeliveryDiffers,
+        CabinetRefusal::LineDiffers => Refusal::LineDiffers,
+        CabinetRefusal::CloseDiffers => Refusal::CloseDiffers,
+        CabinetRefusal::NoMemory => Refusal::Unavailable,
+    }
+}
+
+/// What became of a command of the register, as the office answers it.
+fn answer(alloc: Global, told: Registered) -> Decided
+    ensures reply { result.reply ≡ reply_of (line_told told) }
+    ensures changes { result.changes.items ≡ rows_told told }
+{
+    match told {
+        Registered::Added(changes) => Decided {
+            reply: Reply::Added,
+            changes,
+        },
+        Registered::Same => Decided::unchanged(alloc, Reply::Same),
+        Registered::Refused(refusal) => Decided::refused(alloc, refused(refusal)),
+    }
+}
+
+/// Decides a command of the register. The intersection that it is about has to be there.
+pub(crate) fn decide_record_command<S: Shelf>(
+    shelf: &mut S,
+    alloc: Global,
+    command: &RecordCommand,
+) -> Result<Decided, ShelfFault>
+    ensures step { S.is_honest shelf.new → Decides (S.content shelf.old) (Command.Record command.now) result }
+    ensures writes { S.is_honest shelf.new → IfOk result (λ decided. (table : Table) → writes_in table decided.changes.items ≤ most_writes (S.content shelf.old) (Command.Record command.now) table) }
+    ensures undamaged { IfOk result (λ decided. decided.reply ≢ Reply.Refused Refusal.Damaged) }
+    ensures refused { IfOk result (λ decided. IsRefused decided.reply → decided.changes.items ≡ []) }
+    ensures kept { IsKept S.is_honest S.content S.written S.may_leave shelf.old shelf.new }
+{
+    if !is_known(shelf, alloc, cabinet_of(command))? {
+        return Ok(Decided::refused(alloc, Refusal::UnknownIntersection));
+    }
+    let told = decide_record(shelf, alloc, command)?;
+    Ok(answer(alloc, told))
+}

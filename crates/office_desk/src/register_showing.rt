@@ -1,0 +1,65 @@
+//! The queries Cabinet, OpenOrders and Stock.
+ghost use Rattle.std.specs.Prelude.{◌≡◌, ◌≢◌, [], IfOk};
+ghost use Rattle.office_tables_shelf.specs.Shelf.{IsKept};
+ghost use Rattle.office_desk.specs.Answers.{Decides};
+
+use crate::command::Command;
+use crate::decided::Decided;
+use crate::recording::is_known;
+use crate::refusal::Refusal;
+use crate::reply::{CabinetShown, OrderNumbers, Reply, Stock};
+use office_desk_cabinet::{cabinet_view, open_orders, stock};
+use office_tables_shelf::shelf::{Shelf, ShelfFault};
+use signal_records::InterId;
+use std::alloc::Global;
+
+/// Decides Cabinet.
+pub(crate) fn decide_cabinet<S: Shelf>(
+    shelf: &mut S,
+    alloc: Global,
+    id: InterId,
+) -> Result<Decided, ShelfFault>
+    ensures step { S.is_honest shelf.new → Decides (S.content shelf.old) (Command.Cabinet id) result }
+    ensures changes { IfOk result (λ decided. decided.changes.items ≡ []) }
+    ensures undamaged { IfOk result (λ decided. decided.reply ≢ Reply.Refused Refusal.Damaged) }
+    ensures kept { IsKept S.is_honest S.content S.written S.may_leave shelf.old shelf.new }
+{
+    if !is_known(shelf, alloc, Some(id))? {
+        return Ok(Decided::refused(alloc, Refusal::UnknownIntersection));
+    }
+    let view = cabinet_view(shelf, alloc, id)?;
+    let shown = CabinetShown::new(id, view);
+    Ok(Decided::unchanged(alloc, Reply::Cabinet(shown)))
+}
+
+/// Decides OpenOrders.
+pub(crate) fn decide_open_orders<S: Shelf>(
+    shelf: &mut S,
+    alloc: Global,
+    id: InterId,
+) -> Result<Decided, ShelfFault>
+    ensures step { S.is_honest shelf.new → Decides (S.content shelf.old) (Command.OpenOrders id) result }
+    ensures changes { IfOk result (λ decided. decided.changes.items ≡ []) }
+    ensures undamaged { IfOk result (λ decided. decided.reply ≢ Reply.Refused Refusal.Damaged) }
+    ensures kept { IsKept S.is_honest S.content S.written S.may_leave shelf.old shelf.new }
+{
+    let known = is_known(shelf, alloc, Some(id))?;
+    if !known {
+        return Ok(Decided::refused(alloc, Refusal::UnknownIntersection));
+    }
+    let list = open_orders(shelf, alloc, id)?;
+    let numbers = OrderNumbers::new(list);
+    Ok(Decided::unchanged(alloc, Reply::OpenOrders(numbers)))
+}
+
+/// Decides Stock.
+pub(crate) fn decide_stock<S: Shelf>(shelf: &mut S, alloc: Global) -> Result<Decided, ShelfFault>
+    ensures step { S.is_honest shelf.new → Decides (S.content shelf.old) Command.Stock result }
+    ensures changes { IfOk result (λ decided. decided.changes.items ≡ []) }
+    ensures undamaged { IfOk result (λ decided. decided.reply ≢ Reply.Refused Refusal.Damaged) }
+    ensures kept { IsKept S.is_honest S.content S.written S.may_leave shelf.old shelf.new }
+{
+    let list = stock(shelf, alloc)?;
+    let parts = Stock::new(list);
+    Ok(Decided::unchanged(alloc, Reply::Stock(parts)))
+}

@@ -1,0 +1,16 @@
+pub mod EntryLemmas
+pub mod EntrySums
+pub mod Told
+pub mod Found
+pub mod Puts
+pub mod Recorded
+pub mod StockLemmas
+pub mod PartRows
+pub mod StockList
+pub mod LineLemmas
+pub mod Stocked
+pub mod Undamaged
+pub mod ListedRecords
+pub mod ShowingLemmas
+pub mod RecordLaws
+pub mod EmptyRegister

@@ -1,0 +1,88 @@
+-- The line of an order and a number, told from the list of the lines of an intersection, and a delivery from its row.
+use Rattle.std.proofs.Common.{◌≡◌, ℕ, pos, true, ◌&&◌, List, find, Option, Some, None, option_map, refl, sym, ap, ◌∙◌, arith}
+use Rattle.std.proofs.lemmas.Bool.Decides.{nat_tests}
+use Rattle.std.specs.Cmp.{tied_itself}
+use Rattle.std.specs.FinMap.{get}
+use Rattle.std.specs.Ordering.{is_eq, nat_cmp, ordering_then}
+use Rattle.std.specs.Prelude.{◌==◌, IfSome}
+use Rattle.std.specs.declared.cmp.Ordering.TheVariants.{Equal}
+use Rattle.cabinet_core.specs.declared.record.Delivery.{Delivery}
+use Rattle.cabinet_core.specs.declared.record.UsedLine.{UsedLine}
+use Rattle.office_tables_shelf.specs.CabinetReads.{ListsUsed, ReadsDelivery}
+use Rattle.office_tables_shelf.specs.CabinetRows.{used_key, used_columns, delivery_key, delivery_columns}
+use Rattle.office_tables_shelf.specs.Cells.{Cell, number, cells_cmp}
+use Rattle.office_tables_shelf.specs.Content.{Content}
+use Rattle.office_tables_shelf.specs.Shelf.{is_of}
+use Rattle.office_tables_shelf.proofs.CellLemmas.{cell_total, is_under}
+use Rattle.office_tables_shelf.proofs.TreeLemmas.{number_order}
+use Rattle.office_desk_cabinet.specs.Register.{Register, IsLineAt, IsDeliveryAt}
+use Rattle.office_desk_cabinet.specs.RegisterStands.{RegisterStandsSound}
+use Rattle.office_desk_cabinet.specs.Stocking.{is_line}
+use Rattle.office_desk_cabinet.proofs.Found.{get_listed, find_alike, find_passes}
+
+-- ---- lines
+
+of_itself : (id order line : ℕ) → is_of id (used_key id order line) ≡ true
+of_itself id order line = ap is_eq (tied_itself cell_total (number (pos id)))
+
+tests : (id a b c d : ℕ) → is_eq (ordering_then (nat_cmp id id) (ordering_then (nat_cmp a c) (ordering_then (nat_cmp b d) Equal))) ≡ (c == a && d == b)
+tests id a b c d = grind (arith, nat_tests)
+
+line_ties : (id a b c d : ℕ) → is_eq (cells_cmp (used_key id a b) (used_key id c d)) ≡ (c == a && d == b)
+line_ties id a b c d =
+    (λ i. is_eq (ordering_then (number_order id id i) (ordering_then (number_order a c i) (ordering_then (number_order b d i) Equal))))
+    ∙ tests id a b c d
+
+numbers : (a b c d : ℕ) → (c == a && d == b) ≡ true → (c ≡ a) × (d ≡ b)
+numbers a b c d h = (grind (arith, nat_tests), grind (arith, nat_tests))
+
+same_line : (r : Register) (id order line : ℕ) (a b : Option UsedLine) → option_map used_columns a ≡ option_map used_columns b → IfSome a (λ used. is_line order line used ≡ true)
+    → IfSome b (IsLineAt r (used_key id order line)) → a ≡ b
+same_line r id order line None None same named at = refl
+same_line r id order line None (Some there) same named at = absurd cc
+same_line r id order line (Some used) None same named at = absurd cc
+same_line r id order line (Some used) (Some there) same named at =
+    let own : used_key id order line ≡ used_key at.id there.order there.line = at.key_is in
+    let order_is : order ≡ there.order = cc in
+    let line_is : line ≡ there.line = cc in
+    let part_is : used.part ≡ there.part = cc in
+    let count_is : used.count ≡ there.count = cc in
+    let told = numbers order line used.order used.line named in
+    let orders : used.order ≡ there.order = told.0 ∙ order_is in
+    let lines : used.line ≡ there.line = told.1 ∙ line_is in
+    λ i. Some (record { order = orders i; line = lines i; part = part_is i; count = count_is i })
+
+-- the line of an order and a number is the one that the list has
+pub line_found : (tables : Content) (id : ℕ) (r : Register) (found : List UsedLine) (order line : ℕ) → RegisterStandsSound tables r → ListsUsed tables id found
+    → find (is_line order line) found ≡ get r.lines (used_key id order line)
+line_found tables id r found order line stands lists =
+    let at = used_key id order line in
+    let key : UsedLine → List Cell = λ used. used_key id used.order used.line in
+    same_line r id order line _ _
+    (ap (option_map used_columns) (find_alike (is_line order line) (is_under key used_columns at) found (λ used. sym (line_ties id order line used.order used.line)))
+    ∙ sym (get_listed key used_columns id tables.used_part found lists at (of_itself id order line))
+    ∙ stands.stand.used_part at)
+    (find_passes (is_line order line) found)
+    (stands.sound.lines at)
+
+-- ---- deliveries
+
+same_delivery : (code : List ℕ) (n : ℕ) (a b : Option Delivery) → option_map delivery_columns a ≡ option_map delivery_columns b → IfSome a (λ d. d.part ≡ code) → IfSome a (λ d. d.number ≡ n)
+    → IfSome b (IsDeliveryAt (delivery_key code n)) → a ≡ b
+same_delivery code n None None same named numbered at = refl
+same_delivery code n None (Some there) same named numbered at = absurd cc
+same_delivery code n (Some found) None same named numbered at = absurd cc
+same_delivery code n (Some found) (Some there) same named numbered at =
+    let own : delivery_key code n ≡ delivery_key there.part there.number = at.key_is in
+    let part_is : code ≡ there.part = cc in
+    let number_is : n ≡ there.number = cc in
+    let day_is : found.day ≡ there.day = cc in
+    let count_is : found.count ≡ there.count = cc in
+    let parts : found.part ≡ there.part = named ∙ part_is in
+    let numbers : found.number ≡ there.number = numbered ∙ number_is in
+    λ i. Some (record { part = parts i; number = numbers i; day = day_is i; count = count_is i })
+
+-- the delivery of a part and a number is the one that is read
+pub delivery_found : (tables : Content) (r : Register) (code : List ℕ) (n : ℕ) (found : Option Delivery) → RegisterStandsSound tables r → ReadsDelivery tables code n found → found ≡ get r.deliveries (delivery_key code n)
+delivery_found tables r code n found stands reads =
+    same_delivery code n found (get r.deliveries (delivery_key code n)) (sym reads.stored ∙ stands.stand.delivery (delivery_key code n)) reads.part reads.number (stands.sound.deliveries (delivery_key code n))

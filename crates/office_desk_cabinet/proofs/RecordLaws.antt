@@ -1,0 +1,145 @@
+-- Over commands that were accepted in turn: which orders are open, and what is in stock.
+use Rattle.std.proofs.Common.{◌≡◌, ℕ, pos, ◌+◌, ◌-◌, ◌≤◌, Bool, true, false, ◌&&◌, ◌==◌, cond, List, [], ◌∷◌, Option, None, Some, Ordering, nat_cmp, refl, sym, ap, ◌∙◌, arith}
+use Rattle.std.proofs.lemmas.Bool.Decides.{nat_tests}
+use Rattle.std.specs.FinMap.{get, insert, get-insert}
+use Rattle.std.specs.Ordering.{is_eq, ordering_then, eq_by_cmp}
+use Rattle.std.specs.Str.{bytes_eq}
+use Rattle.std.specs.declared.cmp.Ordering.TheVariants.{Less, Equal, Greater}
+use Rattle.cabinet_core.specs.Cabinet.{Line, added, same, refused, is_same_line, is_same_delivery, use_line, close_line, receive_line, record_of, with_closing}
+use Rattle.cabinet_core.specs.declared.command.RecordCommand.{RecordCommand}
+use Rattle.cabinet_core.specs.declared.command.RecordCommand.TheVariants.{Inspect, OpenOrder, UsePart, CloseOrder, Receive}
+use Rattle.cabinet_core.specs.declared.record.Closing.{Closing}
+use Rattle.cabinet_core.specs.declared.record.Delivery.{Delivery}
+use Rattle.cabinet_core.specs.declared.record.Order.{Order}
+use Rattle.cabinet_core.specs.declared.record.UsedLine.{UsedLine}
+use Rattle.cabinet_core.specs.declared.refusal.CabinetRefusal.{CabinetRefusal}
+use Rattle.cabinet_core.specs.declared.refusal.CabinetRefusal.TheVariants.{DeliveryDiffers, LineDiffers}
+use Rattle.office_tables_shelf.proofs.CellLemmas.{cells_total}
+use Rattle.office_tables_shelf.proofs.TreeLemmas.{number_order}
+use Rattle.office_tables_shelf.specs.CabinetRows.{order_key, used_key, delivery_key}
+use Rattle.office_tables_shelf.specs.Cells.{Cell, number, cell_cmp, cells_cmp}
+use Rattle.office_desk_cabinet.specs.Register.{Register, IsSoundRegister, brought, taken, delivered, used, pieces, hand_of}
+use Rattle.office_desk_cabinet.specs.RegisterStep.{line_at, with_closed, with_record}
+use Rattle.office_desk_cabinet.specs.RecordRuns.{AreAccepted, is_open_order, is_open_at, open_with, open_by, received, spent, received_by, spent_by}
+use Rattle.office_desk_cabinet.proofs.EntrySums.{sum_insert}
+
+-- ---- orders
+
+-- two numbers one after the other tie where both do
+two_ties : (r s : Ordering) → is_eq (ordering_then r (ordering_then s Equal)) ≡ (is_eq r && is_eq s)
+two_ties Less s = refl
+two_ties Greater s = refl
+two_ties Equal Less = refl
+two_ties Equal Equal = refl
+two_ties Equal Greater = refl
+
+number_is : (a b : ℕ) → is_eq (nat_cmp a b) ≡ (b == a)
+number_is a b = grind (arith, nat_tests)
+
+cell_is : (a b : ℕ) → is_eq (cell_cmp (number (pos a)) (number (pos b))) ≡ (b == a)
+cell_is a b = ap is_eq (number_order a b) ∙ number_is a b
+
+-- the keys of two orders tie where they are of one intersection and have one number
+key_ties : (id n other order : ℕ) → eq_by_cmp cells_cmp (order_key id n) (order_key other order) ≡ ((other == id) && (order == n))
+key_ties id n other order =
+    two_ties (cell_cmp (number (pos id)) (number (pos other))) (cell_cmp (number (pos n)) (number (pos order)))
+    ∙ (λ i. cell_is id other i && cell_is n order i)
+
+-- an order that is put is the one that stands there
+open_put : (r : Register) (id n other order : ℕ) (put : Order) (after : Bool) → is_open_order (Some put) ≡ after
+    → is_open_order (get (insert r.orders (order_key other order) put) (order_key id n)) ≡ cond ((other == id) && (order == n)) after (is_open_at r id n)
+open_put r id n other order put after is =
+    ap is_open_order (get-insert cells_total r.orders (order_key other order) put (order_key id n))
+    ∙ ap (λ b. is_open_order (cond b (Some put) (get r.orders (order_key id n)))) (key_ties id n other order)
+    ∙ elim ((other == id) && (order == n)) as (λ b. is_open_order (cond b (Some put) (get r.orders (order_key id n))) ≡ cond b after (is_open_at r id n)) [ true ↦ is | false ↦ refl ]
+
+open_closed : (r : Register) (id n other order : ℕ) (closing : Closing) (there : Option Order) → close_line there closing ≡ added
+    → is_open_at (with_closed r other order closing there) id n ≡ cond ((other == id) && (order == n)) false (is_open_at r id n)
+open_closed r id n other order closing None line = absurd cc
+open_closed r id n other order closing (Some found) line = open_put r id n other order (with_closing found closing) false refl
+
+open_step : (r : Register) (id n : ℕ) (command : RecordCommand) → line_at r command ≡ added → is_open_at (with_record r command) id n ≡ open_with id n (is_open_at r id n) command
+open_step r id n (Inspect other inspection) line = refl
+open_step r id n (OpenOrder other opening) line = open_put r id n other opening.number (record_of opening) true refl
+open_step r id n (UsePart other used_line) line = refl
+open_step r id n (CloseOrder other order closing) line = open_closed r id n other order closing (get r.orders (order_key other order)) line
+open_step r id n (Receive delivery) line = refl
+
+-- after commands that were accepted an order is open as they say
+pub open_law : (id n : ℕ) (commands : List RecordCommand) (r last : Register) → AreAccepted r commands last → is_open_at last id n ≡ open_by id n (is_open_at r id n) commands
+open_law id n [] r last run = ap (λ (x : Register). is_open_at x id n) run
+open_law id n (command ∷ commands) r last run =
+    open_law id n commands (with_record r command) last run.1
+    ∙ ap (λ b. open_by id n b commands) (open_step r id n command run.0)
+
+-- ---- stock
+
+nothing_more : (n : ℕ) → n ≡ n + 0
+nothing_more n = omega arith
+
+not_added : (b : Bool) (why : CabinetRefusal) → cond b same (refused why) ≡ added → ⊥
+not_added true why line = cc
+not_added false why line = cc
+
+-- a line that is accepted was not there
+new_line : (there : Option UsedLine) (order : Option Order) (hand : Option ℕ) (asked : UsedLine) → use_line there order hand asked ≡ added → there ≡ None
+new_line None order hand asked line = refl
+new_line (Some found) order hand asked line = absurd (not_added (is_same_line found asked) LineDiffers line)
+
+-- a delivery that is accepted was not there
+new_delivery : (there : Option Delivery) (hand : Option ℕ) (asked : Delivery) → receive_line there hand asked ≡ added → there ≡ None
+new_delivery None hand asked line = refl
+new_delivery (Some found) hand asked line = absurd (not_added (is_same_delivery found asked) DeliveryDiffers line)
+
+-- closing an order leaves the stock
+closed_delivered : (r : Register) (id order : ℕ) (closing : Closing) (there : Option Order) (code : List ℕ) → delivered (with_closed r id order closing there) code ≡ delivered r code + 0
+closed_delivered r id order closing None code = nothing_more (delivered r code)
+closed_delivered r id order closing (Some found) code = nothing_more (delivered r code)
+
+closed_used : (r : Register) (id order : ℕ) (closing : Closing) (there : Option Order) (code : List ℕ) → used (with_closed r id order closing there) code ≡ used r code + 0
+closed_used r id order closing None code = nothing_more (used r code)
+closed_used r id order closing (Some found) code = nothing_more (used r code)
+
+delivered_step : (r : Register) (code : List ℕ) (command : RecordCommand) → line_at r command ≡ added → delivered (with_record r command) code ≡ delivered r code + received code command
+delivered_step r code (Inspect id inspection) line = nothing_more (delivered r code)
+delivered_step r code (OpenOrder id opening) line = nothing_more (delivered r code)
+delivered_step r code (UsePart id used_line) line = nothing_more (delivered r code)
+delivered_step r code (CloseOrder id order closing) line = closed_delivered r id order closing (get r.orders (order_key id order)) code
+delivered_step r code (Receive delivery) line =
+    let key = delivery_key delivery.part delivery.number in
+    sum_insert cells_cmp cells_total r.deliveries key delivery (new_delivery (get r.deliveries key) (hand_of r delivery.part) delivery line) (brought code)
+
+used_step : (r : Register) (code : List ℕ) (command : RecordCommand) → line_at r command ≡ added → used (with_record r command) code ≡ used r code + spent code command
+used_step r code (Inspect id inspection) line = nothing_more (used r code)
+used_step r code (OpenOrder id opening) line = nothing_more (used r code)
+used_step r code (UsePart id used_line) line =
+    let key = used_key id used_line.order used_line.line in
+    sum_insert cells_cmp cells_total r.lines key used_line (new_line (get r.lines key) (get r.orders (order_key id used_line.order)) (hand_of r used_line.part) used_line line) (taken code)
+used_step r code (CloseOrder id order closing) line = closed_used r id order closing (get r.orders (order_key id order)) code
+used_step r code (Receive delivery) line = nothing_more (used r code)
+
+in_turn : (last mid first one more : ℕ) → last ≡ mid + more → mid ≡ first + one → last ≡ first + (one + more)
+in_turn last mid first one more rest now = omega arith
+
+-- the deliveries grow by what was received
+pub delivered_law : (code : List ℕ) (commands : List RecordCommand) (r last : Register) → AreAccepted r commands last → delivered last code ≡ delivered r code + received_by code commands
+delivered_law code [] r last run = ap (λ (x : Register). delivered x code) run ∙ nothing_more (delivered r code)
+delivered_law code (command ∷ commands) r last run =
+    in_turn (delivered last code) (delivered (with_record r command) code) (delivered r code) (received code command) (received_by code commands)
+    (delivered_law code commands (with_record r command) last run.1) (delivered_step r code command run.0)
+
+-- the used lines grow by what was taken
+pub used_law : (code : List ℕ) (commands : List RecordCommand) (r last : Register) → AreAccepted r commands last → used last code ≡ used r code + spent_by code commands
+used_law code [] r last run = ap (λ (x : Register). used x code) run ∙ nothing_more (used r code)
+used_law code (command ∷ commands) r last run =
+    in_turn (used last code) (used (with_record r command) code) (used r code) (spent code command) (spent_by code commands)
+    (used_law code commands (with_record r command) last run.1) (used_step r code command run.0)
+
+balance : (old_in old_out new_in new_out came went : ℕ) → new_in ≡ old_in + came → new_out ≡ old_out + went → old_out ≤ old_in → new_out ≤ new_in → (new_in - new_out) + went ≡ (old_in - old_out) + came
+balance old_in old_out new_in new_out came went ins outs old new = omega arith
+
+-- what is on hand and what was taken is what was on hand and what was received
+pub stock_law : (code : List ℕ) (commands : List RecordCommand) (r last : Register) → AreAccepted r commands last → IsSoundRegister r → IsSoundRegister last → pieces last code + spent_by code commands ≡ pieces r code + received_by code commands
+stock_law code commands r last run first_sound last_sound =
+    balance (delivered r code) (used r code) (delivered last code) (used last code) (received_by code commands) (spent_by code commands)
+    (delivered_law code commands r last run) (used_law code commands r last run) (first_sound.stock code).covered (last_sound.stock code).covered

@@ -1,0 +1,157 @@
+-- What is told of a decision, from the line that it takes: the step of the register, the rows that stay, and how many are written.
+use Rattle.std.proofs.Common.{◌≡◌, ◌≢◌, ◌≤◌, ℕ, List, [], ◌∷◌, Result, Ok, Err, refl, sym, ap, subst, ◌∙◌, arith}
+use Rattle.std.specs.Prelude.{IfOk, OnErr}
+use Rattle.cabinet_core.specs.Cabinet.{Line, added, same, refused, Records}
+use Rattle.cabinet_core.specs.declared.command.RecordCommand.{RecordCommand}
+use Rattle.cabinet_core.specs.declared.decide.CabinetChange.{CabinetChange}
+use Rattle.cabinet_core.specs.declared.decide.CabinetChange.TheVariants as change
+use Rattle.cabinet_core.specs.declared.decide.Recorded.{Recorded}
+use Rattle.cabinet_core.specs.declared.decide.Recorded.TheVariants as recorded
+use Rattle.cabinet_core.specs.declared.refusal.CabinetRefusal.{CabinetRefusal}
+use Rattle.cabinet_core.specs.declared.refusal.CabinetRefusal.TheVariants as refusal
+use Rattle.office_tables_shelf.specs.Change.{changed, changed_by}
+use Rattle.office_tables_shelf.specs.Content.{Content}
+use Rattle.office_tables_shelf.specs.Counts.{writes_in}
+use Rattle.office_tables_shelf.specs.declared.rows.RowChange.{RowChange}
+use Rattle.office_tables_shelf.specs.declared.rows.Table.{Table}
+use Rattle.office_tables_shelf.specs.declared.shelf.ShelfFault.{ShelfFault}
+use Rattle.office_tables_shelf.specs.declared.shelf.ShelfFault.TheVariants.{NoMemory, Store, Damaged}
+use Rattle.office_desk_cabinet.specs.Register.{Register}
+use Rattle.office_desk_cabinet.specs.RegisterDamage.{MeetsRecordDamage}
+use Rattle.office_desk_cabinet.specs.RegisterStands.{RegisterStandsSound}
+use Rattle.office_desk_cabinet.specs.RegisterStep.{line_at, with_record, after_line, after_record}
+use Rattle.office_desk_cabinet.specs.Registers.{line_told, rows_told, RegistersFrom, Registers, LeavesTiming, most_record_writes}
+use Rattle.office_desk_cabinet.specs.Telling.{row_change_of, row_changes_of, Tells}
+use Rattle.office_desk_cabinet.specs.declared.registered.Registered.{Registered}
+use Rattle.office_desk_cabinet.specs.declared.registered.Registered.TheVariants.{Same, Refused}
+
+-- the rows that a line writes
+abbrev pub rows_for : Line → List RowChange → List RowChange
+rows_for added rows = rows
+rows_for same rows = []
+rows_for (refused why) rows = []
+
+-- what is told is the line, with the rows of its changes
+pub record IsTold (id : ℕ) (line : Line) (list : List CabinetChange) (told : Registered) : Type 0 where
+  pub same_line : line_told told ≡ line
+  pub same_rows : rows_told told ≡ rows_for line (row_changes_of id list)
+
+-- a refusal
+turned_down : (id : ℕ) (line : Line) (list : List CabinetChange) (why : CabinetRefusal) (told : Registered) → line ≡ refused why → told ≡ Refused why → IsTold id line list told
+turned_down id line list why told is tells = record {
+  same_line = ap line_told tells ∙ sym is;
+  same_rows = ap rows_told tells ∙ sym (ap (λ (l : Line). rows_for l (row_changes_of id list)) is);
+}
+
+pub told_by : (id : ℕ) (line : Line) (list : List CabinetChange) (decision : Result Recorded CabinetRefusal) (told : Registered) → Records decision line list → Tells id decision told → IsTold id line list told
+told_by id line list (Ok (recorded.Added changes)) told is tells = record {
+  same_line = tells.0 ∙ sym is.0;
+  same_rows = tells.1 ∙ ap (row_changes_of id) is.1 ∙ sym (ap (λ (l : Line). rows_for l (row_changes_of id list)) is.0);
+}
+told_by id line list (Ok recorded.Same) told is tells = record {
+  same_line = ap line_told tells ∙ sym is;
+  same_rows = ap rows_told tells ∙ sym (ap (λ (l : Line). rows_for l (row_changes_of id list)) is);
+}
+told_by id line list (Err refusal.NoMemory) told is tells = absurd (tells.0 refl)
+told_by id line list (Err refusal.InspectionDiffers) told is tells = turned_down id line list _ told is tells.1
+told_by id line list (Err refusal.OrderDiffers) told is tells = turned_down id line list _ told is tells.1
+told_by id line list (Err refusal.UnknownOrder) told is tells = turned_down id line list _ told is tells.1
+told_by id line list (Err refusal.OrderClosed) told is tells = turned_down id line list _ told is tells.1
+told_by id line list (Err refusal.DayBeforeOpening) told is tells = turned_down id line list _ told is tells.1
+told_by id line list (Err refusal.NoStock) told is tells = turned_down id line list _ told is tells.1
+told_by id line list (Err refusal.StockFull) told is tells = turned_down id line list _ told is tells.1
+told_by id line list (Err refusal.DeliveryDiffers) told is tells = turned_down id line list _ told is tells.1
+told_by id line list (Err refusal.LineDiffers) told is tells = turned_down id line list _ told is tells.1
+told_by id line list (Err refusal.CloseDiffers) told is tells = turned_down id line list _ told is tells.1
+
+-- ---- the step
+
+stands_after : (tables : Content) (r next : Register) (line : Line) (rows : List RowChange) → RegisterStandsSound tables r → (line ≡ added → RegisterStandsSound (changed_by tables rows) next)
+    → RegisterStandsSound (changed_by tables (rows_for line rows)) (after_line line next r)
+stands_after tables r next added rows stands put = put refl
+stands_after tables r next same rows stands put = stands
+stands_after tables r next (refused why) rows stands put = stands
+
+-- a decision on the records of a register, whose rows make the tables stand for the register with the record
+pub registers_from : (tables : Content) (r : Register) (command : RecordCommand) (id : ℕ) (list : List CabinetChange) (decision : Result Recorded CabinetRefusal) (told : Registered)
+    → Records decision (line_at r command) list → Tells id decision told → RegisterStandsSound tables r
+    → (line_at r command ≡ added → RegisterStandsSound (changed_by tables (row_changes_of id list)) (with_record r command))
+    → RegistersFrom tables command told r
+registers_from tables r command id list decision told is tells stands put =
+    let by = told_by id (line_at r command) list decision told is tells in
+    record {
+      line = by.same_line;
+      stand = subst (λ rows. RegisterStandsSound (changed_by tables rows) (after_record r command)) (sym by.same_rows)
+          (stands_after tables r (with_record r command) (line_at r command) (row_changes_of id list) stands put);
+    }
+
+-- and the answer to it
+pub registers : (tables : Content) (command : RecordCommand) (id : ℕ) (decision : Result Recorded CabinetRefusal) (result : Result Registered ShelfFault)
+    → IfOk result (λ told. Tells id decision told) → OnErr result (result ≡ Err NoMemory)
+    → ((told : Registered) → Tells id decision told → (r : Register) → RegisterStandsSound tables r → RegistersFrom tables command told r)
+    → Registers tables command result
+registers tables command id decision (Ok told) tells fault from = from told tells
+registers tables command id decision (Err NoMemory) tells fault from = tt
+registers tables command id decision (Err Store) tells fault from = tt
+registers tables command id decision (Err Damaged) tells fault from = absurd (let f : Err Damaged ≡ Err NoMemory = fault in cc)
+
+-- a fault that the shelf answered
+pub fault_registers : (tables : Content) (command : RecordCommand) (fault : ShelfFault) → (fault ≡ Damaged → MeetsRecordDamage tables command) → Registers tables command (Err fault)
+fault_registers tables command NoMemory damage = tt
+fault_registers tables command Store damage = tt
+fault_registers tables command Damaged damage = damage refl
+
+-- ---- rows that stay
+
+row_leaves : (tables : Content) (id : ℕ) (c : CabinetChange) → LeavesTiming tables (row_change_of id c ∷ [])
+row_leaves tables id (change.PutInspection inspection) = record { intersection = refl; timing = refl; draft = refl }
+row_leaves tables id (change.PutOrder order) = record { intersection = refl; timing = refl; draft = refl }
+row_leaves tables id (change.PutLine line) = record { intersection = refl; timing = refl; draft = refl }
+row_leaves tables id (change.PutPart code hand) = record { intersection = refl; timing = refl; draft = refl }
+row_leaves tables id (change.PutDelivery delivery) = record { intersection = refl; timing = refl; draft = refl }
+
+rows_leave : (tables : Content) (id : ℕ) (list : List CabinetChange) → LeavesTiming tables (row_changes_of id list)
+rows_leave tables id [] = record { intersection = refl; timing = refl; draft = refl }
+rows_leave tables id (c ∷ list) =
+    let first = row_leaves tables id c in
+    let later = rows_leave (changed tables (row_change_of id c)) id list in
+    record { intersection = later.intersection ∙ first.intersection; timing = later.timing ∙ first.timing; draft = later.draft ∙ first.draft }
+
+pub tells_leaves : (tables : Content) (id : ℕ) (decision : Result Recorded CabinetRefusal) (told : Registered) → Tells id decision told → LeavesTiming tables (rows_told told)
+tells_leaves tables id (Ok (recorded.Added changes)) told tells = subst (LeavesTiming tables) (sym tells.1) (rows_leave tables id changes.items)
+tells_leaves tables id (Ok recorded.Same) told tells = subst (LeavesTiming tables) (sym (ap rows_told tells)) (rows_leave tables id [])
+tells_leaves tables id (Err why) told tells = subst (LeavesTiming tables) (sym (ap rows_told tells.1)) (rows_leave tables id [])
+
+-- the same of the answer
+pub answer_leaves : (tables : Content) (id : ℕ) (decision : Result Recorded CabinetRefusal) (result : Result Registered ShelfFault) → IfOk result (λ told. Tells id decision told)
+    → IfOk result (λ told. LeavesTiming tables (rows_told told))
+answer_leaves tables id decision (Ok told) tells = tells_leaves tables id decision told tells
+answer_leaves tables id decision (Err fault) tells = tt
+
+-- ---- how many are written
+
+rows_few : (other : Table) (line : Line) (rows : List RowChange) (most : ℕ) → writes_in other rows ≤ most → writes_in other (rows_for line rows) ≤ most
+rows_few other added rows most few = few
+rows_few other same rows most few = omega arith
+rows_few other (refused why) rows most few = omega arith
+
+pub answer_writes : (command : RecordCommand) (id : ℕ) (line : Line) (list : List CabinetChange) (decision : Result Recorded CabinetRefusal) (result : Result Registered ShelfFault)
+    → Records decision line list → IfOk result (λ told. Tells id decision told)
+    → ((other : Table) → writes_in other (row_changes_of id list) ≤ most_record_writes command other)
+    → IfOk result (λ told. (other : Table) → writes_in other (rows_told told) ≤ most_record_writes command other)
+answer_writes command id line list decision (Ok told) is tells few = λ other.
+    subst (λ rows. writes_in other rows ≤ most_record_writes command other) (sym (told_by id line list decision told is tells).same_rows)
+    (rows_few other line (row_changes_of id list) (most_record_writes command other) (few other))
+answer_writes command id line list decision (Err fault) is tells few = tt
+
+-- ---- never want of memory
+
+tells_memory : (id : ℕ) (decision : Result Recorded CabinetRefusal) (told : Registered) → Tells id decision told → told ≢ Refused refusal.NoMemory
+tells_memory id (Ok (recorded.Added changes)) told tells is = absurd (let f : added ≡ refused refusal.NoMemory = sym tells.0 ∙ ap line_told is in cc)
+tells_memory id (Ok recorded.Same) told tells is = absurd (let f : Same ≡ Refused refusal.NoMemory = sym tells ∙ is in cc)
+tells_memory id (Err why) told tells is = tells.0 (let f : Refused why ≡ Refused refusal.NoMemory = sym tells.1 ∙ is in cc)
+
+pub answer_memory : (id : ℕ) (decision : Result Recorded CabinetRefusal) (result : Result Registered ShelfFault) → IfOk result (λ told. Tells id decision told)
+    → IfOk result (λ told. told ≢ Refused refusal.NoMemory)
+answer_memory id decision (Ok told) tells = tells_memory id decision told tells
+answer_memory id decision (Err fault) tells = tt

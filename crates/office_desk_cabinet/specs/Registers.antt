@@ -1,0 +1,66 @@
+-- What a decision on the register gives, on tables that stand for one, and what its queries show.
+use Rattle.std.specs.Prelude.{◌≡◌, ℕ, List, [], Result, Ok, Err}
+use Rattle.cabinet_core.specs.Cabinet.{Line, added, same, refused}
+use Rattle.cabinet_core.specs.declared.command.RecordCommand.{RecordCommand}
+use Rattle.cabinet_core.specs.declared.command.RecordCommand.TheVariants.{Inspect, OpenOrder, UsePart, CloseOrder, Receive}
+use Rattle.cabinet_core.specs.declared.record.CabinetView.{CabinetView}
+use Rattle.office_tables_shelf.specs.Change.{changed_by}
+use Rattle.office_tables_shelf.specs.Content.{Content}
+use Rattle.office_tables_shelf.specs.declared.rows.RowChange.{RowChange}
+use Rattle.office_tables_shelf.specs.declared.rows.Table.{Table}
+use Rattle.office_tables_shelf.specs.declared.rows.Table.TheVariants as table
+use Rattle.office_tables_shelf.specs.declared.shelf.ShelfFault.{ShelfFault}
+use Rattle.office_tables_shelf.specs.declared.shelf.ShelfFault.TheVariants.{NoMemory, Store, Damaged}
+use Rattle.office_desk_cabinet.specs.Register.{Register, records_at}
+use Rattle.office_desk_cabinet.specs.RegisterDamage.{MeetsRecordDamage}
+use Rattle.office_desk_cabinet.specs.RegisterStands.{RegisterStandsSound}
+use Rattle.office_desk_cabinet.specs.RegisterStep.{line_at, after_record}
+use Rattle.office_desk_cabinet.specs.declared.registered.Registered.{Registered}
+use Rattle.office_desk_cabinet.specs.declared.registered.Registered.TheVariants.{Added, Same, Refused}
+
+-- the line that is told
+abbrev pub line_told : Registered → Line
+line_told (Added changes) = added
+line_told Same = same
+line_told (Refused refusal) = refused refusal
+
+-- the rows to be written
+abbrev pub rows_told : Registered → List RowChange
+rows_told (Added changes) = changes.items
+rows_told Same = []
+rows_told (Refused refusal) = []
+
+-- from a register: the line is the command's, and the tables stand for a sound register after it
+pub record RegistersFrom (tables : Content) (command : RecordCommand) (told : Registered) (r : Register) : Type 0 where
+  pub line : line_told told ≡ line_at r command
+  pub stand : RegisterStandsSound (changed_by tables (rows_told told)) (after_record r command)
+
+-- whichever sound register the tables stand for; and Damaged comes only where a row that is read is no record
+abbrev pub Registers : Content → RecordCommand → Result Registered ShelfFault → Type 0
+Registers tables command (Ok told) = (r : Register) → RegisterStandsSound tables r → RegistersFrom tables command told r
+Registers tables command (Err Damaged) = MeetsRecordDamage tables command
+Registers tables command (Err NoMemory) = Unit {0}
+Registers tables command (Err Store) = Unit {0}
+
+-- rows of the register alone are written: those of the intersections and of their timing stay
+pub record LeavesTiming (tables : Content) (changes : List RowChange) : Type 0 where
+  pub intersection : (changed_by tables changes).intersection ≡ tables.intersection
+  pub timing : (changed_by tables changes).timing ≡ tables.timing
+  pub draft : (changed_by tables changes).draft ≡ tables.draft
+
+-- the most rows of each table that a command of the register writes
+abbrev pub most_record_writes : RecordCommand → Table → ℕ
+most_record_writes (Inspect id inspection) table.Inspection = 1
+most_record_writes (OpenOrder id opening) table.WorkOrder = 1
+most_record_writes (CloseOrder id order closing) table.WorkOrder = 1
+most_record_writes (UsePart id line) table.UsedPart = 1
+most_record_writes (UsePart id line) table.Part = 1
+most_record_writes (Receive delivery) table.Part = 1
+most_record_writes (Receive delivery) table.Delivery = 1
+most_record_writes _ _ = 0
+
+-- what the register holds of an intersection
+pub record ShowsCabinet (r : Register) (id : ℕ) (view : CabinetView) : Type 0 where
+  pub inspections : view.inspections.items ≡ records_at id r.inspections
+  pub orders : view.orders.items ≡ records_at id r.orders
+  pub lines : view.lines.items ≡ records_at id r.lines

@@ -1,0 +1,35 @@
+-- How the stock's part of the register is looked up and written.
+use Rattle.std.specs.Prelude.{◌≡◌, ◌≢◌, ℕ, ◌==◌, Bool, ◌&&◌, List, Option, Some, None, Result, Ok, Err}
+use Rattle.std.specs.List.{filter_map}
+use Rattle.cabinet_core.specs.Cabinet.{added}
+use Rattle.cabinet_core.specs.declared.decide.CabinetChange.{CabinetChange}
+use Rattle.cabinet_core.specs.declared.decide.CabinetChange.TheVariants as change
+use Rattle.cabinet_core.specs.declared.decide.Recorded.{Recorded}
+use Rattle.cabinet_core.specs.declared.decide.Recorded.TheVariants as recorded
+use Rattle.cabinet_core.specs.declared.record.UsedLine.{UsedLine}
+use Rattle.cabinet_core.specs.declared.refusal.CabinetRefusal.{CabinetRefusal}
+use Rattle.cabinet_core.specs.declared.refusal.CabinetRefusal.TheVariants.{NoMemory}
+use Rattle.office_tables_shelf.specs.declared.rows.RowChange.{RowChange}
+use Rattle.office_tables_shelf.specs.declared.rows.RowChange.TheVariants.{PutPart, PutDelivery}
+use Rattle.office_desk_cabinet.specs.declared.registered.Registered.{Registered}
+use Rattle.office_desk_cabinet.specs.declared.registered.Registered.TheVariants.{Same, Refused}
+use Rattle.office_desk_cabinet.specs.Registers.{line_told, rows_told}
+
+-- the line has the order and the number
+abbrev pub is_line : ℕ → ℕ → UsedLine → Bool
+is_line order line used = used.order == order && used.line == line
+
+-- a change of a part or a delivery as a row; the others are of an intersection
+abbrev pub stock_row_of : CabinetChange → Option RowChange
+stock_row_of (change.PutPart code hand) = Some (PutPart code hand)
+stock_row_of (change.PutDelivery delivery) = Some (PutDelivery delivery)
+stock_row_of _ = None
+
+abbrev pub stock_rows_of : List CabinetChange → List RowChange
+stock_rows_of = filter_map stock_row_of
+
+-- a decision on the stock as it is told: what is added in rows, and a refusal unless it is for want of memory
+abbrev pub TellsStock : Result Recorded CabinetRefusal → Registered → Type 0
+TellsStock (Ok (recorded.Added changes)) told = (line_told told ≡ added) × (rows_told told ≡ stock_rows_of changes.items)
+TellsStock (Ok recorded.Same) told = told ≡ Same
+TellsStock (Err refusal) told = (refusal ≢ NoMemory) × (told ≡ Refused refusal)

@@ -1,0 +1,15 @@
+//! The cabinet register over any shelf: its commands decided, and its queries.
+#![tactic(auto)]
+
+mod deciding;
+mod finding;
+mod records;
+mod registered;
+mod rows;
+mod showing;
+mod stocking;
+
+pub use deciding::decide_record;
+pub use registered::Registered;
+pub use showing::{cabinet_view, last_inspection, open_orders};
+pub use stocking::stock;

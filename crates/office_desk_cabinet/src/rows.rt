@@ -1,0 +1,58 @@
+//! A decision of the register, with its changes as rows.
+ghost use Rattle.std.specs.Prelude.{◌≡◌, IfOk, OnErr};
+ghost use Rattle.office_desk_cabinet.specs.Telling.{Tells, row_change_of, row_changes_of};
+
+use crate::registered::Registered;
+use cabinet_core::{CabinetChange, CabinetRefusal, Recorded};
+use office_tables_shelf::rows::RowChange;
+use office_tables_shelf::shelf::ShelfFault;
+use signal_records::{InterId, NoMemory};
+use std::alloc::Global;
+
+/// A change of the register as a row.
+fn row_change(id: InterId, change: CabinetChange) -> RowChange
+    ensures { result ≡ row_change_of id change }
+{
+    match change {
+        CabinetChange::PutInspection(inspection) => RowChange::PutInspection(id, inspection),
+        CabinetChange::PutOrder(order) => RowChange::PutOrder(id, order),
+        CabinetChange::PutLine(line) => RowChange::PutLine(id, line),
+        CabinetChange::PutPart(code, hand) => RowChange::PutPart(code, hand),
+        CabinetChange::PutDelivery(delivery) => RowChange::PutDelivery(delivery),
+    }
+}
+
+/// Changes of the register as rows, in their order.
+fn row_changes(
+    alloc: Global,
+    id: InterId,
+    changes: Vec<CabinetChange>,
+) -> Result<Vec<RowChange>, NoMemory>
+    ensures { IfOk result (λ made. made.items ≡ row_changes_of id changes.items) }
+{
+    let mut made = Vec::new(alloc);
+    for change in changes {
+        made.push(row_change(id, change))?;
+    }
+    Ok(made)
+}
+
+/// What is told of a decision on the register of an intersection. Want of memory is a fault.
+pub(crate) fn registered(
+    alloc: Global,
+    id: InterId,
+    decision: Result<Recorded, CabinetRefusal>,
+) -> Result<Registered, ShelfFault>
+    ensures tells { IfOk result (λ told. Tells id decision told) }
+    ensures fault { OnErr result (result ≡ Err ShelfFault.NoMemory) }
+{
+    match decision {
+        Ok(Recorded::Added(changes)) => {
+            let rows = row_changes(alloc, id, changes)?;
+            Ok(Registered::Added(rows))
+        }
+        Ok(Recorded::Same) => Ok(Registered::Same),
+        Err(CabinetRefusal::NoMemory) => Err(ShelfFault::NoMemory),
+        Err(refusal) => Ok(Registered::Refused(refusal)),
+    }
+}

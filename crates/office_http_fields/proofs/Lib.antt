@@ -1,0 +1,5 @@
+pub mod BodyLemmas
+pub mod DayLemmas
+pub mod JsonLemmas
+pub mod PathLemmas
+pub mod ValueLemmas

@@ -1,0 +1,30 @@
+-- JSON trees of numbers, texts, lists and objects.
+use Rattle.std.specs.Prelude.{ℕ, List, [], ◌∷◌, map, Option, Some, None}
+use Rattle.serde_json.specs.Data.{Data, null, number, string, array, object, unsigned, Members, no_members, member}
+use Rattle.serde_json.specs.View.{items_of}
+
+-- a number
+abbrev pub count : ℕ → Data
+count n = number (unsigned n)
+
+-- a text
+abbrev pub text : List ℕ → Data
+text bytes = string bytes
+
+-- a value, or null where there is none
+abbrev pub or_null : {A : Type 0} → (A → Data) → Option A → Data
+or_null tree None = null
+or_null tree (Some x) = tree x
+
+-- an array of the trees of a list
+abbrev pub list : {A : Type 0} → (A → Data) → List A → Data
+list tree xs = array (items_of (map tree xs))
+
+-- the members of an object
+abbrev pub members : List (List ℕ × Data) → Members
+members [] = no_members
+members (entry ∷ rest) = member entry.0 entry.1 (members rest)
+
+-- an object of these keys, which stand in ascending order
+abbrev pub keys : List (List ℕ × Data) → Data
+keys entries = object (members entries)

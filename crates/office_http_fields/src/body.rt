@@ -1,0 +1,93 @@
+//! The body of a request: one JSON object, and the values under its keys.
+ghost use Rattle.std.specs.Prelude.{◌≡◌, option_map};
+ghost use Rattle.serde_json.specs.View.{view};
+ghost use Rattle.office_http_fields.specs.Asks.{Gives};
+ghost use Rattle.office_http_fields.specs.Bodies.{number_in, text_in, ranged_in, words_in, day_in, part_in, GivesBody};
+
+use crate::ask::{AskFault, Field};
+use crate::value::{day_spelled, number_within, part_from, words_from};
+use cabinet_core::{Day, PartCode};
+use serde_json::Value;
+use signal_records::{Number, Words};
+use std::alloc::Global;
+
+/// The object that the bytes of a body are.
+// Reading needs a large local: a request without a body is not to pay for it.
+#[inline(never)]
+pub fn read(alloc: Global, bytes: &[u8]) -> Result<Value, AskFault>
+    ensures { GivesBody result bytes.now }
+{
+    match Value::from_slice(alloc, bytes) {
+        Ok(value) => {
+            if value.is_object() {
+                Ok(value)
+            } else {
+                Err(AskFault::Json)
+            }
+        }
+        Err(fault) => {
+            if fault.is_memory() {
+                Err(AskFault::NoMemory)
+            } else {
+                Err(AskFault::Json)
+            }
+        }
+    }
+}
+
+// The number under a key: digits alone, below 2 ^ 64.
+fn whole(body: &Value, field: Field) -> Option<u64>
+    ensures { result ≡ number_in (view body.now) field }
+{
+    body.get(field.name()).and_then(Value::as_u64)
+}
+
+// The text under a key.
+fn text(body: &Value, field: Field) -> Option<&str>
+    ensures { option_map (λ text. text.now) result ≡ text_in (view body.now) field }
+{
+    body.get(field.name()).and_then(Value::as_str)
+}
+
+/// The number of a range under a key.
+#[tactic(auto, unfolding(crate::specs::Bodies::ranged_in))]
+pub fn number<Of, const LOW: u32, const HIGH: u32>(
+    body: &Value,
+    field: Field,
+) -> Result<Number<Of, LOW, HIGH>, AskFault>
+    ensures { result ≡ ranged_in LOW HIGH (view body.now) field }
+{
+    let n = whole(body, field).ok_or(AskFault::Field(field))?;
+    number_within(n).ok_or(AskFault::Field(field))
+}
+
+/// The words under a key.
+#[tactic(auto, unfolding(crate::specs::Bodies::words_in))]
+pub fn words<const MAX: usize>(
+    alloc: Global,
+    body: &Value,
+    field: Field,
+) -> Result<Words<MAX>, AskFault>
+    ensures { Gives result (words_in MAX (view body.now) field) }
+{
+    let text = text(body, field).ok_or(AskFault::Field(field))?;
+    words_from(alloc, text.as_bytes())?.ok_or(AskFault::Field(field))
+}
+
+/// The day under its key.
+#[tactic(auto, unfolding(crate::specs::Bodies::day_in))]
+pub fn day(body: &Value) -> Result<Day, AskFault>
+    ensures { result ≡ day_in (view body.now) }
+{
+    let text = text(body, Field::Day).ok_or(AskFault::Field(Field::Day))?;
+    day_spelled(text.as_bytes()).ok_or(AskFault::Field(Field::Day))
+}
+
+/// The code of a part under its key.
+#[tactic(auto, unfolding(crate::specs::Bodies::part_in))]
+pub fn part(alloc: Global, body: &Value) -> Result<PartCode, AskFault>
+    ensures { Gives result (part_in (view body.now)) }
+{
+    let text = text(body, Field::Part).ok_or(AskFault::Field(Field::Part))?;
+    part_from(alloc, text.as_bytes())?.ok_or(AskFault::Field(Field::Part))
+}

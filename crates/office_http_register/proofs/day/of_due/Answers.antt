@@ -1,0 +1,10 @@
+use Rattle.std.proofs.Common.{refl, arith, ℤ, pos, ◌≤ℤ◌}
+use Rattle.jiff.specs.Words.{epoch_day}
+use Rattle.jiff_core.proofs.SignedLemmas.{signed_arith}
+use Rattle.office_http_register.proofs.DueLemmas.{due_tree-is_text}
+use Rattle.office_http_register.proofs.day.of_due.Goals as goal
+
+pub returns : goal.returns
+returns c =
+    let low : pos 0 ≤ℤ epoch_day c.args.due = grind (arith, signed_arith) in
+    rw (due_tree-is_text c.args.due _ refl low, ← c.in_ok-text.ensures.ok, ← c.as_str.ensures.value) c.of_text.ensures

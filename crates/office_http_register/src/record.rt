@@ -1,0 +1,87 @@
+//! The records of bodies, by the names of their keys.
+ghost use Rattle.serde_json.specs.View.{view};
+ghost use Rattle.office_http_fields.specs.Asks.{Gives};
+ghost use Rattle.office_http_register.specs.Recording.{inspection_in, opening_in, used_in, closing_in, delivery_in};
+
+use cabinet_core::{Closing, Delivery, Inspection, Opening, UsedLine};
+use office_http_fields::{AskFault, Field, body as keys};
+use serde_json::Value;
+use signal_records::RecordNo;
+use std::alloc::Global;
+
+/// An inspection.
+#[tactic(auto, unfolding(crate::specs::Recording::inspection_in))]
+pub(crate) fn inspection(alloc: Global, body: &Value) -> Result<Inspection, AskFault>
+    ensures { Gives result (inspection_in (view body.now)) }
+{
+    let clerk = keys::words(alloc, body, Field::Clerk)?;
+    let day = keys::day(body)?;
+    let number = keys::number(body, Field::Number)?;
+    let text = keys::words(alloc, body, Field::Text)?;
+    Ok(Inspection {
+        number,
+        day,
+        clerk,
+        text,
+    })
+}
+
+/// What opens an order.
+#[tactic(auto, unfolding(crate::specs::Recording::opening_in))]
+pub(crate) fn opening(alloc: Global, body: &Value) -> Result<Opening, AskFault>
+    ensures { Gives result (opening_in (view body.now)) }
+{
+    let clerk = keys::words(alloc, body, Field::Clerk)?;
+    let day = keys::day(body)?;
+    let number = keys::number(body, Field::Number)?;
+    let text = keys::words(alloc, body, Field::Text)?;
+    Ok(Opening {
+        number,
+        day,
+        clerk,
+        text,
+    })
+}
+
+/// A part that is used for an order.
+#[tactic(auto, unfolding(crate::specs::Recording::used_in))]
+pub(crate) fn used(alloc: Global, order: RecordNo, body: &Value) -> Result<UsedLine, AskFault>
+    ensures { Gives result (used_in order (view body.now)) }
+{
+    let count = keys::number(body, Field::Count)?;
+    let line = keys::number(body, Field::Line)?;
+    let part = keys::part(alloc, body)?;
+    Ok(UsedLine {
+        order,
+        line,
+        part,
+        count,
+    })
+}
+
+/// What closes an order.
+#[tactic(auto, unfolding(crate::specs::Recording::closing_in))]
+pub(crate) fn closing(alloc: Global, body: &Value) -> Result<Closing, AskFault>
+    ensures { Gives result (closing_in (view body.now)) }
+{
+    let closer = keys::words(alloc, body, Field::Clerk)?;
+    let day = keys::day(body)?;
+    Ok(Closing { day, closer })
+}
+
+/// A delivery of a part.
+#[tactic(auto, unfolding(crate::specs::Recording::delivery_in))]
+pub(crate) fn delivery(alloc: Global, body: &Value) -> Result<Delivery, AskFault>
+    ensures { Gives result (delivery_in (view body.now)) }
+{
+    let count = keys::number(body, Field::Count)?;
+    let day = keys::day(body)?;
+    let number = keys::number(body, Field::Number)?;
+    let part = keys::part(alloc, body)?;
+    Ok(Delivery {
+        part,
+        number,
+        day,
+        count,
+    })
+}

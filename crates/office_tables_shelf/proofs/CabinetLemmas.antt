@@ -1,0 +1,200 @@
+-- Trees of the cabinet's records: each stays under its own key, and those of an intersection are listed in order.
+use Rattle.std.proofs.Common.{◌≡◌, ◌⊎◌, inl, inr, ℕ, pos, ◌==◌, Bool, true, false, eqb, eqb-true, List, [], ◌∷◌, map, if◌then◌else◌, Option, Some, None, option_map, Ordering, nat_cmp, refl, sym, ap, subst, subst₂, ◌∙◌, arith}
+use Rattle.std.proofs.lemmas.Bool.{cases_Bool}
+use Rattle.std.proofs.lemmas.Bool.Decides.{nat_tests}
+use Rattle.std.proofs.lemmas.Map.Entries.{entries_from_clone}
+use Rattle.std.specs.BTreeMap.{insert_entry, is_at}
+use Rattle.std.specs.Cmp.Lexicographic.{slice_cmp}
+use Rattle.std.specs.FinMap.Entries.{where_key}
+use Rattle.std.specs.List.{AllByRecursion, AllZip}
+use Rattle.std.specs.List.Sorted.{IsStrictlySortedBy}
+use Rattle.std.specs.Map.{keys_of, lookup}
+use Rattle.std.specs.Ordering.{is_eq, match_ordering, ordering_then}
+use Rattle.std.specs.Prelude.{IfSome}
+use Rattle.std.specs.declared.cmp.Ordering.TheVariants.{Less, Equal, Greater}
+use Rattle.cabinet_core.specs.declared.record.Inspection.{Inspection}
+use Rattle.cabinet_core.specs.declared.record.Order.{Order}
+use Rattle.cabinet_core.specs.declared.record.UsedLine.{UsedLine}
+use Rattle.cabinet_core.specs.declared.record.Delivery.{Delivery}
+use Rattle.office_tables_shelf.specs.Cells.{Cell, number, text, cell_cmp, cells_cmp, tree_rows}
+use Rattle.office_tables_shelf.specs.CabinetRows.{inspection_key, inspection_columns, order_key, order_columns, used_key, used_columns, part_key, delivery_columns}
+use Rattle.office_tables_shelf.specs.CabinetReads.{ReadsDelivery}
+use Rattle.office_tables_shelf.specs.Content.{no_content}
+use Rattle.office_tables_shelf.specs.MapCabinet.{inspection_place_key, order_place_key, line_place_key, delivery_place_key, inspection_rows, order_rows, used_rows, delivery_rows, IsInspectionAt, IsOrderAt, IsUsedAt, IsDeliveryAt, AreInspectionsPlaced, AreOrdersPlaced, AreUsedPlaced, AreDeliveriesPlaced}
+use Rattle.office_tables_shelf.specs.Shelf.{is_of, rows_of}
+use Rattle.office_tables_shelf.specs.declared.place.RecordPlace.{RecordPlace}
+use Rattle.office_tables_shelf.specs.declared.place.LinePlace.{LinePlace}
+use Rattle.office_tables_shelf.specs.declared.place.DeliveryPlace.{DeliveryPlace}
+use Rattle.office_tables_shelf.proofs.CellLemmas.{cells_exact, tied}
+use Rattle.office_tables_shelf.proofs.ListLemmas.{tree_entries}
+use Rattle.office_tables_shelf.proofs.TreeLemmas.{ranged_cmp, then_last, number_order, entry_at, get_tree}
+
+-- ---- how places compare, as their cells do
+
+-- texts of cells compare by their bytes
+text_order : (a b : List ℕ) → cell_cmp (text a) (text b) ≡ slice_cmp nat_cmp a b
+unfolding cell_cmp
+text_order a b = refl
+
+ranged_order : (a b : ℕ) → cell_cmp (number (pos a)) (number (pos b)) ≡ ranged_cmp a b
+ranged_order a b = number_order a b ∙ sym (then_last (nat_cmp a b))
+
+last_order : (a b : ℕ) → ordering_then (cell_cmp (number (pos a)) (number (pos b))) Equal ≡ ranged_cmp a b
+last_order a b = λ i. ordering_then (number_order a b i) Equal
+
+abbrev pub record_cmp : RecordPlace → RecordPlace → Ordering
+record_cmp a b = ordering_then (ranged_cmp a.inter b.inter) (ranged_cmp a.number b.number)
+
+pub inspection_order : (a b : RecordPlace) → cells_cmp (inspection_place_key a) (inspection_place_key b) ≡ record_cmp a b
+inspection_order a b = λ i. ordering_then (ranged_order a.inter b.inter i) (last_order a.number b.number i)
+
+pub order_order : (a b : RecordPlace) → cells_cmp (order_place_key a) (order_place_key b) ≡ record_cmp a b
+order_order = inspection_order
+
+abbrev pub line_cmp : LinePlace → LinePlace → Ordering
+line_cmp a b = ordering_then (ranged_cmp a.inter b.inter) (ordering_then (ranged_cmp a.order b.order) (ranged_cmp a.line b.line))
+
+pub line_order : (a b : LinePlace) → cells_cmp (line_place_key a) (line_place_key b) ≡ line_cmp a b
+line_order a b = λ i. ordering_then (ranged_order a.inter b.inter i) (ordering_then (ranged_order a.order b.order i) (last_order a.line b.line i))
+
+abbrev pub part_cmp : List ℕ → List ℕ → Ordering
+part_cmp = slice_cmp nat_cmp
+
+pub part_order : (a b : List ℕ) → cells_cmp (part_key a) (part_key b) ≡ part_cmp a b
+part_order a b = (λ i. ordering_then (text_order a b i) Equal) ∙ then_last (part_cmp a b)
+
+abbrev pub delivery_cmp : DeliveryPlace → DeliveryPlace → Ordering
+delivery_cmp a b = ordering_then (part_cmp a.part b.part) (ranged_cmp a.number b.number)
+
+pub delivery_order : (a b : DeliveryPlace) → cells_cmp (delivery_place_key a) (delivery_place_key b) ≡ delivery_cmp a b
+delivery_order a b = λ i. ordering_then (text_order a.part b.part i) (last_order a.number b.number i)
+
+-- ---- keys that compare equal are one
+
+pub record_exact : (a b : RecordPlace) → record_cmp a b ≡ Equal → a ≡ b
+record_exact a b tie =
+    let same = cells_exact (inspection_place_key a) (inspection_place_key b) (inspection_order a b ∙ tie) in
+    let inter : a.inter ≡ b.inter = cc in
+    let n : a.number ≡ b.number = cc in
+    λ i. record { inter = inter i; number = n i }
+
+pub line_exact : (a b : LinePlace) → line_cmp a b ≡ Equal → a ≡ b
+line_exact a b tie =
+    let same = cells_exact (line_place_key a) (line_place_key b) (line_order a b ∙ tie) in
+    let inter : a.inter ≡ b.inter = cc in
+    let order : a.order ≡ b.order = cc in
+    let line : a.line ≡ b.line = cc in
+    λ i. record { inter = inter i; order = order i; line = line i }
+
+pub delivery_exact : (a b : DeliveryPlace) → delivery_cmp a b ≡ Equal → a ≡ b
+delivery_exact a b tie =
+    let same = cells_exact (delivery_place_key a) (delivery_place_key b) (delivery_order a b ∙ tie) in
+    let part : a.part ≡ b.part = cc in
+    let n : a.number ≡ b.number = cc in
+    λ i. record { part = part i; number = n i }
+
+-- ---- records under their own keys
+
+module _ {K X : Type 0} (R : K → K → Ordering) (exact : (a b : K) → R a b ≡ Equal → a ≡ b) (Stands : K → X → Type 0) where
+  abbrev pub AreStanding : List (K × X) → Type 0
+  AreStanding = AllByRecursion (λ e. Stands e.0 e.1)
+
+  pub standing_put : (es : List (K × X)) (k : K) (x : X) → Stands k x → AreStanding es → AreStanding (insert_entry R es k x)
+  standing_put [] k x here h = (here, tt)
+  standing_put (e ∷ es) k x here h =
+      elim (R k e.0) as (λ o. R k e.0 ≡ o → AreStanding (match_ordering o ((k, x) ∷ e ∷ es) ((e.0, x) ∷ es) (e ∷ insert_entry R es k x))) [
+        | Less ↦ λ is. (here, h)
+        | Equal ↦ λ is. (subst (λ j. Stands j x) (exact k e.0 is) here, h.1)
+        | Greater ↦ λ is. (h.0, standing_put es k x here h.1)
+      ] refl
+
+  -- what stands at a key in a tree of such records is that of the key
+  pub standing_found : (es : List (K × X)) (k : K) (x : X) → AreStanding es → lookup (is_at (R k)) es ≡ Some x → Stands k x
+  standing_found [] k x h found = absurd cc
+  standing_found (e ∷ es) k x h found = go (cases_Bool (is_eq (R k e.0))) (standing_found es k x h.1)
+    where
+      go : (is_eq (R k e.0) ≡ true) ⊎ (is_eq (R k e.0) ≡ false) → (lookup (is_at (R k)) es ≡ Some x → Stands k x) → Stands k x
+      go (inl hit) later =
+          let is : Some e.1 ≡ Some x = rw hit at found in
+          let same : e.1 ≡ x = cc in
+          subst₂ Stands (sym (exact k e.0 (tied _ hit))) same h.0
+      go (inr miss) later = later (rw miss at found)
+
+-- what a tree of deliveries has under a part and a number
+pub reads_delivery : (es : List (DeliveryPlace × Delivery)) (place : DeliveryPlace) (found : Option Delivery) → AreDeliveriesPlaced es → entry_at delivery_cmp delivery_place_key delivery_columns es place ≡ found
+    → ReadsDelivery (record no_content { delivery = delivery_rows es }) place.part place.number found
+reads_delivery es place found placed here = record {
+  stored = get_tree delivery_cmp delivery_place_key delivery_columns (λ a b. ap is_eq (delivery_order a b)) es place ∙ ap (option_map delivery_columns) here;
+  part = part found here;
+  number = numbered found here;
+}
+  where
+    stands : (delivery : Delivery) → lookup (is_at (delivery_cmp place)) es ≡ Some delivery → IsDeliveryAt place delivery
+    stands delivery there = standing_found delivery_cmp delivery_exact IsDeliveryAt es place delivery placed there
+
+    part : (o : Option Delivery) → lookup (is_at (delivery_cmp place)) es ≡ o → IfSome o (λ d. d.part ≡ place.part)
+    part None there = tt
+    part (Some delivery) there = (stands delivery there).0
+
+    numbered : (o : Option Delivery) → lookup (is_at (delivery_cmp place)) es ≡ o → IfSome o (λ d. d.number ≡ place.number)
+    numbered None there = tt
+    numbered (Some delivery) there = (stands delivery there).1
+
+-- clones that are equal to their sources are the sources
+pub same_clones : {K X : Type 0} (es copies : List (K × X)) → AllZip (λ e f. (f.0 ≡ e.0) × (f.1 ≡ e.1)) es copies → copies ≡ es
+same_clones = entries_from_clone (λ x y. y ≡ x) (λ x y. y ≡ x) (λ x y h. h) (λ x y h. h)
+
+-- ---- the records of an intersection
+
+of_number : (id n : ℕ) (cells : List Cell) → is_of id (number (pos n) ∷ cells) ≡ (n == id)
+of_number id n cells = ap is_eq (number_order id n) ∙ same id n
+  where
+    same : (m k : ℕ) → is_eq (nat_cmp m k) ≡ eqb k m
+    same m k = grind (arith, nat_tests)
+
+module _ {K X : Type 0} (inter : K → ℕ) where
+  -- the records of the entries of an intersection, in their order
+  abbrev pub records_under : ℕ → List (K × X) → List X
+  records_under id [] = []
+  records_under id (e ∷ es) = if inter e.0 == id then e.1 ∷ records_under id es else records_under id es
+
+  module _ (R : K → K → Ordering) (Stands : K → X → Type 0) (key : K → List Cell) (columns : X → List Cell) (shown : ℕ → X → List Cell × List Cell)
+      (order : (a b : K) → cells_cmp (key a) (key b) ≡ R a b)
+      (begins : (id : ℕ) (k : K) → is_of id (key k) ≡ (inter k == id))
+      (shows : (e : K × X) → Stands e.0 e.1 → shown (inter e.0) e.1 ≡ (key e.0, columns e.1)) where
+    abbrev cells_in : K × X → List Cell × List Cell
+    cells_in e = (key e.0, columns e.1)
+
+    under_where : (id : ℕ) (es : List (K × X)) → AllByRecursion (λ e. Stands e.0 e.1) es → map (shown id) (records_under id es) ≡ where_key cells_cmp (is_of id) (map cells_in es)
+    under_where id [] h = refl
+    under_where id (e ∷ es) h = go (cases_Bool (inter e.0 == id)) (under_where id es h.1)
+      where
+        go : ((inter e.0 == id) ≡ true) ⊎ ((inter e.0 == id) ≡ false) → map (shown id) (records_under id es) ≡ where_key cells_cmp (is_of id) (map cells_in es) → map (shown id) (records_under id (e ∷ es)) ≡ where_key cells_cmp (is_of id) (map cells_in (e ∷ es))
+        go (inl hit) rest =
+            let here : shown id e.1 ≡ cells_in e = subst (λ n. shown n e.1 ≡ cells_in e) (eqb-true (inter e.0) id hit) (shows e h.0) in
+            rw (begins id e.0, hit) (λ i. here i ∷ rest i)
+        go (inr miss) rest = rw (begins id e.0, miss) rest
+
+    pub records_listed : (id : ℕ) (es : List (K × X)) → IsStrictlySortedBy R (keys_of es) → AllByRecursion (λ e. Stands e.0 e.1) es → map (shown id) (records_under id es) ≡ rows_of id (tree_rows key columns es)
+    records_listed id es sorted h = under_where id es h ∙ ap (where_key cells_cmp (is_of id)) (sym (tree_entries R key columns order es sorted))
+
+abbrev pub record_inter : RecordPlace → ℕ
+record_inter place = place.inter
+
+abbrev pub line_inter : LinePlace → ℕ
+line_inter place = place.inter
+
+pub inspections_listed : (id : ℕ) (es : List (RecordPlace × Inspection)) → IsStrictlySortedBy record_cmp (keys_of es) → AreInspectionsPlaced es
+    → map (λ inspection. (inspection_key id inspection.number, inspection_columns inspection)) (records_under record_inter id es) ≡ rows_of id (inspection_rows es)
+inspections_listed = records_listed record_inter record_cmp IsInspectionAt inspection_place_key inspection_columns (λ id inspection. (inspection_key id inspection.number, inspection_columns inspection))
+    inspection_order (λ id place. of_number id place.inter (number (pos place.number) ∷ [])) (λ e here i. (inspection_key e.0.inter (here i), inspection_columns e.1))
+
+pub orders_listed : (id : ℕ) (es : List (RecordPlace × Order)) → IsStrictlySortedBy record_cmp (keys_of es) → AreOrdersPlaced es
+    → map (λ order. (order_key id order.number, order_columns order)) (records_under record_inter id es) ≡ rows_of id (order_rows es)
+orders_listed = records_listed record_inter record_cmp IsOrderAt order_place_key order_columns (λ id order. (order_key id order.number, order_columns order))
+    order_order (λ id place. of_number id place.inter (number (pos place.number) ∷ [])) (λ e here i. (order_key e.0.inter (here i), order_columns e.1))
+
+pub used_listed : (id : ℕ) (es : List (LinePlace × UsedLine)) → IsStrictlySortedBy line_cmp (keys_of es) → AreUsedPlaced es
+    → map (λ used. (used_key id used.order used.line, used_columns used)) (records_under line_inter id es) ≡ rows_of id (used_rows es)
+used_listed = records_listed line_inter line_cmp IsUsedAt line_place_key used_columns (λ id used. (used_key id used.order used.line, used_columns used))
+    line_order (λ id place. of_number id place.inter (number (pos place.order) ∷ number (pos place.line) ∷ [])) (λ e here i. (used_key e.0.inter (here.0 i) (here.1 i), used_columns e.1))

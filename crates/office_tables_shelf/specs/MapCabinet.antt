@@ -1,0 +1,69 @@
+-- The cabinet's tables that records in memory stand for.
+use Rattle.std.specs.Prelude.{◌≡◌, ℕ, List}
+use Rattle.std.specs.List.{AllByRecursion}
+use Rattle.cabinet_core.specs.declared.record.Inspection.{Inspection}
+use Rattle.cabinet_core.specs.declared.record.Order.{Order}
+use Rattle.cabinet_core.specs.declared.record.UsedLine.{UsedLine}
+use Rattle.cabinet_core.specs.declared.record.Delivery.{Delivery}
+use Rattle.office_tables_shelf.specs.Cells.{Cell, Rows, tree_rows}
+use Rattle.office_tables_shelf.specs.CabinetRows.{inspection_key, inspection_columns, order_key, order_columns, used_key, used_columns, part_key, part_columns, delivery_key, delivery_columns}
+use Rattle.office_tables_shelf.specs.declared.place.RecordPlace.{RecordPlace}
+use Rattle.office_tables_shelf.specs.declared.place.LinePlace.{LinePlace}
+use Rattle.office_tables_shelf.specs.declared.place.DeliveryPlace.{DeliveryPlace}
+
+-- ---- the cells of places
+
+abbrev pub inspection_place_key : RecordPlace → List Cell
+inspection_place_key place = inspection_key place.inter place.number
+
+abbrev pub order_place_key : RecordPlace → List Cell
+order_place_key place = order_key place.inter place.number
+
+abbrev pub line_place_key : LinePlace → List Cell
+line_place_key place = used_key place.inter place.order place.line
+
+abbrev pub delivery_place_key : DeliveryPlace → List Cell
+delivery_place_key place = delivery_key place.part place.number
+
+-- ---- the tables
+
+abbrev pub inspection_rows : List (RecordPlace × Inspection) → Rows
+inspection_rows = tree_rows inspection_place_key inspection_columns
+
+abbrev pub order_rows : List (RecordPlace × Order) → Rows
+order_rows = tree_rows order_place_key order_columns
+
+abbrev pub used_rows : List (LinePlace × UsedLine) → Rows
+used_rows = tree_rows line_place_key used_columns
+
+abbrev pub part_rows : List (List ℕ × ℕ) → Rows
+part_rows = tree_rows part_key part_columns
+
+abbrev pub delivery_rows : List (DeliveryPlace × Delivery) → Rows
+delivery_rows = tree_rows delivery_place_key delivery_columns
+
+-- ---- each record stands under its own key
+
+abbrev pub IsInspectionAt : RecordPlace → Inspection → Type 0
+IsInspectionAt place inspection = inspection.number ≡ place.number
+
+abbrev pub IsOrderAt : RecordPlace → Order → Type 0
+IsOrderAt place order = order.number ≡ place.number
+
+abbrev pub IsUsedAt : LinePlace → UsedLine → Type 0
+IsUsedAt place used = (used.order ≡ place.order) × (used.line ≡ place.line)
+
+abbrev pub IsDeliveryAt : DeliveryPlace → Delivery → Type 0
+IsDeliveryAt place delivery = (delivery.part ≡ place.part) × (delivery.number ≡ place.number)
+
+abbrev pub AreInspectionsPlaced : List (RecordPlace × Inspection) → Type 0
+AreInspectionsPlaced = AllByRecursion (λ e. IsInspectionAt e.0 e.1)
+
+abbrev pub AreOrdersPlaced : List (RecordPlace × Order) → Type 0
+AreOrdersPlaced = AllByRecursion (λ e. IsOrderAt e.0 e.1)
+
+abbrev pub AreUsedPlaced : List (LinePlace × UsedLine) → Type 0
+AreUsedPlaced = AllByRecursion (λ e. IsUsedAt e.0 e.1)
+
+abbrev pub AreDeliveriesPlaced : List (DeliveryPlace × Delivery) → Type 0
+AreDeliveriesPlaced = AllByRecursion (λ e. IsDeliveryAt e.0 e.1)

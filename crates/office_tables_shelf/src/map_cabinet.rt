@@ -1,0 +1,178 @@
+//! The cabinet's tables in memory as trees of records: a row put, found, and the rows listed.
+ghost use Rattle.std.specs.Prelude.{◌≡◌, OnOk, IfOk, IfSome};
+ghost use Rattle.std.specs.FinMap as finite;
+ghost use Rattle.std.specs.Option.{option_map};
+ghost use Rattle.office_tables_shelf.specs.Content.{no_content};
+ghost use Rattle.office_tables_shelf.specs.CabinetRows.{inspection_key, inspection_columns, order_key, order_columns, used_key, used_columns, part_key, part_columns, delivery_key, delivery_columns};
+ghost use Rattle.office_tables_shelf.specs.CabinetReads.{ListsInspections, ListsOrders, ListsUsed, ListsParts, ReadsDelivery};
+ghost use Rattle.office_tables_shelf.specs.MapCabinet.{inspection_rows, order_rows, used_rows, part_rows, delivery_rows, AreInspectionsPlaced, AreOrdersPlaced, AreUsedPlaced, AreDeliveriesPlaced};
+
+use crate::place::{DeliveryPlace, LinePlace, RecordPlace};
+use cabinet_core::{Delivery, Hand, Inspection, Order, PartCode, UsedLine};
+use signal_records::{InterId, NoMemory, RecordNo};
+use std::alloc::Global;
+use std::collections::BTreeMap;
+
+/// Puts an inspection under its number.
+pub(crate) fn put_inspection(
+    rows: &mut BTreeMap<RecordPlace, Inspection>,
+    inter: InterId,
+    inspection: Inspection,
+) -> Result<(), NoMemory>
+    ensures rows { OnOk result (inspection_rows rows.new.entries ≡ finite.insert (inspection_rows rows.old.entries) (inspection_key inter inspection.number) (inspection_columns inspection)) }
+    ensures placed { AreInspectionsPlaced rows.old.entries → AreInspectionsPlaced rows.new.entries }
+{
+    let number = inspection.number;
+    rows.insert(RecordPlace { inter, number }, inspection)?;
+    Ok(())
+}
+
+/// The inspections of an intersection's cabinet, in the order of their numbers.
+pub(crate) fn inspections_of(
+    alloc: Global,
+    rows: &BTreeMap<RecordPlace, Inspection>,
+    inter: InterId,
+) -> Result<Vec<Inspection>, NoMemory>
+    ensures { IfOk result (λ list. AreInspectionsPlaced rows.now.entries → ListsInspections (record no_content { inspection = inspection_rows rows.now.entries }) inter list.items) }
+{
+    let mut list = Vec::new(alloc);
+    for (place, inspection) in rows {
+        if place.inter == inter {
+            list.push(inspection.clone()?)?;
+        }
+    }
+    Ok(list)
+}
+
+/// Puts an order under its number.
+pub(crate) fn put_order(
+    rows: &mut BTreeMap<RecordPlace, Order>,
+    inter: InterId,
+    order: Order,
+) -> Result<(), NoMemory>
+    ensures rows { OnOk result (order_rows rows.new.entries ≡ finite.insert (order_rows rows.old.entries) (order_key inter order.number) (order_columns order)) }
+    ensures placed { AreOrdersPlaced rows.old.entries → AreOrdersPlaced rows.new.entries }
+{
+    let number = order.number;
+    rows.insert(RecordPlace { inter, number }, order)?;
+    Ok(())
+}
+
+/// The orders on an intersection, in the order of their numbers.
+pub(crate) fn orders_of(
+    alloc: Global,
+    rows: &BTreeMap<RecordPlace, Order>,
+    inter: InterId,
+) -> Result<Vec<Order>, NoMemory>
+    ensures { IfOk result (λ list. AreOrdersPlaced rows.now.entries → ListsOrders (record no_content { work_order = order_rows rows.now.entries }) inter list.items) }
+{
+    let mut list = Vec::new(alloc);
+    for (place, order) in rows {
+        if place.inter == inter {
+            list.push(order.clone()?)?;
+        }
+    }
+    Ok(list)
+}
+
+/// Puts a used part under its order and line.
+pub(crate) fn put_line(
+    rows: &mut BTreeMap<LinePlace, UsedLine>,
+    inter: InterId,
+    used: UsedLine,
+) -> Result<(), NoMemory>
+    ensures rows { OnOk result (used_rows rows.new.entries ≡ finite.insert (used_rows rows.old.entries) (used_key inter used.order used.line) (used_columns used)) }
+    ensures placed { AreUsedPlaced rows.old.entries → AreUsedPlaced rows.new.entries }
+{
+    let (order, line) = (used.order, used.line);
+    rows.insert(LinePlace { inter, order, line }, used)?;
+    Ok(())
+}
+
+/// The parts used for the orders on an intersection, in the order of orders and lines.
+pub(crate) fn lines_of(
+    alloc: Global,
+    rows: &BTreeMap<LinePlace, UsedLine>,
+    inter: InterId,
+) -> Result<Vec<UsedLine>, NoMemory>
+    ensures { IfOk result (λ list. AreUsedPlaced rows.now.entries → ListsUsed (record no_content { used_part = used_rows rows.now.entries }) inter list.items) }
+{
+    let mut list = Vec::new(alloc);
+    for (place, used) in rows {
+        if place.inter == inter {
+            list.push(used.clone()?)?;
+        }
+    }
+    Ok(list)
+}
+
+/// Puts how many of a part are on hand.
+pub(crate) fn put_part(
+    rows: &mut BTreeMap<PartCode, Hand>,
+    part: PartCode,
+    hand: Hand,
+) -> Result<(), NoMemory>
+    ensures { OnOk result (part_rows rows.new.entries ≡ finite.insert (part_rows rows.old.entries) (part_key part) (part_columns hand)) }
+{
+    rows.insert(part, hand)?;
+    Ok(())
+}
+
+/// How many of a part are on hand, if there ever was a delivery of it.
+pub(crate) fn hand_of(rows: &BTreeMap<PartCode, Hand>, part: &PartCode) -> Option<Hand>
+    ensures { finite.get (part_rows rows.now.entries) (part_key part.now) ≡ option_map part_columns result }
+{
+    rows.get(part).copied()
+}
+
+/// The parts with how many are on hand, in the order of their codes.
+pub(crate) fn all_parts(
+    alloc: Global,
+    rows: &BTreeMap<PartCode, Hand>,
+) -> Result<Vec<(PartCode, Hand)>, NoMemory>
+    ensures { IfOk result (λ list. ListsParts (record no_content { part = part_rows rows.now.entries }) list.items) }
+{
+    let mut list = Vec::new(alloc);
+    for (part, hand) in rows {
+        list.push((part.clone()?, *hand))?;
+    }
+    Ok(list)
+}
+
+/// A copy of how many of each part are on hand.
+pub(crate) fn copied_parts(
+    rows: &BTreeMap<PartCode, Hand>,
+) -> Result<BTreeMap<PartCode, Hand>, NoMemory>
+    ensures { IfOk result (λ copy. copy.entries ≡ rows.now.entries) }
+{
+    Ok(rows.clone()?)
+}
+
+/// Puts a delivery under its part and its number.
+pub(crate) fn put_delivery(
+    rows: &mut BTreeMap<DeliveryPlace, Delivery>,
+    delivery: Delivery,
+) -> Result<(), NoMemory>
+    ensures rows { OnOk result (delivery_rows rows.new.entries ≡ finite.insert (delivery_rows rows.old.entries) (delivery_key delivery.part delivery.number) (delivery_columns delivery)) }
+    ensures placed { AreDeliveriesPlaced rows.old.entries → AreDeliveriesPlaced rows.new.entries }
+{
+    let part = delivery.part.clone()?;
+    let number = delivery.number;
+    rows.insert(DeliveryPlace { part, number }, delivery)?;
+    Ok(())
+}
+
+/// The delivery of a part with a number, if there is one.
+pub(crate) fn delivery_at(
+    rows: &BTreeMap<DeliveryPlace, Delivery>,
+    part: &PartCode,
+    number: RecordNo,
+) -> Result<Option<Delivery>, NoMemory>
+    ensures { IfOk result (λ found. AreDeliveriesPlaced rows.now.entries → ReadsDelivery (record no_content { delivery = delivery_rows rows.now.entries }) part.now number found) }
+{
+    let part = part.clone()?;
+    match rows.get(&DeliveryPlace { part, number }) {
+        Some(delivery) => Ok(Some(delivery.clone()?)),
+        None => Ok(None),
+    }
+}

@@ -1,3 +1,0 @@
-pub mod File
-pub mod Memory
-pub mod Plan

@@ -1,0 +1,114 @@
+//! The words that the program takes, with what its help says of them.
+
+ghost use Rattle.std.specs.Prelude.{◌≡◌, IfOk, false};
+ghost use Rattle.clap.specs.Walk.{rule_of};
+ghost use Rattle.signal_office_line.specs.CommandLine.{Reads, db_rule, required_db_rule, positional_rule, number_rule, batch_app, serve_app, sheet_app, verify_file_app, signal_app};
+
+use clap::{Arg, Command};
+use std::alloc::{AllocError, Global};
+
+/// `--db FILE`.
+fn db_option<'a>(alloc: Global) -> Arg<'a>
+    ensures rule { rule_of result ≡ db_rule }
+    ensures local { result.global ≡ false }
+{
+    Arg::new(alloc, "db").long("db").value_name("FILE").help(
+        "The SQLite file that keeps the tables; made where there is none. Without it they are in memory and are gone at the end",
+    )
+}
+
+/// `--db FILE`, which has to be given.
+fn required_db_option<'a>(alloc: Global) -> Arg<'a>
+    ensures rule { rule_of result ≡ required_db_rule }
+    ensures local { result.global ≡ false }
+{
+    Arg::new(alloc, "db")
+        .long("db")
+        .value_name("FILE")
+        .required(true)
+        .help("The SQLite file that keeps the tables; made where there is none")
+}
+
+/// `--NAME N`, which has to be given.
+fn number_option<'a>(alloc: Global, name: &'a str, help: &'a str) -> Arg<'a>
+    ensures rule { rule_of result ≡ number_rule name.entry.now }
+    ensures local { result.global ≡ false }
+{
+    Arg::new(alloc, name)
+        .long(name)
+        .value_name("N")
+        .required(true)
+        .help(help)
+}
+
+/// A word that has to be given.
+fn word<'a>(alloc: Global, name: &'a str, help: &'a str) -> Arg<'a>
+    ensures rule { rule_of result ≡ positional_rule name.entry.now }
+    ensures local { result.global ≡ false }
+{
+    Arg::new(alloc, name).required(true).help(help)
+}
+
+/// `batch`.
+fn batch_command<'a>(alloc: Global) -> Result<Command<'a>, AllocError>
+    ensures { IfOk result (λ c. Reads c batch_app) }
+{
+    Command::new(alloc, "batch")
+        .about("Answers the HTTP requests on standard input, at most 1,000,000, on standard output")
+        .arg(db_option(alloc))
+}
+
+/// `serve`.
+fn serve_command<'a>(alloc: Global) -> Result<Command<'a>, AllocError>
+    ensures { IfOk result (λ c. Reads c serve_app) }
+{
+    Command::new(alloc, "serve")
+        .about("Listens on 127.0.0.1 and answers HTTP requests, one connection after the other")
+        .arg(number_option(alloc, "port", "The TCP port, 1 to 65535"))?
+        .arg(number_option(
+            alloc,
+            "count",
+            "The connections that are served before the program ends, 1 to 1000000; each has at most 10,000 requests",
+        ))?
+        .arg(db_option(alloc))
+}
+
+/// `sheet`.
+fn sheet_command<'a>(alloc: Global) -> Result<Command<'a>, AllocError>
+    ensures { IfOk result (λ c. Reads c sheet_app) }
+{
+    Command::new(alloc, "sheet")
+        .about(
+            "Prints the timing sheet of an intersection: the committed plan, times in seconds, distances in feet",
+        )
+        .arg(required_db_option(alloc))?
+        .arg(word(alloc, "ID", "The intersection's number, 1 to 9999"))
+}
+
+/// `verify-file`.
+fn verify_file_command<'a>(alloc: Global) -> Result<Command<'a>, AllocError>
+    ensures { IfOk result (λ c. Reads c verify_file_app) }
+{
+    Command::new(alloc, "verify-file")
+        .about(
+            "Checks the timing plan in a CSV file against the thirteen rules; ends with status 3 where one is broken",
+        )
+        .arg(word(
+            alloc,
+            "CSV",
+            "The file; one record for each phase, sequence, split and pattern",
+        ))
+}
+
+/// The command line of the program.
+pub(crate) fn command_line<'a>(alloc: Global) -> Result<Command<'a>, AllocError>
+    ensures { IfOk result (λ c. Reads c signal_app) }
+{
+    Command::new(alloc, "signal_office")
+        .about("The office of a city's traffic signals: the timing plan of each intersection")
+        .subcommand_required(true)
+        .subcommand(batch_command(alloc)?)?
+        .subcommand(serve_command(alloc)?)?
+        .subcommand(sheet_command(alloc)?)?
+        .subcommand(verify_file_command(alloc)?)
+}

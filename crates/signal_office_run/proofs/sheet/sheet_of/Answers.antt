@@ -1,0 +1,10 @@
+use Rattle.signal_office_run.proofs.SheetLemmas.{sheet_is}
+use Rattle.signal_office_run.proofs.sheet.sheet_of.Goals as goal
+
+-- both queries are of one office
+pub returns-clause-sheet : goal.returns-clause-sheet
+returns-clause-sheet g c = λ honest before stands.
+    let name = c.in_ok-name.ensures.name (c.in_ok-timing.ensures.honest honest) before stands in
+    let timing = c.in_ok-timing.ensures.timing honest before name.0 in
+    let sheet = sheet_is before c.args.id c.in_ok-name.name c.in_ok-timing_sheet.field-0.items c.in_ok-timing.timing name.1 timing.1 c.in_ok-timing_sheet.ensures in
+    (timing.0, sheet)

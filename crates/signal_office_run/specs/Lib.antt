@@ -1,0 +1,5 @@
+pub mod File
+pub mod Memory
+pub mod Plan
+pub mod Serving
+pub mod Sheet

@@ -1,0 +1,86 @@
+//! The office over the tables of a database in a file.
+
+ghost use Rattle.std.specs.Prelude.{◌≡◌, ◌≢◌, None, Some, IfOk, IfErr, IfSome};
+ghost use Rattle.sqlite.specs.Files.{file_state};
+ghost use Rattle.sqlite.specs.Held.{state};
+ghost use Rattle.sqlite.specs.State.{HasCleanDisk};
+ghost use Rattle.sqlite.specs.WalFiles.{image_at};
+ghost use Rattle.office_tables.specs.Calls.{IsHonest};
+ghost use Rattle.office_tables.specs.Stored.{content_now, content_of};
+ghost use Rattle.office_tables.specs.Version.{HasRow, version_in, first_version};
+ghost use Rattle.office_desk.specs.Office.{Office as OfficeState};
+ghost use Rattle.office_desk.specs.StandFor.{StandForSound};
+ghost use Rattle.office_http.specs.Protocol.{office_protocol};
+ghost use Rattle.office_http_framing.specs.Serve.{Did};
+ghost use Rattle.signal_office_run.specs.File.{StandInFiles};
+
+use crate::fault::Fault;
+use office_desk::office::Office;
+use office_http::{ServeFault, Served, Sink, Source, serve};
+use office_tables::sql_shelf::SqlShelf;
+use sqlite::{Alter, Connection, FileFrom, FileStore, Start};
+use std::alloc::Global;
+
+/// An office over tables in files, of which `S` says what they held.
+pub type FileOffice<S> = Office<SqlShelf<FileStore<FileFrom<S>>>>;
+
+/// The office over the tables of a database, which are made where it has none. Where the tables are
+/// refused, the connection comes back with the fault.
+fn open_tables<S: Alter + Drop>(
+    alloc: Global,
+    conn: Connection<S>,
+) -> Result<Office<SqlShelf<S>>, (Fault, Option<Connection<S>>)>
+    ensures honest { IfOk result (λ office. IsHonest (state S.Store office.conn) → HasCleanDisk (state S.Store conn)) }
+    ensures kept { IfOk result (λ office. IsHonest (state S.Store office.conn) → content_now (state S.Store office.conn) ≡ content_of (state S.Store conn).committed.trees) }
+    ensures unreached { IfErr result (λ e. e.1 ≡ None → (e.0 ≢ Fault.Version) × (e.0 ≢ Fault.Damaged)) }
+    ensures version { IfErr result (λ e. e.0 ≡ Fault.Version → IfSome e.1 (λ c. IsHonest (state S.Store c) → (version_in (state S.Store conn).committed.trees ≢ None) × (version_in (state S.Store conn).committed.trees ≢ Some first_version))) }
+    ensures damaged { IfErr result (λ e. e.0 ≡ Fault.Damaged → IfSome e.1 (λ c. IsHonest (state S.Store c) → (version_in (state S.Store conn).committed.trees ≡ None) × HasRow (state S.Store conn).committed.trees)) }
+{
+    match SqlShelf::open_returning(alloc, conn) {
+        Ok(shelf) => Ok(Office::new(shelf)),
+        Err((fault, conn)) => Err((Fault::from(fault), conn)),
+    }
+}
+
+/// The office over the tables of a file, which is made where there is none.
+pub(crate) fn open_file<S: Start>(
+    rt: &HostRuntime,
+    alloc: Global,
+    path: &str,
+    start: S,
+) -> Result<FileOffice<S>, Fault>
+    ensures { IfOk result (λ office. IsHonest (file_state office.conn) → (before : OfficeState) → StandInFiles (image_at S.Start) before →
+        StandForSound (content_now (file_state office.conn)) before) }
+{
+    let conn = match Connection::open_from(rt, path, false, start) {
+        Ok(conn) => conn,
+        Err((error, _)) => return Err(Fault::from(error)),
+    };
+    match open_tables(alloc, conn) {
+        Ok(office) => Ok(office),
+        Err((fault, _)) => Err(fault),
+    }
+}
+
+/// Serves the requests that the reader gives by the office over the tables of a file, and gives the
+/// office back. The headline holds of it where the tables in the files stood for a sound office, and
+/// the disk is honest. Where it answers a fault of its own, the file was refused, and nothing was read
+/// or written. No clause ties the files to the path.
+pub fn serve_file<S: Start, R: Source, W: Sink>(
+    rt: &HostRuntime,
+    alloc: Global,
+    path: &str,
+    start: S,
+    reader: &mut R,
+    writer: &mut W,
+    max_requests: u32,
+) -> Result<(FileOffice<S>, Result<Served, ServeFault>), Fault>
+    ensures did { IfOk result (λ served. IsHonest (file_state served.0.conn) → (before : OfficeState) → StandInFiles (image_at S.Start) before →
+        (after : OfficeState) × StandForSound (content_now (file_state served.0.conn)) after × Did office_protocol max_requests
+        (R.told reader.old) (R.told reader.new) (W.told writer.old) (W.told writer.new) before after served.1) }
+    ensures refused { IfErr result (λ _. (R.told reader.new ≡ R.told reader.old) × (W.told writer.new ≡ W.told writer.old)) }
+{
+    let mut office = open_file(rt, alloc, path, start)?;
+    let outcome = serve(alloc, &mut office, reader, writer, max_requests);
+    Ok((office, outcome))
+}

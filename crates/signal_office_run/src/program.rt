@@ -1,0 +1,203 @@
+//! What the program's words ask for, from a source of bytes to its two outputs.
+
+ghost use Rattle.std.specs.Prelude.{◌≤◌};
+
+use crate::fault::Fault;
+use crate::file::{FileOffice, open_file, serve_file};
+use crate::memory::{open_in_memory, serve_new_office};
+use crate::plan::violations_in;
+use crate::serving::serve_port;
+use crate::sheet::sheet_of;
+use office_files::violation_text;
+use office_http::{Sink, Source, write_all};
+use signal_office_line::{Job, JobFault, job_of};
+use signal_records::InterId;
+use sqlite::Wary;
+use std::alloc::Global;
+use std::fs;
+use std::io::ErrorKind;
+
+/// The most requests of one run of `batch`.
+const BATCH_LIMIT: u32 = 1_000_000;
+
+/// The status where the words are refused.
+const WORDS_REFUSED: u8 = 2;
+
+/// The status of `verify-file` where the plan breaks a rule.
+const HAS_VIOLATIONS: u8 = 3;
+
+/// Answers the requests of the source over tables in memory.
+fn batch<R: Source, W: Sink>(alloc: Global, source: &mut R, out: &mut W) -> Result<u8, Fault> {
+    serve_new_office(alloc, source, out, BATCH_LIMIT)??;
+    Ok(0)
+}
+
+/// Answers the requests of the source over the tables of a file, and closes it, so that its log is
+/// copied into it. What was answered stands in the two files before that.
+fn batch_in_file<R: Source, W: Sink>(
+    rt: &HostRuntime,
+    alloc: Global,
+    path: &str,
+    source: &mut R,
+    out: &mut W,
+) -> Result<u8, Fault> {
+    let (office, outcome) = serve_file(rt, alloc, path, Wary, source, out, BATCH_LIMIT)?;
+    let closed = close(office);
+    outcome?;
+    closed?;
+    Ok(0)
+}
+
+/// Prints the violations of the plan in a CSV file.
+fn verify_file<W: Sink>(
+    rt: &HostRuntime,
+    alloc: Global,
+    path: &str,
+    out: &mut W,
+) -> Result<u8, Fault> {
+    let bytes = match fs::read(rt, path) {
+        Ok(bytes) => bytes,
+        Err(error) if error.kind() == ErrorKind::OutOfMemory => return Err(Fault::Memory),
+        Err(_) => return Err(Fault::File),
+    };
+    let found = violations_in(alloc, &bytes)?;
+    let text = violation_text(alloc, &found)?;
+    write_all(out, &text)?;
+    Ok(if found.is_empty() { 0 } else { HAS_VIOLATIONS })
+}
+
+/// Serves connections on a port by an office over tables in memory.
+fn serve<W: Sink>(
+    rt: &HostRuntime,
+    alloc: Global,
+    port: u16,
+    count: u32,
+    out: &mut W,
+) -> Result<u8, Fault> {
+    let mut office = open_in_memory(alloc)?;
+    serve_port(rt, alloc, &mut office, port, count, out)?;
+    Ok(0)
+}
+
+/// Closes the tables of a file, so that their log is copied into it.
+fn close(office: FileOffice<Wary>) -> Result<(), Fault> {
+    office.into_shelf().into_conn().close()?;
+    Ok(())
+}
+
+/// Serves connections on a port by an office over the tables of a file, and closes it.
+fn serve_in_file<W: Sink>(
+    rt: &HostRuntime,
+    alloc: Global,
+    path: &str,
+    port: u16,
+    count: u32,
+    out: &mut W,
+) -> Result<u8, Fault> {
+    let mut office = open_file(rt, alloc, path, Wary)?;
+    let outcome = serve_port(rt, alloc, &mut office, port, count, out);
+    let closed = close(office);
+    outcome?;
+    closed?;
+    Ok(0)
+}
+
+/// The timing sheet of an intersection in the tables of a file, which is closed again.
+fn sheet_in_file(
+    rt: &HostRuntime,
+    alloc: Global,
+    path: &str,
+    id: InterId,
+) -> Result<Vec<u8>, Fault> {
+    let mut office = open_file(rt, alloc, path, Wary)?;
+    let text = sheet_of(alloc, &mut office, id);
+    close(office)?;
+    text
+}
+
+/// Prints the timing sheet of an intersection in the tables of a file.
+fn sheet<W: Sink>(
+    rt: &HostRuntime,
+    alloc: Global,
+    path: &str,
+    id: InterId,
+    out: &mut W,
+) -> Result<u8, Fault> {
+    let text = sheet_in_file(rt, alloc, path, id)?;
+    write_all(out, &text)?;
+    Ok(0)
+}
+
+/// Does a job, and gives the status.
+fn run_job<R: Source, W: Sink>(
+    rt: &HostRuntime,
+    alloc: Global,
+    job: Job<'_>,
+    source: &mut R,
+    out: &mut W,
+) -> Result<u8, Fault> {
+    match job {
+        Job::Batch { db: None } => batch(alloc, source, out),
+        Job::Batch { db: Some(path) } => batch_in_file(rt, alloc, path, source, out),
+        Job::Serve {
+            port,
+            count,
+            db: None,
+        } => serve(rt, alloc, port, count, out),
+        Job::Serve {
+            port,
+            count,
+            db: Some(path),
+        } => serve_in_file(rt, alloc, path, port, count, out),
+        Job::Sheet { db, id } => sheet(rt, alloc, db, id, out),
+        Job::VerifyFile { csv } => verify_file(rt, alloc, csv, out),
+    }
+}
+
+/// Prints help on standard output, and why words are refused on standard error.
+fn show<W: Sink, E: Sink>(
+    alloc: Global,
+    error: &clap::Error,
+    out: &mut W,
+    err: &mut E,
+) -> Result<u8, Fault> {
+    let text = error.to_string(alloc)?;
+    if error.use_stderr() {
+        write_all(err, text.as_bytes())?;
+        return Ok(WORDS_REFUSED);
+    }
+    write_all(out, text.as_bytes())?;
+    Ok(0)
+}
+
+/// Says a fault on standard error, as far as that takes it, and gives the status.
+pub fn report<W: Sink>(alloc: Global, err: &mut W, fault: Fault) -> u8
+    ensures { 1 ≤ result }
+{
+    let _ = match format!(in alloc; "{fault}\n") {
+        Ok(line) => write_all(err, line.as_bytes()),
+        Err(_) => write_all(err, b"fault: memory\n"),
+    };
+    fault.status()
+}
+
+/// Does what the words ask for, and gives the status: 0 done, 1 a fault, 2 the words were refused,
+/// 3 a plan breaks a rule. The first word is the name under which the program was called.
+pub fn run_words<R: Source, W: Sink, E: Sink>(
+    rt: &HostRuntime,
+    alloc: Global,
+    words: &[&str],
+    source: &mut R,
+    out: &mut W,
+    err: &mut E,
+) -> u8 {
+    let done = match job_of(alloc, words) {
+        Ok(job) => run_job(rt, alloc, job, source, out),
+        Err(JobFault::Refused(error)) => show(alloc, &error, out, err),
+        Err(JobFault::NoMemory) => Err(Fault::Memory),
+    };
+    match done {
+        Ok(status) => status,
+        Err(fault) => report(alloc, err, fault),
+    }
+}
