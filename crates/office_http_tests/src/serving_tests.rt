@@ -78,32 +78,52 @@ fn answer(alloc: Global, status: &str, body: &str) -> Result<String, AllocError>
     )
 }
 
-#[test]
-fn answers_two_requests_however_they_come(rt: HostRuntime) {
-    let alloc = rt.alloc();
-    let mut office = Office::new(MapShelf::new(alloc));
-    let (outcome, answers) = served(alloc, &mut office, STREAM);
-    assert_eq!(rt; outcome, Ok(Served { requests: 2 }));
-    assert_eq!(rt; answers.as_slice(), ANSWERS.as_slice());
-    assert_eq!(rt; office.into_shelf().writes(Table::Intersection), 1);
+/// A third request, of 76 bytes: Ana begins a transaction.
+const BEGIN: &[u8] =
+    b"POST /intersections/12/begin HTTP/1.1\r\nContent-Length: 15\r\n\r\n{\"clerk\":\"Ana\"}";
 
-    for (n, requests, written) in [
+/// Its answer, of 126 bytes.
+const BEGUN: &[u8] =
+    b"HTTP/1.1 200 OK\r\nContent-Type: application/json\r\nContent-Length: 55\r\n\r\n{\"revision\":0,\"state\":\"transaction\",\"verify\":\"notDone\"}";
+
+/// What a stream is answered that comes byte by byte.
+fn dripped(alloc: Global, stream: &[u8]) -> (Result<Served, ServeFault>, Vec<u8>) {
+    let mut office = Office::new(MapShelf::new(alloc));
+    let mut reader = Drip {
+        rest: stream,
+        counts: Counts::default(),
+    };
+    let mut writer = ToWrite::new(Vec::new(alloc));
+    let outcome = serve(alloc, &mut office, &mut reader, &mut writer, 9);
+    (outcome, writer.writer)
+}
+
+#[test]
+fn answers_three_requests_however_they_come(rt: HostRuntime) -> Result<(), Fail> {
+    let alloc = rt.alloc();
+    let mut stream = STREAM.to_vec(alloc)?;
+    stream.extend_from_slice(BEGIN)?;
+    let mut answers = ANSWERS.to_vec(alloc)?;
+    answers.extend_from_slice(BEGUN)?;
+    let mut office = Office::new(MapShelf::new(alloc));
+    let (outcome, written) = served(alloc, &mut office, &stream);
+    assert_eq!(rt; outcome, Ok(Served { requests: 3 }));
+    assert_eq!(rt; written, answers);
+    assert_eq!(rt; office.into_shelf().writes(Table::Intersection), 2);
+    for (n, requests, length) in [
         (0, 0, 0),
         (92, 0, 0),
         (93, 1, 89),
         (126, 1, 89),
         (127, 2, 273),
+        (202, 2, 273),
+        (203, 3, 399),
     ] {
-        let mut office = Office::new(MapShelf::new(alloc));
-        let mut reader = Drip {
-            rest: &STREAM[..n],
-            counts: Counts::default(),
-        };
-        let mut writer = ToWrite::new(Vec::new(alloc));
-        let outcome = serve(alloc, &mut office, &mut reader, &mut writer, 9);
+        let (outcome, written) = dripped(alloc, &stream[..n]);
         assert_eq!(rt; outcome, Ok(Served { requests }), "after {n} bytes");
-        assert_eq!(rt; writer.writer.as_slice(), &ANSWERS[..written]);
+        assert_eq!(rt; written.as_slice(), &answers[..length]);
     }
+    Ok(())
 }
 
 #[test]

@@ -132,7 +132,7 @@ fn sheet<W: Sink>(
 fn run_job<R: Source, W: Sink>(
     rt: &HostRuntime,
     alloc: Global,
-    job: Job<'_>,
+    job: &Job<'_>,
     source: &mut R,
     out: &mut W,
 ) -> Result<u8, Fault> {
@@ -143,13 +143,13 @@ fn run_job<R: Source, W: Sink>(
             port,
             count,
             db: None,
-        } => serve(rt, alloc, port, count, out),
+        } => serve(rt, alloc, *port, *count, out),
         Job::Serve {
             port,
             count,
             db: Some(path),
-        } => serve_in_file(rt, alloc, path, port, count, out),
-        Job::Sheet { db, id } => sheet(rt, alloc, db, id, out),
+        } => serve_in_file(rt, alloc, path, *port, *count, out),
+        Job::Sheet { db, id } => sheet(rt, alloc, db, *id, out),
         Job::VerifyFile { csv } => verify_file(rt, alloc, csv, out),
     }
 }
@@ -192,7 +192,7 @@ pub fn run_words<R: Source, W: Sink, E: Sink>(
     err: &mut E,
 ) -> u8 {
     let done = match job_of(alloc, words) {
-        Ok(job) => run_job(rt, alloc, job, source, out),
+        Ok(job) => run_job(rt, alloc, &job, source, out),
         Err(JobFault::Refused(error)) => show(alloc, &error, out, err),
         Err(JobFault::NoMemory) => Err(Fault::Memory),
     };
