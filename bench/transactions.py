@@ -175,6 +175,11 @@ def main():
         seconds, _answers = run(["batch", "--db", large], subprocess.DEVNULL)
         size = os.path.getsize(large) / 1_000_000
         print(f"opening a file of {intersections} intersections with 60 rows each ({size:.1f} MB): {seconds:.2f} s")
+        started = time.perf_counter()
+        db = sqlite3.connect(large)
+        found = db.execute("PRAGMA integrity_check").fetchone()
+        db.close()
+        print(f"Python: opening it, and sqlite's own check of it ({found[0]}): {time.perf_counter() - started:.2f} s")
 
 
 main()
