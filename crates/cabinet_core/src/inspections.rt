@@ -28,8 +28,9 @@ pub struct OverdueRow {
     pub due: Option<Date>,
 }
 
-/// The row of an intersection that is overdue on the day.
-fn overdue_row(day: Day, seen: &Seen) -> Result<Option<OverdueRow>, NoMemory>
+/// The row of an intersection that is overdue on the day: that was never inspected, or whose
+/// inspection fell due before the day. There is none where it is not overdue.
+pub fn overdue_row(day: Day, seen: &Seen) -> Result<Option<OverdueRow>, NoMemory>
     ensures { IfOk result (λ row. lateness day seen.now ≡ option_map listed row) }
 {
     let due = match seen.last {

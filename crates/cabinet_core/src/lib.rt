@@ -14,7 +14,7 @@ pub use bounds::{delivery_is_within, inspection_is_within, order_is_within, used
 pub use command::RecordCommand;
 pub use day::{Day, due, read_day, write_day};
 pub use decide::{CabinetChange, Recorded, close_order, inspect, open_order, receive, use_part};
-pub use inspections::{OverdueRow, Seen, overdue};
+pub use inspections::{OverdueRow, Seen, overdue, overdue_row};
 pub use part::{Hand, MOST_ON_HAND, PartCode};
 pub use record::{CabinetView, Closing, Delivery, Inspection, Opening, Order, UsedLine};
 pub use refusal::CabinetRefusal;

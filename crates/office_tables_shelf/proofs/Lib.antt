@@ -6,3 +6,5 @@ pub mod CabinetLemmas
 pub mod KeyLemmas
 pub mod RowLemmas
 pub mod CountLemmas
+pub mod KeptLemmas
+pub mod OverdueLemmas

@@ -69,6 +69,10 @@ pub record HasDamagedInspection (tables : Content) (id : ℕ) : Type 0 where
   pub stored : get tables.inspection key ≡ Some columns
   pub no_row : (inspection : Inspection) → IsInspectionWithin inspection → key ≡ inspection_key id inspection.number → columns ≢ inspection_columns inspection
 
+-- an inspection of some intersection is no record
+abbrev pub HasAnyDamagedInspection : Content → Type 0
+HasAnyDamagedInspection tables = (id : ℕ) × HasDamagedInspection tables id
+
 -- ---- used parts
 
 -- the used parts of the intersection, in the order of orders and lines, are those of the list

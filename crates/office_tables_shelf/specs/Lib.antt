@@ -9,3 +9,4 @@ pub mod Damage
 pub mod MapCabinet
 pub mod MapShelf
 pub mod CabinetReads
+pub mod Overdue

@@ -5,6 +5,7 @@ pub mod counts;
 mod map_cabinet;
 mod map_rows;
 pub mod map_shelf;
+mod overdue;
 mod place;
 pub mod rows;
 pub mod shelf;

@@ -16,7 +16,7 @@ use std::alloc::Global;
 use std::collections::BTreeMap;
 
 /// Puts the row of an intersection.
-pub fn put_intersection(
+pub(crate) fn put_intersection(
     rows: &mut BTreeMap<InterId, IntersectionRow>,
     id: InterId,
     row: IntersectionRow,
@@ -28,7 +28,7 @@ pub fn put_intersection(
 }
 
 /// The row of an intersection, if there is one.
-pub fn intersection_at(
+pub(crate) fn intersection_at(
     rows: &BTreeMap<InterId, IntersectionRow>,
     id: InterId,
 ) -> Result<Option<IntersectionRow>, NoMemory>
@@ -41,7 +41,7 @@ pub fn intersection_at(
 }
 
 /// The rows of all intersections, by their numbers.
-pub fn all_intersections(
+pub(crate) fn all_intersections(
     alloc: Global,
     rows: &BTreeMap<InterId, IntersectionRow>,
 ) -> Result<Vec<(InterId, IntersectionRow)>, NoMemory>
@@ -64,7 +64,11 @@ pub(crate) fn copied_intersections(
 }
 
 /// Puts a committed row under its own key.
-pub fn put_timing(rows: &mut BTreeMap<Place, Row>, inter: InterId, row: Row) -> Result<(), NoMemory>
+pub(crate) fn put_timing(
+    rows: &mut BTreeMap<Place, Row>,
+    inter: InterId,
+    row: Row,
+) -> Result<(), NoMemory>
     ensures rows { OnOk result (timing_rows rows.new.entries ≡ finite.insert (timing_rows rows.old.entries) (timing_key inter (key_of row)) (timing_columns row)) }
     ensures placed { AreRowsPlaced rows.old.entries → AreRowsPlaced rows.new.entries }
 {
@@ -74,7 +78,7 @@ pub fn put_timing(rows: &mut BTreeMap<Place, Row>, inter: InterId, row: Row) -> 
 }
 
 /// Removes the committed row under a key, if there is one.
-pub fn remove_timing(rows: &mut BTreeMap<Place, Row>, inter: InterId, key: Key)
+pub(crate) fn remove_timing(rows: &mut BTreeMap<Place, Row>, inter: InterId, key: Key)
     ensures rows { timing_rows rows.new.entries ≡ finite.remove (timing_rows rows.old.entries) (timing_key inter key) }
     ensures placed { AreRowsPlaced rows.old.entries → AreRowsPlaced rows.new.entries }
 {
@@ -82,7 +86,7 @@ pub fn remove_timing(rows: &mut BTreeMap<Place, Row>, inter: InterId, key: Key)
 }
 
 /// The committed rows of an intersection, in the order of their keys.
-pub fn timing_of(
+pub(crate) fn timing_of(
     alloc: Global,
     rows: &BTreeMap<Place, Row>,
     inter: InterId,
@@ -119,7 +123,7 @@ fn left_by_change(change: &Change) -> Result<Option<Row>, NoMemory>
 }
 
 /// Puts a draft row that keeps the change: what it leaves at its key.
-pub fn put_draft(
+pub(crate) fn put_draft(
     rows: &mut BTreeMap<Place, Option<Row>>,
     inter: InterId,
     change: &Change,
@@ -134,7 +138,7 @@ pub fn put_draft(
 }
 
 /// Removes the draft row under a key, if there is one.
-pub fn remove_draft(rows: &mut BTreeMap<Place, Option<Row>>, inter: InterId, key: Key)
+pub(crate) fn remove_draft(rows: &mut BTreeMap<Place, Option<Row>>, inter: InterId, key: Key)
     ensures rows { draft_rows rows.new.entries ≡ finite.remove (draft_rows rows.old.entries) (timing_key inter key) }
     ensures placed { AreLeftPlaced rows.old.entries → AreLeftPlaced rows.new.entries }
 {
@@ -161,7 +165,7 @@ pub(crate) fn copied_drafts(
 }
 
 /// The draft rows of an intersection, in the order of their keys.
-pub fn draft_of(
+pub(crate) fn draft_of(
     alloc: Global,
     rows: &BTreeMap<Place, Option<Row>>,
     inter: InterId,

@@ -5,11 +5,13 @@ ghost use Rattle.office_tables_shelf.specs.Change.{changed_by};
 ghost use Rattle.office_tables_shelf.specs.Counts.{count_of, counts_after};
 ghost use Rattle.office_tables_shelf.specs.Shelf.{IsKept, ReadsIntersection, ListsIntersections, ListsTiming, ListsDraft};
 ghost use Rattle.office_tables_shelf.specs.Damage.{HasDamagedIntersection, HasAnyDamagedIntersection, HasDamagedTiming, HasDamagedDraft};
-ghost use Rattle.office_tables_shelf.specs.CabinetReads.{ListsInspections, HasDamagedInspection, ListsOrders, HasDamagedOrder, ListsUsed, HasDamagedUsed, ReadsDelivery, HasDamagedDelivery, ReadsHand, HasDamagedHand, ListsParts, HasDamagedPart};
+ghost use Rattle.office_tables_shelf.specs.CabinetReads.{ListsInspections, HasDamagedInspection, HasAnyDamagedInspection, ListsOrders, HasDamagedOrder, ListsUsed, HasDamagedUsed, ReadsDelivery, HasDamagedDelivery, ReadsHand, HasDamagedHand, ListsParts, HasDamagedPart};
+ghost use Rattle.office_tables_shelf.specs.Overdue.{ListsOverdue};
 ghost use Rattle.office_tables_shelf.specs.declared.counts.WriteCounts.{WriteCounts};
 
+use crate::overdue::add_overdue;
 use crate::rows::{IntersectionRow, RowChange, Table};
-use cabinet_core::{Delivery, Hand, Inspection, Order, PartCode, UsedLine};
+use cabinet_core::{Day, Delivery, Hand, Inspection, Order, OverdueRow, PartCode, UsedLine};
 use signal_records::{Change, InterId, NoMemory, RecordNo, Row};
 use std::alloc::Global;
 
@@ -85,6 +87,30 @@ pub trait Shelf {
         ensures rows { IfOk result (λ found. is_honest self.new → ListsInspections (content self.old) id found.items) }
         ensures damaged { result ≡ Err ShelfFault.Damaged → is_honest self.new → HasDamagedInspection (content self.old) id }
         ensures kept { IsKept is_honest content written may_leave self.old self.new };
+
+    /// The first `most` of the intersections that are overdue for an inspection on a day, in the
+    /// order of their numbers. Rows past those need not be read.
+    fn overdue_rows(
+        &mut self,
+        alloc: Global,
+        day: Day,
+        most: usize,
+    ) -> Result<Vec<OverdueRow>, ShelfFault>
+        ensures rows { IfOk result (λ found. is_honest self.new → ListsOverdue (content self.old) day most found.items) }
+        ensures damaged { result ≡ Err ShelfFault.Damaged → is_honest self.new → HasAnyDamagedIntersection (content self.old) ⊎ HasAnyDamagedInspection (content self.old) }
+        ensures kept { IsKept is_honest content written may_leave self.old self.new }
+    {
+        let rows = self.intersections(alloc)?;
+        let mut found = Vec::new(alloc);
+        for (id, row) in rows.as_slice() {
+            if found.len() == most {
+                break;
+            }
+            let inspections = self.inspections(alloc, *id)?;
+            add_overdue(&mut found, day, *id, row, inspections.as_slice())?;
+        }
+        Ok(found)
+    }
 
     /// The orders on an intersection, in the order of their numbers.
     fn orders(&mut self, alloc: Global, id: InterId) -> Result<Vec<Order>, ShelfFault>

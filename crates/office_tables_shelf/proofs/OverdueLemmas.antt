@@ -1,0 +1,91 @@
+-- How the list of overdue intersections grows row by row, until enough are found or all were seen.
+use Rattle.std.proofs.Common.{◌≡◌, ◌<◌, ◌≤◌, ◌+◌, ◌++◌, ℕ, zero, suc, List, [], ◌∷◌, map, length, get_or, take, drop, max, Option, Some, None, refl, ap, sym, subst, ◌∙◌, arith, length-append}
+use Rattle.std.proofs.Math.Seq.{take-append_seam}
+use Rattle.std.specs.List.{cons_option}
+use Rattle.std.proofs.lemmas.List.{take_more, take_all, take-append-drop, length-map}
+use Rattle.std.proofs.lemmas.List.Elements.{filter_map-append}
+use Rattle.cabinet_core.specs.Overdue.{Listed, listed, lateness, overdue_list}
+use Rattle.cabinet_core.specs.declared.inspections.OverdueRow.{OverdueRow}
+use Rattle.cabinet_core.specs.declared.inspections.Seen.{Seen}
+use Rattle.cabinet_core.specs.declared.record.Inspection.{Inspection}
+use Rattle.office_tables_shelf.specs.CabinetReads.{ListsInspections}
+use Rattle.office_tables_shelf.specs.Content.{Content}
+use Rattle.office_tables_shelf.specs.Overdue.{greater, latest_day, seen_row, AreSeenOf}
+use Rattle.office_tables_shelf.specs.declared.rows.IntersectionRow.{IntersectionRow}
+
+-- ---- the latest day
+
+exchanged : (x n : ℕ) (o : Option ℕ) → max x (greater n o) ≡ max n (greater x o)
+exchanged x n None = omega arith
+exchanged x n (Some m) = omega arith
+
+latest_push : (inspections : List Inspection) (inspection : Inspection) → latest_day (inspections ++ inspection ∷ []) ≡ Some (greater inspection.day (latest_day inspections))
+latest_push [] inspection = refl
+latest_push (x ∷ xs) inspection =
+    ap (λ o. Some (greater x.day o)) (latest_push xs inspection)
+    ∙ ap Some (exchanged x.day inspection.day (latest_day xs))
+
+-- the next day counts too
+pub latest_more : (inspections : List Inspection) (i : ℕ) (inspection : Inspection) (latest : Option ℕ) → i < length inspections → inspection ≡ get_or inspections i inspection → latest ≡ latest_day (take i inspections)
+    → Some (greater inspection.day latest) ≡ latest_day (take (i + 1) inspections)
+latest_more inspections i inspection latest low at so_far =
+    let next : take (i + 1) inspections ≡ take i inspections ++ inspection ∷ [] = take_more inspections i inspection low ∙ ap (λ x. take i inspections ++ x ∷ []) (sym at) in
+    ap (λ o. Some (greater inspection.day o)) so_far ∙ sym (latest_push (take i inspections) inspection) ∙ ap latest_day (sym next)
+
+-- ---- what is seen, row by row
+
+-- so many are seen as there are rows
+pub seen_length : (tables : Content) (rows : List (ℕ × IntersectionRow)) (seen : List Seen) → AreSeenOf tables rows seen → length seen ≡ length rows
+seen_length tables [] [] all = refl
+seen_length tables [] (one ∷ seen) all = absurd all
+seen_length tables (e ∷ rows) [] all = absurd all
+seen_length tables (e ∷ rows) (one ∷ seen) all = ap suc (seen_length tables rows seen all.1)
+
+-- that of a row whose inspections were read
+pub seen_at : (tables : Content) (rows : List (ℕ × IntersectionRow)) (seen : List Seen) (i : ℕ) (e : ℕ × IntersectionRow) (inspections : List Inspection) → AreSeenOf tables rows seen → i < length rows → e ≡ get_or rows i e
+    → ListsInspections tables e.0 inspections → seen_row e.0 e.1 inspections ≡ get_or seen i (seen_row e.0 e.1 inspections)
+seen_at tables [] [] i e inspections all low at lists = absurd (omega arith)
+seen_at tables [] (one ∷ seen) i e inspections all low at lists = absurd all
+seen_at tables (f ∷ rows) [] i e inspections all low at lists = absurd all
+seen_at tables (f ∷ rows) (one ∷ seen) zero e inspections all low at lists =
+    let same : e ≡ f = at in
+    ap (λ (x : ℕ × IntersectionRow). seen_row x.0 x.1 inspections) same ∙ sym (all.0 inspections (subst (λ (x : ℕ × IntersectionRow). ListsInspections tables x.0 inspections) same lists))
+seen_at tables (f ∷ rows) (one ∷ seen) (suc i) e inspections all low at lists = seen_at tables rows seen i e inspections all.1 (omega arith) at lists
+
+-- ---- the list so far
+
+so_many : (late : Option Listed) → length (cons_option late []) ≤ 1
+so_many None = omega arith
+so_many (Some one) = omega arith
+
+-- the row of the next intersection comes last
+pub overdue_more : (day : ℕ) (seen : List Seen) (i : ℕ) (next : Seen) (old new : List OverdueRow) → i < length seen → next ≡ get_or seen i next → map listed old ≡ overdue_list day (take i seen)
+    → map listed new ≡ map listed old ++ overdue_list day (next ∷ []) → map listed new ≡ overdue_list day (take (i + 1) seen)
+overdue_more day seen i next old new low at so_far added =
+    let more : take (i + 1) seen ≡ take i seen ++ next ∷ [] = take_more seen i next low ∙ ap (λ one. take i seen ++ one ∷ []) (sym at) in
+    added ∙ ap (λ rows. rows ++ overdue_list day (next ∷ [])) so_far ∙ sym (filter_map-append (lateness day) (take i seen) (next ∷ [])) ∙ sym (ap (overdue_list day) more)
+
+-- and there are no more than were asked for
+pub still_short : (day most : ℕ) (next : Seen) (old new : List OverdueRow) → length old < most → map listed new ≡ map listed old ++ overdue_list day (next ∷ []) → length new ≤ most
+still_short day most next old new short added =
+    let one = so_many (lateness day next) in
+    let sum : length new ≡ length old + length (overdue_list day (next ∷ [])) =
+    sym (length-map new listed) ∙ ap length added ∙ length-append (map listed old) (overdue_list day (next ∷ [])) ∙ ap (λ n. n + length (overdue_list day (next ∷ []))) (length-map old listed) in
+    omega arith
+
+-- ---- the list at its end
+
+-- as many were found as were asked for
+pub enough_found : (day most i : ℕ) (seen : List Seen) (found : List OverdueRow) → map listed found ≡ overdue_list day (take i seen) → length found ≡ most → map listed found ≡ take most (overdue_list day seen)
+enough_found day most i seen found so_far enough =
+    let rest = overdue_list day (drop i seen) in
+    let whole : overdue_list day seen ≡ map listed found ++ rest =
+    ap (overdue_list day) (sym (take-append-drop i seen)) ∙ filter_map-append (lateness day) (take i seen) (drop i seen) ∙ ap (λ rows. rows ++ rest) (sym so_far) in
+    sym (ap (take most) whole ∙ ap (λ n. take n (map listed found ++ rest)) (sym (length-map found listed ∙ enough)) ∙ take-append_seam (map listed found) rest)
+
+-- all were seen
+pub all_found : (day most i : ℕ) (seen : List Seen) (found : List OverdueRow) → map listed found ≡ overdue_list day (take i seen) → length seen ≤ i → length found ≤ most → map listed found ≡ take most (overdue_list day seen)
+all_found day most i seen found so_far all short =
+    let same : map listed found ≡ overdue_list day seen = so_far ∙ ap (overdue_list day) (take_all i seen all) in
+    let count = length-map found listed in
+    sym (take_all most (map listed found) (omega arith)) ∙ ap (take most) same

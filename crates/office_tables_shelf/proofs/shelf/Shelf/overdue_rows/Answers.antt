@@ -1,0 +1,79 @@
+use Rattle.std.proofs.Common.{◌≡◌, ◌++◌, ◌∙◌, [], ◌∷◌, Err, inr, List, ap, arith, length, map, subst, sym}
+use Rattle.std.proofs.lemmas.Result.{err_from_is_err_and}
+use Rattle.cabinet_core.specs.Overdue.{listed, overdue_list}
+use Rattle.cabinet_core.specs.declared.inspections.OverdueRow.{OverdueRow}
+use Rattle.office_tables_shelf.specs.CabinetReads.{HasDamagedInspection, ListsInspections}
+use Rattle.office_tables_shelf.specs.Overdue.{seen_row}
+use Rattle.office_tables_shelf.specs.Shelf.{ListsIntersections}
+use Rattle.office_tables_shelf.specs.declared.shelf.ShelfFault.TheVariants.{Damaged}
+use Rattle.office_tables_shelf.proofs.KeptLemmas.{kept_on}
+use Rattle.office_tables_shelf.proofs.OverdueLemmas.{seen_length, seen_at, overdue_more, still_short, enough_found, all_found}
+use Rattle.office_tables_shelf.proofs.shelf.Shelf.overdue_rows.Goals as goal
+use Rattle.office_tables_shelf.proofs.shelf.Shelf.overdue_rows.Goals.{else-loop-id-test, then-loop-id-test+then-len-most}
+
+pub loop-id-init : goal.loop-id-init
+loop-id-init g c = record {
+  read = λ honest. subst (ListsIntersections (g.Self.Shelf.content c.args.self.now)) (sym c.as_slice-id-items.ensures.value) (c.in_ok-rows.ensures.rows honest);
+  rows = λ honest seen all. ap (λ (found : List OverdueRow). map listed found) c.new-found.ensures.items;
+  short = omega (arith, ap (λ (found : List OverdueRow). length found) c.new-found.ensures.items);
+  kept = c.intersections.ensures.kept;
+}
+
+pub returns-in_err-inspections-clause-damaged : goal.returns-in_err-inspections-clause-damaged
+returns-in_err-inspections-clause-damaged g c = λ is honest.
+    let answer = c.from_residual-in_err-inspections in
+    let told = err_from_is_err_and answer.result answer.ensures.1 in
+    let fault : told.0 ≡ c.in_err-inspections.field-0.0 = told.2 in
+    let damaged : c.in_err-inspections.field-0.0 ≡ Damaged = cc in
+    let before = c.inspections.ensures.kept.honest_before honest in
+    let found = c.in_err-inspections.ensures.damaged (ap Err damaged) honest in
+    inr (c.loop-id-item.result.0, subst (λ t. HasDamagedInspection t c.loop-id-item.result.0) (c.loop-id.invariant.kept.same_content before) found)
+
+pub returns-in_err-inspections-clause-kept : goal.returns-in_err-inspections-clause-kept
+returns-in_err-inspections-clause-kept g c =
+    let shelf = g.Self.Shelf in
+    kept_on shelf.is_honest shelf.content shelf.written shelf.may_leave c.args.self.now c.loop-id.self c.inspections.new.self c.loop-id.invariant.kept c.inspections.ensures.kept
+
+pub returns-in_err-add_overdue-clause-kept : goal.returns-in_err-add_overdue-clause-kept
+returns-in_err-add_overdue-clause-kept g c =
+    let shelf = g.Self.Shelf in
+    kept_on shelf.is_honest shelf.content shelf.written shelf.may_leave c.args.self.now c.loop-id.self c.inspections.new.self c.loop-id.invariant.kept c.inspections.ensures.kept
+
+pub loop-id-preserved : goal.loop-id-preserved
+loop-id-preserved g c =
+    let shelf = g.Self.Shelf in
+    let rows = c.as_slice-id-items.result.now in
+    let tables = shelf.content c.args.self.now in
+    let e = c.loop-id-item.result in
+    let inspections = c.in_ok-inspections.inspections.items in
+    let next = seen_row e.0 e.1 inspections in
+    let old = c.loop-id.found.items in
+    let new = c.add_overdue.new.found.items in
+    let added : map listed new ≡ map listed old ++ overdue_list c.args.day (next ∷ []) =
+    c.in_ok-add_overdue.ensures ∙ ap (λ list. map listed old ++ overdue_list c.args.day (seen_row e.0 e.1 list ∷ [])) c.as_slice.ensures.value in
+    record {
+      read = λ honest. c.loop-id.invariant.read (c.inspections.ensures.kept.honest_before honest);
+      rows = λ honest seen all.
+          let before = c.inspections.ensures.kept.honest_before honest in
+          let lists = subst (λ t. ListsInspections t e.0 inspections) (c.loop-id.invariant.kept.same_content before) (c.in_ok-inspections.ensures.rows honest) in
+          let count = seen_length tables rows seen all in
+          overdue_more c.args.day seen c.loop-id.id-index next old new (omega arith)
+          (seen_at tables rows seen c.loop-id.id-index e inspections all c.loop-id-test.true c.loop-id-item.is lists) (c.loop-id.invariant.rows before seen all) added;
+      short = still_short c.args.day c.args.most next old new (omega arith) added;
+      kept = kept_on shelf.is_honest shelf.content shelf.written shelf.may_leave c.args.self.now c.loop-id.self c.inspections.new.self c.loop-id.invariant.kept c.inspections.ensures.kept;
+    }
+
+pub returns-clause-rows : goal.returns-clause-rows
+returns-clause-rows g c = λ honest seen all.
+    let rows = c.as_slice-id-items.result.now in
+    let tables = g.Self.Shelf.content c.args.self.now in
+    let known = all rows (c.loop-id.invariant.read honest) in
+    let found = c.loop-id.invariant.rows honest seen known in
+    let count = seen_length tables rows seen known in
+    elim c.loop-id-test.branch [
+      | else-loop-id-test w ↦ all_found c.args.day c.args.most c.loop-id.id-index seen c.loop-id.found.items found (omega arith) c.loop-id.invariant.short
+      | then-loop-id-test+then-len-most w ↦ enough_found c.args.day c.args.most c.loop-id.id-index seen c.loop-id.found.items found (omega arith)
+    ]
+
+pub returns-clause-kept : goal.returns-clause-kept
+returns-clause-kept g c = c.loop-id.invariant.kept

@@ -1,0 +1,53 @@
+-- The intersections that are overdue on a day, as the tables hold them.
+use Rattle.std.specs.Prelude.{◌≡◌, ℕ, List, [], ◌∷◌, map, take, Option, Some, None, max}
+use Rattle.cabinet_core.specs.Overdue.{listed, overdue_list}
+use Rattle.cabinet_core.specs.declared.inspections.OverdueRow.{OverdueRow}
+use Rattle.cabinet_core.specs.declared.inspections.Seen.{Seen}
+use Rattle.cabinet_core.specs.declared.record.Inspection.{Inspection}
+use Rattle.office_tables_shelf.specs.CabinetReads.{ListsInspections}
+use Rattle.office_tables_shelf.specs.Content.{Content}
+use Rattle.office_tables_shelf.specs.Shelf.{ListsIntersections}
+use Rattle.office_tables_shelf.specs.declared.rows.IntersectionRow.{IntersectionRow}
+
+-- ---- the latest day
+
+-- the greater of a number and what there is besides
+abbrev pub greater : ℕ → Option ℕ → ℕ
+greater n None = n
+greater n (Some m) = max n m
+
+-- the greatest of some numbers
+abbrev pub greatest : List ℕ → Option ℕ
+greatest [] = None
+greatest (n ∷ ns) = Some (greater n (greatest ns))
+
+-- the latest day of some inspections, whatever their numbers
+abbrev pub latest_day : List Inspection → Option ℕ
+latest_day inspections = greatest (map (λ (inspection : Inspection). inspection.day) inspections)
+
+-- ---- what is seen
+
+-- what is known of an intersection with this row and these inspections
+abbrev pub seen_row : ℕ → IntersectionRow → List Inspection → Seen
+seen_row id row inspections = record { id = id; name = row.name; interval = row.interval; last = latest_day inspections }
+
+-- and with the inspections that the tables hold of it, where all that they hold of them are inspections
+abbrev pub IsSeen : Content → ℕ × IntersectionRow → Seen → Type 0
+IsSeen tables e seen = (inspections : List Inspection) → ListsInspections tables e.0 inspections → seen ≡ seen_row e.0 e.1 inspections
+
+-- row by row
+abbrev pub AreSeenOf : Content → List (ℕ × IntersectionRow) → List Seen → Type 0
+AreSeenOf tables [] [] = Unit {0}
+AreSeenOf tables (e ∷ rows) (one ∷ seen) = IsSeen tables e one × AreSeenOf tables rows seen
+AreSeenOf tables [] (one ∷ seen) = ⊥
+AreSeenOf tables (e ∷ rows) [] = ⊥
+
+-- what is known of each intersection that the tables hold, where all their rows of intersections are intersections
+abbrev pub AreSeen : Content → List Seen → Type 0
+AreSeen tables seen = (rows : List (ℕ × IntersectionRow)) → ListsIntersections tables rows → AreSeenOf tables rows seen
+
+-- ---- the list
+
+-- The rows are the first so many of those that are overdue. What is known of a row that is no record may be anything, so they rest on no such row.
+abbrev pub ListsOverdue : Content → ℕ → ℕ → List OverdueRow → Type 0
+ListsOverdue tables day most found = (seen : List Seen) → AreSeen tables seen → map listed found ≡ take most (overdue_list day seen)

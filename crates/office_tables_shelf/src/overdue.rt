@@ -1,0 +1,52 @@
+//! Rows of intersections that are overdue for an inspection.
+
+ghost use Rattle.std.specs.Prelude.{◌≡◌, [], ◌∷◌, ◌++◌, map, OnOk};
+ghost use Rattle.cabinet_core.specs.Overdue.{listed, overdue_list};
+ghost use Rattle.office_tables_shelf.specs.Overdue.{greater, latest_day, seen_row};
+
+use crate::rows::IntersectionRow;
+use cabinet_core::{Day, Inspection, OverdueRow, Seen, overdue_row};
+use signal_records::{InterId, NoMemory};
+
+/// The later of a day and what there is besides.
+fn later(day: Day, last: Option<Day>) -> Day
+    ensures { result ≡ greater day last }
+{
+    match last {
+        None => day,
+        Some(last) => day.max(last),
+    }
+}
+
+/// The latest day of some inspections, if there is one.
+fn latest(inspections: &[Inspection]) -> Option<Day>
+    ensures { result ≡ latest_day inspections.now }
+{
+    let mut latest = None;
+    for inspection in inspections {
+        latest = Some(later(inspection.day, latest));
+    }
+    latest
+}
+
+/// Adds the row of an intersection with these inspections, if it is overdue on the day.
+pub(crate) fn add_overdue(
+    found: &mut Vec<OverdueRow>,
+    day: Day,
+    id: InterId,
+    row: &IntersectionRow,
+    inspections: &[Inspection],
+) -> Result<(), NoMemory>
+    ensures { OnOk result (map listed found.new.items ≡ map listed found.old.items ++ overdue_list day (seen_row id row.now inspections.now ∷ [])) }
+{
+    let seen = Seen {
+        id,
+        name: row.name.clone()?,
+        interval: row.interval,
+        last: latest(inspections),
+    };
+    if let Some(late) = overdue_row(day, &seen)? {
+        found.push(late)?;
+    }
+    Ok(())
+}
