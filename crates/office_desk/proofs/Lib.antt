@@ -5,13 +5,16 @@ pub mod Stands
 pub mod NewIntersection
 pub mod ReadBack
 pub mod Moved
+pub mod Imports
 pub mod Keeps
 pub mod Transactions
 pub mod TimingLaw
 pub mod RegisterLaws
+pub mod Repeats
 pub mod Shown
 pub mod IntersectionTable
 pub mod Recorded
+pub mod IntersectionCount
 pub mod OverdueRows
 pub mod Runs
 pub mod Writes

@@ -1,28 +1,29 @@
 -- The intersections that were read, and what is known of their inspections, are those of the office.
-use Rattle.std.proofs.Common.{◌≡◌, ◌<◌, ◌≤◌, ◌+◌, ◌++◌, ℕ, Bool, true, false, List, [], ◌∷◌, map, length, get_or, take, drop, suc, refl, ap, sym, subst, ◌∙◌, append_assoc, arith}
-use Rattle.std.proofs.Math.Seq.{drop-cons}
-use Rattle.std.proofs.lemmas.List.{drop_all, append-nil}
+use Rattle.std.proofs.Common.{◌≡◌, ◌≤◌, ℕ, List, [], ◌∷◌, map, length, take, suc, Option, None, Some, refl, ap, sym, subst, ◌∙◌, arith}
+use Rattle.std.proofs.lemmas.List.{length-map, take_all}
 use Rattle.std.specs.FinMap.{entries}
-use Rattle.cabinet_core.specs.Overdue.{Listed, overdue_list}
+use Rattle.std.specs.List.{cons_option}
+use Rattle.cabinet_core.specs.Overdue.{Listed, lateness, listed, overdue_list}
+use Rattle.cabinet_core.specs.declared.inspections.OverdueRow.{OverdueRow}
 use Rattle.cabinet_core.specs.declared.inspections.Seen.{Seen}
 use Rattle.office_tables_shelf.specs.Cells.{Cell}
 use Rattle.office_tables_shelf.specs.Change.{changed_by}
 use Rattle.office_tables_shelf.specs.Content.{Content}
+use Rattle.office_tables_shelf.specs.Overdue.{seen_row, IsSeen, AreSeenOf, AreSeen, ListsOverdue}
 use Rattle.office_tables_shelf.specs.Rows.{intersection_key, intersection_columns}
-use Rattle.office_tables_shelf.specs.Shelf.{IsKept, ListsIntersections}
-use Rattle.office_tables_shelf.specs.declared.counts.WriteCounts.{WriteCounts}
 use Rattle.office_tables_shelf.specs.declared.rows.IntersectionRow.{IntersectionRow}
 use Rattle.office_tables_shelf.specs.declared.rows.RowChange.{RowChange}
 use Rattle.office_desk_cabinet.specs.Register.{Register}
 use Rattle.office_desk_cabinet.specs.RegisterStands.{RegisterStandsSound}
+use Rattle.office_desk_cabinet.proofs.ListedRecords.{inspections_listed}
 use Rattle.office_desk.specs.Answers.{Answers}
-use Rattle.office_desk.specs.Office.{Office, Intersection}
-use Rattle.office_desk.specs.Recording.{seen_row}
-use Rattle.office_desk.specs.StandFor.{StandFor, StandForSound, columns_of, row_of}
+use Rattle.office_desk.specs.Office.{Office, IsSound}
+use Rattle.office_desk.specs.StandFor.{StandForSound, row_of}
 use Rattle.office_desk.specs.Step.{overdue_on, seen_of}
 use Rattle.office_desk.specs.declared.command.Command.TheVariants as command
 use Rattle.office_desk.specs.declared.reply.Reply.{Reply}
 use Rattle.office_desk.specs.declared.reply.Reply.TheVariants as reply
+use Rattle.office_desk.proofs.IntersectionCount.{at_most_9999}
 use Rattle.office_desk.proofs.IntersectionTable.{Entry, cells, stored}
 use Rattle.office_desk.proofs.Rows.{row_from_cells}
 use Rattle.office_desk.proofs.Recorded.{register_of}
@@ -52,41 +53,52 @@ rows_read (a ∷ rows) (e ∷ es) same =
     let rest : map read_cells rows ≡ map cells es = cc in
     λ k. one_read a e first k ∷ rows_read rows es rest k
 
-seen_all : (r : Register) (es : List Entry) → map (seen_row r) (map of_entry es) ≡ map (seen_of r) es
-seen_all r [] = refl
-seen_all r (e ∷ es) = ap (λ (list : List Seen). seen_of r e ∷ list) (seen_all r es)
+-- ---- what is seen of each is what the office knows
 
--- ---- what is known so far
+seen_entries : (tables : Content) (r : Register) → RegisterStandsSound tables r → (es : List Entry) → AreSeenOf tables (map of_entry es) (map (seen_of r) es)
+seen_entries tables r stands [] = tt
+seen_entries tables r stands (e ∷ es) = (here, seen_entries tables r stands es)
+  where
+    here : IsSeen tables (of_entry e) (seen_of r e)
+    here inspections lists =
+        ap (λ list. seen_row e.0 (row_of e.1) list) (sym (inspections_listed tables r e.0 inspections stands lists))
 
--- one row more
-pub seen_more : {X Y : Type 0} (f : X → Y) (done : List Y) (xs : List X) (n : ℕ) (x : X) (y : Y) → n < length xs → x ≡ get_or xs n x → y ≡ f x → (done ++ y ∷ []) ++ map f (drop (n + 1) xs) ≡ done ++ map f (drop n xs)
-seen_more f done xs n x y low at is =
-    let next : suc n ≡ n + 1 = omega arith in
-    let front : drop n xs ≡ x ∷ drop (n + 1) xs = drop-cons xs n x low ∙ (λ k. sym at k ∷ drop (next k) xs) in
-    append_assoc done (y ∷ []) (map f (drop (n + 1) xs)) ∙ ap (λ list. done ++ list) ((λ k. is k ∷ map f (drop (n + 1) xs)) ∙ sym (ap (map f) front))
+pub are_seen : (tables : Content) (office : Office) → StandForSound tables office → AreSeen tables (map (seen_of office.register) (entries office.intersections))
+are_seen tables office stands rows lists =
+    let es = entries office.intersections in
+    let read : rows ≡ map of_entry es = rows_read rows es (lists ∙ stored tables office stands.stand) in
+    subst (λ (list : List (ℕ × IntersectionRow)). AreSeenOf tables list (map (seen_of office.register) es)) (sym read)
+    (seen_entries tables office.register (register_of tables office stands) es)
 
--- all rows
-pub seen_whole : {X Y : Type 0} (f : X → Y) (done : List Y) (xs : List X) (n : ℕ) → length xs ≤ n → done ++ map f (drop n xs) ≡ map f xs → done ≡ map f xs
-seen_whole f done xs n high is = sym (append-nil done) ∙ ap (λ list. done ++ map f list) (sym (drop_all n xs high)) ∙ is
+-- the first rows of the query
+pub first_overdue : (tables : Content) (office : Office) (day most : ℕ) (found : List OverdueRow) → StandForSound tables office → ListsOverdue tables day most found → map listed found ≡ take most (overdue_on office day)
+first_overdue tables office day most found stands lists = lists (map (seen_of office.register) (entries office.intersections)) (are_seen tables office stands)
 
--- two calls that only read, one after the other
-pub kept_on : {S : Type 0} (is_honest : S → Type 0) (content : S → Content) (written : S → WriteCounts) (may_leave : S → Content → Type 0) (old mid new : S)
-    → IsKept is_honest content written may_leave old mid → IsKept is_honest content written may_leave mid new → IsKept is_honest content written may_leave old new
-kept_on is_honest content written may_leave old mid new first rest = record {
-  honest_before = λ honest. first.honest_before (rest.honest_before honest);
-  same_content = λ honest. rest.same_content honest ∙ first.same_content (rest.honest_before honest);
-  same_counts = rest.same_counts ∙ first.same_counts;
-  same_outcomes = λ honest tables left. first.same_outcomes (rest.honest_before honest) tables (rest.same_outcomes honest tables left);
-}
+-- ---- all of them
+
+one_more : (late : Option Listed) (rows : List Listed) (n : ℕ) → length rows ≤ n → length (cons_option late rows) ≤ suc n
+one_more None rows n few = omega arith
+one_more (Some one) rows n few = omega arith
+
+fewer : (day : ℕ) (seen : List Seen) → length (overdue_list day seen) ≤ length seen
+fewer day [] = omega arith
+fewer day (one ∷ seen) = one_more (lateness day one) (overdue_list day seen) (length seen) (fewer day seen)
+
+-- no more are overdue than there are intersections
+pub all_overdue : (office : Office) (day : ℕ) → IsSound office → take 9999 (overdue_on office day) ≡ overdue_on office day
+all_overdue office day sound =
+    let es = entries office.intersections in
+    let seen = map (seen_of office.register) es in
+    let count = at_most_9999 office sound in
+    let same = length-map es (seen_of office.register) in
+    let few = fewer day seen in
+    take_all 9999 (overdue_list day seen) (omega arith)
 
 -- ---- the query
 
-pub overdue_answers : (tables : Content) (office : Office) (day : ℕ) (rows : List (ℕ × IntersectionRow)) (all : List Seen) (found : List Listed) (said : Reply) (changes : List RowChange)
-    → StandForSound tables office → ListsIntersections tables rows → ((r : Register) → RegisterStandsSound tables r → all ≡ map (seen_row r) rows)
-    → found ≡ overdue_list day all → said ≡ reply.Overdue found → changes ≡ [] → Answers office (command.Overdue day) said (changed_by tables changes)
-overdue_answers tables office day rows all found said changes stands lists seen made is none =
-    let read : rows ≡ map of_entry (entries office.intersections) = rows_read rows (entries office.intersections) (lists ∙ stored tables office stands.stand) in
-    let known : all ≡ map (seen_of office.register) (entries office.intersections) =
-    seen office.register (register_of tables office stands) ∙ ap (map (seen_row office.register)) read ∙ seen_all office.register (entries office.intersections) in
+pub overdue_answers : (tables : Content) (office : Office) (day : ℕ) (found : List OverdueRow) (said : Reply) (changes : List RowChange)
+    → StandForSound tables office → ListsOverdue tables day 9999 found
+    → said ≡ reply.Overdue (map listed found) → changes ≡ [] → Answers office (command.Overdue day) said (changed_by tables changes)
+overdue_answers tables office day found said changes stands lists is none =
     query_answers tables office (command.Overdue day) (reply.Overdue (overdue_on office day)) said changes stands refl
-    (is ∙ ap (λ (list : List Listed). reply.Overdue list) (made ∙ ap (overdue_list day) known)) none
+    (is ∙ ap (λ (list : List Listed). reply.Overdue list) (first_overdue tables office day 9999 found stands lists ∙ all_overdue office day stands.sound)) none

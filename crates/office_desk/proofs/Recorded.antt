@@ -18,9 +18,9 @@ use Rattle.office_desk_cabinet.specs.Registers.{LeavesTiming, RegistersFrom, Sho
 use Rattle.office_desk_cabinet.specs.declared.registered.Registered.{Registered}
 use Rattle.office_desk.specs.Answers.{Answers}
 use Rattle.office_desk.specs.Office.{Office, Intersection}
-use Rattle.office_desk.specs.Recording.{IsKnownIn, is_known}
+use Rattle.office_desk.specs.Recording.{IsKnownIn}
 use Rattle.office_desk.specs.StandFor.{StandForSound, row_of}
-use Rattle.office_desk.specs.Step.{answered, cabinet_of, cabinet_shown, known, recorded, recorded_at, shown, told}
+use Rattle.office_desk.specs.Step.{answered, cabinet_of, cabinet_shown, is_known, known, recorded, recorded_at, shown, told}
 use Rattle.office_desk.specs.declared.command.Command.{Command}
 use Rattle.office_desk.specs.declared.command.Command.TheVariants as command
 use Rattle.office_desk.specs.declared.refusal.Refusal.TheVariants as refusal
@@ -64,7 +64,7 @@ pub register_of : (tables : Content) (office : Office) → StandForSound tables 
 register_of tables office stands = record { stand = stands.stand.register; sound = stands.sound.register }
 
 -- where the register's rows alone were changed, the tables stand for the office with the next register
-stands_after : (tables : Content) (changes : List RowChange) (office : Office) (next : Register) → StandForSound tables office → LeavesTiming tables changes → RegisterStandsSound (changed_by tables changes) next
+pub stands_after : (tables : Content) (changes : List RowChange) (office : Office) (next : Register) → StandForSound tables office → LeavesTiming tables changes → RegisterStandsSound (changed_by tables changes) next
     → StandForSound (changed_by tables changes) (record office { register = next })
 stands_after tables changes office next stands leaves register = record {
   stand = record {

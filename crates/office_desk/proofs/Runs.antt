@@ -10,7 +10,7 @@ use Rattle.office_tables_shelf.specs.declared.shelf.ShelfFault.TheVariants.{NoMe
 use Rattle.office_desk.specs.Answers.{AnswersAny, Answers, Decides, RunsAny, RunsTo}
 use Rattle.cabinet_core.specs.declared.command.RecordCommand.{RecordCommand}
 use Rattle.office_desk_cabinet.proofs.Undamaged.{no_damaged_inspection, no_damaged_order, no_damaged_used, no_damaged_part, undamaged_record}
-use Rattle.office_desk.specs.Damage.{MeetsCabinetDamage, MeetsDamage}
+use Rattle.office_desk.specs.Damage.{MeetsCabinetDamage, MeetsImportDamage, MeetsDamage}
 use Rattle.office_desk.specs.Decisions.{refusal_of}
 use Rattle.office_desk.specs.Office.{Office, IsSound}
 use Rattle.office_desk.specs.StandFor.{StandForSound}
@@ -24,6 +24,7 @@ use Rattle.office_desk.proofs.IntersectionTable.{no_damaged_intersection}
 use Rattle.office_desk.proofs.Recorded.{register_of}
 use Rattle.office_desk.proofs.Stands.{no_damage}
 use Rattle.office_desk.proofs.RegisterLaws.{runs_register}
+use Rattle.office_desk.proofs.Repeats.{runs_repeat}
 use Rattle.office_desk.proofs.TimingLaw.{runs_timing}
 
 -- ---- a decision
@@ -47,6 +48,11 @@ record_refuted tables c None damage office stands = undamaged_record tables offi
 record_refuted tables c (Some id) (inl row) office stands = no_damage tables id (inl row) office stands
 record_refuted tables c (Some id) (inr damage) office stands = undamaged_record tables office.register c (register_of tables office stands) damage
 
+import_refuted : (tables : Content) (records : List RecordCommand) → MeetsImportDamage tables records → (office : Office) → StandForSound tables office → ⊥
+import_refuted tables [] damage office stands = damage
+import_refuted tables (c ∷ cs) (inl damage) office stands = record_refuted tables c (cabinet_of c) damage office stands
+import_refuted tables (c ∷ cs) (inr damage) office stands = import_refuted tables cs damage office stands
+
 damage_refuted : (tables : Content) (command : Command) → MeetsDamage tables command → (office : Office) → StandForSound tables office → ⊥
 damage_refuted tables (command.AddIntersection id interval name) damage = no_damage tables id (inl damage)
 damage_refuted tables (command.Begin id clerk) damage = no_damage tables id damage
@@ -60,6 +66,7 @@ damage_refuted tables (command.State id) damage = no_damage tables id damage
 damage_refuted tables (command.Timing id) damage = no_damage tables id damage
 damage_refuted tables (command.Draft id) damage = no_damage tables id damage
 damage_refuted tables (command.Record c) damage = record_refuted tables c (cabinet_of c) damage
+damage_refuted tables (command.Import records) damage = import_refuted tables records damage
 damage_refuted tables (command.Cabinet id) (inl row) = no_damage tables id (inl row)
 damage_refuted tables (command.Cabinet id) (inr (inl inspection)) = λ office stands. no_damaged_inspection tables office.register id (register_of tables office stands) inspection
 damage_refuted tables (command.Cabinet id) (inr (inr (inl order))) = λ office stands. no_damaged_order tables office.register id (register_of tables office stands) order
@@ -101,6 +108,7 @@ runs_to office last commands replies tables sound run stand = record {
   stand = stand;
   running = λ id. runs_timing id _ commands replies office last run refl;
   register = runs_register commands replies office last run sound stand.sound;
+  repeats = runs_repeat commands replies office last run;
 }
 
 pub runs_nothing : (tables : Content) → RunsAny tables [] [] tables

@@ -18,12 +18,15 @@ use Rattle.draft_core.specs.declared.state.Stage.{Stage}
 use Rattle.draft_core.specs.declared.state.Stage.TheVariants.{Transaction}
 use Rattle.office_desk.specs.Office.{Office, Intersection, no_timing, side_of, side_at}
 use Rattle.cabinet_core.specs.declared.command.RecordCommand.{RecordCommand}
-use Rattle.office_desk.specs.Step.{Step, Run, answered, added, moved, transacted, with_intersection, new_intersection, moved_to, cabinet_of, known, recorded, recorded_at}
+use Rattle.office_desk_cabinet.specs.RegisterStep.{line_at}
+use Rattle.office_desk.specs.Step.{Step, Run, answered, added, moved, transacted, with_intersection, new_intersection, moved_to, cabinet_of, known, recorded, recorded_at, is_known, with_recorded, import_by, import_from, imported}
 use Rattle.office_desk.specs.Timing.{is_commit_of, is_moved, set_of_draft, running}
 use Rattle.office_desk.specs.declared.command.Command.{Command}
 use Rattle.office_desk.specs.declared.command.Command.TheVariants as command
+use Rattle.office_desk.proofs.Imports.{import_goes_on}
 use Rattle.office_desk.specs.declared.reply.Reply.{Reply}
 use Rattle.office_desk.specs.declared.reply.Reply.TheVariants as reply
+use Rattle.office_desk.specs.declared.refusal.Refusal.{Refusal}
 use Rattle.office_desk.specs.declared.refusal.Refusal.TheVariants as refusal
 
 -- ---- the lines of the table
@@ -203,6 +206,25 @@ record_after q office next c reply e = quiet q office next (command.Record c) re
     at None = refl
     at (Some id) = here (get office.intersections id)
 
+-- and so does an import
+import_keeps : (q : ℕ) (records : List RecordCommand) (at added same : ℕ) (office : Office) (done : ℕ × ℕ × Office) → import_from at added same office records ≡ Ok done → (side_at done.2 q).committed ≡ (side_at office q).committed
+import_keeps q [] at added same office done is =
+    let f : Ok (added, same, office) ≡ Ok done = is in
+    let same_done : (added, same, office) ≡ done = cc in
+    ap (λ (d : ℕ × ℕ × Office). (side_at d.2 q).committed) (sym same_done)
+import_keeps q (c ∷ cs) at added same office done is =
+    import_goes_on (λ line. (side_at done.2 q).committed ≡ (side_at office q).committed) at (is_known office (cabinet_of c)) (line_at office.register c)
+    (import_from (at + 1) (added + 1) same (with_recorded office c) cs) (import_from (at + 1) added (same + 1) office cs) done
+    (import_keeps q cs (at + 1) (added + 1) same (with_recorded office c) done)
+    (import_keeps q cs (at + 1) added (same + 1) office done) is
+
+import_after : (q : ℕ) (office next : Office) (records : List RecordCommand) (reply : Reply) → answered office (command.Import records) ≡ (reply, next) → After q office (command.Import records) reply next
+import_after q office next records reply e = quiet q office next (command.Import records) reply refl (ap (λ (p : Reply × Office). (side_at p.1 q).committed) (sym e) ∙ go (import_from 1 0 0 office records) refl)
+  where
+    go : (done : Result (ℕ × ℕ × Office) Refusal) → import_from 1 0 0 office records ≡ done → (side_at (imported office done).1 q).committed ≡ (side_at office q).committed
+    go (Ok done) made = import_keeps q records 1 0 0 office done made
+    go (Err why) made = refl
+
 answer_after : (q : ℕ) (office next : Office) (command : Command) (reply : Reply) → answered office command ≡ (reply, next) → After q office command reply next
 answer_after q office next (command.AddIntersection id interval name) reply e = add_after q id interval name office next reply e
 answer_after q office next (command.Begin id clerk) reply e = transact_keeps q id office next (command.Begin id clerk) reply (λ side. begun side clerk) (begun_keeps clerk) refl e
@@ -216,6 +238,7 @@ answer_after q office next (command.State id) reply e = shown_after q office nex
 answer_after q office next (command.Timing id) reply e = shown_after q office next (command.Timing id) _ reply refl e
 answer_after q office next (command.Draft id) reply e = shown_after q office next (command.Draft id) _ reply refl e
 answer_after q office next (command.Record c) reply e = record_after q office next c reply e
+answer_after q office next (command.Import records) reply e = import_after q office next records reply e
 answer_after q office next (command.Cabinet id) reply e = shown_after q office next (command.Cabinet id) _ reply refl e
 answer_after q office next (command.OpenOrders id) reply e = shown_after q office next (command.OpenOrders id) _ reply refl e
 answer_after q office next command.Stock reply e = shown_after q office next command.Stock _ reply refl e

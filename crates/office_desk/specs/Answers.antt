@@ -12,6 +12,7 @@ use Rattle.office_desk.specs.Office.{Office, side_at}
 use Rattle.office_desk.specs.Step.{Step, Run}
 use Rattle.office_desk.specs.Timing.{running}
 use Rattle.office_desk.specs.RegisterRuns.{RegisterRuns}
+use Rattle.office_desk.specs.Repeats.{Repeats}
 use Rattle.office_desk.specs.StandFor.{StandForSound}
 
 -- From an office, the reply is that of a step, and the tables stand for a sound office after it.
@@ -33,13 +34,14 @@ Decides tables command (Err Store) = Unit {0}
 
 -- From an office, the replies are those of a run, the tables stand for a sound office after it, and each committed set is the draft
 -- as it stood just before its last accepted commit, or what it was at the start (empty where there was no intersection); and orders
--- and stock are what the accepted commands of the register made of them.
+-- and stock are what the accepted commands of the register made of them. An import that was accepted and is sent again adds nothing.
 pub record RunsTo (office : Office) (commands : List Command) (replies : List Reply) (tables : Content) : Type 0 where
   pub last : Office
   pub run : Run office commands replies last
   pub stand : StandForSound tables last
   pub running : (id : ℕ) → (side_at last id).committed ≡ running id (side_at office id).committed office commands replies last run
-  pub register : RegisterRuns office commands replies last
+  pub register : RegisterRuns office commands replies last run
+  pub repeats : Repeats office commands replies last run
 
 -- Whichever sound office the old tables stand for, the replies and the new tables are a run of it.
 abbrev pub RunsAny : Content → List Command → List Reply → Content → Type 0

@@ -1,5 +1,5 @@
 -- Which rows an answered command changes.
-use Rattle.std.specs.Prelude.{ℕ, ◌+◌, ◌≤◌, length}
+use Rattle.std.specs.Prelude.{ℕ, ◌+◌, ◌≤◌, List, [], ◌∷◌, length}
 use Rattle.signal_records.specs.declared.record.Change.{Change}
 use Rattle.office_tables_shelf.specs.Content.{Content}
 use Rattle.office_tables_shelf.specs.Counts.{count_of}
@@ -7,16 +7,18 @@ use Rattle.office_tables_shelf.specs.Shelf.{rows_of}
 use Rattle.office_tables_shelf.specs.declared.counts.WriteCounts.{WriteCounts}
 use Rattle.office_tables_shelf.specs.declared.rows.Table.{Table}
 use Rattle.office_tables_shelf.specs.declared.rows.Table.TheVariants as table
+use Rattle.cabinet_core.specs.declared.command.RecordCommand.{RecordCommand}
 use Rattle.office_desk_cabinet.specs.Registers.{most_record_writes}
 use Rattle.office_desk.specs.declared.command.Command.{Command}
 use Rattle.office_desk.specs.declared.command.Command.TheVariants as command
 use Rattle.office_desk.specs.declared.reply.Reply.{Reply}
-use Rattle.office_desk.specs.declared.reply.Reply.TheVariants.{Added, Same, Moved, State as Shown, Timing as Running, Draft as Drafted, Cabinet, OpenOrders, Stock, Overdue, Refused}
+use Rattle.office_desk.specs.declared.reply.Reply.TheVariants.{Added, Same, Moved, Imported, State as Shown, Timing as Running, Draft as Drafted, Cabinet, OpenOrders, Stock, Overdue, Refused}
 
 abbrev pub IsRefused : Reply → Type 0
 IsRefused Added = ⊥
 IsRefused Same = ⊥
 IsRefused (Moved revision state verdict) = ⊥
+IsRefused (Imported added same) = ⊥
 IsRefused (Shown state) = ⊥
 IsRefused (Running timing) = ⊥
 IsRefused (Drafted draft) = ⊥
@@ -40,6 +42,7 @@ IsQuery (command.State id) = Unit {0}
 IsQuery (command.Timing id) = Unit {0}
 IsQuery (command.Draft id) = Unit {0}
 IsQuery (command.Record c) = ⊥
+IsQuery (command.Import records) = ⊥
 IsQuery (command.Cabinet id) = Unit {0}
 IsQuery (command.OpenOrders id) = Unit {0}
 IsQuery command.Stock = Unit {0}
@@ -60,11 +63,18 @@ most_draft_writes tables _ = 0
 -- the most rows of an intersection that a command writes: one, and a command of the register none
 abbrev pub most_intersection_writes : Command → ℕ
 most_intersection_writes (command.Record c) = 0
+most_intersection_writes (command.Import records) = 0
 most_intersection_writes _ = 1
+
+-- those of the records of an import
+abbrev pub most_import_writes : List RecordCommand → Table → ℕ
+most_import_writes [] table = 0
+most_import_writes (c ∷ cs) table = most_record_writes c table + most_import_writes cs table
 
 -- the most rows of a table of the register that a command writes
 abbrev pub most_register_writes : Command → Table → ℕ
 most_register_writes (command.Record c) table = most_record_writes c table
+most_register_writes (command.Import records) table = most_import_writes records table
 most_register_writes _ table = 0
 
 -- the most rows of each table that a command writes

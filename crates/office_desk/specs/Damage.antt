@@ -1,8 +1,8 @@
 -- When a stored row keeps a command from being answered.
-use Rattle.std.specs.Prelude.{◌⊎◌, ℕ, Option, Some, None}
+use Rattle.std.specs.Prelude.{◌⊎◌, ℕ, List, [], ◌∷◌, Option, Some, None}
 use Rattle.office_tables_shelf.specs.Content.{Content}
 use Rattle.office_tables_shelf.specs.Damage.{HasDamagedIntersection, HasAnyDamagedIntersection, HasDamagedTiming, HasDamagedDraft}
-use Rattle.office_tables_shelf.specs.CabinetReads.{HasDamagedInspection, HasDamagedOrder, HasDamagedUsed, HasDamagedPart}
+use Rattle.office_tables_shelf.specs.CabinetReads.{HasAnyDamagedInspection, HasDamagedInspection, HasDamagedOrder, HasDamagedUsed, HasDamagedPart}
 use Rattle.cabinet_core.specs.declared.command.RecordCommand.{RecordCommand}
 use Rattle.office_desk_cabinet.specs.RegisterDamage.{MeetsRecordDamage}
 use Rattle.office_desk.specs.Step.{cabinet_of}
@@ -13,14 +13,15 @@ use Rattle.office_desk.specs.declared.command.Command.TheVariants as command
 abbrev pub HasDamage : Content → ℕ → Type 0
 HasDamage tables id = HasDamagedIntersection tables id ⊎ (HasDamagedTiming tables id ⊎ HasDamagedDraft tables id)
 
--- an inspection of some intersection is no record
-abbrev pub HasAnyDamagedInspection : Content → Type 0
-HasAnyDamagedInspection tables = (id : ℕ) × HasDamagedInspection tables id
-
 -- the intersection's row, or a row of the register that the command reads, is no record
 abbrev pub MeetsCabinetDamage : Content → RecordCommand → Option ℕ → Type 0
 MeetsCabinetDamage tables c None = MeetsRecordDamage tables c
 MeetsCabinetDamage tables c (Some id) = HasDamagedIntersection tables id ⊎ MeetsRecordDamage tables c
+
+-- the same of some record of an import
+abbrev pub MeetsImportDamage : Content → List RecordCommand → Type 0
+MeetsImportDamage tables [] = ⊥
+MeetsImportDamage tables (c ∷ cs) = MeetsCabinetDamage tables c (cabinet_of c) ⊎ MeetsImportDamage tables cs
 
 -- a row that the command reads is no record
 abbrev pub MeetsDamage : Content → Command → Type 0
@@ -36,6 +37,7 @@ MeetsDamage tables (command.State id) = HasDamage tables id
 MeetsDamage tables (command.Timing id) = HasDamage tables id
 MeetsDamage tables (command.Draft id) = HasDamage tables id
 MeetsDamage tables (command.Record c) = MeetsCabinetDamage tables c (cabinet_of c)
+MeetsDamage tables (command.Import records) = MeetsImportDamage tables records
 MeetsDamage tables (command.Cabinet id) = HasDamagedIntersection tables id ⊎ (HasDamagedInspection tables id ⊎ (HasDamagedOrder tables id ⊎ HasDamagedUsed tables id))
 MeetsDamage tables (command.OpenOrders id) = HasDamagedIntersection tables id ⊎ HasDamagedOrder tables id
 MeetsDamage tables command.Stock = HasDamagedPart tables

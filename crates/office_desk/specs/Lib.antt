@@ -5,6 +5,7 @@ pub mod Step
 pub mod StandFor
 pub mod Timing
 pub mod RegisterRuns
+pub mod Repeats
 pub mod Answers
 pub mod Changes
 pub mod Damage
@@ -14,3 +15,4 @@ pub mod Moving
 pub mod Transacting
 pub mod Decisions
 pub mod Recording
+pub mod Importing

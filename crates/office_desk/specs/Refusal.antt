@@ -1,7 +1,7 @@
 -- The table of refusals.
 use Rattle.std.specs.Prelude.{ℕ, List, codes}
 use Rattle.office_desk.specs.declared.refusal.Refusal.{Refusal}
-use Rattle.office_desk.specs.declared.refusal.Refusal.TheVariants.{UnknownIntersection, IntersectionDiffers, NotNormal, NotTransaction, NotOwner, NotVerify, NotDone, VerifyFailed, RevisionFull, InspectionDiffers, OrderDiffers, UnknownOrder, OrderClosed, DayBeforeOpening, NoStock, StockFull, DeliveryDiffers, LineDiffers, CloseDiffers, Unavailable, Damaged}
+use Rattle.office_desk.specs.declared.refusal.Refusal.TheVariants.{UnknownIntersection, IntersectionDiffers, NotNormal, NotTransaction, NotOwner, NotVerify, NotDone, VerifyFailed, RevisionFull, InspectionDiffers, OrderDiffers, UnknownOrder, OrderClosed, DayBeforeOpening, NoStock, StockFull, DeliveryDiffers, LineDiffers, CloseDiffers, ImportRow, Unavailable, Damaged}
 
 -- number, name, and status code of an HTTP answer
 pub record Line : Type 0 where
@@ -29,5 +29,6 @@ line_of StockFull = record { number = 26; name = codes "StockFull"; status = 409
 line_of DeliveryDiffers = record { number = 27; name = codes "DeliveryDiffers"; status = 409 }
 line_of LineDiffers = record { number = 28; name = codes "LineDiffers"; status = 409 }
 line_of CloseDiffers = record { number = 29; name = codes "CloseDiffers"; status = 409 }
+line_of (ImportRow at cause) = record { number = 30; name = codes "ImportRow"; status = 409 }
 line_of Unavailable = record { number = 90; name = codes "Unavailable"; status = 503 }
 line_of Damaged = record { number = 91; name = codes "Damaged"; status = 500 }

@@ -1,5 +1,5 @@
 -- One step of the office machine, and its runs.
-use Rattle.std.specs.Prelude.{◌≡◌, ◌⊎◌, ℕ, List, [], ◌∷◌, ◌==◌, ◌&&◌, if◌then◌else◌, map, Option, Some, None, Result, Ok, Err}
+use Rattle.std.specs.Prelude.{◌≡◌, ◌⊎◌, ℕ, ◌+◌, Bool, true, false, List, [], ◌∷◌, ◌==◌, ◌&&◌, if◌then◌else◌, map, Option, Some, None, is_some, Result, Ok, Err}
 use Rattle.std.specs.Option.{option_map}
 use Rattle.std.specs.Str.{bytes_eq}
 use Rattle.std.specs.FinMap.{get, insert, len, entries}
@@ -15,16 +15,17 @@ use Rattle.cabinet_core.specs.declared.inspections.Seen.{Seen}
 use Rattle.cabinet_core.specs.declared.refusal.CabinetRefusal.{CabinetRefusal}
 use Rattle.cabinet_core.specs.declared.refusal.CabinetRefusal.TheVariants as cabinet
 use Rattle.office_desk_cabinet.specs.Register.{Register, records_at, open_at, last_at, stock_of}
-use Rattle.office_desk_cabinet.specs.RegisterStep.{line_at, after_record}
+use Rattle.office_desk_cabinet.specs.RegisterStep.{line_at, with_record, after_record}
 use Rattle.office_desk.specs.Lists.{CabinetLists}
 use Rattle.office_desk.specs.declared.command.Command.{Command}
 use Rattle.office_desk.specs.declared.command.Command.TheVariants as command
 use Rattle.office_desk.specs.declared.reply.Reply.{Reply}
-use Rattle.office_desk.specs.declared.reply.Reply.TheVariants.{Added, Same, Moved, State as Shown, Timing as Running, Draft as Drafted, Cabinet, OpenOrders, Stock, Overdue, Refused}
+use Rattle.office_desk.specs.declared.reply.Reply.TheVariants.{Added, Same, Moved, Imported, State as Shown, Timing as Running, Draft as Drafted, Cabinet, OpenOrders, Stock, Overdue, Refused}
 use Rattle.office_desk.specs.declared.reply.IntersectionState.{IntersectionState}
 use Rattle.office_desk.specs.declared.refusal.Refusal.{Refusal}
 use Rattle.office_desk.specs.declared.refusal.Refusal.TheVariants as refusal
 use Rattle.office_desk.specs.Office.{Office, Intersection, no_timing}
+use Rattle.office_desk.specs.Refusal.{line_of}
 
 -- the office with an intersection more, or with another in its place
 abbrev pub with_intersection : Office → ℕ → Intersection → Office
@@ -132,6 +133,39 @@ abbrev pub recorded_at : Office → Option ℕ → Reply × Office → Reply × 
 recorded_at office None answer = answer
 recorded_at office (Some id) answer = known office (get office.intersections id) answer
 
+-- the intersection is there, or none is asked for
+abbrev pub is_known : Office → Option ℕ → Bool
+is_known office None = true
+is_known office (Some id) = is_some (get office.intersections id)
+
+-- ---- imports
+
+-- the office with what a record brings into the register
+abbrev pub with_recorded : Office → RecordCommand → Office
+with_recorded office c = record office { register = with_record office.register c }
+
+-- what comes of a record that has a number in its import: it is added, or was there, or ends the import with its refusal
+abbrev pub import_by : {X : Type 0} → (at : ℕ) (is_there : Bool) → Line → (added same : Result X Refusal) → Result X Refusal
+import_by at false line added same = Err (refusal.ImportRow at (line_of refusal.UnknownIntersection).number)
+import_by at true added_line added same = added
+import_by at true same_line added same = same
+import_by at true (refused_line why) added same = Err (refusal.ImportRow at (line_of (refusal_of_record why)).number)
+
+-- the steps of records in turn: how many were added, how many were there, and the office after them; or the first refusal
+abbrev pub import_from : (at added same : ℕ) → Office → List RecordCommand → Result (ℕ × ℕ × Office) Refusal
+import_from at added same office [] = Ok (added, same, office)
+import_from at added same office (c ∷ cs) =
+    import_by at (is_known office (cabinet_of c)) (line_at office.register c)
+    (import_from (at + 1) (added + 1) same (with_recorded office c) cs)
+    (import_from (at + 1) added (same + 1) office cs)
+
+-- all of the records, or none
+abbrev pub imported : Office → Result (ℕ × ℕ × Office) Refusal → Reply × Office
+imported office (Ok done) = (Imported done.0 done.1, done.2)
+imported office (Err why) = (Refused why, office)
+
+-- ---- reports
+
 -- what is known of the inspections of an intersection
 abbrev pub seen_of : Register → ℕ × Intersection → Seen
 seen_of r e = record { id = e.0; name = e.1.name; interval = e.1.interval; last = last_at r e.0 }
@@ -160,6 +194,7 @@ answered office (command.State id) = (shown (get office.intersections id) (λ i.
 answered office (command.Timing id) = (shown (get office.intersections id) (λ i. Running (record { revision = i.timing.revision; rows = i.timing.committed })), office)
 answered office (command.Draft id) = (shown (get office.intersections id) (λ i. draft_shown i.timing.draft), office)
 answered office (command.Record c) = recorded_at office (cabinet_of c) (recorded office c)
+answered office (command.Import records) = imported office (import_from 1 0 0 office records)
 answered office (command.Cabinet id) = (shown (get office.intersections id) (λ i. Cabinet (cabinet_shown office.register id)), office)
 answered office (command.OpenOrders id) = (shown (get office.intersections id) (λ i. OpenOrders (open_at office.register id)), office)
 answered office command.Stock = (Stock (stock_of office.register), office)

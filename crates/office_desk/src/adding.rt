@@ -50,7 +50,7 @@ fn added(
 }
 
 /// Decides AddIntersection.
-pub fn decide_add<S: Shelf>(
+pub(crate) fn decide_add<S: Shelf>(
     shelf: &mut S,
     alloc: Global,
     id: InterId,

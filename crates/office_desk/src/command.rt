@@ -1,5 +1,6 @@
 //! What the office is asked.
 
+use crate::records::Records;
 use cabinet_core::{Day, RecordCommand};
 use draft_core::changes::Changes;
 use signal_records::{InterId, Interval, Words};
@@ -64,6 +65,10 @@ pub enum Command {
     },
     /// Records what was done in a cabinet, or what came into stock.
     Record(RecordCommand),
+    /// Records several in turn, each after those before it: all of them, or none.
+    Import {
+        records: Records,
+    },
     /// Asks for all that the register holds of an intersection.
     Cabinet {
         id: InterId,

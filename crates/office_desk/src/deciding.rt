@@ -12,6 +12,7 @@ ghost use Rattle.office_desk.specs.Decisions.{refusal_of};
 use crate::adding::decide_add;
 use crate::command::Command;
 use crate::decided::Decided;
+use crate::importing::decide_import;
 use crate::overdue::decide_overdue;
 use crate::recording::decide_record_command;
 use crate::refusal::Refusal;
@@ -26,7 +27,7 @@ use office_tables_shelf::shelf::{Shelf, ShelfFault};
 use std::alloc::Global;
 
 /// A fault of the shelf as a refusal.
-fn refused(fault: ShelfFault) -> Refusal
+pub(crate) fn refused(fault: ShelfFault) -> Refusal
     ensures { result ≡ refusal_of fault }
 {
     match fault {
@@ -63,6 +64,7 @@ fn try_decide<S: Shelf>(
         Command::Timing { id } => decide_timing(shelf, alloc, *id),
         Command::Draft { id } => decide_draft(shelf, alloc, *id),
         Command::Record(command) => decide_record_command(shelf, alloc, command),
+        Command::Import { records } => decide_import(shelf, alloc, records),
         Command::Cabinet { id } => decide_cabinet(shelf, alloc, *id),
         Command::OpenOrders { id } => decide_open_orders(shelf, alloc, *id),
         Command::Stock => decide_stock(shelf, alloc),
@@ -71,7 +73,7 @@ fn try_decide<S: Shelf>(
 }
 
 /// What a command is answered, and what is to be written for it.
-pub fn decide_on<S: Shelf>(shelf: &mut S, alloc: Global, command: &Command) -> Decided
+pub(crate) fn decide_on<S: Shelf>(shelf: &mut S, alloc: Global, command: &Command) -> Decided
     ensures step { S.is_honest shelf.new → AnswersAny (S.content shelf.old) command.now result.reply (changed_by (S.content shelf.old) result.changes.items) }
     ensures writes { S.is_honest shelf.new → (table : Table) → writes_in table result.changes.items ≤ most_writes (S.content shelf.old) command.now table }
     ensures refused { IsRefused result.reply → result.changes.items ≡ [] }

@@ -107,7 +107,7 @@ fn refused(refusal: DraftRefusal) -> Refusal
 }
 
 /// The answer to a decision of the transaction.
-pub fn answer(
+pub(crate) fn answer(
     alloc: Global,
     id: InterId,
     clerk: &Words<40>,

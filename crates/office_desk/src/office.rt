@@ -1,5 +1,6 @@
 //! The office over a shelf.
-ghost use Rattle.std.specs.Prelude.{◌≡◌, ◌≢◌, ◌≤◌, ◌⊎◌, [], IfOk, OnOk, OnErr};
+ghost use Rattle.std.specs.Prelude.{◌≡◌, ◌≢◌, ◌≤◌, ◌⊎◌, [], map, take, Err, IfErr, IfOk, OnOk, OnErr};
+ghost use Rattle.cabinet_core.specs.Overdue.{listed};
 ghost use Rattle.office_tables_shelf.specs.Content.{Content};
 ghost use Rattle.office_tables_shelf.specs.Change.{changed_by};
 ghost use Rattle.office_tables_shelf.specs.Counts.{counts_after};
@@ -9,13 +10,18 @@ ghost use Rattle.office_desk.specs.Answers.{AnswersAny, RunsAny, IsAfterStep};
 ghost use Rattle.office_desk.specs.Changes.{IsRefused, IsQuery, RiseAtMost, most_writes};
 ghost use Rattle.office_tables_shelf.specs.Counts.{writes_in};
 ghost use Rattle.office_desk.specs.Damage.{MeetsDamage};
+ghost use Rattle.office_desk.specs.Office.{Office as OfficeState};
+ghost use Rattle.office_desk.specs.StandFor.{StandForSound};
+ghost use Rattle.office_desk.specs.Step.{overdue_on};
 
 use crate::command::Command;
 use crate::decided::Decided;
 use crate::deciding::decide_on;
+use crate::overdue::overdue_first_on;
 use crate::refusal::Refusal;
 use crate::reply::Reply;
 use crate::running::{run_all_on, run_on};
+use cabinet_core::{Day, OverdueRow};
 use office_tables_shelf::rows::RowChange;
 use office_tables_shelf::shelf::{Shelf, ShelfFault};
 use signal_records::NoMemory;
@@ -106,5 +112,23 @@ impl<S: Shelf> Office<S> {
         ensures err { OnErr result (self.new ≡ self.old) }
     {
         run_all_on(&mut self.shelf, alloc, commands)
+    }
+
+    /// The first `most` of the intersections that are overdue for an inspection on a day, in the
+    /// order of their numbers: the first rows that the query Overdue shows. Rows past those need
+    /// not be read. Where memory or the shelf refuses, the error is Unavailable; where a stored row
+    /// that it reads is no record, Damaged.
+    pub fn overdue_first(
+        &mut self,
+        alloc: Global,
+        day: Day,
+        most: usize,
+    ) -> Result<Vec<OverdueRow>, Refusal>
+        ensures rows { IfOk result (λ found. S.is_honest self.new → (office : OfficeState) → StandForSound (S.content self.old) office → map listed found.items ≡ take most (overdue_on office day)) }
+        ensures refused { IfErr result (λ why. (why ≡ Refusal.Unavailable) ⊎ (why ≡ Refusal.Damaged)) }
+        ensures damaged { result ≡ Err Refusal.Damaged → S.is_honest self.new → MeetsDamage (S.content self.old) (Command.Overdue day) }
+        ensures kept { IsKept S.is_honest S.content S.written S.may_leave self.old self.new }
+    {
+        overdue_first_on(&mut self.shelf, alloc, day, most)
     }
 }

@@ -1,58 +1,24 @@
-//! The query Overdue.
-ghost use Rattle.std.specs.Prelude.{◌≡◌, ◌≢◌, [], ◌∷◌, ◌++◌, map, IfOk, OnOk, Err};
+//! The query Overdue, and its first rows.
+ghost use Rattle.std.specs.Prelude.{◌≡◌, ◌≢◌, ◌⊎◌, [], map, take, Err, IfErr, IfOk};
+ghost use Rattle.cabinet_core.specs.Overdue.{listed};
 ghost use Rattle.office_tables_shelf.specs.Shelf.{IsKept};
-ghost use Rattle.office_desk_cabinet.specs.Register.{Register};
-ghost use Rattle.office_desk_cabinet.specs.RegisterStands.{RegisterStandsSound};
 ghost use Rattle.office_desk.specs.Answers.{Decides};
-ghost use Rattle.office_desk.specs.Damage.{HasAnyDamagedInspection};
-ghost use Rattle.office_desk.specs.Recording.{seen_row};
+ghost use Rattle.office_desk.specs.Damage.{MeetsDamage};
+ghost use Rattle.office_desk.specs.Office.{Office as OfficeState};
+ghost use Rattle.office_desk.specs.StandFor.{StandForSound};
+ghost use Rattle.office_desk.specs.Step.{overdue_on};
 
 use crate::command::Command;
 use crate::decided::Decided;
+use crate::deciding::refused;
 use crate::refusal::Refusal;
 use crate::reply::{OverdueList, Reply};
-use cabinet_core::{Day, Seen, overdue};
-use office_desk_cabinet::last_inspection;
-use office_tables_shelf::rows::IntersectionRow;
+use cabinet_core::{Day, OverdueRow};
 use office_tables_shelf::shelf::{Shelf, ShelfFault};
-use signal_records::{InterId, NoMemory};
 use std::alloc::Global;
 
-/// Adds what is known of the inspections of the intersection with this row.
-fn add_seen(
-    all: &mut Vec<Seen>,
-    id: InterId,
-    row: &IntersectionRow,
-    last: Option<Day>,
-) -> Result<(), NoMemory>
-    ensures { OnOk result (all.new.items ≡ all.old.items ++ record { id = id; name = row.now.name; interval = row.now.interval; last = last } ∷ []) }
-{
-    all.push(Seen {
-        id,
-        name: row.name.clone()?,
-        interval: row.interval,
-        last,
-    })?;
-    Ok(())
-}
-
-/// What is known of the inspections of every intersection with its row.
-fn all_seen<S: Shelf>(
-    shelf: &mut S,
-    alloc: Global,
-    rows: &[(InterId, IntersectionRow)],
-) -> Result<Vec<Seen>, ShelfFault>
-    ensures seen { S.is_honest shelf.new → IfOk result (λ all. (r : Register) → RegisterStandsSound (S.content shelf.old) r → all.items ≡ map (seen_row r) rows.now) }
-    ensures damaged { result ≡ Err ShelfFault.Damaged → S.is_honest shelf.new → HasAnyDamagedInspection (S.content shelf.old) }
-    ensures kept { IsKept S.is_honest S.content S.written S.may_leave shelf.old shelf.new }
-{
-    let mut all = Vec::new(alloc);
-    for (id, row) in rows {
-        let last = last_inspection(shelf, alloc, *id)?;
-        add_seen(&mut all, *id, row, last)?;
-    }
-    Ok(all)
-}
+/// No more intersections than this can be there: their numbers are 1 to 9999.
+const MOST_INTERSECTIONS: usize = 9_999;
 
 /// Decides Overdue.
 pub(crate) fn decide_overdue<S: Shelf>(
@@ -65,10 +31,25 @@ pub(crate) fn decide_overdue<S: Shelf>(
     ensures undamaged { IfOk result (λ decided. decided.reply ≢ Reply.Refused Refusal.Damaged) }
     ensures kept { IsKept S.is_honest S.content S.written S.may_leave shelf.old shelf.new }
 {
-    let rows = shelf.intersections(alloc)?;
-    let all = all_seen(shelf, alloc, rows.as_slice())?;
-    let list = all.as_slice();
-    let late = overdue(alloc, day, list)?;
+    let late = shelf.overdue_rows(alloc, day, MOST_INTERSECTIONS)?;
     let found = OverdueList::new(late);
     Ok(Decided::unchanged(alloc, Reply::Overdue(found)))
+}
+
+/// The first rows of the query Overdue.
+pub(crate) fn overdue_first_on<S: Shelf>(
+    shelf: &mut S,
+    alloc: Global,
+    day: Day,
+    most: usize,
+) -> Result<Vec<OverdueRow>, Refusal>
+    ensures rows { IfOk result (λ found. S.is_honest shelf.new → (office : OfficeState) → StandForSound (S.content shelf.old) office → map listed found.items ≡ take most (overdue_on office day)) }
+    ensures refused { IfErr result (λ why. (why ≡ Refusal.Unavailable) ⊎ (why ≡ Refusal.Damaged)) }
+    ensures damaged { result ≡ Err Refusal.Damaged → S.is_honest shelf.new → MeetsDamage (S.content shelf.old) (Command.Overdue day) }
+    ensures kept { IsKept S.is_honest S.content S.written S.may_leave shelf.old shelf.new }
+{
+    match shelf.overdue_rows(alloc, day, most) {
+        Ok(found) => Ok(found),
+        Err(fault) => Err(refused(fault)),
+    }
 }

@@ -27,7 +27,7 @@ pub struct Found {
 }
 
 /// Every row is within its limits, as its type says.
-pub fn rows_are_within(rows: &[Row])
+pub(crate) fn rows_are_within(rows: &[Row])
     ensures { AreWithin rows.now }
 {
     for row in rows {
@@ -36,7 +36,7 @@ pub fn rows_are_within(rows: &[Row])
 }
 
 /// Every change is within its limits, as its type says.
-pub fn changes_are_within(changes: &[Change])
+pub(crate) fn changes_are_within(changes: &[Change])
     ensures { AreChangesWithin changes.now }
 {
     for change in changes {
@@ -56,7 +56,7 @@ fn puts_of(alloc: Global, rows: &[Row]) -> Result<Vec<Change>, NoMemory>
 }
 
 /// The set of rows.
-pub fn set_of(alloc: Global, rows: &[Row]) -> Result<TimingSet, NoMemory>
+pub(crate) fn set_of(alloc: Global, rows: &[Row]) -> Result<TimingSet, NoMemory>
     ensures { IfOk result (λ set. set ≡ set_of_rows rows.now) }
 {
     let changes = puts_of(alloc, rows)?;
@@ -66,7 +66,7 @@ pub fn set_of(alloc: Global, rows: &[Row]) -> Result<TimingSet, NoMemory>
 }
 
 /// The committed set of an intersection; the empty one where there is no such intersection.
-pub fn committed_set<S: Shelf>(
+pub(crate) fn committed_set<S: Shelf>(
     shelf: &mut S,
     alloc: Global,
     id: InterId,
@@ -113,7 +113,7 @@ fn made_of(
 }
 
 /// Reads an intersection, its committed set and its draft rows.
-pub fn find<S: Shelf>(
+pub(crate) fn find<S: Shelf>(
     shelf: &mut S,
     alloc: Global,
     id: InterId,

@@ -20,7 +20,7 @@ use signal_records::InterId;
 use std::alloc::Global;
 
 /// The intersection whose cabinet a command is about; a delivery is about none.
-fn cabinet_of(command: &RecordCommand) -> Option<InterId>
+pub(crate) fn cabinet_of(command: &RecordCommand) -> Option<InterId>
     ensures { result ≡ about_of command.now }
 {
     match command {
@@ -50,7 +50,7 @@ pub(crate) fn is_known<S: Shelf>(
 }
 
 /// A refusal of the register as one of the office.
-fn refused(refusal: CabinetRefusal) -> Refusal
+pub(crate) fn refused(refusal: CabinetRefusal) -> Refusal
     ensures { result ≡ refusal_of_record refusal }
 {
     match refusal {
@@ -98,6 +98,6 @@ pub(crate) fn decide_record_command<S: Shelf>(
     if !is_known(shelf, alloc, cabinet_of(command))? {
         return Ok(Decided::refused(alloc, Refusal::UnknownIntersection));
     }
-    let told = decide_record(shelf, alloc, command)?;
+    let told = decide_record(shelf, alloc, &[], command)?;
     Ok(answer(alloc, told))
 }

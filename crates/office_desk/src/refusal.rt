@@ -44,6 +44,9 @@ pub enum Refusal {
     LineDiffers,
     /// The order was closed on another day or by another clerk.
     CloseDiffers,
+    /// A record of an import is refused, the first that is: which one, counted from 1, and the number
+    /// of its refusal.
+    ImportRow { at: usize, cause: u32 },
     /// Memory or the database refused; nothing was changed.
     Unavailable,
     /// A stored row is no record.
@@ -86,6 +89,7 @@ impl Refusal {
             Refusal::DeliveryDiffers => (27, "DeliveryDiffers", 409),
             Refusal::LineDiffers => (28, "LineDiffers", 409),
             Refusal::CloseDiffers => (29, "CloseDiffers", 409),
+            Refusal::ImportRow { .. } => (30, "ImportRow", 409),
             Refusal::Unavailable => (90, "Unavailable", 503),
             Refusal::Damaged => (91, "Damaged", 500),
         };

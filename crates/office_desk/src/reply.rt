@@ -230,6 +230,11 @@ pub enum Reply {
         state: DbState,
         verdict: Verdict,
     },
+    /// The records of an import: how many were not there, and are now, and how many were there.
+    Imported {
+        added: usize,
+        same: usize,
+    },
     State(IntersectionState),
     Timing(RunningTiming),
     Draft(OpenDraft),

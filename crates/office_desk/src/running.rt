@@ -14,7 +14,7 @@ use signal_records::NoMemory;
 use std::alloc::Global;
 
 /// Runs one command.
-pub fn run_on<S: Shelf>(shelf: &mut S, alloc: Global, command: &Command) -> Reply
+pub(crate) fn run_on<S: Shelf>(shelf: &mut S, alloc: Global, command: &Command) -> Reply
     ensures step { S.is_honest shelf.new → AnswersAny (S.content shelf.old) command.now result (S.content shelf.new) }
     ensures honest { S.is_honest shelf.new → S.is_honest shelf.old }
     ensures refused { IsRefused result → S.is_honest shelf.new → S.content shelf.new ≡ S.content shelf.old }
@@ -50,7 +50,7 @@ fn add_reply(replies: &mut Vec<Reply>, reply: Reply)
 }
 
 /// Runs commands in turn.
-pub fn run_all_on<S: Shelf>(
+pub(crate) fn run_all_on<S: Shelf>(
     shelf: &mut S,
     alloc: Global,
     commands: &[Command],

@@ -82,7 +82,7 @@ fn verdict_at<S: Shelf>(
 }
 
 /// Decides State.
-pub fn decide_state<S: Shelf>(
+pub(crate) fn decide_state<S: Shelf>(
     shelf: &mut S,
     alloc: Global,
     id: InterId,
@@ -103,7 +103,7 @@ pub fn decide_state<S: Shelf>(
 }
 
 /// Decides Timing.
-pub fn decide_timing<S: Shelf>(
+pub(crate) fn decide_timing<S: Shelf>(
     shelf: &mut S,
     alloc: Global,
     id: InterId,
@@ -151,7 +151,7 @@ fn draft_of(alloc: Global, found: Found) -> Result<Reply, NoMemory>
 }
 
 /// Decides Draft.
-pub fn decide_draft<S: Shelf>(
+pub(crate) fn decide_draft<S: Shelf>(
     shelf: &mut S,
     alloc: Global,
     id: InterId,

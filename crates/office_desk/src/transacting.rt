@@ -95,7 +95,7 @@ fn transact<S: Shelf>(
 }
 
 /// Decides Begin.
-pub fn decide_begin<S: Shelf>(
+pub(crate) fn decide_begin<S: Shelf>(
     shelf: &mut S,
     alloc: Global,
     id: InterId,
@@ -111,7 +111,7 @@ pub fn decide_begin<S: Shelf>(
 }
 
 /// Decides Edit.
-pub fn decide_edit<S: Shelf>(
+pub(crate) fn decide_edit<S: Shelf>(
     shelf: &mut S,
     alloc: Global,
     id: InterId,
@@ -128,7 +128,7 @@ pub fn decide_edit<S: Shelf>(
 }
 
 /// Decides Verify.
-pub fn decide_verify<S: Shelf>(
+pub(crate) fn decide_verify<S: Shelf>(
     shelf: &mut S,
     alloc: Global,
     id: InterId,
@@ -144,7 +144,7 @@ pub fn decide_verify<S: Shelf>(
 }
 
 /// Decides Check.
-pub fn decide_check<S: Shelf>(
+pub(crate) fn decide_check<S: Shelf>(
     shelf: &mut S,
     alloc: Global,
     id: InterId,
@@ -160,7 +160,7 @@ pub fn decide_check<S: Shelf>(
 }
 
 /// Decides Commit.
-pub fn decide_commit<S: Shelf>(
+pub(crate) fn decide_commit<S: Shelf>(
     shelf: &mut S,
     alloc: Global,
     id: InterId,
@@ -176,7 +176,7 @@ pub fn decide_commit<S: Shelf>(
 }
 
 /// Decides Reopen.
-pub fn decide_reopen<S: Shelf>(
+pub(crate) fn decide_reopen<S: Shelf>(
     shelf: &mut S,
     alloc: Global,
     id: InterId,
@@ -192,7 +192,7 @@ pub fn decide_reopen<S: Shelf>(
 }
 
 /// Decides Abandon.
-pub fn decide_abandon<S: Shelf>(
+pub(crate) fn decide_abandon<S: Shelf>(
     shelf: &mut S,
     alloc: Global,
     id: InterId,

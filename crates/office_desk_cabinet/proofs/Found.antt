@@ -1,4 +1,4 @@
--- The record of a number, told from the list of the records of an intersection.
+-- The record of a number, told from the list of the records of an intersection, and the one of a register from what is read.
 use Rattle.std.proofs.Common.{◌≡◌, ◌==◌, ℕ, pos, Bool, true, false, List, [], ◌∷◌, map, find, cond, length, Option, None, Some, option_map, Ordering, nat_cmp, refl, sym, ap, ◌∙◌, arith}
 use Rattle.std.proofs.lemmas.Bool.Decides.{nat_tests}
 use Rattle.std.specs.Prelude.{IfSome}
@@ -19,6 +19,7 @@ use Rattle.office_tables_shelf.specs.Shelf.{is_of, rows_of}
 use Rattle.office_tables_shelf.proofs.CellLemmas.{cells_exact, cell_total, is_under, first_under, find_entry}
 use Rattle.office_tables_shelf.proofs.TreeLemmas.{number_order}
 use Rattle.office_desk_cabinet.specs.Register.{Register, IsInspectionAt, IsOrderAt}
+use Rattle.office_desk_cabinet.specs.RegisterReads.{ReadsInspection, ReadsOrder}
 use Rattle.office_desk_cabinet.specs.RegisterStands.{RegisterStandsSound}
 
 -- ---- of any records
@@ -124,13 +125,18 @@ inspection_number : (id n : ℕ) (o : Option Inspection) → IfSome o (IsInspect
 inspection_number id n None at = tt
 inspection_number id n (Some inspection) at = sym (two_tells id at.id n inspection.number at.key_is)
 
--- the inspection of a number is the one that the list has
-pub inspection_found : (tables : Content) (id : ℕ) (r : Register) (found : List Inspection) (n : ℕ) → RegisterStandsSound tables r → ListsInspections tables id found
-    → find (λ inspection. inspection.number == n) found ≡ get r.inspections (inspection_key id n)
-inspection_found tables id r found n stands lists =
-    same_record (λ inspection. inspection.number) inspection_columns inspections_tell n _ _
-    (sym (get_numbered (λ inspection. inspection.number) inspection_columns id tables.inspection found lists n) ∙ stands.stand.inspection (inspection_key id n))
-    (find_numbered (λ inspection. inspection.number) n found)
+-- the one of a number in the list is the one that stands in the tables
+pub inspection_read : (tables : Content) (id : ℕ) (found : List Inspection) (n : ℕ) → ListsInspections tables id found → ReadsInspection tables id n (find (λ inspection. inspection.number == n) found)
+inspection_read tables id found n lists = record {
+  stored = get_numbered (λ inspection. inspection.number) inspection_columns id tables.inspection found lists n;
+  number = find_numbered (λ inspection. inspection.number) n found;
+}
+
+-- the one that is read is that of the register
+pub inspection_stands : (tables : Content) (r : Register) (id n : ℕ) (there : Option Inspection) → RegisterStandsSound tables r → ReadsInspection tables id n there → there ≡ get r.inspections (inspection_key id n)
+inspection_stands tables r id n there stands reads =
+    same_record (λ inspection. inspection.number) inspection_columns inspections_tell n there (get r.inspections (inspection_key id n))
+    (sym reads.stored ∙ stands.stand.inspection (inspection_key id n)) reads.number
     (inspection_number id n _ (stands.sound.inspections (inspection_key id n)))
 
 -- ---- orders
@@ -158,11 +164,16 @@ order_number : (id n : ℕ) (o : Option Order) → IfSome o (IsOrderAt (order_ke
 order_number id n None at = tt
 order_number id n (Some order) at = sym (two_tells id at.id n order.number at.key_is)
 
--- the order of a number is the one that the list has
-pub order_found : (tables : Content) (id : ℕ) (r : Register) (found : List Order) (n : ℕ) → RegisterStandsSound tables r → ListsOrders tables id found
-    → find (λ order. order.number == n) found ≡ get r.orders (order_key id n)
-order_found tables id r found n stands lists =
-    same_record (λ order. order.number) order_columns orders_tell n _ _
-    (sym (get_numbered (λ order. order.number) order_columns id tables.work_order found lists n) ∙ stands.stand.work_order (order_key id n))
-    (find_numbered (λ order. order.number) n found)
+-- the one of a number in the list is the one that stands in the tables
+pub order_read : (tables : Content) (id : ℕ) (found : List Order) (n : ℕ) → ListsOrders tables id found → ReadsOrder tables id n (find (λ order. order.number == n) found)
+order_read tables id found n lists = record {
+  stored = get_numbered (λ order. order.number) order_columns id tables.work_order found lists n;
+  number = find_numbered (λ order. order.number) n found;
+}
+
+-- the one that is read is that of the register
+pub order_stands : (tables : Content) (r : Register) (id n : ℕ) (there : Option Order) → RegisterStandsSound tables r → ReadsOrder tables id n there → there ≡ get r.orders (order_key id n)
+order_stands tables r id n there stands reads =
+    same_record (λ order. order.number) order_columns orders_tell n there (get r.orders (order_key id n))
+    (sym reads.stored ∙ stands.stand.work_order (order_key id n)) reads.number
     (order_number id n _ (stands.sound.orders (order_key id n)))

@@ -6,6 +6,8 @@ pub mod Puts
 pub mod Recorded
 pub mod StockLemmas
 pub mod PartRows
+pub mod KeyTies
+pub mod PendingLemmas
 pub mod StockList
 pub mod LineLemmas
 pub mod Stocked
@@ -13,4 +15,5 @@ pub mod Undamaged
 pub mod ListedRecords
 pub mod ShowingLemmas
 pub mod RecordLaws
+pub mod RecordKept
 pub mod EmptyRegister

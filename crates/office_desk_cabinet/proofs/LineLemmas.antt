@@ -1,4 +1,4 @@
--- The line of an order and a number, told from the list of the lines of an intersection, and a delivery from its row.
+-- The line of an order and a number, told from the list of the lines of an intersection, and the line and the delivery of a register from what is read.
 use Rattle.std.proofs.Common.{◌≡◌, ℕ, pos, true, ◌&&◌, List, find, Option, Some, None, option_map, refl, sym, ap, ◌∙◌, arith}
 use Rattle.std.proofs.lemmas.Bool.Decides.{nat_tests}
 use Rattle.std.specs.Cmp.{tied_itself}
@@ -16,6 +16,7 @@ use Rattle.office_tables_shelf.specs.Shelf.{is_of}
 use Rattle.office_tables_shelf.proofs.CellLemmas.{cell_total, is_under}
 use Rattle.office_tables_shelf.proofs.TreeLemmas.{number_order}
 use Rattle.office_desk_cabinet.specs.Register.{Register, IsLineAt, IsDeliveryAt}
+use Rattle.office_desk_cabinet.specs.RegisterReads.{ReadsUsed}
 use Rattle.office_desk_cabinet.specs.RegisterStands.{RegisterStandsSound}
 use Rattle.office_desk_cabinet.specs.Stocking.{is_line}
 use Rattle.office_desk_cabinet.proofs.Found.{get_listed, find_alike, find_passes}
@@ -36,34 +37,43 @@ line_ties id a b c d =
 numbers : (a b c d : ℕ) → (c == a && d == b) ≡ true → (c ≡ a) × (d ≡ b)
 numbers a b c d h = (grind (arith, nat_tests), grind (arith, nat_tests))
 
-same_line : (r : Register) (id order line : ℕ) (a b : Option UsedLine) → option_map used_columns a ≡ option_map used_columns b → IfSome a (λ used. is_line order line used ≡ true)
+same_line : (r : Register) (id order line : ℕ) (a b : Option UsedLine) → option_map used_columns a ≡ option_map used_columns b → IfSome a (λ used. used.order ≡ order) → IfSome a (λ used. used.line ≡ line)
     → IfSome b (IsLineAt r (used_key id order line)) → a ≡ b
-same_line r id order line None None same named at = refl
-same_line r id order line None (Some there) same named at = absurd cc
-same_line r id order line (Some used) None same named at = absurd cc
-same_line r id order line (Some used) (Some there) same named at =
+same_line r id order line None None same of named at = refl
+same_line r id order line None (Some there) same of named at = absurd cc
+same_line r id order line (Some used) None same of named at = absurd cc
+same_line r id order line (Some used) (Some there) same of named at =
     let own : used_key id order line ≡ used_key at.id there.order there.line = at.key_is in
     let order_is : order ≡ there.order = cc in
     let line_is : line ≡ there.line = cc in
     let part_is : used.part ≡ there.part = cc in
     let count_is : used.count ≡ there.count = cc in
-    let told = numbers order line used.order used.line named in
-    let orders : used.order ≡ there.order = told.0 ∙ order_is in
-    let lines : used.line ≡ there.line = told.1 ∙ line_is in
+    let orders : used.order ≡ there.order = of ∙ order_is in
+    let lines : used.line ≡ there.line = named ∙ line_is in
     λ i. Some (record { order = orders i; line = lines i; part = part_is i; count = count_is i })
 
--- the line of an order and a number is the one that the list has
-pub line_found : (tables : Content) (id : ℕ) (r : Register) (found : List UsedLine) (order line : ℕ) → RegisterStandsSound tables r → ListsUsed tables id found
-    → find (is_line order line) found ≡ get r.lines (used_key id order line)
-line_found tables id r found order line stands lists =
+named_line : (order line : ℕ) (o : Option UsedLine) → IfSome o (λ used. is_line order line used ≡ true) → IfSome o (λ used. used.order ≡ order) × IfSome o (λ used. used.line ≡ line)
+named_line order line None passes = (tt, tt)
+named_line order line (Some used) passes = numbers order line used.order used.line passes
+
+-- the one of an order and a number in the list is the one that stands in the tables
+pub line_read : (tables : Content) (id : ℕ) (found : List UsedLine) (order line : ℕ) → ListsUsed tables id found → ReadsUsed tables id order line (find (is_line order line) found)
+line_read tables id found order line lists =
     let at = used_key id order line in
     let key : UsedLine → List Cell = λ used. used_key id used.order used.line in
-    same_line r id order line _ _
-    (ap (option_map used_columns) (find_alike (is_line order line) (is_under key used_columns at) found (λ used. sym (line_ties id order line used.order used.line)))
-    ∙ sym (get_listed key used_columns id tables.used_part found lists at (of_itself id order line))
-    ∙ stands.stand.used_part at)
-    (find_passes (is_line order line) found)
-    (stands.sound.lines at)
+    let named = named_line order line _ (find_passes (is_line order line) found) in
+    record {
+      stored = get_listed key used_columns id tables.used_part found lists at (of_itself id order line)
+          ∙ ap (option_map used_columns) (find_alike (is_under key used_columns at) (is_line order line) found (λ used. line_ties id order line used.order used.line));
+      of = named.0;
+      number = named.1;
+    }
+
+-- the one that is read is that of the register
+pub line_stands : (tables : Content) (r : Register) (id order line : ℕ) (there : Option UsedLine) → RegisterStandsSound tables r → ReadsUsed tables id order line there → there ≡ get r.lines (used_key id order line)
+line_stands tables r id order line there stands reads =
+    same_line r id order line there (get r.lines (used_key id order line)) (sym reads.stored ∙ stands.stand.used_part (used_key id order line)) reads.of reads.number
+    (stands.sound.lines (used_key id order line))
 
 -- ---- deliveries
 

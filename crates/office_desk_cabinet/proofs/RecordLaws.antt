@@ -1,11 +1,7 @@
 -- Over commands that were accepted in turn: which orders are open, and what is in stock.
-use Rattle.std.proofs.Common.{◌≡◌, ℕ, pos, ◌+◌, ◌-◌, ◌≤◌, Bool, true, false, ◌&&◌, ◌==◌, cond, List, [], ◌∷◌, Option, None, Some, Ordering, nat_cmp, refl, sym, ap, ◌∙◌, arith}
-use Rattle.std.proofs.lemmas.Bool.Decides.{nat_tests}
+use Rattle.std.proofs.Common.{◌≡◌, ℕ, ◌+◌, ◌-◌, ◌≤◌, Bool, true, false, ◌&&◌, ◌==◌, cond, List, [], ◌∷◌, Option, None, Some, refl, ap, ◌∙◌, arith}
 use Rattle.std.specs.FinMap.{get, insert, get-insert}
-use Rattle.std.specs.Ordering.{is_eq, ordering_then, eq_by_cmp}
-use Rattle.std.specs.Str.{bytes_eq}
-use Rattle.std.specs.declared.cmp.Ordering.TheVariants.{Less, Equal, Greater}
-use Rattle.cabinet_core.specs.Cabinet.{Line, added, same, refused, is_same_line, is_same_delivery, use_line, close_line, receive_line, record_of, with_closing}
+use Rattle.cabinet_core.specs.Cabinet.{added, same, refused, is_same_line, is_same_delivery, use_line, close_line, receive_line, record_of, with_closing}
 use Rattle.cabinet_core.specs.declared.command.RecordCommand.{RecordCommand}
 use Rattle.cabinet_core.specs.declared.command.RecordCommand.TheVariants.{Inspect, OpenOrder, UsePart, CloseOrder, Receive}
 use Rattle.cabinet_core.specs.declared.record.Closing.{Closing}
@@ -15,42 +11,22 @@ use Rattle.cabinet_core.specs.declared.record.UsedLine.{UsedLine}
 use Rattle.cabinet_core.specs.declared.refusal.CabinetRefusal.{CabinetRefusal}
 use Rattle.cabinet_core.specs.declared.refusal.CabinetRefusal.TheVariants.{DeliveryDiffers, LineDiffers}
 use Rattle.office_tables_shelf.proofs.CellLemmas.{cells_total}
-use Rattle.office_tables_shelf.proofs.TreeLemmas.{number_order}
 use Rattle.office_tables_shelf.specs.CabinetRows.{order_key, used_key, delivery_key}
-use Rattle.office_tables_shelf.specs.Cells.{Cell, number, cell_cmp, cells_cmp}
+use Rattle.office_tables_shelf.specs.Cells.{cells_cmp}
 use Rattle.office_desk_cabinet.specs.Register.{Register, IsSoundRegister, brought, taken, delivered, used, pieces, hand_of}
 use Rattle.office_desk_cabinet.specs.RegisterStep.{line_at, with_closed, with_record}
 use Rattle.office_desk_cabinet.specs.RecordRuns.{AreAccepted, is_open_order, is_open_at, open_with, open_by, received, spent, received_by, spent_by}
 use Rattle.office_desk_cabinet.proofs.EntrySums.{sum_insert}
+use Rattle.office_desk_cabinet.proofs.KeyTies.{numbered_ties}
 
 -- ---- orders
-
--- two numbers one after the other tie where both do
-two_ties : (r s : Ordering) → is_eq (ordering_then r (ordering_then s Equal)) ≡ (is_eq r && is_eq s)
-two_ties Less s = refl
-two_ties Greater s = refl
-two_ties Equal Less = refl
-two_ties Equal Equal = refl
-two_ties Equal Greater = refl
-
-number_is : (a b : ℕ) → is_eq (nat_cmp a b) ≡ (b == a)
-number_is a b = grind (arith, nat_tests)
-
-cell_is : (a b : ℕ) → is_eq (cell_cmp (number (pos a)) (number (pos b))) ≡ (b == a)
-cell_is a b = ap is_eq (number_order a b) ∙ number_is a b
-
--- the keys of two orders tie where they are of one intersection and have one number
-key_ties : (id n other order : ℕ) → eq_by_cmp cells_cmp (order_key id n) (order_key other order) ≡ ((other == id) && (order == n))
-key_ties id n other order =
-    two_ties (cell_cmp (number (pos id)) (number (pos other))) (cell_cmp (number (pos n)) (number (pos order)))
-    ∙ (λ i. cell_is id other i && cell_is n order i)
 
 -- an order that is put is the one that stands there
 open_put : (r : Register) (id n other order : ℕ) (put : Order) (after : Bool) → is_open_order (Some put) ≡ after
     → is_open_order (get (insert r.orders (order_key other order) put) (order_key id n)) ≡ cond ((other == id) && (order == n)) after (is_open_at r id n)
 open_put r id n other order put after is =
     ap is_open_order (get-insert cells_total r.orders (order_key other order) put (order_key id n))
-    ∙ ap (λ b. is_open_order (cond b (Some put) (get r.orders (order_key id n)))) (key_ties id n other order)
+    ∙ ap (λ b. is_open_order (cond b (Some put) (get r.orders (order_key id n)))) (numbered_ties id n other order)
     ∙ elim ((other == id) && (order == n)) as (λ b. is_open_order (cond b (Some put) (get r.orders (order_key id n))) ≡ cond b after (is_open_at r id n)) [ true ↦ is | false ↦ refl ]
 
 open_closed : (r : Register) (id n other order : ℕ) (closing : Closing) (there : Option Order) → close_line there closing ≡ added

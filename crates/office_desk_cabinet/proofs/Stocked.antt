@@ -20,18 +20,21 @@ use Rattle.office_tables_shelf.specs.Cells.{Cell}
 use Rattle.office_tables_shelf.specs.Change.{changed_by}
 use Rattle.office_tables_shelf.specs.Content.{Content}
 use Rattle.office_tables_shelf.specs.Counts.{writes_in}
+use Rattle.office_tables_shelf.specs.declared.rows.RowChange.{RowChange}
 use Rattle.office_tables_shelf.specs.declared.rows.Table.{Table}
 use Rattle.office_tables_shelf.specs.declared.rows.Table.TheVariants as table
 use Rattle.office_tables_shelf.specs.declared.shelf.ShelfFault.{ShelfFault}
 use Rattle.office_tables_shelf.specs.declared.shelf.ShelfFault.TheVariants.{NoMemory}
 use Rattle.office_desk_cabinet.specs.Register.{Register, IsLineAt, IsDeliveryAt, hand_of}
+use Rattle.office_desk_cabinet.specs.RegisterReads.{ReadsOrder, ReadsUsed}
 use Rattle.office_desk_cabinet.specs.RegisterStands.{RegisterStandsSound}
 use Rattle.office_desk_cabinet.specs.RegisterStep.{with_record}
 use Rattle.office_desk_cabinet.specs.Registers.{Registers, most_record_writes}
 use Rattle.office_desk_cabinet.specs.Stocking.{TellsStock, stock_rows_of}
 use Rattle.office_desk_cabinet.specs.Telling.{row_changes_of, Tells}
 use Rattle.office_desk_cabinet.specs.declared.registered.Registered.{Registered}
-use Rattle.office_desk_cabinet.proofs.LineLemmas.{delivery_found}
+use Rattle.office_desk_cabinet.proofs.Found.{order_stands}
+use Rattle.office_desk_cabinet.proofs.LineLemmas.{line_stands, delivery_found}
 use Rattle.office_desk_cabinet.proofs.PartRows.{part_put, part_keys_put}
 use Rattle.office_desk_cabinet.proofs.Puts.{stand_put, all_put, if_more}
 use Rattle.office_desk_cabinet.proofs.StockLemmas.{with_line, line_here, line_elsewhere, line_stocked, with_delivery, delivery_here, delivery_elsewhere, delivery_stocked}
@@ -110,18 +113,18 @@ use_stands tables r id asked stands within is =
     }
 
 -- the decision on a part, on what stands under its keys
-pub use_answers : (tables : Content) (id : ℕ) (asked : UsedLine) (there : Option UsedLine) (order : Option Order) (hand : Option ℕ) (decision : Result Recorded CabinetRefusal) (result : Result Registered ShelfFault)
-    → IsUsedLineWithin asked → ((r : Register) → RegisterStandsSound tables r → there ≡ get r.lines (used_key id asked.order asked.line))
-    → ((r : Register) → RegisterStandsSound tables r → order ≡ get r.orders (order_key id asked.order)) → ReadsHand tables asked.part hand
+pub use_answers : (stored : Content) (pending : List RowChange) (id : ℕ) (asked : UsedLine) (there : Option UsedLine) (order : Option Order) (hand : Option ℕ) (decision : Result Recorded CabinetRefusal) (result : Result Registered ShelfFault)
+    → IsUsedLineWithin asked → ReadsUsed (changed_by stored pending) id asked.order asked.line there → ReadsOrder (changed_by stored pending) id asked.order order → ReadsHand (changed_by stored pending) asked.part hand
     → Records decision (use_line there order hand asked) (use_changes hand asked)
     → IfOk result (λ told. Tells id decision told) → OnErr result (result ≡ Err NoMemory)
-    → Registers tables (UsePart id asked) result
-use_answers tables id asked there order hand decision result within there_is order_is reads decides tells fault =
-    registers tables (UsePart id asked) id decision result tells fault (λ told tell r stands.
+    → Registers stored pending (UsePart id asked) result
+use_answers stored pending id asked there order hand decision result within lined ordered reads decides tells fault =
+    registers stored pending (UsePart id asked) id decision result tells fault (λ told tell r stands.
+    let tables = changed_by stored pending in
     let now = hand_of r asked.part in
     registers_from tables r (UsePart id asked) id (use_changes now asked) decision told
-    (subst (λ (t : Option UsedLine). Records decision (use_line t (get r.orders (order_key id asked.order)) now asked) (use_changes now asked)) (there_is r stands)
-    (subst (λ (o : Option Order). Records decision (use_line there o now asked) (use_changes now asked)) (order_is r stands)
+    (subst (λ (t : Option UsedLine). Records decision (use_line t (get r.orders (order_key id asked.order)) now asked) (use_changes now asked)) (line_stands tables r id asked.order asked.line there stands lined)
+    (subst (λ (o : Option Order). Records decision (use_line there o now asked) (use_changes now asked)) (order_stands tables r id asked.order order stands ordered)
     (subst (λ (h : Option ℕ). Records decision (use_line there order h asked) (use_changes h asked)) (hand_read tables r asked.part hand stands reads) decides)))
     tell stands (λ is. use_stands tables r id asked stands within (usable _ _ _ asked is)))
 
@@ -179,13 +182,14 @@ receive_stands tables r id asked stands within is =
     }
 
 -- the decision on a delivery, on what stands under its keys
-pub receive_answers : (tables : Content) (id : ℕ) (asked : Delivery) (there : Option Delivery) (hand : Option ℕ) (decision : Result Recorded CabinetRefusal) (result : Result Registered ShelfFault)
-    → IsDeliveryWithin asked → ReadsDelivery tables asked.part asked.number there → ReadsHand tables asked.part hand
+pub receive_answers : (stored : Content) (pending : List RowChange) (id : ℕ) (asked : Delivery) (there : Option Delivery) (hand : Option ℕ) (decision : Result Recorded CabinetRefusal) (result : Result Registered ShelfFault)
+    → IsDeliveryWithin asked → ReadsDelivery (changed_by stored pending) asked.part asked.number there → ReadsHand (changed_by stored pending) asked.part hand
     → Records decision (receive_line there hand asked) (receive_changes hand asked)
     → IfOk result (λ told. Tells id decision told) → OnErr result (result ≡ Err NoMemory)
-    → Registers tables (Receive asked) result
-receive_answers tables id asked there hand decision result within found reads decides tells fault =
-    registers tables (Receive asked) id decision result tells fault (λ told tell r stands.
+    → Registers stored pending (Receive asked) result
+receive_answers stored pending id asked there hand decision result within found reads decides tells fault =
+    registers stored pending (Receive asked) id decision result tells fault (λ told tell r stands.
+    let tables = changed_by stored pending in
     let now = hand_of r asked.part in
     registers_from tables r (Receive asked) id (receive_changes now asked) decision told
     (subst (λ (t : Option Delivery). Records decision (receive_line t now asked) (receive_changes now asked)) (delivery_found tables r asked.part asked.number there stands found)

@@ -86,20 +86,20 @@ registers_from tables r command id list decision told is tells stands put =
     }
 
 -- and the answer to it
-pub registers : (tables : Content) (command : RecordCommand) (id : ℕ) (decision : Result Recorded CabinetRefusal) (result : Result Registered ShelfFault)
+pub registers : (stored : Content) (pending : List RowChange) (command : RecordCommand) (id : ℕ) (decision : Result Recorded CabinetRefusal) (result : Result Registered ShelfFault)
     → IfOk result (λ told. Tells id decision told) → OnErr result (result ≡ Err NoMemory)
-    → ((told : Registered) → Tells id decision told → (r : Register) → RegisterStandsSound tables r → RegistersFrom tables command told r)
-    → Registers tables command result
-registers tables command id decision (Ok told) tells fault from = from told tells
-registers tables command id decision (Err NoMemory) tells fault from = tt
-registers tables command id decision (Err Store) tells fault from = tt
-registers tables command id decision (Err Damaged) tells fault from = absurd (let f : Err Damaged ≡ Err NoMemory = fault in cc)
+    → ((told : Registered) → Tells id decision told → (r : Register) → RegisterStandsSound (changed_by stored pending) r → RegistersFrom (changed_by stored pending) command told r)
+    → Registers stored pending command result
+registers stored pending command id decision (Ok told) tells fault from = from told tells
+registers stored pending command id decision (Err NoMemory) tells fault from = tt
+registers stored pending command id decision (Err Store) tells fault from = tt
+registers stored pending command id decision (Err Damaged) tells fault from = absurd (let f : Err Damaged ≡ Err NoMemory = fault in cc)
 
 -- a fault that the shelf answered
-pub fault_registers : (tables : Content) (command : RecordCommand) (fault : ShelfFault) → (fault ≡ Damaged → MeetsRecordDamage tables command) → Registers tables command (Err fault)
-fault_registers tables command NoMemory damage = tt
-fault_registers tables command Store damage = tt
-fault_registers tables command Damaged damage = damage refl
+pub fault_registers : (stored : Content) (pending : List RowChange) (command : RecordCommand) (fault : ShelfFault) → (fault ≡ Damaged → MeetsRecordDamage stored command) → Registers stored pending command (Err fault)
+fault_registers stored pending command NoMemory damage = tt
+fault_registers stored pending command Store damage = tt
+fault_registers stored pending command Damaged damage = damage refl
 
 -- ---- rows that stay
 
@@ -123,10 +123,10 @@ tells_leaves tables id (Ok recorded.Same) told tells = subst (LeavesTiming table
 tells_leaves tables id (Err why) told tells = subst (LeavesTiming tables) (sym (ap rows_told tells.1)) (rows_leave tables id [])
 
 -- the same of the answer
-pub answer_leaves : (tables : Content) (id : ℕ) (decision : Result Recorded CabinetRefusal) (result : Result Registered ShelfFault) → IfOk result (λ told. Tells id decision told)
-    → IfOk result (λ told. LeavesTiming tables (rows_told told))
-answer_leaves tables id decision (Ok told) tells = tells_leaves tables id decision told tells
-answer_leaves tables id decision (Err fault) tells = tt
+pub answer_leaves : (id : ℕ) (decision : Result Recorded CabinetRefusal) (result : Result Registered ShelfFault) → IfOk result (λ told. Tells id decision told)
+    → IfOk result (λ told. (tables : Content) → LeavesTiming tables (rows_told told))
+answer_leaves id decision (Ok told) tells = λ tables. tells_leaves tables id decision told tells
+answer_leaves id decision (Err fault) tells = tt
 
 -- ---- how many are written
 

@@ -2,6 +2,8 @@ pub mod Register
 pub mod RegisterStep
 pub mod RegisterStands
 pub mod RegisterDamage
+pub mod RegisterReads
+pub mod Places
 pub mod Registers
 pub mod Telling
 pub mod Stocking

@@ -1,5 +1,5 @@
 -- The cabinet register of an office: its inspections, orders, used parts and deliveries, what is on hand, and when it is sound.
-use Rattle.std.specs.Prelude.{◌≡◌, ℕ, ◌+◌, ◌-◌, ◌≤◌, Bool, if◌then◌else◌, List, map, Option, Some, None, IfSome, IsSome, sum_by, filter, max, not, is_some, [], ◌∷◌}
+use Rattle.std.specs.Prelude.{◌≡◌, ℕ, ◌+◌, ◌-◌, ◌≤◌, Bool, if◌then◌else◌, List, map, Option, Some, None, IfSome, IsSome, sum_by, filter, not, is_some}
 use Rattle.std.specs.List.{list_any}
 use Rattle.std.specs.Str.{bytes_eq}
 use Rattle.std.specs.Ordering.{nat_cmp}
@@ -14,6 +14,7 @@ use Rattle.cabinet_core.specs.declared.record.UsedLine.{UsedLine}
 use Rattle.cabinet_core.specs.declared.record.Delivery.{Delivery}
 use Rattle.office_tables_shelf.specs.Cells.{Cell, cells_cmp}
 use Rattle.office_tables_shelf.specs.CabinetRows.{inspection_key, order_key, used_key, delivery_key}
+use Rattle.office_tables_shelf.specs.Overdue.{latest_day}
 use Rattle.office_tables_shelf.specs.Shelf.{is_of}
 
 -- records by the keys under which they are stored
@@ -82,19 +83,9 @@ is_open order = not (is_some order.closing)
 abbrev pub open_at : Register → ℕ → List ℕ
 open_at r id = map (λ (order : Order). order.number) (filter is_open (records_at id r.orders))
 
--- the greater of a number and what there is besides
-abbrev pub greater : ℕ → Option ℕ → ℕ
-greater n None = n
-greater n (Some m) = max n m
-
--- the greatest of some numbers
-abbrev pub greatest : List ℕ → Option ℕ
-greatest [] = None
-greatest (n ∷ ns) = Some (greater n (greatest ns))
-
 -- the day of the latest inspection
 abbrev pub last_at : Register → ℕ → Option ℕ
-last_at r id = greatest (map (λ (inspection : Inspection). inspection.day) (records_at id r.inspections))
+last_at r id = latest_day (records_at id r.inspections)
 
 -- ---- soundness
 

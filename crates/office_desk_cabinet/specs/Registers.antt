@@ -35,12 +35,12 @@ pub record RegistersFrom (tables : Content) (command : RecordCommand) (told : Re
   pub line : line_told told ≡ line_at r command
   pub stand : RegisterStandsSound (changed_by tables (rows_told told)) (after_record r command)
 
--- whichever sound register the tables stand for; and Damaged comes only where a row that is read is no record
-abbrev pub Registers : Content → RecordCommand → Result Registered ShelfFault → Type 0
-Registers tables command (Ok told) = (r : Register) → RegisterStandsSound tables r → RegistersFrom tables command told r
-Registers tables command (Err Damaged) = MeetsRecordDamage tables command
-Registers tables command (Err NoMemory) = Unit {0}
-Registers tables command (Err Store) = Unit {0}
+-- whichever sound register the tables stand for once the pending changes are made; and Damaged comes only where a stored row that is read is no record
+abbrev pub Registers : Content → List RowChange → RecordCommand → Result Registered ShelfFault → Type 0
+Registers stored pending command (Ok told) = (r : Register) → RegisterStandsSound (changed_by stored pending) r → RegistersFrom (changed_by stored pending) command told r
+Registers stored pending command (Err Damaged) = MeetsRecordDamage stored command
+Registers stored pending command (Err NoMemory) = Unit {0}
+Registers stored pending command (Err Store) = Unit {0}
 
 -- rows of the register alone are written: those of the intersections and of their timing stay
 pub record LeavesTiming (tables : Content) (changes : List RowChange) : Type 0 where

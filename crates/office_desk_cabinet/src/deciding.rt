@@ -1,5 +1,6 @@
 //! The commands of the register, decided.
 ghost use Rattle.std.specs.Prelude.{◌≡◌, ◌≢◌, ◌≤◌, IfOk};
+ghost use Rattle.office_tables_shelf.specs.Content.{Content};
 ghost use Rattle.office_tables_shelf.specs.Counts.{writes_in};
 ghost use Rattle.office_tables_shelf.specs.Shelf.{IsKept};
 ghost use Rattle.office_tables_shelf.specs.declared.rows.Table.{Table};
@@ -9,28 +10,35 @@ use crate::records::{decide_close_order, decide_inspect, decide_open_order};
 use crate::registered::Registered;
 use crate::stocking::{decide_receive, decide_use_part};
 use cabinet_core::{CabinetRefusal, RecordCommand};
+use office_tables_shelf::rows::RowChange;
 use office_tables_shelf::shelf::{Shelf, ShelfFault};
 use std::alloc::Global;
 
-/// Decides a command of the register. That the intersection is there is for the office to test.
+/// Decides a command of the register, on what the shelf will hold once the pending rows are written,
+/// in their order. That the intersection is there is for the office to test.
 pub fn decide_record<S: Shelf>(
     shelf: &mut S,
     alloc: Global,
+    pending: &[RowChange],
     command: &RecordCommand,
 ) -> Result<Registered, ShelfFault>
-    ensures step { S.is_honest shelf.new → Registers (S.content shelf.old) command.now result }
-    ensures leaves { IfOk result (λ told. LeavesTiming (S.content shelf.old) (rows_told told)) }
+    ensures step { S.is_honest shelf.new → Registers (S.content shelf.old) pending.now command.now result }
+    ensures leaves { IfOk result (λ told. (tables : Content) → LeavesTiming tables (rows_told told)) }
     ensures writes { IfOk result (λ told. (table : Table) → writes_in table (rows_told told) ≤ most_record_writes command.now table) }
     ensures never_memory { IfOk result (λ told. told ≢ Registered.Refused CabinetRefusal.NoMemory) }
     ensures kept { IsKept S.is_honest S.content S.written S.may_leave shelf.old shelf.new }
 {
     match command {
-        RecordCommand::Inspect { id, inspection } => decide_inspect(shelf, alloc, *id, inspection),
-        RecordCommand::OpenOrder { id, opening } => decide_open_order(shelf, alloc, *id, opening),
-        RecordCommand::UsePart { id, line } => decide_use_part(shelf, alloc, *id, line),
-        RecordCommand::CloseOrder { id, order, closing } => {
-            decide_close_order(shelf, alloc, *id, *order, closing)
+        RecordCommand::Inspect { id, inspection } => {
+            decide_inspect(shelf, alloc, pending, *id, inspection)
         }
-        RecordCommand::Receive { delivery } => decide_receive(shelf, alloc, delivery),
+        RecordCommand::OpenOrder { id, opening } => {
+            decide_open_order(shelf, alloc, pending, *id, opening)
+        }
+        RecordCommand::UsePart { id, line } => decide_use_part(shelf, alloc, pending, *id, line),
+        RecordCommand::CloseOrder { id, order, closing } => {
+            decide_close_order(shelf, alloc, pending, *id, *order, closing)
+        }
+        RecordCommand::Receive { delivery } => decide_receive(shelf, alloc, pending, delivery),
     }
 }

@@ -3,13 +3,15 @@
 
 mod deciding;
 mod finding;
+mod pending;
 mod records;
 mod registered;
 mod rows;
 mod showing;
+mod standing;
 mod stocking;
 
 pub use deciding::decide_record;
 pub use registered::Registered;
-pub use showing::{cabinet_view, last_inspection, open_orders};
+pub use showing::{cabinet_view, open_orders};
 pub use stocking::stock;

@@ -3,18 +3,20 @@ ghost use Rattle.std.specs.Prelude.{◌≡◌, ◌≢◌, ◌≤◌, IfOk};
 ghost use Rattle.cabinet_core.specs.Cabinet.{record_of};
 ghost use Rattle.cabinet_core.specs.Within.{IsClosingWithin, IsOrderWithin};
 ghost use Rattle.cabinet_core.specs.declared.command.RecordCommand.{RecordCommand};
+ghost use Rattle.office_tables_shelf.specs.Content.{Content};
 ghost use Rattle.office_tables_shelf.specs.Counts.{writes_in};
 ghost use Rattle.office_tables_shelf.specs.Shelf.{IsKept};
 ghost use Rattle.office_tables_shelf.specs.declared.rows.Table.{Table};
 ghost use Rattle.office_desk_cabinet.specs.Registers.{Registers, LeavesTiming, most_record_writes, rows_told};
 
-use crate::finding::{inspection_in, order_in};
 use crate::registered::Registered;
 use crate::rows::registered;
+use crate::standing::{inspection_at, order_at};
 use cabinet_core::{
     CabinetRefusal, Closing, Inspection, Opening, RecordCommand, close_order, inspect,
     inspection_is_within, open_order,
 };
+use office_tables_shelf::rows::RowChange;
 use office_tables_shelf::shelf::{Shelf, ShelfFault};
 use signal_records::{InterId, RecordNo};
 use std::alloc::Global;
@@ -23,18 +25,18 @@ use std::alloc::Global;
 pub(crate) fn decide_inspect<S: Shelf>(
     shelf: &mut S,
     alloc: Global,
+    pending: &[RowChange],
     id: InterId,
     inspection: &Inspection,
 ) -> Result<Registered, ShelfFault>
-    ensures step { S.is_honest shelf.new → Registers (S.content shelf.old) (RecordCommand.Inspect id inspection.now) result }
-    ensures leaves { IfOk result (λ told. LeavesTiming (S.content shelf.old) (rows_told told)) }
+    ensures step { S.is_honest shelf.new → Registers (S.content shelf.old) pending.now (RecordCommand.Inspect id inspection.now) result }
+    ensures leaves { IfOk result (λ told. (tables : Content) → LeavesTiming tables (rows_told told)) }
     ensures writes { IfOk result (λ told. (table : Table) → writes_in table (rows_told told) ≤ most_record_writes (RecordCommand.Inspect id inspection.now) table) }
     ensures never_memory { IfOk result (λ told. told ≢ Registered.Refused CabinetRefusal.NoMemory) }
     ensures kept { IsKept S.is_honest S.content S.written S.may_leave shelf.old shelf.new }
 {
     inspection_is_within(inspection);
-    let found = shelf.inspections(alloc, id)?;
-    let there = inspection_in(found, inspection.number);
+    let there = inspection_at(shelf, alloc, pending, id, inspection.number)?;
     let decision = inspect(alloc, &there, inspection);
     registered(alloc, id, decision)
 }
@@ -52,18 +54,18 @@ fn opening_is_within(opening: &Opening)
 pub(crate) fn decide_open_order<S: Shelf>(
     shelf: &mut S,
     alloc: Global,
+    pending: &[RowChange],
     id: InterId,
     opening: &Opening,
 ) -> Result<Registered, ShelfFault>
-    ensures step { S.is_honest shelf.new → Registers (S.content shelf.old) (RecordCommand.OpenOrder id opening.now) result }
-    ensures leaves { IfOk result (λ told. LeavesTiming (S.content shelf.old) (rows_told told)) }
+    ensures step { S.is_honest shelf.new → Registers (S.content shelf.old) pending.now (RecordCommand.OpenOrder id opening.now) result }
+    ensures leaves { IfOk result (λ told. (tables : Content) → LeavesTiming tables (rows_told told)) }
     ensures writes { IfOk result (λ told. (table : Table) → writes_in table (rows_told told) ≤ most_record_writes (RecordCommand.OpenOrder id opening.now) table) }
     ensures never_memory { IfOk result (λ told. told ≢ Registered.Refused CabinetRefusal.NoMemory) }
     ensures kept { IsKept S.is_honest S.content S.written S.may_leave shelf.old shelf.new }
 {
     opening_is_within(opening);
-    let found = shelf.orders(alloc, id)?;
-    let there = order_in(found, opening.number);
+    let there = order_at(shelf, alloc, pending, id, opening.number)?;
     let decision = open_order(alloc, &there, opening);
     registered(alloc, id, decision)
 }
@@ -80,19 +82,19 @@ fn closing_is_within(closing: &Closing)
 pub(crate) fn decide_close_order<S: Shelf>(
     shelf: &mut S,
     alloc: Global,
+    pending: &[RowChange],
     id: InterId,
     order: RecordNo,
     closing: &Closing,
 ) -> Result<Registered, ShelfFault>
-    ensures step { S.is_honest shelf.new → Registers (S.content shelf.old) (RecordCommand.CloseOrder id order closing.now) result }
-    ensures leaves { IfOk result (λ told. LeavesTiming (S.content shelf.old) (rows_told told)) }
+    ensures step { S.is_honest shelf.new → Registers (S.content shelf.old) pending.now (RecordCommand.CloseOrder id order closing.now) result }
+    ensures leaves { IfOk result (λ told. (tables : Content) → LeavesTiming tables (rows_told told)) }
     ensures writes { IfOk result (λ told. (table : Table) → writes_in table (rows_told told) ≤ most_record_writes (RecordCommand.CloseOrder id order closing.now) table) }
     ensures never_memory { IfOk result (λ told. told ≢ Registered.Refused CabinetRefusal.NoMemory) }
     ensures kept { IsKept S.is_honest S.content S.written S.may_leave shelf.old shelf.new }
 {
     closing_is_within(closing);
-    let found = shelf.orders(alloc, id)?;
-    let there = order_in(found, order);
+    let there = order_at(shelf, alloc, pending, id, order)?;
     let decision = close_order(alloc, &there, closing);
     registered(alloc, id, decision)
 }

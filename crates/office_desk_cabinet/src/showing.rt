@@ -1,14 +1,13 @@
-//! What is asked of the register: the records of a cabinet, its open orders, its latest inspection.
+//! What is asked of the register: the records of a cabinet, its open orders.
 ghost use Rattle.std.specs.Prelude.{◌≡◌, ◌⊎◌, IfOk, filter, map};
-ghost use Rattle.cabinet_core.specs.declared.record.Inspection.{Inspection};
 ghost use Rattle.cabinet_core.specs.declared.record.Order.{Order};
 ghost use Rattle.office_tables_shelf.specs.CabinetReads.{HasDamagedInspection, HasDamagedOrder, HasDamagedUsed};
 ghost use Rattle.office_tables_shelf.specs.Shelf.{IsKept};
-ghost use Rattle.office_desk_cabinet.specs.Register.{Register, is_open, open_at, greater, greatest, last_at};
+ghost use Rattle.office_desk_cabinet.specs.Register.{Register, is_open, open_at};
 ghost use Rattle.office_desk_cabinet.specs.RegisterStands.{RegisterStandsSound};
 ghost use Rattle.office_desk_cabinet.specs.Registers.{ShowsCabinet};
 
-use cabinet_core::{CabinetView, Day, Inspection, Order};
+use cabinet_core::{CabinetView, Order};
 use office_tables_shelf::shelf::{Shelf, ShelfFault};
 use signal_records::{InterId, NoMemory, RecordNo};
 use std::alloc::Global;
@@ -62,40 +61,4 @@ pub fn open_orders<S: Shelf>(
     let orders = shelf.orders(alloc, id)?;
     let numbers = open_numbers(alloc, orders.as_slice())?;
     Ok(numbers)
-}
-
-/// The later of a day and what there is besides.
-fn later(day: Day, last: Option<Day>) -> Day
-    ensures { result ≡ greater day last }
-{
-    match last {
-        None => day,
-        Some(last) => day.max(last),
-    }
-}
-
-/// The latest day of some inspections.
-fn latest(inspections: &[Inspection]) -> Option<Day>
-    ensures { result ≡ greatest (map (λ (inspection : Inspection). inspection.day) inspections.now) }
-{
-    let mut latest = None;
-    for inspection in inspections {
-        latest = Some(later(inspection.day, latest));
-    }
-    latest
-}
-
-/// The day of the latest inspection of an intersection's cabinet, if there was one. An error is
-/// the shelf's, or want of memory.
-pub fn last_inspection<S: Shelf>(
-    shelf: &mut S,
-    alloc: Global,
-    id: InterId,
-) -> Result<Option<Day>, ShelfFault>
-    ensures shows { S.is_honest shelf.new → IfOk result (λ day. (r : Register) → RegisterStandsSound (S.content shelf.old) r → day ≡ last_at r id) }
-    ensures damaged { result ≡ Err ShelfFault.Damaged → S.is_honest shelf.new → HasDamagedInspection (S.content shelf.old) id }
-    ensures kept { IsKept S.is_honest S.content S.written S.may_leave shelf.old shelf.new }
-{
-    let inspections = shelf.inspections(alloc, id)?;
-    Ok(latest(inspections.as_slice()))
 }

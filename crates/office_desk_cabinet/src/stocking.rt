@@ -1,9 +1,7 @@
 //! The stock: parts used, deliveries received, and what is on hand.
-ghost use Rattle.std.specs.Prelude.{◌≡◌, ◌≢◌, ◌≤◌, ℕ, IfOk, OnErr};
-ghost use Rattle.std.specs.FinMap.{get};
+ghost use Rattle.std.specs.Prelude.{◌≡◌, ◌≢◌, ◌≤◌, IfOk, OnErr};
 ghost use Rattle.cabinet_core.specs.declared.command.RecordCommand.{RecordCommand};
-ghost use Rattle.office_tables_shelf.specs.CabinetReads.{ListsUsed, HasDamagedPart};
-ghost use Rattle.office_tables_shelf.specs.CabinetRows.{used_key};
+ghost use Rattle.office_tables_shelf.specs.CabinetReads.{HasDamagedPart};
 ghost use Rattle.office_tables_shelf.specs.Content.{Content};
 ghost use Rattle.office_tables_shelf.specs.Counts.{writes_in};
 ghost use Rattle.office_tables_shelf.specs.Shelf.{IsKept};
@@ -13,49 +11,36 @@ ghost use Rattle.office_desk_cabinet.specs.RegisterStands.{RegisterStandsSound};
 ghost use Rattle.office_desk_cabinet.specs.Registers.{Registers, LeavesTiming, most_record_writes, rows_told};
 ghost use Rattle.office_desk_cabinet.specs.Stocking.{TellsStock, stock_row_of, stock_rows_of};
 
-use crate::finding::order_in;
 use crate::registered::Registered;
 use crate::rows::registered;
+use crate::standing::{delivery_at, hand_at, line_at, order_at};
 use cabinet_core::{
     CabinetChange, CabinetRefusal, Delivery, Hand, PartCode, RecordCommand, Recorded, UsedLine,
     delivery_is_within, receive, use_part, used_line_is_within,
 };
 use office_tables_shelf::rows::RowChange;
 use office_tables_shelf::shelf::{Shelf, ShelfFault};
-use signal_records::{InterId, LineNo, NoMemory, RecordNo};
+use signal_records::{InterId, NoMemory};
 use std::alloc::Global;
-
-/// The line of an order and a number, if there is one.
-pub(crate) fn line_in(found: Vec<UsedLine>, order: RecordNo, line: LineNo) -> Option<UsedLine>
-    ensures { (tables : Content) (id : ℕ) (r : Register) → RegisterStandsSound tables r → ListsUsed tables id found.items → result ≡ get r.lines (used_key id order line) }
-{
-    for used in found {
-        if used.order == order && used.line == line {
-            return Some(used);
-        }
-    }
-    None
-}
 
 /// Decides whether a part is used for an order.
 pub(crate) fn decide_use_part<S: Shelf>(
     shelf: &mut S,
     alloc: Global,
+    pending: &[RowChange],
     id: InterId,
     line: &UsedLine,
 ) -> Result<Registered, ShelfFault>
-    ensures step { S.is_honest shelf.new → Registers (S.content shelf.old) (RecordCommand.UsePart id line.now) result }
-    ensures leaves { IfOk result (λ told. LeavesTiming (S.content shelf.old) (rows_told told)) }
+    ensures step { S.is_honest shelf.new → Registers (S.content shelf.old) pending.now (RecordCommand.UsePart id line.now) result }
+    ensures leaves { IfOk result (λ told. (tables : Content) → LeavesTiming tables (rows_told told)) }
     ensures writes { IfOk result (λ told. (table : Table) → writes_in table (rows_told told) ≤ most_record_writes (RecordCommand.UsePart id line.now) table) }
     ensures never_memory { IfOk result (λ told. told ≢ Registered.Refused CabinetRefusal.NoMemory) }
     ensures kept { IsKept S.is_honest S.content S.written S.may_leave shelf.old shelf.new }
 {
     used_line_is_within(line);
-    let hand = shelf.hand(alloc, &line.part)?;
-    let lines = shelf.used_lines(alloc, id)?;
-    let there = line_in(lines, line.order, line.line);
-    let orders = shelf.orders(alloc, id)?;
-    let order = order_in(orders, line.order);
+    let hand = hand_at(shelf, alloc, pending, &line.part)?;
+    let there = line_at(shelf, alloc, pending, id, line.order, line.line)?;
+    let order = order_at(shelf, alloc, pending, id, line.order)?;
     let decision = use_part(alloc, &there, &order, hand, line);
     registered(alloc, id, decision)
 }
@@ -107,17 +92,18 @@ fn received(
 pub(crate) fn decide_receive<S: Shelf>(
     shelf: &mut S,
     alloc: Global,
+    pending: &[RowChange],
     delivery: &Delivery,
 ) -> Result<Registered, ShelfFault>
-    ensures step { S.is_honest shelf.new → Registers (S.content shelf.old) (RecordCommand.Receive delivery.now) result }
-    ensures leaves { IfOk result (λ told. LeavesTiming (S.content shelf.old) (rows_told told)) }
+    ensures step { S.is_honest shelf.new → Registers (S.content shelf.old) pending.now (RecordCommand.Receive delivery.now) result }
+    ensures leaves { IfOk result (λ told. (tables : Content) → LeavesTiming tables (rows_told told)) }
     ensures writes { IfOk result (λ told. (table : Table) → writes_in table (rows_told told) ≤ most_record_writes (RecordCommand.Receive delivery.now) table) }
     ensures never_memory { IfOk result (λ told. told ≢ Registered.Refused CabinetRefusal.NoMemory) }
     ensures kept { IsKept S.is_honest S.content S.written S.may_leave shelf.old shelf.new }
 {
     delivery_is_within(delivery);
-    let hand = shelf.hand(alloc, &delivery.part)?;
-    let there = shelf.delivery(alloc, &delivery.part, delivery.number)?;
+    let hand = hand_at(shelf, alloc, pending, &delivery.part)?;
+    let there = delivery_at(shelf, alloc, pending, &delivery.part, delivery.number)?;
     let decision = receive(alloc, &there, hand, delivery);
     received(alloc, decision)
 }

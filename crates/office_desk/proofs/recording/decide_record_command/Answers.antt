@@ -1,7 +1,7 @@
 use Rattle.std.proofs.Common.{◌≡◌, true, false, arith, subst}
 use Rattle.office_desk_cabinet.specs.Register.{Register}
 use Rattle.office_desk_cabinet.specs.RegisterStands.{RegisterStandsSound}
-use Rattle.office_desk_cabinet.specs.Registers.{LeavesTiming, RegistersFrom, rows_told}
+use Rattle.office_desk_cabinet.specs.Registers.{RegistersFrom}
 use Rattle.office_desk.proofs.Recorded.{about_known, record_answers, record_unknown}
 use Rattle.office_desk.proofs.recording.decide_record_command.Goals as goal
 
@@ -23,5 +23,5 @@ returns-clause-step g c = λ honest office stands.
     record_answers (g.S.Shelf.content c.args.shelf.now) office c.args.command.now done _ _ stands
     (about_known _ _ _ _ _ c.cabinet_of.ensures there (c.in_ok-is_known.ensures.known first))
     (subst (λ t. (r : Register) → RegisterStandsSound t r → RegistersFrom t c.args.command.now done r) same (c.in_ok-told.ensures.step honest))
-    (subst (λ t. LeavesTiming t (rows_told done)) same c.in_ok-told.ensures.leaves)
+    (c.in_ok-told.ensures.leaves (g.S.Shelf.content c.args.shelf.now))
     c.answer.ensures.reply c.answer.ensures.changes

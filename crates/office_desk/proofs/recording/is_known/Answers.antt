@@ -1,5 +1,5 @@
 use Rattle.std.proofs.Common.{◌≡◌, ◌∙◌, subst, sym}
-use Rattle.office_desk.specs.Recording.{is_known}
+use Rattle.office_desk.specs.Step.{is_known}
 use Rattle.office_desk.proofs.Recorded.{known_read}
 use Rattle.office_desk.proofs.recording.is_known.Goals as goal
 

@@ -2,19 +2,20 @@ use Rattle.std.proofs.Common.{subst}
 use Rattle.cabinet_core.specs.Cabinet.{receive_line}
 use Rattle.cabinet_core.specs.declared.command.RecordCommand.TheVariants.{Receive}
 use Rattle.office_tables_shelf.specs.CabinetReads.{ReadsDelivery}
+use Rattle.office_tables_shelf.specs.Change.{changed_by}
 use Rattle.office_desk_cabinet.proofs.Stocked.{receive_answers, receive_writes, received_tells}
 use Rattle.office_desk_cabinet.proofs.Told.{answer_leaves, answer_writes, answer_memory}
 use Rattle.office_desk_cabinet.proofs.stocking.decide_receive.Goals as goal
 
 pub returns-clause-step : goal.returns-clause-step
 returns-clause-step g c = λ honest.
-    let at_hand = c.delivery.ensures.kept.honest_before honest in
-    let tables = g.S.Shelf.content c.args.shelf.now in
+    let at_hand = c.delivery_at.ensures.kept.honest_before honest in
+    let pending = c.args.pending.now in
     let asked = c.args.delivery.now in
     let there = c.in_ok-there.there in
     let hand = c.in_ok-hand.hand in
-    receive_answers tables 0 asked there hand c.receive-decision.result c.received.result c.delivery_is_within.ensures
-    (subst (λ t. ReadsDelivery t asked.part asked.number there) (c.hand.ensures.kept.same_content at_hand) (c.in_ok-there.ensures.row honest))
+    receive_answers (g.S.Shelf.content c.args.shelf.now) pending 0 asked there hand c.receive-decision.result c.received.result c.delivery_is_within.ensures
+    (subst (λ t. ReadsDelivery (changed_by t pending) asked.part asked.number there) (c.hand_at.ensures.kept.same_content at_hand) (c.in_ok-there.ensures.row honest))
     (c.in_ok-hand.ensures.row at_hand)
     c.receive-decision.ensures (received_tells 0 asked (receive_line there hand asked) hand c.receive-decision.result c.received.result c.receive-decision.ensures c.received.ensures.tells) c.received.ensures.fault
 
@@ -22,7 +23,7 @@ pub returns-clause-leaves : goal.returns-clause-leaves
 returns-clause-leaves g c =
     let asked = c.args.delivery.now in
     let hand = c.in_ok-hand.hand in
-    answer_leaves (g.S.Shelf.content c.args.shelf.now) 0 c.receive-decision.result c.received.result
+    answer_leaves 0 c.receive-decision.result c.received.result
     (received_tells 0 asked (receive_line c.in_ok-there.there hand asked) hand c.receive-decision.result c.received.result c.receive-decision.ensures c.received.ensures.tells)
 
 pub returns-clause-writes : goal.returns-clause-writes

@@ -1,0 +1,255 @@
+-- The records of an import, one after the other.
+use Rattle.std.proofs.Common.{◌≡◌, ◌≢◌, ◌+◌, ◌++◌, ◌≤◌, ◌<◌, ℕ, Bool, true, false, List, [], ◌∷◌, Option, Some, None, Result, Ok, Err, length, drop, get_or, zero, suc, refl, ap, sym, subst, ◌∙◌, inl, inr, arith}
+use Rattle.std.proofs.Math.Seq.{drop-cons}
+use Rattle.std.specs.Prelude.{◌⊎◌, IsErrAnd}
+use Rattle.std.proofs.lemmas.List.{drop_all}
+use Rattle.cabinet_core.specs.Cabinet.{Line, added as added_line, same as same_line, refused as refused_line}
+use Rattle.cabinet_core.specs.declared.command.RecordCommand.{RecordCommand}
+use Rattle.cabinet_core.specs.declared.command.RecordCommand.TheVariants as register
+use Rattle.office_tables_shelf.specs.Change.{changed, changed_by, table_of}
+use Rattle.office_tables_shelf.specs.Content.{Content}
+use Rattle.office_tables_shelf.specs.Counts.{writes_in}
+use Rattle.office_tables_shelf.specs.declared.rows.RowChange.{RowChange}
+use Rattle.office_tables_shelf.specs.declared.rows.Table.{Table}
+use Rattle.office_tables_shelf.specs.declared.rows.Table.TheVariants as table
+use Rattle.office_tables_shelf.specs.declared.shelf.ShelfFault.{ShelfFault}
+use Rattle.office_tables_shelf.specs.declared.shelf.ShelfFault.TheVariants.{NoMemory, Store, Damaged}
+use Rattle.office_desk_cabinet.specs.Register.{Register}
+use Rattle.office_desk_cabinet.specs.Registers.{LeavesTiming, RegistersFrom, line_told, most_record_writes, rows_told}
+use Rattle.office_desk_cabinet.specs.RegisterStands.{RegisterStandsSound}
+use Rattle.office_desk_cabinet.specs.RegisterStep.{after_line, after_record, line_at, with_record}
+use Rattle.office_desk_cabinet.specs.declared.registered.Registered.{Registered}
+use Rattle.office_desk.specs.Answers.{Answers, AnswersAny, Decides}
+use Rattle.office_desk.specs.Changes.{most_import_writes, most_writes}
+use Rattle.office_desk.specs.Damage.{MeetsCabinetDamage, MeetsImportDamage}
+use Rattle.office_desk.specs.Importing.{ImportsFrom, ImportsAny, LeavesAnyTiming, TakesFrom, TakesRecord, goes_on}
+use Rattle.office_desk.specs.Office.{Office}
+use Rattle.office_desk.specs.Refusal.{line_of}
+use Rattle.office_desk.specs.StandFor.{StandForSound}
+use Rattle.office_desk.specs.Step.{cabinet_of, import_by, import_from, imported, is_known, with_recorded}
+use Rattle.office_desk.specs.declared.command.Command.TheVariants as command
+use Rattle.office_desk.specs.declared.decided.Decided.{Decided}
+use Rattle.office_desk.specs.declared.importing.Taken.{Taken}
+use Rattle.office_desk.specs.declared.importing.Taken.TheVariants as taken
+use Rattle.office_desk.specs.declared.refusal.Refusal.{Refusal}
+use Rattle.office_desk.specs.declared.refusal.Refusal.TheVariants.{ImportRow}
+use Rattle.office_desk.specs.declared.reply.Reply.{Reply}
+use Rattle.office_desk.specs.declared.reply.Reply.TheVariants.{Imported, Refused}
+use Rattle.office_desk.proofs.Recorded.{register_of, stands_after}
+use Rattle.office_desk.proofs.Shown.{query_answers}
+
+-- where the import goes on after a record, that was added or was there
+pub import_goes_on : {X : Type 0} → (P : Line → Type 0) (at : ℕ) (there : Bool) (line : Line) (added same : Result X Refusal) (done : X)
+    → (added ≡ Ok done → P added_line) → (same ≡ Ok done → P same_line) → import_by at there line added same ≡ Ok done → P line
+import_goes_on P at false line added same done new old is = absurd cc
+import_goes_on P at true added_line added same done new old is = new is
+import_goes_on P at true same_line added same done new old is = old is
+import_goes_on P at true (refused_line why) added same done new old is = absurd cc
+
+-- ---- rows after rows
+
+pub changed_after : (tables : Content) (first then : List RowChange) → changed_by tables (first ++ then) ≡ changed_by (changed_by tables first) then
+changed_after tables [] then = refl
+changed_after tables (change ∷ first) then = changed_after (changed tables change) first then
+
+pub leaves_after : (first then : List RowChange) → LeavesAnyTiming first → LeavesAnyTiming then → LeavesAnyTiming (first ++ then)
+leaves_after first then one two tables =
+    let a = one tables in
+    let b = two (changed_by tables first) in
+    let after = changed_after tables first then in
+    record {
+      intersection = ap (λ (c : Content). c.intersection) after ∙ b.intersection ∙ a.intersection;
+      timing = ap (λ (c : Content). c.timing) after ∙ b.timing ∙ a.timing;
+      draft = ap (λ (c : Content). c.draft) after ∙ b.draft ∙ a.draft;
+    }
+
+pub writes_after : (table : Table) (first then : List RowChange) → writes_in table (first ++ then) ≡ writes_in table first + writes_in table then
+writes_after table [] then = omega arith
+writes_after table (change ∷ first) then = let rest = writes_after table first then in omega (arith, rest)
+
+-- at most as many as a record may write
+pub few_more : (table : Table) (first then told all : List RowChange) (most : ℕ) → told ≡ then → all ≡ first ++ then → writes_in table told ≤ most → writes_in table all ≤ writes_in table first + most
+few_more table first then told all most those is few =
+    let sum = ap (writes_in table) is ∙ writes_after table first then in
+    let same = ap (writes_in table) those in
+    omega (arith, sum, same, few)
+
+pub leaves_more : (first then told all : List RowChange) → told ≡ then → all ≡ first ++ then → LeavesAnyTiming first → LeavesAnyTiming told → LeavesAnyTiming all
+leaves_more first then told all those is one two = subst LeavesAnyTiming (sym is) (leaves_after first then one (subst LeavesAnyTiming those two))
+
+-- ---- the records that are left
+
+pub next_left : {X : Type 0} (xs : List X) (n : ℕ) (x : X) → n < length xs → x ≡ get_or xs n x → drop n xs ≡ x ∷ drop (n + 1) xs
+next_left xs n x low at =
+    let next : suc n ≡ n + 1 = omega arith in
+    drop-cons xs n x low ∙ (λ k. sym at k ∷ drop (next k) xs)
+
+-- damage that one of the last records meets
+damage_among : (tables : Content) (records : List RecordCommand) (n : ℕ) → MeetsImportDamage tables (drop n records) → MeetsImportDamage tables records
+damage_among tables records zero damage = damage
+damage_among tables [] (suc n) damage = damage
+damage_among tables (c ∷ cs) (suc n) damage = inr (damage_among tables cs n damage)
+
+pub damage_of_record : (tables : Content) (records : List RecordCommand) (n : ℕ) (c : RecordCommand) → n < length records → c ≡ get_or records n c → MeetsCabinetDamage tables c (cabinet_of c) → MeetsImportDamage tables records
+damage_of_record tables records n c low at damage = damage_among tables records n (subst (MeetsImportDamage tables) (sym (next_left records n c low at)) (inl damage))
+
+-- the most writes of the records are those of one and of the others
+pub writes_left : (table : Table) (records : List RecordCommand) (n : ℕ) (c : RecordCommand) (done now all : ℕ) → n < length records → c ≡ get_or records n c
+    → done + most_import_writes (drop n records) table ≤ all → now ≤ done + most_record_writes c table → now + most_import_writes (drop (n + 1) records) table ≤ all
+writes_left table records n c done now all low at few step =
+    let front : most_import_writes (drop n records) table ≡ most_record_writes c table + most_import_writes (drop (n + 1) records) table = ap (λ cs. most_import_writes cs table) (next_left records n c low at) in
+    omega (arith, few, step, front)
+
+pub writes_whole : (table : Table) (records : List RecordCommand) (n done all : ℕ) → length records ≤ n → done + most_import_writes (drop n records) table ≤ all → done ≤ all
+writes_whole table records n done all high few = omega (arith, few)
+
+-- ---- from record to record
+
+known_same : (office : Office) (r : Register) (about : Option ℕ) → is_known (record office { register = r }) about ≡ is_known office about
+known_same office r None = refl
+known_same office r (Some id) = refl
+
+pub imports_start : (stored : Content) (all : List RecordCommand) → ImportsAny stored all all 1 0 0 []
+imports_start stored all office stands = record { register = office.register; stand = register_of stored office stands; goes = refl }
+
+-- how the import of the records that are left begins with the first of them
+first_goes : (office : Office) (r : Register) (c : RecordCommand) (cs : List RecordCommand) (at added same : ℕ) (t : Taken)
+    → ((at : ℕ) (new old : Result (ℕ × ℕ × Office) Refusal) → import_by at (is_known office (cabinet_of c)) (line_at r c) new old ≡ goes_on at t new old)
+    → import_from at added same (record office { register = r }) (c ∷ cs)
+    ≡ goes_on at t (import_from (at + 1) (added + 1) same (record office { register = with_record r c }) cs) (import_from (at + 1) added (same + 1) (record office { register = r }) cs)
+first_goes office r c cs at added same t goes =
+    ap (λ known. import_by at known (line_at r c) (import_from (at + 1) (added + 1) same (record office { register = with_record r c }) cs) (import_from (at + 1) added (same + 1) (record office { register = r }) cs)) (known_same office r (cabinet_of c))
+    ∙ goes at (import_from (at + 1) (added + 1) same (record office { register = with_record r c }) cs) (import_from (at + 1) added (same + 1) (record office { register = r }) cs)
+
+pub imports_added : (stored : Content) (all rest : List RecordCommand) (c : RecordCommand) (cs : List RecordCommand) (at added same : ℕ) (before after : List RowChange) → rest ≡ c ∷ cs
+    → ImportsAny stored all rest at added same before → TakesRecord stored before c taken.Added after → ImportsAny stored all cs (at + 1) (added + 1) same after
+imports_added stored all rest c cs at added same before after is imports takes office stands =
+    let so_far = imports office stands in
+    let now = takes office stands so_far.register so_far.stand in
+    record {
+      register = with_record so_far.register c;
+      stand = now.stand;
+      goes = so_far.goes ∙ ap (import_from at added same (record office { register = so_far.register })) is ∙ first_goes office so_far.register c cs at added same taken.Added now.goes;
+    }
+
+pub imports_same : (stored : Content) (all rest : List RecordCommand) (c : RecordCommand) (cs : List RecordCommand) (at added same : ℕ) (before after : List RowChange) → rest ≡ c ∷ cs
+    → ImportsAny stored all rest at added same before → TakesRecord stored before c taken.Same after → ImportsAny stored all cs (at + 1) added (same + 1) after
+imports_same stored all rest c cs at added same before after is imports takes office stands =
+    let so_far = imports office stands in
+    let now = takes office stands so_far.register so_far.stand in
+    record {
+      register = so_far.register;
+      stand = now.stand;
+      goes = so_far.goes ∙ ap (import_from at added same (record office { register = so_far.register })) is ∙ first_goes office so_far.register c cs at added same taken.Same now.goes;
+    }
+
+-- the first refusal refuses them all
+pub import_refused : (stored : Content) (all rest : List RecordCommand) (c : RecordCommand) (cs : List RecordCommand) (at added same cause : ℕ) (before after : List RowChange) (why : Refusal) (said : Reply) (changes : List RowChange) → rest ≡ c ∷ cs
+    → ImportsAny stored all rest at added same before → TakesRecord stored before c (taken.Refused why) after → cause ≡ (line_of why).number
+    → said ≡ Refused (ImportRow at cause) → changes ≡ [] → AnswersAny stored (command.Import all) said (changed_by stored changes)
+import_refused stored all rest c cs at added same cause before after why said changes left imports takes number is none office stands =
+    let so_far = imports office stands in
+    let now = takes office stands so_far.register so_far.stand in
+    let goes = so_far.goes ∙ ap (import_from at added same (record office { register = so_far.register })) left ∙ first_goes office so_far.register c cs at added same (taken.Refused why) now.goes in
+    query_answers stored office (command.Import all) (Refused (ImportRow at cause)) said changes stands
+    (ap (imported office) goes ∙ (λ k. (Refused (ImportRow at (sym number k)), office))) is none
+
+-- after the last record
+pub import_done : (stored : Content) (all rest : List RecordCommand) (at added same : ℕ) (pending changes : List RowChange) (said : Reply) → rest ≡ []
+    → ImportsAny stored all rest at added same pending → LeavesAnyTiming pending → said ≡ Imported added same → changes ≡ pending
+    → AnswersAny stored (command.Import all) said (changed_by stored changes)
+import_done stored all rest at added same pending changes said none imports leaves is rows office stands =
+    let done = imports office stands in
+    let next : Office = record office { register = done.register } in
+    let goes = done.goes ∙ ap (import_from at added same next) none in
+    record {
+      next = next;
+      step = inr (ap (imported office) goes ∙ (λ k. (sym is k, next)));
+      stand = subst (λ list. StandForSound (changed_by stored list) next) (sym rows) (stands_after stored pending office done.register stands (leaves stored) done.stand);
+    }
+
+-- a record that is new: its rows come after those that are pending
+pub record_added : (stored seen : Content) (c : RecordCommand) (rows shown before after : List RowChange) (told : Registered) (office : Office) (r : Register)
+    → shown ≡ before → seen ≡ stored → true ≡ is_known office (cabinet_of c) → RegisterStandsSound (changed_by stored before) r
+    → ((r : Register) → RegisterStandsSound (changed_by seen shown) r → RegistersFrom (changed_by seen shown) c told r) → line_told told ≡ added_line → rows_told told ≡ rows → after ≡ before ++ rows
+    → TakesFrom stored c taken.Added after office r
+record_added stored seen c rows shown before after told office r slice same known stands registers is those list =
+    let tables : changed_by seen shown ≡ changed_by stored before = λ k. changed_by (same k) (slice k) in
+    let from = subst (λ t. RegistersFrom t c told r) tables (registers r (subst (λ t. RegisterStandsSound t r) (sym tables) stands)) in
+    let line : line_at r c ≡ added_line = sym from.line ∙ is in
+    record {
+      goes = λ at new old. (λ k. import_by at (sym known k) (line k) new old);
+      stand = subst (λ (t : Content). RegisterStandsSound t (with_record r c)) (sym (ap (changed_by stored) list ∙ changed_after stored before rows))
+          (subst (λ l. RegisterStandsSound (changed_by (changed_by stored before) rows) (after_line l (with_record r c) r)) line
+          (subst (λ t. RegisterStandsSound (changed_by (changed_by stored before) t) (after_record r c)) those from.stand));
+    }
+
+-- a fault of the shelf under a record
+pub fault_decides : (tables : Content) (all : List RecordCommand) (fault : ShelfFault) (result : Result Decided ShelfFault) → IsErrAnd result (λ e. e ≡ fault)
+    → (fault ≡ Damaged → MeetsImportDamage tables all) → Decides tables (command.Import all) result
+fault_decides tables all fault (Ok decided) is damage = absurd is
+fault_decides tables all fault (Err Damaged) is damage = damage (sym is)
+fault_decides tables all fault (Err NoMemory) is damage = tt
+fault_decides tables all fault (Err Store) is damage = tt
+
+-- both ways to go on at once: a record is new, or it was there
+pub imports_on : (stored : Content) (all rest : List RecordCommand) (c : RecordCommand) (cs : List RecordCommand) (at added same : ℕ) (before after : List RowChange) (t : Taken) (added_now same_now : ℕ) → rest ≡ c ∷ cs
+    → (((t ≡ taken.Added) × (added_now ≡ added + 1) × (same_now ≡ same)) ⊎ ((t ≡ taken.Same) × (added_now ≡ added) × (same_now ≡ same + 1)))
+    → ImportsAny stored all rest at added same before → TakesRecord stored before c t after → ImportsAny stored all cs (at + 1) added_now same_now after
+imports_on stored all rest c cs at added same before after t added_now same_now left (inl new) imports takes =
+    subst (λ n. ImportsAny stored all cs (at + 1) n same_now after) (sym new.1) (subst (λ n. ImportsAny stored all cs (at + 1) (added + 1) n after) (sym new.2)
+    (imports_added stored all rest c cs at added same before after left imports (subst (λ t. TakesRecord stored before c t after) new.0 takes)))
+imports_on stored all rest c cs at added same before after t added_now same_now left (inr old) imports takes =
+    subst (λ n. ImportsAny stored all cs (at + 1) n same_now after) (sym old.1) (subst (λ n. ImportsAny stored all cs (at + 1) added n after) (sym old.2)
+    (imports_same stored all rest c cs at added same before after left imports (subst (λ t. TakesRecord stored before c t after) old.0 takes)))
+
+pub counted_on : (added same index added_now same_now : ℕ) (t : Taken) → added + same ≡ index
+    → (((t ≡ taken.Added) × (added_now ≡ added + 1) × (same_now ≡ same)) ⊎ ((t ≡ taken.Same) × (added_now ≡ added) × (same_now ≡ same + 1)))
+    → added_now + same_now ≡ index + 1
+counted_on added same index added_now same_now t is (inl new) = let a = new.1 in let b = new.2 in omega (arith, is, a, b)
+counted_on added same index added_now same_now t is (inr old) = let a = old.1 in let b = old.2 in omega (arith, is, a, b)
+
+-- ---- the ends of the loop
+
+pub nothing_leaves : LeavesAnyTiming []
+nothing_leaves tables = record { intersection = refl; timing = refl; draft = refl }
+
+pub nothing_written : (table : Table) (pending : List RowChange) (records : List RecordCommand) → pending ≡ [] → writes_in table pending + most_import_writes records table ≤ most_import_writes records table
+nothing_written table pending records none = let zero_writes = ap (writes_in table) none in omega (arith, zero_writes)
+
+-- a record that was taken on the tables as they were stored
+pub same_stored : (before : List RowChange) (c : RecordCommand) (t : Taken) (after : List RowChange) {stored seen : Content} → seen ≡ stored → TakesRecord seen before c t after → TakesRecord stored before c t after
+same_stored before c t after same takes = subst (λ s. TakesRecord s before c t after) same takes
+
+-- a record writes no row but of the register
+no_others : (c : RecordCommand) → (most_record_writes c table.Intersection ≡ 0) × (most_record_writes c table.Timing ≡ 0) × (most_record_writes c table.Draft ≡ 0)
+no_others (register.Inspect id inspection) = (refl, refl, refl)
+no_others (register.OpenOrder id opening) = (refl, refl, refl)
+no_others (register.UsePart id line) = (refl, refl, refl)
+no_others (register.CloseOrder id order closing) = (refl, refl, refl)
+no_others (register.Receive delivery) = (refl, refl, refl)
+
+both_zero : (a b : ℕ) → a ≡ 0 → b ≡ 0 → a + b ≡ 0
+both_zero a b one two = omega (arith, one, two)
+
+none_of_others : (records : List RecordCommand) → (most_import_writes records table.Intersection ≡ 0) × (most_import_writes records table.Timing ≡ 0) × (most_import_writes records table.Draft ≡ 0)
+none_of_others [] = (refl, refl, refl)
+none_of_others (c ∷ cs) =
+    let one = no_others c in
+    let rest = none_of_others cs in (
+      both_zero (most_record_writes c table.Intersection) (most_import_writes cs table.Intersection) one.0 rest.0,
+      both_zero (most_record_writes c table.Timing) (most_import_writes cs table.Timing) one.1 rest.1,
+      both_zero (most_record_writes c table.Draft) (most_import_writes cs table.Draft) one.2 rest.2,
+    )
+
+-- an import writes at most what its records may
+pub import_writes : (tables : Content) (records : List RecordCommand) (pending : List RowChange) → ((table : Table) → writes_in table pending ≤ most_import_writes records table)
+    → (table : Table) → writes_in table pending ≤ most_writes tables (command.Import records) table
+import_writes tables records pending few table.Intersection = subst (λ n. writes_in table.Intersection pending ≤ n) (none_of_others records).0 (few table.Intersection)
+import_writes tables records pending few table.Timing = subst (λ n. writes_in table.Timing pending ≤ n) (none_of_others records).1 (few table.Timing)
+import_writes tables records pending few table.Draft = subst (λ n. writes_in table.Draft pending ≤ n) (none_of_others records).2 (few table.Draft)
+import_writes tables records pending few table.Inspection = few table.Inspection
+import_writes tables records pending few table.WorkOrder = few table.WorkOrder
+import_writes tables records pending few table.Part = few table.Part
+import_writes tables records pending few table.Delivery = few table.Delivery
+import_writes tables records pending few table.UsedPart = few table.UsedPart

@@ -1,0 +1,19 @@
+use Rattle.std.proofs.Common.{◌≡◌, ◌+◌, ◌≤◌, drop}
+use Rattle.office_tables_shelf.specs.Counts.{writes_in}
+use Rattle.office_tables_shelf.specs.Shelf.{IsKept}
+use Rattle.office_tables_shelf.specs.declared.rows.Table.{Table}
+use Rattle.office_desk.specs.Changes.{most_import_writes}
+use Rattle.office_desk.specs.Importing.{ImportsAny, LeavesAnyTiming}
+use Rattle.office_desk.proofs.importing.decide_import.Given as goal
+
+-- the records before the next were taken, and their rows are pending
+abbrev pub invariant-loop-index : goal.invariant-loop-index
+invariant-loop-index g l =
+    let shelf = g.S.Shelf in
+    record {
+      counted : l.added + l.same ≡ l.index;
+      imports : shelf.is_honest l.shelf → ImportsAny (shelf.content l.fn.shelf) l.records (drop l.index l.records) (l.index + 1) l.added l.same l.pending.items;
+      leaves : LeavesAnyTiming l.pending.items;
+      writes : (table : Table) → writes_in table l.pending.items + most_import_writes (drop l.index l.records) table ≤ most_import_writes l.records table;
+      kept : IsKept shelf.is_honest shelf.content shelf.written shelf.may_leave l.fn.shelf l.shelf;
+    }

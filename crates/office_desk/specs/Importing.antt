@@ -1,0 +1,53 @@
+-- What comes of a record of an import, after those before it.
+use Rattle.std.specs.Prelude.{◌≡◌, ℕ, List, Result, Err}
+use Rattle.cabinet_core.specs.declared.command.RecordCommand.{RecordCommand}
+use Rattle.office_tables_shelf.specs.Change.{changed_by}
+use Rattle.office_tables_shelf.specs.Content.{Content}
+use Rattle.office_tables_shelf.specs.declared.rows.RowChange.{RowChange}
+use Rattle.office_desk_cabinet.specs.Register.{Register}
+use Rattle.office_desk_cabinet.specs.Registers.{LeavesTiming}
+use Rattle.office_desk_cabinet.specs.RegisterStands.{RegisterStandsSound}
+use Rattle.office_desk_cabinet.specs.RegisterStep.{line_at, with_record}
+use Rattle.office_desk.specs.Office.{Office}
+use Rattle.office_desk.specs.Refusal.{line_of}
+use Rattle.office_desk.specs.StandFor.{StandForSound}
+use Rattle.office_desk.specs.Step.{cabinet_of, import_by, import_from, is_known}
+use Rattle.office_desk.specs.declared.importing.Taken.{Taken}
+use Rattle.office_desk.specs.declared.importing.Taken.TheVariants.{Added, Same, Refused}
+use Rattle.office_desk.specs.declared.refusal.Refusal.{Refusal}
+use Rattle.office_desk.specs.declared.refusal.Refusal.TheVariants.{ImportRow}
+
+-- of whatever tables, rows of the register alone are written
+abbrev pub LeavesAnyTiming : List RowChange → Type 0
+LeavesAnyTiming changes = (tables : Content) → LeavesTiming tables changes
+
+-- how an import goes on after a record with a number in it
+abbrev pub goes_on : (at : ℕ) → Taken → (added same : Result (ℕ × ℕ × Office) Refusal) → Result (ℕ × ℕ × Office) Refusal
+goes_on at Added added same = added
+goes_on at Same added same = same
+goes_on at (Refused why) added same = Err (ImportRow at (line_of why).number)
+
+-- the register after a record
+abbrev pub register_with : Taken → Register → RecordCommand → Register
+register_with Added r c = with_record r c
+register_with Same r c = r
+register_with (Refused why) r c = r
+
+-- from an office with a register: the import goes on as the machine's, and the pending rows make the register with the record
+pub record TakesFrom (stored : Content) (c : RecordCommand) (taken : Taken) (pending : List RowChange) (office : Office) (r : Register) : Type 0 where
+  pub goes : (at : ℕ) (added same : Result (ℕ × ℕ × Office) Refusal) → import_by at (is_known office (cabinet_of c)) (line_at r c) added same ≡ goes_on at taken added same
+  pub stand : RegisterStandsSound (changed_by stored pending) (register_with taken r c)
+
+-- whichever sound office the stored tables stand for, and whichever register the pending rows made of its own
+abbrev pub TakesRecord : Content → List RowChange → RecordCommand → Taken → List RowChange → Type 0
+TakesRecord stored before c taken pending = (office : Office) → StandForSound stored office → (r : Register) → RegisterStandsSound (changed_by stored before) r → TakesFrom stored c taken pending office r
+
+-- from an office: the pending rows made a register, and the import of all the records goes on from there with those that are left
+pub record ImportsFrom (stored : Content) (all rest : List RecordCommand) (at added same : ℕ) (pending : List RowChange) (office : Office) : Type 0 where
+  pub register : Register
+  pub stand : RegisterStandsSound (changed_by stored pending) register
+  pub goes : import_from 1 0 0 office all ≡ import_from at added same (record office { register = register }) rest
+
+-- whichever sound office the stored tables stand for
+abbrev pub ImportsAny : Content → (all rest : List RecordCommand) → (at added same : ℕ) → List RowChange → Type 0
+ImportsAny stored all rest at added same pending = (office : Office) → StandForSound stored office → ImportsFrom stored all rest at added same pending office

@@ -1,0 +1,102 @@
+//! Imports: records of the register decided in turn, each after those before it.
+ghost use Rattle.std.specs.Prelude.{◌≡◌, ◌≢◌, ◌≤◌, ◌+◌, ◌++◌, [], IfOk, OnOk};
+ghost use Rattle.office_tables_shelf.specs.Counts.{writes_in};
+ghost use Rattle.office_tables_shelf.specs.Shelf.{IsKept};
+ghost use Rattle.office_tables_shelf.specs.declared.rows.Table.{Table};
+ghost use Rattle.office_desk_cabinet.specs.Registers.{most_record_writes};
+ghost use Rattle.office_desk.specs.Answers.{Decides};
+ghost use Rattle.office_desk.specs.Changes.{IsRefused, most_writes};
+ghost use Rattle.office_desk.specs.Damage.{MeetsCabinetDamage};
+ghost use Rattle.office_desk.specs.Importing.{LeavesAnyTiming, TakesRecord};
+ghost use Rattle.office_desk.specs.Step.{cabinet_of as about_of};
+
+use crate::command::Command;
+use crate::decided::Decided;
+use crate::recording::{cabinet_of, is_known, refused};
+use crate::records::Records;
+use crate::refusal::Refusal;
+use crate::reply::Reply;
+use cabinet_core::RecordCommand;
+use office_desk_cabinet::{Registered, decide_record};
+use office_tables_shelf::rows::RowChange;
+use office_tables_shelf::shelf::{Shelf, ShelfFault};
+use signal_records::NoMemory;
+use std::alloc::Global;
+
+/// What came of a record of an import.
+#[derive(Clone, Copy)]
+enum Taken {
+    /// It is new.
+    Added,
+    /// An equal record is there.
+    Same,
+    /// It ends the import.
+    Refused(Refusal),
+}
+
+/// Adds rows to those that are pending.
+fn add_rows(pending: &mut Vec<RowChange>, mut rows: Vec<RowChange>) -> Result<(), NoMemory>
+    ensures { OnOk result (pending.new.items ≡ pending.old.items ++ rows.items) }
+{
+    pending.append(&mut rows)?;
+    Ok(())
+}
+
+/// Takes a record after those whose rows are pending, and adds its own rows to them.
+fn take_record<S: Shelf>(
+    shelf: &mut S,
+    alloc: Global,
+    pending: &mut Vec<RowChange>,
+    command: &RecordCommand,
+) -> Result<Taken, ShelfFault>
+    ensures step { S.is_honest shelf.new → IfOk result (λ taken. TakesRecord (S.content shelf.old) pending.old.items command.now taken pending.new.items) }
+    ensures damaged { result ≡ Err ShelfFault.Damaged → S.is_honest shelf.new → MeetsCabinetDamage (S.content shelf.old) command.now (about_of command.now) }
+    ensures leaves { IfOk result (λ _. LeavesAnyTiming pending.old.items → LeavesAnyTiming pending.new.items) }
+    ensures writes { IfOk result (λ _. (table : Table) → writes_in table pending.new.items ≤ writes_in table pending.old.items + most_record_writes command.now table) }
+    ensures kept { IsKept S.is_honest S.content S.written S.may_leave shelf.old shelf.new }
+{
+    if !is_known(shelf, alloc, cabinet_of(command))? {
+        return Ok(Taken::Refused(Refusal::UnknownIntersection));
+    }
+    match decide_record(shelf, alloc, pending.as_slice(), command)? {
+        Registered::Added(rows) => {
+            add_rows(pending, rows)?;
+            Ok(Taken::Added)
+        }
+        Registered::Same => Ok(Taken::Same),
+        Registered::Refused(refusal) => Ok(Taken::Refused(refused(refusal))),
+    }
+}
+
+/// Decides an import: its records in turn, each after those before it; the first that is refused
+/// refuses them all.
+pub(crate) fn decide_import<S: Shelf>(
+    shelf: &mut S,
+    alloc: Global,
+    records: &Records,
+) -> Result<Decided, ShelfFault>
+    ensures step { S.is_honest shelf.new → Decides (S.content shelf.old) (Command.Import records.now) result }
+    ensures writes { S.is_honest shelf.new → IfOk result (λ decided. (table : Table) → writes_in table decided.changes.items ≤ most_writes (S.content shelf.old) (Command.Import records.now) table) }
+    ensures undamaged { IfOk result (λ decided. decided.reply ≢ Reply.Refused Refusal.Damaged) }
+    ensures refused { IfOk result (λ decided. IsRefused decided.reply → decided.changes.items ≡ []) }
+    ensures kept { IsKept S.is_honest S.content S.written S.may_leave shelf.old shelf.new }
+{
+    let mut pending = Vec::new(alloc);
+    let mut added: usize = 0;
+    let mut same: usize = 0;
+    for (index, command) in records.as_slice().iter().enumerate() {
+        match take_record(shelf, alloc, &mut pending, command)? {
+            Taken::Added => added += 1,
+            Taken::Same => same += 1,
+            Taken::Refused(refusal) => {
+                let at = index + 1;
+                let cause = refusal.number();
+                return Ok(Decided::refused(alloc, Refusal::ImportRow { at, cause }));
+            }
+        }
+    }
+    Ok(Decided {
+        reply: Reply::Imported { added, same },
+        changes: pending,
+    })
+}
