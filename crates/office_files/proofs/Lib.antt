@@ -10,3 +10,5 @@ pub mod CellsLemmas
 pub mod RecordFieldLemmas
 pub mod FileLaws
 pub mod RecordLaws
+pub mod Utf8Lemmas
+pub mod SpelledTexts

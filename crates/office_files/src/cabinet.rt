@@ -1,6 +1,6 @@
 //! Records of the cabinet register as CSV files.
 
-ghost use Rattle.std.specs.Prelude.{◌≡◌, ◌≢◌, ◌++◌, map, List, IfOk, IfErr, OnOk, Ok, Err, MatchResult};
+ghost use Rattle.std.specs.Prelude.{◌≡◌, ◌≢◌, ◌++◌, map, List, IfOk, IfErr, OnOk, Ok, Err, IsUtf8, MatchResult};
 ghost use Rattle.std.specs.List.{filter};
 ghost use Rattle.cabinet_core.specs.declared.command.RecordCommand.{RecordCommand as Command};
 ghost use Rattle.office_files.specs.Csv.{csv_records};
@@ -144,9 +144,10 @@ fn view_commands(
 
 /// The CSV file of an intersection's cabinet: its inspections, and then for each order what
 /// opened it, the parts that were used for it, and what closed it. All stand in the order in which
-/// the view has them. Read, it gives the commands that made the cabinet so.
+/// the view has them. It is UTF-8. Read, it gives the commands that made the cabinet so.
 pub fn records_csv(alloc: Global, id: InterId, view: &CabinetView) -> Result<Vec<u8>, NoMemory>
     ensures text { IfOk result (λ text. text.items ≡ records_csv_text id view.now) }
+    ensures utf8 { IfOk result (λ text. IsUtf8 text.items) }
     ensures reads_back { IfOk result (λ text. commands_of text.items ≡ Ok (view_commands id view.now)) }
 {
     let commands = view_commands(alloc, id, view)?;

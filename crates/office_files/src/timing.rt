@@ -1,6 +1,6 @@
 //! Timing sets into CSV files.
 
-ghost use Rattle.std.specs.Prelude.{◌≡◌, map, IfOk, OnOk, Ok, string_bytes};
+ghost use Rattle.std.specs.Prelude.{◌≡◌, map, IfOk, OnOk, Ok, IsUtf8, string_bytes};
 ghost use Rattle.std.specs.FinMap as finmap;
 ghost use Rattle.csv.specs.Records.{fields_of};
 ghost use Rattle.signal_records.specs.TimingSet.{after_changes};
@@ -39,10 +39,11 @@ impl CsvRecord for Row {
 }
 
 /// The CSV file of a timing set: its rows in key order, each spelled as `write_row` does, with a
-/// line feed after it. Read, it puts the rows one after the other, which makes the set of the
-/// empty one.
+/// line feed after it. It is UTF-8. Read, it puts the rows one after the other, which makes the set
+/// of the empty one.
 pub fn timing_csv(alloc: Global, set: &TimingSet) -> Result<Vec<u8>, NoMemory>
     ensures text { IfOk result (λ text. text.items ≡ timing_csv_text set.now) }
+    ensures utf8 { IfOk result (λ text. IsUtf8 text.items) }
     ensures reads_back { IfOk result (λ text. changes_of text.items ≡ Ok (puts_of set.now)) }
     ensures restores { OnOk result (after_changes finmap.empty (puts_of set.now) ≡ set.now) }
 {

@@ -1,12 +1,13 @@
 -- The names of fields.
 use Rattle.std.specs.Prelude.{ℕ, List, codes}
 use Rattle.office_http_fields.specs.declared.ask.Field.{Field}
-use Rattle.office_http_fields.specs.declared.ask.Field.TheVariants.{Clerk, Count, Day, Id, Interval, Line, Name, Number, Order, Part, Rows, Text}
+use Rattle.office_http_fields.specs.declared.ask.Field.TheVariants.{Clerk, Count, Csv, Day, Id, Interval, Line, Name, Number, Order, Part, Rows, Text}
 
 -- the name of a field, as paths and bodies spell it
 abbrev pub field_name : Field → List ℕ
 field_name Clerk = codes "clerk"
 field_name Count = codes "count"
+field_name Csv = codes "csv"
 field_name Day = codes "day"
 field_name Id = codes "id"
 field_name Interval = codes "interval"

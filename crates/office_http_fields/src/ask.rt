@@ -11,6 +11,7 @@ use std::alloc::{AllocError, AllocFailed};
 pub enum Field {
     Clerk,
     Count,
+    Csv,
     Day,
     Id,
     Interval,
@@ -31,6 +32,7 @@ impl Field {
         match self {
             Field::Clerk => "clerk",
             Field::Count => "count",
+            Field::Csv => "csv",
             Field::Day => "day",
             Field::Id => "id",
             Field::Interval => "interval",
@@ -56,7 +58,7 @@ pub enum AskFault {
     Json,
     /// A field is missing, of another kind or out of its range.
     Field(Field),
-    /// A row of the body spells no change.
+    /// A row of the body, or a record of its CSV text, spells nothing that the request may have.
     BadRow {
         /// Which row, counted from 1.
         at: usize,

@@ -42,8 +42,8 @@ fn whole(body: &Value, field: Field) -> Option<u64>
     body.get(field.name()).and_then(Value::as_u64)
 }
 
-// The text under a key.
-fn text(body: &Value, field: Field) -> Option<&str>
+/// The text under a key.
+pub fn text(body: &Value, field: Field) -> Option<&str>
     ensures { option_map (λ text. text.now) result ≡ text_in (view body.now) field }
 {
     body.get(field.name()).and_then(Value::as_str)

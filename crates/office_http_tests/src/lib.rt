@@ -6,7 +6,11 @@ mod framing_tests;
 #[cfg(test)]
 mod listening_tests;
 #[cfg(test)]
+mod serving_csv_tests;
+#[cfg(test)]
 mod serving_tests;
+#[cfg(test)]
+mod wire_csv_tests;
 #[cfg(test)]
 mod wire_tests;
 #[cfg(test)]

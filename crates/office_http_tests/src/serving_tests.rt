@@ -48,7 +48,7 @@ impl Source for Drip<'_> {
 }
 
 /// What a stream is answered that comes in one read.
-fn served(
+pub(crate) fn served(
     alloc: Global,
     office: &mut Office<MapShelf>,
     stream: &[u8],

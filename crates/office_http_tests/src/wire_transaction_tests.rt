@@ -16,7 +16,8 @@ use std::alloc::{AllocError, Global};
 use std::test::Fail;
 
 /// The base plan, its rows in another order than that of their keys.
-const PLAN: &str = "pattern,1,60,0,1,1;split,1,8,25,2,0;split,1,2,35,2,1;split,1,6,35,2,1;\
+pub(crate) const PLAN: &str =
+    "pattern,1,60,0,1,1;split,1,8,25,2,0;split,1,2,35,2,1;split,1,6,35,2,1;\
     split,1,4,25,2,0;seq,1,2,6 8;seq,1,1,2 4;phase,8,2,8,20,40,40,15,4;phase,6,2,8,20,40,40,15,2;\
     phase,2,1,8,20,40,40,15,6,7,12,490,60,0;phase,4,1,8,20,40,40,15,8";
 
@@ -51,7 +52,7 @@ const DRAFT: &str =
 const ANA: &[u8] = b"{\"clerk\":\"Ana\"}";
 
 // The bytes of an answer with this status and content.
-fn answer(alloc: Global, status: &str, content: &str) -> Result<String, AllocError> {
+pub(crate) fn answer(alloc: Global, status: &str, content: &str) -> Result<String, AllocError> {
     let length = content.len();
     format!(in alloc;
         "HTTP/1.1 {status}\r\nContent-Type: application/json\r\nContent-Length: {length}\r\n\r\n{content}"
@@ -59,7 +60,7 @@ fn answer(alloc: Global, status: &str, content: &str) -> Result<String, AllocErr
 }
 
 // The timing set after changes of the empty one, with `;` between them.
-fn set_of(alloc: Global, text: &str) -> Result<TimingSet, Fail> {
+pub(crate) fn set_of(alloc: Global, text: &str) -> Result<TimingSet, Fail> {
     let mut set = TimingSet::new(alloc);
     for record in text.as_bytes().split(|b| *b == b';') {
         let changes = [change(alloc, record)?];

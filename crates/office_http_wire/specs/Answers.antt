@@ -9,7 +9,7 @@ use Rattle.office_desk.specs.declared.reply.Reply.{Reply}
 use Rattle.office_desk.specs.declared.reply.Reply.TheVariants.{Refused}
 use Rattle.office_http_wire.specs.declared.ask.Form.{Form}
 use Rattle.office_http_wire.specs.declared.ask.Form.TheVariants.{Json}
-use Rattle.office_http_wire.specs.Trees.{tree_of}
+use Rattle.office_http_wire.specs.Trees.{tree_in}
 
 -- an answer with this status and this content
 unfoldable pub answer_with : ℕ → List ℕ → List ℕ
@@ -27,9 +27,9 @@ abbrev pub status_of : Reply → ℕ
 status_of (Refused refusal) = (line_of refusal).status
 status_of _ = 200
 
--- the answer of a reply, whose form is JSON for each
+-- the answer of a reply in a form
 unfoldable pub answer_bytes : Reply → Form → List ℕ
-answer_bytes reply form = answer_text (status_of reply) (tree_of reply)
+answer_bytes reply form = answer_text (status_of reply) (tree_in form reply)
 
 -- the answer for want of memory
 unfoldable pub unavailable_bytes : List ℕ

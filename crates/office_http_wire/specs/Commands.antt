@@ -6,12 +6,13 @@ use Rattle.office_http_wire.specs.declared.ask.Asked.{Asked}
 use Rattle.office_http_fields.specs.declared.ask.AskFault.{AskFault}
 use Rattle.office_http_fields.specs.declared.ask.AskFault.TheVariants.{Method}
 use Rattle.office_http_fields.specs.declared.ask.Field.TheVariants.{Clerk, Name}
-use Rattle.office_http_wire.specs.declared.ask.Form.TheVariants.{Json}
+use Rattle.office_http_wire.specs.declared.ask.Form.TheVariants.{Json, Csv}
 use Rattle.office_http_wire.specs.declared.route.Endpoint.{Endpoint}
-use Rattle.office_http_wire.specs.declared.route.Endpoint.TheVariants.{AddIntersection, State, Timing, Draft, Begin, Edit, Verify, Check, Commit, Reopen, Abandon, Record, Cabinet, OpenOrders, Stock, Overdue}
+use Rattle.office_http_wire.specs.declared.route.Endpoint.TheVariants.{AddIntersection, State, Timing, TimingCsv, Draft, Begin, Edit, EditCsv, Verify, Check, Commit, Reopen, Abandon, Record, Import, Cabinet, CabinetCsv, OpenOrders, Stock, Overdue}
 use Rattle.office_http_fields.specs.Asks.{◌>>=◌, or_no_route}
 use Rattle.office_http_fields.specs.Bodies.{body_of, id_in, interval_in, words_in}
 use Rattle.office_http_fields.specs.Paths.{day_at, id_at}
+use Rattle.office_http_csv.specs.Bodies.{csv_changes_in, csv_records_in}
 use Rattle.office_http_register.specs.Recording.{recorded_at}
 use Rattle.office_http_wire.specs.Routes.{endpoint_of, method_of}
 use Rattle.office_http_wire.specs.Rows.{changes_in}
@@ -19,6 +20,10 @@ use Rattle.office_http_wire.specs.Rows.{changes_in}
 -- a command whose answer is JSON
 abbrev pub asked_in_json : Command → Asked
 asked_in_json command = record { command = command; form = Json }
+
+-- a command whose answer is CSV
+abbrev pub asked_in_csv : Command → Asked
+asked_in_csv command = record { command = command; form = Csv }
 
 -- the body's keys by name
 unfoldable pub added_intersection : List ℕ → Result Asked AskFault
@@ -46,6 +51,22 @@ edited_in path bytes = do
   changes ← changes_in body
   Ok (asked_in_json (command.Edit id clerk changes))
 
+-- the body's keys by name, then the records of the CSV text
+unfoldable pub edited_by_csv : List ℕ → List ℕ → Result Asked AskFault
+edited_by_csv path bytes = do
+  id ← id_at path
+  body ← body_of bytes
+  clerk ← words_in 40 body Clerk
+  changes ← csv_changes_in body
+  Ok (asked_in_json (command.Edit id clerk changes))
+
+-- an import is of no path
+unfoldable pub imported_in : List ℕ → Result Asked AskFault
+imported_in bytes = do
+  body ← body_of bytes
+  records ← csv_records_in body
+  Ok (asked_in_json (command.Import records))
+
 -- the command of an endpoint, of the path and the body
 unfoldable pub asked_at : Endpoint → List ℕ → List ℕ → Result Asked AskFault
 asked_at AddIntersection path bytes = added_intersection bytes
@@ -55,6 +76,9 @@ asked_at State path bytes = do
 asked_at Timing path bytes = do
   id ← id_at path
   Ok (asked_in_json (command.Timing id))
+asked_at TimingCsv path bytes = do
+  id ← id_at path
+  Ok (asked_in_csv (command.Timing id))
 asked_at Draft path bytes = do
   id ← id_at path
   Ok (asked_in_json (command.Draft id))
@@ -62,6 +86,7 @@ asked_at Begin path bytes = do
   found ← id_and_clerk_in path bytes
   Ok (asked_in_json (command.Begin found.0 found.1))
 asked_at Edit path bytes = edited_in path bytes
+asked_at EditCsv path bytes = edited_by_csv path bytes
 asked_at Verify path bytes = do
   found ← id_and_clerk_in path bytes
   Ok (asked_in_json (command.Verify found.0 found.1))
@@ -80,9 +105,13 @@ asked_at Abandon path bytes = do
 asked_at (Record kind) path bytes = do
   record_command ← recorded_at kind path bytes
   Ok (asked_in_json (command.Record record_command))
+asked_at Import path bytes = imported_in bytes
 asked_at Cabinet path bytes = do
   id ← id_at path
   Ok (asked_in_json (command.Cabinet id))
+asked_at CabinetCsv path bytes = do
+  id ← id_at path
+  Ok (asked_in_csv (command.Cabinet id))
 asked_at OpenOrders path bytes = do
   id ← id_at path
   Ok (asked_in_json (command.OpenOrders id))

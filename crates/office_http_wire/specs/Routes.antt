@@ -10,7 +10,7 @@ use Rattle.matchit.specs.declared.error.InsertError.{InsertError}
 use Rattle.office_http_register.specs.declared.kind.RecordKind.{RecordKind}
 use Rattle.office_http_register.specs.declared.kind.RecordKind.TheVariants.{Inspect, OpenOrder, UsePart, CloseOrder, Receive}
 use Rattle.office_http_wire.specs.declared.route.Endpoint.{Endpoint}
-use Rattle.office_http_wire.specs.declared.route.Endpoint.TheVariants.{AddIntersection, State, Timing, Draft, Begin, Edit, Verify, Check, Commit, Reopen, Abandon, Record, Cabinet, OpenOrders, Stock, Overdue}
+use Rattle.office_http_wire.specs.declared.route.Endpoint.TheVariants.{AddIntersection, State, Timing, TimingCsv, Draft, Begin, Edit, EditCsv, Verify, Check, Commit, Reopen, Abandon, Record, Import, Cabinet, CabinetCsv, OpenOrders, Stock, Overdue}
 
 -- the route that records something in the register
 abbrev pub record_route_text : RecordKind → List ℕ
@@ -25,16 +25,20 @@ abbrev pub route_text : Endpoint → List ℕ
 route_text AddIntersection = codes "/intersections"
 route_text State = codes "/intersections/{id}"
 route_text Timing = codes "/intersections/{id}/timing"
+route_text TimingCsv = codes "/intersections/{id}/timing-csv"
 route_text Draft = codes "/intersections/{id}/draft"
 route_text Begin = codes "/intersections/{id}/begin"
 route_text Edit = codes "/intersections/{id}/edit"
+route_text EditCsv = codes "/intersections/{id}/edit-csv"
 route_text Verify = codes "/intersections/{id}/verify"
 route_text Check = codes "/intersections/{id}/check"
 route_text Commit = codes "/intersections/{id}/commit"
 route_text Reopen = codes "/intersections/{id}/reopen"
 route_text Abandon = codes "/intersections/{id}/abandon"
 route_text (Record kind) = record_route_text kind
+route_text Import = codes "/import"
 route_text Cabinet = codes "/intersections/{id}/cabinet"
+route_text CabinetCsv = codes "/intersections/{id}/cabinet-csv"
 route_text OpenOrders = codes "/intersections/{id}/open-orders"
 route_text Stock = codes "/stock"
 route_text Overdue = codes "/overdue/{day}"
@@ -44,16 +48,20 @@ abbrev pub method_of : Endpoint → List ℕ
 method_of AddIntersection = codes "POST"
 method_of State = codes "GET"
 method_of Timing = codes "GET"
+method_of TimingCsv = codes "GET"
 method_of Draft = codes "GET"
 method_of Begin = codes "POST"
 method_of Edit = codes "POST"
+method_of EditCsv = codes "POST"
 method_of Verify = codes "POST"
 method_of Check = codes "POST"
 method_of Commit = codes "POST"
 method_of Reopen = codes "POST"
 method_of Abandon = codes "POST"
 method_of (Record kind) = codes "POST"
+method_of Import = codes "POST"
 method_of Cabinet = codes "GET"
+method_of CabinetCsv = codes "GET"
 method_of OpenOrders = codes "GET"
 method_of Stock = codes "GET"
 method_of Overdue = codes "GET"
@@ -61,10 +69,10 @@ method_of Overdue = codes "GET"
 -- the table's endpoints, in its order
 abbrev pub endpoints : List Endpoint
 endpoints =
-    AddIntersection ∷ State ∷ Timing ∷ Draft ∷ Begin
-    ∷ Edit ∷ Verify ∷ Check ∷ Commit ∷ Reopen ∷ Abandon
+    AddIntersection ∷ State ∷ Timing ∷ TimingCsv ∷ Draft ∷ Begin
+    ∷ Edit ∷ EditCsv ∷ Verify ∷ Check ∷ Commit ∷ Reopen ∷ Abandon
     ∷ Record Inspect ∷ Record OpenOrder ∷ Record UsePart ∷ Record CloseOrder ∷ Record Receive
-    ∷ Cabinet ∷ OpenOrders ∷ Stock ∷ Overdue ∷ []
+    ∷ Import ∷ Cabinet ∷ CabinetCsv ∷ OpenOrders ∷ Stock ∷ Overdue ∷ []
 
 -- a router's rows
 abbrev pub Rows : Type 0

@@ -8,13 +8,18 @@ use Rattle.draft_core.specs.declared.state.Verdict.{Verdict}
 use Rattle.draft_core.specs.declared.state.Verdict.TheVariants.{NotDone, DoneWithError, DoneWithNoError}
 use Rattle.office_desk.specs.Refusal.{Line, line_of}
 use Rattle.office_desk.specs.declared.refusal.Refusal.{Refusal}
-use Rattle.office_desk.specs.declared.refusal.Refusal.TheVariants.{VerifyFailed}
+use Rattle.office_desk.specs.declared.refusal.Refusal.TheVariants.{VerifyFailed, ImportRow}
 use Rattle.office_desk.specs.declared.reply.IntersectionState.{IntersectionState}
 use Rattle.office_desk.specs.declared.reply.OpenDraft.{OpenDraft}
 use Rattle.office_desk.specs.declared.reply.Reply.{Reply}
-use Rattle.office_desk.specs.declared.reply.Reply.TheVariants.{Added, Same, Moved, State, Timing, Draft, Cabinet, OpenOrders, Stock, Overdue, Refused}
+use Rattle.office_desk.specs.declared.reply.Reply.TheVariants.{Added, Same, Moved, Imported, State, Timing, Draft, Cabinet, OpenOrders, Stock, Overdue, Refused}
 use Rattle.office_desk.specs.declared.reply.RunningTiming.{RunningTiming}
 use Rattle.office_http_fields.specs.Json.{count, text, or_null, list, keys}
+use Rattle.office_http_wire.specs.declared.ask.Form.{Form}
+use Rattle.office_http_wire.specs.declared.ask.Form.TheVariants.{Json, Csv}
+use Rattle.office_files.specs.Records.{cabinet_csv_text}
+use Rattle.office_files.specs.Timing.{timing_csv_text}
+use Rattle.office_http_csv.specs.Trees.{csv_tree}
 use Rattle.office_http_register.specs.Trees.{cabinet_tree, open_tree, stock_tree, overdue_tree}
 use Rattle.signal_records.specs.Spelling.{spelling}
 use Rattle.signal_records.specs.TimingSet.{Rows}
@@ -47,6 +52,14 @@ refusal_tree (VerifyFailed violations) =
     (codes "count", count violations)
     ∷ (codes "error", text (line_of (VerifyFailed violations)).name)
     ∷ (codes "number", count (line_of (VerifyFailed violations)).number)
+    ∷ []
+    )
+refusal_tree (ImportRow at cause) =
+    keys (
+    (codes "cause", count cause)
+    ∷ (codes "error", text (line_of (ImportRow at cause)).name)
+    ∷ (codes "number", count (line_of (ImportRow at cause)).number)
+    ∷ (codes "record", count at)
     ∷ []
     )
 refusal_tree refusal = error_tree (line_of refusal)
@@ -99,6 +112,7 @@ tree_of Added = keys ((codes "result", text (codes "added")) ∷ [])
 tree_of Same = keys ((codes "result", text (codes "same")) ∷ [])
 tree_of (Moved revision state verdict) =
     keys ((codes "revision", count revision) ∷ (codes "state", text (state_name state)) ∷ (codes "verify", text (verdict_name verdict)) ∷ [])
+tree_of (Imported added same) = keys ((codes "added", count added) ∷ (codes "same", count same) ∷ [])
 tree_of (State shown) = state_tree shown
 tree_of (Timing shown) = timing_tree shown
 tree_of (Draft shown) = draft_tree shown
@@ -107,3 +121,14 @@ tree_of (OpenOrders numbers) = open_tree numbers
 tree_of (Stock parts) = stock_tree parts
 tree_of (Overdue rows) = overdue_tree rows
 tree_of (Refused refusal) = refusal_tree refusal
+
+-- the tree of a reply in CSV, which a timing set and a cabinet have; any other is as in JSON
+abbrev pub csv_tree_of : Reply → Data
+csv_tree_of (Timing shown) = csv_tree (timing_csv_text shown.rows)
+csv_tree_of (Cabinet shown) = csv_tree (cabinet_csv_text shown.id shown.inspections shown.orders shown.lines)
+csv_tree_of reply = tree_of reply
+
+-- the tree of a reply in a form
+abbrev pub tree_in : Form → Reply → Data
+tree_in Json reply = tree_of reply
+tree_in Csv reply = csv_tree_of reply

@@ -23,11 +23,11 @@ pub fn unavailable() -> &'static [u8]
     UNAVAILABLE
 }
 
-/// The answer of a reply. The form is for replies that have two; none has more than JSON yet.
-pub fn answer_of(alloc: Global, reply: &Reply, _form: Form) -> Result<Vec<u8>, AllocError>
-    ensures { IfOk result (λ answer. answer.items ≡ answer_bytes reply.now _form) }
+/// The answer of a reply in a form, which is for replies that have two: any other is in JSON.
+pub fn answer_of(alloc: Global, reply: &Reply, form: Form) -> Result<Vec<u8>, AllocError>
+    ensures { IfOk result (λ answer. answer.items ≡ answer_bytes reply.now form) }
 {
-    let tree = tree::of_reply(alloc, reply)?;
+    let tree = tree::in_form(alloc, reply, form)?;
     let text = text_of(alloc, status(reply), &tree)?;
     Ok(text.into_bytes())
 }

@@ -1,12 +1,15 @@
 //! From a request to a command.
 ghost use Rattle.std.specs.Prelude.{◌≡◌};
 ghost use Rattle.office_http_fields.specs.Asks.{Gives};
-ghost use Rattle.office_http_wire.specs.Commands.{added_intersection, asked_at, asked_in_json, command_at, edited_in, id_and_clerk_in};
+ghost use Rattle.office_http_wire.specs.Commands.{added_intersection, asked_at, asked_in_csv, asked_in_json, command_at, edited_by_csv, edited_in, id_and_clerk_in, imported_in};
 
 use crate::ask::{Asked, Form};
 use crate::route::{Endpoint, Routes};
 use crate::rows;
+use draft_core::changes::Changes;
 use office_desk::command::Command;
+use office_desk::records::Records;
+use office_http_csv as csv;
 use office_http_fields::{AskFault, Field, body, path};
 use office_http_framing::front::Request;
 use office_http_register as register;
@@ -15,7 +18,7 @@ use std::alloc::Global;
 
 impl Routes {
     /// What a request asks, or the first fault: no route, another method, a path field from the left,
-    /// no JSON object, a key of the body by name, a row that is no change.
+    /// no JSON object, a key of the body by name, a row or a record of a CSV text that spells nothing.
     #[tactic(auto, unfolding(crate::specs::Commands::command_at))]
     pub fn command_of(&self, alloc: Global, request: &Request) -> Result<Asked, AskFault>
         ensures { Gives result (command_at request.now.method.now request.now.path.now request.now.body.now) }
@@ -45,12 +48,14 @@ fn asked(alloc: Global, endpoint: Endpoint, path: &[u8], body: &[u8]) -> Result<
         Endpoint::AddIntersection => add_intersection(alloc, body),
         Endpoint::State => path::id(path).map(|id| in_json(Command::State { id })),
         Endpoint::Timing => path::id(path).map(|id| in_json(Command::Timing { id })),
+        Endpoint::TimingCsv => path::id(path).map(|id| in_csv(Command::Timing { id })),
         Endpoint::Draft => path::id(path).map(|id| in_json(Command::Draft { id })),
         Endpoint::Begin => {
             let (id, clerk) = id_and_clerk(alloc, path, body)?;
             Ok(in_json(Command::Begin { id, clerk }))
         }
         Endpoint::Edit => edit(alloc, path, body),
+        Endpoint::EditCsv => edit_csv(alloc, path, body),
         Endpoint::Verify => {
             let (id, clerk) = id_and_clerk(alloc, path, body)?;
             Ok(in_json(Command::Verify { id, clerk }))
@@ -75,7 +80,9 @@ fn asked(alloc: Global, endpoint: Endpoint, path: &[u8], body: &[u8]) -> Result<
             let command = register::command_of(alloc, kind, path, body)?;
             Ok(in_json(Command::Record(command)))
         }
+        Endpoint::Import => import(alloc, body),
         Endpoint::Cabinet => path::id(path).map(|id| in_json(Command::Cabinet { id })),
+        Endpoint::CabinetCsv => path::id(path).map(|id| in_csv(Command::Cabinet { id })),
         Endpoint::OpenOrders => path::id(path).map(|id| in_json(Command::OpenOrders { id })),
         Endpoint::Stock => Ok(in_json(Command::Stock)),
         Endpoint::Overdue => path::day(path).map(|day| in_json(Command::Overdue { day })),
@@ -89,6 +96,16 @@ fn in_json(command: Command) -> Asked
     Asked {
         command,
         form: Form::Json,
+    }
+}
+
+// A command whose answer is CSV.
+fn in_csv(command: Command) -> Asked
+    ensures { result ≡ asked_in_csv command }
+{
+    Asked {
+        command,
+        form: Form::Csv,
     }
 }
 
@@ -123,4 +140,24 @@ fn edit(alloc: Global, path: &[u8], body: &[u8]) -> Result<Asked, AskFault>
     let clerk = body::words(alloc, &body, Field::Clerk)?;
     let changes = rows::of_body(alloc, &body)?;
     Ok(in_json(Command::Edit { id, clerk, changes }))
+}
+
+#[tactic(auto, unfolding(crate::specs::Commands::edited_by_csv))]
+fn edit_csv(alloc: Global, path: &[u8], body: &[u8]) -> Result<Asked, AskFault>
+    ensures { Gives result (edited_by_csv path.now body.now) }
+{
+    let id = path::id(path)?;
+    let body = body::read(alloc, body)?;
+    let clerk = body::words(alloc, &body, Field::Clerk)?;
+    let changes = Changes::new(csv::changes(alloc, &body)?);
+    Ok(in_json(Command::Edit { id, clerk, changes }))
+}
+
+#[tactic(auto, unfolding(crate::specs::Commands::imported_in))]
+fn import(alloc: Global, body: &[u8]) -> Result<Asked, AskFault>
+    ensures { Gives result (imported_in body.now) }
+{
+    let body = body::read(alloc, body)?;
+    let records = Records::new(csv::records(alloc, &body)?);
+    Ok(in_json(Command::Import { records }))
 }

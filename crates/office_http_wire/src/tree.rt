@@ -2,12 +2,14 @@
 ghost use Rattle.std.specs.Prelude.{◌≡◌, IfOk};
 ghost use Rattle.serde_json.specs.View.{view};
 ghost use Rattle.office_http_fields.specs.Json.{or_null, text};
-ghost use Rattle.office_http_wire.specs.Trees.{tree_of, refusal_tree, state_tree, timing_tree, draft_tree, state_name, verdict_name};
+ghost use Rattle.office_http_wire.specs.Trees.{tree_of, csv_tree_of, tree_in, refusal_tree, state_tree, timing_tree, draft_tree, state_name, verdict_name};
 
+use crate::ask::Form;
 use crate::list_tree;
 use draft_core::state::{DbState, Verdict};
 use office_desk::refusal::Refusal;
 use office_desk::reply::{IntersectionState, OpenDraft, Reply, RunningTiming};
+use office_http_csv as csv;
 use office_http_register::{of_cabinet, of_open_orders, of_overdue, of_stock};
 use serde_json::{Value, json};
 use signal_records::Words;
@@ -56,6 +58,9 @@ fn refused(alloc: Global, refusal: Refusal) -> Result<Value, AllocError>
         Refusal::VerifyFailed(count) => {
             json!(in alloc; {"count": count, "error": error, "number": number})
         }
+        Refusal::ImportRow { at, cause } => {
+            json!(in alloc; {"cause": cause, "error": error, "number": number, "record": at})
+        }
         _ => json!(in alloc; {"error": error, "number": number}),
     }
 }
@@ -94,8 +99,8 @@ fn of_draft(alloc: Global, shown: &OpenDraft) -> Result<Value, AllocError>
     json!(in alloc; {"owner": shown.owner.as_str(), "rows": rows, "violations": violations})
 }
 
-/// The tree of a reply.
-pub(crate) fn of_reply(alloc: Global, reply: &Reply) -> Result<Value, AllocError>
+// The tree of a reply in JSON.
+fn of_reply(alloc: Global, reply: &Reply) -> Result<Value, AllocError>
     ensures { IfOk result (λ tree. view tree ≡ tree_of reply.now) }
 {
     match reply {
@@ -110,6 +115,7 @@ pub(crate) fn of_reply(alloc: Global, reply: &Reply) -> Result<Value, AllocError
             let verify = verdict_word(*verdict);
             json!(in alloc; {"revision": revision.get(), "state": state, "verify": verify})
         }
+        Reply::Imported { added, same } => json!(in alloc; {"added": *added, "same": *same}),
         Reply::State(shown) => of_state(alloc, shown),
         Reply::Timing(shown) => of_timing(alloc, shown),
         Reply::Draft(shown) => of_draft(alloc, shown),
@@ -118,5 +124,26 @@ pub(crate) fn of_reply(alloc: Global, reply: &Reply) -> Result<Value, AllocError
         Reply::Stock(parts) => of_stock(alloc, parts.as_slice()),
         Reply::Overdue(rows) => of_overdue(alloc, rows.as_slice()),
         Reply::Refused(refusal) => refused(alloc, *refusal),
+    }
+}
+
+// The tree of a reply in CSV, where it has that form.
+fn in_csv(alloc: Global, reply: &Reply) -> Result<Value, AllocError>
+    ensures { IfOk result (λ tree. view tree ≡ csv_tree_of reply.now) }
+{
+    match reply {
+        Reply::Timing(shown) => csv::of_timing(alloc, &shown.rows),
+        Reply::Cabinet(shown) => csv::of_cabinet(alloc, shown.id(), shown.view()),
+        _ => of_reply(alloc, reply),
+    }
+}
+
+/// The tree of a reply in a form.
+pub(crate) fn in_form(alloc: Global, reply: &Reply, form: Form) -> Result<Value, AllocError>
+    ensures { IfOk result (λ tree. view tree ≡ tree_in form reply.now) }
+{
+    match form {
+        Form::Json => of_reply(alloc, reply),
+        Form::Csv => in_csv(alloc, reply),
     }
 }

@@ -6,11 +6,11 @@ use std::alloc::{AllocError, Global};
 
 /// The answers of an `Echo`.
 #[derive(Drop)]
-pub struct Paths;
+pub(crate) struct Paths;
 
 /// A machine with nothing to change. It answers one method with `Unavailable`.
 #[derive(Drop)]
-pub struct Echo;
+pub(crate) struct Echo;
 
 impl Machine<Paths> for Echo {
     ghost use Rattle.std.specs.Prelude.{◌≡◌, [], ◌∷◌, codes};

@@ -21,14 +21,14 @@ fn give(rest: &mut &[u8], buf: &mut [u8]) -> usize
 
 /// Gives one byte at a time, and after the last fails or gives none.
 #[derive(Drop)]
-pub struct Drip<'a> {
+pub(crate) struct Drip<'a> {
     rest: &'a [u8],
     fails: bool,
     pub counts: Counts,
 }
 
 impl<'a> Drip<'a> {
-    pub fn new(rest: &'a [u8], fails: bool) -> Drip<'a> {
+    pub(crate) fn new(rest: &'a [u8], fails: bool) -> Drip<'a> {
         Drip {
             rest,
             fails,
@@ -55,13 +55,13 @@ impl<'a> Source for Drip<'a> {
 
 /// Gives the same bytes again and again.
 #[derive(Drop)]
-pub struct Endless<'a> {
+pub(crate) struct Endless<'a> {
     text: &'a [u8],
     counts: Counts,
 }
 
 impl<'a> Endless<'a> {
-    pub fn new(text: &'a [u8]) -> Endless<'a> {
+    pub(crate) fn new(text: &'a [u8]) -> Endless<'a> {
         Endless {
             text,
             counts: Counts::default(),
@@ -84,7 +84,7 @@ impl<'a> Source for Endless<'a> {
 
 /// Takes so many bytes, and then fails or takes none.
 #[derive(Drop)]
-pub struct Narrow {
+pub(crate) struct Narrow {
     pub taken: Vec<u8>,
     room: usize,
     fails: bool,
@@ -96,7 +96,7 @@ impl Narrow {
     ghost use Rattle.std.specs.Io.{WritesAtMost};
     ghost use Rattle.std.specs.Io.KnownBytes.{WriteAppends};
 
-    pub fn new(alloc: Global, room: usize, fails: bool) -> Narrow {
+    pub(crate) fn new(alloc: Global, room: usize, fails: bool) -> Narrow {
         Narrow {
             taken: Vec::new(alloc),
             room,
@@ -133,7 +133,7 @@ impl Sink for Narrow {
 
 /// Gives the second request only once a writer has taken so many bytes; asked before, it fails.
 #[derive(Drop)]
-pub struct Patient<'c> {
+pub(crate) struct Patient<'c> {
     first: &'c [u8],
     second: &'c [u8],
     wanted: usize,
@@ -142,7 +142,7 @@ pub struct Patient<'c> {
 }
 
 impl<'c> Patient<'c> {
-    pub fn new(
+    pub(crate) fn new(
         first: &'c [u8],
         second: &'c [u8],
         wanted: usize,
@@ -178,13 +178,13 @@ impl<'c> Source for Patient<'c> {
 
 /// Tells a cell how many bytes were taken.
 #[derive(Drop)]
-pub struct Telling<'c> {
+pub(crate) struct Telling<'c> {
     taken: &'c Cell<usize>,
     counts: Counts,
 }
 
 impl<'c> Telling<'c> {
-    pub fn new(taken: &'c Cell<usize>) -> Telling<'c> {
+    pub(crate) fn new(taken: &'c Cell<usize>) -> Telling<'c> {
         Telling {
             taken,
             counts: Counts::default(),

@@ -1,6 +1,14 @@
 use Rattle.std.proofs.Common.{◌∙◌}
+use Rattle.office_files.specs.RecordSpelling.{record_spelling}
+use Rattle.office_files.specs.RecordsWithin.{IsRecordWithin}
+use Rattle.office_files.proofs.Utf8Lemmas.{given_utf8}
+use Rattle.office_files.proofs.SpelledTexts.{record_texts}
 use Rattle.office_files.proofs.RecordLaws.{given_reads_back}
 use Rattle.office_files.proofs.cabinet.records_csv.Goals as goal
+
+pub returns-clause-utf8 : goal.returns-clause-utf8
+returns-clause-utf8 c =
+    given_utf8 record_spelling IsRecordWithin record_texts (λ text. text.items) c.write_records.result _ c.write_records.ensures.text c.write_records.ensures.within
 
 pub returns-clause-reads_back : goal.returns-clause-reads_back
 returns-clause-reads_back c =

@@ -1,7 +1,15 @@
 use Rattle.std.proofs.Common.{◌∙◌}
+use Rattle.signal_records.specs.Spelling.{spelling}
+use Rattle.signal_records.specs.Within.{current_limits, IsRowWithin}
+use Rattle.office_files.proofs.Utf8Lemmas.{given_utf8}
+use Rattle.office_files.proofs.SpelledTexts.{row_texts}
 use Rattle.office_files.proofs.TimingLemmas.{given_reads_back}
 use Rattle.office_files.proofs.RestoreLemmas.{given_restored}
 use Rattle.office_files.proofs.timing.timing_csv.Goals as goal
+
+pub returns-clause-utf8 : goal.returns-clause-utf8
+returns-clause-utf8 c =
+    given_utf8 (spelling current_limits) (IsRowWithin current_limits) row_texts (λ text. text.items) c.write_records.result _ c.write_records.ensures.text c.write_records.ensures.within
 
 pub returns-clause-reads_back : goal.returns-clause-reads_back
 returns-clause-reads_back c =
