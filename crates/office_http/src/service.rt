@@ -1,10 +1,13 @@
 //! The office served over a stream of bytes.
 
-ghost use Rattle.std.specs.Prelude.{◌≡◌, ◌+◌, ◌*◌, ◌≤◌, IfErr};
-ghost use Rattle.office_desk.specs.Office.{Office as OfficeState};
+ghost use Rattle.std.specs.Prelude.{◌≡◌, ◌+◌, ◌*◌, ◌≤◌, IfErr, List, ℕ};
+ghost use Rattle.office_desk.specs.Office.{IsSound, Office as OfficeState};
 ghost use Rattle.office_desk.specs.StandFor.{StandForSound};
+ghost use Rattle.office_http_framing.specs.Front.{PlainRequest};
 ghost use Rattle.office_http_framing.specs.Limits.{longest_request};
+ghost use Rattle.office_http_framing.specs.Protocol.{Run as ProtocolRun};
 ghost use Rattle.office_http_framing.specs.Serve.{Did, TellsFault, Untouched};
+ghost use Rattle.office_http.specs.Laws.{KeepsLaws};
 ghost use Rattle.office_http.specs.Protocol.{office_protocol};
 
 use crate::machine::StreamTools;
@@ -35,6 +38,11 @@ pub fn serve<S: Shelf, R: Source, W: Sink>(
     ensures did { S.is_honest office.new → (before : OfficeState) → StandForSound (S.content office.old) before →
         (after : OfficeState) × StandForSound (S.content office.new) after × Did office_protocol max_requests
         (R.told reader.old) (R.told reader.new) (W.told writer.old) (W.told writer.new) before after result }
+    // Over the whole stream, the run that `did` tells keeps the laws of the office: committed sets come from
+    // accepted commits, open orders and stock from accepted records, and an import that is sent again adds nothing.
+    ensures laws { (before : OfficeState) (requests : List PlainRequest) (answers : List (List ℕ)) (after : OfficeState) →
+        ProtocolRun office_protocol before requests answers after → IsSound before → IsSound after →
+        KeepsLaws before requests answers after }
 
     // Read and Write are answered only where that end told a fault.
     ensures fault { TellsFault (R.told reader.old) (R.told reader.new)

@@ -1,0 +1,71 @@
+-- What the requests of a whole stream make of the office: the run of the commands that they ask, and its laws.
+use Rattle.std.specs.Prelude.{◌≡◌, ◌⊎◌, ℕ, List, [], ◌∷◌, ◌++◌, Result, Ok, Err}
+use Rattle.office_desk.specs.Office.{Office, side_at}
+use Rattle.office_desk.specs.RegisterRuns.{RegisterRuns}
+use Rattle.office_desk.specs.Repeats.{Repeats}
+use Rattle.office_desk.specs.Step.{Run}
+use Rattle.office_desk.specs.Timing.{running}
+use Rattle.office_desk.specs.declared.command.Command.{Command}
+use Rattle.office_desk.specs.declared.refusal.Refusal.TheVariants.{Unavailable}
+use Rattle.office_desk.specs.declared.reply.Reply.{Reply}
+use Rattle.office_desk.specs.declared.reply.Reply.TheVariants.{Refused}
+use Rattle.office_http_fields.specs.declared.ask.AskFault.{AskFault}
+use Rattle.office_http_framing.specs.Front.{PlainRequest}
+use Rattle.office_http_wire.specs.Answers.{answer_bytes, unavailable_bytes}
+use Rattle.office_http_wire.specs.Commands.{command_at}
+use Rattle.office_http_wire.specs.Faults.{ask_fault_text}
+use Rattle.office_http_wire.specs.declared.ask.Asked.{Asked}
+
+-- ---- the commands
+
+-- what a request is read as
+abbrev pub read_of : PlainRequest → Result Asked AskFault
+read_of request = command_at request.method request.path request.body
+
+-- the command that was read, if one was
+abbrev pub command_read : Result Asked AskFault → List Command
+command_read (Ok asked) = asked.command ∷ []
+command_read (Err fault) = []
+
+-- the command that a request asks, if it asks one
+abbrev pub asked_of : PlainRequest → List Command
+asked_of request = command_read (read_of request)
+
+-- the commands that requests ask, in their order
+abbrev pub asked_in : List PlainRequest → List Command
+asked_in [] = []
+asked_in (request ∷ requests) = asked_of request ++ asked_in requests
+
+-- ---- their replies, and the answers
+
+-- the reply is written in the form asked; or it is Unavailable, and the answer says so
+abbrev pub TellsReply : Asked → Reply → List ℕ → Type 0
+TellsReply asked reply answer =
+    (answer ≡ answer_bytes reply asked.form) ⊎ ((reply ≡ Refused Unavailable) × (answer ≡ unavailable_bytes))
+
+-- The answer to a command tells the first of the replies; one to no command tells its fault, or that memory was refused. The rest
+-- of the replies is for the rest of the answers.
+abbrev pub TellsRead : Result Asked AskFault → List Reply → List ℕ → (rest : List Reply → Type 0) → Type 0
+TellsRead (Ok asked) (reply ∷ replies) answer rest = TellsReply asked reply answer × rest replies
+TellsRead (Ok asked) [] answer rest = ⊥
+TellsRead (Err fault) replies answer rest = ((answer ≡ ask_fault_text fault) ⊎ (answer ≡ unavailable_bytes)) × rest replies
+
+-- each request has an answer, and the answers to commands tell the replies, in their order
+abbrev pub TellsReplies : List PlainRequest → List Reply → List (List ℕ) → Type 0
+TellsReplies [] [] [] = Unit {0}
+TellsReplies (request ∷ requests) replies (answer ∷ answers) =
+    TellsRead (read_of request) replies answer (λ rest. TellsReplies requests rest answers)
+TellsReplies _ _ _ = ⊥
+
+-- ---- the laws
+
+-- The office machine ran over the commands that the requests ask, and the answers tell its replies. Each committed set is the draft
+-- as it stood just before its last accepted commit, or what it was at the start; orders and stock are what the accepted commands of
+-- the register made of them; and an import that was accepted and is sent again adds nothing.
+pub record KeepsLaws (before : Office) (requests : List PlainRequest) (answers : List (List ℕ)) (after : Office) : Type 0 where
+  pub replies : List Reply
+  pub run : Run before (asked_in requests) replies after
+  pub tells : TellsReplies requests replies answers
+  pub running : (id : ℕ) → (side_at after id).committed ≡ running id (side_at before id).committed before (asked_in requests) replies after run
+  pub register : RegisterRuns before (asked_in requests) replies after run
+  pub repeats : Repeats before (asked_in requests) replies after run
