@@ -2,7 +2,7 @@
 
 ghost use Rattle.std.specs.Prelude.{◌≡◌, IfOk, false};
 ghost use Rattle.clap.specs.Walk.{rule_of};
-ghost use Rattle.signal_office_line.specs.CommandLine.{Reads, db_rule, required_db_rule, positional_rule, number_rule, batch_app, serve_app, sheet_app, verify_file_app, signal_app};
+ghost use Rattle.signal_office_line.specs.CommandLine.{Reads, db_rule, required_db_rule, positional_rule, number_rule, first_rule, batch_app, serve_app, sheet_app, overdue_app, verify_file_app, signal_app};
 
 use clap::{Arg, Command};
 use std::alloc::{AllocError, Global};
@@ -39,6 +39,16 @@ fn number_option<'a>(alloc: Global, name: &'a str, help: &'a str) -> Arg<'a>
         .value_name("N")
         .required(true)
         .help(help)
+}
+
+/// `--first N`.
+fn first_option<'a>(alloc: Global) -> Arg<'a>
+    ensures rule { rule_of result ≡ first_rule }
+    ensures local { result.global ≡ false }
+{
+    Arg::new(alloc, "first").long("first").value_name("N").help(
+        "The most intersections that are listed, 1 to 9999, those with the lowest numbers; without it all are",
+    )
 }
 
 /// A word that has to be given.
@@ -85,6 +95,23 @@ fn sheet_command<'a>(alloc: Global) -> Result<Command<'a>, AllocError>
         .arg(word(alloc, "ID", "The intersection's number, 1 to 9999"))
 }
 
+/// `overdue`.
+fn overdue_command<'a>(alloc: Global) -> Result<Command<'a>, AllocError>
+    ensures { IfOk result (λ c. Reads c overdue_app) }
+{
+    Command::new(alloc, "overdue")
+        .about(
+            "Prints the intersections that were never inspected or whose inspection fell due before a day, and how many are listed",
+        )
+        .arg(required_db_option(alloc))?
+        .arg(first_option(alloc))?
+        .arg(word(
+            alloc,
+            "DAY",
+            "The day, as YYYY-MM-DD, from 1970-01-01 to 2199-12-31",
+        ))
+}
+
 /// `verify-file`.
 fn verify_file_command<'a>(alloc: Global) -> Result<Command<'a>, AllocError>
     ensures { IfOk result (λ c. Reads c verify_file_app) }
@@ -105,10 +132,11 @@ pub(crate) fn command_line<'a>(alloc: Global) -> Result<Command<'a>, AllocError>
     ensures { IfOk result (λ c. Reads c signal_app) }
 {
     Command::new(alloc, "signal_office")
-        .about("The office of a city's traffic signals: the timing plan of each intersection")
+        .about("The office of a city's traffic signals: timing plans, cabinets and stock")
         .subcommand_required(true)
         .subcommand(batch_command(alloc)?)?
         .subcommand(serve_command(alloc)?)?
         .subcommand(sheet_command(alloc)?)?
+        .subcommand(overdue_command(alloc)?)?
         .subcommand(verify_file_command(alloc)?)
 }

@@ -1,12 +1,12 @@
 //! What the words of a command line ask for.
 
-ghost use Rattle.std.specs.Prelude.{◌≡◌, Some, IfOk, IfErr, IfSome, IfNone, ℕ, map, codes, true};
+ghost use Rattle.std.specs.Prelude.{◌≡◌, Option, Some, IfOk, IfErr, IfSome, IfNone, ℕ, map, codes, true};
 ghost use Rattle.clap.specs.Matches.{found_of};
 ghost use Rattle.clap.specs.Walk.{rows_of};
 ghost use Rattle.clap.specs.Simple.{subcommand_of};
 ghost use Rattle.clap.specs.Takes.{takes};
 ghost use Rattle.signal_office_line.specs.CommandLine.{signal_app};
-ghost use Rattle.signal_office_line.specs.Job.{IsNumberOf, IsJob, IsJobOf};
+ghost use Rattle.signal_office_line.specs.Job.{IsNumberOf, IsChosenOf, IsJob, IsJobOf};
 
 use crate::command_line::command_line;
 use clap::error::ErrorKind;
@@ -31,6 +31,13 @@ pub enum Job<'a> {
     Sheet {
         db: &'a str,
         id: InterId,
+    },
+    /// Print the intersections that are overdue on a day, at most so many, 1 to 9999. The day's word may
+    /// spell none.
+    Overdue {
+        db: &'a str,
+        first: Option<u32>,
+        day: &'a str,
     },
     /// Check the plan in a CSV file.
     VerifyFile {
@@ -86,6 +93,20 @@ fn number(matches: &ArgMatches<'_>, id: &str, most: u32) -> Option<u32>
     Some(number)
 }
 
+/// The number of an argument, where it was given. None where its word spells no number from 1 to `most`.
+fn chosen(matches: &ArgMatches<'_>, id: &str, most: u32) -> Option<Option<u32>>
+    ensures some { IfSome result (IsChosenOf (rows_of (found_of matches.now)) id.now most) }
+    ensures none { IfNone result ((given : Option ℕ) → IsChosenOf (rows_of (found_of matches.now)) id.now most given → ⊥) }
+{
+    match matches.get_str(id) {
+        None => Some(None),
+        Some(_) => {
+            let number = number(matches, id, most)?;
+            Some(Some(number))
+        }
+    }
+}
+
 /// What `serve` asks for, where its numbers are in their ranges.
 fn serve_job<'a>(matches: &ArgMatches<'a>) -> Option<Job<'a>>
     ensures some { IfSome result (IsJob (codes "serve") (rows_of (found_of matches.entry.now))) }
@@ -107,6 +128,17 @@ fn sheet_job<'a>(matches: &ArgMatches<'a>) -> Option<Job<'a>>
     Some(Job::Sheet { db, id })
 }
 
+/// What `overdue` asks for, where the number of lines is in its range.
+fn overdue_job<'a>(matches: &ArgMatches<'a>) -> Option<Job<'a>>
+    ensures some { IfSome result (IsJob (codes "overdue") (rows_of (found_of matches.entry.now))) }
+    ensures none { IfNone result ((job : Job) → IsJob (codes "overdue") (rows_of (found_of matches.entry.now)) job → ⊥) }
+{
+    let db = matches.get_str("db")?;
+    let first = chosen(matches, "first", 9_999)?;
+    let day = matches.get_str("DAY")?;
+    Some(Job::Overdue { db, first, day })
+}
+
 /// What a command asks for, where its numbers are in their ranges.
 fn job_in<'a>(name: &'a str, matches: &ArgMatches<'a>) -> Option<Job<'a>>
     ensures some { IfSome result (IsJob name.entry.now (rows_of (found_of matches.entry.now))) }
@@ -122,6 +154,9 @@ fn job_in<'a>(name: &'a str, matches: &ArgMatches<'a>) -> Option<Job<'a>>
     if name == "sheet" {
         return sheet_job(matches);
     }
+    if name == "overdue" {
+        return overdue_job(matches);
+    }
     if name == "verify-file" {
         let csv = matches.get_str("CSV")?;
         return Some(Job::VerifyFile { csv });
@@ -136,7 +171,7 @@ fn out_of_range(alloc: Global) -> JobFault {
     };
     match command.error(
         ErrorKind::ValueValidation,
-        "a number is out of its range: --port is 1 to 65535, --count 1 to 1000000, ID 1 to 9999",
+        "a number is out of its range: --port is 1 to 65535, --count 1 to 1000000, --first and ID 1 to 9999",
     ) {
         Ok(error) => JobFault::Refused(error),
         Err(_) => JobFault::NoMemory,

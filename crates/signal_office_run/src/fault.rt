@@ -2,6 +2,7 @@
 
 ghost use Rattle.std.specs.Prelude.{◌≤◌};
 
+use office_desk::refusal::Refusal;
 use office_files::CsvFault;
 use office_http::{ServeFault, WriteFailed};
 use office_tables::open::OpenFault;
@@ -31,6 +32,8 @@ pub enum Fault {
     File,
     /// The office has no such intersection.
     UnknownIntersection,
+    /// The word spells no day from 1970-01-01 to 2199-12-31.
+    Day,
     /// A record of the CSV file spells nothing.
     Csv(CsvFault),
     /// The words are not UTF-8.
@@ -62,6 +65,7 @@ impl fmt::Display for Fault {
             Fault::Bind => f.write_str("fault: bind"),
             Fault::File => f.write_str("fault: file"),
             Fault::UnknownIntersection => f.write_str("fault: unknown intersection"),
+            Fault::Day => f.write_str("fault: day"),
             Fault::Csv(fault) => write!(f, "fault: {fault}"),
             Fault::Words => f.write_str("the command line is not UTF-8"),
         }
@@ -75,6 +79,11 @@ impl From<AllocError> for Fault {
 }
 
 impl From<NoMemory> for Fault {
+    ghost use Rattle.std.specs.Prelude.{◌≡◌};
+    ghost use Rattle.signal_office_run.specs.declared.fault.Fault.TheVariants as told;
+
+    ghost from_gives = { λ _ fault. fault ≡ told.Memory };
+
     fn from(_: NoMemory) -> Fault {
         Fault::Memory
     }
@@ -106,6 +115,21 @@ impl From<Error> for Fault {
     fn from(error: Error) -> Fault {
         match error {
             Error::SqliteFailure(ErrorCode::OutOfMemory) => Fault::Memory,
+            _ => Fault::Store,
+        }
+    }
+}
+
+impl From<Refusal> for Fault {
+    ghost use Rattle.std.specs.Prelude.{◌≡◌};
+    ghost use Rattle.signal_office_run.specs.Fault.{fault_of};
+
+    ghost from_gives = { λ refusal fault. fault ≡ fault_of refusal };
+
+    fn from(refusal: Refusal) -> Fault {
+        match refusal {
+            Refusal::UnknownIntersection => Fault::UnknownIntersection,
+            Refusal::Damaged => Fault::Damaged,
             _ => Fault::Store,
         }
     }

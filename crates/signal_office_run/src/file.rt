@@ -1,6 +1,6 @@
 //! The office over the tables of a database in a file.
 
-ghost use Rattle.std.specs.Prelude.{◌≡◌, ◌≢◌, None, Some, IfOk, IfErr, IfSome};
+ghost use Rattle.std.specs.Prelude.{◌≡◌, ◌≢◌, None, Some, Ok, IfOk, IfErr, IfSome};
 ghost use Rattle.sqlite.specs.Files.{file_state};
 ghost use Rattle.sqlite.specs.Held.{state};
 ghost use Rattle.sqlite.specs.State.{HasCleanDisk};
@@ -18,7 +18,8 @@ use crate::fault::Fault;
 use office_desk::office::Office;
 use office_http::{ServeFault, Served, Sink, Source, serve};
 use office_tables::sql_shelf::SqlShelf;
-use sqlite::{Alter, Connection, FileFrom, FileStore, Start};
+use sqlite::{Alter, Connection, Error, FileFrom, FileStore, Start};
+use sqlite_disk::Disk;
 use std::alloc::Global;
 
 /// An office over tables in files, of which `S` says what they held.
@@ -42,6 +43,26 @@ fn open_tables<S: Alter + Drop>(
     }
 }
 
+/// As `open_tables`, but a connection whose tables are refused is dropped.
+fn office_over<S: Alter + Drop>(
+    alloc: Global,
+    conn: Connection<S>,
+) -> Result<Office<SqlShelf<S>>, Fault>
+    ensures { IfOk result (λ office. IsHonest (state S.Store office.conn) →
+        HasCleanDisk (state S.Store conn) × (content_now (state S.Store office.conn) ≡ content_of (state S.Store conn).committed.trees)) }
+{
+    match open_tables(alloc, conn) {
+        Ok(office) => Ok(office),
+        Err((fault, _)) => Err(fault),
+    }
+}
+
+/// Why a file was not opened. What is left of it is dropped.
+fn unopened<L: Drop>(refused: (Error, L)) -> Fault {
+    let (error, _) = refused;
+    Fault::from(error)
+}
+
 /// The office over the tables of a file, which is made where there is none.
 pub(crate) fn open_file<S: Start>(
     rt: &HostRuntime,
@@ -52,13 +73,9 @@ pub(crate) fn open_file<S: Start>(
     ensures { IfOk result (λ office. IsHonest (file_state office.conn) → (before : OfficeState) → StandInFiles (image_at S.Start) before →
         StandForSound (content_now (file_state office.conn)) before) }
 {
-    let conn = match Connection::open_from(rt, path, false, start) {
-        Ok(conn) => conn,
-        Err((error, _)) => return Err(Fault::from(error)),
-    };
-    match open_tables(alloc, conn) {
-        Ok(office) => Ok(office),
-        Err((fault, _)) => Err(fault),
+    match Connection::open_from(rt, path, false, start) {
+        Ok(conn) => office_over(alloc, conn),
+        Err(refused) => Err(unopened(refused)),
     }
 }
 
@@ -83,4 +100,20 @@ pub fn serve_file<S: Start, R: Source, W: Sink>(
     let mut office = open_file(rt, alloc, path, start)?;
     let outcome = serve(alloc, &mut office, reader, writer, max_requests);
     Ok((office, outcome))
+}
+
+/// Closes the tables of a file, so that their log is copied into it, and gives what was made of them.
+/// A fault from before comes first.
+pub(crate) fn close_after<D: Disk + Drop, T: Drop, E>(
+    office: Office<SqlShelf<FileStore<D>>>,
+    outcome: Result<T, E>,
+) -> Result<T, Fault>
+where
+    Fault: From<E>,
+    ensures { IfOk result (λ done. outcome ≡ Ok done) }
+{
+    let closed = office.into_shelf().into_conn().close();
+    let done = outcome?;
+    closed?;
+    Ok(done)
 }

@@ -3,22 +3,25 @@
 ghost use Rattle.std.specs.Prelude.{◌≤◌};
 
 use crate::fault::Fault;
-use crate::file::{FileOffice, open_file, serve_file};
 use crate::memory::{open_in_memory, serve_new_office};
 use crate::plan::violations_in;
 use crate::serving::serve_port;
-use crate::sheet::sheet_of;
+use crate::task::{Task, batch_in_file, do_in_file};
+use cabinet_core::read_day;
+use office_desk::office::Office;
 use office_files::violation_text;
 use office_http::{Sink, Source, write_all};
+use office_tables_shelf::shelf::Shelf;
 use signal_office_line::{Job, JobFault, job_of};
-use signal_records::InterId;
-use sqlite::Wary;
 use std::alloc::Global;
 use std::fs;
 use std::io::ErrorKind;
 
 /// The most requests of one run of `batch`.
 const BATCH_LIMIT: u32 = 1_000_000;
+
+/// The most intersections that an office has.
+const ALL_INTERSECTIONS: u32 = 9_999;
 
 /// The status where the words are refused.
 const WORDS_REFUSED: u8 = 2;
@@ -29,22 +32,6 @@ const HAS_VIOLATIONS: u8 = 3;
 /// Answers the requests of the source over tables in memory.
 fn batch<R: Source, W: Sink>(alloc: Global, source: &mut R, out: &mut W) -> Result<u8, Fault> {
     serve_new_office(alloc, source, out, BATCH_LIMIT)??;
-    Ok(0)
-}
-
-/// Answers the requests of the source over the tables of a file, and closes it, so that its log is
-/// copied into it. What was answered stands in the two files before that.
-fn batch_in_file<R: Source, W: Sink>(
-    rt: &HostRuntime,
-    alloc: Global,
-    path: &str,
-    source: &mut R,
-    out: &mut W,
-) -> Result<u8, Fault> {
-    let (office, outcome) = serve_file(rt, alloc, path, Wary, source, out, BATCH_LIMIT)?;
-    let closed = close(office);
-    outcome?;
-    closed?;
     Ok(0)
 }
 
@@ -66,6 +53,19 @@ fn verify_file<W: Sink>(
     Ok(if found.is_empty() { 0 } else { HAS_VIOLATIONS })
 }
 
+/// Serves connections on a port by an office, which is dropped then.
+fn serve_by<S: Shelf + Drop, W: Sink>(
+    rt: &HostRuntime,
+    alloc: Global,
+    mut office: Office<S>,
+    port: u16,
+    count: u32,
+    out: &mut W,
+) -> Result<u8, Fault> {
+    serve_port(rt, alloc, &mut office, port, count, out)?;
+    Ok(0)
+}
+
 /// Serves connections on a port by an office over tables in memory.
 fn serve<W: Sink>(
     rt: &HostRuntime,
@@ -74,58 +74,38 @@ fn serve<W: Sink>(
     count: u32,
     out: &mut W,
 ) -> Result<u8, Fault> {
-    let mut office = open_in_memory(alloc)?;
-    serve_port(rt, alloc, &mut office, port, count, out)?;
-    Ok(0)
+    let office = open_in_memory(alloc)?;
+    serve_by(rt, alloc, office, port, count, out)
 }
 
-/// Closes the tables of a file, so that their log is copied into it.
-fn close(office: FileOffice<Wary>) -> Result<(), Fault> {
-    office.into_shelf().into_conn().close()?;
-    Ok(())
-}
-
-/// Serves connections on a port by an office over the tables of a file, and closes it.
-fn serve_in_file<W: Sink>(
+/// Does a task over the tables of a file, and prints what it gives.
+fn in_file<W: Sink>(
     rt: &HostRuntime,
     alloc: Global,
     path: &str,
-    port: u16,
-    count: u32,
+    task: Task,
     out: &mut W,
 ) -> Result<u8, Fault> {
-    let mut office = open_file(rt, alloc, path, Wary)?;
-    let outcome = serve_port(rt, alloc, &mut office, port, count, out);
-    let closed = close(office);
-    outcome?;
-    closed?;
-    Ok(0)
-}
-
-/// The timing sheet of an intersection in the tables of a file, which is closed again.
-fn sheet_in_file(
-    rt: &HostRuntime,
-    alloc: Global,
-    path: &str,
-    id: InterId,
-) -> Result<Vec<u8>, Fault> {
-    let mut office = open_file(rt, alloc, path, Wary)?;
-    let text = sheet_of(alloc, &mut office, id);
-    close(office)?;
-    text
-}
-
-/// Prints the timing sheet of an intersection in the tables of a file.
-fn sheet<W: Sink>(
-    rt: &HostRuntime,
-    alloc: Global,
-    path: &str,
-    id: InterId,
-    out: &mut W,
-) -> Result<u8, Fault> {
-    let text = sheet_in_file(rt, alloc, path, id)?;
+    let text = do_in_file(rt, alloc, path, &task, out)?;
     write_all(out, &text)?;
     Ok(0)
+}
+
+/// Prints the report of the intersections that are overdue on the day of a word, which is read before
+/// the file is opened.
+fn overdue<W: Sink>(
+    rt: &HostRuntime,
+    alloc: Global,
+    path: &str,
+    first: Option<u32>,
+    word: &str,
+    out: &mut W,
+) -> Result<u8, Fault> {
+    let Some(day) = read_day(word.as_bytes()) else {
+        return Err(Fault::Day);
+    };
+    let most = first.unwrap_or(ALL_INTERSECTIONS) as usize;
+    in_file(rt, alloc, path, Task::Overdue { day, most }, out)
 }
 
 /// Does a job, and gives the status.
@@ -138,7 +118,10 @@ fn run_job<R: Source, W: Sink>(
 ) -> Result<u8, Fault> {
     match job {
         Job::Batch { db: None } => batch(alloc, source, out),
-        Job::Batch { db: Some(path) } => batch_in_file(rt, alloc, path, source, out),
+        Job::Batch { db: Some(path) } => {
+            batch_in_file(rt, alloc, path, source, out, BATCH_LIMIT)?;
+            Ok(0)
+        }
         Job::Serve {
             port,
             count,
@@ -148,8 +131,12 @@ fn run_job<R: Source, W: Sink>(
             port,
             count,
             db: Some(path),
-        } => serve_in_file(rt, alloc, path, *port, *count, out),
-        Job::Sheet { db, id } => sheet(rt, alloc, db, *id, out),
+        } => {
+            let (port, count) = (*port, *count);
+            in_file(rt, alloc, path, Task::Serve { port, count }, out)
+        }
+        Job::Sheet { db, id } => in_file(rt, alloc, db, Task::Sheet { id: *id }, out),
+        Job::Overdue { db, first, day } => overdue(rt, alloc, db, *first, day, out),
         Job::VerifyFile { csv } => verify_file(rt, alloc, csv, out),
     }
 }

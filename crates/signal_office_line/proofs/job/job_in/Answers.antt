@@ -15,10 +15,10 @@ returns-then-eq-clause-some c =
 pub returns-in_err-csv-clause-none : goal.returns-in_err-csv-clause-none
 returns-in_err-csv-clause-none c =
     let refuted : (job : Job) → IsJob c.args.name.now (rows_of (found_of c.args.matches.now)) job → ⊥ = λ job is.
-    verify_file_of c.args.name.now (rows_of (found_of c.args.matches.now)) job ((bytes_eq-Decides c.args.name.now (codes "verify-file")).0 (sym c.eq-4.ensures ∙ c.if-eq-4.true)) is
+    verify_file_of c.args.name.now (rows_of (found_of c.args.matches.now)) job ((bytes_eq-Decides c.args.name.now (codes "verify-file")).0 (sym c.eq-5.ensures ∙ c.if-eq-5.true)) is
     (λ csv given. no_word _ csv (c.in_err-csv.ensures ∙ first_value-rows (found_of c.args.matches.now) (codes "CSV")) (sym given)) in
     on_none _ _ refuted
 
-pub returns-then-eq-4-clause-some : goal.returns-then-eq-4-clause-some
-returns-then-eq-4-clause-some c =
-    ((bytes_eq-Decides c.args.name.now (codes "verify-file")).0 (sym c.eq-4.ensures ∙ c.if-eq-4.true), c.in_ok-csv.ensures ∙ first_value-rows (found_of c.args.matches.now) (codes "CSV"))
+pub returns-then-eq-5-clause-some : goal.returns-then-eq-5-clause-some
+returns-then-eq-5-clause-some c =
+    ((bytes_eq-Decides c.args.name.now (codes "verify-file")).0 (sym c.eq-5.ensures ∙ c.if-eq-5.true), c.in_ok-csv.ensures ∙ first_value-rows (found_of c.args.matches.now) (codes "CSV"))

@@ -1,12 +1,11 @@
 use Rattle.std.proofs.Common.{sym, subst}
+use Rattle.std.proofs.lemmas.Result.{IfOk-weaker}
 use Rattle.sqlite.specs.Files.{file_state}
-use Rattle.sqlite.specs.State.{HasCleanDisk}
 use Rattle.office_desk.specs.StandFor.{StandForSound}
 use Rattle.signal_office_run.proofs.file.open_file.Goals as goal
 
-pub returns-in-Ok-open_tables : goal.returns-in-Ok-open_tables
-returns-in-Ok-open_tables g c honest before stands =
-    let it = c.in-Ok-open_tables.ensures in
-    let clean : HasCleanDisk (file_state c.in-Ok.conn) = it.honest honest in
-    let found = c.in-Ok.ensures.found clean in
-    subst (λ tables. StandForSound tables before) (sym (it.kept honest)) (stands (file_state c.in-Ok.conn).committed.trees (record { holds = found.holds; reads = found.reads }))
+pub returns-in-Ok : goal.returns-in-Ok
+returns-in-Ok g c =
+    IfOk-weaker c.office_over.result _ _ (λ office it honest before stands.
+    let found = c.in-Ok.ensures.found (it honest).0 in
+    subst (λ tables. StandForSound tables before) (sym (it honest).1) (stands (file_state c.in-Ok.conn).committed.trees (record { holds = found.holds; reads = found.reads }))) c.office_over.ensures

@@ -1,0 +1,12 @@
+-- What the report of overdue inspections shows.
+use Rattle.std.specs.Prelude.{◌≡◌, ℕ, List, map, take}
+use Rattle.cabinet_core.specs.Overdue.{listed}
+use Rattle.cabinet_core.specs.declared.inspections.OverdueRow.{OverdueRow}
+use Rattle.office_desk.specs.Office.{Office}
+use Rattle.office_desk.specs.Step.{overdue_on}
+use Rattle.office_files.specs.Overdue.{overdue_report}
+
+-- the text is the report of the first so many intersections that are overdue in the office on the day
+abbrev pub IsReportOf : Office → ℕ → ℕ → List ℕ → Type 0
+IsReportOf office day most text =
+    (rows : List OverdueRow) × (map listed rows ≡ take most (overdue_on office day)) × (text ≡ overdue_report day rows)
