@@ -238,6 +238,64 @@ post("/intersections", {"id": 7, "interval": 365, "name": "Elm"}, ADDED)
 get("/overdue/2027-03-01", '{"overdue":[{"due":null,"id":7,"name":"Elm"}]}')
 get("/overdue/2027-03-02", '{"overdue":[{"due":null,"id":7,"name":"Elm"},{"due":"2027-03-01","id":12,"name":"Main St"}]}')
 
+# Records come as a file, and twice: the second time nothing is added. One that is refused takes all with it.
+FIELD_BOOK = """delivery,LAMP,1,2026-05-01,10
+inspection,20,1,2026-05-01,Ana,Fan and filter cleaned
+order,20,1,2026-05-01,Ana,Replace flash relay
+order,20,2,2026-05-01,Ana,"Door lock, north side"
+use,20,1,1,LAMP,2
+"""
+CABINET = """inspection,20,1,2026-05-01,Ana,Fan and filter cleaned
+order,20,1,2026-05-01,Ana,Replace flash relay
+use,20,1,1,LAMP,2
+close,20,1,2026-05-03,Bo
+order,20,2,2026-05-01,Ana,"Door lock, north side"
+"""
+SHORT_OF_STOCK = """inspection,20,2,2026-05-02,Ana,Checked
+order,20,3,2026-05-02,Ana,Repair
+delivery,LAMP,2,2026-05-02,1
+use,20,3,1,LAMP,10
+"""
+
+
+def imported(text, added, same):
+    post("/import", {"csv": text}, f'{{"added":{added},"same":{same}}}')
+
+
+def csv(path, text):
+    get(path, json.dumps({"csv": text}, separators=(",", ":")))
+
+
+imported("", 0, 0)
+post("/import", {"csv": FIELD_BOOK}, '{"cause":10,"error":"ImportRow","number":30,"record":2}', 409)
+post("/intersections", {"id": 20, "interval": 365, "name": "Oak"}, ADDED)
+imported(FIELD_BOOK, 5, 0)
+imported(FIELD_BOOK, 0, 5)
+post("/intersections/20/orders/1/close", {"clerk": "Bo", "day": "2026-05-03"}, ADDED)
+imported(FIELD_BOOK, 0, 5)
+HAND = '{"hand":[{"count":999999999,"part":"BOLT"},{"count":8,"part":"LAMP"},{"count":8,"part":"RELAY"}]}'
+get("/stock", HAND)
+get("/intersections/20/open-orders", '{"open":[2]}')
+csv("/intersections/20/cabinet-csv", CABINET)
+post("/import", {"csv": SHORT_OF_STOCK}, '{"cause":25,"error":"ImportRow","number":30,"record":4}', 409)
+get("/stock", HAND)
+csv("/intersections/20/cabinet-csv", CABINET)
+post("/import", {"csv": "order,20,4,2026-05-02,Ana,Repair\nuse,20,1,1\n"}, '{"error":"BadRow","fault":"Count","field":0,"number":31,"record":2}', 400)
+
+# A plan leaves one intersection as a file and enters another.
+lines = "".join(line + "\n" for line in PLAN)
+csv("/intersections/12/timing-csv", lines)
+transaction(20, "begin", "Bo", moved(0, "transaction"))
+post("/intersections/20/edit-csv", {"clerk": "Bo", "csv": lines}, moved(0, "transaction"))
+get("/intersections/20/draft", f'{{"owner":"Bo","rows":{shown(PLAN)},"violations":[]}}')
+post(
+    "/intersections/20/edit-csv",
+    {"clerk": "Bo", "csv": "seq,1,1,2 4\nseq,1,2\n"},
+    '{"error":"BadRow","fault":"Count","field":0,"number":31,"record":2}',
+    400,
+)
+get("/intersections/20/import", '{"error":"NoRoute","number":6}', 404)
+
 # A framing fault ends the stream: the request behind it is not run.
 stdin.append("POST /stock HTTP/1.1\r\nContent-Length: 2\r\nContent-Length: 2\r\n\r\n{}")
 stdout.append(

@@ -8,19 +8,19 @@ use std::test::Fail;
 
 /// A clean plan in the order of its keys: four phases in two rings, each pair across the barrier
 /// listing each other.
-pub const PLAN: &str = "phase,2,1,8,20,40,40,15,6,7,12,490,60,0;phase,4,1,8,20,40,40,15,8;\
+pub(crate) const PLAN: &str = "phase,2,1,8,20,40,40,15,6,7,12,490,60,0;phase,4,1,8,20,40,40,15,8;\
     phase,6,2,8,20,40,40,15,2;phase,8,2,8,20,40,40,15,4;seq,1,1,2 4;seq,1,2,6 8;\
     split,1,2,35,2,1;split,1,4,25,2,0;split,1,6,35,2,1;split,1,8,25,2,0;pattern,1,60,0,1,1";
 
 /// Splits under which phases time together that do not list each other: one violation.
-pub const BROKEN: &str = "split,1,6,34,2,1;split,1,8,26,2,0";
+pub(crate) const BROKEN: &str = "split,1,6,34,2,1;split,1,8,26,2,0";
 
 /// The same splits as in the plan.
-pub const MENDED: &str = "split,1,6,35,2,1;split,1,8,25,2,0";
+pub(crate) const MENDED: &str = "split,1,6,35,2,1;split,1,8,25,2,0";
 
 /// What is asked: of intersection 12, but for an added one.
 #[derive(Clone, Copy, Debug)]
-pub enum Ask {
+pub(crate) enum Ask {
     /// Number and name; its cabinet is inspected once a year.
     Add(u32, &'static str),
     Begin,
@@ -37,7 +37,7 @@ pub enum Ask {
 }
 
 /// A clerk, what is asked, and the text of the reply.
-pub type Line = (&'static str, Ask, &'static str);
+pub(crate) type Line = (&'static str, Ask, &'static str);
 
 fn change(alloc: Global, record: &[u8]) -> Result<Change, Fail> {
     let mut fields = Vec::new(alloc);
@@ -68,12 +68,12 @@ fn addition(alloc: Global, number: u32, name: &str) -> Result<Command, Fail> {
 }
 
 /// The intersection of which most is asked.
-pub fn twelve() -> Result<InterId, Fail> {
+pub(crate) fn twelve() -> Result<InterId, Fail> {
     intersection(12)
 }
 
 /// The command by which a clerk asks this.
-pub fn command(alloc: Global, clerk: &str, ask: Ask) -> Result<Command, Fail> {
+pub(crate) fn command(alloc: Global, clerk: &str, ask: Ask) -> Result<Command, Fail> {
     let id = twelve()?;
     let clerk = Words::new(alloc, clerk.as_bytes())?.ok_or("a clerk")?;
     Ok(match ask {

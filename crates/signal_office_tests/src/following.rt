@@ -13,7 +13,7 @@ use std::process::Abort;
 use std::test::Fail;
 
 /// An intersection is added, and the plan committed.
-pub const COMMITTED: [Line; 6] = [
+pub(crate) const COMMITTED: [Line; 6] = [
     ("Ana", Ask::Add(12, "Main St"), "Added"),
     ("Ana", Ask::Begin, "0 Transaction NotDone"),
     ("Ana", Ask::Edit(PLAN), "0 Transaction NotDone"),
@@ -23,18 +23,18 @@ pub const COMMITTED: [Line; 6] = [
 ];
 
 /// An office over new tables in memory.
-pub fn map_office(alloc: Global) -> Office<MapShelf> {
+pub(crate) fn map_office(alloc: Global) -> Office<MapShelf> {
     Office::new(MapShelf::new(alloc))
 }
 
 /// An office over new tables in SQL.
-pub fn sql_office(alloc: Global) -> Result<Office<SqlShelf<MemStore>>, Fail> {
+pub(crate) fn sql_office(alloc: Global) -> Result<Office<SqlShelf<MemStore>>, Fail> {
     let shelf = SqlShelf::open(alloc, Connection::open_in_memory(alloc)?)?;
     Ok(Office::new(shelf))
 }
 
 /// Runs the commands in turn, and compares each reply.
-pub fn follow<S: Shelf>(
+pub(crate) fn follow<S: Shelf>(
     rt: &impl Abort,
     alloc: Global,
     office: &mut Office<S>,
@@ -49,7 +49,7 @@ pub fn follow<S: Shelf>(
 }
 
 /// Runs the commands over each shelf, once the plan is committed there.
-pub fn follow_committed(rt: &impl Abort, alloc: Global, lines: &[Line]) -> Result<(), Fail> {
+pub(crate) fn follow_committed(rt: &impl Abort, alloc: Global, lines: &[Line]) -> Result<(), Fail> {
     let mut office = map_office(alloc);
     follow(rt, alloc, &mut office, &COMMITTED)?;
     follow(rt, alloc, &mut office, lines)?;

@@ -25,6 +25,12 @@ fn lines_are_taken_or_refused(rt: HostRuntime) -> Result<(), Fail> {
         ("sheet --db a.db 9999", "job"),
         ("sheet --db a.db 4294967308", "refused"),
         ("sheet 12", "refused"),
+        ("overdue --db a.db 2027-03-02", "job"),
+        ("overdue --db a.db --first 9999 2027-03-02", "job"),
+        ("overdue --db a.db --first 10000 2027-03-02", "refused"),
+        ("overdue --db a.db --first 0 2027-03-02", "refused"),
+        ("overdue --db a.db --first 3", "refused"),
+        ("overdue 2027-03-02", "refused"),
         ("verify-file plan.csv", "job"),
         ("serve --help", "help"),
         ("", "refused"),
@@ -38,6 +44,30 @@ fn lines_are_taken_or_refused(rt: HostRuntime) -> Result<(), Fail> {
         assert_eq!(rt; kind_of(alloc, &words), kind, "{line}");
     }
     Ok(())
+}
+
+/// The day is kept as it was written, even where it is none.
+#[test]
+fn a_report_has_its_values(rt: HostRuntime) {
+    let words = [
+        "signal_office",
+        "overdue",
+        "--first",
+        "3",
+        "--db",
+        "x",
+        "2027-02-29",
+    ];
+    assert!(rt;
+        matches!(
+            job_of(rt.alloc(), words.as_slice()),
+            Ok(Job::Overdue {
+                db: "x",
+                first: Some(3),
+                day: "2027-02-29"
+            })
+        )
+    );
 }
 
 #[test]

@@ -1,8 +1,7 @@
 //! The program by its words: what it prints, and its status.
 
-use office_http::{Counts, FromRead, Source, ToWrite};
-use signal_office_run::run_words;
-use sqlite::Connection;
+use crate::running::{alter_office, remove_office, run, run_in_file};
+use office_http::{Counts, FromRead, Source};
 use std::io::ErrorKind;
 use std::test::Fail;
 use std::{fs, io};
@@ -31,15 +30,6 @@ impl Source for Broken {
         self.counts.count(&outcome);
         outcome
     }
-}
-
-/// The status of a run over a source, and what it printed on both outputs.
-fn run<R: Source>(rt: &HostRuntime, words: &[&str], source: &mut R) -> (u8, Vec<u8>, Vec<u8>) {
-    let alloc = rt.alloc();
-    let mut out = ToWrite::new(Vec::new(alloc));
-    let mut err = ToWrite::new(Vec::new(alloc));
-    let status = run_words(rt, alloc, words, source, &mut out, &mut err);
-    (status, out.writer, err.writer)
 }
 
 #[test]
@@ -76,12 +66,6 @@ fn other_words_and_a_broken_source_have_their_status(rt: HostRuntime) {
     let (status, _, err) = run(&rt, &["signal_office", "batch"], &mut broken);
     assert_eq!(rt; status, 1);
     assert_eq!(rt; err.as_slice(), b"fault: read\n".as_slice());
-}
-
-/// Runs a batch over the tables of `office.db`.
-fn run_in_file(rt: &HostRuntime, stream: &[u8]) -> (u8, Vec<u8>, Vec<u8>) {
-    let words = ["signal_office", "batch", "--db", "office.db"];
-    run(rt, &words, &mut FromRead::new(stream))
 }
 
 /// Asks for intersection 12.
@@ -122,13 +106,6 @@ fn batch_finds_the_tables_of_its_file(rt: HostRuntime) -> Result<(), Fail> {
     remove_office(&rt)
 }
 
-/// Removes the file of the tables, and its log.
-fn remove_office(rt: &HostRuntime) -> Result<(), Fail> {
-    fs::remove_file(rt, "office.db")?;
-    let _no_log = fs::remove_file(rt, "office.db-wal");
-    Ok(())
-}
-
 #[test]
 fn batch_says_why_a_file_is_refused(rt: HostRuntime) -> Result<(), Fail> {
     let cases = [
@@ -139,9 +116,7 @@ fn batch_says_why_a_file_is_refused(rt: HostRuntime) -> Result<(), Fail> {
     for (sql, told) in cases {
         let (status, _, _) = run_in_file(&rt, STREAM);
         assert_eq!(rt; status, 0);
-        let mut conn = Connection::open(&rt, "office.db")?;
-        conn.execute_batch(sql)?;
-        conn.close()?;
+        alter_office(&rt, sql)?;
         let (status, out, err) = run_in_file(&rt, STATE_REQUEST);
         assert_eq!(rt; status, 1, "after {sql}");
         assert!(rt; out.is_empty());

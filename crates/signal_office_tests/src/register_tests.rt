@@ -1,12 +1,6 @@
 //! The cabinet register over both shelves, from bytes to bytes.
 
-use office_desk::office::Office;
-use office_http::{FromRead, ToWrite, serve};
-use office_tables::sql_shelf::SqlShelf;
-use office_tables_shelf::map_shelf::MapShelf;
-use office_tables_shelf::shelf::Shelf;
-use sqlite::Connection;
-use std::alloc::{AllocError, Global};
+use crate::streaming::both_answer;
 use std::test::Fail;
 
 /// Stock at its bound, the life of an order, an inspection, what is shown of them, and who is overdue.
@@ -75,36 +69,7 @@ const ANSWERS: &[&str] = &[
     "HTTP/1.1 200 OK\r\nContent-Type: application/json\r\nContent-Length: 92\r\n\r\n{\"overdue\":[{\"due\":null,\"id\":7,\"name\":\"Elm\"},{\"due\":\"2027-03-01\",\"id\":12,\"name\":\"Main St\"}]}",
 ];
 
-/// The texts one after the other.
-fn joined(alloc: Global, texts: &[&str]) -> Result<Vec<u8>, AllocError> {
-    let mut all = Vec::new(alloc);
-    for text in texts {
-        all.extend_from_slice(text.as_bytes())?;
-    }
-    Ok(all)
-}
-
-/// What the requests are answered by an office over the shelf.
-fn answered<S: Shelf + Drop>(alloc: Global, shelf: S, requests: &[u8]) -> Vec<u8> {
-    let mut office = Office::new(shelf);
-    let mut reader = FromRead::new(requests);
-    let mut writer = ToWrite::new(Vec::new(alloc));
-    let _outcome = serve(alloc, &mut office, &mut reader, &mut writer, 999);
-    writer.writer
-}
-
 #[test]
 fn both_shelves_keep_the_register(rt: HostRuntime) -> Result<(), Fail> {
-    let alloc = rt.alloc();
-    let requests = joined(alloc, REQUESTS)?;
-    let answers = joined(alloc, ANSWERS)?;
-    let Ok(conn) = Connection::open_in_memory(alloc) else {
-        return Err(Fail::from("no database"));
-    };
-    let Ok(shelf) = SqlShelf::open(alloc, conn) else {
-        return Err(Fail::from("no tables"));
-    };
-    assert_eq!(rt; answered(alloc, shelf, &requests), answers);
-    assert_eq!(rt; answered(alloc, MapShelf::new(alloc), &requests), answers);
-    Ok(())
+    both_answer(&rt, rt.alloc(), REQUESTS, ANSWERS)
 }

@@ -79,7 +79,7 @@ fn draft_text(alloc: Global, draft: &OpenDraft) -> Result<String, Fail> {
 }
 
 /// A reply as a text.
-pub fn reply_text(alloc: Global, reply: &Reply) -> Result<String, Fail> {
+pub(crate) fn reply_text(alloc: Global, reply: &Reply) -> Result<String, Fail> {
     match reply {
         Reply::Added => Ok(String::from_str(alloc, "Added")?),
         Reply::Same => Ok(String::from_str(alloc, "Same")?),
@@ -92,6 +92,7 @@ pub fn reply_text(alloc: Global, reply: &Reply) -> Result<String, Fail> {
         Reply::Timing(timing) => timing_text(alloc, timing),
         Reply::Draft(draft) => draft_text(alloc, draft),
         Reply::Refused(refusal) => Ok(format!(in alloc; "{refusal:?}")?),
+        Reply::Imported { added, same } => Ok(format!(in alloc; "{added} added, {same} same")?),
         Reply::Cabinet(_) | Reply::OpenOrders(_) | Reply::Stock(_) | Reply::Overdue(_) => {
             Ok(String::from_str(alloc, "a list of the register")?)
         }
@@ -150,19 +151,19 @@ fn intersections_text(
 }
 
 /// The committed rows of intersection 12.
-pub fn committed_text<S: Shelf>(alloc: Global, shelf: &mut S) -> Result<String, Fail> {
+pub(crate) fn committed_text<S: Shelf>(alloc: Global, shelf: &mut S) -> Result<String, Fail> {
     let rows = shelf.timing_rows(alloc, twelve()?)?;
     rows_text(alloc, rows.as_slice())
 }
 
 /// The draft rows of intersection 12.
-pub fn drafted_text<S: Shelf>(alloc: Global, shelf: &mut S) -> Result<String, Fail> {
+pub(crate) fn drafted_text<S: Shelf>(alloc: Global, shelf: &mut S) -> Result<String, Fail> {
     let rows = shelf.draft_rows(alloc, twelve()?)?;
     changes_text(alloc, rows.as_slice())
 }
 
 /// The rows of all intersections.
-pub fn listed_text<S: Shelf>(alloc: Global, shelf: &mut S) -> Result<String, Fail> {
+pub(crate) fn listed_text<S: Shelf>(alloc: Global, shelf: &mut S) -> Result<String, Fail> {
     let listed = shelf.intersections(alloc)?;
     intersections_text(alloc, listed.as_slice())
 }
