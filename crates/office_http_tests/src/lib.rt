@@ -10,6 +10,8 @@ mod serving_csv_tests;
 #[cfg(test)]
 mod serving_tests;
 #[cfg(test)]
+mod wire_csv_answer_tests;
+#[cfg(test)]
 mod wire_csv_tests;
 #[cfg(test)]
 mod wire_tests;
