@@ -76,12 +76,19 @@ impl<'a> FromListener<'a> {
     }
 }
 
+/// The connection, which sends each answer at once, however short it is. Where the system refuses
+/// that, answers may be held back for a moment, and no more.
+fn without_delay(stream: TcpStream) -> TcpStream {
+    let _ = stream.set_nodelay(true);
+    stream
+}
+
 impl Listen for FromListener<'_> {
     ghost told = { λ s. s.counts };
 
     fn accept(&mut self) -> io::Result<TcpStream> {
         let outcome = match self.listener.accept() {
-            Ok((stream, _)) => Ok(stream),
+            Ok((stream, _)) => Ok(without_delay(stream)),
             Err(error) => Err(error),
         };
         self.counts.count(&outcome);
