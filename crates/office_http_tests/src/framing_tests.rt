@@ -2,7 +2,7 @@
 //! told, and that an answer is written before the next request is asked for.
 
 mod echo;
-mod ends;
+pub(crate) mod ends;
 
 use crate::framing_tests::echo::{Echo, Paths};
 use crate::framing_tests::ends::{Drip, Endless, Narrow, Patient, Telling};

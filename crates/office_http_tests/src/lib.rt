@@ -8,6 +8,8 @@ mod listening_tests;
 #[cfg(test)]
 mod serving_csv_tests;
 #[cfg(test)]
+mod serving_ends_tests;
+#[cfg(test)]
 mod serving_tests;
 #[cfg(test)]
 mod wire_csv_answer_tests;

@@ -10,11 +10,11 @@ use std::io;
 use std::test::Fail;
 
 /// Adds intersection 12, and asks for it: requests of 93 and 34 bytes.
-const STREAM: &[u8; 127] =
+pub(crate) const STREAM: &[u8; 127] =
     b"POST /intersections HTTP/1.1\r\nContent-Length: 41\r\n\r\n{\"id\":12,\"interval\":365,\"name\":\"Main St\"}GET /intersections/12 HTTP/1.1\r\n\r\n";
 
 /// Their answers, of 89 and 184 bytes.
-const ANSWERS: &[u8; 273] =
+pub(crate) const ANSWERS: &[u8; 273] =
     b"HTTP/1.1 200 OK\r\nContent-Type: application/json\r\nContent-Length: 18\r\n\r\n{\"result\":\"added\"}HTTP/1.1 200 OK\r\nContent-Type: application/json\r\nContent-Length: 112\r\n\r\n{\"id\":12,\"interval\":365,\"name\":\"Main St\",\"owner\":null,\"revision\":0,\"rows\":0,\"state\":\"normal\",\"verify\":\"notDone\"}";
 
 /// The second of them.

@@ -2,6 +2,8 @@
 
 use draft_core::changes::Changes;
 use office_desk::command::Command;
+use office_desk::records::Records;
+use office_files::read_records_csv;
 use signal_records::{Change, InterId, Interval, Words, read_change};
 use std::alloc::Global;
 use std::test::Fail;
@@ -34,6 +36,8 @@ pub(crate) enum Ask {
     State,
     Timing,
     Draft,
+    /// Records of the register, as a CSV file spells them.
+    Import(&'static str),
 }
 
 /// A clerk, what is asked, and the text of the reply.
@@ -67,6 +71,14 @@ fn addition(alloc: Global, number: u32, name: &str) -> Result<Command, Fail> {
     })
 }
 
+fn import(alloc: Global, text: &str) -> Result<Command, Fail> {
+    let list = read_records_csv(alloc, text.as_bytes())
+        .ok()
+        .ok_or("records")?;
+    let records = Records::new(list);
+    Ok(Command::Import { records })
+}
+
 /// The intersection of which most is asked.
 pub(crate) fn twelve() -> Result<InterId, Fail> {
     intersection(12)
@@ -92,5 +104,6 @@ pub(crate) fn command(alloc: Global, clerk: &str, ask: Ask) -> Result<Command, F
         Ask::State => Command::State { id },
         Ask::Timing => Command::Timing { id },
         Ask::Draft => Command::Draft { id },
+        Ask::Import(text) => import(alloc, text)?,
     })
 }

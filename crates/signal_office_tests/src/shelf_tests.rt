@@ -2,7 +2,9 @@
 
 use crate::asking::{Ask, BROKEN, Line, PLAN, command};
 use crate::following::{map_office, sql_office};
-use crate::telling::{committed_text, drafted_text, listed_text, reply_text};
+use crate::telling::{
+    committed_text, drafted_text, listed_text, register_text, reply_text, stock_text,
+};
 use office_desk::command::Command;
 use office_desk::office::Office;
 use office_tables_shelf::shelf::Shelf;
@@ -10,8 +12,28 @@ use std::alloc::Global;
 use std::process::Abort;
 use std::test::Fail;
 
-/// Two intersections; a plan committed for one, a broken draft of it dropped, and another begun.
-const LINES: [Line; 17] = [
+/// A file of records from the field.
+const FIELD_BOOK: &str = "delivery,RELAY,1,2026-05-01,10\n\
+    inspection,12,1,2026-05-01,Ana,Fan and filter cleaned\n\
+    order,12,1,2026-05-01,Ana,Replace flash relay\n\
+    order,12,2,2026-05-01,Ana,\"Door lock, north side\"\n\
+    use,12,1,1,RELAY,2\n";
+
+/// Another, whose last record uses more than is on hand.
+const SHORT_OF_STOCK: &str = "inspection,12,2,2026-05-02,Ana,Checked\n\
+    order,12,3,2026-05-02,Ana,Repair\n\
+    delivery,RELAY,2,2026-05-02,1\n\
+    use,12,3,1,RELAY,10\n";
+
+/// What the register holds after both.
+const REGISTER: &str = "inspection,12,1,2026-05-01,Ana,Fan and filter cleaned\n\
+    order,12,1,2026-05-01,Ana,Replace flash relay\n\
+    use,12,1,1,RELAY,2\n\
+    order,12,2,2026-05-01,Ana,\"Door lock, north side\"\n";
+
+/// Two intersections; a plan committed for one, a broken draft of it dropped, and another begun; and records that come
+/// once, twice, past the bound of stock and past what is on hand.
+const LINES: [Line; 25] = [
     ("Ana", Ask::Add(12, "Main St"), "Added"),
     ("Ana", Ask::Begin, "0 Transaction NotDone"),
     ("Ana", Ask::Edit(PLAN), "0 Transaction NotDone"),
@@ -33,6 +55,34 @@ const LINES: [Line; 17] = [
     ("Ana", Ask::Verify, "NotOwner"),
     ("Bo", Ask::Verify, "1 Verify NotDone"),
     ("Ana", Ask::Add(7, "Elm"), "Added"),
+    ("Ana", Ask::Import(FIELD_BOOK), "5 added, 0 same"),
+    ("Ana", Ask::Import(FIELD_BOOK), "0 added, 5 same"),
+    (
+        "Ana",
+        Ask::Import(SHORT_OF_STOCK),
+        "ImportRow { at: 4, cause: 25 }",
+    ),
+    (
+        "Ana",
+        Ask::Import("delivery,BOLT,1,2026-05-01,999999999"),
+        "1 added, 0 same",
+    ),
+    (
+        "Ana",
+        Ask::Import("delivery,BOLT,2,2026-05-01,1"),
+        "ImportRow { at: 1, cause: 26 }",
+    ),
+    (
+        "Ana",
+        Ask::Import("delivery,BOLT,1,2026-05-01,999999999"),
+        "0 added, 1 same",
+    ),
+    (
+        "Ana",
+        Ask::Import("delivery,BOLT,1,2026-05-01,5"),
+        "ImportRow { at: 1, cause: 27 }",
+    ),
+    ("Ana", Ask::Import(""), "0 added, 0 same"),
 ];
 
 fn commands(alloc: Global) -> Result<Vec<Command>, Fail> {
@@ -65,6 +115,16 @@ fn holds<S: Shelf>(rt: &impl Abort, alloc: Global, shelf: &mut S) -> Result<(), 
     assert_eq!(rt;
         listed_text(alloc, shelf)?.as_str(),
         "7 Elm 365 0 nobody;12 Main St 365 1 Bo Verify"
+    );
+    holds_records(rt, alloc, shelf)
+}
+
+/// The same of the register's tables.
+fn holds_records<S: Shelf>(rt: &impl Abort, alloc: Global, shelf: &mut S) -> Result<(), Fail> {
+    assert_eq!(rt; register_text(alloc, shelf)?.as_str(), REGISTER);
+    assert_eq!(rt;
+        stock_text(alloc, shelf)?.as_str(),
+        "BOLT 999999999;RELAY 8;"
     );
     Ok(())
 }

@@ -1,7 +1,9 @@
 //! Replies and tables as texts, which tests compare.
 
 use crate::asking::twelve;
+use cabinet_core::CabinetView;
 use office_desk::reply::{IntersectionState, OpenDraft, Reply, RunningTiming};
+use office_files::records_csv;
 use office_tables_shelf::rows::IntersectionRow;
 use office_tables_shelf::shelf::Shelf;
 use signal_records::{Change, InterId, Row, write_row};
@@ -166,4 +168,26 @@ pub(crate) fn drafted_text<S: Shelf>(alloc: Global, shelf: &mut S) -> Result<Str
 pub(crate) fn listed_text<S: Shelf>(alloc: Global, shelf: &mut S) -> Result<String, Fail> {
     let listed = shelf.intersections(alloc)?;
     intersections_text(alloc, listed.as_slice())
+}
+
+/// The register of intersection 12, as a CSV file spells it.
+pub(crate) fn register_text<S: Shelf>(alloc: Global, shelf: &mut S) -> Result<String, Fail> {
+    let id = twelve()?;
+    let view = CabinetView {
+        inspections: shelf.inspections(alloc, id)?,
+        orders: shelf.orders(alloc, id)?,
+        lines: shelf.used_lines(alloc, id)?,
+    };
+    let csv = records_csv(alloc, id, &view)?;
+    Ok(String::from_utf8(csv).ok().ok_or("a text")?)
+}
+
+/// The parts with how many are on hand.
+pub(crate) fn stock_text<S: Shelf>(alloc: Global, shelf: &mut S) -> Result<String, Fail> {
+    let mut text = String::new(alloc);
+    for (part, hand) in shelf.parts(alloc)?.as_slice() {
+        let shown = format!(in alloc; "{} {};", part.as_str(), hand.get())?;
+        text.push_str(shown.as_str())?;
+    }
+    Ok(text)
 }
