@@ -71,4 +71,19 @@ status=0
 same "the status over another version" "$status" 1
 same "the fault over another version" "$(cat "$folder/errors")" "fault: version"
 
+# A file that is not there is made, and has no intersection; a folder and a file of another kind are refused.
+faulty() {
+  status=0
+  "$program" "${@:2}" >"$folder/answers" 2>"$folder/errors" || status=$?
+  same "the status of $2 over $1" "$status" 1
+  same "what $2 prints over $1" "$(cat "$folder/answers")" ""
+}
+faulty "no file" sheet --db "$folder/new.db" 12
+same "the fault over no file" "$(cat "$folder/errors")" "fault: unknown intersection"
+faulty "a folder" overdue --db "$folder" 2027-03-02
+same "the fault over a folder" "$(cat "$folder/errors")" "fault: store"
+{ echo "this is no database"; head -c 8192 /dev/zero; } >"$folder/text.db"
+faulty "a file of another kind" sheet --db "$folder/text.db" 12
+same "the fault over a file of another kind" "$(cat "$folder/errors")" "fault: store"
+
 echo ok
