@@ -17,8 +17,8 @@ import sys
 import tempfile
 import time
 
-TOP = os.path.dirname(os.path.dirname(os.path.abspath(__file__)))
-PROGRAM = os.path.join(TOP, "crates", "signal_office", "out", "signal_office")
+from program import PROGRAM, wants_program
+
 INTERSECTIONS = 50
 
 
@@ -133,8 +133,7 @@ def python(name, folder, rows):
 
 
 def main():
-    if not os.path.exists(PROGRAM):
-        sys.exit("build the program first: ./office batch </dev/null")
+    wants_program()
     middle = int(sys.argv[1]) if len(sys.argv) > 1 else 1000
     with tempfile.TemporaryDirectory() as folder:
         for count in (250, middle, 4000):

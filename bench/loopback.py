@@ -6,14 +6,13 @@ It starts `office serve` for so many connections (4 by default), one after the o
 half adding intersections and half asking for them: once with each request waiting for the answer to the one before, and
 once with 100 requests on the way at a time. Build the program first, by calling `./office batch </dev/null`.
 """
-import os
 import socket
 import subprocess
 import sys
 import time
 
-TOP = os.path.dirname(os.path.dirname(os.path.abspath(__file__)))
-PROGRAM = os.path.join(TOP, "crates", "signal_office", "out", "signal_office")
+from program import PROGRAM, wants_program
+
 REQUESTS = 10_000
 
 
@@ -58,8 +57,7 @@ def talk(port, at_once):
 
 def main():
     connections = int(sys.argv[1]) if len(sys.argv) > 1 else 4
-    if not os.path.exists(PROGRAM):
-        sys.exit("build the program first: ./office batch </dev/null")
+    wants_program()
     with socket.socket() as free:
         free.bind(("127.0.0.1", 0))
         port = free.getsockname()[1]

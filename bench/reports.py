@@ -13,8 +13,8 @@ import sys
 import tempfile
 import time
 
-TOP = os.path.dirname(os.path.dirname(os.path.abspath(__file__)))
-PROGRAM = os.path.join(TOP, "crates", "signal_office", "out", "signal_office")
+from program import PROGRAM, wants_program
+
 EPOCH = datetime.date(1970, 1, 1)
 DAY = datetime.date(2027, 3, 2)
 FIRST = (datetime.date(2026, 1, 1) - EPOCH).days
@@ -65,8 +65,7 @@ def python(path, limit):
 def main():
     intersections = int(sys.argv[1]) if len(sys.argv) > 1 else 9999
     inspections = int(sys.argv[2]) if len(sys.argv) > 2 else 20
-    if not os.path.exists(PROGRAM):
-        sys.exit("build the program first: ./office batch </dev/null")
+    wants_program()
     with tempfile.TemporaryDirectory() as folder:
         path = os.path.join(folder, "office.db")
         fill(path, intersections, inspections)

@@ -12,8 +12,8 @@ import sys
 import tempfile
 import time
 
-TOP = os.path.dirname(os.path.dirname(os.path.abspath(__file__)))
-PROGRAM = os.path.join(TOP, "crates", "signal_office", "out", "signal_office")
+from program import PROGRAM, TOP, wants_program
+
 
 
 def stream(count):
@@ -34,8 +34,7 @@ def measure(words, source, sink):
 
 def main():
     count = int(sys.argv[1]) if len(sys.argv) > 1 else 200_000
-    if not os.path.exists(PROGRAM):
-        sys.exit("build the program first: ./office batch </dev/null")
+    wants_program()
     with tempfile.TemporaryDirectory() as folder:
         requests = os.path.join(folder, "requests")
         with open(requests, "wb") as file:

@@ -16,8 +16,8 @@ import sys
 import tempfile
 import time
 
-TOP = os.path.dirname(os.path.dirname(os.path.abspath(__file__)))
-PROGRAM = os.path.join(TOP, "crates", "signal_office", "out", "signal_office")
+from program import PROGRAM, wants_program
+
 KINDS = {"phase": 1, "seq": 2, "split": 3, "pattern": 4}
 PHASES = (("2", "1", "6", ("7", "12", "490", "60", "0")), ("4", "1", "8", ()), ("6", "2", "2", ()), ("8", "2", "4", ()))
 
@@ -155,8 +155,7 @@ def measure(name, words, requests, count):
 def main():
     count = int(sys.argv[1]) if len(sys.argv) > 1 else 200
     intersections = int(sys.argv[2]) if len(sys.argv) > 2 else 1000
-    if not os.path.exists(PROGRAM):
-        sys.exit("build the program first: ./office batch </dev/null")
+    wants_program()
     with tempfile.TemporaryDirectory() as folder:
         office, large = os.path.join(folder, "office.db"), os.path.join(folder, "large.db")
         requests = os.path.join(folder, "requests")

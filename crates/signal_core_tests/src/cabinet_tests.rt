@@ -1,4 +1,5 @@
 use cabinet_core::*;
+use signal_records::{InterId, Interval, Words};
 use std::alloc::Global;
 use std::test::Fail;
 
@@ -80,4 +81,38 @@ fn codes_of_parts(rt: HostRuntime) -> Result<(), Fail> {
 fn part(alloc: Global, text: &str) -> Result<PartCode, Fail> {
     let code = PartCode::new(alloc, text.as_bytes()).ok().ok_or("memory")?;
     Ok(code.ok_or("a code")?)
+}
+
+/// What is known of an intersection that is inspected once a year.
+fn seen(alloc: Global, id: u32, name: &str, last: Option<Day>) -> Result<Seen, Fail> {
+    Ok(Seen {
+        id: InterId::new(id).ok_or("an intersection")?,
+        name: Words::new(alloc, name.as_bytes())?.ok_or("a name")?,
+        interval: Interval::new(365).ok_or("a year")?,
+        last,
+    })
+}
+
+/// The numbers of the intersections that are overdue on a day.
+fn late_on(alloc: Global, day: &str, rows: &[Seen]) -> Result<Vec<u32>, Fail> {
+    let day = read_day(day.as_bytes()).ok_or("a day")?;
+    let mut numbers = Vec::new(alloc);
+    for row in overdue(alloc, day, rows)?.as_slice() {
+        numbers.push(row.id.get())?;
+    }
+    Ok(numbers)
+}
+
+/// One was never inspected, the other last on 2026-03-01, so that it falls due a year later.
+#[test]
+fn lists_who_is_overdue(rt: HostRuntime) -> Result<(), Fail> {
+    let alloc = rt.alloc();
+    let mut rows = Vec::new(alloc);
+    rows.push(seen(alloc, 7, "Elm", None)?)?;
+    rows.push(seen(alloc, 12, "Main St", read_day(b"2026-03-01"))?)?;
+    let on_the_day = late_on(alloc, "2027-03-01", rows.as_slice())?;
+    assert_eq!(rt; on_the_day.as_slice(), [7].as_slice());
+    let a_day_later = late_on(alloc, "2027-03-02", rows.as_slice())?;
+    assert_eq!(rt; a_day_later.as_slice(), [7, 12].as_slice());
+    Ok(())
 }

@@ -1,6 +1,6 @@
 //! The report of overdue inspections.
 
-ghost use Rattle.std.specs.Prelude.{◌≡◌, IfOk, Err};
+ghost use Rattle.std.specs.Prelude.{◌≡◌, ◌⊎◌, IfOk, IfErr, Err};
 ghost use Rattle.office_tables_shelf.specs.Shelf.{IsKept};
 ghost use Rattle.office_desk.specs.Damage.{MeetsDamage};
 ghost use Rattle.office_desk.specs.Office.{Office as OfficeState};
@@ -26,7 +26,8 @@ pub fn overdue_of<S: Shelf>(
     ensures kept { IsKept S.is_honest S.content S.written S.may_leave office.old office.new }
     ensures report { IfOk result (λ text. S.is_honest office.new → (before : OfficeState) → StandForSound (S.content office.old) before →
         IsReportOf before day most text.items) }
-    // A row is called damaged only where one that is read is no record.
+    // Where it fails, memory or the database refused, or a row that is read is no record.
+    ensures fault { IfErr result (λ why. (why ≡ Fault.Memory) ⊎ ((why ≡ Fault.Store) ⊎ (why ≡ Fault.Damaged))) }
     ensures damaged { result ≡ Err Fault.Damaged → S.is_honest office.new → MeetsDamage (S.content office.old) (command.Overdue day) }
 {
     match office.overdue_first(alloc, day, most) {
