@@ -1,7 +1,186 @@
+use crate::spelling::words;
 use cabinet_core::*;
-use signal_records::{InterId, Interval, Words};
+use signal_records::{Amount, InterId, Interval, LineNo, RecordNo};
 use std::alloc::Global;
 use std::test::Fail;
+
+fn day(text: &str) -> Result<Day, Fail> {
+    Ok(read_day(text.as_bytes()).ok_or("a day")?)
+}
+
+fn number(n: u32) -> Result<RecordNo, Fail> {
+    Ok(RecordNo::new(n).ok_or("a number")?)
+}
+
+fn relay(alloc: Global) -> Result<PartCode, Fail> {
+    Ok(PartCode::new(alloc, b"RELAY")?.ok_or("a part")?)
+}
+
+/// The refusal of a decision, which makes no change then.
+fn refused(outcome: Result<Recorded, CabinetRefusal>) -> Option<CabinetRefusal> {
+    outcome.err()
+}
+
+/// Whether nothing is to be changed, since it is there already.
+fn is_same(outcome: Result<Recorded, CabinetRefusal>) -> bool {
+    matches!(&outcome, Ok(Recorded::Same))
+}
+
+/// The rows that an accepted command puts.
+fn added(outcome: Result<Recorded, CabinetRefusal>) -> Result<Vec<CabinetChange>, Fail> {
+    match outcome {
+        Ok(Recorded::Added(rows)) => Ok(rows),
+        _ => Err(Fail::from("not added")),
+    }
+}
+
+fn inspection(alloc: Global, on: &str) -> Result<Inspection, Fail> {
+    Ok(Inspection {
+        number: number(1)?,
+        day: day(on)?,
+        clerk: words(alloc, "Ana")?,
+        text: words(alloc, "Checked")?,
+    })
+}
+
+fn opening(alloc: Global, text: &str) -> Result<Opening, Fail> {
+    Ok(Opening {
+        number: number(4)?,
+        day: day("2026-05-01")?,
+        clerk: words(alloc, "Ana")?,
+        text: words(alloc, text)?,
+    })
+}
+
+fn closing(alloc: Global, on: &str, closer: &str) -> Result<Closing, Fail> {
+    Ok(Closing {
+        day: day(on)?,
+        closer: words(alloc, closer)?,
+    })
+}
+
+/// Order 4, which Ana opened on 2026-05-01.
+fn order(alloc: Global, closing: Option<Closing>) -> Result<Option<Order>, Fail> {
+    Ok(Some(Order {
+        number: number(4)?,
+        opened: day("2026-05-01")?,
+        clerk: words(alloc, "Ana")?,
+        text: words(alloc, "Repair")?,
+        closing,
+    }))
+}
+
+fn used(alloc: Global, count: u32) -> Result<UsedLine, Fail> {
+    Ok(UsedLine {
+        order: number(4)?,
+        line: LineNo::new(1).ok_or("a line")?,
+        part: relay(alloc)?,
+        count: Amount::new(count).ok_or("a count")?,
+    })
+}
+
+fn delivery(alloc: Global, count: u32) -> Result<Delivery, Fail> {
+    Ok(Delivery {
+        part: relay(alloc)?,
+        number: number(1)?,
+        day: day("2026-05-01")?,
+        count: Amount::new(count).ok_or("a count")?,
+    })
+}
+
+#[test]
+fn an_inspection_is_recorded(rt: HostRuntime) -> Result<(), Fail> {
+    let alloc = rt.alloc();
+    let first = inspection(alloc, "2026-05-01")?;
+    let rows = added(inspect(alloc, &None, &first))?;
+    assert!(rt; matches!(rows.as_slice(), [CabinetChange::PutInspection(put)] if *put == first));
+    let there = Some(first.clone()?);
+    assert!(rt; is_same(inspect(alloc, &there, &first)));
+    let other = inspect(alloc, &there, &inspection(alloc, "2026-05-02")?);
+    assert_eq!(rt; refused(other), Some(CabinetRefusal::InspectionDiffers));
+    Ok(())
+}
+
+#[test]
+fn an_order_is_opened(rt: HostRuntime) -> Result<(), Fail> {
+    let alloc = rt.alloc();
+    let asked = opening(alloc, "Repair")?;
+    let open = order(alloc, None)?;
+    let rows = added(open_order(alloc, &None, &asked))?;
+    assert!(rt;
+        matches!(rows.as_slice(), [CabinetChange::PutOrder(put)] if open.as_ref() == Some(put))
+    );
+    assert!(rt; is_same(open_order(alloc, &open, &asked)));
+    let closed = order(alloc, Some(closing(alloc, "2026-05-03", "Bo")?))?;
+    assert!(rt; is_same(open_order(alloc, &closed, &asked)));
+    let other = open_order(alloc, &open, &opening(alloc, "Replace")?);
+    assert_eq!(rt; refused(other), Some(CabinetRefusal::OrderDiffers));
+    Ok(())
+}
+
+#[test]
+fn a_part_is_used(rt: HostRuntime) -> Result<(), Fail> {
+    let alloc = rt.alloc();
+    let asked = used(alloc, 2)?;
+    let open = order(alloc, None)?;
+    let ten = Hand::new(10);
+    let rows = added(use_part(alloc, &None, &open, ten, &asked))?;
+    assert!(rt;
+        matches!(rows.as_slice(), [CabinetChange::PutLine(line), CabinetChange::PutPart(part, hand)]
+            if *line == asked && *part == asked.part && hand.get() == 8)
+    );
+    let there = Some(asked.clone()?);
+    assert!(rt; is_same(use_part(alloc, &there, &None, None, &asked)));
+    let other = use_part(alloc, &there, &open, ten, &used(alloc, 3)?);
+    assert_eq!(rt; refused(other), Some(CabinetRefusal::LineDiffers));
+    let unknown = use_part(alloc, &None, &None, ten, &asked);
+    assert_eq!(rt; refused(unknown), Some(CabinetRefusal::UnknownOrder));
+    let closed = order(alloc, Some(closing(alloc, "2026-05-03", "Bo")?))?;
+    let late = use_part(alloc, &None, &closed, ten, &asked);
+    assert_eq!(rt; refused(late), Some(CabinetRefusal::OrderClosed));
+    let short = use_part(alloc, &None, &open, ten, &used(alloc, 11)?);
+    assert_eq!(rt; refused(short), Some(CabinetRefusal::NoStock));
+    Ok(())
+}
+
+#[test]
+fn an_order_is_closed(rt: HostRuntime) -> Result<(), Fail> {
+    let alloc = rt.alloc();
+    let open = order(alloc, None)?;
+    // On the day on which it was opened, by another clerk than the one who opened it.
+    let asked = closing(alloc, "2026-05-01", "Bo")?;
+    let rows = added(close_order(alloc, &open, &asked))?;
+    let closed = order(alloc, Some(asked.clone()?))?;
+    assert!(rt;
+        matches!(rows.as_slice(), [CabinetChange::PutOrder(put)] if closed.as_ref() == Some(put))
+    );
+    assert!(rt; is_same(close_order(alloc, &closed, &asked)));
+    let unknown = close_order(alloc, &None, &asked);
+    assert_eq!(rt; refused(unknown), Some(CabinetRefusal::UnknownOrder));
+    let other = close_order(alloc, &closed, &closing(alloc, "2026-05-01", "Ana")?);
+    assert_eq!(rt; refused(other), Some(CabinetRefusal::CloseDiffers));
+    let early = close_order(alloc, &open, &closing(alloc, "2026-04-30", "Bo")?);
+    assert_eq!(rt; refused(early), Some(CabinetRefusal::DayBeforeOpening));
+    Ok(())
+}
+
+#[test]
+fn a_delivery_is_received(rt: HostRuntime) -> Result<(), Fail> {
+    let alloc = rt.alloc();
+    let asked = delivery(alloc, 1)?;
+    let rows = added(receive(alloc, &None, Hand::new(MOST_ON_HAND - 1), &asked))?;
+    assert!(rt;
+        matches!(rows.as_slice(), [CabinetChange::PutPart(part, hand), CabinetChange::PutDelivery(put)]
+            if *put == asked && *part == asked.part && hand.get() == MOST_ON_HAND)
+    );
+    let there = Some(asked.clone()?);
+    assert!(rt; is_same(receive(alloc, &there, Hand::new(MOST_ON_HAND), &asked)));
+    let other = receive(alloc, &there, Hand::new(1), &delivery(alloc, 5)?);
+    assert_eq!(rt; refused(other), Some(CabinetRefusal::DeliveryDiffers));
+    let full = receive(alloc, &None, Hand::new(MOST_ON_HAND), &asked);
+    assert_eq!(rt; refused(full), Some(CabinetRefusal::StockFull));
+    Ok(())
+}
 
 /// `write_day` and `read_day` agree with the calendar, whose numbers are known from elsewhere.
 #[test]
@@ -9,34 +188,19 @@ fn days_are_read_and_written(rt: HostRuntime) -> Result<(), Fail> {
     let alloc = rt.alloc();
     for (text, number) in [
         ("1970-01-01", 0),
-        ("1970-03-01", 59),
         ("2000-02-29", 11_016),
-        ("2024-02-29", 19_782),
         ("2026-05-01", 20_574),
         ("2199-12-31", 84_005),
     ] {
-        let day = read_day(text.as_bytes()).ok_or("a day")?;
-        assert_eq!(rt; day.number(), number);
-        assert_eq!(rt; Day::new(number), Some(day));
-        assert_eq!(rt; write_day(alloc, day).ok().ok_or("a text")?.as_str(), text);
-        assert_eq!(rt; day.date().to_string(alloc)?.as_str(), text);
+        assert_eq!(rt; Day::new(number), Some(day(text)?));
+        assert_eq!(rt; day(text)?.number(), number);
+        assert_eq!(rt; write_day(alloc, day(text)?)?.as_str(), text);
     }
     for text in [
-        "",
         "2026-02-29",
         "1969-12-31",
         "2200-01-01",
-        "2026-1-01",
-        "2026-05-1",
-        "02026-05-01",
-        "2026/05/01",
-        "2026-00-01",
-        "2026-13-01",
-        "2026-04-31",
-        "2026-05-00",
-        " 2026-05-01",
-        "2026-05-01\n",
-        "+026-05-01",
+        "2026-5-01",
         "2026-05-0a",
     ] {
         assert!(rt; read_day(text.as_bytes()).is_none(), "{text}");
@@ -45,74 +209,29 @@ fn days_are_read_and_written(rt: HostRuntime) -> Result<(), Fail> {
     Ok(())
 }
 
-#[test]
-fn codes_of_parts(rt: HostRuntime) -> Result<(), Fail> {
-    let alloc = rt.alloc();
-    for text in [
-        "A",
-        "RELAY",
-        "R-2",
-        "--------------------",
-        "ABCDEFGHIJKLMNOPQRST",
-    ] {
-        let code = part(alloc, text)?;
-        assert_eq!(rt; code.as_str(), text);
-        assert!(rt; code.clone()? == code);
-    }
-    for text in [
-        "",
-        "ABCDEFGHIJKLMNOPQRSTU",
-        "relay",
-        "A B",
-        "A_B",
-        "\u{c4}",
-        "A\n",
-    ] {
-        assert!(rt;
-            PartCode::new(alloc, text.as_bytes()).is_ok_and(|code| code.is_none()),
-            "{text}"
-        );
-    }
-    assert!(rt; part(alloc, "FAN-2")? < part(alloc, "FAN2")?);
-    assert!(rt; part(alloc, "FAN")? < part(alloc, "FAN-2")?);
-    Ok(())
-}
-
-fn part(alloc: Global, text: &str) -> Result<PartCode, Fail> {
-    let code = PartCode::new(alloc, text.as_bytes()).ok().ok_or("memory")?;
-    Ok(code.ok_or("a code")?)
-}
-
 /// What is known of an intersection that is inspected once a year.
 fn seen(alloc: Global, id: u32, name: &str, last: Option<Day>) -> Result<Seen, Fail> {
     Ok(Seen {
         id: InterId::new(id).ok_or("an intersection")?,
-        name: Words::new(alloc, name.as_bytes())?.ok_or("a name")?,
+        name: words(alloc, name)?,
         interval: Interval::new(365).ok_or("a year")?,
         last,
     })
 }
 
-/// The numbers of the intersections that are overdue on a day.
-fn late_on(alloc: Global, day: &str, rows: &[Seen]) -> Result<Vec<u32>, Fail> {
-    let day = read_day(day.as_bytes()).ok_or("a day")?;
-    let mut numbers = Vec::new(alloc);
-    for row in overdue(alloc, day, rows)?.as_slice() {
-        numbers.push(row.id.get())?;
-    }
-    Ok(numbers)
-}
-
 /// One was never inspected, the other last on 2026-03-01, so that it falls due a year later.
 #[test]
-fn lists_who_is_overdue(rt: HostRuntime) -> Result<(), Fail> {
+fn who_is_overdue_is_listed(rt: HostRuntime) -> Result<(), Fail> {
     let alloc = rt.alloc();
-    let mut rows = Vec::new(alloc);
-    rows.push(seen(alloc, 7, "Elm", None)?)?;
-    rows.push(seen(alloc, 12, "Main St", read_day(b"2026-03-01"))?)?;
-    let on_the_day = late_on(alloc, "2027-03-01", rows.as_slice())?;
-    assert_eq!(rt; on_the_day.as_slice(), [7].as_slice());
-    let a_day_later = late_on(alloc, "2027-03-02", rows.as_slice())?;
-    assert_eq!(rt; a_day_later.as_slice(), [7, 12].as_slice());
+    let year = Interval::new(365).ok_or("a year")?;
+    let last = day("2026-03-01")?;
+    assert_eq!(rt; due(last, year), day("2027-03-01")?.date());
+    let rows = vec![in alloc;
+        seen(alloc, 7, "Elm", None)?,
+        seen(alloc, 12, "Main St", Some(last))?,
+    ]?;
+    let on_the_day = overdue(alloc, day("2027-03-01")?, &rows)?;
+    assert!(rt; matches!(on_the_day.as_slice(), [elm] if elm.id.get() == 7 && elm.due.is_none()));
+    assert_eq!(rt; overdue(alloc, day("2027-03-02")?, &rows)?.len(), 2);
     Ok(())
 }
