@@ -4,7 +4,6 @@ use office_http::{
     AskFault, Fault, Field, Front, More, command_of, fault_answer, next_request, unavailable,
 };
 use office_http_framing::laws::{one_front, one_list_of_requests};
-use office_http_wire::{ask_fault_answer, framing_fault_answer};
 use std::alloc::{AllocError, Global};
 use std::test::Fail;
 
@@ -41,13 +40,10 @@ fn a_request_stands_at_the_front(rt: HostRuntime) -> Result<(), Fail> {
 fn faults_are_answered(rt: HostRuntime) -> Result<(), Fail> {
     let alloc = rt.alloc();
     let length = answer(alloc, "400 Bad Request", r#"{"error":"Length","number":3}"#)?;
-    assert!(rt; framing_fault_answer(alloc, Fault::Length)? == length);
     assert!(rt; fault_answer(alloc, 3, More::Nothing)? == length);
     let field = r#"{"error":"Field","field":"name","number":9}"#;
     let field = answer(alloc, "400 Bad Request", field)?;
-    assert!(rt; ask_fault_answer(alloc, AskFault::Field(Field::Name))? == field);
     assert!(rt; fault_answer(alloc, 9, More::Field(Field::Name))? == field);
-    assert!(rt; ask_fault_answer(alloc, AskFault::NoMemory).is_err());
     let none = r#"{"error":"Unavailable","number":90}"#;
     let none = answer(alloc, "503 Service Unavailable", none)?;
     assert_eq!(rt; unavailable(), none.as_slice());
