@@ -90,6 +90,14 @@ fn play_run(
     compare_texts(alloc, line, told.as_str(), came.as_str())
 }
 
+/// Changes the tables by another hand.
+fn play_sql<T: Tables>(alloc: Global, tables: &mut T, line: usize, sql: &str) -> Result<(), Fault> {
+    if tables.alter(sql) {
+        return Ok(());
+    }
+    Err(Fault::differs(alloc, line, sql.as_bytes(), b"a refusal"))
+}
+
 /// How opening tables ends.
 fn opening(outcome: Result<(), OpenFault>) -> &'static str {
     match outcome {
@@ -112,8 +120,7 @@ fn play_step<T: Tables>(
             Some(words) => play_run(rt, line, words, talk, cut),
             None => play_stream(alloc, tables, line, talk, cut),
         },
-        Act::Sql(sql) if tables.alter(sql) => Ok(()),
-        Act::Sql(sql) => Err(Fault::differs(alloc, line, sql.as_bytes(), b"a refusal")),
+        Act::Sql(sql) => play_sql(alloc, tables, line, sql),
         Act::Opens => compare_texts(alloc, line, "opened", opening(tables.open(alloc))),
         Act::Refuses(fault) => compare_texts(alloc, line, fault, opening(tables.open(alloc))),
         Act::File { name, text } => write_file(rt, name, text.as_str()),

@@ -1,174 +1,96 @@
-//! The program by its words: what it prints, and its status.
+//! The program's faults that no row says: ends that fail, a port that is taken, and memory refused.
 
-use crate::running::{alter_office, remove_office, run, run_in_file};
-use office_http::{Counts, FromRead, Source};
-use std::io::ErrorKind;
+use crate::ends::{Drip, Narrow};
+use crate::serving_tests::{ANSWERS, STREAM};
+use office_http::{FromRead, Sink, Source, ToWrite};
+use signal_office_run::{Fault, report, run_words};
+use std::net::{Ipv4Addr, SocketAddr, TcpListener};
 use std::test::Fail;
 use std::{fs, io};
 
-/// Adds intersection 12, and asks for it.
-const STREAM: &[u8; 127] =
-    b"POST /intersections HTTP/1.1\r\nContent-Length: 41\r\n\r\n{\"id\":12,\"interval\":365,\"name\":\"Main St\"}GET /intersections/12 HTTP/1.1\r\n\r\n";
-
-/// The answers.
-const ANSWERS: &[u8; 273] =
-    b"HTTP/1.1 200 OK\r\nContent-Type: application/json\r\nContent-Length: 18\r\n\r\n{\"result\":\"added\"}HTTP/1.1 200 OK\r\nContent-Type: application/json\r\nContent-Length: 112\r\n\r\n{\"id\":12,\"interval\":365,\"name\":\"Main St\",\"owner\":null,\"revision\":0,\"rows\":0,\"state\":\"normal\",\"verify\":\"notDone\"}";
-
-/// A source that fails at once.
-#[derive(Drop)]
-struct Broken {
-    counts: Counts,
-}
-
-impl Source for Broken {
-    ghost use Rattle.std.specs.Prelude.{None};
-
-    ghost told = { λ broken. record { bytes = None; counts = broken.counts } };
-
-    fn read(&mut self, _buf: &mut [u8]) -> io::Result<usize> {
-        let outcome = Err(io::Error::from(ErrorKind::Other));
-        self.counts.count(&outcome);
-        outcome
+/// The status of a run on the words of a line, and what it printed on standard error.
+fn run<R: Source, W: Sink>(
+    rt: &HostRuntime,
+    line: &str,
+    source: &mut R,
+    out: &mut W,
+) -> Result<(u8, Vec<u8>), Fail> {
+    let alloc = rt.alloc();
+    let mut words = vec![in alloc; "signal_office"]?;
+    for word in line.split_ascii_whitespace() {
+        words.push(word)?;
     }
+    let mut err = ToWrite::new(Vec::new(alloc));
+    let status = run_words(rt, alloc, &words, source, out, &mut err);
+    Ok((status, err.writer))
+}
+
+/// Removes the file of the tables, and its log.
+fn remove_office(rt: &HostRuntime) -> io::Result<()> {
+    let _no_log = fs::remove_file(rt, "office.db-wal");
+    fs::remove_file(rt, "office.db")
 }
 
 #[test]
-fn batch_answers_the_stream(rt: HostRuntime) {
-    let words = ["signal_office", "batch"];
-    let (status, out, err) = run(&rt, &words, &mut FromRead::new(STREAM.as_slice()));
-    assert_eq!(rt; status, 0);
-    assert_eq!(rt; out.as_slice(), ANSWERS.as_slice());
-    assert!(rt; err.is_empty());
-    let (status, out, _) = run(&rt, &words, &mut FromRead::new(b"".as_slice()));
-    assert_eq!(rt; status, 0);
-    assert!(rt; out.is_empty());
+fn a_source_that_fails_is_told(rt: HostRuntime) -> Result<(), Fail> {
+    for line in ["batch", "batch --db office.db"] {
+        let mut source = Drip::new(&STREAM[..93], true);
+        let mut out = ToWrite::new(Vec::new(rt.alloc()));
+        let (status, err) = run(&rt, line, &mut source, &mut out)?;
+        assert_eq!(rt; status, 1, "{line}");
+        assert_eq!(rt; err.as_slice(), b"fault: read\n".as_slice());
+        assert_eq!(rt; out.writer.as_slice(), &ANSWERS[..89]);
+    }
+    Ok(remove_office(&rt)?)
 }
 
+/// Each command says that it could not write what it prints.
 #[test]
-fn other_words_and_a_broken_source_have_their_status(rt: HostRuntime) {
-    let (status, out, err) = run(
-        &rt,
-        &["signal_office", "sheet", "--help"],
-        &mut FromRead::new(b"".as_slice()),
-    );
-    assert_eq!(rt; status, 0);
-    assert!(rt; !out.is_empty() && err.is_empty());
-    let (status, out, err) = run(
-        &rt,
-        &["signal_office", "x"],
-        &mut FromRead::new(b"".as_slice()),
-    );
-    assert_eq!(rt; status, 2);
-    assert!(rt; out.is_empty() && !err.is_empty());
-    let mut broken = Broken {
-        counts: Counts::default(),
-    };
-    let (status, _, err) = run(&rt, &["signal_office", "batch"], &mut broken);
-    assert_eq!(rt; status, 1);
-    assert_eq!(rt; err.as_slice(), b"fault: read\n".as_slice());
-}
-
-/// Asks for intersection 12.
-const STATE_REQUEST: &[u8; 34] = b"GET /intersections/12 HTTP/1.1\r\n\r\n";
-
-/// The sheet of an intersection without timing.
-const SHEET: &str =
-    "Intersection 12: Main St\nRevision 0\nPhases\n    No  Ring   Min  Pass   Max   Yel   Red  Walk Clear Width Setbk Short Mates\nSequences\n    No  Ring Phases\nSplits\n    No Phase  Time  Mode Coord\nPatterns\n    No Cycle  Offs Split   Seq\n";
-
-#[test]
-fn batch_finds_the_tables_of_its_file(rt: HostRuntime) -> Result<(), Fail> {
-    let (status, out, err) = run_in_file(&rt, STREAM);
-    assert_eq!(rt; status, 0);
-    assert_eq!(rt; out.as_slice(), ANSWERS.as_slice());
-    assert!(rt; err.is_empty());
-    let (status, out, err) = run_in_file(&rt, STATE_REQUEST);
-    assert_eq!(rt; status, 0);
-    let answers = ANSWERS.as_slice();
-    assert_eq!(rt; out.as_slice(), &answers[89..]);
-    assert!(rt; err.is_empty());
-    for (id, ended, printed, told) in [
-        ("12", 0, SHEET, ""),
-        ("13", 1, "", "fault: unknown intersection\n"),
+fn an_output_that_fails_is_told(rt: HostRuntime) -> Result<(), Fail> {
+    fs::write(&rt, "plan.csv", "seq,1,1,\n")?;
+    for line in [
+        "batch --db office.db",
+        "batch",
+        "sheet --db office.db 12",
+        "overdue --db office.db 2027-03-02",
+        "verify-file plan.csv",
+        "serve --port 1 --help",
     ] {
-        let words = ["signal_office", "sheet", "--db", "office.db", id];
-        let (status, out, err) = run(&rt, &words, &mut FromRead::new(b"".as_slice()));
-        assert_eq!(rt; status, ended);
-        assert_eq!(rt; out.as_slice(), printed.as_bytes());
-        assert_eq!(rt; err.as_slice(), told.as_bytes());
-    }
-    let (status, out, _) = run(
-        &rt,
-        &["signal_office", "batch"],
-        &mut FromRead::new(STATE_REQUEST.as_slice()),
-    );
-    assert_eq!(rt; status, 0);
-    assert!(rt; out.starts_with(b"HTTP/1.1 404 Not Found\r\n"));
-    remove_office(&rt)
-}
-
-#[test]
-fn batch_says_why_a_file_is_refused(rt: HostRuntime) -> Result<(), Fail> {
-    let cases = [
-        ("UPDATE office_version SET version = 9", "fault: version\n"),
-        ("DELETE FROM office_version", "fault: damaged\n"),
-        ("CREATE TABLE note (text TEXT)", "fault: store\n"),
-    ];
-    for (sql, told) in cases {
-        let (status, _, _) = run_in_file(&rt, STREAM);
-        assert_eq!(rt; status, 0);
-        alter_office(&rt, sql)?;
-        let (status, out, err) = run_in_file(&rt, STATE_REQUEST);
-        assert_eq!(rt; status, 1, "after {sql}");
-        assert!(rt; out.is_empty());
-        assert_eq!(rt; err.as_slice(), told.as_bytes(), "after {sql}");
-        remove_office(&rt)?;
-    }
-    Ok(())
-}
-
-#[test]
-fn batch_refuses_what_is_no_database(rt: HostRuntime) -> Result<(), Fail> {
-    fs::write(&rt, "office.db", PLAN)?;
-    let (status, out, err) = run_in_file(&rt, STREAM);
-    assert_eq!(rt; status, 1);
-    assert!(rt; out.is_empty());
-    assert_eq!(rt; err.as_slice(), b"fault: store\n".as_slice());
-    remove_office(&rt)?;
-    fs::create_dir(&rt, "folder")?;
-    let words = ["signal_office", "batch", "--db", "folder"];
-    let (status, out, err) = run(&rt, &words, &mut FromRead::new(STREAM.as_slice()));
-    assert_eq!(rt; status, 1);
-    assert!(rt; out.is_empty());
-    assert_eq!(rt; err.as_slice(), b"fault: store\n".as_slice());
-    fs::remove_dir(&rt, "folder")?;
-    Ok(())
-}
-
-/// A plan of four phases in two rings, which breaks no rule.
-const PLAN: &str =
-    "phase,2,1,8,20,40,40,15,6,7,12,490,60,0\nphase,4,1,8,20,40,40,15,8\nphase,6,2,8,20,40,40,15,2\nphase,8,2,8,20,40,40,15,4\nseq,1,1,2 4\nseq,1,2,6 8\nsplit,1,2,35,2,1\nsplit,1,4,25,2,0\nsplit,1,6,35,2,1\nsplit,1,8,25,2,0\npattern,1,60,0,1,1\n";
-
-#[test]
-fn verify_file_checks_a_plan(rt: HostRuntime) -> Result<(), Fail> {
-    let words = ["signal_office", "verify-file", "plan.csv"];
-    let broken = "split,1,2,34,2,1\n";
-    let cases = [
-        ("", 0, "no violations\n", ""),
-        (broken, 3, "pattern 1 V12\n", ""),
-        ("seq,1\n", 1, "", "fault: record 12: Count\n"),
-        ("split,1,02,35,2,1\n", 1, "", "fault: record 12: Number 3\n"),
-    ];
-    for (more, status, printed, told) in cases {
-        fs::write(&rt, "plan.csv", format!(in rt.alloc(); "{PLAN}{more}")?)?;
-        let (ended, out, err) = run(&rt, &words, &mut FromRead::new(b"".as_slice()));
-        assert_eq!(rt; ended, status);
-        assert_eq!(rt; out.as_slice(), printed.as_bytes());
-        assert_eq!(rt; err.as_slice(), told.as_bytes());
+        for fails in [true, false] {
+            let mut source = FromRead::new(STREAM.as_slice());
+            let mut out = Narrow::new(rt.alloc(), 0, fails);
+            let (status, err) = run(&rt, line, &mut source, &mut out)?;
+            assert_eq!(rt; status, 1, "{line}");
+            assert_eq!(rt; err.as_slice(), b"fault: write\n".as_slice(), "{line}");
+        }
     }
     fs::remove_file(&rt, "plan.csv")?;
-    let (ended, out, err) = run(&rt, &words, &mut FromRead::new(b"".as_slice()));
-    assert_eq!(rt; ended, 1);
-    assert!(rt; out.is_empty());
-    assert_eq!(rt; err.as_slice(), b"fault: file\n".as_slice());
-    Ok(())
+    Ok(remove_office(&rt)?)
+}
+
+#[test]
+fn a_port_that_is_taken_is_told(rt: HostRuntime) -> Result<(), Fail> {
+    let here = SocketAddr::from((Ipv4Addr::LOCALHOST, 0));
+    let listener = TcpListener::bind(&rt, here)?;
+    let port = listener.local_addr()?.port();
+    for tables in ["", "--db office.db"] {
+        let line = format!(in rt.alloc(); "serve --port {port} --count 1 {tables}")?;
+        let mut source = FromRead::new(b"".as_slice());
+        let mut out = ToWrite::new(Vec::new(rt.alloc()));
+        let (status, err) = run(&rt, line.as_str(), &mut source, &mut out)?;
+        assert_eq!(rt; status, 1);
+        assert_eq!(rt; err.as_slice(), b"fault: bind\n".as_slice());
+        assert!(rt; out.writer.is_empty());
+    }
+    Ok(remove_office(&rt)?)
+}
+
+/// A run ends so wherever memory is refused it.
+#[test]
+fn refused_memory_is_told(rt: HostRuntime) {
+    let mut err = ToWrite::new(Vec::new(rt.alloc()));
+    assert_eq!(rt; report(rt.alloc(), &mut err, Fault::Memory), 1);
+    assert_eq!(rt; err.writer.as_slice(), b"fault: memory\n".as_slice());
+    let mut err = Narrow::new(rt.alloc(), 0, true);
+    assert_eq!(rt; report(rt.alloc(), &mut err, Fault::Words), 2);
 }

@@ -1,8 +1,6 @@
 //! How many rows of the timing and draft tables the commands write.
 
-use crate::asking::{Ask, Line};
-use crate::following::{COMMITTED, follow, map_office, sql_office};
-use crate::telling::drafted_text;
+use crate::talking::{ANA, COMMITTED, Line, follow, map_office, sql_office};
 use office_desk::office::Office;
 use office_tables_shelf::rows::Table;
 use office_tables_shelf::shelf::Shelf;
@@ -10,45 +8,87 @@ use std::alloc::Global;
 use std::process::Abort;
 use std::test::Fail;
 
+const BEGUN: &str = r#"{"revision":1,"state":"transaction","verify":"notDone"}"#;
+
 /// Commands, and how many rows they write at most of the timing table and of the draft table.
 type Step = (&'static [Line], u64, u64);
 
 const STEPS: [Step; 5] = [
-    (&[("Ana", Ask::Begin, "1 Transaction NotDone")], 0, 0),
-    (&[("Ana", Ask::Edit(MOVED), "1 Transaction NotDone")], 0, 4),
+    (&[("POST", "/intersections/12/begin", ANA, BEGUN)], 0, 0),
     (
-        &[
-            ("Ana", Ask::Verify, "1 Verify NotDone"),
-            ("Ana", Ask::Check, "1 Done DoneWithNoError"),
-        ],
+        &[(
+            "POST",
+            "/intersections/12/edit-csv",
+            r#"{"clerk":"Ana","csv":"split,1,2,46,2,1\nsplit,1,4,14,2,0\nsplit,1,6,46,2,1\nsplit,1,8,14,2,0\n"}"#,
+            BEGUN,
+        )],
         0,
-        0,
+        4,
     ),
-    (&[("Ana", Ask::Commit, "2 Normal NotDone")], 4, 4),
     (
         &[
-            ("Ana", Ask::Begin, "2 Transaction NotDone"),
             (
-                "Ana",
-                Ask::Edit("remove,pattern,1"),
-                "2 Transaction NotDone",
+                "POST",
+                "/intersections/12/verify",
+                ANA,
+                r#"{"revision":1,"state":"verify","verify":"notDone"}"#,
             ),
-            ("Ana", Ask::Verify, "2 Verify NotDone"),
-            ("Ana", Ask::Check, "2 Done DoneWithNoError"),
-            ("Ana", Ask::Commit, "3 Normal NotDone"),
+            (
+                "POST",
+                "/intersections/12/check",
+                ANA,
+                r#"{"revision":1,"state":"done","verify":"doneWithNoError"}"#,
+            ),
         ],
-        1,
-        2,
+        0,
+        0,
     ),
+    (
+        &[(
+            "POST",
+            "/intersections/12/commit",
+            ANA,
+            r#"{"revision":2,"state":"normal","verify":"notDone"}"#,
+        )],
+        4,
+        4,
+    ),
+    (&REMOVED, 1, 2),
 ];
 
-/// Splits with which the plan is clean too.
-const MOVED: &str = "split,1,2,46,2,1;split,1,4,14,2,0;split,1,6,46,2,1;split,1,8,14,2,0";
-
-/// The timing at the end: ten rows and no pattern.
-const LEFT: &str = "3: phase,2,1,8,20,40,40,15,6,7,12,490,60,0;phase,4,1,8,20,40,40,15,8;\
-    phase,6,2,8,20,40,40,15,2;phase,8,2,8,20,40,40,15,4;seq,1,1,2 4;seq,1,2,6 8;\
-    split,1,2,46,2,1;split,1,4,14,2,0;split,1,6,46,2,1;split,1,8,14,2,0";
+/// The pattern is removed, and that is committed.
+const REMOVED: [Line; 5] = [
+    (
+        "POST",
+        "/intersections/12/begin",
+        ANA,
+        r#"{"revision":2,"state":"transaction","verify":"notDone"}"#,
+    ),
+    (
+        "POST",
+        "/intersections/12/edit-csv",
+        r#"{"clerk":"Ana","csv":"remove,pattern,1\n"}"#,
+        r#"{"revision":2,"state":"transaction","verify":"notDone"}"#,
+    ),
+    (
+        "POST",
+        "/intersections/12/verify",
+        ANA,
+        r#"{"revision":2,"state":"verify","verify":"notDone"}"#,
+    ),
+    (
+        "POST",
+        "/intersections/12/check",
+        ANA,
+        r#"{"revision":2,"state":"done","verify":"doneWithNoError"}"#,
+    ),
+    (
+        "POST",
+        "/intersections/12/commit",
+        ANA,
+        r#"{"revision":3,"state":"normal","verify":"notDone"}"#,
+    ),
+];
 
 /// How many rows of a table the second count has more than the first.
 fn risen(before: u64, after: u64) -> Result<u64, Fail> {
@@ -67,14 +107,8 @@ fn step<S: Shelf + Drop>(
     let mut office = Office::new(shelf);
     follow(rt, alloc, &mut office, lines)?;
     let shelf = office.into_shelf();
-    assert!(rt;
-        risen(before.0, shelf.writes(Table::Timing))? <= timing,
-        "timing in {lines:?}"
-    );
-    assert!(rt;
-        risen(before.1, shelf.writes(Table::Draft))? <= draft,
-        "draft in {lines:?}"
-    );
+    assert!(rt; risen(before.0, shelf.writes(Table::Timing))? <= timing);
+    assert!(rt; risen(before.1, shelf.writes(Table::Draft))? <= draft);
     Ok(Office::new(shelf))
 }
 
@@ -88,15 +122,15 @@ fn count_writes<S: Shelf + Drop>(
     for taken in STEPS {
         office = step(rt, alloc, office, taken)?;
     }
-    follow(rt, alloc, &mut office, &[("Bo", Ask::Timing, LEFT)])?;
-    let mut shelf = office.into_shelf();
-    assert_eq!(rt; drafted_text(alloc, &mut shelf)?.as_str(), "");
-    Ok(())
+    let left =
+        r#"{"csv":"phase,2,1,8,20,40,40,15,6,7,12,490,60,0\nphase,4,1,8,20,40,40,15,8\nphase,6,2,8,20,40,40,15,2\nphase,8,2,8,20,40,40,15,4\nseq,1,1,2 4\nseq,1,2,6 8\nsplit,1,2,46,2,1\nsplit,1,4,14,2,0\nsplit,1,6,46,2,1\nsplit,1,8,14,2,0\n"}"#;
+    let asked = ("GET", "/intersections/12/timing-csv", "", left);
+    follow(rt, alloc, &mut office, &[asked])
 }
 
 /// A draft is its changed rows: nothing else of it is written, and only they at the commit.
 #[test]
-fn writes_changed_rows_only(rt: HostRuntime) -> Result<(), Fail> {
+fn changed_rows_alone_are_written(rt: HostRuntime) -> Result<(), Fail> {
     let alloc = rt.alloc();
     count_writes(&rt, alloc, map_office(alloc))?;
     count_writes(&rt, alloc, sql_office(alloc)?)

@@ -1,7 +1,6 @@
 //! The office at ends that fail, take little, wait for one another or never stop.
 
-use crate::framing_tests::ends::{Drip, Endless, Narrow, Patient, Telling};
-use crate::serving_tests::{ANSWERS, STREAM};
+use crate::ends::{Drip, Endless, Narrow, Patient, Telling};
 use office_desk::office::Office;
 use office_http::{FromRead, ServeFault, Served, Sink, Source, ToWrite, serve};
 use office_tables_shelf::map_shelf::MapShelf;
@@ -9,6 +8,14 @@ use office_tables_shelf::rows::Table;
 use office_tables_shelf::shelf::Shelf;
 use std::alloc::Global;
 use std::cell::Cell;
+
+/// Adds intersection 12, asks for it, and begins a transaction: requests of 93, 34 and 76 bytes.
+pub(crate) const STREAM: &[u8; 203] =
+    b"POST /intersections HTTP/1.1\r\nContent-Length: 41\r\n\r\n{\"id\":12,\"interval\":365,\"name\":\"Main St\"}GET /intersections/12 HTTP/1.1\r\n\r\nPOST /intersections/12/begin HTTP/1.1\r\nContent-Length: 15\r\n\r\n{\"clerk\":\"Ana\"}";
+
+/// The answers, of 89, 184 and 126 bytes.
+pub(crate) const ANSWERS: &[u8; 399] =
+    b"HTTP/1.1 200 OK\r\nContent-Type: application/json\r\nContent-Length: 18\r\n\r\n{\"result\":\"added\"}HTTP/1.1 200 OK\r\nContent-Type: application/json\r\nContent-Length: 112\r\n\r\n{\"id\":12,\"interval\":365,\"name\":\"Main St\",\"owner\":null,\"revision\":0,\"rows\":0,\"state\":\"normal\",\"verify\":\"notDone\"}HTTP/1.1 200 OK\r\nContent-Type: application/json\r\nContent-Length: 55\r\n\r\n{\"revision\":0,\"state\":\"transaction\",\"verify\":\"notDone\"}";
 
 /// The second request of the stream.
 const SECOND: &[u8; 34] = b"GET /intersections/12 HTTP/1.1\r\n\r\n";
@@ -23,6 +30,27 @@ fn served<R: Source, W: Sink>(
     let mut office = Office::new(MapShelf::new(alloc));
     let outcome = serve(alloc, &mut office, reader, writer, max_requests);
     (outcome, office.into_shelf().writes(Table::Intersection))
+}
+
+/// A stream that is cut off after any of its bytes is answered for its whole requests.
+#[test]
+fn whole_requests_of_a_cut_stream_are_answered(rt: HostRuntime) {
+    for (n, requests, written) in [
+        (0, 0, 0),
+        (92, 0, 0),
+        (93, 1, 89),
+        (126, 1, 89),
+        (127, 2, 273),
+        (202, 2, 273),
+        (203, 3, 399),
+    ] {
+        let mut reader = Drip::new(&STREAM[..n], false);
+        let mut writer = ToWrite::new(Vec::new(rt.alloc()));
+        let (outcome, _written) = served(rt.alloc(), &mut reader, &mut writer, 9);
+        assert_eq!(rt; outcome, Ok(Served { requests }), "after {n} bytes");
+        assert_eq!(rt; writer.writer.as_slice(), &ANSWERS[..written]);
+        assert_eq!(rt; reader.counts.empties, 1);
+    }
 }
 
 #[test]

@@ -1,5 +1,6 @@
 //! The office served over a loopback connection, in one thread.
 
+use crate::serving_tests::{ANSWERS, STREAM};
 use office_desk::office::Office;
 use office_http::{ServeStop, serve_on};
 use office_tables_shelf::map_shelf::MapShelf;
@@ -8,17 +9,10 @@ use std::io::Write;
 use std::net::{Ipv4Addr, Shutdown, SocketAddr, TcpListener, TcpStream};
 use std::test::Fail;
 
-/// Adds intersection 12.
-const REQUEST: &[u8] =
-    b"POST /intersections HTTP/1.1\r\nContent-Length: 41\r\n\r\n{\"id\":12,\"interval\":365,\"name\":\"Main St\"}";
-
-const ANSWER: &[u8] =
-    b"HTTP/1.1 200 OK\r\nContent-Type: application/json\r\nContent-Length: 18\r\n\r\n{\"result\":\"added\"}";
-
-/// Sends the request over a connection to the listener, and closes the sending side.
+/// Sends the first two requests of the stream to the listener, and closes the sending side.
 fn sent(rt: &HostRuntime, listener: &TcpListener) -> io::Result<TcpStream> {
     let mut wire = TcpStream::connect(rt, listener.local_addr()?)?;
-    wire.write_all(REQUEST)?;
+    wire.write_all(&STREAM[..127])?;
     wire.shutdown(Shutdown::Write)?;
     Ok(wire)
 }
@@ -43,6 +37,6 @@ fn serves_a_connection(rt: HostRuntime) -> Result<(), Fail> {
     let Ok(text) = io::read_to_string(rt.alloc(), wire) else {
         return Err(Fail::from("no answer"));
     };
-    assert_eq!(rt; text.as_bytes(), ANSWER);
+    assert_eq!(rt; text.as_bytes(), &ANSWERS[..273]);
     Ok(())
 }

@@ -2,7 +2,7 @@
 
 ghost use Rattle.std.specs.Prelude.{◌≤◌, length};
 
-use office_http_framing::ends::{Counts, Sink, Source};
+use office_http::{Counts, Sink, Source};
 use std::alloc::Global;
 use std::cell::Cell;
 use std::io;
