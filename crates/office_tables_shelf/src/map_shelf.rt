@@ -1,4 +1,5 @@
-//! The tables in memory: the reference shelf of tests. It copies itself at each apply.
+//! The tables in memory: what pending rows make of the register, and the reference shelf of tests,
+//! which copies itself at each apply.
 ghost use Rattle.std.specs.Prelude.{◌≡◌, OnOk, OnErr, IfOk};
 ghost use Rattle.office_tables_shelf.specs.MapShelf.{IsFreeOfStore};
 
@@ -64,6 +65,7 @@ impl Model for MapShelf {
 }
 
 impl MapShelf {
+    ghost use Rattle.office_tables_shelf.specs.CabinetReads.{ReadsInspection, ReadsOrder, ReadsUsed, ReadsDelivery, ReadsHand};
     ghost use Rattle.office_tables_shelf.specs.Content.{no_content};
     ghost use Rattle.office_tables_shelf.specs.Change.{changed, changed_by};
     ghost use Rattle.office_tables_shelf.specs.Counts.{no_writes, counts_after};
@@ -136,6 +138,62 @@ impl MapShelf {
             }
         }
         Ok(())
+    }
+
+    /// These tables with one more change, which is not counted.
+    pub fn with(mut self, change: &RowChange) -> Result<MapShelf, NoMemory>
+        ensures { IfOk result (λ next. next.tables ≡ changed self.tables change.now) }
+    {
+        self.change(change)?;
+        Ok(self)
+    }
+
+    /// The inspection of an intersection with a number, if there is one.
+    pub fn inspection_at(
+        &self,
+        id: InterId,
+        number: RecordNo,
+    ) -> Result<Option<Inspection>, NoMemory>
+        ensures { IfOk result (λ found. ReadsInspection self.now.tables id number found) }
+    {
+        inspection_at(&self.inspection, id, number)
+    }
+
+    /// The order on an intersection with a number, if there is one.
+    pub fn order_at(&self, id: InterId, number: RecordNo) -> Result<Option<Order>, NoMemory>
+        ensures { IfOk result (λ found. ReadsOrder self.now.tables id number found) }
+    {
+        order_at(&self.work_order, id, number)
+    }
+
+    /// The part used for an order on an intersection in a line, if there is one.
+    pub fn line_at(
+        &self,
+        id: InterId,
+        order: RecordNo,
+        line: LineNo,
+    ) -> Result<Option<UsedLine>, NoMemory>
+        ensures { IfOk result (λ found. ReadsUsed self.now.tables id order line found) }
+    {
+        line_at(&self.used_part, id, order, line)
+    }
+
+    /// The delivery of a part with a number, if there is one.
+    pub fn delivery_at(
+        &self,
+        part: &PartCode,
+        number: RecordNo,
+    ) -> Result<Option<Delivery>, NoMemory>
+        ensures { IfOk result (λ found. ReadsDelivery self.now.tables part.now number found) }
+    {
+        delivery_at(&self.delivery, part, number)
+    }
+
+    /// How many of a part are on hand, if there ever was a delivery of it.
+    pub fn hand_of(&self, part: &PartCode) -> Option<Hand>
+        ensures { ReadsHand self.now.tables part.now result }
+    {
+        hand_of(&self.part, part)
     }
 
     /// Counts the writes of changes.
@@ -235,7 +293,7 @@ impl Shelf for MapShelf {
         ensures unchanged { self.new ≡ self.old }
         ensures sound { IsFreeOfStore result }
     {
-        Ok(inspection_at(&self.inspection, id, number)?)
+        Ok(self.inspection_at(id, number)?)
     }
 
     fn inspections(&mut self, alloc: Global, id: InterId) -> Result<Vec<Inspection>, ShelfFault>
@@ -278,7 +336,7 @@ impl Shelf for MapShelf {
         ensures unchanged { self.new ≡ self.old }
         ensures sound { IsFreeOfStore result }
     {
-        Ok(order_at(&self.work_order, id, number)?)
+        Ok(self.order_at(id, number)?)
     }
 
     fn orders(&mut self, alloc: Global, id: InterId) -> Result<Vec<Order>, ShelfFault>
@@ -300,7 +358,7 @@ impl Shelf for MapShelf {
         ensures unchanged { self.new ≡ self.old }
         ensures sound { IsFreeOfStore result }
     {
-        Ok(line_at(&self.used_part, id, order, line)?)
+        Ok(self.line_at(id, order, line)?)
     }
 
     fn used_lines(&mut self, alloc: Global, id: InterId) -> Result<Vec<UsedLine>, ShelfFault>
@@ -321,7 +379,7 @@ impl Shelf for MapShelf {
         ensures unchanged { self.new ≡ self.old }
         ensures sound { IsFreeOfStore result }
     {
-        Ok(delivery_at(&self.delivery, part, number)?)
+        Ok(self.delivery_at(part, number)?)
     }
 
     fn hand(&mut self, _alloc: Global, part: &PartCode) -> Result<Option<Hand>, ShelfFault>
@@ -329,7 +387,7 @@ impl Shelf for MapShelf {
         ensures unchanged { self.new ≡ self.old }
         ensures sound { IsFreeOfStore result }
     {
-        Ok(hand_of(&self.part, part))
+        Ok(self.hand_of(part))
     }
 
     fn parts(&mut self, alloc: Global) -> Result<Vec<(PartCode, Hand)>, ShelfFault>
