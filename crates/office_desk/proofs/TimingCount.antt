@@ -92,8 +92,8 @@ module _ (tables : Content) (office : Office) (id : ℕ) (stands : StandForSound
       in_table true None of is none = found q ∙ (λ i. cond (of i) (is i) None) ∙ sym none
       in_table true (Some columns) of is none =
           let there = stands.stand.timing_keys q columns is in
-          let own : id ≡ there.0 = of_tells id there.0 _ (subst (λ k. is_of id k ≡ true) there.1.1 of) in
-          at (there.1.0, there.1.1 ∙ ap (λ n. timing_key n there.1.0) (sym own))
+          let own : id ≡ there.0 = of_tells id there.0 _ (subst (λ k. is_of id k ≡ true) there.2 of) in
+          at (there.1, there.2 ∙ ap (λ n. timing_key n there.1) (sym own))
 
       in_list : (o : Option (List Cell)) → finite.find cells_cmp q listed ≡ o → finite.find cells_cmp q (rows_of id tables.timing) ≡ finite.find cells_cmp q listed
       in_list (Some columns) is = at (keyed id (entries committed) q columns is)
