@@ -4,6 +4,7 @@ pub mod KeptRegister
 pub mod Stands
 pub mod NewIntersection
 pub mod ReadBack
+pub mod TimingCount
 pub mod Moved
 pub mod Imports
 pub mod Keeps

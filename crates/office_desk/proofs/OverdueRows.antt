@@ -9,7 +9,7 @@ use Rattle.cabinet_core.specs.declared.inspections.Seen.{Seen}
 use Rattle.office_tables_shelf.specs.Cells.{Cell}
 use Rattle.office_tables_shelf.specs.Change.{changed_by}
 use Rattle.office_tables_shelf.specs.Content.{Content}
-use Rattle.office_tables_shelf.specs.Overdue.{seen_row, IsSeen, AreSeenOf, AreSeen, ListsOverdue}
+use Rattle.office_tables_shelf.specs.Overdue.{latest_day, seen_row, IsSeen, AreSeenOf, AreSeen, ListsOverdue}
 use Rattle.office_tables_shelf.specs.Rows.{intersection_key, intersection_columns}
 use Rattle.office_tables_shelf.specs.declared.rows.IntersectionRow.{IntersectionRow}
 use Rattle.office_tables_shelf.specs.declared.rows.RowChange.{RowChange}
@@ -61,7 +61,7 @@ seen_entries tables r stands (e ∷ es) = (here, seen_entries tables r stands es
   where
     here : IsSeen tables (of_entry e) (seen_of r e)
     here inspections lists =
-        ap (λ list. seen_row e.0 (row_of e.1) list) (sym (inspections_listed tables r e.0 inspections stands lists))
+        ap (λ list. seen_row e.0 (row_of e.1) (latest_day list)) (sym (inspections_listed tables r e.0 inspections stands lists))
 
 pub are_seen : (tables : Content) (office : Office) → StandForSound tables office → AreSeen tables (map (seen_of office.register) (entries office.intersections))
 are_seen tables office stands rows lists =

@@ -1,12 +1,9 @@
 -- What was read of an intersection, for whichever sound office the tables stand for.
-use Rattle.std.proofs.Common.{◌≡◌, ℕ, Bool, true, false, List, [], ◌∷◌, map, length, cond, Option, Some, None, refl, ap, sym, subst, ◌∙◌}
+use Rattle.std.proofs.Common.{◌≡◌, ℕ, Bool, true, false, List, [], ◌∷◌, cond, Option, Some, None, refl, ap, sym, subst, ◌∙◌}
 use Rattle.std.specs.Prelude.{IfSome}
-use Rattle.std.proofs.lemmas.List.{length-map}
 use Rattle.std.specs.Option.{option_map, option_or}
 use Rattle.std.specs.Ordering.{eq_by_cmp}
-use Rattle.std.specs.FinMap as finite
-use Rattle.std.specs.FinMap.{get, len, entries, from_entries, len-entries, get-from_entries, same_map}
-use Rattle.std.specs.List.Sorted.{IsStrictlySortedBy}
+use Rattle.std.specs.FinMap.{get, same_map}
 use Rattle.signal_records.specs.Key.{key_cmp}
 use Rattle.signal_records.specs.KeyOrder.{key_total, key_exact}
 use Rattle.signal_records.specs.Row.{key_of}
@@ -15,7 +12,6 @@ use Rattle.signal_records.specs.declared.key.Key.{Key}
 use Rattle.signal_records.specs.declared.record.Row.{Row}
 use Rattle.signal_records.specs.declared.record.Change.{Change}
 use Rattle.signal_records.specs.declared.record.Change.TheVariants.{Put, Remove}
-use Rattle.signal_records.proofs.Sets.{entries_in_order}
 use Rattle.draft_core.specs.DraftRows.{TimingStands, RowStands, row_at, said_at, left_by, changed_key}
 use Rattle.draft_core.specs.Transaction.{TimingSide, holder_of}
 use Rattle.draft_core.specs.declared.timing.Timing.{Timing}
@@ -70,27 +66,6 @@ pub committed_read : (tables : Content) (office : Office) (id : ℕ) (rows : Lis
     → set_of_rows rows ≡ (side_at office id).committed
 committed_read tables office id rows stands lists within = same_map key_total key_exact _ _ (λ key.
     get_set_of_rows rows (timing_keys_rise tables id rows lists) key ∙ listed_at tables office id rows stands lists within key)
-
-abbrev keyed : Row → Key × Row
-keyed row = (key_of row, row)
-
-found_in : (rows : List Row) (key : Key) → finite.find key_cmp key (map keyed rows) ≡ row_in rows key
-found_in [] key = refl
-found_in (row ∷ rows) key = ap (cond (eq_by_cmp key_cmp key (key_of row)) (Some row)) (found_in rows key)
-
-keys_of_rows : (rows : List Row) → map (λ (e : Key × Row). e.0) (map keyed rows) ≡ map key_of rows
-keys_of_rows [] = refl
-keys_of_rows (row ∷ rows) = ap (λ keys. key_of row ∷ keys) (keys_of_rows rows)
-
--- there are as many rows as the committed set has
-pub count_read : (tables : Content) (office : Office) (id : ℕ) (rows : List Row) → StandForSound tables office → ListsTiming tables id rows → AreWithin rows
-    → length rows ≡ len (side_at office id).committed
-count_read tables office id rows stands lists within =
-    let committed = (side_at office id).committed in
-    let rise = subst (IsStrictlySortedBy key_cmp) (sym (keys_of_rows rows)) (timing_keys_rise tables id rows lists) in
-    let same : from_entries {R = key_cmp} (map keyed rows) ≡ committed = same_map key_total key_exact _ _ (λ key.
-    get-from_entries key_total (map keyed rows) key ∙ found_in rows key ∙ listed_at tables office id rows stands lists within key) in
-    sym (length-map rows keyed) ∙ ap length (sym (entries_in_order (map keyed rows) rise)) ∙ sym (len-entries (from_entries {R = key_cmp} (map keyed rows))) ∙ ap len same
 
 -- ---- the draft rows
 

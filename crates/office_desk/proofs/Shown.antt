@@ -1,5 +1,5 @@
 -- What the queries answer, on the rows that were read, is a step of the office.
-use Rattle.std.proofs.Common.{◌≡◌, ℕ, List, [], Option, Some, None, refl, ap, sym, subst, ◌∙◌, inr, length}
+use Rattle.std.proofs.Common.{◌≡◌, ℕ, List, [], Option, Some, None, refl, ap, sym, subst, ◌∙◌, inr}
 use Rattle.std.specs.Option.{option_map}
 use Rattle.std.specs.FinMap.{get, len}
 use Rattle.signal_records.specs.TimingSet.{Rows, after_changes}
@@ -16,7 +16,7 @@ use Rattle.draft_core.specs.declared.state.Verdict.{Verdict}
 use Rattle.draft_core.specs.declared.state.Verdict.TheVariants.{NotDone}
 use Rattle.office_tables_shelf.specs.Content.{Content}
 use Rattle.office_tables_shelf.specs.Change.{changed_by}
-use Rattle.office_tables_shelf.specs.Shelf.{ReadsIntersection, ListsTiming}
+use Rattle.office_tables_shelf.specs.Shelf.{ReadsIntersection, ListsTiming, CountsTiming}
 use Rattle.office_tables_shelf.specs.declared.rows.IntersectionRow.{IntersectionRow}
 use Rattle.office_tables_shelf.specs.declared.rows.RowChange.{RowChange}
 use Rattle.office_desk.specs.Answers.{Answers}
@@ -32,7 +32,8 @@ use Rattle.office_desk.specs.declared.refusal.Refusal.TheVariants as refusal
 use Rattle.office_desk.specs.declared.reply.Reply.{Reply}
 use Rattle.office_desk.specs.declared.reply.Reply.TheVariants as reply
 use Rattle.office_desk.proofs.Stands.{row_read}
-use Rattle.office_desk.proofs.ReadBack.{committed_read, count_read}
+use Rattle.office_desk.proofs.ReadBack.{committed_read}
+use Rattle.office_desk.proofs.TimingCount.{committed_counted}
 
 -- ---- the intersection that was read
 
@@ -83,14 +84,14 @@ shown_state id i rows verdict count judged k = record {
   verify = judged k;
 }
 
-pub state_answers : (tables : Content) (office : Office) (id : ℕ) (row : IntersectionRow) (rows : List Row) (count : ℕ) (verdict : Verdict) (told : Reply) (changes : List RowChange)
-    → StandForSound tables office → ReadsIntersection tables id (Some row) → ListsTiming tables id rows → AreWithin rows → count ≡ length rows → IsVerdictOf tables id row verdict
+pub state_answers : (tables : Content) (office : Office) (id : ℕ) (row : IntersectionRow) (count : ℕ) (verdict : Verdict) (told : Reply) (changes : List RowChange)
+    → StandForSound tables office → ReadsIntersection tables id (Some row) → CountsTiming tables id count → IsVerdictOf tables id row verdict
     → told ≡ reply.State (row_shown id row count verdict) → changes ≡ [] → Answers office (command.State id) told (changed_by tables changes)
-state_answers tables office id row rows count verdict told changes stands reads lists within counted judged is none =
+state_answers tables office id row count verdict told changes stands reads counted judged is none =
     let at = there tables office id row stands reads in
     let i = at.0 in
     let same : row_shown id row count verdict ≡ state_shown id i =
-    ap (λ r. row_shown id r count verdict) at.2 ∙ shown_state id i count verdict (counted ∙ (count_read tables office id rows stands lists within ∙ ap (λ (o : Option Intersection). len (side_of o).committed) at.1)) (judged office i stands at.1 at.2) in
+    ap (λ r. row_shown id r count verdict) at.2 ∙ shown_state id i count verdict (counted ∙ (committed_counted tables office id stands ∙ ap (λ (o : Option Intersection). len (side_of o).committed) at.1)) (judged office i stands at.1 at.2) in
     query_answers tables office (command.State id) (reply.State (state_shown id i)) told changes stands
     (ap (λ o. (shown o (λ j. reply.State (state_shown id j)), office)) at.1) (is ∙ ap (λ s. reply.State s) same) none
 

@@ -1,6 +1,11 @@
 -- When a stored row keeps a command from being answered.
-use Rattle.std.specs.Prelude.{◌⊎◌, ℕ, List, [], ◌∷◌, Option, Some, None}
+use Rattle.std.specs.Prelude.{◌≡◌, ◌⊎◌, ℕ, List, [], ◌∷◌, Option, Some, None}
+use Rattle.std.specs.Option.{option_map}
+use Rattle.draft_core.specs.declared.state.Holder.{Holder}
+use Rattle.draft_core.specs.declared.state.Stage.TheVariants.{Done}
 use Rattle.office_tables_shelf.specs.Content.{Content}
+use Rattle.office_tables_shelf.specs.Shelf.{ReadsIntersection}
+use Rattle.office_tables_shelf.specs.declared.rows.IntersectionRow.{IntersectionRow}
 use Rattle.office_tables_shelf.specs.Damage.{HasDamagedIntersection, HasAnyDamagedIntersection, HasDamagedTiming, HasDamagedDraft}
 use Rattle.office_tables_shelf.specs.CabinetReads.{HasAnyDamagedInspection, HasDamagedInspection, HasDamagedOrder, HasDamagedUsed, HasDamagedPart}
 use Rattle.cabinet_core.specs.declared.command.RecordCommand.{RecordCommand}
@@ -12,6 +17,17 @@ use Rattle.office_desk.specs.declared.command.Command.TheVariants as command
 -- a row of the intersection, of its committed set or of its draft is no record
 abbrev pub HasDamage : Content → ℕ → Type 0
 HasDamage tables id = HasDamagedIntersection tables id ⊎ (HasDamagedTiming tables id ⊎ HasDamagedDraft tables id)
+
+-- the row has a draft in state Done
+abbrev pub IsDone : IntersectionRow → Type 0
+IsDone row = option_map (λ (holder : Holder). holder.stage) row.holder ≡ Some Done
+
+-- a draft is read to be judged, and a row of the intersection, of its committed set or of its draft is no record
+pub record HasJudgedDamage (tables : Content) (id : ℕ) : Type 0 where
+  pub row : IntersectionRow
+  pub read : ReadsIntersection tables id (Some row)
+  pub done : IsDone row
+  pub damage : HasDamage tables id
 
 -- the intersection's row, or a row of the register that the command reads, is no record
 abbrev pub MeetsCabinetDamage : Content → RecordCommand → Option ℕ → Type 0
@@ -33,7 +49,7 @@ MeetsDamage tables (command.Check id clerk) = HasDamage tables id
 MeetsDamage tables (command.Commit id clerk) = HasDamage tables id
 MeetsDamage tables (command.Reopen id clerk) = HasDamage tables id
 MeetsDamage tables (command.Abandon id clerk) = HasDamage tables id
-MeetsDamage tables (command.State id) = HasDamage tables id
+MeetsDamage tables (command.State id) = HasDamagedIntersection tables id ⊎ HasJudgedDamage tables id
 MeetsDamage tables (command.Timing id) = HasDamage tables id
 MeetsDamage tables (command.Draft id) = HasDamage tables id
 MeetsDamage tables (command.Record c) = MeetsCabinetDamage tables c (cabinet_of c)

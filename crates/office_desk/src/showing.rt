@@ -8,7 +8,7 @@ ghost use Rattle.office_tables_shelf.specs.declared.rows.Table.{Table};
 ghost use Rattle.office_desk.specs.Answers.{Decides};
 ghost use Rattle.office_desk.specs.Changes.{most_writes};
 ghost use Rattle.office_tables_shelf.specs.Counts.{writes_in};
-ghost use Rattle.office_desk.specs.Damage.{HasDamage};
+ghost use Rattle.office_desk.specs.Damage.{HasDamage, IsDone};
 ghost use Rattle.office_desk.specs.Decisions.{row_shown, IsVerdictOf, ShowsDraft};
 
 use crate::command::Command;
@@ -65,7 +65,7 @@ fn verdict_at<S: Shelf>(
     row: &IntersectionRow,
 ) -> Result<Verdict, ShelfFault>
     ensures verdict { IfOk result (λ verdict. S.is_honest shelf.new → IsVerdictOf (S.content shelf.old) id row.now verdict) }
-    ensures damaged { result ≡ Err ShelfFault.Damaged → S.is_honest shelf.new → HasDamage (S.content shelf.old) id }
+    ensures damaged { result ≡ Err ShelfFault.Damaged → S.is_honest shelf.new → IsDone row.now × HasDamage (S.content shelf.old) id }
     ensures kept { IsKept S.is_honest S.content S.written S.may_leave shelf.old shelf.new }
 {
     let Some(holder) = &row.holder else {
@@ -95,11 +95,9 @@ pub(crate) fn decide_state<S: Shelf>(
     let Some(row) = shelf.intersection(alloc, id)? else {
         return Ok(Decided::refused(alloc, Refusal::UnknownIntersection));
     };
-    let listed = shelf.timing_rows(alloc, id)?;
-    let rows = listed.as_slice();
-    rows_are_within(rows);
+    let rows = shelf.committed_count(alloc, id)?;
     let verify = verdict_at(shelf, alloc, id, &row)?;
-    Ok(Decided::unchanged(alloc, shown(id, row, rows.len(), verify)))
+    Ok(Decided::unchanged(alloc, shown(id, row, rows, verify)))
 }
 
 /// Decides Timing.

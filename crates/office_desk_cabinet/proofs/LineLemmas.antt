@@ -1,41 +1,16 @@
--- The line of an order and a number, told from the list of the lines of an intersection, and the line and the delivery of a register from what is read.
-use Rattle.std.proofs.Common.{◌≡◌, ℕ, pos, true, ◌&&◌, List, find, Option, Some, None, option_map, refl, sym, ap, ◌∙◌, arith}
-use Rattle.std.proofs.lemmas.Bool.Decides.{nat_tests}
-use Rattle.std.specs.Cmp.{tied_itself}
+-- The line and the delivery of a register, told from what is read under their keys.
+use Rattle.std.proofs.Common.{◌≡◌, ℕ, List, Option, Some, None, option_map, refl, sym, ◌∙◌}
 use Rattle.std.specs.FinMap.{get}
-use Rattle.std.specs.Ordering.{is_eq, nat_cmp, ordering_then}
-use Rattle.std.specs.Prelude.{◌==◌, IfSome}
-use Rattle.std.specs.declared.cmp.Ordering.TheVariants.{Equal}
+use Rattle.std.specs.Prelude.{IfSome}
 use Rattle.cabinet_core.specs.declared.record.Delivery.{Delivery}
 use Rattle.cabinet_core.specs.declared.record.UsedLine.{UsedLine}
-use Rattle.office_tables_shelf.specs.CabinetReads.{ListsUsed, ReadsDelivery}
+use Rattle.office_tables_shelf.specs.CabinetReads.{ReadsUsed, ReadsDelivery}
 use Rattle.office_tables_shelf.specs.CabinetRows.{used_key, used_columns, delivery_key, delivery_columns}
-use Rattle.office_tables_shelf.specs.Cells.{Cell, number, cells_cmp}
 use Rattle.office_tables_shelf.specs.Content.{Content}
-use Rattle.office_tables_shelf.specs.Shelf.{is_of}
-use Rattle.office_tables_shelf.proofs.CellLemmas.{cell_total, is_under}
-use Rattle.office_tables_shelf.proofs.TreeLemmas.{number_order}
 use Rattle.office_desk_cabinet.specs.Register.{Register, IsLineAt, IsDeliveryAt}
-use Rattle.office_desk_cabinet.specs.RegisterReads.{ReadsUsed}
 use Rattle.office_desk_cabinet.specs.RegisterStands.{RegisterStandsSound}
-use Rattle.office_desk_cabinet.specs.Stocking.{is_line}
-use Rattle.office_desk_cabinet.proofs.Found.{get_listed, find_alike, find_passes}
 
 -- ---- lines
-
-of_itself : (id order line : ℕ) → is_of id (used_key id order line) ≡ true
-of_itself id order line = ap is_eq (tied_itself cell_total (number (pos id)))
-
-tests : (id a b c d : ℕ) → is_eq (ordering_then (nat_cmp id id) (ordering_then (nat_cmp a c) (ordering_then (nat_cmp b d) Equal))) ≡ (c == a && d == b)
-tests id a b c d = grind (arith, nat_tests)
-
-line_ties : (id a b c d : ℕ) → is_eq (cells_cmp (used_key id a b) (used_key id c d)) ≡ (c == a && d == b)
-line_ties id a b c d =
-    (λ i. is_eq (ordering_then (number_order id id i) (ordering_then (number_order a c i) (ordering_then (number_order b d i) Equal))))
-    ∙ tests id a b c d
-
-numbers : (a b c d : ℕ) → (c == a && d == b) ≡ true → (c ≡ a) × (d ≡ b)
-numbers a b c d h = (grind (arith, nat_tests), grind (arith, nat_tests))
 
 same_line : (r : Register) (id order line : ℕ) (a b : Option UsedLine) → option_map used_columns a ≡ option_map used_columns b → IfSome a (λ used. used.order ≡ order) → IfSome a (λ used. used.line ≡ line)
     → IfSome b (IsLineAt r (used_key id order line)) → a ≡ b
@@ -51,23 +26,6 @@ same_line r id order line (Some used) (Some there) same of named at =
     let orders : used.order ≡ there.order = of ∙ order_is in
     let lines : used.line ≡ there.line = named ∙ line_is in
     λ i. Some (record { order = orders i; line = lines i; part = part_is i; count = count_is i })
-
-named_line : (order line : ℕ) (o : Option UsedLine) → IfSome o (λ used. is_line order line used ≡ true) → IfSome o (λ used. used.order ≡ order) × IfSome o (λ used. used.line ≡ line)
-named_line order line None passes = (tt, tt)
-named_line order line (Some used) passes = numbers order line used.order used.line passes
-
--- the one of an order and a number in the list is the one that stands in the tables
-pub line_read : (tables : Content) (id : ℕ) (found : List UsedLine) (order line : ℕ) → ListsUsed tables id found → ReadsUsed tables id order line (find (is_line order line) found)
-line_read tables id found order line lists =
-    let at = used_key id order line in
-    let key : UsedLine → List Cell = λ used. used_key id used.order used.line in
-    let named = named_line order line _ (find_passes (is_line order line) found) in
-    record {
-      stored = get_listed key used_columns id tables.used_part found lists at (of_itself id order line)
-          ∙ ap (option_map used_columns) (find_alike (is_under key used_columns at) (is_line order line) found (λ used. line_ties id order line used.order used.line));
-      of = named.0;
-      number = named.1;
-    }
 
 -- the one that is read is that of the register
 pub line_stands : (tables : Content) (r : Register) (id order line : ℕ) (there : Option UsedLine) → RegisterStandsSound tables r → ReadsUsed tables id order line there → there ≡ get r.lines (used_key id order line)

@@ -14,7 +14,7 @@ use Rattle.cabinet_core.specs.declared.record.Order.{Order}
 use Rattle.cabinet_core.specs.declared.record.UsedLine.{UsedLine}
 use Rattle.cabinet_core.specs.declared.refusal.CabinetRefusal.{CabinetRefusal}
 use Rattle.cabinet_core.specs.declared.refusal.CabinetRefusal.TheVariants.{LineDiffers, DeliveryDiffers, OrderClosed, NoStock, StockFull}
-use Rattle.office_tables_shelf.specs.CabinetReads.{ReadsHand, ReadsDelivery}
+use Rattle.office_tables_shelf.specs.CabinetReads.{ReadsOrder, ReadsUsed, ReadsHand, ReadsDelivery}
 use Rattle.office_tables_shelf.specs.CabinetRows.{used_key, used_columns, order_key, delivery_key, delivery_columns}
 use Rattle.office_tables_shelf.specs.Cells.{Cell}
 use Rattle.office_tables_shelf.specs.Change.{changed_by}
@@ -26,7 +26,6 @@ use Rattle.office_tables_shelf.specs.declared.rows.Table.TheVariants as table
 use Rattle.office_tables_shelf.specs.declared.shelf.ShelfFault.{ShelfFault}
 use Rattle.office_tables_shelf.specs.declared.shelf.ShelfFault.TheVariants.{NoMemory}
 use Rattle.office_desk_cabinet.specs.Register.{Register, IsLineAt, IsDeliveryAt, hand_of}
-use Rattle.office_desk_cabinet.specs.RegisterReads.{ReadsOrder, ReadsUsed}
 use Rattle.office_desk_cabinet.specs.RegisterStands.{RegisterStandsSound}
 use Rattle.office_desk_cabinet.specs.RegisterStep.{with_record}
 use Rattle.office_desk_cabinet.specs.Registers.{Registers, most_record_writes}

@@ -9,8 +9,8 @@ use Rattle.cabinet_core.specs.declared.command.RecordCommand.{RecordCommand}
 use Rattle.cabinet_core.specs.declared.command.RecordCommand.TheVariants.{Inspect, OpenOrder, UsePart, CloseOrder, Receive}
 use Rattle.cabinet_core.specs.declared.record.Delivery.{Delivery}
 use Rattle.office_tables_shelf.proofs.CellLemmas.{cell_exact, tied}
-use Rattle.office_tables_shelf.specs.CabinetReads.{HasDamagedInspection, HasDamagedOrder, HasDamagedUsed, HasDamagedDelivery, HasDamagedHand, HasDamagedPart, IsHand}
-use Rattle.office_tables_shelf.specs.CabinetRows.{inspection_columns, order_columns, used_columns, delivery_key, delivery_columns, part_key, part_columns}
+use Rattle.office_tables_shelf.specs.CabinetReads.{HasDamagedInspection, HasDamagedInspectionAt, HasDamagedOrder, HasDamagedOrderAt, HasDamagedUsed, HasDamagedUsedAt, HasDamagedDelivery, HasDamagedHand, HasDamagedPart, IsHand}
+use Rattle.office_tables_shelf.specs.CabinetRows.{inspection_key, inspection_columns, order_key, order_columns, used_key, used_columns, delivery_key, delivery_columns, part_key, part_columns}
 use Rattle.office_tables_shelf.specs.Cells.{Cell, number}
 use Rattle.office_tables_shelf.specs.Content.{Content}
 use Rattle.office_tables_shelf.specs.Shelf.{is_of}
@@ -45,6 +45,33 @@ no_damaged_used tables r id stands damaged =
     let found = stored used_columns (IsLineAt r damaged.key) damaged.columns (get r.lines damaged.key) (sym damaged.stored ∙ stands.stand.used_part damaged.key) (stands.sound.lines damaged.key) in
     let of = of_tells id found.1.id (number (pos found.0.order) ∷ number (pos found.0.line) ∷ []) (subst (λ cells. is_of id cells ≡ true) found.1.key_is damaged.of) in
     damaged.no_row found.0 found.1.within (rw of found.1.key_is) found.2
+
+-- ---- rows under their own keys
+
+pub no_damaged_inspection_at : (tables : Content) (r : Register) (id n : ℕ) → RegisterStandsSound tables r → HasDamagedInspectionAt tables id n → ⊥
+no_damaged_inspection_at tables r id n stands damaged =
+    let key = inspection_key id n in
+    let found = stored inspection_columns (IsInspectionAt key) damaged.columns (get r.inspections key) (sym damaged.stored ∙ stands.stand.inspection key) (stands.sound.inspections key) in
+    let same : inspection_key id n ≡ inspection_key found.1.id found.0.number = found.1.key_is in
+    let number : found.0.number ≡ n = cc in
+    damaged.no_row found.0 found.1.within number found.2
+
+pub no_damaged_order_at : (tables : Content) (r : Register) (id n : ℕ) → RegisterStandsSound tables r → HasDamagedOrderAt tables id n → ⊥
+no_damaged_order_at tables r id n stands damaged =
+    let key = order_key id n in
+    let found = stored order_columns (IsOrderAt key) damaged.columns (get r.orders key) (sym damaged.stored ∙ stands.stand.work_order key) (stands.sound.orders key) in
+    let same : order_key id n ≡ order_key found.1.id found.0.number = found.1.key_is in
+    let number : found.0.number ≡ n = cc in
+    damaged.no_row found.0 found.1.within number found.2
+
+pub no_damaged_used_at : (tables : Content) (r : Register) (id order line : ℕ) → RegisterStandsSound tables r → HasDamagedUsedAt tables id order line → ⊥
+no_damaged_used_at tables r id order line stands damaged =
+    let key = used_key id order line in
+    let found = stored used_columns (IsLineAt r key) damaged.columns (get r.lines key) (sym damaged.stored ∙ stands.stand.used_part key) (stands.sound.lines key) in
+    let same : used_key id order line ≡ used_key found.1.id found.0.order found.0.line = found.1.key_is in
+    let of : found.0.order ≡ order = cc in
+    let number : found.0.line ≡ line = cc in
+    damaged.no_row found.0 found.1.within of number found.2
 
 pub no_damaged_delivery : (tables : Content) (r : Register) (code : List ℕ) (n : ℕ) → RegisterStandsSound tables r → HasDamagedDelivery tables code n → ⊥
 no_damaged_delivery tables r code n stands damaged =
@@ -98,11 +125,11 @@ no_damaged_part tables r stands damaged =
 
 -- no row that a command reads keeps it from being answered
 pub undamaged_record : (tables : Content) (r : Register) (command : RecordCommand) → RegisterStandsSound tables r → MeetsRecordDamage tables command → ⊥
-undamaged_record tables r (Inspect id inspection) stands damaged = no_damaged_inspection tables r id stands damaged
-undamaged_record tables r (OpenOrder id opening) stands damaged = no_damaged_order tables r id stands damaged
-undamaged_record tables r (UsePart id line) stands (inl damaged) = no_damaged_used tables r id stands damaged
-undamaged_record tables r (UsePart id line) stands (inr (inl damaged)) = no_damaged_order tables r id stands damaged
+undamaged_record tables r (Inspect id inspection) stands damaged = no_damaged_inspection_at tables r id inspection.number stands damaged
+undamaged_record tables r (OpenOrder id opening) stands damaged = no_damaged_order_at tables r id opening.number stands damaged
+undamaged_record tables r (UsePart id line) stands (inl damaged) = no_damaged_used_at tables r id line.order line.line stands damaged
+undamaged_record tables r (UsePart id line) stands (inr (inl damaged)) = no_damaged_order_at tables r id line.order stands damaged
 undamaged_record tables r (UsePart id line) stands (inr (inr damaged)) = no_damaged_hand tables r line.part stands damaged
-undamaged_record tables r (CloseOrder id order closing) stands damaged = no_damaged_order tables r id stands damaged
+undamaged_record tables r (CloseOrder id order closing) stands damaged = no_damaged_order_at tables r id order stands damaged
 undamaged_record tables r (Receive delivery) stands (inl damaged) = no_damaged_delivery tables r delivery.part delivery.number stands damaged
 undamaged_record tables r (Receive delivery) stands (inr damaged) = no_damaged_hand tables r delivery.part stands damaged

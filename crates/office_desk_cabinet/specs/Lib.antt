@@ -2,7 +2,6 @@ pub mod Register
 pub mod RegisterStep
 pub mod RegisterStands
 pub mod RegisterDamage
-pub mod RegisterReads
 pub mod Places
 pub mod Registers
 pub mod Telling

@@ -1,12 +1,11 @@
 -- How the stock's part of the register is looked up and written.
-use Rattle.std.specs.Prelude.{◌≡◌, ◌≢◌, ℕ, ◌==◌, Bool, ◌&&◌, List, Option, Some, None, Result, Ok, Err}
+use Rattle.std.specs.Prelude.{◌≡◌, ◌≢◌, List, Option, Some, None, Result, Ok, Err}
 use Rattle.std.specs.List.{filter_map}
 use Rattle.cabinet_core.specs.Cabinet.{added}
 use Rattle.cabinet_core.specs.declared.decide.CabinetChange.{CabinetChange}
 use Rattle.cabinet_core.specs.declared.decide.CabinetChange.TheVariants as change
 use Rattle.cabinet_core.specs.declared.decide.Recorded.{Recorded}
 use Rattle.cabinet_core.specs.declared.decide.Recorded.TheVariants as recorded
-use Rattle.cabinet_core.specs.declared.record.UsedLine.{UsedLine}
 use Rattle.cabinet_core.specs.declared.refusal.CabinetRefusal.{CabinetRefusal}
 use Rattle.cabinet_core.specs.declared.refusal.CabinetRefusal.TheVariants.{NoMemory}
 use Rattle.office_tables_shelf.specs.declared.rows.RowChange.{RowChange}
@@ -14,10 +13,6 @@ use Rattle.office_tables_shelf.specs.declared.rows.RowChange.TheVariants.{PutPar
 use Rattle.office_desk_cabinet.specs.declared.registered.Registered.{Registered}
 use Rattle.office_desk_cabinet.specs.declared.registered.Registered.TheVariants.{Same, Refused}
 use Rattle.office_desk_cabinet.specs.Registers.{line_told, rows_told}
-
--- the line has the order and the number
-abbrev pub is_line : ℕ → ℕ → UsedLine → Bool
-is_line order line used = used.order == order && used.line == line
 
 -- a change of a part or a delivery as a row; the others are of an intersection
 abbrev pub stock_row_of : CabinetChange → Option RowChange

@@ -2,7 +2,6 @@
 #![tactic(auto)]
 
 mod deciding;
-mod finding;
 mod pending;
 mod records;
 mod registered;

@@ -1,12 +1,10 @@
 //! The records that stand under a command's keys once the pending rows are written.
 ghost use Rattle.std.specs.Prelude.{◌≡◌, IfOk};
-ghost use Rattle.office_tables_shelf.specs.CabinetReads.{HasDamagedInspection, HasDamagedOrder, HasDamagedUsed, ReadsHand, HasDamagedHand, ReadsDelivery, HasDamagedDelivery};
+ghost use Rattle.office_tables_shelf.specs.CabinetReads.{ReadsInspection, HasDamagedInspectionAt, ReadsOrder, HasDamagedOrderAt, ReadsUsed, HasDamagedUsedAt, ReadsHand, HasDamagedHand, ReadsDelivery, HasDamagedDelivery};
 ghost use Rattle.office_tables_shelf.specs.Change.{changed_by};
 ghost use Rattle.office_tables_shelf.specs.Content.{Content};
 ghost use Rattle.office_tables_shelf.specs.Shelf.{IsKept};
-ghost use Rattle.office_desk_cabinet.specs.RegisterReads.{ReadsInspection, ReadsOrder, ReadsUsed};
 
-use crate::finding::{inspection_in, line_in, order_in};
 use crate::pending::{Place, last_put};
 use cabinet_core::{Delivery, Hand, Inspection, Order, PartCode, UsedLine};
 use office_tables_shelf::rows::RowChange;
@@ -38,11 +36,10 @@ pub(crate) fn inspection_at<S: Shelf>(
     number: RecordNo,
 ) -> Result<Option<Inspection>, ShelfFault>
     ensures row { IfOk result (λ there. S.is_honest shelf.new → ReadsInspection (changed_by (S.content shelf.old) pending.now) id number there) }
-    ensures damaged { result ≡ Err ShelfFault.Damaged → S.is_honest shelf.new → HasDamagedInspection (S.content shelf.old) id }
+    ensures damaged { result ≡ Err ShelfFault.Damaged → S.is_honest shelf.new → HasDamagedInspectionAt (S.content shelf.old) id number }
     ensures kept { IsKept S.is_honest S.content S.written S.may_leave shelf.old shelf.new }
 {
-    let found = shelf.inspections(alloc, id)?;
-    let before = inspection_in(found, number);
+    let before = shelf.inspection(alloc, id, number)?;
     let there = inspection_after(pending, id, number, before)?;
     Ok(there)
 }
@@ -71,11 +68,10 @@ pub(crate) fn order_at<S: Shelf>(
     number: RecordNo,
 ) -> Result<Option<Order>, ShelfFault>
     ensures row { IfOk result (λ there. S.is_honest shelf.new → ReadsOrder (changed_by (S.content shelf.old) pending.now) id number there) }
-    ensures damaged { result ≡ Err ShelfFault.Damaged → S.is_honest shelf.new → HasDamagedOrder (S.content shelf.old) id }
+    ensures damaged { result ≡ Err ShelfFault.Damaged → S.is_honest shelf.new → HasDamagedOrderAt (S.content shelf.old) id number }
     ensures kept { IsKept S.is_honest S.content S.written S.may_leave shelf.old shelf.new }
 {
-    let found = shelf.orders(alloc, id)?;
-    let before = order_in(found, number);
+    let before = shelf.order(alloc, id, number)?;
     let there = order_after(pending, id, number, before)?;
     Ok(there)
 }
@@ -106,11 +102,10 @@ pub(crate) fn line_at<S: Shelf>(
     line: LineNo,
 ) -> Result<Option<UsedLine>, ShelfFault>
     ensures row { IfOk result (λ there. S.is_honest shelf.new → ReadsUsed (changed_by (S.content shelf.old) pending.now) id order line there) }
-    ensures damaged { result ≡ Err ShelfFault.Damaged → S.is_honest shelf.new → HasDamagedUsed (S.content shelf.old) id }
+    ensures damaged { result ≡ Err ShelfFault.Damaged → S.is_honest shelf.new → HasDamagedUsedAt (S.content shelf.old) id order line }
     ensures kept { IsKept S.is_honest S.content S.written S.may_leave shelf.old shelf.new }
 {
-    let found = shelf.used_lines(alloc, id)?;
-    let before = line_in(found, order, line);
+    let before = shelf.used_line(alloc, id, order, line)?;
     let there = line_after(pending, id, order, line, before)?;
     Ok(there)
 }

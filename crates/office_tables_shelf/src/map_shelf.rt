@@ -1,12 +1,14 @@
-//! The tables in memory: the reference shelf of tests. It copies itself at each apply.
+//! The tables in memory: what pending rows make of the register, and the reference shelf of tests,
+//! which copies itself at each apply.
 ghost use Rattle.std.specs.Prelude.{◌≡◌, OnOk, OnErr, IfOk};
 ghost use Rattle.office_tables_shelf.specs.MapShelf.{IsFreeOfStore};
 
 use crate::counts::WriteCounts;
 use crate::map_cabinet::{
-    all_parts, copied_parts, delivery_at, hand_of, inspections_of, lines_of, orders_of,
-    put_delivery, put_inspection, put_line, put_order, put_part,
+    all_parts, copied_parts, delivery_at, hand_of, inspection_at, inspections_of, line_at,
+    lines_of, order_at, orders_of, put_delivery, put_inspection, put_line, put_order, put_part,
 };
+use crate::map_overdue::{last_of, overdue_of};
 use crate::map_rows::{
     all_intersections, copied_drafts, copied_intersections, draft_of, intersection_at, put_draft,
     put_intersection, put_timing, remove_draft, remove_timing, timing_of,
@@ -14,8 +16,8 @@ use crate::map_rows::{
 use crate::place::{DeliveryPlace, LinePlace, Place, RecordPlace};
 use crate::rows::{IntersectionRow, RowChange, Table};
 use crate::shelf::{Shelf, ShelfFault};
-use cabinet_core::{Delivery, Hand, Inspection, Order, PartCode, UsedLine};
-use signal_records::{Change, InterId, NoMemory, RecordNo, Row};
+use cabinet_core::{Day, Delivery, Hand, Inspection, Order, OverdueRow, PartCode, UsedLine};
+use signal_records::{Change, InterId, LineNo, NoMemory, RecordNo, Row};
 use std::alloc::Global;
 use std::collections::BTreeMap;
 use std::marker::Model;
@@ -63,6 +65,7 @@ impl Model for MapShelf {
 }
 
 impl MapShelf {
+    ghost use Rattle.office_tables_shelf.specs.CabinetReads.{ReadsInspection, ReadsOrder, ReadsUsed, ReadsDelivery, ReadsHand};
     ghost use Rattle.office_tables_shelf.specs.Content.{no_content};
     ghost use Rattle.office_tables_shelf.specs.Change.{changed, changed_by};
     ghost use Rattle.office_tables_shelf.specs.Counts.{no_writes, counts_after};
@@ -137,6 +140,62 @@ impl MapShelf {
         Ok(())
     }
 
+    /// These tables with one more change, which is not counted.
+    pub fn with(mut self, change: &RowChange) -> Result<MapShelf, NoMemory>
+        ensures { IfOk result (λ next. next.tables ≡ changed self.tables change.now) }
+    {
+        self.change(change)?;
+        Ok(self)
+    }
+
+    /// The inspection of an intersection with a number, if there is one.
+    pub fn inspection_at(
+        &self,
+        id: InterId,
+        number: RecordNo,
+    ) -> Result<Option<Inspection>, NoMemory>
+        ensures { IfOk result (λ found. ReadsInspection self.now.tables id number found) }
+    {
+        inspection_at(&self.inspection, id, number)
+    }
+
+    /// The order on an intersection with a number, if there is one.
+    pub fn order_at(&self, id: InterId, number: RecordNo) -> Result<Option<Order>, NoMemory>
+        ensures { IfOk result (λ found. ReadsOrder self.now.tables id number found) }
+    {
+        order_at(&self.work_order, id, number)
+    }
+
+    /// The part used for an order on an intersection in a line, if there is one.
+    pub fn line_at(
+        &self,
+        id: InterId,
+        order: RecordNo,
+        line: LineNo,
+    ) -> Result<Option<UsedLine>, NoMemory>
+        ensures { IfOk result (λ found. ReadsUsed self.now.tables id order line found) }
+    {
+        line_at(&self.used_part, id, order, line)
+    }
+
+    /// The delivery of a part with a number, if there is one.
+    pub fn delivery_at(
+        &self,
+        part: &PartCode,
+        number: RecordNo,
+    ) -> Result<Option<Delivery>, NoMemory>
+        ensures { IfOk result (λ found. ReadsDelivery self.now.tables part.now number found) }
+    {
+        delivery_at(&self.delivery, part, number)
+    }
+
+    /// How many of a part are on hand, if there ever was a delivery of it.
+    pub fn hand_of(&self, part: &PartCode) -> Option<Hand>
+        ensures { ReadsHand self.now.tables part.now result }
+    {
+        hand_of(&self.part, part)
+    }
+
     /// Counts the writes of changes.
     fn count(&mut self, changes: &[RowChange])
         ensures tables { self.new.tables ≡ self.old.tables }
@@ -163,8 +222,9 @@ impl Shelf for MapShelf {
     ghost use Rattle.std.specs.Prelude.{◌≡◌, OnOk, OnErr, IfOk};
     ghost use Rattle.office_tables_shelf.specs.Change.{changed_by};
     ghost use Rattle.office_tables_shelf.specs.Counts.{count_of, counts_after};
-    ghost use Rattle.office_tables_shelf.specs.CabinetReads.{ListsInspections, ListsOrders, ListsUsed, ReadsDelivery, ReadsHand, ListsParts};
-    ghost use Rattle.office_tables_shelf.specs.Shelf.{ReadsIntersection, ListsIntersections, ListsTiming, ListsDraft};
+    ghost use Rattle.office_tables_shelf.specs.CabinetReads.{ReadsInspection, ListsInspections, ReadsOrder, ListsOrders, ReadsUsed, ListsUsed, ReadsDelivery, ReadsHand, ListsParts};
+    ghost use Rattle.office_tables_shelf.specs.Shelf.{ReadsIntersection, ListsIntersections, ListsTiming, CountsTiming, ListsDraft};
+    ghost use Rattle.office_tables_shelf.specs.Overdue.{ReadsLast, ListsOverdue};
     ghost use Rattle.office_tables_shelf.specs.MapShelf.{IsFreeOfStore};
 
     ghost content = { λ s. s.tables };
@@ -206,12 +266,34 @@ impl Shelf for MapShelf {
         Ok(timing_of(alloc, &self.timing, id)?)
     }
 
+    fn committed_count(&mut self, alloc: Global, id: InterId) -> Result<usize, ShelfFault>
+        ensures count { IfOk result (λ count. CountsTiming self.old.tables id count) }
+        ensures unchanged { self.new ≡ self.old }
+        ensures sound { IsFreeOfStore result }
+    {
+        let rows = timing_of(alloc, &self.timing, id)?;
+        Ok(rows.len())
+    }
+
     fn draft_rows(&mut self, alloc: Global, id: InterId) -> Result<Vec<Change>, ShelfFault>
         ensures rows { IfOk result (λ rows. ListsDraft self.old.tables id rows.items) }
         ensures unchanged { self.new ≡ self.old }
         ensures sound { IsFreeOfStore result }
     {
         Ok(draft_of(alloc, &self.draft, id)?)
+    }
+
+    fn inspection(
+        &mut self,
+        _alloc: Global,
+        id: InterId,
+        number: RecordNo,
+    ) -> Result<Option<Inspection>, ShelfFault>
+        ensures row { IfOk result (λ found. ReadsInspection self.old.tables id number found) }
+        ensures unchanged { self.new ≡ self.old }
+        ensures sound { IsFreeOfStore result }
+    {
+        Ok(self.inspection_at(id, number)?)
     }
 
     fn inspections(&mut self, alloc: Global, id: InterId) -> Result<Vec<Inspection>, ShelfFault>
@@ -222,12 +304,61 @@ impl Shelf for MapShelf {
         Ok(inspections_of(alloc, &self.inspection, id)?)
     }
 
+    fn last_inspection(&mut self, _alloc: Global, id: InterId) -> Result<Option<Day>, ShelfFault>
+        ensures day { IfOk result (λ last. ReadsLast self.old.tables id last) }
+        ensures unchanged { self.new ≡ self.old }
+        ensures sound { IsFreeOfStore result }
+    {
+        Ok(last_of(&self.inspection, id))
+    }
+
+    fn overdue_rows(
+        &mut self,
+        alloc: Global,
+        day: Day,
+        most: usize,
+    ) -> Result<Vec<OverdueRow>, ShelfFault>
+        ensures rows { IfOk result (λ found. ListsOverdue self.old.tables day most found.items) }
+        ensures unchanged { self.new ≡ self.old }
+        ensures sound { IsFreeOfStore result }
+    {
+        let found = overdue_of(alloc, &self.intersection, &self.inspection, day, most)?;
+        Ok(found)
+    }
+
+    fn order(
+        &mut self,
+        _alloc: Global,
+        id: InterId,
+        number: RecordNo,
+    ) -> Result<Option<Order>, ShelfFault>
+        ensures row { IfOk result (λ found. ReadsOrder self.old.tables id number found) }
+        ensures unchanged { self.new ≡ self.old }
+        ensures sound { IsFreeOfStore result }
+    {
+        Ok(self.order_at(id, number)?)
+    }
+
     fn orders(&mut self, alloc: Global, id: InterId) -> Result<Vec<Order>, ShelfFault>
         ensures rows { IfOk result (λ found. ListsOrders self.old.tables id found.items) }
         ensures unchanged { self.new ≡ self.old }
         ensures sound { IsFreeOfStore result }
     {
         Ok(orders_of(alloc, &self.work_order, id)?)
+    }
+
+    fn used_line(
+        &mut self,
+        _alloc: Global,
+        id: InterId,
+        order: RecordNo,
+        line: LineNo,
+    ) -> Result<Option<UsedLine>, ShelfFault>
+        ensures row { IfOk result (λ found. ReadsUsed self.old.tables id order line found) }
+        ensures unchanged { self.new ≡ self.old }
+        ensures sound { IsFreeOfStore result }
+    {
+        Ok(self.line_at(id, order, line)?)
     }
 
     fn used_lines(&mut self, alloc: Global, id: InterId) -> Result<Vec<UsedLine>, ShelfFault>
@@ -248,7 +379,7 @@ impl Shelf for MapShelf {
         ensures unchanged { self.new ≡ self.old }
         ensures sound { IsFreeOfStore result }
     {
-        Ok(delivery_at(&self.delivery, part, number)?)
+        Ok(self.delivery_at(part, number)?)
     }
 
     fn hand(&mut self, _alloc: Global, part: &PartCode) -> Result<Option<Hand>, ShelfFault>
@@ -256,7 +387,7 @@ impl Shelf for MapShelf {
         ensures unchanged { self.new ≡ self.old }
         ensures sound { IsFreeOfStore result }
     {
-        Ok(hand_of(&self.part, part))
+        Ok(self.hand_of(part))
     }
 
     fn parts(&mut self, alloc: Global) -> Result<Vec<(PartCode, Hand)>, ShelfFault>

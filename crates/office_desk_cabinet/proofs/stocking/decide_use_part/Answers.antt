@@ -1,7 +1,7 @@
 use Rattle.std.proofs.Common.{subst, ◌∙◌}
 use Rattle.cabinet_core.specs.declared.command.RecordCommand.TheVariants.{UsePart}
 use Rattle.office_tables_shelf.specs.Change.{changed_by}
-use Rattle.office_desk_cabinet.specs.RegisterReads.{ReadsUsed, ReadsOrder}
+use Rattle.office_tables_shelf.specs.CabinetReads.{ReadsUsed, ReadsOrder}
 use Rattle.office_desk_cabinet.proofs.Stocked.{use_answers, use_writes}
 use Rattle.office_desk_cabinet.proofs.Told.{answer_leaves, answer_writes, answer_memory}
 use Rattle.office_desk_cabinet.proofs.stocking.decide_use_part.Goals as goal
