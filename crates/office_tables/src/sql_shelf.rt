@@ -13,11 +13,10 @@ ghost use Rattle.office_tables.specs.Version.{HasRow, version_in, first_version}
 use crate::change;
 use crate::open::{OpenFault, claim, prepared};
 use cabinet_core::{Delivery, Hand, Inspection, Order, PartCode, UsedLine};
-use office_tables_cabinet::{delivery, inspection, order, part, used};
 use office_tables_shelf::counts::WriteCounts;
 use office_tables_shelf::rows::{IntersectionRow, RowChange, Table};
 use office_tables_shelf::shelf::{Shelf, ShelfFault};
-use office_tables_sql::{draft_list, intersection, intersection_list, timing_list};
+use office_tables_sql::{delivery, each_row, intersection, intersection_list, part};
 use signal_records::{Change, InterId, RecordNo, Row};
 use sqlite::{Alter, Connection};
 use std::alloc::Global;
@@ -137,23 +136,23 @@ impl<S: Alter> Shelf for SqlShelf<S> {
     }
 
     fn timing_rows(&mut self, alloc: Global, id: InterId) -> Result<Vec<Row>, ShelfFault> {
-        timing_list::timing_rows(alloc, &mut self.conn, id)
+        each_row::list(alloc, &mut self.conn, id)
     }
 
     fn draft_rows(&mut self, alloc: Global, id: InterId) -> Result<Vec<Change>, ShelfFault> {
-        draft_list::draft_rows(alloc, &mut self.conn, id)
+        each_row::list(alloc, &mut self.conn, id)
     }
 
     fn inspections(&mut self, alloc: Global, id: InterId) -> Result<Vec<Inspection>, ShelfFault> {
-        inspection::inspections(alloc, &mut self.conn, id)
+        each_row::list(alloc, &mut self.conn, id)
     }
 
     fn orders(&mut self, alloc: Global, id: InterId) -> Result<Vec<Order>, ShelfFault> {
-        order::orders(alloc, &mut self.conn, id)
+        each_row::list(alloc, &mut self.conn, id)
     }
 
     fn used_lines(&mut self, alloc: Global, id: InterId) -> Result<Vec<UsedLine>, ShelfFault> {
-        used::used_lines(alloc, &mut self.conn, id)
+        each_row::list(alloc, &mut self.conn, id)
     }
 
     fn delivery(

@@ -16,3 +16,16 @@ pub mod ListLemmas
 pub mod ListedLemmas
 mod TableLists
 mod IntersectionLists
+mod FirstColumn
+mod TableLemmas
+mod Casts
+mod StoredLists
+mod StoredFinds
+mod StoredPuts
+mod EachLemmas
+mod CodeReading
+mod PartPuts
+mod PartReads
+mod PartLists
+mod DeliveryPuts
+mod DeliveryReads

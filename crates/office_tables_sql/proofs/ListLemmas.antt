@@ -56,7 +56,7 @@ tied Equal h = refl
 tied Greater h = absurd (true≢false (sym h))
 
 module _ {X : Type 0} (p : X → Bool) where
-  found_has : (xs : List X) (x : X) → find p xs ≡ Some x → Has xs x × (p x ≡ true)
+  pub found_has : (xs : List X) (x : X) → find p xs ≡ Some x → Has xs x × (p x ≡ true)
   found_has [] x h = absurd (let e = h in cc)
   found_has (y ∷ xs) x h = go (cases_Bool (p y)) (found_has xs x)
     where

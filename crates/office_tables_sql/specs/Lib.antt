@@ -3,3 +3,9 @@ pub mod Layout
 pub mod Stored
 pub mod Calls
 pub mod Listed
+pub mod Tables
+pub mod CabinetStored
+pub mod CabinetShown
+pub mod InspectionTexts
+pub mod UsedTexts
+pub mod OrderTexts

@@ -1,0 +1,123 @@
+//! Rows that a table of the office keeps, found and put by one text each.
+
+ghost use Rattle.std.specs.Prelude.{◌≡◌, ◌++◌, ℕ, List, length, IfOk, OnOk};
+ghost use Rattle.sqlite.specs.State.{HasCleanDisk, Survives};
+ghost use Rattle.sqlite.specs.Held.{state};
+ghost use Rattle.sqlite.specs.Values.{bound};
+ghost use Rattle.office_tables_shelf.specs.Cells.{Cell};
+ghost use Rattle.office_tables_shelf.specs.declared.rows.Table.{Table};
+ghost use Rattle.office_tables_sql.specs.Stored.{content_now};
+ghost use Rattle.office_tables_sql.specs.Calls.{IsHonest, IsOffice, IsReady, Keeps, StandsOn};
+ghost use Rattle.office_tables_sql.specs.Tables.{put_in, key_shown, columns_shown, width_of, key_given, IsKeyOf, IsUnder, ReadsRow, HasDamagedUnder, IsNoRow, IsListText, IsFindText, IsPutText, Fits, values_of};
+
+use crate::statement::{SqlFault, select_one, write};
+use office_tables_shelf::shelf::ShelfFault;
+use signal_records::InterId;
+use sqlite::types::ValueRef;
+use sqlite::{Alter, Connection, Row, Transaction};
+use std::alloc::{AllocError, Global};
+
+/// A row of an intersection in one table.
+pub trait StoredRow: Sized + Drop {
+    /// The table that keeps it.
+    ghost table: { Table };
+    /// The cells of its key, beginning with the intersection.
+    ghost key: { ℕ → Self → List Cell };
+    /// Its other cells.
+    ghost columns: { Self → List Cell };
+    /// It is within its limits.
+    ghost is_within: { Self → Type 0 };
+    /// The query of the rows of an intersection, in the order of their keys.
+    ghost list_text: { List ℕ };
+    /// The query of the row under a whole key.
+    ghost find_text: { List ℕ };
+    /// The statement that puts a row under its key.
+    ghost put_text: { List ℕ };
+
+    fn list_text() -> &'static str
+        ensures { result.now ≡ list_text };
+
+    fn find_text() -> &'static str
+        ensures { result.now ≡ find_text };
+
+    fn put_text() -> &'static str
+        ensures { result.now ≡ put_text };
+
+    /// What a row of the list stands for.
+    fn read(alloc: Global, id: InterId, row: &Row) -> Result<Self, ShelfFault>
+        ensures key { IfOk result (λ x. key id x ≡ key_shown table row.now) }
+        ensures columns { IfOk result (λ x. columns x ≡ columns_shown table row.now) }
+        ensures damaged { result ≡ Err ShelfFault.Damaged → length row.now ≡ width_of table → IsNoRow is_within key columns id (key_shown table row.now) (columns_shown table row.now) };
+
+    /// The parameters of the statement that puts it; `text` is room for a text that is made for it.
+    fn bind<'a>(
+        &'a self,
+        alloc: Global,
+        id: InterId,
+        text: &'a mut String,
+    ) -> Result<Vec<ValueRef<'a>>, AllocError>
+        ensures { IfOk result (λ values. bound values.items ≡ values_of (key id self.now ++ columns self.now)) };
+
+    ghost lists: { IsListText table list_text };
+
+    ghost finds: { IsFindText table find_text };
+
+    ghost puts: { IsPutText table put_text };
+
+    ghost fits: { (id : ℕ) (x : Self) → Fits table (key id x) (columns x) };
+}
+
+/// The row of the intersection under a key, if there is one.
+pub fn find<T: StoredRow, S: Alter>(
+    alloc: Global,
+    conn: &mut Connection<S>,
+    id: InterId,
+    key: &[ValueRef<'_>],
+) -> Result<Option<T>, ShelfFault>
+    requires office { IsOffice (state S.Store conn.old) }
+    requires key { IsKeyOf T.table (bound key.now) }
+    ensures row { IfOk result (λ found. IsHonest (state S.Store conn.new) → ReadsRow T.table T.key T.columns (content_now (state S.Store conn.old)) id (key_given T.table (bound key.now)) found) }
+    ensures damaged { result ≡ Err ShelfFault.Damaged → IsHonest (state S.Store conn.new) → HasDamagedUnder T.table T.is_within T.key T.columns (content_now (state S.Store conn.old)) id (key_given T.table (bound key.now)) }
+    ensures kept { Keeps (state S.Store conn.old) (state S.Store conn.new) }
+    ensures crash { Survives (state S.Store conn.old) (state S.Store conn.new) (λ _. ⊥) }
+{
+    match under::<T, S>(conn, key)? {
+        Some(row) => Ok(Some(T::read(alloc, id, &row)?)),
+        None => Ok(None),
+    }
+}
+
+/// What is stored under the key, whether or not it is a record.
+fn under<T: StoredRow, S: Alter>(
+    conn: &mut Connection<S>,
+    key: &[ValueRef<'_>],
+) -> Result<Option<Row>, SqlFault>
+    requires office { IsOffice (state S.Store conn.old) }
+    requires key { IsKeyOf T.table (bound key.now) }
+    ensures found { IsHonest (state S.Store conn.new) → IfOk result (IsUnder T.table (content_now (state S.Store conn.old)) (key_given T.table (bound key.now))) }
+    ensures kept { Keeps (state S.Store conn.old) (state S.Store conn.new) }
+    ensures crash { Survives (state S.Store conn.old) (state S.Store conn.new) (λ _. ⊥) }
+{
+    select_one(conn, T::find_text(), key)
+}
+
+/// Puts a row of the intersection under its key.
+pub fn put<T: StoredRow, S: Alter>(
+    alloc: Global,
+    tx: &mut Transaction<'_, S>,
+    id: InterId,
+    row: &T,
+) -> Result<(), SqlFault>
+    ensures same_reference { tx.new.conn.ghost_name ≡ tx.old.conn.ghost_name }
+    ensures ready { HasCleanDisk (state S.Store tx.new.conn.now) → OnOk result (IsReady (state S.Store tx.old.conn.now) → IsReady (state S.Store tx.new.conn.now)) }
+    ensures put { HasCleanDisk (state S.Store tx.new.conn.now) → OnOk result (IsReady (state S.Store tx.old.conn.now) → content_now (state S.Store tx.new.conn.now) ≡ put_in (content_now (state S.Store tx.old.conn.now)) T.table (T.key id row.now) (T.columns row.now)) }
+    ensures stands { StandsOn (state S.Store tx.old.conn.now) (state S.Store tx.new.conn.now) }
+    ensures crash { Survives (state S.Store tx.old.conn.now) (state S.Store tx.new.conn.now) (λ _. ⊥) }
+{
+    let mut text = String::new(alloc);
+    let Ok(values) = row.bind(alloc, id, &mut text) else {
+        return Err(SqlFault::NoMemory);
+    };
+    write(tx, T::put_text(), values.as_slice())?;
+    Ok(())
+}
