@@ -5,6 +5,7 @@ use Rattle.std.proofs.lemmas.Bool.Decides.{nat_tests}
 use Rattle.std.proofs.lemmas.Map.Entries.{entries_from_clone}
 use Rattle.std.specs.BTreeMap.{insert_entry, is_at}
 use Rattle.std.specs.Cmp.Lexicographic.{slice_cmp}
+use Rattle.std.specs.FinMap.{get}
 use Rattle.std.specs.FinMap.Entries.{where_key}
 use Rattle.std.specs.List.{AllByRecursion, AllZip}
 use Rattle.std.specs.List.Sorted.{IsStrictlySortedBy}
@@ -18,7 +19,7 @@ use Rattle.cabinet_core.specs.declared.record.UsedLine.{UsedLine}
 use Rattle.cabinet_core.specs.declared.record.Delivery.{Delivery}
 use Rattle.office_tables_shelf.specs.Cells.{Cell, number, text, cell_cmp, cells_cmp, tree_rows}
 use Rattle.office_tables_shelf.specs.CabinetRows.{inspection_key, inspection_columns, order_key, order_columns, used_key, used_columns, part_key, delivery_columns}
-use Rattle.office_tables_shelf.specs.CabinetReads.{ReadsDelivery}
+use Rattle.office_tables_shelf.specs.CabinetReads.{ReadsInspection, ReadsOrder, ReadsUsed, ReadsDelivery}
 use Rattle.office_tables_shelf.specs.Content.{no_content}
 use Rattle.office_tables_shelf.specs.MapCabinet.{inspection_place_key, order_place_key, line_place_key, delivery_place_key, inspection_rows, order_rows, used_rows, delivery_rows, IsInspectionAt, IsOrderAt, IsUsedAt, IsDeliveryAt, AreInspectionsPlaced, AreOrdersPlaced, AreUsedPlaced, AreDeliveriesPlaced}
 use Rattle.office_tables_shelf.specs.Shelf.{is_of, rows_of}
@@ -120,25 +121,51 @@ module _ {K X : Type 0} (R : K → K → Ordering) (exact : (a b : K) → R a b 
           subst₂ Stands (sym (exact k e.0 (tied _ hit))) same h.0
       go (inr miss) later = later (rw miss at found)
 
--- what a tree of deliveries has under a part and a number
+module _ {K X : Type 0} (R : K → K → Ordering) (exact : (a b : K) → R a b ≡ Equal → a ≡ b) (Stands : K → X → Type 0) (key : K → List Cell) (columns : X → List Cell) (order : (a b : K) → cells_cmp (key a) (key b) ≡ R a b) where
+  -- what a tree of such records has at a place are the cells of the place's own record
+  pub stands_under : (es : List (K × X)) (place : K) (found : Option X) → AllByRecursion (λ e. Stands e.0 e.1) es → entry_at R key columns es place ≡ found
+      → (get (tree_rows key columns es) (key place) ≡ option_map columns found) × IfSome found (Stands place)
+  stands_under es place found placed here =
+      (get_tree R key columns (λ a b. ap is_eq (order a b)) es place ∙ ap (option_map columns) here, own found here)
+    where
+      own : (o : Option X) → lookup (is_at (R place)) es ≡ o → IfSome o (Stands place)
+      own None there = tt
+      own (Some x) there = standing_found R exact Stands es place x placed there
+
+-- both of two facts on what is there
+both_of : {X : Type 0} (P Q : X → Type 0) (found : Option X) → IfSome found (λ x. P x × Q x) → IfSome found P × IfSome found Q
+both_of P Q None h = (tt, tt)
+both_of P Q (Some x) h = h
+
+-- what a tree of inspections has under an intersection and a number
+pub reads_inspection : (es : List (RecordPlace × Inspection)) (place : RecordPlace) (found : Option Inspection) → AreInspectionsPlaced es → entry_at record_cmp inspection_place_key inspection_columns es place ≡ found
+    → ReadsInspection (record no_content { inspection = inspection_rows es }) place.inter place.number found
+reads_inspection es place found placed here =
+    let stands = stands_under record_cmp record_exact IsInspectionAt inspection_place_key inspection_columns inspection_order es place found placed here in
+    record { stored = stands.0; number = stands.1 }
+
+-- an order
+pub reads_order : (es : List (RecordPlace × Order)) (place : RecordPlace) (found : Option Order) → AreOrdersPlaced es → entry_at record_cmp order_place_key order_columns es place ≡ found
+    → ReadsOrder (record no_content { work_order = order_rows es }) place.inter place.number found
+reads_order es place found placed here =
+    let stands = stands_under record_cmp record_exact IsOrderAt order_place_key order_columns order_order es place found placed here in
+    record { stored = stands.0; number = stands.1 }
+
+-- a used part, under an intersection, an order and a line
+pub reads_used : (es : List (LinePlace × UsedLine)) (place : LinePlace) (found : Option UsedLine) → AreUsedPlaced es → entry_at line_cmp line_place_key used_columns es place ≡ found
+    → ReadsUsed (record no_content { used_part = used_rows es }) place.inter place.order place.line found
+reads_used es place found placed here =
+    let stands = stands_under line_cmp line_exact IsUsedAt line_place_key used_columns line_order es place found placed here in
+    let named = both_of (λ u. u.order ≡ place.order) (λ u. u.line ≡ place.line) found stands.1 in
+    record { stored = stands.0; of = named.0; number = named.1 }
+
+-- a delivery, under a part and a number
 pub reads_delivery : (es : List (DeliveryPlace × Delivery)) (place : DeliveryPlace) (found : Option Delivery) → AreDeliveriesPlaced es → entry_at delivery_cmp delivery_place_key delivery_columns es place ≡ found
     → ReadsDelivery (record no_content { delivery = delivery_rows es }) place.part place.number found
-reads_delivery es place found placed here = record {
-  stored = get_tree delivery_cmp delivery_place_key delivery_columns (λ a b. ap is_eq (delivery_order a b)) es place ∙ ap (option_map delivery_columns) here;
-  part = part found here;
-  number = numbered found here;
-}
-  where
-    stands : (delivery : Delivery) → lookup (is_at (delivery_cmp place)) es ≡ Some delivery → IsDeliveryAt place delivery
-    stands delivery there = standing_found delivery_cmp delivery_exact IsDeliveryAt es place delivery placed there
-
-    part : (o : Option Delivery) → lookup (is_at (delivery_cmp place)) es ≡ o → IfSome o (λ d. d.part ≡ place.part)
-    part None there = tt
-    part (Some delivery) there = (stands delivery there).0
-
-    numbered : (o : Option Delivery) → lookup (is_at (delivery_cmp place)) es ≡ o → IfSome o (λ d. d.number ≡ place.number)
-    numbered None there = tt
-    numbered (Some delivery) there = (stands delivery there).1
+reads_delivery es place found placed here =
+    let stands = stands_under delivery_cmp delivery_exact IsDeliveryAt delivery_place_key delivery_columns delivery_order es place found placed here in
+    let named = both_of (λ d. d.part ≡ place.part) (λ d. d.number ≡ place.number) found stands.1 in
+    record { stored = stands.0; part = named.0; number = named.1 }
 
 -- clones that are equal to their sources are the sources
 pub same_clones : {K X : Type 0} (es copies : List (K × X)) → AllZip (λ e f. (f.0 ≡ e.0) × (f.1 ≡ e.1)) es copies → copies ≡ es

@@ -10,7 +10,7 @@ use Rattle.cabinet_core.specs.declared.inspections.Seen.{Seen}
 use Rattle.cabinet_core.specs.declared.record.Inspection.{Inspection}
 use Rattle.office_tables_shelf.specs.CabinetReads.{ListsInspections}
 use Rattle.office_tables_shelf.specs.Content.{Content}
-use Rattle.office_tables_shelf.specs.Overdue.{greater, latest_day, seen_row, AreSeenOf}
+use Rattle.office_tables_shelf.specs.Overdue.{greater, latest_day, ReadsLast, seen_row, AreSeenOf}
 use Rattle.office_tables_shelf.specs.declared.rows.IntersectionRow.{IntersectionRow}
 
 -- ---- the latest day
@@ -32,6 +32,22 @@ latest_more inspections i inspection latest low at so_far =
     let next : take (i + 1) inspections ≡ take i inspections ++ inspection ∷ [] = take_more inspections i inspection low ∙ ap (λ x. take i inspections ++ x ∷ []) (sym at) in
     ap (λ o. Some (greater inspection.day o)) so_far ∙ sym (latest_push (take i inspections) inspection) ∙ ap latest_day (sym next)
 
+-- the latest day of inspections, and another day
+abbrev pub latest_with : Option ℕ → Option ℕ → Option ℕ
+latest_with None last = last
+latest_with (Some day) last = Some (greater day last)
+
+-- the next day counts before those that are left
+pub latest_shift : (day : ℕ) (last rest : Option ℕ) → latest_with (Some (greater day last)) rest ≡ latest_with last (Some (greater day rest))
+latest_shift day None None = refl
+latest_shift day None (Some d) = refl
+latest_shift day (Some l) None = ap Some (omega arith)
+latest_shift day (Some l) (Some d) = ap Some (omega arith)
+
+pub latest_with_none : (last : Option ℕ) → latest_with last None ≡ last
+latest_with_none None = refl
+latest_with_none (Some day) = refl
+
 -- ---- what is seen, row by row
 
 -- so many are seen as there are rows
@@ -41,16 +57,17 @@ seen_length tables [] (one ∷ seen) all = absurd all
 seen_length tables (e ∷ rows) [] all = absurd all
 seen_length tables (e ∷ rows) (one ∷ seen) all = ap suc (seen_length tables rows seen all.1)
 
--- that of a row whose inspections were read
-pub seen_at : (tables : Content) (rows : List (ℕ × IntersectionRow)) (seen : List Seen) (i : ℕ) (e : ℕ × IntersectionRow) (inspections : List Inspection) → AreSeenOf tables rows seen → i < length rows → e ≡ get_or rows i e
-    → ListsInspections tables e.0 inspections → seen_row e.0 e.1 inspections ≡ get_or seen i (seen_row e.0 e.1 inspections)
-seen_at tables [] [] i e inspections all low at lists = absurd (omega arith)
-seen_at tables [] (one ∷ seen) i e inspections all low at lists = absurd all
-seen_at tables (f ∷ rows) [] i e inspections all low at lists = absurd all
-seen_at tables (f ∷ rows) (one ∷ seen) zero e inspections all low at lists =
+-- that of a row whose latest inspection was read
+pub seen_at : (tables : Content) (rows : List (ℕ × IntersectionRow)) (seen : List Seen) (i : ℕ) (e : ℕ × IntersectionRow) (last : Option ℕ) → AreSeenOf tables rows seen → i < length rows → e ≡ get_or rows i e
+    → ReadsLast tables e.0 last → seen_row e.0 e.1 last ≡ get_or seen i (seen_row e.0 e.1 last)
+seen_at tables [] [] i e last all low at reads = absurd (omega arith)
+seen_at tables [] (one ∷ seen) i e last all low at reads = absurd all
+seen_at tables (f ∷ rows) [] i e last all low at reads = absurd all
+seen_at tables (f ∷ rows) (one ∷ seen) zero e last all low at reads =
     let same : e ≡ f = at in
-    ap (λ (x : ℕ × IntersectionRow). seen_row x.0 x.1 inspections) same ∙ sym (all.0 inspections (subst (λ (x : ℕ × IntersectionRow). ListsInspections tables x.0 inspections) same lists))
-seen_at tables (f ∷ rows) (one ∷ seen) (suc i) e inspections all low at lists = seen_at tables rows seen i e inspections all.1 (omega arith) at lists
+    ap (λ day. seen_row e.0 e.1 day) reads.latest ∙ ap (λ (x : ℕ × IntersectionRow). seen_row x.0 x.1 (latest_day reads.inspections)) same
+    ∙ sym (all.0 reads.inspections (subst (λ (x : ℕ × IntersectionRow). ListsInspections tables x.0 reads.inspections) same reads.lists))
+seen_at tables (f ∷ rows) (one ∷ seen) (suc i) e last all low at reads = seen_at tables rows seen i e last all.1 (omega arith) at reads
 
 -- ---- the list so far
 

@@ -57,6 +57,17 @@ pub record HasDamagedDelivery (tables : Content) (code : List ℕ) (n : ℕ) : T
 
 -- ---- inspections
 
+-- the cells that stand under the intersection and the number are those of the inspection, which names its number
+pub record ReadsInspection (tables : Content) (id n : ℕ) (inspection : Option Inspection) : Type 0 where
+  pub stored : get tables.inspection (inspection_key id n) ≡ option_map inspection_columns inspection
+  pub number : IfSome inspection (λ i. i.number ≡ n)
+
+-- cells stand under the intersection and the number that are those of no inspection within its limits
+pub record HasDamagedInspectionAt (tables : Content) (id n : ℕ) : Type 0 where
+  pub columns : List Cell
+  pub stored : get tables.inspection (inspection_key id n) ≡ Some columns
+  pub no_row : (inspection : Inspection) → IsInspectionWithin inspection → inspection.number ≡ n → columns ≢ inspection_columns inspection
+
 -- the inspections of the intersection, in the order of their numbers, are those of the list
 abbrev pub ListsInspections : Content → ℕ → List Inspection → Type 0
 ListsInspections tables id inspections = map (λ inspection. (inspection_key id inspection.number, inspection_columns inspection)) inspections ≡ rows_of id tables.inspection
@@ -75,6 +86,18 @@ HasAnyDamagedInspection tables = (id : ℕ) × HasDamagedInspection tables id
 
 -- ---- used parts
 
+-- the cells that stand under the intersection, the order and the line are those of the used part, which names order and line
+pub record ReadsUsed (tables : Content) (id order line : ℕ) (used : Option UsedLine) : Type 0 where
+  pub stored : get tables.used_part (used_key id order line) ≡ option_map used_columns used
+  pub of : IfSome used (λ u. u.order ≡ order)
+  pub number : IfSome used (λ u. u.line ≡ line)
+
+-- cells stand under the intersection, the order and the line that are those of no used part within its limits
+pub record HasDamagedUsedAt (tables : Content) (id order line : ℕ) : Type 0 where
+  pub columns : List Cell
+  pub stored : get tables.used_part (used_key id order line) ≡ Some columns
+  pub no_row : (used : UsedLine) → IsUsedLineWithin used → used.order ≡ order → used.line ≡ line → columns ≢ used_columns used
+
 -- the used parts of the intersection, in the order of orders and lines, are those of the list
 abbrev pub ListsUsed : Content → ℕ → List UsedLine → Type 0
 ListsUsed tables id lines = map (λ used. (used_key id used.order used.line, used_columns used)) lines ≡ rows_of id tables.used_part
@@ -88,6 +111,17 @@ pub record HasDamagedUsed (tables : Content) (id : ℕ) : Type 0 where
   pub no_row : (used : UsedLine) → IsUsedLineWithin used → key ≡ used_key id used.order used.line → columns ≢ used_columns used
 
 -- ---- orders
+
+-- the cells that stand under the intersection and the number are those of the order, which names its number
+pub record ReadsOrder (tables : Content) (id n : ℕ) (order : Option Order) : Type 0 where
+  pub stored : get tables.work_order (order_key id n) ≡ option_map order_columns order
+  pub number : IfSome order (λ o. o.number ≡ n)
+
+-- cells stand under the intersection and the number that are those of no order within its limits
+pub record HasDamagedOrderAt (tables : Content) (id n : ℕ) : Type 0 where
+  pub columns : List Cell
+  pub stored : get tables.work_order (order_key id n) ≡ Some columns
+  pub no_row : (order : Order) → IsOrderWithin order → order.number ≡ n → columns ≢ order_columns order
 
 -- the orders on the intersection, in the order of their numbers, are those of the list
 abbrev pub ListsOrders : Content → ℕ → List Order → Type 0

@@ -25,15 +25,21 @@ greatest (n ∷ ns) = Some (greater n (greatest ns))
 abbrev pub latest_day : List Inspection → Option ℕ
 latest_day inspections = greatest (map (λ (inspection : Inspection). inspection.day) inspections)
 
+-- what the tables hold of the intersection's inspections are inspections, and this is the latest day of them
+pub record ReadsLast (tables : Content) (id : ℕ) (last : Option ℕ) : Type 0 where
+  pub inspections : List Inspection
+  pub lists : ListsInspections tables id inspections
+  pub latest : last ≡ latest_day inspections
+
 -- ---- what is seen
 
--- what is known of an intersection with this row and these inspections
-abbrev pub seen_row : ℕ → IntersectionRow → List Inspection → Seen
-seen_row id row inspections = record { id = id; name = row.name; interval = row.interval; last = latest_day inspections }
+-- what is known of an intersection with this row, that was last inspected on this day
+abbrev pub seen_row : ℕ → IntersectionRow → Option ℕ → Seen
+seen_row id row last = record { id = id; name = row.name; interval = row.interval; last = last }
 
 -- and with the inspections that the tables hold of it, where all that they hold of them are inspections
 abbrev pub IsSeen : Content → ℕ × IntersectionRow → Seen → Type 0
-IsSeen tables e seen = (inspections : List Inspection) → ListsInspections tables e.0 inspections → seen ≡ seen_row e.0 e.1 inspections
+IsSeen tables e seen = (inspections : List Inspection) → ListsInspections tables e.0 inspections → seen ≡ seen_row e.0 e.1 (latest_day inspections)
 
 -- row by row
 abbrev pub AreSeenOf : Content → List (ℕ × IntersectionRow) → List Seen → Type 0

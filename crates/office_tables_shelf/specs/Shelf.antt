@@ -1,5 +1,5 @@
 -- What the clauses of a shelf cite.
-use Rattle.std.specs.Prelude.{◌≡◌, ℕ, pos, Bool, false, List, [], ◌∷◌, map, Option}
+use Rattle.std.specs.Prelude.{◌≡◌, ℕ, pos, Bool, false, List, [], ◌∷◌, map, length, Option}
 use Rattle.std.specs.Option.{option_map}
 use Rattle.std.specs.Ordering.{eq_by_cmp}
 use Rattle.std.specs.FinMap.{get, entries}
@@ -40,6 +40,10 @@ ListsIntersections tables rows = map (λ e. (intersection_key e.0, intersection_
 -- the committed rows of the intersection, in the order of their keys, are those of the list
 abbrev pub ListsTiming : Content → ℕ → List Row → Type 0
 ListsTiming tables id rows = map (λ row. (timing_key id (key_of row), timing_columns row)) rows ≡ rows_of id tables.timing
+
+-- so many committed rows has the intersection
+abbrev pub CountsTiming : Content → ℕ → ℕ → Type 0
+CountsTiming tables id count = count ≡ length (rows_of id tables.timing)
 
 -- the draft rows of the intersection, in the order of their keys, are those of the list
 abbrev pub ListsDraft : Content → ℕ → List Change → Type 0

@@ -3,6 +3,7 @@
 
 pub mod counts;
 mod map_cabinet;
+mod map_overdue;
 mod map_rows;
 pub mod map_shelf;
 mod overdue;

@@ -4,12 +4,12 @@ ghost use Rattle.std.specs.FinMap as finite;
 ghost use Rattle.std.specs.Option.{option_map};
 ghost use Rattle.office_tables_shelf.specs.Content.{no_content};
 ghost use Rattle.office_tables_shelf.specs.CabinetRows.{inspection_key, inspection_columns, order_key, order_columns, used_key, used_columns, part_key, part_columns, delivery_key, delivery_columns};
-ghost use Rattle.office_tables_shelf.specs.CabinetReads.{ListsInspections, ListsOrders, ListsUsed, ListsParts, ReadsDelivery};
+ghost use Rattle.office_tables_shelf.specs.CabinetReads.{ReadsInspection, ListsInspections, ReadsOrder, ListsOrders, ReadsUsed, ListsUsed, ListsParts, ReadsDelivery};
 ghost use Rattle.office_tables_shelf.specs.MapCabinet.{inspection_rows, order_rows, used_rows, part_rows, delivery_rows, AreInspectionsPlaced, AreOrdersPlaced, AreUsedPlaced, AreDeliveriesPlaced};
 
 use crate::place::{DeliveryPlace, LinePlace, RecordPlace};
 use cabinet_core::{Delivery, Hand, Inspection, Order, PartCode, UsedLine};
-use signal_records::{InterId, NoMemory, RecordNo};
+use signal_records::{InterId, LineNo, NoMemory, RecordNo};
 use std::alloc::Global;
 use std::collections::BTreeMap;
 
@@ -25,6 +25,20 @@ pub(crate) fn put_inspection(
     let number = inspection.number;
     rows.insert(RecordPlace { inter, number }, inspection)?;
     Ok(())
+}
+
+/// The inspection of an intersection with a number, if there is one.
+pub(crate) fn inspection_at(
+    rows: &BTreeMap<RecordPlace, Inspection>,
+    inter: InterId,
+    number: RecordNo,
+) -> Result<Option<Inspection>, NoMemory>
+    ensures { IfOk result (λ found. AreInspectionsPlaced rows.now.entries → ReadsInspection (record no_content { inspection = inspection_rows rows.now.entries }) inter number found) }
+{
+    match rows.get(&RecordPlace { inter, number }) {
+        Some(inspection) => Ok(Some(inspection.clone()?)),
+        None => Ok(None),
+    }
 }
 
 /// The inspections of an intersection's cabinet, in the order of their numbers.
@@ -58,6 +72,20 @@ pub(crate) fn put_order(
     Ok(())
 }
 
+/// The order on an intersection with a number, if there is one.
+pub(crate) fn order_at(
+    rows: &BTreeMap<RecordPlace, Order>,
+    inter: InterId,
+    number: RecordNo,
+) -> Result<Option<Order>, NoMemory>
+    ensures { IfOk result (λ found. AreOrdersPlaced rows.now.entries → ReadsOrder (record no_content { work_order = order_rows rows.now.entries }) inter number found) }
+{
+    match rows.get(&RecordPlace { inter, number }) {
+        Some(order) => Ok(Some(order.clone()?)),
+        None => Ok(None),
+    }
+}
+
 /// The orders on an intersection, in the order of their numbers.
 pub(crate) fn orders_of(
     alloc: Global,
@@ -87,6 +115,21 @@ pub(crate) fn put_line(
     let (order, line) = (used.order, used.line);
     rows.insert(LinePlace { inter, order, line }, used)?;
     Ok(())
+}
+
+/// The part used for an order on an intersection in a line, if there is one.
+pub(crate) fn line_at(
+    rows: &BTreeMap<LinePlace, UsedLine>,
+    inter: InterId,
+    order: RecordNo,
+    line: LineNo,
+) -> Result<Option<UsedLine>, NoMemory>
+    ensures { IfOk result (λ found. AreUsedPlaced rows.now.entries → ReadsUsed (record no_content { used_part = used_rows rows.now.entries }) inter order line found) }
+{
+    match rows.get(&LinePlace { inter, order, line }) {
+        Some(used) => Ok(Some(used.clone()?)),
+        None => Ok(None),
+    }
 }
 
 /// The parts used for the orders on an intersection, in the order of orders and lines.

@@ -4,9 +4,10 @@ ghost use Rattle.office_tables_shelf.specs.MapShelf.{IsFreeOfStore};
 
 use crate::counts::WriteCounts;
 use crate::map_cabinet::{
-    all_parts, copied_parts, delivery_at, hand_of, inspections_of, lines_of, orders_of,
-    put_delivery, put_inspection, put_line, put_order, put_part,
+    all_parts, copied_parts, delivery_at, hand_of, inspection_at, inspections_of, line_at,
+    lines_of, order_at, orders_of, put_delivery, put_inspection, put_line, put_order, put_part,
 };
+use crate::map_overdue::{last_of, overdue_of};
 use crate::map_rows::{
     all_intersections, copied_drafts, copied_intersections, draft_of, intersection_at, put_draft,
     put_intersection, put_timing, remove_draft, remove_timing, timing_of,
@@ -14,8 +15,8 @@ use crate::map_rows::{
 use crate::place::{DeliveryPlace, LinePlace, Place, RecordPlace};
 use crate::rows::{IntersectionRow, RowChange, Table};
 use crate::shelf::{Shelf, ShelfFault};
-use cabinet_core::{Delivery, Hand, Inspection, Order, PartCode, UsedLine};
-use signal_records::{Change, InterId, NoMemory, RecordNo, Row};
+use cabinet_core::{Day, Delivery, Hand, Inspection, Order, OverdueRow, PartCode, UsedLine};
+use signal_records::{Change, InterId, LineNo, NoMemory, RecordNo, Row};
 use std::alloc::Global;
 use std::collections::BTreeMap;
 use std::marker::Model;
@@ -163,8 +164,9 @@ impl Shelf for MapShelf {
     ghost use Rattle.std.specs.Prelude.{◌≡◌, OnOk, OnErr, IfOk};
     ghost use Rattle.office_tables_shelf.specs.Change.{changed_by};
     ghost use Rattle.office_tables_shelf.specs.Counts.{count_of, counts_after};
-    ghost use Rattle.office_tables_shelf.specs.CabinetReads.{ListsInspections, ListsOrders, ListsUsed, ReadsDelivery, ReadsHand, ListsParts};
-    ghost use Rattle.office_tables_shelf.specs.Shelf.{ReadsIntersection, ListsIntersections, ListsTiming, ListsDraft};
+    ghost use Rattle.office_tables_shelf.specs.CabinetReads.{ReadsInspection, ListsInspections, ReadsOrder, ListsOrders, ReadsUsed, ListsUsed, ReadsDelivery, ReadsHand, ListsParts};
+    ghost use Rattle.office_tables_shelf.specs.Shelf.{ReadsIntersection, ListsIntersections, ListsTiming, CountsTiming, ListsDraft};
+    ghost use Rattle.office_tables_shelf.specs.Overdue.{ReadsLast, ListsOverdue};
     ghost use Rattle.office_tables_shelf.specs.MapShelf.{IsFreeOfStore};
 
     ghost content = { λ s. s.tables };
@@ -206,12 +208,34 @@ impl Shelf for MapShelf {
         Ok(timing_of(alloc, &self.timing, id)?)
     }
 
+    fn committed_count(&mut self, alloc: Global, id: InterId) -> Result<usize, ShelfFault>
+        ensures count { IfOk result (λ count. CountsTiming self.old.tables id count) }
+        ensures unchanged { self.new ≡ self.old }
+        ensures sound { IsFreeOfStore result }
+    {
+        let rows = timing_of(alloc, &self.timing, id)?;
+        Ok(rows.len())
+    }
+
     fn draft_rows(&mut self, alloc: Global, id: InterId) -> Result<Vec<Change>, ShelfFault>
         ensures rows { IfOk result (λ rows. ListsDraft self.old.tables id rows.items) }
         ensures unchanged { self.new ≡ self.old }
         ensures sound { IsFreeOfStore result }
     {
         Ok(draft_of(alloc, &self.draft, id)?)
+    }
+
+    fn inspection(
+        &mut self,
+        _alloc: Global,
+        id: InterId,
+        number: RecordNo,
+    ) -> Result<Option<Inspection>, ShelfFault>
+        ensures row { IfOk result (λ found. ReadsInspection self.old.tables id number found) }
+        ensures unchanged { self.new ≡ self.old }
+        ensures sound { IsFreeOfStore result }
+    {
+        Ok(inspection_at(&self.inspection, id, number)?)
     }
 
     fn inspections(&mut self, alloc: Global, id: InterId) -> Result<Vec<Inspection>, ShelfFault>
@@ -222,12 +246,61 @@ impl Shelf for MapShelf {
         Ok(inspections_of(alloc, &self.inspection, id)?)
     }
 
+    fn last_inspection(&mut self, _alloc: Global, id: InterId) -> Result<Option<Day>, ShelfFault>
+        ensures day { IfOk result (λ last. ReadsLast self.old.tables id last) }
+        ensures unchanged { self.new ≡ self.old }
+        ensures sound { IsFreeOfStore result }
+    {
+        Ok(last_of(&self.inspection, id))
+    }
+
+    fn overdue_rows(
+        &mut self,
+        alloc: Global,
+        day: Day,
+        most: usize,
+    ) -> Result<Vec<OverdueRow>, ShelfFault>
+        ensures rows { IfOk result (λ found. ListsOverdue self.old.tables day most found.items) }
+        ensures unchanged { self.new ≡ self.old }
+        ensures sound { IsFreeOfStore result }
+    {
+        let found = overdue_of(alloc, &self.intersection, &self.inspection, day, most)?;
+        Ok(found)
+    }
+
+    fn order(
+        &mut self,
+        _alloc: Global,
+        id: InterId,
+        number: RecordNo,
+    ) -> Result<Option<Order>, ShelfFault>
+        ensures row { IfOk result (λ found. ReadsOrder self.old.tables id number found) }
+        ensures unchanged { self.new ≡ self.old }
+        ensures sound { IsFreeOfStore result }
+    {
+        Ok(order_at(&self.work_order, id, number)?)
+    }
+
     fn orders(&mut self, alloc: Global, id: InterId) -> Result<Vec<Order>, ShelfFault>
         ensures rows { IfOk result (λ found. ListsOrders self.old.tables id found.items) }
         ensures unchanged { self.new ≡ self.old }
         ensures sound { IsFreeOfStore result }
     {
         Ok(orders_of(alloc, &self.work_order, id)?)
+    }
+
+    fn used_line(
+        &mut self,
+        _alloc: Global,
+        id: InterId,
+        order: RecordNo,
+        line: LineNo,
+    ) -> Result<Option<UsedLine>, ShelfFault>
+        ensures row { IfOk result (λ found. ReadsUsed self.old.tables id order line found) }
+        ensures unchanged { self.new ≡ self.old }
+        ensures sound { IsFreeOfStore result }
+    {
+        Ok(line_at(&self.used_part, id, order, line)?)
     }
 
     fn used_lines(&mut self, alloc: Global, id: InterId) -> Result<Vec<UsedLine>, ShelfFault>

@@ -9,7 +9,7 @@ use cabinet_core::{Day, Inspection, OverdueRow, Seen, overdue_row};
 use signal_records::{InterId, NoMemory};
 
 /// The later of a day and what there is besides.
-fn later(day: Day, last: Option<Day>) -> Day
+pub(crate) fn later(day: Day, last: Option<Day>) -> Day
     ensures { result ≡ greater day last }
 {
     match last {
@@ -19,7 +19,7 @@ fn later(day: Day, last: Option<Day>) -> Day
 }
 
 /// The latest day of some inspections, if there is one.
-fn latest(inspections: &[Inspection]) -> Option<Day>
+pub(crate) fn latest(inspections: &[Inspection]) -> Option<Day>
     ensures { result ≡ latest_day inspections.now }
 {
     let mut latest = None;
@@ -29,21 +29,21 @@ fn latest(inspections: &[Inspection]) -> Option<Day>
     latest
 }
 
-/// Adds the row of an intersection with these inspections, if it is overdue on the day.
+/// Adds the row of an intersection that was last inspected on this day, if it is overdue on the day.
 pub(crate) fn add_overdue(
     found: &mut Vec<OverdueRow>,
     day: Day,
     id: InterId,
     row: &IntersectionRow,
-    inspections: &[Inspection],
+    last: Option<Day>,
 ) -> Result<(), NoMemory>
-    ensures { OnOk result (map listed found.new.items ≡ map listed found.old.items ++ overdue_list day (seen_row id row.now inspections.now ∷ [])) }
+    ensures { OnOk result (map listed found.new.items ≡ map listed found.old.items ++ overdue_list day (seen_row id row.now last ∷ [])) }
 {
     let seen = Seen {
         id,
         name: row.name.clone()?,
         interval: row.interval,
-        last: latest(inspections),
+        last,
     };
     if let Some(late) = overdue_row(day, &seen)? {
         found.push(late)?;

@@ -3,16 +3,16 @@ ghost use Rattle.std.specs.Prelude.{◌≡◌, ◌≢◌, ◌⊎◌, IfOk, OnOk,
 ghost use Rattle.office_tables_shelf.specs.Content.{Content};
 ghost use Rattle.office_tables_shelf.specs.Change.{changed_by};
 ghost use Rattle.office_tables_shelf.specs.Counts.{count_of, counts_after};
-ghost use Rattle.office_tables_shelf.specs.Shelf.{IsKept, ReadsIntersection, ListsIntersections, ListsTiming, ListsDraft};
+ghost use Rattle.office_tables_shelf.specs.Shelf.{IsKept, ReadsIntersection, ListsIntersections, ListsTiming, CountsTiming, ListsDraft};
 ghost use Rattle.office_tables_shelf.specs.Damage.{HasDamagedIntersection, HasAnyDamagedIntersection, HasDamagedTiming, HasDamagedDraft};
-ghost use Rattle.office_tables_shelf.specs.CabinetReads.{ListsInspections, HasDamagedInspection, HasAnyDamagedInspection, ListsOrders, HasDamagedOrder, ListsUsed, HasDamagedUsed, ReadsDelivery, HasDamagedDelivery, ReadsHand, HasDamagedHand, ListsParts, HasDamagedPart};
-ghost use Rattle.office_tables_shelf.specs.Overdue.{ListsOverdue};
+ghost use Rattle.office_tables_shelf.specs.CabinetReads.{ReadsInspection, HasDamagedInspectionAt, ListsInspections, HasDamagedInspection, HasAnyDamagedInspection, ReadsOrder, HasDamagedOrderAt, ListsOrders, HasDamagedOrder, ReadsUsed, HasDamagedUsedAt, ListsUsed, HasDamagedUsed, ReadsDelivery, HasDamagedDelivery, ReadsHand, HasDamagedHand, ListsParts, HasDamagedPart};
+ghost use Rattle.office_tables_shelf.specs.Overdue.{ReadsLast, ListsOverdue};
 ghost use Rattle.office_tables_shelf.specs.declared.counts.WriteCounts.{WriteCounts};
 
-use crate::overdue::add_overdue;
+use crate::overdue::{add_overdue, latest};
 use crate::rows::{IntersectionRow, RowChange, Table};
 use cabinet_core::{Day, Delivery, Hand, Inspection, Order, OverdueRow, PartCode, UsedLine};
-use signal_records::{Change, InterId, NoMemory, RecordNo, Row};
+use signal_records::{Change, InterId, LineNo, NoMemory, RecordNo, Row};
 use std::alloc::Global;
 
 /// Why a call of a shelf failed.
@@ -76,10 +76,27 @@ pub trait Shelf {
         ensures damaged { result ≡ Err ShelfFault.Damaged → is_honest self.new → HasDamagedTiming (content self.old) id }
         ensures kept { IsKept is_honest content written may_leave self.old self.new };
 
+    /// How many committed rows an intersection has, whether or not each of them is a record.
+    fn committed_count(&mut self, alloc: Global, id: InterId) -> Result<usize, ShelfFault>
+        ensures count { IfOk result (λ count. is_honest self.new → CountsTiming (content self.old) id count) }
+        ensures undamaged { result ≢ Err ShelfFault.Damaged }
+        ensures kept { IsKept is_honest content written may_leave self.old self.new };
+
     /// The draft rows of an intersection, in the order of their keys.
     fn draft_rows(&mut self, alloc: Global, id: InterId) -> Result<Vec<Change>, ShelfFault>
         ensures rows { IfOk result (λ rows. is_honest self.new → ListsDraft (content self.old) id rows.items) }
         ensures damaged { result ≡ Err ShelfFault.Damaged → is_honest self.new → HasDamagedDraft (content self.old) id }
+        ensures kept { IsKept is_honest content written may_leave self.old self.new };
+
+    /// The inspection of an intersection's cabinet with a number, if there is one.
+    fn inspection(
+        &mut self,
+        alloc: Global,
+        id: InterId,
+        number: RecordNo,
+    ) -> Result<Option<Inspection>, ShelfFault>
+        ensures row { IfOk result (λ found. is_honest self.new → ReadsInspection (content self.old) id number found) }
+        ensures damaged { result ≡ Err ShelfFault.Damaged → is_honest self.new → HasDamagedInspectionAt (content self.old) id number }
         ensures kept { IsKept is_honest content written may_leave self.old self.new };
 
     /// The inspections of an intersection's cabinet, in the order of their numbers.
@@ -87,6 +104,16 @@ pub trait Shelf {
         ensures rows { IfOk result (λ found. is_honest self.new → ListsInspections (content self.old) id found.items) }
         ensures damaged { result ≡ Err ShelfFault.Damaged → is_honest self.new → HasDamagedInspection (content self.old) id }
         ensures kept { IsKept is_honest content written may_leave self.old self.new };
+
+    /// The day of an intersection's latest inspection, if there is one.
+    fn last_inspection(&mut self, alloc: Global, id: InterId) -> Result<Option<Day>, ShelfFault>
+        ensures day { IfOk result (λ last. is_honest self.new → ReadsLast (content self.old) id last) }
+        ensures damaged { result ≡ Err ShelfFault.Damaged → is_honest self.new → HasDamagedInspection (content self.old) id }
+        ensures kept { IsKept is_honest content written may_leave self.old self.new }
+    {
+        let inspections = self.inspections(alloc, id)?;
+        Ok(latest(inspections.as_slice()))
+    }
 
     /// The first `most` of the intersections that are overdue for an inspection on a day, in the
     /// order of their numbers. Rows past those need not be read.
@@ -106,16 +133,39 @@ pub trait Shelf {
             if found.len() == most {
                 break;
             }
-            let inspections = self.inspections(alloc, *id)?;
-            add_overdue(&mut found, day, *id, row, inspections.as_slice())?;
+            let last = self.last_inspection(alloc, *id)?;
+            add_overdue(&mut found, day, *id, row, last)?;
         }
         Ok(found)
     }
+
+    /// The order on an intersection with a number, if there is one.
+    fn order(
+        &mut self,
+        alloc: Global,
+        id: InterId,
+        number: RecordNo,
+    ) -> Result<Option<Order>, ShelfFault>
+        ensures row { IfOk result (λ found. is_honest self.new → ReadsOrder (content self.old) id number found) }
+        ensures damaged { result ≡ Err ShelfFault.Damaged → is_honest self.new → HasDamagedOrderAt (content self.old) id number }
+        ensures kept { IsKept is_honest content written may_leave self.old self.new };
 
     /// The orders on an intersection, in the order of their numbers.
     fn orders(&mut self, alloc: Global, id: InterId) -> Result<Vec<Order>, ShelfFault>
         ensures rows { IfOk result (λ found. is_honest self.new → ListsOrders (content self.old) id found.items) }
         ensures damaged { result ≡ Err ShelfFault.Damaged → is_honest self.new → HasDamagedOrder (content self.old) id }
+        ensures kept { IsKept is_honest content written may_leave self.old self.new };
+
+    /// The part used for an order on an intersection in a line, if there is one.
+    fn used_line(
+        &mut self,
+        alloc: Global,
+        id: InterId,
+        order: RecordNo,
+        line: LineNo,
+    ) -> Result<Option<UsedLine>, ShelfFault>
+        ensures row { IfOk result (λ found. is_honest self.new → ReadsUsed (content self.old) id order line found) }
+        ensures damaged { result ≡ Err ShelfFault.Damaged → is_honest self.new → HasDamagedUsedAt (content self.old) id order line }
         ensures kept { IsKept is_honest content written may_leave self.old self.new };
 
     /// The parts used for the orders on an intersection, in the order of orders and lines.

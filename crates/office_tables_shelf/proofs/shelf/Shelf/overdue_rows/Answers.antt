@@ -2,8 +2,8 @@ use Rattle.std.proofs.Common.{◌≡◌, ◌++◌, ◌∙◌, [], ◌∷◌, Err
 use Rattle.std.proofs.lemmas.Result.{err_from_is_err_and}
 use Rattle.cabinet_core.specs.Overdue.{listed, overdue_list}
 use Rattle.cabinet_core.specs.declared.inspections.OverdueRow.{OverdueRow}
-use Rattle.office_tables_shelf.specs.CabinetReads.{HasDamagedInspection, ListsInspections}
-use Rattle.office_tables_shelf.specs.Overdue.{seen_row}
+use Rattle.office_tables_shelf.specs.CabinetReads.{HasDamagedInspection}
+use Rattle.office_tables_shelf.specs.Overdue.{ReadsLast, seen_row}
 use Rattle.office_tables_shelf.specs.Shelf.{ListsIntersections}
 use Rattle.office_tables_shelf.specs.declared.shelf.ShelfFault.TheVariants.{Damaged}
 use Rattle.office_tables_shelf.proofs.KeptLemmas.{kept_on}
@@ -19,25 +19,25 @@ loop-id-init g c = record {
   kept = c.intersections.ensures.kept;
 }
 
-pub returns-in_err-inspections-clause-damaged : goal.returns-in_err-inspections-clause-damaged
-returns-in_err-inspections-clause-damaged g c = λ is honest.
-    let answer = c.from_residual-in_err-inspections in
+pub returns-in_err-last-clause-damaged : goal.returns-in_err-last-clause-damaged
+returns-in_err-last-clause-damaged g c = λ is honest.
+    let answer = c.from_residual-in_err-last in
     let told = err_from_is_err_and answer.result answer.ensures.1 in
-    let fault : told.0 ≡ c.in_err-inspections.field-0.0 = told.2 in
-    let damaged : c.in_err-inspections.field-0.0 ≡ Damaged = cc in
-    let before = c.inspections.ensures.kept.honest_before honest in
-    let found = c.in_err-inspections.ensures.damaged (ap Err damaged) honest in
+    let fault : told.0 ≡ c.in_err-last.field-0.0 = told.2 in
+    let damaged : c.in_err-last.field-0.0 ≡ Damaged = cc in
+    let before = c.last_inspection.ensures.kept.honest_before honest in
+    let found = c.in_err-last.ensures.damaged (ap Err damaged) honest in
     inr (c.loop-id-item.result.0, subst (λ t. HasDamagedInspection t c.loop-id-item.result.0) (c.loop-id.invariant.kept.same_content before) found)
 
-pub returns-in_err-inspections-clause-kept : goal.returns-in_err-inspections-clause-kept
-returns-in_err-inspections-clause-kept g c =
+pub returns-in_err-last-clause-kept : goal.returns-in_err-last-clause-kept
+returns-in_err-last-clause-kept g c =
     let shelf = g.Self.Shelf in
-    kept_on shelf.is_honest shelf.content shelf.written shelf.may_leave c.args.self.now c.loop-id.self c.inspections.new.self c.loop-id.invariant.kept c.inspections.ensures.kept
+    kept_on shelf.is_honest shelf.content shelf.written shelf.may_leave c.args.self.now c.loop-id.self c.last_inspection.new.self c.loop-id.invariant.kept c.last_inspection.ensures.kept
 
 pub returns-in_err-add_overdue-clause-kept : goal.returns-in_err-add_overdue-clause-kept
 returns-in_err-add_overdue-clause-kept g c =
     let shelf = g.Self.Shelf in
-    kept_on shelf.is_honest shelf.content shelf.written shelf.may_leave c.args.self.now c.loop-id.self c.inspections.new.self c.loop-id.invariant.kept c.inspections.ensures.kept
+    kept_on shelf.is_honest shelf.content shelf.written shelf.may_leave c.args.self.now c.loop-id.self c.last_inspection.new.self c.loop-id.invariant.kept c.last_inspection.ensures.kept
 
 pub loop-id-preserved : goal.loop-id-preserved
 loop-id-preserved g c =
@@ -45,22 +45,22 @@ loop-id-preserved g c =
     let rows = c.as_slice-id-items.result.now in
     let tables = shelf.content c.args.self.now in
     let e = c.loop-id-item.result in
-    let inspections = c.in_ok-inspections.inspections.items in
-    let next = seen_row e.0 e.1 inspections in
+    let last = c.in_ok-last.last in
+    let next = seen_row e.0 e.1 last in
     let old = c.loop-id.found.items in
     let new = c.add_overdue.new.found.items in
     let added : map listed new ≡ map listed old ++ overdue_list c.args.day (next ∷ []) =
-    c.in_ok-add_overdue.ensures ∙ ap (λ list. map listed old ++ overdue_list c.args.day (seen_row e.0 e.1 list ∷ [])) c.as_slice.ensures.value in
+    c.in_ok-add_overdue.ensures in
     record {
-      read = λ honest. c.loop-id.invariant.read (c.inspections.ensures.kept.honest_before honest);
+      read = λ honest. c.loop-id.invariant.read (c.last_inspection.ensures.kept.honest_before honest);
       rows = λ honest seen all.
-          let before = c.inspections.ensures.kept.honest_before honest in
-          let lists = subst (λ t. ListsInspections t e.0 inspections) (c.loop-id.invariant.kept.same_content before) (c.in_ok-inspections.ensures.rows honest) in
+          let before = c.last_inspection.ensures.kept.honest_before honest in
+          let reads = subst (λ t. ReadsLast t e.0 last) (c.loop-id.invariant.kept.same_content before) (c.in_ok-last.ensures.day honest) in
           let count = seen_length tables rows seen all in
           overdue_more c.args.day seen c.loop-id.id-index next old new (omega arith)
-          (seen_at tables rows seen c.loop-id.id-index e inspections all c.loop-id-test.true c.loop-id-item.is lists) (c.loop-id.invariant.rows before seen all) added;
+          (seen_at tables rows seen c.loop-id.id-index e last all c.loop-id-test.true c.loop-id-item.is reads) (c.loop-id.invariant.rows before seen all) added;
       short = still_short c.args.day c.args.most next old new (omega arith) added;
-      kept = kept_on shelf.is_honest shelf.content shelf.written shelf.may_leave c.args.self.now c.loop-id.self c.inspections.new.self c.loop-id.invariant.kept c.inspections.ensures.kept;
+      kept = kept_on shelf.is_honest shelf.content shelf.written shelf.may_leave c.args.self.now c.loop-id.self c.last_inspection.new.self c.loop-id.invariant.kept c.last_inspection.ensures.kept;
     }
 
 pub returns-clause-rows : goal.returns-clause-rows

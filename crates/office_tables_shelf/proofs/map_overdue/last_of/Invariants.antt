@@ -1,0 +1,9 @@
+use Rattle.std.proofs.Common.{◌≡◌}
+use Rattle.office_tables_shelf.specs.Overdue.{latest_day}
+use Rattle.office_tables_shelf.proofs.CabinetLemmas.{records_under, record_inter}
+use Rattle.office_tables_shelf.proofs.OverdueLemmas.{latest_with}
+use Rattle.office_tables_shelf.proofs.map_overdue.last_of.Given as goal
+
+-- the latest day so far, with those of the entries that are left
+abbrev pub invariant-loop-place : goal.invariant-loop-place
+invariant-loop-place l = latest_with l.last (latest_day (records_under record_inter l.inter l.place-iterator)) ≡ latest_day (records_under record_inter l.inter l.rows.entries)

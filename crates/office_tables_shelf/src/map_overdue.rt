@@ -1,0 +1,50 @@
+//! The overdue intersections of the tables in memory.
+ghost use Rattle.std.specs.Prelude.{◌≡◌, IfOk};
+ghost use Rattle.office_tables_shelf.specs.Content.{Content, no_content};
+ghost use Rattle.office_tables_shelf.specs.MapCabinet.{inspection_rows, AreInspectionsPlaced};
+ghost use Rattle.office_tables_shelf.specs.MapShelf.{intersection_rows};
+ghost use Rattle.office_tables_shelf.specs.Overdue.{ReadsLast, ListsOverdue};
+
+use crate::map_rows::all_intersections;
+use crate::overdue::{add_overdue, later};
+use crate::place::RecordPlace;
+use crate::rows::IntersectionRow;
+use cabinet_core::{Day, Inspection, OverdueRow};
+use signal_records::{InterId, NoMemory};
+use std::alloc::Global;
+use std::collections::BTreeMap;
+
+/// The day of an intersection's latest inspection, if there is one.
+pub(crate) fn last_of(rows: &BTreeMap<RecordPlace, Inspection>, inter: InterId) -> Option<Day>
+    ensures { AreInspectionsPlaced rows.now.entries → ReadsLast (record no_content { inspection = inspection_rows rows.now.entries }) inter result }
+{
+    let mut last = None;
+    for (place, inspection) in rows {
+        if place.inter == inter {
+            last = Some(later(inspection.day, last));
+        }
+    }
+    last
+}
+
+/// The first `most` of the intersections that are overdue for an inspection on a day.
+pub(crate) fn overdue_of(
+    alloc: Global,
+    rows: &BTreeMap<InterId, IntersectionRow>,
+    inspections: &BTreeMap<RecordPlace, Inspection>,
+    day: Day,
+    most: usize,
+) -> Result<Vec<OverdueRow>, NoMemory>
+    ensures { IfOk result (λ found. AreInspectionsPlaced inspections.now.entries → (tables : Content) → tables.intersection ≡ intersection_rows rows.now.entries → tables.inspection ≡ inspection_rows inspections.now.entries → ListsOverdue tables day most found.items) }
+{
+    let list = all_intersections(alloc, rows)?;
+    let mut found = Vec::new(alloc);
+    for (id, row) in list.as_slice() {
+        if found.len() == most {
+            break;
+        }
+        let last = last_of(inspections, *id);
+        add_overdue(&mut found, day, *id, row, last)?;
+    }
+    Ok(found)
+}
