@@ -16,9 +16,11 @@ use cabinet_core::{Delivery, Hand, Inspection, Order, PartCode, UsedLine};
 use office_tables_shelf::counts::WriteCounts;
 use office_tables_shelf::rows::{IntersectionRow, RowChange, Table};
 use office_tables_shelf::shelf::{Shelf, ShelfFault};
-use office_tables_sql::{delivery, each_row, intersection, intersection_list, part};
-use signal_records::{Change, InterId, RecordNo, Row};
-use sqlite::{Alter, Connection};
+use office_tables_sql::{
+    delivery, each_row, intersection, intersection_list, part, stored_row, timing,
+};
+use signal_records::{Change, InterId, LineNo, RecordNo, Row};
+use sqlite::{Alter, Connection, params};
 use std::alloc::Global;
 use std::marker::Model;
 
@@ -139,16 +141,50 @@ impl<S: Alter> Shelf for SqlShelf<S> {
         each_row::list(alloc, &mut self.conn, id)
     }
 
+    fn committed_count(&mut self, _alloc: Global, id: InterId) -> Result<usize, ShelfFault> {
+        let count = timing::count(&mut self.conn, id)?;
+        Ok(count)
+    }
+
     fn draft_rows(&mut self, alloc: Global, id: InterId) -> Result<Vec<Change>, ShelfFault> {
         each_row::list(alloc, &mut self.conn, id)
+    }
+
+    fn inspection(
+        &mut self,
+        alloc: Global,
+        id: InterId,
+        number: RecordNo,
+    ) -> Result<Option<Inspection>, ShelfFault> {
+        stored_row::find(alloc, &mut self.conn, id, params![id.get(), number.get()])
     }
 
     fn inspections(&mut self, alloc: Global, id: InterId) -> Result<Vec<Inspection>, ShelfFault> {
         each_row::list(alloc, &mut self.conn, id)
     }
 
+    fn order(
+        &mut self,
+        alloc: Global,
+        id: InterId,
+        number: RecordNo,
+    ) -> Result<Option<Order>, ShelfFault> {
+        stored_row::find(alloc, &mut self.conn, id, params![id.get(), number.get()])
+    }
+
     fn orders(&mut self, alloc: Global, id: InterId) -> Result<Vec<Order>, ShelfFault> {
         each_row::list(alloc, &mut self.conn, id)
+    }
+
+    fn used_line(
+        &mut self,
+        alloc: Global,
+        id: InterId,
+        order: RecordNo,
+        line: LineNo,
+    ) -> Result<Option<UsedLine>, ShelfFault> {
+        let key = params![id.get(), order.get(), line.get()];
+        stored_row::find(alloc, &mut self.conn, id, key)
     }
 
     fn used_lines(&mut self, alloc: Global, id: InterId) -> Result<Vec<UsedLine>, ShelfFault> {

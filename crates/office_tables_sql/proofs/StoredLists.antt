@@ -47,7 +47,7 @@ module _ (t : Table) (is_own : is_keyed t ≡ true) (db : Database) (is : db.sch
       let free = unique_by office_schema db.trees obeys (schema_at t) (is_listed t) facts.index facts.has facts.guard row there in
       subst (λ columns. clashes plain columns (db.trees (schema_at t).tree) row ≡ false) facts.columns (subst (λ order. clashes order facts.index.columns (db.trees (schema_at t).tree) row ≡ false) facts.order free)
 
-  distinct : IsDistinct (eq_by_cmp cells_cmp) (map (cells_at (layout_at t).keys) (db.trees (schema_at t).tree))
+  pub distinct : IsDistinct (eq_by_cmp cells_cmp) (map (cells_at (layout_at t).keys) (db.trees (schema_at t).tree))
   distinct = distinct_keys (layout_at t) (db.trees (schema_at t).tree) shaped own_keys unique
 
   -- that tree, in a query

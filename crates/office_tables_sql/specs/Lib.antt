@@ -9,3 +9,5 @@ pub mod CabinetShown
 pub mod InspectionTexts
 pub mod UsedTexts
 pub mod OrderTexts
+pub mod TimingTexts
+pub mod DraftTexts

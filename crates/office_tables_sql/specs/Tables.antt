@@ -1,8 +1,8 @@
--- The eight tables by their names: where each keeps its rows, and what its two statements mean.
+-- The eight tables by their names: where each keeps its rows, and what its statements mean.
 use Rattle.std.specs.Prelude.{◌≡◌, ◌≢◌, ℕ, suc, ℤ, pos, negsuc, Bool, true, false, ◌&&◌, List, [], ◌∷◌, ◌++◌, map, length, Option, Some, None, IfSome, Ok}
 use Rattle.std.specs.Option.{option_map}
-use Rattle.std.specs.FinMap.{get, insert}
-use Rattle.sqlite.specs.Command.TheVariants.{Select, InsertOr}
+use Rattle.std.specs.FinMap.{get, insert, remove}
+use Rattle.sqlite.specs.Command.TheVariants.{Select, InsertOr, Delete}
 use Rattle.sqlite.specs.Kind.{Kind}
 use Rattle.sqlite.specs.Kind.TheVariants as kind
 use Rattle.sqlite.specs.declared.types.Value.{Value}
@@ -19,9 +19,13 @@ use Rattle.sqlite.specs.Term.{Term, lit, col, op2}
 use Rattle.sqlite.specs.Collation.TheVariants.{Binary}
 use Rattle.sqlite_schema.specs.declared.schema.Column.{Column}
 use Rattle.sqlite_schema.specs.declared.command.Conflict.TheVariants.{Replace}
+use Rattle.sqlite_sql.specs.Group.{Grouping}
+use Rattle.sqlite_sql.specs.declared.aggregate.AggregateOp.TheVariants.{CountRows}
 use Rattle.sqlite_sql.specs.declared.ops.BinaryOp.TheVariants.{Compare}
 use Rattle.sqlite_sql.specs.declared.ops.CompareOp.TheVariants.{Eq}
 use Rattle.sqlite_value.specs.Keys.{ascending}
+use Rattle.signal_records.specs.Key.{kind_of, first_of, second_of}
+use Rattle.signal_records.specs.declared.key.Key.{Key}
 use Rattle.office_tables_shelf.specs.Cells.{Cell, Rows, null, number, text, odd}
 use Rattle.office_tables_shelf.specs.Content.{Content}
 use Rattle.office_tables_shelf.specs.Shelf.{is_of, rows_of}
@@ -162,7 +166,11 @@ pub record IsUnder (t : Table) (tables : Content) (key : List Cell) (found : Opt
 abbrev pub put_in : Content → Table → List Cell → List Cell → Content
 put_in tables t key columns = with_rows tables t (insert (rows_at tables t) key columns)
 
--- ---- the two statements
+-- the row under the key is gone
+abbrev pub remove_in : Content → Table → List Cell → Content
+remove_in tables t key = with_rows tables t (remove (rows_at tables t) key)
+
+-- ---- the statements
 
 -- the rows whose first key column is the parameter
 abbrev pub of_parameter : List Term
@@ -186,6 +194,30 @@ pub record IsListText (t : Table) (sql : List ℕ) : Type 0 where
   pub keyed : is_keyed t ≡ true
   pub names : List (List ℕ)
   pub is : command_of (understood office_schema sql) ≡ Select (record { lets = []; body = listed_by (layout_at t) of_parameter }) names
+  pub query : IsQuery sql
+
+-- how many rows pass
+abbrev pub counting : Grouping
+counting = record { keys = []; collations = []; aggregates = record { op = CountRows; distinct = false; collation = Binary; argument = lit Null } ∷ []; having = [] }
+
+abbrev pub counted_by : Layout → List Term → Query
+counted_by t filter = record {
+  from = inner t.tree end;
+  filter = filter;
+  group = Some counting;
+  project = col 1 0 ∷ [];
+  distinct = false;
+  collations = [];
+  order = [];
+  limit = lit (Int (negsuc 0));
+  offset = lit (Int (pos 0));
+}
+
+-- the text counts the rows of a parameter
+pub record IsCountText (t : Table) (sql : List ℕ) : Type 0 where
+  pub keyed : is_keyed t ≡ true
+  pub names : List (List ℕ)
+  pub is : command_of (understood office_schema sql) ≡ Select (record { lets = []; body = counted_by (layout_at t) of_parameter }) names
   pub query : IsQuery sql
 
 -- the rows whose key columns are the parameters
@@ -231,6 +263,16 @@ pub record IsPutText (t : Table) (sql : List ℕ) : Type 0 where
   pub keyed : is_keyed t ≡ true
   pub is : command_of (understood office_schema sql) ≡ InsertOr (place_at t) Replace (source_at t) []
   pub plain : IsWriting sql
+
+-- the text removes the row whose key is the parameters
+pub record IsRemoveText (t : Table) (sql : List ℕ) : Type 0 where
+  pub keyed : is_keyed t ≡ true
+  pub is : command_of (understood office_schema sql) ≡ Delete (place_at t) (record { lets = []; body = found_by (layout_at t) (0 ∷ []) })
+  pub plain : IsWriting sql
+
+-- a key of timing as its columns are bound
+abbrev pub key_values : ℕ → Key → Row
+key_values id key = Int (pos id) ∷ Int (pos (kind_of key)) ∷ Int (pos (first_of key)) ∷ Int (pos (second_of key)) ∷ []
 
 -- ---- what is bound for cells
 

@@ -1,31 +1,24 @@
 //! The table `work_order`: the orders on each cabinet.
 
-ghost use Rattle.std.specs.Prelude.{◌≡◌, ◌≢◌, length, Option, IfOk, IfSome, OnOk};
-ghost use Rattle.std.specs.FinMap.{insert};
-ghost use Rattle.sqlite.specs.State.{HasCleanDisk, Survives};
-ghost use Rattle.sqlite.specs.Held.{state};
+ghost use Rattle.std.specs.Prelude.{◌≡◌, ◌≢◌, length, Option, IfOk, IfSome};
 ghost use Rattle.sqlite.specs.Order.{column};
 ghost use Rattle.sqlite.specs.Values.{bound_value};
 ghost use Rattle.sqlite_value.specs.Value.{owned};
 ghost use Rattle.cabinet_core.specs.Within.{IsClosingWithin};
 ghost use Rattle.cabinet_core.specs.declared.record.Closing.{Closing};
-ghost use Rattle.office_tables_shelf.specs.CabinetReads.{ListsOrders, HasDamagedOrder};
 ghost use Rattle.office_tables_shelf.specs.CabinetRows.{order_key, order_columns, closed_cell, closer_cell};
-ghost use Rattle.office_tables_sql.specs.Stored.{cell_of, content_now};
-ghost use Rattle.office_tables_sql.specs.Calls.{IsHonest, IsOffice, IsReady, Keeps, StandsOn};
+ghost use Rattle.office_tables_sql.specs.Stored.{cell_of};
 ghost use Rattle.office_tables_sql.specs.Tables.{value_of};
 
-use crate::each_row;
 use crate::listed::check_number;
-use crate::statement::SqlFault;
-use crate::stored_row::{self, StoredRow};
+use crate::stored_row::StoredRow;
 use crate::value::{check_null, day_at, ranged_at, words_at, words_or_null_at};
 use cabinet_core::{Closing, Order};
 use office_tables_shelf::shelf::ShelfFault;
-use signal_records::{InterId, Words};
+use signal_records::{InterId, NoMemory, Words};
+use sqlite::Row;
 use sqlite::types::{ToSql, ValueRef};
-use sqlite::{Alter, Connection, Row, Transaction};
-use std::alloc::{AllocError, Global};
+use std::alloc::Global;
 
 const LIST: &str =
     "SELECT inter, number, opened, clerk, body, closed, closer FROM work_order WHERE inter = ?1 ORDER BY inter, number";
@@ -97,7 +90,7 @@ impl StoredRow for Order {
         alloc: Global,
         id: InterId,
         _text: &'a mut String,
-    ) -> Result<Vec<ValueRef<'a>>, AllocError> {
+    ) -> Result<Vec<ValueRef<'a>>, NoMemory> {
         let id = id.get().to_sql();
         let number = self.number.get().to_sql();
         let opened = self.opened.number().to_sql();
@@ -107,21 +100,6 @@ impl StoredRow for Order {
         let closer = closer_of(&self.closing);
         Ok(vec![in alloc; id, number, opened, clerk, text, closed, closer]?)
     }
-}
-
-/// The orders on the intersection, in the order of their numbers.
-pub fn orders<S: Alter>(
-    alloc: Global,
-    conn: &mut Connection<S>,
-    id: InterId,
-) -> Result<Vec<Order>, ShelfFault>
-    requires { IsOffice (state S.Store conn.old) }
-    ensures rows { IfOk result (λ found. IsHonest (state S.Store conn.new) → ListsOrders (content_now (state S.Store conn.old)) id found.items) }
-    ensures damaged { result ≡ Err ShelfFault.Damaged → IsHonest (state S.Store conn.new) → HasDamagedOrder (content_now (state S.Store conn.old)) id }
-    ensures kept { Keeps (state S.Store conn.old) (state S.Store conn.new) }
-    ensures crash { Survives (state S.Store conn.old) (state S.Store conn.new) (λ _. ⊥) }
-{
-    each_row::list(alloc, conn, id)
 }
 
 /// The closing in the last two columns, which are both NULL while the order is open.
@@ -138,24 +116,6 @@ fn closing_at(alloc: Global, row: &Row) -> Result<Option<Closing>, ShelfFault>
     };
     let day = day_at(row, 5)?;
     Ok(Some(Closing { day, closer }))
-}
-
-/// Puts an order on the intersection under its number.
-pub fn put<S: Alter>(
-    alloc: Global,
-    tx: &mut Transaction<'_, S>,
-    id: InterId,
-    order: &Order,
-) -> Result<(), SqlFault>
-    ensures same_reference { tx.new.conn.ghost_name ≡ tx.old.conn.ghost_name }
-    ensures ready { HasCleanDisk (state S.Store tx.new.conn.now) → OnOk result (IsReady (state S.Store tx.old.conn.now) → IsReady (state S.Store tx.new.conn.now)) }
-    ensures put { HasCleanDisk (state S.Store tx.new.conn.now) → OnOk result (IsReady (state S.Store tx.old.conn.now) → content_now (state S.Store tx.new.conn.now) ≡ record (content_now (state S.Store tx.old.conn.now)) {
-      work_order = insert (content_now (state S.Store tx.old.conn.now)).work_order (order_key id order.now.number) (order_columns order.now);
-    }) }
-    ensures stands { StandsOn (state S.Store tx.old.conn.now) (state S.Store tx.new.conn.now) }
-    ensures crash { Survives (state S.Store tx.old.conn.now) (state S.Store tx.new.conn.now) (λ _. ⊥) }
-{
-    stored_row::put(alloc, tx, id, order)
 }
 
 /// The day that is stored for the closing.

@@ -4,18 +4,20 @@ ghost use Rattle.std.specs.Prelude.{◌≡◌, ◌++◌, ℕ, List, length, IfOk
 ghost use Rattle.sqlite.specs.State.{HasCleanDisk, Survives};
 ghost use Rattle.sqlite.specs.Held.{state};
 ghost use Rattle.sqlite.specs.Values.{bound};
+ghost use Rattle.signal_records.specs.declared.key.Key.{Key};
 ghost use Rattle.office_tables_shelf.specs.Cells.{Cell};
+ghost use Rattle.office_tables_shelf.specs.Rows.{timing_key};
 ghost use Rattle.office_tables_shelf.specs.declared.rows.Table.{Table};
 ghost use Rattle.office_tables_sql.specs.Stored.{content_now};
 ghost use Rattle.office_tables_sql.specs.Calls.{IsHonest, IsOffice, IsReady, Keeps, StandsOn};
-ghost use Rattle.office_tables_sql.specs.Tables.{put_in, key_shown, columns_shown, width_of, key_given, IsKeyOf, IsUnder, ReadsRow, HasDamagedUnder, IsNoRow, IsListText, IsFindText, IsPutText, Fits, values_of};
+ghost use Rattle.office_tables_sql.specs.Tables.{put_in, remove_in, key_values, key_shown, columns_shown, width_of, key_given, IsKeyOf, IsUnder, ReadsRow, HasDamagedUnder, IsNoRow, IsListText, IsFindText, IsPutText, IsRemoveText, Fits, values_of};
 
 use crate::statement::{SqlFault, select_one, write};
 use office_tables_shelf::shelf::ShelfFault;
-use signal_records::InterId;
+use signal_records::{InterId, Key, NoMemory};
 use sqlite::types::ValueRef;
-use sqlite::{Alter, Connection, Row, Transaction};
-use std::alloc::{AllocError, Global};
+use sqlite::{Alter, Connection, Row, Transaction, params};
+use std::alloc::Global;
 
 /// A row of an intersection in one table.
 pub trait StoredRow: Sized + Drop {
@@ -55,7 +57,7 @@ pub trait StoredRow: Sized + Drop {
         alloc: Global,
         id: InterId,
         text: &'a mut String,
-    ) -> Result<Vec<ValueRef<'a>>, AllocError>
+    ) -> Result<Vec<ValueRef<'a>>, NoMemory>
         ensures { IfOk result (λ values. bound values.items ≡ values_of (key id self.now ++ columns self.now)) };
 
     ghost lists: { IsListText table list_text };
@@ -65,6 +67,19 @@ pub trait StoredRow: Sized + Drop {
     ghost puts: { IsPutText table put_text };
 
     ghost fits: { (id : ℕ) (x : Self) → Fits table (key id x) (columns x) };
+}
+
+/// A row under a key of timing, which may be removed.
+pub trait TimingKeyed: StoredRow {
+    /// The statement that removes the row under a key.
+    ghost remove_text: { List ℕ };
+
+    fn remove_text() -> &'static str
+        ensures { result.now ≡ remove_text };
+
+    ghost removes: { IsRemoveText Self.table remove_text };
+
+    ghost keyed: { (id : ℕ) (key : Key) → (IsKeyOf Self.table (key_values id key)) × (key_given Self.table (key_values id key) ≡ timing_key id key) };
 }
 
 /// The row of the intersection under a key, if there is one.
@@ -119,5 +134,24 @@ pub fn put<T: StoredRow, S: Alter>(
         return Err(SqlFault::NoMemory);
     };
     write(tx, T::put_text(), values.as_slice())?;
+    Ok(())
+}
+
+/// Removes the row of the intersection under the key, if there is one.
+pub fn remove<T: TimingKeyed, S: Alter>(
+    tx: &mut Transaction<'_, S>,
+    id: InterId,
+    key: &Key,
+) -> Result<(), SqlFault>
+    ensures same_reference { tx.new.conn.ghost_name ≡ tx.old.conn.ghost_name }
+    ensures ready { HasCleanDisk (state S.Store tx.new.conn.now) → OnOk result (IsReady (state S.Store tx.old.conn.now) → IsReady (state S.Store tx.new.conn.now)) }
+    ensures removed { HasCleanDisk (state S.Store tx.new.conn.now) → OnOk result (IsReady (state S.Store tx.old.conn.now) → content_now (state S.Store tx.new.conn.now) ≡ remove_in (content_now (state S.Store tx.old.conn.now)) T.table (timing_key id key.now)) }
+    ensures stands { StandsOn (state S.Store tx.old.conn.now) (state S.Store tx.new.conn.now) }
+    ensures crash { Survives (state S.Store tx.old.conn.now) (state S.Store tx.new.conn.now) (λ _. ⊥) }
+{
+    let kind = key.kind();
+    let first = key.first();
+    let second = key.second();
+    write(tx, T::remove_text(), params![id.get(), kind, first, second])?;
     Ok(())
 }
