@@ -9,7 +9,7 @@ ghost use Rattle.office_tables_sql.specs.Calls.{IsHonest, IsOffice, IsReady, Sta
 
 use office_tables_shelf::rows::RowChange;
 use office_tables_sql::statement::SqlFault;
-use office_tables_sql::{delivery, intersection, part, stored_row};
+use office_tables_sql::{intersection, part, stored_row};
 use signal_records::{Change, Row};
 use sqlite::{Alter, Connection, Transaction};
 use std::alloc::Global;
@@ -35,8 +35,8 @@ fn change_row<S: Alter>(
         RowChange::PutInspection(id, found) => stored_row::put(alloc, tx, *id, found),
         RowChange::PutOrder(id, found) => stored_row::put(alloc, tx, *id, found),
         RowChange::PutLine(id, line) => stored_row::put(alloc, tx, *id, line),
-        RowChange::PutPart(code, hand) => part::put(tx, code, *hand),
-        RowChange::PutDelivery(found) => delivery::put(tx, found),
+        RowChange::PutPart(code, hand) => part::put(alloc, tx, code, *hand),
+        RowChange::PutDelivery(found) => stored_row::put(alloc, tx, (), found),
     }
 }
 

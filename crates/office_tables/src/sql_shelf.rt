@@ -16,9 +16,7 @@ use cabinet_core::{Delivery, Hand, Inspection, Order, PartCode, UsedLine};
 use office_tables_shelf::counts::WriteCounts;
 use office_tables_shelf::rows::{IntersectionRow, RowChange, Table};
 use office_tables_shelf::shelf::{Shelf, ShelfFault};
-use office_tables_sql::{
-    delivery, each_row, intersection, intersection_list, part, stored_row, timing,
-};
+use office_tables_sql::{each_row, intersection, intersection_list, part, stored_row, timing};
 use signal_records::{Change, InterId, LineNo, RecordNo, Row};
 use sqlite::{Alter, Connection, params};
 use std::alloc::Global;
@@ -193,19 +191,20 @@ impl<S: Alter> Shelf for SqlShelf<S> {
 
     fn delivery(
         &mut self,
-        _alloc: Global,
+        alloc: Global,
         part: &PartCode,
         number: RecordNo,
     ) -> Result<Option<Delivery>, ShelfFault> {
-        delivery::delivery(&mut self.conn, part, number)
+        let key = params![part.as_str(), number.get()];
+        stored_row::find(alloc, &mut self.conn, (), key)
     }
 
-    fn hand(&mut self, _alloc: Global, part: &PartCode) -> Result<Option<Hand>, ShelfFault> {
-        part::hand(&mut self.conn, part)
+    fn hand(&mut self, alloc: Global, part: &PartCode) -> Result<Option<Hand>, ShelfFault> {
+        part::hand(alloc, &mut self.conn, part)
     }
 
     fn parts(&mut self, alloc: Global) -> Result<Vec<(PartCode, Hand)>, ShelfFault> {
-        part::parts(alloc, &mut self.conn)
+        each_row::list_all(alloc, &mut self.conn)
     }
 
     fn apply(&mut self, alloc: Global, changes: &[RowChange]) -> Result<(), ShelfFault> {

@@ -23,8 +23,3 @@ mod StoredCounts
 mod StoredPuts
 mod EachLemmas
 mod CodeReading
-mod PartPuts
-mod PartReads
-mod PartLists
-mod DeliveryPuts
-mod DeliveryReads

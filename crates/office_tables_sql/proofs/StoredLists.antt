@@ -1,8 +1,8 @@
--- The query that lists the rows of an intersection in a table, and what it shows.
-use Rattle.std.proofs.Common.{◌≡◌, ℕ, true, false, List, [], ◌∷◌, map, length, pos, sym, subst, ap, ◌∙◌}
+-- The query that lists rows of a table, and what it shows.
+use Rattle.std.proofs.Common.{◌≡◌, ℕ, true, false, List, [], ◌∷◌, map, length, sym, subst, ap, ◌∙◌}
 use Rattle.std.specs.List.{IsDistinct, AllByRecursion, Any}
 use Rattle.std.specs.Ordering.{eq_by_cmp}
-use Rattle.sqlite.specs.declared.types.Value.TheVariants.{Null, Int}
+use Rattle.sqlite.specs.declared.types.Value.TheVariants.{Null}
 use Rattle.sqlite.specs.Effect as effect
 use Rattle.sqlite.specs.Effect.{Database, IsDatabase}
 use Rattle.sqlite.specs.Order.{Row}
@@ -16,7 +16,6 @@ use Rattle.sqlite_schema.specs.Rules.{Obeys, clashes}
 use Rattle.sqlite_value.specs.Keys.{plain}
 use Rattle.office_tables_shelf.specs.Cells.{Cell, cells_cmp}
 use Rattle.office_tables_shelf.specs.Content.{Content}
-use Rattle.office_tables_shelf.specs.Shelf.{is_of, rows_of}
 use Rattle.office_tables_shelf.specs.declared.rows.Table.{Table}
 use Rattle.office_tables_sql.specs.Calls.{AreOrdered, Reads}
 use Rattle.office_tables_sql.specs.Schema.{office_schema}
@@ -25,7 +24,7 @@ use Rattle.office_tables_sql.proofs.StoredLemmas.{HaveKeys}
 use Rattle.office_tables_sql.proofs.SoundLemmas.{sound_keys}
 use Rattle.office_tables_sql.proofs.ListLemmas.{distinct_keys, unique_by}
 use Rattle.office_tables_sql.proofs.ListedLemmas.{listing, shown_width, stands}
-use Rattle.office_tables_sql.specs.Tables.{rows_at, layout_at, schema_at, is_keyed, key_shown, columns_shown, row_shown, width_of, of_parameter, listed_by, IsListText, IsNoRow, HasDamagedRow}
+use Rattle.office_tables_sql.specs.Tables.{rows_at, layout_at, schema_at, is_keyed, key_shown, columns_shown, row_shown, width_of, filter_of, params_of, is_among, rows_among, listed_by, IsListText, IsNoRow, HasDamagedRow}
 use Rattle.office_tables_sql.proofs.TableLemmas.{same_tree, is_listed, is_low, Keyed, keyed, listing_of, rows_in_tree}
 
 module _ (t : Table) (is_own : is_keyed t ≡ true) (db : Database) (is : db.schema ≡ office_schema) (sound : IsDatabase db) (ordered : AreOrdered db.trees) where
@@ -54,33 +53,33 @@ module _ (t : Table) (is_own : is_keyed t ≡ true) (db : Database) (is : db.sch
   pub seen : overlay db.trees [] (layout_at t).tree ≡ db.trees (schema_at t).tree
   seen = is_low t db.trees ∙ ap db.trees (same_tree t)
 
-  module _ (sql : List ℕ) (means : IsListText t sql) (id : ℕ) (shown : List Row) (reads : Reads sql (Int (pos id) ∷ []) db shown) where
-    answer : IsAnswer (listed_by (layout_at t) of_parameter) (overlay db.trees []) (Int (pos id) ∷ []) shown
+  module _ (sql : List ℕ) (means : IsListText t sql) (id : ℕ) (shown : List Row) (reads : Reads sql (params_of t id) db shown) where
+    answer : IsAnswer (listed_by (layout_at t) (filter_of t)) (overlay db.trees []) (params_of t id) shown
     answer =
-        let got = subst (λ k. effect.Reads k db (Int (pos id) ∷ []) shown) means.is reads in
+        let got = subst (λ k. effect.Reads k db (params_of t id) shown) means.is reads in
         got.answer Null
 
-    -- the query shows the rows of the intersection
-    pub lists : map (row_shown t) shown ≡ rows_of id (rows_at (content_of db.trees) t)
-    lists = listing (layout_at t) of_parameter (key_shown t) (columns_shown t) (listing_of t) (Int (pos id) ∷ []) (is_of id) (overlay db.trees [])
+    -- the query shows those rows
+    pub lists : map (row_shown t) shown ≡ rows_among t id (rows_at (content_of db.trees) t)
+    lists = listing (layout_at t) (filter_of t) (key_shown t) (columns_shown t) (listing_of t) (params_of t id) (is_among t id) (overlay db.trees [])
         (subst (HaveKeys (layout_at t)) (sym seen) own_keys) (subst (λ rows. IsDistinct (eq_by_cmp cells_cmp) (map (cells_at (layout_at t).keys) rows)) (sym seen) distinct)
         (λ row there. facts.first id row (own_keys row (subst (λ rows. Has rows row) seen there))) shown answer
-        ∙ ap (λ rows. rows_of id (rows_in (layout_at t) rows)) (is_low t db.trees) ∙ ap (rows_of id) (sym (rows_in_tree t db.trees))
+        ∙ ap (λ rows. rows_among t id (rows_in (layout_at t) rows)) (is_low t db.trees) ∙ ap (rows_among t id) (sym (rows_in_tree t db.trees))
 
     pub width : AllByRecursion (λ row. length row ≡ width_of t) shown
-    width = all_from (λ (row : Row). length row ≡ width_of t) shown (shown_width (layout_at t) of_parameter (key_shown t) (columns_shown t) (listing_of t) (Int (pos id) ∷ []) (is_of id) (overlay db.trees [])
+    width = all_from (λ (row : Row). length row ≡ width_of t) shown (shown_width (layout_at t) (filter_of t) (key_shown t) (columns_shown t) (listing_of t) (params_of t id) (is_among t id) (overlay db.trees [])
         (subst (HaveKeys (layout_at t)) (sym seen) own_keys) (subst (λ rows. IsDistinct (eq_by_cmp cells_cmp) (map (cells_at (layout_at t).keys) rows)) (sym seen) distinct)
         (λ row there. facts.first id row (own_keys row (subst (λ rows. Has rows row) seen there))) shown answer)
 
 -- a shown row that is no record
 module _ {X : Type 0} (t : Table) (is_within : X → Type 0) (key : ℕ → X → List Cell) (columns : X → List Cell) where
-  pub damaged_at : (tables : Content) (id : ℕ) (rows : List Row) → map (row_shown t) rows ≡ rows_of id (rows_at tables t) → AllByRecursion (λ row. length row ≡ width_of t) rows
+  pub damaged_at : (tables : Content) (id : ℕ) (rows : List Row) → map (row_shown t) rows ≡ rows_among t id (rows_at tables t) → AllByRecursion (λ row. length row ≡ width_of t) rows
       → (row : Row) → Has rows row → (length row ≡ width_of t → IsNoRow is_within key columns id (key_shown t row) (columns_shown t row)) → HasDamagedRow t is_within key columns tables id
   damaged_at tables id rows is width row there none =
-      let here = stands (key_shown t) (columns_shown t) (is_of id) (rows_at tables t) rows is row there in
+      let here = stands (key_shown t) (columns_shown t) (is_among t id) (rows_at tables t) rows is row there in
       record { key = key_shown t row; columns = columns_shown t row; of = here.0; stored = here.1; no_row = none (all_has (λ (r : Row). length r ≡ width_of t) rows row width there) }
 
-  pub damaged : (tables : Content) (id : ℕ) (rows : List Row) → map (row_shown t) rows ≡ rows_of id (rows_at tables t) → AllByRecursion (λ row. length row ≡ width_of t) rows
+  pub damaged : (tables : Content) (id : ℕ) (rows : List Row) → map (row_shown t) rows ≡ rows_among t id (rows_at tables t) → AllByRecursion (λ row. length row ≡ width_of t) rows
       → Any (λ row. length row ≡ width_of t → IsNoRow is_within key columns id (key_shown t row) (columns_shown t row)) rows → HasDamagedRow t is_within key columns tables id
   damaged tables id rows is width bad =
       let found = any_has (λ (row : Row). length row ≡ width_of t → IsNoRow is_within key columns id (key_shown t row) (columns_shown t row)) rows bad in

@@ -13,7 +13,6 @@ use Rattle.sqlite_schema.specs.Rules.{agree, guards}
 use Rattle.sqlite_schema.specs.declared.schema.Index.{Index}
 use Rattle.sqlite_value.specs.Keys.{plain}
 use Rattle.office_tables_shelf.specs.Cells.{Rows}
-use Rattle.office_tables_shelf.specs.Shelf.{is_of}
 use Rattle.office_tables_shelf.specs.declared.rows.Table.{Table}
 use Rattle.office_tables_shelf.specs.declared.rows.Table.TheVariants as table
 use Rattle.office_tables_sql.specs.Schema.{office_schema}
@@ -22,7 +21,7 @@ use Rattle.office_tables_sql.proofs.ListedLemmas.{IsListing}
 use Rattle.office_tables_sql.proofs.QueryLemmas.{ArePaired}
 use Rattle.office_tables_sql.proofs.SoundLemmas.{has_key_at}
 use Rattle.office_tables_sql.proofs.WriteLemmas.{IsIdle}
-use Rattle.office_tables_sql.specs.Tables.{rows_at, with_rows, layout_at, schema_at, place_at, is_keyed, key_shown, columns_shown, of_parameter}
+use Rattle.office_tables_sql.specs.Tables.{rows_at, with_rows, layout_at, schema_at, place_at, is_keyed, key_shown, columns_shown, filter_of, params_of, is_among}
 use Rattle.office_tables_sql.proofs.FirstColumn.{first_is}
 
 -- ---- the schema
@@ -100,7 +99,7 @@ pub record Keyed (t : Table) : Type 0 where
   pub order : index.order ≡ plain
   pub columns : index.columns ≡ (layout_at t).keys
   pub meets : (n : ℤ) (vs r : Row) → conflicts None office_schema.indexes (schema_at t) (Int n ∷ vs) r ≡ (agree plain (0 ∷ []) r (0 ∷ []) (Int n ∷ vs) || (agree plain (layout_at t).keys r (layout_at t).keys (Int n ∷ vs) || false))
-  pub first : (id : ℕ) (row : Row) → are_sound (layout_at t).keys row ≡ true → list_all (holds ((Int (pos id) ∷ []) ∷ row ∷ [])) of_parameter ≡ is_of id (cells_at (layout_at t).keys row)
+  pub first : (id : ℕ) (row : Row) → are_sound (layout_at t).keys row ≡ true → list_all (holds (params_of t id ∷ row ∷ [])) (filter_of t) ≡ is_among t id (cells_at (layout_at t).keys row)
 
 pub keyed : (t : Table) → is_keyed t ≡ true → Keyed t
 keyed table.Intersection h = absurd (true≢false (sym h))
@@ -108,13 +107,13 @@ keyed table.Timing h = record { keyless = refl; sound = refl; paired = tt; index
 keyed table.Draft h = record { keyless = refl; sound = refl; paired = tt; index = _; has = inr (inl refl); guard = refl; order = refl; columns = refl; meets = λ n vs r. refl; first = λ id. first_is id (2 ∷ 3 ∷ 4 ∷ []) }
 keyed table.Inspection h = record { keyless = refl; sound = refl; paired = tt; index = _; has = inr (inr (inl refl)); guard = refl; order = refl; columns = refl; meets = λ n vs r. refl; first = λ id. first_is id (2 ∷ []) }
 keyed table.WorkOrder h = record { keyless = refl; sound = refl; paired = tt; index = _; has = inr (inr (inr (inl refl))); guard = refl; order = refl; columns = refl; meets = λ n vs r. refl; first = λ id. first_is id (2 ∷ []) }
-keyed table.Part h = record { keyless = refl; sound = refl; paired = tt; index = _; has = inr (inr (inr (inr (inl refl)))); guard = refl; order = refl; columns = refl; meets = λ n vs r. refl; first = λ id. first_is id [] }
-keyed table.Delivery h = record { keyless = refl; sound = refl; paired = tt; index = _; has = inr (inr (inr (inr (inr (inl refl))))); guard = refl; order = refl; columns = refl; meets = λ n vs r. refl; first = λ id. first_is id (2 ∷ []) }
+keyed table.Part h = record { keyless = refl; sound = refl; paired = tt; index = _; has = inr (inr (inr (inr (inl refl)))); guard = refl; order = refl; columns = refl; meets = λ n vs r. refl; first = λ id row h. refl }
+keyed table.Delivery h = record { keyless = refl; sound = refl; paired = tt; index = _; has = inr (inr (inr (inr (inr (inl refl))))); guard = refl; order = refl; columns = refl; meets = λ n vs r. refl; first = λ id row h. refl }
 keyed table.UsedPart h = record { keyless = refl; sound = refl; paired = tt; index = _; has = inr (inr (inr (inr (inr (inr (inl refl)))))); guard = refl; order = refl; columns = refl; meets = λ n vs r. refl; first = λ id. first_is id (2 ∷ 3 ∷ []) }
 
 -- ---- what a query shows
 
-pub listing_of : (t : Table) → IsListing (layout_at t) of_parameter (key_shown t) (columns_shown t)
+pub listing_of : (t : Table) → IsListing (layout_at t) (filter_of t) (key_shown t) (columns_shown t)
 listing_of table.Intersection = record { shows = λ params row. refl; orders = λ a b. refl; keys = λ row. refl; others = λ row. refl }
 listing_of table.Timing = record { shows = λ params row. refl; orders = λ a b. refl; keys = λ row. refl; others = λ row. refl }
 listing_of table.Draft = record { shows = λ params row. refl; orders = λ a b. refl; keys = λ row. refl; others = λ row. refl }

@@ -4,8 +4,8 @@ pub mod Stored
 pub mod Calls
 pub mod Listed
 pub mod Tables
-pub mod CabinetStored
-pub mod CabinetShown
+pub mod PartTexts
+pub mod DeliveryTexts
 pub mod InspectionTexts
 pub mod UsedTexts
 pub mod OrderTexts

@@ -1,7 +1,8 @@
 -- The eight tables by their names: where each keeps its rows, and what its statements mean.
-use Rattle.std.specs.Prelude.{◌≡◌, ◌≢◌, ℕ, suc, ℤ, pos, negsuc, Bool, true, false, ◌&&◌, List, [], ◌∷◌, ◌++◌, map, length, Option, Some, None, IfSome, Ok}
+use Rattle.std.specs.Prelude.{◌≡◌, ◌≢◌, ℕ, suc, ℤ, pos, negsuc, Bool, true, false, ◌&&◌, cond, List, [], ◌∷◌, ◌++◌, map, length, Option, Some, None, IfSome, Ok}
 use Rattle.std.specs.Option.{option_map}
-use Rattle.std.specs.FinMap.{get, insert, remove}
+use Rattle.std.specs.FinMap.{get, insert, remove, entries}
+use Rattle.std.specs.FinMap.Entries.{where_key}
 use Rattle.sqlite.specs.Command.TheVariants.{Select, InsertOr, Delete}
 use Rattle.sqlite.specs.Kind.{Kind}
 use Rattle.sqlite.specs.Kind.TheVariants as kind
@@ -26,9 +27,9 @@ use Rattle.sqlite_sql.specs.declared.ops.CompareOp.TheVariants.{Eq}
 use Rattle.sqlite_value.specs.Keys.{ascending}
 use Rattle.signal_records.specs.Key.{kind_of, first_of, second_of}
 use Rattle.signal_records.specs.declared.key.Key.{Key}
-use Rattle.office_tables_shelf.specs.Cells.{Cell, Rows, null, number, text, odd}
+use Rattle.office_tables_shelf.specs.Cells.{Cell, Rows, cells_cmp, null, number, text, odd}
 use Rattle.office_tables_shelf.specs.Content.{Content}
-use Rattle.office_tables_shelf.specs.Shelf.{is_of, rows_of}
+use Rattle.office_tables_shelf.specs.Shelf.{is_of}
 use Rattle.office_tables_shelf.specs.declared.rows.Table.{Table}
 use Rattle.office_tables_shelf.specs.declared.rows.Table.TheVariants as table
 use Rattle.office_tables_sql.specs.Calls.{IsQuery, IsWriting, command_of}
@@ -102,6 +103,34 @@ is_keyed table.Part = true
 is_keyed table.Delivery = true
 is_keyed table.UsedPart = true
 
+-- ---- the rows of a list: those of an intersection, or all where a table is not parted by intersections
+
+abbrev pub is_parted : Table → Bool
+is_parted table.Intersection = false
+is_parted table.Timing = true
+is_parted table.Draft = true
+is_parted table.Inspection = true
+is_parted table.WorkOrder = true
+is_parted table.Part = false
+is_parted table.Delivery = false
+is_parted table.UsedPart = true
+
+-- the rows whose first key column is the parameter
+abbrev pub of_parameter : List Term
+of_parameter = op2 (Compare Eq Binary) (col 1 1) (col 0 0) ∷ []
+
+abbrev pub filter_of : Table → List Term
+filter_of t = cond (is_parted t) of_parameter []
+
+abbrev pub params_of : Table → ℕ → Row
+params_of t id = cond (is_parted t) (Int (pos id) ∷ []) []
+
+abbrev pub is_among : Table → ℕ → List Cell → Bool
+is_among t id = cond (is_parted t) (is_of id) (λ _. true)
+
+abbrev pub rows_among : Table → ℕ → Rows → List (List Cell × List Cell)
+rows_among t id rows = where_key cells_cmp (is_among t id) (entries rows)
+
 -- ---- a row as a list shows it: the columns of the key, and then the others
 
 abbrev pub places_from : ℕ → List ℕ → List ℕ
@@ -129,19 +158,19 @@ row_shown t row = (key_shown t row, columns_shown t row)
 abbrev pub stored_for : {X : Type 0} → (ℕ → X → List Cell) → (X → List Cell) → ℕ → X → List Cell × List Cell
 stored_for key columns id x = (key id x, columns x)
 
--- the rows of the intersection in the table, in the order of their keys, are those of the list
+-- the rows of the list in the table, in the order of their keys
 abbrev pub ListsRows : {X : Type 0} → Table → (ℕ → X → List Cell) → (X → List Cell) → Content → ℕ → List X → Type 0
-ListsRows t key columns tables id xs = map (stored_for key columns id) xs ≡ rows_of id (rows_at tables t)
+ListsRows t key columns tables id xs = map (stored_for key columns id) xs ≡ rows_among t id (rows_at tables t)
 
 -- nothing within its limits has these cells
 abbrev pub IsNoRow : {X : Type 0} → (X → Type 0) → (ℕ → X → List Cell) → (X → List Cell) → ℕ → List Cell → List Cell → Type 0
 IsNoRow {X} is_within key columns id stored others = (x : X) → is_within x → stored ≡ key id x → others ≢ columns x
 
--- a row of the intersection stands in the table that is nothing within its limits
+-- one of those rows is nothing within its limits
 pub record HasDamagedRow {X : Type 0} (t : Table) (is_within : X → Type 0) (key_of : ℕ → X → List Cell) (columns_of : X → List Cell) (tables : Content) (id : ℕ) : Type 0 where
   pub key : List Cell
   pub columns : List Cell
-  pub of : is_of id key ≡ true
+  pub of : is_among t id key ≡ true
   pub stored : get (rows_at tables t) key ≡ Some columns
   pub no_row : IsNoRow is_within key_of columns_of id key columns
 
@@ -172,10 +201,6 @@ remove_in tables t key = with_rows tables t (remove (rows_at tables t) key)
 
 -- ---- the statements
 
--- the rows whose first key column is the parameter
-abbrev pub of_parameter : List Term
-of_parameter = op2 (Compare Eq Binary) (col 1 1) (col 0 0) ∷ []
-
 abbrev pub listed_by : Layout → List Term → Query
 listed_by t filter = record {
   from = inner t.tree end;
@@ -189,11 +214,11 @@ listed_by t filter = record {
   offset = lit (Int (pos 0));
 }
 
--- the text lists the rows of a parameter, in the order of their keys
+-- the text lists the rows, in the order of their keys
 pub record IsListText (t : Table) (sql : List ℕ) : Type 0 where
   pub keyed : is_keyed t ≡ true
   pub names : List (List ℕ)
-  pub is : command_of (understood office_schema sql) ≡ Select (record { lets = []; body = listed_by (layout_at t) of_parameter }) names
+  pub is : command_of (understood office_schema sql) ≡ Select (record { lets = []; body = listed_by (layout_at t) (filter_of t) }) names
   pub query : IsQuery sql
 
 -- how many rows pass
@@ -213,11 +238,11 @@ counted_by t filter = record {
   offset = lit (Int (pos 0));
 }
 
--- the text counts the rows of a parameter
+-- the text counts those rows
 pub record IsCountText (t : Table) (sql : List ℕ) : Type 0 where
   pub keyed : is_keyed t ≡ true
   pub names : List (List ℕ)
-  pub is : command_of (understood office_schema sql) ≡ Select (record { lets = []; body = counted_by (layout_at t) of_parameter }) names
+  pub is : command_of (understood office_schema sql) ≡ Select (record { lets = []; body = counted_by (layout_at t) (filter_of t) }) names
   pub query : IsQuery sql
 
 -- the rows whose key columns are the parameters

@@ -61,6 +61,10 @@ impl StoredRow for Change {
     ghost use Rattle.office_tables_sql.specs.declared.draft.TheConstants.{LIST, FIND, PUT};
     ghost use Rattle.office_tables_sql.specs.DraftTexts as texts;
 
+    type Of = InterId;
+
+    ghost number = { λ id. id };
+
     ghost table = { table.Draft };
 
     ghost key = { draft_key };

@@ -28,6 +28,10 @@ impl StoredRow for Inspection {
     ghost use Rattle.office_tables_sql.specs.declared.inspection.TheConstants.{LIST, FIND, PUT};
     ghost use Rattle.office_tables_sql.specs.InspectionTexts as texts;
 
+    type Of = InterId;
+
+    ghost number = { λ id. id };
+
     ghost table = { table.Inspection };
 
     ghost key = { λ id inspection. inspection_key id inspection.number };

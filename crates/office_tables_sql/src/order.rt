@@ -35,6 +35,10 @@ impl StoredRow for Order {
     ghost use Rattle.office_tables_sql.specs.declared.order.TheConstants.{LIST, FIND, PUT};
     ghost use Rattle.office_tables_sql.specs.OrderTexts as texts;
 
+    type Of = InterId;
+
+    ghost number = { λ id. id };
+
     ghost table = { table.WorkOrder };
 
     ghost key = { λ id order. order_key id order.number };

@@ -19,17 +19,21 @@ use sqlite::types::ValueRef;
 use sqlite::{Alter, Connection, Row, Transaction, params};
 use std::alloc::Global;
 
-/// A row of an intersection in one table.
+/// A row in one table.
 pub trait StoredRow: Sized + Drop {
+    /// What a row is kept of: an intersection, or the whole office.
+    type Of: Copy;
+    /// The number of the intersection.
+    ghost number: { Self.Of → ℕ };
     /// The table that keeps it.
     ghost table: { Table };
-    /// The cells of its key, beginning with the intersection.
+    /// The cells of its key, which begin with the intersection where it is kept of one.
     ghost key: { ℕ → Self → List Cell };
     /// Its other cells.
     ghost columns: { Self → List Cell };
     /// It is within its limits.
     ghost is_within: { Self → Type 0 };
-    /// The query of the rows of an intersection, in the order of their keys.
+    /// The query of the rows that are kept of it, in the order of their keys.
     ghost list_text: { List ℕ };
     /// The query of the row under a whole key.
     ghost find_text: { List ℕ };
@@ -46,19 +50,19 @@ pub trait StoredRow: Sized + Drop {
         ensures { result.now ≡ put_text };
 
     /// What a row of the list stands for.
-    fn read(alloc: Global, id: InterId, row: &Row) -> Result<Self, ShelfFault>
-        ensures key { IfOk result (λ x. key id x ≡ key_shown table row.now) }
+    fn read(alloc: Global, of: Self::Of, row: &Row) -> Result<Self, ShelfFault>
+        ensures key { IfOk result (λ x. key (number of) x ≡ key_shown table row.now) }
         ensures columns { IfOk result (λ x. columns x ≡ columns_shown table row.now) }
-        ensures damaged { result ≡ Err ShelfFault.Damaged → length row.now ≡ width_of table → IsNoRow is_within key columns id (key_shown table row.now) (columns_shown table row.now) };
+        ensures damaged { result ≡ Err ShelfFault.Damaged → length row.now ≡ width_of table → IsNoRow is_within key columns (number of) (key_shown table row.now) (columns_shown table row.now) };
 
     /// The parameters of the statement that puts it; `text` is room for a text that is made for it.
     fn bind<'a>(
         &'a self,
         alloc: Global,
-        id: InterId,
+        of: Self::Of,
         text: &'a mut String,
     ) -> Result<Vec<ValueRef<'a>>, NoMemory>
-        ensures { IfOk result (λ values. bound values.items ≡ values_of (key id self.now ++ columns self.now)) };
+        ensures { IfOk result (λ values. bound values.items ≡ values_of (key (number of) self.now ++ columns self.now)) };
 
     ghost lists: { IsListText table list_text };
 
@@ -82,22 +86,22 @@ pub trait TimingKeyed: StoredRow {
     ghost keyed: { (id : ℕ) (key : Key) → (IsKeyOf Self.table (key_values id key)) × (key_given Self.table (key_values id key) ≡ timing_key id key) };
 }
 
-/// The row of the intersection under a key, if there is one.
+/// The row under a key, if there is one.
 pub fn find<T: StoredRow, S: Alter>(
     alloc: Global,
     conn: &mut Connection<S>,
-    id: InterId,
+    of: T::Of,
     key: &[ValueRef<'_>],
 ) -> Result<Option<T>, ShelfFault>
     requires office { IsOffice (state S.Store conn.old) }
     requires key { IsKeyOf T.table (bound key.now) }
-    ensures row { IfOk result (λ found. IsHonest (state S.Store conn.new) → ReadsRow T.table T.key T.columns (content_now (state S.Store conn.old)) id (key_given T.table (bound key.now)) found) }
-    ensures damaged { result ≡ Err ShelfFault.Damaged → IsHonest (state S.Store conn.new) → HasDamagedUnder T.table T.is_within T.key T.columns (content_now (state S.Store conn.old)) id (key_given T.table (bound key.now)) }
+    ensures row { IfOk result (λ found. IsHonest (state S.Store conn.new) → ReadsRow T.table T.key T.columns (content_now (state S.Store conn.old)) (T.number of) (key_given T.table (bound key.now)) found) }
+    ensures damaged { result ≡ Err ShelfFault.Damaged → IsHonest (state S.Store conn.new) → HasDamagedUnder T.table T.is_within T.key T.columns (content_now (state S.Store conn.old)) (T.number of) (key_given T.table (bound key.now)) }
     ensures kept { Keeps (state S.Store conn.old) (state S.Store conn.new) }
     ensures crash { Survives (state S.Store conn.old) (state S.Store conn.new) (λ _. ⊥) }
 {
     match under::<T, S>(conn, key)? {
-        Some(row) => Ok(Some(T::read(alloc, id, &row)?)),
+        Some(row) => Ok(Some(T::read(alloc, of, &row)?)),
         None => Ok(None),
     }
 }
@@ -116,21 +120,21 @@ fn under<T: StoredRow, S: Alter>(
     select_one(conn, T::find_text(), key)
 }
 
-/// Puts a row of the intersection under its key.
+/// Puts a row under its key.
 pub fn put<T: StoredRow, S: Alter>(
     alloc: Global,
     tx: &mut Transaction<'_, S>,
-    id: InterId,
+    of: T::Of,
     row: &T,
 ) -> Result<(), SqlFault>
     ensures same_reference { tx.new.conn.ghost_name ≡ tx.old.conn.ghost_name }
     ensures ready { HasCleanDisk (state S.Store tx.new.conn.now) → OnOk result (IsReady (state S.Store tx.old.conn.now) → IsReady (state S.Store tx.new.conn.now)) }
-    ensures put { HasCleanDisk (state S.Store tx.new.conn.now) → OnOk result (IsReady (state S.Store tx.old.conn.now) → content_now (state S.Store tx.new.conn.now) ≡ put_in (content_now (state S.Store tx.old.conn.now)) T.table (T.key id row.now) (T.columns row.now)) }
+    ensures put { HasCleanDisk (state S.Store tx.new.conn.now) → OnOk result (IsReady (state S.Store tx.old.conn.now) → content_now (state S.Store tx.new.conn.now) ≡ put_in (content_now (state S.Store tx.old.conn.now)) T.table (T.key (T.number of) row.now) (T.columns row.now)) }
     ensures stands { StandsOn (state S.Store tx.old.conn.now) (state S.Store tx.new.conn.now) }
     ensures crash { Survives (state S.Store tx.old.conn.now) (state S.Store tx.new.conn.now) (λ _. ⊥) }
 {
     let mut text = String::new(alloc);
-    let Ok(values) = row.bind(alloc, id, &mut text) else {
+    let Ok(values) = row.bind(alloc, of, &mut text) else {
         return Err(SqlFault::NoMemory);
     };
     write(tx, T::put_text(), values.as_slice())?;

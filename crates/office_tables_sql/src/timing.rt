@@ -56,6 +56,10 @@ impl StoredRow for Row {
     ghost use Rattle.office_tables_sql.specs.declared.timing.TheConstants.{LIST, FIND, PUT};
     ghost use Rattle.office_tables_sql.specs.TimingTexts as texts;
 
+    type Of = InterId;
+
+    ghost number = { λ id. id };
+
     ghost table = { table.Timing };
 
     ghost key = { λ id row. timing_key id (key_of row) };

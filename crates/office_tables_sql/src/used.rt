@@ -28,6 +28,10 @@ impl StoredRow for UsedLine {
     ghost use Rattle.office_tables_sql.specs.declared.used.TheConstants.{LIST, FIND, PUT};
     ghost use Rattle.office_tables_sql.specs.UsedTexts as texts;
 
+    type Of = InterId;
+
+    ghost number = { λ id. id };
+
     ghost table = { table.UsedPart };
 
     ghost key = { λ id used. used_key id used.order used.line };

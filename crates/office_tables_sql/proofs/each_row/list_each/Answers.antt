@@ -1,6 +1,5 @@
 use Rattle.std.proofs.Common.{◌≡◌, ◌++◌, rules, refl, pos, None, Some, [], ◌∷◌, map, arith, ap, subst, sym, ◌∙◌, Err}
 use Rattle.std.specs.Prelude.{option_copied}
-use Rattle.sqlite.specs.declared.types.Value.TheVariants.{Int}
 use Rattle.sqlite.specs.Given.{GivesOn, row_if}
 use Rattle.sqlite.specs.Order.{Row}
 use Rattle.sqlite.specs.State.{HasCleanDisk, Survives}
@@ -9,32 +8,32 @@ use Rattle.sqlite.proofs.Callers.{given_begin, begun_plain, unchanged_then}
 use Rattle.office_tables_shelf.specs.declared.shelf.ShelfFault.TheVariants.{Damaged}
 use Rattle.office_tables_sql.specs.Calls.{IsHonest, Keeps, Reads}
 use Rattle.office_tables_sql.specs.Stored.{content_now}
-use Rattle.office_tables_sql.specs.Tables.{row_shown, stored_for, ListsRows, HasDamagedRow}
+use Rattle.office_tables_sql.specs.Tables.{params_of, row_shown, stored_for, ListsRows, HasDamagedRow}
 use Rattle.office_tables_sql.proofs.StoredLists.{lists, width, damaged_at}
 use Rattle.office_tables_sql.proofs.EachLemmas.{plain_at, refused_keeps, began_survives, still_keeps, broken_keeps, all_read, some_read, has_mid, one_more, survives_on}
 use Rattle.office_tables_sql.proofs.each_row.list_each.Goals as goal
 
 pub returns-in-Err-clause-kept : goal.returns-in-Err-clause-kept
 returns-in-Err-clause-kept g c =
-    let held = rw (c.in-Err.is, c.params-to_sql.ensures, c.get.ensures.value) at c.query_prepared.follows.holds-at-none in
-    refused_keeps g.T.StoredRow.list_text c.args.statement.now.text (Int (pos c.args.id) ∷ []) g.met.T.StoredRow.lists.query (state g.S.Store c.args.conn.now) c.requires.office c.requires.opened c.requires.text
+    let held = rw (c.in-Err.is, c.requires.params) at c.query_prepared.follows.holds-at-none in
+    refused_keeps g.T.StoredRow.list_text c.args.statement.now.text (params_of g.T.StoredRow.table (g.T.StoredRow.number c.args.of)) g.met.T.StoredRow.lists.query (state g.S.Store c.args.conn.now) c.requires.office c.requires.opened c.requires.text
     (state g.S.Store c.query_prepared.follows.lender-at-none) held.survives (held.mode c.requires.office.autocommit) _ held.err
 
 pub returns-in-Err-clause-crash : goal.returns-in-Err-clause-crash
 returns-in-Err-clause-crash g c =
-    let held = rw (c.in-Err.is, c.params-to_sql.ensures, c.get.ensures.value) at c.query_prepared.follows.holds-at-none in
-    began_survives g.T.StoredRow.list_text c.args.statement.now.text (Int (pos c.args.id) ∷ []) g.met.T.StoredRow.lists.query (state g.S.Store c.args.conn.now) c.requires.office c.requires.opened c.requires.text
+    let held = rw (c.in-Err.is, c.requires.params) at c.query_prepared.follows.holds-at-none in
+    began_survives g.T.StoredRow.list_text c.args.statement.now.text (params_of g.T.StoredRow.table (g.T.StoredRow.number c.args.of)) g.met.T.StoredRow.lists.query (state g.S.Store c.args.conn.now) c.requires.office c.requires.opened c.requires.text
     (state g.S.Store c.query_prepared.follows.lender-at-none) held.survives (held.mode c.requires.office.autocommit)
 
 pub rows-init : goal.rows-init
 rows-init g c =
     let sql = g.T.StoredRow.list_text in
     let text = c.args.statement.now.text in
-    let params : Row = Int (pos c.args.id) ∷ [] in
+    let params : Row = params_of g.T.StoredRow.table (g.T.StoredRow.number c.args.of) in
     let query = g.met.T.StoredRow.lists.query in
     let old = state g.S.Store c.args.conn.now in
     let new = state g.S.Store c.in-Ok.rows.conn.now in
-    let made = rw (c.params-to_sql.ensures, c.get.ensures.value) at c.in-Ok.ensures in
+    let made = rw (c.requires.params) at c.in-Ok.ensures in
     let mode = made.mode c.requires.office.autocommit in
     let survives : Survives old new (λ _. ⊥) = began_survives sql text params query old c.requires.office c.requires.opened c.requires.text new made.survives mode in (
       refl,
@@ -49,7 +48,7 @@ pub returns-in-Err-advance-clause-kept : goal.returns-in-Err-advance-clause-kept
 returns-in-Err-advance-clause-kept g c =
     let sql = g.T.StoredRow.list_text in
     let text = c.args.statement.now.text in
-    let params : Row = Int (pos c.args.id) ∷ [] in
+    let params : Row = params_of g.T.StoredRow.table (g.T.StoredRow.number c.args.of) in
     let means = g.met.T.StoredRow.lists in
     let inv = c.rows.invariant in
     let old = state g.S.Store c.args.conn.now in
@@ -63,7 +62,7 @@ pub returns-in_default-get-clause-rows : goal.returns-in_default-get-clause-rows
 returns-in_default-get-clause-rows g c =
     let sql = g.T.StoredRow.list_text in
     let text = c.args.statement.now.text in
-    let params : Row = Int (pos c.args.id) ∷ [] in
+    let params : Row = params_of g.T.StoredRow.table (g.T.StoredRow.number c.args.of) in
     let means = g.met.T.StoredRow.lists in
     let inv = c.rows.invariant in
     let old = state g.S.Store c.args.conn.now in
@@ -73,21 +72,21 @@ returns-in_default-get-clause-rows g c =
     let survives = survives_on old mid new inv.1 step.survives in
     let mode = step.mode inv.2 in
     let unchanged = λ (clean : HasCleanDisk new). unchanged_then old mid new (inv.3 (omega (arith, clean, step.survives.clean))).0 (step.same clean) in
-    let none : row_if c.advance.new.self.has_row c.advance.new.self.conn.now ≡ None = sym c.get-in-rows.ensures ∙ ap option_copied c.in_default-get.is in
-    let told : IsHonest new → ListsRows g.T.StoredRow.table g.T.StoredRow.key g.T.StoredRow.columns (content_now old) c.args.id c.rows.found.items = λ honest.
+    let none : row_if c.advance.new.self.has_row c.advance.new.self.conn.now ≡ None = sym c.get.ensures ∙ ap option_copied c.in_default-get.is in
+    let told : IsHonest new → ListsRows g.T.StoredRow.table g.T.StoredRow.key g.T.StoredRow.columns (content_now old) (g.T.StoredRow.number c.args.of) c.rows.found.items = λ honest.
     let before = c.requires.office.schema in
     let now = inv.3 (omega (arith, honest.0, step.survives.clean)) in
     let shown = λ (clean : HasCleanDisk new). subst (GivesOn g.S.Store text params c.rows.rows.conn.now c.advance.new.self.conn.now now.1) none (step.ok clean text params now.1 now.2) in
     let reads : Reads sql params old.now now.1 = all_read sql text params means.query old c.requires.office c.requires.opened c.requires.text mid inv.1 inv.2 (λ clean. (inv.3 clean).0) new step.survives mode now.1 shown honest in
     let was : IsHonest old = (still_keeps sql text params means.query old c.requires.office c.requires.opened c.requires.text new survives mode unchanged).honest honest in
-    now.3 ∙ lists g.T.StoredRow.table means.keyed old.now (c.requires.office.schema was) (c.requires.office.sound was) (c.requires.office.ordered was) sql means c.args.id now.1 reads in
+    now.3 ∙ lists g.T.StoredRow.table means.keyed old.now (c.requires.office.schema was) (c.requires.office.sound was) (c.requires.office.ordered was) sql means (g.T.StoredRow.number c.args.of) now.1 reads in
     search rules
 
 pub returns-in_default-get-clause-kept : goal.returns-in_default-get-clause-kept
 returns-in_default-get-clause-kept g c =
     let sql = g.T.StoredRow.list_text in
     let text = c.args.statement.now.text in
-    let params : Row = Int (pos c.args.id) ∷ [] in
+    let params : Row = params_of g.T.StoredRow.table (g.T.StoredRow.number c.args.of) in
     let means = g.met.T.StoredRow.lists in
     let inv = c.rows.invariant in
     let old = state g.S.Store c.args.conn.now in
@@ -104,7 +103,7 @@ pub returns-in_err-record-clause-damaged : goal.returns-in_err-record-clause-dam
 returns-in_err-record-clause-damaged g c bad =
     let sql = g.T.StoredRow.list_text in
     let text = c.args.statement.now.text in
-    let params : Row = Int (pos c.args.id) ∷ [] in
+    let params : Row = params_of g.T.StoredRow.table (g.T.StoredRow.number c.args.of) in
     let means = g.met.T.StoredRow.lists in
     let inv = c.rows.invariant in
     let old = state g.S.Store c.args.conn.now in
@@ -115,8 +114,8 @@ returns-in_err-record-clause-damaged g c bad =
     let mode = step.mode inv.2 in
     let unchanged = λ (clean : HasCleanDisk new). unchanged_then old mid new (inv.3 (omega (arith, clean, step.survives.clean))).0 (step.same clean) in
     let is : c.read.result ≡ Err Damaged = search rules in
-    let some : row_if c.advance.new.self.has_row c.advance.new.self.conn.now ≡ Some c.in-Some.row.now = sym c.get-in-rows.ensures ∙ ap option_copied c.in-Some.is in
-    let told : IsHonest new → HasDamagedRow g.T.StoredRow.table g.T.StoredRow.is_within g.T.StoredRow.key g.T.StoredRow.columns (content_now old) c.args.id = λ honest.
+    let some : row_if c.advance.new.self.has_row c.advance.new.self.conn.now ≡ Some c.in-Some.row.now = sym c.get.ensures ∙ ap option_copied c.in-Some.is in
+    let told : IsHonest new → HasDamagedRow g.T.StoredRow.table g.T.StoredRow.is_within g.T.StoredRow.key g.T.StoredRow.columns (content_now old) (g.T.StoredRow.number c.args.of) = λ honest.
     let now = inv.3 (omega (arith, honest.0, step.survives.clean)) in
     let so_far = now.1 ++ c.in-Some.row.now ∷ [] in
     let given = subst (GivesOn g.S.Store text params c.rows.rows.conn.now c.advance.new.self.conn.now now.1) some (step.ok honest.0 text params now.1 now.2) in
@@ -126,8 +125,8 @@ returns-in_err-record-clause-damaged g c bad =
     let schema = c.requires.office.schema was in
     let sound = c.requires.office.sound was in
     let ordered = c.requires.office.ordered was in
-    damaged_at g.T.StoredRow.table g.T.StoredRow.is_within g.T.StoredRow.key g.T.StoredRow.columns (content_now old) c.args.id all
-    (lists g.T.StoredRow.table means.keyed old.now schema sound ordered sql means c.args.id all whole.1) (width g.T.StoredRow.table means.keyed old.now schema sound ordered sql means c.args.id all whole.1)
+    damaged_at g.T.StoredRow.table g.T.StoredRow.is_within g.T.StoredRow.key g.T.StoredRow.columns (content_now old) (g.T.StoredRow.number c.args.of) all
+    (lists g.T.StoredRow.table means.keyed old.now schema sound ordered sql means (g.T.StoredRow.number c.args.of) all whole.1) (width g.T.StoredRow.table means.keyed old.now schema sound ordered sql means (g.T.StoredRow.number c.args.of) all whole.1)
     c.in-Some.row.now (has_mid now.1 c.in-Some.row.now whole.0) (c.read.ensures.damaged is) in
     search rules
 
@@ -135,7 +134,7 @@ pub returns-in_err-record-clause-kept : goal.returns-in_err-record-clause-kept
 returns-in_err-record-clause-kept g c =
     let sql = g.T.StoredRow.list_text in
     let text = c.args.statement.now.text in
-    let params : Row = Int (pos c.args.id) ∷ [] in
+    let params : Row = params_of g.T.StoredRow.table (g.T.StoredRow.number c.args.of) in
     let means = g.met.T.StoredRow.lists in
     let inv = c.rows.invariant in
     let old = state g.S.Store c.args.conn.now in
@@ -152,7 +151,7 @@ pub returns-then-is_err-clause-kept : goal.returns-then-is_err-clause-kept
 returns-then-is_err-clause-kept g c =
     let sql = g.T.StoredRow.list_text in
     let text = c.args.statement.now.text in
-    let params : Row = Int (pos c.args.id) ∷ [] in
+    let params : Row = params_of g.T.StoredRow.table (g.T.StoredRow.number c.args.of) in
     let means = g.met.T.StoredRow.lists in
     let inv = c.rows.invariant in
     let old = state g.S.Store c.args.conn.now in
@@ -169,7 +168,7 @@ pub rows-preserved : goal.rows-preserved
 rows-preserved g c =
     let sql = g.T.StoredRow.list_text in
     let text = c.args.statement.now.text in
-    let params : Row = Int (pos c.args.id) ∷ [] in
+    let params : Row = params_of g.T.StoredRow.table (g.T.StoredRow.number c.args.of) in
     let means = g.met.T.StoredRow.lists in
     let inv = c.rows.invariant in
     let old = state g.S.Store c.args.conn.now in
@@ -179,7 +178,7 @@ rows-preserved g c =
     let survives = survives_on old mid new inv.1 step.survives in
     let mode = step.mode inv.2 in
     let unchanged = λ (clean : HasCleanDisk new). unchanged_then old mid new (inv.3 (omega (arith, clean, step.survives.clean))).0 (step.same clean) in
-    let some : row_if c.advance.new.self.has_row c.advance.new.self.conn.now ≡ Some c.in-Some.row.now = sym c.get-in-rows.ensures ∙ ap option_copied c.in-Some.is in
+    let some : row_if c.advance.new.self.has_row c.advance.new.self.conn.now ≡ Some c.in-Some.row.now = sym c.get.ensures ∙ ap option_copied c.in-Some.is in
     let read = c.in_ok-record.record in
     let key = c.in_ok-record.ensures.key in
     let columns = c.in_ok-record.ensures.columns in
@@ -193,6 +192,6 @@ rows-preserved g c =
             unchanged clean,
             now.1 ++ c.in-Some.row.now ∷ [],
             given,
-            ap (map (stored_for g.T.StoredRow.key g.T.StoredRow.columns c.args.id)) pushed ∙ one_more (stored_for g.T.StoredRow.key g.T.StoredRow.columns c.args.id) (row_shown g.T.StoredRow.table) c.rows.found.items now.1 read c.in-Some.row.now now.3 (λ i. (key i, columns i)),
+            ap (map (stored_for g.T.StoredRow.key g.T.StoredRow.columns (g.T.StoredRow.number c.args.of))) pushed ∙ one_more (stored_for g.T.StoredRow.key g.T.StoredRow.columns (g.T.StoredRow.number c.args.of)) (row_shown g.T.StoredRow.table) c.rows.found.items now.1 read c.in-Some.row.now now.3 (λ i. (key i, columns i)),
           ),
     )

@@ -11,7 +11,7 @@ use Rattle.office_tables.proofs.KeyReads.{order_read, order_damaged}
 use Rattle.office_tables.proofs.sql_shelf.SqlShelfShelf.order.Goals as goal
 
 pub find-requires-clause-key : goal.find-requires-clause-key
-find-requires-clause-key g c = rw (c.params-to_sql.ensures, c.params-to_sql-2.ensures, c.get.ensures.value, c.get-2.ensures.value) refl
+find-requires-clause-key g c = rw (c.params-to_sql.ensures, c.params-to_sql-2.ensures) refl
 
 pub returns-clause-row : goal.returns-clause-row
 returns-clause-row g c =
