@@ -1,3 +1,4 @@
 mod VersionLemmas
 mod StatementLemmas
 mod BlankLemmas
+mod KeyReads

@@ -7,10 +7,10 @@ ghost use Rattle.office_tables_shelf.specs.Change.{changed, changed_by};
 ghost use Rattle.office_tables_sql.specs.Stored.{content_now, content_of};
 ghost use Rattle.office_tables_sql.specs.Calls.{IsHonest, IsOffice, IsReady, StandsOn};
 
-use office_tables_cabinet::{delivery, inspection, order, part, used};
 use office_tables_shelf::rows::RowChange;
 use office_tables_sql::statement::SqlFault;
-use office_tables_sql::{draft, intersection, timing};
+use office_tables_sql::{intersection, part, stored_row};
+use signal_records::{Change, Row};
 use sqlite::{Alter, Connection, Transaction};
 use std::alloc::Global;
 
@@ -28,15 +28,15 @@ fn change_row<S: Alter>(
 {
     match change {
         RowChange::PutIntersection(id, row) => intersection::put(tx, *id, row),
-        RowChange::PutTiming(id, row) => timing::put(alloc, tx, *id, row),
-        RowChange::RemoveTiming(id, key) => timing::remove(tx, *id, key),
-        RowChange::PutDraft(id, change) => draft::put(alloc, tx, *id, change),
-        RowChange::RemoveDraft(id, key) => draft::remove(tx, *id, key),
-        RowChange::PutInspection(id, found) => inspection::put(tx, *id, found),
-        RowChange::PutOrder(id, found) => order::put(tx, *id, found),
-        RowChange::PutLine(id, line) => used::put(tx, *id, line),
-        RowChange::PutPart(code, hand) => part::put(tx, code, *hand),
-        RowChange::PutDelivery(found) => delivery::put(tx, found),
+        RowChange::PutTiming(id, row) => stored_row::put(alloc, tx, *id, row),
+        RowChange::RemoveTiming(id, key) => stored_row::remove::<Row, S>(tx, *id, key),
+        RowChange::PutDraft(id, change) => stored_row::put(alloc, tx, *id, change),
+        RowChange::RemoveDraft(id, key) => stored_row::remove::<Change, S>(tx, *id, key),
+        RowChange::PutInspection(id, found) => stored_row::put(alloc, tx, *id, found),
+        RowChange::PutOrder(id, found) => stored_row::put(alloc, tx, *id, found),
+        RowChange::PutLine(id, line) => stored_row::put(alloc, tx, *id, line),
+        RowChange::PutPart(code, hand) => part::put(alloc, tx, code, *hand),
+        RowChange::PutDelivery(found) => stored_row::put(alloc, tx, (), found),
     }
 }
 

@@ -13,13 +13,12 @@ ghost use Rattle.office_tables.specs.Version.{HasRow, version_in, first_version}
 use crate::change;
 use crate::open::{OpenFault, claim, prepared};
 use cabinet_core::{Delivery, Hand, Inspection, Order, PartCode, UsedLine};
-use office_tables_cabinet::{delivery, inspection, order, part, used};
 use office_tables_shelf::counts::WriteCounts;
 use office_tables_shelf::rows::{IntersectionRow, RowChange, Table};
 use office_tables_shelf::shelf::{Shelf, ShelfFault};
-use office_tables_sql::{draft_list, intersection, intersection_list, timing_list};
-use signal_records::{Change, InterId, RecordNo, Row};
-use sqlite::{Alter, Connection};
+use office_tables_sql::{each_row, intersection, intersection_list, part, stored_row, timing};
+use signal_records::{Change, InterId, LineNo, RecordNo, Row};
+use sqlite::{Alter, Connection, params};
 use std::alloc::Global;
 use std::marker::Model;
 
@@ -137,40 +136,75 @@ impl<S: Alter> Shelf for SqlShelf<S> {
     }
 
     fn timing_rows(&mut self, alloc: Global, id: InterId) -> Result<Vec<Row>, ShelfFault> {
-        timing_list::timing_rows(alloc, &mut self.conn, id)
+        each_row::list(alloc, &mut self.conn, id)
+    }
+
+    fn committed_count(&mut self, _alloc: Global, id: InterId) -> Result<usize, ShelfFault> {
+        let count = timing::count(&mut self.conn, id)?;
+        Ok(count)
     }
 
     fn draft_rows(&mut self, alloc: Global, id: InterId) -> Result<Vec<Change>, ShelfFault> {
-        draft_list::draft_rows(alloc, &mut self.conn, id)
+        each_row::list(alloc, &mut self.conn, id)
+    }
+
+    fn inspection(
+        &mut self,
+        alloc: Global,
+        id: InterId,
+        number: RecordNo,
+    ) -> Result<Option<Inspection>, ShelfFault> {
+        stored_row::find(alloc, &mut self.conn, id, params![id.get(), number.get()])
     }
 
     fn inspections(&mut self, alloc: Global, id: InterId) -> Result<Vec<Inspection>, ShelfFault> {
-        inspection::inspections(alloc, &mut self.conn, id)
+        each_row::list(alloc, &mut self.conn, id)
+    }
+
+    fn order(
+        &mut self,
+        alloc: Global,
+        id: InterId,
+        number: RecordNo,
+    ) -> Result<Option<Order>, ShelfFault> {
+        stored_row::find(alloc, &mut self.conn, id, params![id.get(), number.get()])
     }
 
     fn orders(&mut self, alloc: Global, id: InterId) -> Result<Vec<Order>, ShelfFault> {
-        order::orders(alloc, &mut self.conn, id)
+        each_row::list(alloc, &mut self.conn, id)
+    }
+
+    fn used_line(
+        &mut self,
+        alloc: Global,
+        id: InterId,
+        order: RecordNo,
+        line: LineNo,
+    ) -> Result<Option<UsedLine>, ShelfFault> {
+        let key = params![id.get(), order.get(), line.get()];
+        stored_row::find(alloc, &mut self.conn, id, key)
     }
 
     fn used_lines(&mut self, alloc: Global, id: InterId) -> Result<Vec<UsedLine>, ShelfFault> {
-        used::used_lines(alloc, &mut self.conn, id)
+        each_row::list(alloc, &mut self.conn, id)
     }
 
     fn delivery(
         &mut self,
-        _alloc: Global,
+        alloc: Global,
         part: &PartCode,
         number: RecordNo,
     ) -> Result<Option<Delivery>, ShelfFault> {
-        delivery::delivery(&mut self.conn, part, number)
+        let key = params![part.as_str(), number.get()];
+        stored_row::find(alloc, &mut self.conn, (), key)
     }
 
-    fn hand(&mut self, _alloc: Global, part: &PartCode) -> Result<Option<Hand>, ShelfFault> {
-        part::hand(&mut self.conn, part)
+    fn hand(&mut self, alloc: Global, part: &PartCode) -> Result<Option<Hand>, ShelfFault> {
+        part::hand(alloc, &mut self.conn, part)
     }
 
     fn parts(&mut self, alloc: Global) -> Result<Vec<(PartCode, Hand)>, ShelfFault> {
-        part::parts(alloc, &mut self.conn)
+        each_row::list_all(alloc, &mut self.conn)
     }
 
     fn apply(&mut self, alloc: Global, changes: &[RowChange]) -> Result<(), ShelfFault> {

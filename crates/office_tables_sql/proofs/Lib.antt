@@ -8,11 +8,18 @@ pub mod ContentLemmas
 pub mod PutLemmas
 pub mod KeyedLemmas
 pub mod RemoveLemmas
-pub mod TimingLemmas
 mod BodyLemmas
 mod BodyReading
 mod KeyReading
 pub mod ListLemmas
 pub mod ListedLemmas
-mod TableLists
 mod IntersectionLists
+mod FirstColumn
+mod TableLemmas
+mod Casts
+mod StoredLists
+mod StoredFinds
+mod StoredCounts
+mod StoredPuts
+mod EachLemmas
+mod CodeReading

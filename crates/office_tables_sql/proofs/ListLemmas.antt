@@ -1,9 +1,9 @@
 -- A list in key order of the rows that pass a test of their keys is the list of the map's entries that pass it.
-use Rattle.std.proofs.Common.{◌≡◌, ◌⊎◌, inl, inr, Bool, true, false, ◌&&◌, List, [], ◌∷◌, map, filter, find, cond, Option, None, Some, option_map, Ordering, Less, Equal, Greater, T, refl, sym, ap, subst, ◌∙◌}
+use Rattle.std.proofs.Common.{◌≡◌, ◌⊎◌, inl, inr, Bool, true, false, ◌&&◌, List, [], ◌∷◌, map, filter, find, cond, Option, None, Some, option_map, length, is_some, Ordering, Less, Equal, Greater, T, refl, sym, ap, subst, ◌∙◌}
 use Rattle.std.proofs.lemmas.Bool.{cases_Bool}
 use Rattle.std.specs.Cmp.{alike_right, eq_by_cmp_equiv}
 use Rattle.std.specs.FinMap as finite
-use Rattle.std.specs.FinMap.{entries, entries_sorted, get-entries}
+use Rattle.std.specs.FinMap.{get, len, entries, entries_sorted, get-entries, len-entries, len-empty, len-insert}
 use Rattle.std.specs.FinMap.Entries.{is_sorted, below_all, where_key, is_sorted-where_key, find-where_key, same_entries}
 use Rattle.std.specs.List.Sorted.{IsPermutation}
 use Rattle.std.proofs.lemmas.List.Sorted.{IsPermutation-sym}
@@ -56,7 +56,7 @@ tied Equal h = refl
 tied Greater h = absurd (true≢false (sym h))
 
 module _ {X : Type 0} (p : X → Bool) where
-  found_has : (xs : List X) (x : X) → find p xs ≡ Some x → Has xs x × (p x ≡ true)
+  pub found_has : (xs : List X) (x : X) → find p xs ≡ Some x → Has xs x × (p x ≡ true)
   found_has [] x h = absurd (let e = h in cc)
   found_has (y ∷ xs) x h = go (cases_Bool (p y)) (found_has xs x)
     where
@@ -143,6 +143,38 @@ module _ {X : Type 0} (key columns : X → List Cell) where
       let rows = rows_by key columns xs in
       same_entries cells_cmp cells_total cells_exact _ _ sorted (entries_sorted rows) (λ q.
       find_sorted key columns xs ys same sorted q ∙ find_entry key columns xs q ∙ sym (get_by key columns xs q) ∙ get-entries rows q)
+
+-- the entries whose keys pass a test are those of the rows that pass it
+module _ {X : Type 0} (key columns : X → List Cell) where
+  passing : (test : List Cell → Bool) (xs : List X) → where_key cells_cmp test (entries (rows_by key columns xs)) ≡ entries (rows_by key columns (filter (λ x. test (key x)) xs))
+  passing test xs =
+      let rows = rows_by key columns xs in
+      let kept = filter (λ x. test (key x)) xs in
+      same_entries cells_cmp cells_total cells_exact _ _ (is_sorted-where_key cells_cmp test (entries rows) (entries_sorted rows)) (entries_sorted (rows_by key columns kept)) (λ q.
+      let alike : (k : List Cell) → cells_cmp q k ≡ Equal → test k ≡ test q = λ k tie. ap test (sym (cells_exact q k tie)) in
+      find-where_key cells_cmp test q alike (entries rows)
+      ∙ ap (λ o. cond (test q) o None) (sym (get-entries rows q) ∙ get_by key columns xs q ∙ sym (find_entry key columns xs q))
+      ∙ sym (find-where_key cells_cmp test q alike (map (entry key columns) xs))
+      ∙ ap (finite.find cells_cmp q) (entries_filter key columns test xs)
+      ∙ find_entry key columns kept q ∙ sym (get_by key columns kept q) ∙ get-entries (rows_by key columns kept) q)
+
+  unmet : (k : List Cell) (xs : List X) → AllByRecursion (λ j. eq_by_cmp cells_cmp k j ≡ false) (map key xs) → (x : X) → Has xs x → is_under key columns k x ≡ false
+  unmet k [] h x there = absurd there
+  unmet k (y ∷ xs) h x (inl same) = ap (is_under key columns k) same ∙ h.0
+  unmet k (y ∷ xs) h x (inr more) = unmet k xs h.1 x more
+
+  -- rows of which no two have the same key are as many as the entries
+  all_counted : (xs : List X) → IsDistinct (eq_by_cmp cells_cmp) (map key xs) → len (rows_by key columns xs) ≡ length xs
+  unfolding IsDistinct
+  all_counted [] h = len-empty cells_cmp (List Cell)
+  all_counted (x ∷ xs) h =
+      let rows = rows_by key columns xs in
+      let none : get rows (key x) ≡ None = get_by key columns xs (key x) ∙ ap (option_map columns) (no_find (is_under key columns (key x)) xs (unmet (key x) xs h.0)) in
+      len-insert cells_total rows (key x) (columns x) ∙ ap (λ o. cond (is_some o) (len rows) (len rows + 1)) none ∙ ap (λ n. n + 1) (all_counted xs h.1) ∙ (let one : length xs + 1 ≡ suc (length xs) = omega arith in one)
+
+  pub counted : (test : List Cell → Bool) (xs : List X) → IsDistinct (eq_by_cmp cells_cmp) (map key (filter (λ x. test (key x)) xs))
+      → length (where_key cells_cmp test (entries (rows_by key columns xs))) ≡ length (filter (λ x. test (key x)) xs)
+  counted test xs apart = ap length (passing test xs) ∙ sym (len-entries _) ∙ all_counted (filter (λ x. test (key x)) xs) apart
 
 -- ---- from what ORDER BY gives to keys that strictly rise
 

@@ -101,7 +101,7 @@ module _ {X K : Type 0} (e : K → K → Bool) (key : X → K) (p : X → Bool) 
       go (inl hit) later = rw hit (h.0, later)
       go (inr miss) later = rw miss later
 
-  distinct_kept : (xs : List X) → IsDistinct e (map key xs) → IsDistinct e (map key (filter p xs))
+  pub distinct_kept : (xs : List X) → IsDistinct e (map key xs) → IsDistinct e (map key (filter p xs))
   unfolding IsDistinct
   distinct_kept [] h = tt
   distinct_kept (x ∷ xs) h = go (cases_Bool (p x)) (distinct_kept xs h.1)

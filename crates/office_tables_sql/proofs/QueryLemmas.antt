@@ -17,28 +17,17 @@ use Rattle.sqlite_sql.specs.declared.ops.CompareOp.TheVariants.{Eq}
 use Rattle.sqlite_schema.specs.Rules.{agree}
 use Rattle.sqlite_value.specs.Keys.{plain, first_key}
 use Rattle.office_tables_sql.specs.Layout.{Layout, values_at, has_key}
+use Rattle.office_tables_sql.specs.Tables.{of_key, found_by}
 
 -- the columns at these places
 abbrev pub cols : List ℕ → List Term
 cols = map (col 1)
 
 abbrev pub key_filter : List ℕ → List ℕ → List Term
-key_filter [] at = []
-key_filter (p ∷ ps) [] = []
-key_filter (p ∷ ps) (q ∷ qs) = op2 (Compare Eq Binary) (col 1 p) (col 0 q) ∷ key_filter ps qs
+key_filter = of_key
 
 abbrev pub find_query : Layout → List ℕ → Query
-find_query t shown = record {
-  from = inner t.tree end;
-  filter = key_filter t.keys t.places;
-  group = None;
-  project = cols shown;
-  distinct = false;
-  collations = [];
-  order = [];
-  limit = lit (Int (negsuc 0));
-  offset = lit (Int (pos 0));
-}
+find_query = found_by
 
 abbrev pub ArePaired : List ℕ → List ℕ → Type 0
 ArePaired [] [] = Unit {0}

@@ -3,3 +3,11 @@ pub mod Layout
 pub mod Stored
 pub mod Calls
 pub mod Listed
+pub mod Tables
+pub mod PartTexts
+pub mod DeliveryTexts
+pub mod InspectionTexts
+pub mod UsedTexts
+pub mod OrderTexts
+pub mod TimingTexts
+pub mod DraftTexts

@@ -6,11 +6,9 @@ use Rattle.sqlite.specs.declared.types.Value.TheVariants.{Null, Int, Real, Text,
 use Rattle.sqlite.specs.Order.{Row, column}
 use Rattle.sqlite.specs.State.{State}
 use Rattle.sqlite.specs.Tree.{Trees}
-use Rattle.signal_records.specs.declared.record.Row.{Row as TimingRow}
 use Rattle.draft_core.specs.declared.state.Holder.{Holder}
 use Rattle.office_tables_shelf.specs.Cells.{Cell, Rows, rows_by, null, number, text, odd}
 use Rattle.office_tables_shelf.specs.Content.{Content}
-use Rattle.office_tables_shelf.specs.Rows.{body_of}
 use Rattle.office_tables_sql.specs.Layout as layout
 use Rattle.office_tables_sql.specs.Layout.{Layout, values_at}
 
@@ -29,11 +27,6 @@ text_or_null (Some t) = text t
 abbrev pub owner_value : Option Holder → Value
 owner_value None = Null
 owner_value (Some holder) = Text holder.owner
-
--- what is stored for what a draft row leaves: NULL for a removal
-abbrev pub left_value : Option TimingRow → Value
-left_value None = Null
-left_value (Some row) = Text (body_of row)
 
 abbrev pub cells : Row → List Cell
 cells values = map cell_of values

@@ -1,21 +1,26 @@
 //! The table `draft`: the changes that a draft keeps.
 
-ghost use Rattle.std.specs.Prelude.{◌≡◌, string_bytes, IfOk, OnOk};
-ghost use Rattle.std.specs.FinMap.{insert, remove};
-ghost use Rattle.sqlite.specs.Values.{or_null};
-ghost use Rattle.sqlite.specs.declared.types.Value.TheVariants.{Text};
-ghost use Rattle.sqlite.specs.State.{HasCleanDisk, Survives};
-ghost use Rattle.sqlite.specs.Held.{state};
-ghost use Rattle.draft_core.specs.DraftRows.{changed_key, left_by};
-ghost use Rattle.office_tables_shelf.specs.Rows.{timing_key, draft_key, draft_columns};
-ghost use Rattle.office_tables_sql.specs.Stored.{content_now, left_value};
-ghost use Rattle.office_tables_sql.specs.Calls.{IsReady, StandsOn};
+ghost use Rattle.std.specs.Prelude.{◌≡◌, [], ◌∷◌, IfOk};
+ghost use Rattle.sqlite.specs.Values.{bound_value};
+ghost use Rattle.sqlite_value.specs.Value.{owned};
+ghost use Rattle.draft_core.specs.DraftRows.{changed_key};
+ghost use Rattle.office_tables_shelf.specs.Rows.{draft_columns};
+ghost use Rattle.office_tables_sql.specs.Tables.{values_of};
 
 use crate::body::write_body;
-use crate::statement::{SqlFault, write};
+use crate::listed::{body_at, check_key, read_key};
+use crate::stored_row::{StoredRow, TimingKeyed};
+use office_tables_shelf::shelf::ShelfFault;
 use signal_records::{Change, InterId, Key, NoMemory};
-use sqlite::{Alter, Transaction, params};
+use sqlite::Row as SqlRow;
+use sqlite::types::{ToSql, ValueRef};
 use std::alloc::Global;
+
+const LIST: &str =
+    "SELECT inter, kind, a, b, body FROM draft WHERE inter = ?1 ORDER BY inter, kind, a, b";
+
+const FIND: &str =
+    "SELECT inter, kind, a, b, body FROM draft WHERE inter = ?1 AND kind = ?2 AND a = ?3 AND b = ?4";
 
 const PUT: &str =
     "INSERT OR REPLACE INTO draft (inter, kind, a, b, body) VALUES (?1, ?2, ?3, ?4, ?5)";
@@ -32,53 +37,105 @@ fn key_of(change: &Change) -> Key
     }
 }
 
-/// The text that is kept for the change: none for a removal.
-fn left_body(alloc: Global, change: &Change) -> Result<Option<String>, NoMemory>
-    ensures { IfOk result (λ body. or_null (λ s. Text (string_bytes s)) body ≡ left_value (left_by change.now)) }
+/// What is kept for the change: the text that is made of a row, and NULL for a removal.
+fn left_body<'a>(
+    alloc: Global,
+    change: &Change,
+    text: &'a mut String,
+) -> Result<ValueRef<'a>, NoMemory>
+    ensures { IfOk result (λ body. bound_value (owned body) ∷ [] ≡ values_of (draft_columns change.now)) }
 {
     match change {
-        Change::Put(row) => Ok(Some(write_body(alloc, row)?)),
-        Change::Remove(_) => Ok(None),
+        Change::Put(row) => {
+            *text = write_body(alloc, row)?;
+            Ok(text.as_str().to_sql())
+        }
+        Change::Remove(_) => Ok(ValueRef::Null),
     }
 }
 
-/// Puts the row of the intersection's draft that keeps the change, under the key that it names.
-pub fn put<S: Alter>(
-    alloc: Global,
-    tx: &mut Transaction<'_, S>,
-    id: InterId,
-    change: &Change,
-) -> Result<(), SqlFault>
-    ensures same_reference { tx.new.conn.ghost_name ≡ tx.old.conn.ghost_name }
-    ensures ready { HasCleanDisk (state S.Store tx.new.conn.now) → OnOk result (IsReady (state S.Store tx.old.conn.now) → IsReady (state S.Store tx.new.conn.now)) }
-    ensures put { HasCleanDisk (state S.Store tx.new.conn.now) → OnOk result (IsReady (state S.Store tx.old.conn.now) → content_now (state S.Store tx.new.conn.now) ≡ record (content_now (state S.Store tx.old.conn.now)) {
-      draft = insert (content_now (state S.Store tx.old.conn.now)).draft (draft_key id change.now) (draft_columns change.now);
-    }) }
-    ensures stands { StandsOn (state S.Store tx.old.conn.now) (state S.Store tx.new.conn.now) }
-    ensures crash { Survives (state S.Store tx.old.conn.now) (state S.Store tx.new.conn.now) (λ _. ⊥) }
-{
-    let body = left_body(alloc, change)?;
-    let key = &key_of(change);
-    let kind = key.kind();
-    let first = key.first();
-    let second = key.second();
-    write(tx, PUT, params![id.get(), kind, first, second, &body])?;
-    Ok(())
+impl StoredRow for Change {
+    ghost use Rattle.signal_records.specs.Within.{IsChangeWithin, current_limits};
+    ghost use Rattle.office_tables_shelf.specs.Rows.{draft_key, draft_columns};
+    ghost use Rattle.office_tables_shelf.specs.declared.rows.Table.TheVariants as table;
+    ghost use Rattle.office_tables_sql.specs.declared.draft.TheConstants.{LIST, FIND, PUT};
+    ghost use Rattle.office_tables_sql.specs.DraftTexts as texts;
+
+    type Of = InterId;
+
+    ghost number = { λ id. id };
+
+    ghost table = { table.Draft };
+
+    ghost key = { draft_key };
+
+    ghost columns = { draft_columns };
+
+    ghost is_within = { IsChangeWithin current_limits };
+
+    ghost list_text = { LIST.now };
+
+    ghost find_text = { FIND.now };
+
+    ghost put_text = { PUT.now };
+
+    ghost lists = { texts.lists };
+
+    ghost finds = { texts.finds };
+
+    ghost puts = { texts.puts };
+
+    ghost fits = { texts.fits };
+
+    fn list_text() -> &'static str {
+        LIST
+    }
+
+    fn find_text() -> &'static str {
+        FIND
+    }
+
+    fn put_text() -> &'static str {
+        PUT
+    }
+
+    /// Without a body it removes what is under its key.
+    fn read(alloc: Global, id: InterId, row: &SqlRow) -> Result<Change, ShelfFault> {
+        let Some(found) = body_at(alloc, row, 4)? else {
+            return Ok(Change::Remove(read_key(row, id)?));
+        };
+        check_key(row, id, &found.key())?;
+        Ok(Change::Put(found))
+    }
+
+    fn bind<'a>(
+        &'a self,
+        alloc: Global,
+        id: InterId,
+        text: &'a mut String,
+    ) -> Result<Vec<ValueRef<'a>>, NoMemory> {
+        let key = key_of(self);
+        let id = id.get().to_sql();
+        let kind = key.kind().to_sql();
+        let first = key.first().to_sql();
+        let second = key.second().to_sql();
+        let body = left_body(alloc, self, text)?;
+        Ok(vec![in alloc; id, kind, first, second, body]?)
+    }
 }
 
-/// Removes the row of the intersection's draft under the key, if there is one.
-pub fn remove<S: Alter>(tx: &mut Transaction<'_, S>, id: InterId, key: &Key) -> Result<(), SqlFault>
-    ensures same_reference { tx.new.conn.ghost_name ≡ tx.old.conn.ghost_name }
-    ensures ready { HasCleanDisk (state S.Store tx.new.conn.now) → OnOk result (IsReady (state S.Store tx.old.conn.now) → IsReady (state S.Store tx.new.conn.now)) }
-    ensures removed { HasCleanDisk (state S.Store tx.new.conn.now) → OnOk result (IsReady (state S.Store tx.old.conn.now) → content_now (state S.Store tx.new.conn.now) ≡ record (content_now (state S.Store tx.old.conn.now)) {
-      draft = remove (content_now (state S.Store tx.old.conn.now)).draft (timing_key id key.now);
-    }) }
-    ensures stands { StandsOn (state S.Store tx.old.conn.now) (state S.Store tx.new.conn.now) }
-    ensures crash { Survives (state S.Store tx.old.conn.now) (state S.Store tx.new.conn.now) (λ _. ⊥) }
-{
-    let kind = key.kind();
-    let first = key.first();
-    let second = key.second();
-    write(tx, REMOVE, params![id.get(), kind, first, second])?;
-    Ok(())
+impl TimingKeyed for Change {
+    ghost use Rattle.std.specs.Prelude.{refl};
+    ghost use Rattle.office_tables_sql.specs.declared.draft.TheConstants.{REMOVE};
+    ghost use Rattle.office_tables_sql.specs.DraftTexts as texts;
+
+    ghost remove_text = { REMOVE.now };
+
+    ghost removes = { texts.removes };
+
+    ghost keyed = { λ id key. (refl, refl) };
+
+    fn remove_text() -> &'static str {
+        REMOVE
+    }
 }

@@ -3,13 +3,18 @@
 
 pub mod body;
 pub mod body_reading;
+pub mod delivery;
 pub mod draft;
-pub mod draft_list;
+pub mod each_row;
+pub mod inspection;
 pub mod intersection;
 pub mod intersection_list;
 pub mod listed;
+pub mod order;
+pub mod part;
 pub mod schema;
 pub mod statement;
+pub mod stored_row;
 pub mod timing;
-pub mod timing_list;
+pub mod used;
 pub mod value;

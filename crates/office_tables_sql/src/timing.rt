@@ -1,66 +1,137 @@
 //! The table `timing`: the rows of the committed sets.
 
-ghost use Rattle.std.specs.Prelude.{◌≡◌, OnOk};
-ghost use Rattle.std.specs.FinMap.{insert, remove};
-ghost use Rattle.sqlite.specs.State.{HasCleanDisk, Survives};
+ghost use Rattle.std.specs.Prelude.{◌≡◌, length, IfOk};
+ghost use Rattle.sqlite.specs.State.{Survives};
 ghost use Rattle.sqlite.specs.Held.{state};
-ghost use Rattle.signal_records.specs.Row.{key_of};
-ghost use Rattle.office_tables_shelf.specs.Rows.{timing_key, timing_columns};
+ghost use Rattle.office_tables_shelf.specs.Shelf.{rows_of};
 ghost use Rattle.office_tables_sql.specs.Stored.{content_now};
-ghost use Rattle.office_tables_sql.specs.Calls.{IsReady, StandsOn};
+ghost use Rattle.office_tables_sql.specs.Calls.{IsHonest, IsOffice, Keeps};
 
 use crate::body::write_body;
-use crate::statement::{SqlFault, write};
-use signal_records::{InterId, Key, Row};
-use sqlite::{Alter, Transaction, params};
+use crate::listed::{body_at, check_key};
+use crate::statement::{SqlFault, select_one};
+use crate::stored_row::{StoredRow, TimingKeyed};
+use crate::value::number_at;
+use office_tables_shelf::shelf::ShelfFault;
+use signal_records::{InterId, NoMemory, Row};
+use sqlite::types::{ToSql, ValueRef};
+use sqlite::{Alter, Connection, Row as SqlRow, params};
 use std::alloc::Global;
+
+const LIST: &str =
+    "SELECT inter, kind, a, b, body FROM timing WHERE inter = ?1 ORDER BY inter, kind, a, b";
+
+const FIND: &str =
+    "SELECT inter, kind, a, b, body FROM timing WHERE inter = ?1 AND kind = ?2 AND a = ?3 AND b = ?4";
+
+const COUNT: &str = "SELECT count(*) FROM timing WHERE inter = ?1";
 
 const PUT: &str =
     "INSERT OR REPLACE INTO timing (inter, kind, a, b, body) VALUES (?1, ?2, ?3, ?4, ?5)";
 
 const REMOVE: &str = "DELETE FROM timing WHERE inter = ?1 AND kind = ?2 AND a = ?3 AND b = ?4";
 
-/// Puts a row of the intersection's set under its own key.
-pub fn put<S: Alter>(
-    alloc: Global,
-    tx: &mut Transaction<'_, S>,
-    id: InterId,
-    row: &Row,
-) -> Result<(), SqlFault>
-    ensures same_reference { tx.new.conn.ghost_name ≡ tx.old.conn.ghost_name }
-    ensures ready { HasCleanDisk (state S.Store tx.new.conn.now) → OnOk result (IsReady (state S.Store tx.old.conn.now) → IsReady (state S.Store tx.new.conn.now)) }
-    ensures put { HasCleanDisk (state S.Store tx.new.conn.now) → OnOk result (IsReady (state S.Store tx.old.conn.now) → content_now (state S.Store tx.new.conn.now) ≡ record (content_now (state S.Store tx.old.conn.now)) {
-      timing = insert (content_now (state S.Store tx.old.conn.now)).timing (timing_key id (key_of row.now)) (timing_columns row.now);
-    }) }
-    ensures stands { StandsOn (state S.Store tx.old.conn.now) (state S.Store tx.new.conn.now) }
-    ensures crash { Survives (state S.Store tx.old.conn.now) (state S.Store tx.new.conn.now) (λ _. ⊥) }
+/// How many rows the intersection's set has, whether or not each of them is a record.
+pub fn count<S: Alter>(conn: &mut Connection<S>, id: InterId) -> Result<usize, SqlFault>
+    requires { IsOffice (state S.Store conn.old) }
+    ensures count { IfOk result (λ count. IsHonest (state S.Store conn.new) → count ≡ length (rows_of id (content_now (state S.Store conn.old)).timing)) }
+    ensures kept { Keeps (state S.Store conn.old) (state S.Store conn.new) }
+    ensures crash { Survives (state S.Store conn.old) (state S.Store conn.new) (λ _. ⊥) }
 {
-    let body = write_body(alloc, row)?;
-    let key = &row.key();
-    let kind = key.kind();
-    let first = key.first();
-    let second = key.second();
-    write(
-        tx,
-        PUT,
-        params![id.get(), kind, first, second, body.as_str()],
-    )?;
-    Ok(())
+    let Some(row) = select_one(conn, COUNT, params![id.get()])? else {
+        return Err(SqlFault::Store);
+    };
+    match number_at(&row, 0) {
+        Ok(count) => Ok(count as usize),
+        Err(_) => Err(SqlFault::Store),
+    }
 }
 
-/// Removes the row of the intersection's set under the key, if there is one.
-pub fn remove<S: Alter>(tx: &mut Transaction<'_, S>, id: InterId, key: &Key) -> Result<(), SqlFault>
-    ensures same_reference { tx.new.conn.ghost_name ≡ tx.old.conn.ghost_name }
-    ensures ready { HasCleanDisk (state S.Store tx.new.conn.now) → OnOk result (IsReady (state S.Store tx.old.conn.now) → IsReady (state S.Store tx.new.conn.now)) }
-    ensures removed { HasCleanDisk (state S.Store tx.new.conn.now) → OnOk result (IsReady (state S.Store tx.old.conn.now) → content_now (state S.Store tx.new.conn.now) ≡ record (content_now (state S.Store tx.old.conn.now)) {
-      timing = remove (content_now (state S.Store tx.old.conn.now)).timing (timing_key id key.now);
-    }) }
-    ensures stands { StandsOn (state S.Store tx.old.conn.now) (state S.Store tx.new.conn.now) }
-    ensures crash { Survives (state S.Store tx.old.conn.now) (state S.Store tx.new.conn.now) (λ _. ⊥) }
-{
-    let kind = key.kind();
-    let first = key.first();
-    let second = key.second();
-    write(tx, REMOVE, params![id.get(), kind, first, second])?;
-    Ok(())
+impl StoredRow for Row {
+    ghost use Rattle.std.specs.Prelude.{refl};
+    ghost use Rattle.signal_records.specs.Row.{key_of};
+    ghost use Rattle.signal_records.specs.Within.{IsRowWithin, current_limits};
+    ghost use Rattle.office_tables_shelf.specs.Rows.{timing_key, timing_columns};
+    ghost use Rattle.office_tables_shelf.specs.declared.rows.Table.TheVariants as table;
+    ghost use Rattle.office_tables_sql.specs.declared.timing.TheConstants.{LIST, FIND, PUT};
+    ghost use Rattle.office_tables_sql.specs.TimingTexts as texts;
+
+    type Of = InterId;
+
+    ghost number = { λ id. id };
+
+    ghost table = { table.Timing };
+
+    ghost key = { λ id row. timing_key id (key_of row) };
+
+    ghost columns = { timing_columns };
+
+    ghost is_within = { IsRowWithin current_limits };
+
+    ghost list_text = { LIST.now };
+
+    ghost find_text = { FIND.now };
+
+    ghost put_text = { PUT.now };
+
+    ghost lists = { texts.lists };
+
+    ghost finds = { texts.finds };
+
+    ghost puts = { texts.puts };
+
+    ghost fits = { λ id row. record { given = λ limit db rows h. h.1; mends = refl; suits = refl; keyed = λ n. refl; shows = λ n. refl; whole = λ n. refl } };
+
+    fn list_text() -> &'static str {
+        LIST
+    }
+
+    fn find_text() -> &'static str {
+        FIND
+    }
+
+    fn put_text() -> &'static str {
+        PUT
+    }
+
+    /// Its body is a row, and the columns before it are that row's key.
+    fn read(alloc: Global, id: InterId, row: &SqlRow) -> Result<Row, ShelfFault> {
+        let Some(found) = body_at(alloc, row, 4)? else {
+            return Err(ShelfFault::Damaged);
+        };
+        check_key(row, id, &found.key())?;
+        Ok(found)
+    }
+
+    fn bind<'a>(
+        &'a self,
+        alloc: Global,
+        id: InterId,
+        text: &'a mut String,
+    ) -> Result<Vec<ValueRef<'a>>, NoMemory> {
+        *text = write_body(alloc, self)?;
+        let key = self.key();
+        let id = id.get().to_sql();
+        let kind = key.kind().to_sql();
+        let first = key.first().to_sql();
+        let second = key.second().to_sql();
+        let body = text.as_str().to_sql();
+        Ok(vec![in alloc; id, kind, first, second, body]?)
+    }
+}
+
+impl TimingKeyed for Row {
+    ghost use Rattle.std.specs.Prelude.{refl};
+    ghost use Rattle.office_tables_sql.specs.declared.timing.TheConstants.{REMOVE};
+    ghost use Rattle.office_tables_sql.specs.TimingTexts as texts;
+
+    ghost remove_text = { REMOVE.now };
+
+    ghost removes = { texts.removes };
+
+    ghost keyed = { λ id key. (refl, refl) };
+
+    fn remove_text() -> &'static str {
+        REMOVE
+    }
 }

@@ -1,12 +1,15 @@
 //! The values of a stored row, as what they stand for.
 
-ghost use Rattle.std.specs.Prelude.{◌≡◌, ◌≢◌, ◌≤◌, ◌<◌, ◌^◌, ℕ, pos, length, List, Option, IfOk, IfSome};
+ghost use Rattle.std.specs.Prelude.{◌≡◌, ◌≢◌, ◌≤◌, ◌<◌, ◌^◌, ℕ, pos, length, List, Option, IfOk, IfSome, OnOk};
 ghost use Rattle.sqlite.specs.Order.{column};
 ghost use Rattle.signal_records.specs.Words.{AreWords};
-ghost use Rattle.office_tables_shelf.specs.Cells.{number, text};
+ghost use Rattle.cabinet_core.specs.Day.{IsDay};
+ghost use Rattle.cabinet_core.specs.Part.{IsPartCode};
+ghost use Rattle.office_tables_shelf.specs.Cells.{null, number, text};
 ghost use Rattle.office_tables_sql.specs.Stored.{cell_of, text_or_null};
 ghost use Rattle.draft_core.specs.declared.revision.TheConstants.{LAST_REVISION};
 
+use cabinet_core::{Day, PartCode};
 use draft_core::revision::Revision;
 use office_tables_shelf::shelf::ShelfFault;
 use signal_records::{Number, Words};
@@ -93,5 +96,41 @@ pub fn words_or_null_at<const MAX: usize>(
     match Words::new(alloc, text.as_bytes())? {
         Some(words) => Ok(Some(words)),
         None => Err(ShelfFault::Damaged),
+    }
+}
+
+/// The day in a column.
+pub fn day_at(row: &Row, at: usize) -> Result<Day, ShelfFault>
+    ensures ok { IfOk result (λ day. cell_of (column row.now at) ≡ number (pos day)) }
+    ensures damaged { result ≡ Err ShelfFault.Damaged → at < length row.now → (n : ℕ) → IsDay n → cell_of (column row.now at) ≢ number (pos n) }
+{
+    let n = number_at(row, at)?;
+    match Day::new(n) {
+        Some(day) => Ok(day),
+        None => Err(ShelfFault::Damaged),
+    }
+}
+
+/// The code of a part in a column.
+pub fn code_at(alloc: Global, row: &Row, at: usize) -> Result<PartCode, ShelfFault>
+    ensures ok { IfOk result (λ code. cell_of (column row.now at) ≡ text code) }
+    ensures damaged { result ≡ Err ShelfFault.Damaged → at < length row.now → (code : List ℕ) → IsPartCode code → cell_of (column row.now at) ≢ text code }
+{
+    let text: String = value_at(row, at)?;
+    match PartCode::new(alloc, text.as_bytes())? {
+        Some(code) => Ok(code),
+        None => Err(ShelfFault::Damaged),
+    }
+}
+
+/// Tests that the column is NULL.
+pub fn check_null(row: &Row, at: usize) -> Result<(), ShelfFault>
+    ensures ok { OnOk result (cell_of (column row.now at) ≡ null) }
+    ensures damaged { result ≡ Err ShelfFault.Damaged → at < length row.now → cell_of (column row.now at) ≢ null }
+{
+    let stored: Option<u32> = value_at(row, at)?;
+    match stored {
+        Some(_) => Err(ShelfFault::Damaged),
+        None => Ok(()),
     }
 }

@@ -1,0 +1,22 @@
+use Rattle.std.proofs.Common.{◌≡◌, map, ◌∙◌}
+use Rattle.std.proofs.lemmas.Result.{IfOk-weaker}
+use Rattle.std.specs.FinMap.{entries}
+use Rattle.sqlite.specs.Held.{state}
+use Rattle.office_tables_shelf.specs.CabinetRows.{part_key, part_columns}
+use Rattle.office_tables_shelf.specs.declared.rows.Table.TheVariants as table
+use Rattle.office_tables_sql.specs.Calls.{IsHonest}
+use Rattle.office_tables_sql.specs.Stored.{content_now}
+use Rattle.office_tables_sql.specs.Tables.{ListsRows}
+use Rattle.office_tables.proofs.KeyReads.{where_all}
+use Rattle.office_tables.proofs.sql_shelf.SqlShelfShelf.parts.Goals as goal
+
+pub returns-clause-rows : goal.returns-clause-rows
+returns-clause-rows g c =
+    let tables = content_now (state g.S.Store c.args.self.now.conn) in
+    IfOk-weaker c.list_all.result (λ found. IsHonest (state g.S.Store c.list_all.new.conn) → ListsRows table.Part (λ _ part. part_key part.0) (λ part. part_columns part.1) tables 0 found.items) _
+    (λ found rows honest. rows honest ∙ where_all (entries tables.part)) c.list_all.ensures.rows
+
+pub returns-clause-damaged : goal.returns-clause-damaged
+returns-clause-damaged g c is honest =
+    let d = c.list_all.ensures.damaged is honest in
+    record { key = d.key; columns = d.columns; stored = d.stored; no_row = λ code within hand fits same. d.no_row (code, hand) (within, fits) same }

@@ -1,2 +1,0 @@
-pub mod CabinetStored
-pub mod CabinetShown

@@ -1,0 +1,15 @@
+use Rattle.std.proofs.Common.{◌≡◌, false, List, [], ◌∷◌, map, pos}
+use Rattle.sqlite.specs.Order.{Row}
+use Rattle.sqlite.specs.State.{HasCleanDisk, IsUnchanged, Survives}
+use Rattle.sqlite.specs.Held.{state}
+use Rattle.sqlite.specs.Given.{HasGiven}
+use Rattle.office_tables_sql.specs.Tables.{params_of, row_shown, stored_for}
+use Rattle.office_tables_sql.proofs.each_row.list_each.Given as goal
+
+abbrev pub invariant-rows : goal.invariant-rows
+invariant-rows g l =
+    let old = state g.S.Store l.fn.conn in
+    let now = state g.S.Store l.rows.conn.now in
+    (l.rows.conn.ghost_name ≡ l.initial.rows.conn.ghost_name) × Survives old now (λ _. ⊥) × (now.in_transaction ≡ false)
+    × (HasCleanDisk now → IsUnchanged old now × (given : List Row) × HasGiven g.S.Store l.fn.statement.text (params_of g.T.StoredRow.table (g.T.StoredRow.number l.fn.of)) l.rows.conn.now given
+    × (map (stored_for g.T.StoredRow.key g.T.StoredRow.columns (g.T.StoredRow.number l.fn.of)) l.found.items ≡ map (row_shown g.T.StoredRow.table) given))

@@ -1,0 +1,19 @@
+-- What the statements on deliveries mean over the schema.
+use Rattle.std.specs.Prelude.{[], ◌∷◌, codes, refl}
+use Rattle.sqlite.specs.Listing.{understood}
+use Rattle.sqlite_tied.specs.Compute.{everything}
+use Rattle.office_tables_shelf.specs.declared.rows.Table.TheVariants.{Delivery}
+use Rattle.office_tables_sql.specs.Tables.{IsListText, IsFindText, IsPutText}
+use Rattle.office_tables_sql.specs.declared.delivery.TheConstants.{LIST, FIND, PUT}
+
+pub lists : IsListText Delivery LIST.now
+unfolding understood everything
+lists = record { keyed = refl; names = codes "part" ∷ codes "number" ∷ codes "day" ∷ codes "amount" ∷ []; is = refl; query = record { plain = (refl, refl); unlisted = refl } }
+
+pub finds : IsFindText Delivery FIND.now
+unfolding understood everything
+finds = record { keyed = refl; names = codes "part" ∷ codes "number" ∷ codes "day" ∷ codes "amount" ∷ []; is = refl; query = record { plain = (refl, refl); unlisted = refl } }
+
+pub puts : IsPutText Delivery PUT.now
+unfolding understood everything
+puts = record { keyed = refl; is = refl; plain = (refl, refl) }

@@ -1,0 +1,19 @@
+-- What the three statements on used parts mean over the schema.
+use Rattle.std.specs.Prelude.{[], ◌∷◌, codes, refl}
+use Rattle.sqlite.specs.Listing.{understood}
+use Rattle.sqlite_tied.specs.Compute.{everything}
+use Rattle.office_tables_shelf.specs.declared.rows.Table.TheVariants.{UsedPart}
+use Rattle.office_tables_sql.specs.Tables.{IsListText, IsFindText, IsPutText}
+use Rattle.office_tables_sql.specs.declared.used.TheConstants.{LIST, FIND, PUT}
+
+pub lists : IsListText UsedPart LIST.now
+unfolding understood everything
+lists = record { keyed = refl; names = codes "inter" ∷ codes "ord" ∷ codes "line" ∷ codes "part" ∷ codes "amount" ∷ []; is = refl; query = record { plain = (refl, refl); unlisted = refl } }
+
+pub finds : IsFindText UsedPart FIND.now
+unfolding understood everything
+finds = record { keyed = refl; names = codes "inter" ∷ codes "ord" ∷ codes "line" ∷ codes "part" ∷ codes "amount" ∷ []; is = refl; query = record { plain = (refl, refl); unlisted = refl } }
+
+pub puts : IsPutText UsedPart PUT.now
+unfolding understood everything
+puts = record { keyed = refl; is = refl; plain = (refl, refl) }

@@ -1,0 +1,90 @@
+//! The table `delivery`: what was delivered of each part.
+
+use crate::stored_row::StoredRow;
+use crate::value::{code_at, day_at, ranged_at};
+use cabinet_core::Delivery;
+use office_tables_shelf::shelf::ShelfFault;
+use signal_records::NoMemory;
+use sqlite::Row;
+use sqlite::types::{ToSql, ValueRef};
+use std::alloc::Global;
+
+const LIST: &str = "SELECT part, number, day, amount FROM delivery ORDER BY part, number";
+
+const FIND: &str = "SELECT part, number, day, amount FROM delivery WHERE part = ?1 AND number = ?2";
+
+const PUT: &str =
+    "INSERT OR REPLACE INTO delivery (part, number, day, amount) VALUES (?1, ?2, ?3, ?4)";
+
+impl StoredRow for Delivery {
+    ghost use Rattle.std.specs.Prelude.{refl};
+    ghost use Rattle.cabinet_core.specs.Within.{IsDeliveryWithin};
+    ghost use Rattle.office_tables_shelf.specs.CabinetRows.{delivery_key, delivery_columns};
+    ghost use Rattle.office_tables_shelf.specs.declared.rows.Table.TheVariants as table;
+    ghost use Rattle.office_tables_sql.specs.declared.delivery.TheConstants.{LIST, FIND, PUT};
+    ghost use Rattle.office_tables_sql.specs.DeliveryTexts as texts;
+
+    type Of = ();
+
+    ghost number = { λ _. 0 };
+
+    ghost table = { table.Delivery };
+
+    ghost key = { λ _ delivery. delivery_key delivery.part delivery.number };
+
+    ghost columns = { delivery_columns };
+
+    ghost is_within = { IsDeliveryWithin };
+
+    ghost list_text = { LIST.now };
+
+    ghost find_text = { FIND.now };
+
+    ghost put_text = { PUT.now };
+
+    ghost lists = { texts.lists };
+
+    ghost finds = { texts.finds };
+
+    ghost puts = { texts.puts };
+
+    ghost fits = { λ _ delivery. record { given = λ limit db rows h. h.1; mends = refl; suits = refl; keyed = λ n. refl; shows = λ n. refl; whole = λ n. refl } };
+
+    fn list_text() -> &'static str {
+        LIST
+    }
+
+    fn find_text() -> &'static str {
+        FIND
+    }
+
+    fn put_text() -> &'static str {
+        PUT
+    }
+
+    fn read(alloc: Global, _of: (), row: &Row) -> Result<Delivery, ShelfFault> {
+        let part = code_at(alloc, row, 0)?;
+        let number = ranged_at(row, 1)?;
+        let day = day_at(row, 2)?;
+        let count = ranged_at(row, 3)?;
+        Ok(Delivery {
+            part,
+            number,
+            day,
+            count,
+        })
+    }
+
+    fn bind<'a>(
+        &'a self,
+        alloc: Global,
+        _of: (),
+        _text: &'a mut String,
+    ) -> Result<Vec<ValueRef<'a>>, NoMemory> {
+        let part = self.part.as_str().to_sql();
+        let number = self.number.get().to_sql();
+        let day = self.day.number().to_sql();
+        let count = self.count.get().to_sql();
+        Ok(vec![in alloc; part, number, day, count]?)
+    }
+}

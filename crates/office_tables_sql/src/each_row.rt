@@ -1,0 +1,108 @@
+//! Rows of a table, read one at a time.
+
+ghost use Rattle.std.specs.Prelude.{◌≡◌, ◌≢◌, [], ◌∷◌, pos, IfOk, OnOk, IsTrue};
+ghost use Rattle.sqlite.specs.State.{HasCleanDisk, Survives};
+ghost use Rattle.sqlite.specs.Held.{state};
+ghost use Rattle.sqlite.specs.Values.{bound};
+ghost use Rattle.sqlite.specs.declared.types.Value.TheVariants.{Int};
+ghost use Rattle.office_tables_sql.specs.Stored.{content_now};
+ghost use Rattle.office_tables_sql.specs.Calls.{IsHonest, IsOffice, IsQuery, Keeps};
+ghost use Rattle.office_tables_sql.specs.Tables.{params_of, ListsRows, HasDamagedRow};
+
+use crate::statement::SqlFault;
+use crate::stored_row::StoredRow;
+use office_tables_shelf::shelf::ShelfFault;
+use signal_records::InterId;
+use sqlite::types::ValueRef;
+use sqlite::{Alter, Connection, Error, Statement, params};
+use std::alloc::Global;
+
+/// Why the database refused.
+fn refused(error: Error) -> ShelfFault
+    ensures { result ≢ ShelfFault.Damaged }
+{
+    ShelfFault::from(SqlFault::from(error))
+}
+
+/// The text prepared, which commits nothing and shows that the connection is open.
+fn prepared<S: Alter>(conn: &mut Connection<S>, sql: &str) -> Result<Statement, SqlFault>
+    requires office { IsOffice (state S.Store conn.old) }
+    requires query { IsQuery sql.now }
+    ensures text { HasCleanDisk (state S.Store conn.new) → IfOk result (λ s. s.text ≡ sql.now) }
+    ensures opened { HasCleanDisk (state S.Store conn.new) → OnOk result (IsTrue (state S.Store conn.new).is_open) }
+    ensures kept { Keeps (state S.Store conn.old) (state S.Store conn.new) }
+    ensures crash { Survives (state S.Store conn.old) (state S.Store conn.new) (λ _. ⊥) }
+{
+    let statement = conn.prepare(sql)?;
+    Ok(statement)
+}
+
+/// The rows of the intersection, in the order of their keys. No row is kept after it is read.
+pub fn list<T: StoredRow<Of = InterId>, S: Alter>(
+    alloc: Global,
+    conn: &mut Connection<S>,
+    id: InterId,
+) -> Result<Vec<T>, ShelfFault>
+    requires office { IsOffice (state S.Store conn.old) }
+    requires params { params_of T.table (T.number id) ≡ Int (pos id) ∷ [] }
+    ensures rows { IfOk result (λ found. IsHonest (state S.Store conn.new) → ListsRows T.table T.key T.columns (content_now (state S.Store conn.old)) (T.number id) found.items) }
+    ensures damaged { result ≡ Err ShelfFault.Damaged → IsHonest (state S.Store conn.new) → HasDamagedRow T.table T.is_within T.key T.columns (content_now (state S.Store conn.old)) (T.number id) }
+    ensures kept { Keeps (state S.Store conn.old) (state S.Store conn.new) }
+    ensures crash { Survives (state S.Store conn.old) (state S.Store conn.new) (λ _. ⊥) }
+{
+    let statement = prepared(conn, T::list_text())?;
+    list_each(alloc, conn, &statement, id, params![id.get()])
+}
+
+/// All rows of a table that is not parted by intersections, in the order of their keys.
+pub fn list_all<T: StoredRow<Of = ()>, S: Alter>(
+    alloc: Global,
+    conn: &mut Connection<S>,
+) -> Result<Vec<T>, ShelfFault>
+    requires office { IsOffice (state S.Store conn.old) }
+    requires params { params_of T.table (T.number tt) ≡ [] }
+    ensures rows { IfOk result (λ found. IsHonest (state S.Store conn.new) → ListsRows T.table T.key T.columns (content_now (state S.Store conn.old)) (T.number tt) found.items) }
+    ensures damaged { result ≡ Err ShelfFault.Damaged → IsHonest (state S.Store conn.new) → HasDamagedRow T.table T.is_within T.key T.columns (content_now (state S.Store conn.old)) (T.number tt) }
+    ensures kept { Keeps (state S.Store conn.old) (state S.Store conn.new) }
+    ensures crash { Survives (state S.Store conn.old) (state S.Store conn.new) (λ _. ⊥) }
+{
+    let statement = prepared(conn, T::list_text())?;
+    list_each(alloc, conn, &statement, (), params![])
+}
+
+/// Those rows, by the statement that is prepared for them.
+fn list_each<T: StoredRow, S: Alter>(
+    alloc: Global,
+    conn: &mut Connection<S>,
+    statement: &Statement,
+    of: T::Of,
+    params: &[ValueRef<'_>],
+) -> Result<Vec<T>, ShelfFault>
+    requires text { HasCleanDisk (state S.Store conn.old) → statement.now.text ≡ T.list_text }
+    requires params { bound params.now ≡ params_of T.table (T.number of) }
+    requires office { IsOffice (state S.Store conn.old) }
+    requires opened { HasCleanDisk (state S.Store conn.old) → IsTrue (state S.Store conn.old).is_open }
+    ensures rows { IfOk result (λ found. IsHonest (state S.Store conn.new) → ListsRows T.table T.key T.columns (content_now (state S.Store conn.old)) (T.number of) found.items) }
+    ensures damaged { result ≡ Err ShelfFault.Damaged → IsHonest (state S.Store conn.new) → HasDamagedRow T.table T.is_within T.key T.columns (content_now (state S.Store conn.old)) (T.number of) }
+    ensures kept { Keeps (state S.Store conn.old) (state S.Store conn.new) }
+    ensures crash { Survives (state S.Store conn.old) (state S.Store conn.new) (λ _. ⊥) }
+{
+    let mut found = Vec::new(alloc);
+    let mut rows = match conn.query_prepared(statement, params) {
+        Ok(rows) => rows,
+        Err(error) => return Err(refused(error)),
+    };
+    'rows: for _ in 0..u64::MAX {
+        if let Err(error) = rows.advance() {
+            return Err(refused(error));
+        }
+        let Some(row) = rows.get() else {
+            return Ok(found);
+        };
+        let record = T::read(alloc, of, row)?;
+        if found.push(record).is_err() {
+            return Err(ShelfFault::NoMemory);
+        }
+    }
+    Err(ShelfFault::Store)
+}

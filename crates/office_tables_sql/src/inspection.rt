@@ -1,0 +1,96 @@
+//! The table `inspection`: the inspections of each cabinet.
+
+ghost use Rattle.office_tables_shelf.specs.CabinetRows.{inspection_key, inspection_columns};
+
+use crate::listed::check_number;
+use crate::stored_row::StoredRow;
+use crate::value::{day_at, ranged_at, words_at};
+use cabinet_core::Inspection;
+use office_tables_shelf::shelf::ShelfFault;
+use signal_records::{InterId, NoMemory};
+use sqlite::Row;
+use sqlite::types::{ToSql, ValueRef};
+use std::alloc::Global;
+
+const LIST: &str =
+    "SELECT inter, number, day, clerk, body FROM inspection WHERE inter = ?1 ORDER BY inter, number";
+
+const FIND: &str =
+    "SELECT inter, number, day, clerk, body FROM inspection WHERE inter = ?1 AND number = ?2";
+
+const PUT: &str =
+    "INSERT OR REPLACE INTO inspection (inter, number, day, clerk, body) VALUES (?1, ?2, ?3, ?4, ?5)";
+
+impl StoredRow for Inspection {
+    ghost use Rattle.std.specs.Prelude.{refl};
+    ghost use Rattle.cabinet_core.specs.Within.{IsInspectionWithin};
+    ghost use Rattle.office_tables_shelf.specs.declared.rows.Table.TheVariants as table;
+    ghost use Rattle.office_tables_sql.specs.declared.inspection.TheConstants.{LIST, FIND, PUT};
+    ghost use Rattle.office_tables_sql.specs.InspectionTexts as texts;
+
+    type Of = InterId;
+
+    ghost number = { λ id. id };
+
+    ghost table = { table.Inspection };
+
+    ghost key = { λ id inspection. inspection_key id inspection.number };
+
+    ghost columns = { inspection_columns };
+
+    ghost is_within = { IsInspectionWithin };
+
+    ghost list_text = { LIST.now };
+
+    ghost find_text = { FIND.now };
+
+    ghost put_text = { PUT.now };
+
+    ghost lists = { texts.lists };
+
+    ghost finds = { texts.finds };
+
+    ghost puts = { texts.puts };
+
+    ghost fits = { λ id inspection. record { given = λ limit db rows h. h.1; mends = refl; suits = refl; keyed = λ n. refl; shows = λ n. refl; whole = λ n. refl } };
+
+    fn list_text() -> &'static str {
+        LIST
+    }
+
+    fn find_text() -> &'static str {
+        FIND
+    }
+
+    fn put_text() -> &'static str {
+        PUT
+    }
+
+    fn read(alloc: Global, id: InterId, row: &Row) -> Result<Inspection, ShelfFault> {
+        check_number(row, 0, id.get())?;
+        let number = ranged_at(row, 1)?;
+        let day = day_at(row, 2)?;
+        let clerk = words_at(alloc, row, 3)?;
+        let text = words_at(alloc, row, 4)?;
+        Ok(Inspection {
+            number,
+            day,
+            clerk,
+            text,
+        })
+    }
+
+    fn bind<'a>(
+        &'a self,
+        alloc: Global,
+        id: InterId,
+        _text: &'a mut String,
+    ) -> Result<Vec<ValueRef<'a>>, NoMemory> {
+        let id = id.get().to_sql();
+        let number = self.number.get().to_sql();
+        let day = self.day.number().to_sql();
+        let clerk = self.clerk.as_str().to_sql();
+        let text = self.text.as_str().to_sql();
+        Ok(vec![in alloc; id, number, day, clerk, text]?)
+    }
+}

@@ -1,0 +1,140 @@
+//! The table `part`: how many of each part are on hand.
+
+ghost use Rattle.std.specs.Prelude.{◌≡◌, IfOk, OnOk};
+ghost use Rattle.std.specs.FinMap.{insert};
+ghost use Rattle.sqlite.specs.State.{HasCleanDisk, Survives};
+ghost use Rattle.sqlite.specs.Held.{state};
+ghost use Rattle.office_tables_shelf.specs.CabinetReads.{ReadsHand, HasDamagedHand};
+ghost use Rattle.office_tables_shelf.specs.CabinetRows.{part_key, part_columns};
+ghost use Rattle.office_tables_sql.specs.Stored.{content_now};
+ghost use Rattle.office_tables_sql.specs.Calls.{IsHonest, IsOffice, IsReady, Keeps, StandsOn};
+
+use crate::statement::SqlFault;
+use crate::stored_row::{self, StoredRow};
+use crate::value::{code_at, ranged_at};
+use cabinet_core::{Hand, PartCode};
+use office_tables_shelf::shelf::ShelfFault;
+use signal_records::NoMemory;
+use sqlite::types::{ToSql, ValueRef};
+use sqlite::{Alter, Connection, Row, Transaction, params};
+use std::alloc::Global;
+
+const LIST: &str = "SELECT code, hand FROM part ORDER BY code";
+
+const FIND: &str = "SELECT code, hand FROM part WHERE code = ?1";
+
+const PUT: &str = "INSERT OR REPLACE INTO part (code, hand) VALUES (?1, ?2)";
+
+impl StoredRow for (PartCode, Hand) {
+    ghost use Rattle.std.specs.Prelude.{refl};
+    ghost use Rattle.cabinet_core.specs.Part.{IsPartCode};
+    ghost use Rattle.office_tables_shelf.specs.CabinetReads.{IsHand};
+    ghost use Rattle.office_tables_shelf.specs.CabinetRows.{part_key, part_columns};
+    ghost use Rattle.office_tables_shelf.specs.declared.rows.Table.TheVariants as table;
+    ghost use Rattle.office_tables_sql.specs.declared.part.TheConstants.{LIST, FIND, PUT};
+    ghost use Rattle.office_tables_sql.specs.PartTexts as texts;
+
+    type Of = ();
+
+    ghost number = { λ _. 0 };
+
+    ghost table = { table.Part };
+
+    ghost key = { λ _ part. part_key part.0 };
+
+    ghost columns = { λ part. part_columns part.1 };
+
+    ghost is_within = { λ part. IsPartCode part.0 × IsHand part.1 };
+
+    ghost list_text = { LIST.now };
+
+    ghost find_text = { FIND.now };
+
+    ghost put_text = { PUT.now };
+
+    ghost lists = { texts.lists };
+
+    ghost finds = { texts.finds };
+
+    ghost puts = { texts.puts };
+
+    ghost fits = { λ _ part. record { given = λ limit db rows h. h.1; mends = refl; suits = refl; keyed = λ n. refl; shows = λ n. refl; whole = λ n. refl } };
+
+    fn list_text() -> &'static str {
+        LIST
+    }
+
+    fn find_text() -> &'static str {
+        FIND
+    }
+
+    fn put_text() -> &'static str {
+        PUT
+    }
+
+    fn read(alloc: Global, _of: (), row: &Row) -> Result<(PartCode, Hand), ShelfFault> {
+        let code = code_at(alloc, row, 0)?;
+        let hand = ranged_at(row, 1)?;
+        Ok((code, hand))
+    }
+
+    fn bind<'a>(
+        &'a self,
+        alloc: Global,
+        _of: (),
+        _text: &'a mut String,
+    ) -> Result<Vec<ValueRef<'a>>, NoMemory> {
+        let code = self.0.as_str().to_sql();
+        let hand = self.1.get().to_sql();
+        Ok(vec![in alloc; code, hand]?)
+    }
+}
+
+/// How many of the part are on hand, if there is such a part.
+pub fn hand<S: Alter>(
+    alloc: Global,
+    conn: &mut Connection<S>,
+    code: &PartCode,
+) -> Result<Option<Hand>, ShelfFault>
+    requires { IsOffice (state S.Store conn.old) }
+    ensures row { IfOk result (λ hand. IsHonest (state S.Store conn.new) → ReadsHand (content_now (state S.Store conn.old)) code.now hand) }
+    ensures damaged { result ≡ Err ShelfFault.Damaged → IsHonest (state S.Store conn.new) → HasDamagedHand (content_now (state S.Store conn.old)) code.now }
+    ensures kept { Keeps (state S.Store conn.old) (state S.Store conn.new) }
+    ensures crash { Survives (state S.Store conn.old) (state S.Store conn.new) (λ _. ⊥) }
+{
+    let found: Option<(PartCode, Hand)> = stored_row::find(
+        alloc,
+        conn,
+        (),
+        params![code.as_str()],
+    )?;
+    match found {
+        Some(part) => Ok(Some(part.1)),
+        None => Ok(None),
+    }
+}
+
+fn copy_of(code: &PartCode) -> Result<PartCode, NoMemory>
+    ensures { IfOk result (λ copy. copy ≡ code.now) }
+{
+    Ok(code.clone()?)
+}
+
+/// Puts how many of the part are on hand.
+pub fn put<S: Alter>(
+    alloc: Global,
+    tx: &mut Transaction<'_, S>,
+    code: &PartCode,
+    hand: Hand,
+) -> Result<(), SqlFault>
+    ensures same_reference { tx.new.conn.ghost_name ≡ tx.old.conn.ghost_name }
+    ensures ready { HasCleanDisk (state S.Store tx.new.conn.now) → OnOk result (IsReady (state S.Store tx.old.conn.now) → IsReady (state S.Store tx.new.conn.now)) }
+    ensures put { HasCleanDisk (state S.Store tx.new.conn.now) → OnOk result (IsReady (state S.Store tx.old.conn.now) → content_now (state S.Store tx.new.conn.now) ≡ record (content_now (state S.Store tx.old.conn.now)) {
+      part = insert (content_now (state S.Store tx.old.conn.now)).part (part_key code.now) (part_columns hand);
+    }) }
+    ensures stands { StandsOn (state S.Store tx.old.conn.now) (state S.Store tx.new.conn.now) }
+    ensures crash { Survives (state S.Store tx.old.conn.now) (state S.Store tx.new.conn.now) (λ _. ⊥) }
+{
+    let part = (copy_of(code)?, hand);
+    stored_row::put(alloc, tx, (), &part)
+}

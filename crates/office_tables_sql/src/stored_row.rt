@@ -1,0 +1,161 @@
+//! Rows that a table of the office keeps, found and put by one text each.
+
+ghost use Rattle.std.specs.Prelude.{◌≡◌, ◌++◌, ℕ, List, length, IfOk, OnOk};
+ghost use Rattle.sqlite.specs.State.{HasCleanDisk, Survives};
+ghost use Rattle.sqlite.specs.Held.{state};
+ghost use Rattle.sqlite.specs.Values.{bound};
+ghost use Rattle.signal_records.specs.declared.key.Key.{Key};
+ghost use Rattle.office_tables_shelf.specs.Cells.{Cell};
+ghost use Rattle.office_tables_shelf.specs.Rows.{timing_key};
+ghost use Rattle.office_tables_shelf.specs.declared.rows.Table.{Table};
+ghost use Rattle.office_tables_sql.specs.Stored.{content_now};
+ghost use Rattle.office_tables_sql.specs.Calls.{IsHonest, IsOffice, IsReady, Keeps, StandsOn};
+ghost use Rattle.office_tables_sql.specs.Tables.{put_in, remove_in, key_values, key_shown, columns_shown, width_of, key_given, IsKeyOf, IsUnder, ReadsRow, HasDamagedUnder, IsNoRow, IsListText, IsFindText, IsPutText, IsRemoveText, Fits, values_of};
+
+use crate::statement::{SqlFault, select_one, write};
+use office_tables_shelf::shelf::ShelfFault;
+use signal_records::{InterId, Key, NoMemory};
+use sqlite::types::ValueRef;
+use sqlite::{Alter, Connection, Row, Transaction, params};
+use std::alloc::Global;
+
+/// A row in one table.
+pub trait StoredRow: Sized + Drop {
+    /// What a row is kept of: an intersection, or the whole office.
+    type Of: Copy;
+    /// The number of the intersection.
+    ghost number: { Self.Of → ℕ };
+    /// The table that keeps it.
+    ghost table: { Table };
+    /// The cells of its key, which begin with the intersection where it is kept of one.
+    ghost key: { ℕ → Self → List Cell };
+    /// Its other cells.
+    ghost columns: { Self → List Cell };
+    /// It is within its limits.
+    ghost is_within: { Self → Type 0 };
+    /// The query of the rows that are kept of it, in the order of their keys.
+    ghost list_text: { List ℕ };
+    /// The query of the row under a whole key.
+    ghost find_text: { List ℕ };
+    /// The statement that puts a row under its key.
+    ghost put_text: { List ℕ };
+
+    fn list_text() -> &'static str
+        ensures { result.now ≡ list_text };
+
+    fn find_text() -> &'static str
+        ensures { result.now ≡ find_text };
+
+    fn put_text() -> &'static str
+        ensures { result.now ≡ put_text };
+
+    /// What a row of the list stands for.
+    fn read(alloc: Global, of: Self::Of, row: &Row) -> Result<Self, ShelfFault>
+        ensures key { IfOk result (λ x. key (number of) x ≡ key_shown table row.now) }
+        ensures columns { IfOk result (λ x. columns x ≡ columns_shown table row.now) }
+        ensures damaged { result ≡ Err ShelfFault.Damaged → length row.now ≡ width_of table → IsNoRow is_within key columns (number of) (key_shown table row.now) (columns_shown table row.now) };
+
+    /// The parameters of the statement that puts it; `text` is room for a text that is made for it.
+    fn bind<'a>(
+        &'a self,
+        alloc: Global,
+        of: Self::Of,
+        text: &'a mut String,
+    ) -> Result<Vec<ValueRef<'a>>, NoMemory>
+        ensures { IfOk result (λ values. bound values.items ≡ values_of (key (number of) self.now ++ columns self.now)) };
+
+    ghost lists: { IsListText table list_text };
+
+    ghost finds: { IsFindText table find_text };
+
+    ghost puts: { IsPutText table put_text };
+
+    ghost fits: { (id : ℕ) (x : Self) → Fits table (key id x) (columns x) };
+}
+
+/// A row under a key of timing, which may be removed.
+pub trait TimingKeyed: StoredRow {
+    /// The statement that removes the row under a key.
+    ghost remove_text: { List ℕ };
+
+    fn remove_text() -> &'static str
+        ensures { result.now ≡ remove_text };
+
+    ghost removes: { IsRemoveText Self.table remove_text };
+
+    ghost keyed: { (id : ℕ) (key : Key) → (IsKeyOf Self.table (key_values id key)) × (key_given Self.table (key_values id key) ≡ timing_key id key) };
+}
+
+/// The row under a key, if there is one.
+pub fn find<T: StoredRow, S: Alter>(
+    alloc: Global,
+    conn: &mut Connection<S>,
+    of: T::Of,
+    key: &[ValueRef<'_>],
+) -> Result<Option<T>, ShelfFault>
+    requires office { IsOffice (state S.Store conn.old) }
+    requires key { IsKeyOf T.table (bound key.now) }
+    ensures row { IfOk result (λ found. IsHonest (state S.Store conn.new) → ReadsRow T.table T.key T.columns (content_now (state S.Store conn.old)) (T.number of) (key_given T.table (bound key.now)) found) }
+    ensures damaged { result ≡ Err ShelfFault.Damaged → IsHonest (state S.Store conn.new) → HasDamagedUnder T.table T.is_within T.key T.columns (content_now (state S.Store conn.old)) (T.number of) (key_given T.table (bound key.now)) }
+    ensures kept { Keeps (state S.Store conn.old) (state S.Store conn.new) }
+    ensures crash { Survives (state S.Store conn.old) (state S.Store conn.new) (λ _. ⊥) }
+{
+    match under::<T, S>(conn, key)? {
+        Some(row) => Ok(Some(T::read(alloc, of, &row)?)),
+        None => Ok(None),
+    }
+}
+
+/// What is stored under the key, whether or not it is a record.
+fn under<T: StoredRow, S: Alter>(
+    conn: &mut Connection<S>,
+    key: &[ValueRef<'_>],
+) -> Result<Option<Row>, SqlFault>
+    requires office { IsOffice (state S.Store conn.old) }
+    requires key { IsKeyOf T.table (bound key.now) }
+    ensures found { IsHonest (state S.Store conn.new) → IfOk result (IsUnder T.table (content_now (state S.Store conn.old)) (key_given T.table (bound key.now))) }
+    ensures kept { Keeps (state S.Store conn.old) (state S.Store conn.new) }
+    ensures crash { Survives (state S.Store conn.old) (state S.Store conn.new) (λ _. ⊥) }
+{
+    select_one(conn, T::find_text(), key)
+}
+
+/// Puts a row under its key.
+pub fn put<T: StoredRow, S: Alter>(
+    alloc: Global,
+    tx: &mut Transaction<'_, S>,
+    of: T::Of,
+    row: &T,
+) -> Result<(), SqlFault>
+    ensures same_reference { tx.new.conn.ghost_name ≡ tx.old.conn.ghost_name }
+    ensures ready { HasCleanDisk (state S.Store tx.new.conn.now) → OnOk result (IsReady (state S.Store tx.old.conn.now) → IsReady (state S.Store tx.new.conn.now)) }
+    ensures put { HasCleanDisk (state S.Store tx.new.conn.now) → OnOk result (IsReady (state S.Store tx.old.conn.now) → content_now (state S.Store tx.new.conn.now) ≡ put_in (content_now (state S.Store tx.old.conn.now)) T.table (T.key (T.number of) row.now) (T.columns row.now)) }
+    ensures stands { StandsOn (state S.Store tx.old.conn.now) (state S.Store tx.new.conn.now) }
+    ensures crash { Survives (state S.Store tx.old.conn.now) (state S.Store tx.new.conn.now) (λ _. ⊥) }
+{
+    let mut text = String::new(alloc);
+    let Ok(values) = row.bind(alloc, of, &mut text) else {
+        return Err(SqlFault::NoMemory);
+    };
+    write(tx, T::put_text(), values.as_slice())?;
+    Ok(())
+}
+
+/// Removes the row of the intersection under the key, if there is one.
+pub fn remove<T: TimingKeyed, S: Alter>(
+    tx: &mut Transaction<'_, S>,
+    id: InterId,
+    key: &Key,
+) -> Result<(), SqlFault>
+    ensures same_reference { tx.new.conn.ghost_name ≡ tx.old.conn.ghost_name }
+    ensures ready { HasCleanDisk (state S.Store tx.new.conn.now) → OnOk result (IsReady (state S.Store tx.old.conn.now) → IsReady (state S.Store tx.new.conn.now)) }
+    ensures removed { HasCleanDisk (state S.Store tx.new.conn.now) → OnOk result (IsReady (state S.Store tx.old.conn.now) → content_now (state S.Store tx.new.conn.now) ≡ remove_in (content_now (state S.Store tx.old.conn.now)) T.table (timing_key id key.now)) }
+    ensures stands { StandsOn (state S.Store tx.old.conn.now) (state S.Store tx.new.conn.now) }
+    ensures crash { Survives (state S.Store tx.old.conn.now) (state S.Store tx.new.conn.now) (λ _. ⊥) }
+{
+    let kind = key.kind();
+    let first = key.first();
+    let second = key.second();
+    write(tx, T::remove_text(), params![id.get(), kind, first, second])?;
+    Ok(())
+}

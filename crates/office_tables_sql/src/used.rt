@@ -1,0 +1,96 @@
+//! The table `used_part`: the parts that were used for each order.
+
+ghost use Rattle.office_tables_shelf.specs.CabinetRows.{used_key, used_columns};
+
+use crate::listed::check_number;
+use crate::stored_row::StoredRow;
+use crate::value::{code_at, ranged_at};
+use cabinet_core::UsedLine;
+use office_tables_shelf::shelf::ShelfFault;
+use signal_records::{InterId, NoMemory};
+use sqlite::Row;
+use sqlite::types::{ToSql, ValueRef};
+use std::alloc::Global;
+
+const LIST: &str =
+    "SELECT inter, ord, line, part, amount FROM used_part WHERE inter = ?1 ORDER BY inter, ord, line";
+
+const FIND: &str =
+    "SELECT inter, ord, line, part, amount FROM used_part WHERE inter = ?1 AND ord = ?2 AND line = ?3";
+
+const PUT: &str =
+    "INSERT OR REPLACE INTO used_part (inter, ord, line, part, amount) VALUES (?1, ?2, ?3, ?4, ?5)";
+
+impl StoredRow for UsedLine {
+    ghost use Rattle.std.specs.Prelude.{refl};
+    ghost use Rattle.cabinet_core.specs.Within.{IsUsedLineWithin};
+    ghost use Rattle.office_tables_shelf.specs.declared.rows.Table.TheVariants as table;
+    ghost use Rattle.office_tables_sql.specs.declared.used.TheConstants.{LIST, FIND, PUT};
+    ghost use Rattle.office_tables_sql.specs.UsedTexts as texts;
+
+    type Of = InterId;
+
+    ghost number = { λ id. id };
+
+    ghost table = { table.UsedPart };
+
+    ghost key = { λ id used. used_key id used.order used.line };
+
+    ghost columns = { used_columns };
+
+    ghost is_within = { IsUsedLineWithin };
+
+    ghost list_text = { LIST.now };
+
+    ghost find_text = { FIND.now };
+
+    ghost put_text = { PUT.now };
+
+    ghost lists = { texts.lists };
+
+    ghost finds = { texts.finds };
+
+    ghost puts = { texts.puts };
+
+    ghost fits = { λ id used. record { given = λ limit db rows h. h.1; mends = refl; suits = refl; keyed = λ n. refl; shows = λ n. refl; whole = λ n. refl } };
+
+    fn list_text() -> &'static str {
+        LIST
+    }
+
+    fn find_text() -> &'static str {
+        FIND
+    }
+
+    fn put_text() -> &'static str {
+        PUT
+    }
+
+    fn read(alloc: Global, id: InterId, row: &Row) -> Result<UsedLine, ShelfFault> {
+        check_number(row, 0, id.get())?;
+        let order = ranged_at(row, 1)?;
+        let line = ranged_at(row, 2)?;
+        let part = code_at(alloc, row, 3)?;
+        let count = ranged_at(row, 4)?;
+        Ok(UsedLine {
+            order,
+            line,
+            part,
+            count,
+        })
+    }
+
+    fn bind<'a>(
+        &'a self,
+        alloc: Global,
+        id: InterId,
+        _text: &'a mut String,
+    ) -> Result<Vec<ValueRef<'a>>, NoMemory> {
+        let id = id.get().to_sql();
+        let order = self.order.get().to_sql();
+        let line = self.line.get().to_sql();
+        let part = self.part.as_str().to_sql();
+        let count = self.count.get().to_sql();
+        Ok(vec![in alloc; id, order, line, part, count]?)
+    }
+}
