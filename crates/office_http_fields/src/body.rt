@@ -1,8 +1,9 @@
 //! The body of a request: one JSON object, and the values under its keys.
 ghost use Rattle.std.specs.Prelude.{◌≡◌, option_map};
 ghost use Rattle.serde_json.specs.View.{view};
-ghost use Rattle.office_http_fields.specs.Asks.{Gives};
-ghost use Rattle.office_http_fields.specs.Bodies.{number_in, text_in, ranged_in, words_in, day_in, part_in, GivesBody};
+ghost use Rattle.json.specs.Word.{is_space as space_byte};
+ghost use Rattle.office_http_fields.specs.Asks.{Gives, WantsMemoryOnlyIf};
+ghost use Rattle.office_http_fields.specs.Bodies.{number_in, text_in, ranged_in, words_in, day_in, part_in, opens_object as opens, GivesBody, MayBeObject};
 
 use crate::ask::{AskFault, Field};
 use crate::value::{day_spelled, number_within, part_from, words_from};
@@ -10,14 +11,38 @@ use cabinet_core::{Day, PartCode};
 use serde_json::Value;
 use signal_records::{Number, Words};
 use std::alloc::Global;
+use std::str;
 
-/// The object that the bytes of a body are.
+fn is_space(byte: u8) -> bool
+    ensures { result ≡ space_byte byte }
+{
+    matches!(byte, b' ' | b'\t' | b'\n' | b'\r')
+}
+
+// Whether the first byte that is no space opens an object.
+fn opens_object(bytes: &[u8]) -> bool
+    ensures { result ≡ opens bytes.now }
+{
+    for byte in bytes {
+        if !is_space(*byte) {
+            return *byte == b'{';
+        }
+    }
+    false
+}
+
+/// The object that the bytes of a body are. Want of memory is told of no bytes that can't be an object:
+/// they are Json, however many they are.
 // Reading needs a large local: a request without a body is not to pay for it.
 #[inline(never)]
 pub fn read(alloc: Global, bytes: &[u8]) -> Result<Value, AskFault>
-    ensures { GivesBody result bytes.now }
+    ensures gives { GivesBody result bytes.now }
+    ensures memory { WantsMemoryOnlyIf result (MayBeObject bytes.now) }
 {
-    match Value::from_slice(alloc, bytes) {
+    let Ok(text) = str::from_utf8(bytes) else {
+        return Err(AskFault::Json);
+    };
+    match Value::from_str(alloc, text) {
         Ok(value) => {
             if value.is_object() {
                 Ok(value)
@@ -26,7 +51,8 @@ pub fn read(alloc: Global, bytes: &[u8]) -> Result<Value, AskFault>
             }
         }
         Err(fault) => {
-            if fault.is_memory() {
+            // The reader may tell want of memory of any text: only of one that may be an object is it told on.
+            if fault.is_memory() && opens_object(bytes) {
                 Err(AskFault::NoMemory)
             } else {
                 Err(AskFault::Json)
