@@ -1,5 +1,6 @@
 -- The object that a body is, from what a reader of JSON says of it.
 use Rattle.std.proofs.Common.{◌≡◌, ℕ, List, Bool, true, false, Some, None, Ok, Err, is_some, refl, cond}
+use Rattle.std.specs.Option.{option_and_then}
 use Rattle.std.specs.Str.{IsUtf8, is_utf8}
 use Rattle.std.proofs.lemmas.Str.{is_utf8-from_IsUtf8, IsUtf8-from_is_utf8}
 use Rattle.serde_json.specs.Data.{Data, null, boolean, number, string, array, object}
@@ -7,7 +8,8 @@ use Rattle.serde_json.specs.Read.{read}
 use Rattle.serde_json.specs.Find.{as_object}
 use Rattle.office_http_fields.specs.declared.ask.AskFault.TheVariants.{Json}
 use Rattle.office_http_fields.specs.Asks.{or_fault}
-use Rattle.office_http_fields.specs.Bodies.{object_in, body_of}
+use Rattle.office_http_fields.specs.Bodies.{object_in, body_of, opens_object}
+use Rattle.office_http_fields.proofs.OpeningLemmas.{read-no_object}
 
 object_in-object : (d : Data) → is_some (as_object d) ≡ true → object_in d ≡ Some d
 object_in-object null h = cc
@@ -40,6 +42,15 @@ pub body_of-unread : (bytes : List ℕ) → (IsUtf8 bytes → read bytes ≡ Non
 unfolding body_of
 body_of-unread bytes unread = by_test (is_utf8 bytes) (λ t. unread (IsUtf8-from_is_utf8 bytes t))
   where
-    by_test : (b : Bool) → (b ≡ true → read bytes ≡ None) → or_fault Json (Rattle.std.specs.Option.option_and_then object_in (cond b (read bytes) None)) ≡ Err Json
+    by_test : (b : Bool) → (b ≡ true → read bytes ≡ None) → or_fault Json (option_and_then object_in (cond b (read bytes) None)) ≡ Err Json
     by_test true h = rw (h refl)
     by_test false h = refl
+
+-- a text that opens no object
+pub body_of-unopened : (bytes : List ℕ) → opens_object bytes ≡ false → body_of bytes ≡ Err Json
+unfolding body_of
+body_of-unopened bytes closed = by_test (is_utf8 bytes)
+  where
+    by_test : (b : Bool) → or_fault Json (option_and_then object_in (cond b (read bytes) None)) ≡ Err Json
+    by_test true = rw (read-no_object bytes closed)
+    by_test false = refl

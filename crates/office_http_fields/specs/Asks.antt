@@ -1,5 +1,5 @@
 -- What a request asks, as a chain of steps of which each may find a fault.
-use Rattle.std.specs.Prelude.{◌≡◌, ◌≢◌, Option, Some, None, Result, Ok, Err}
+use Rattle.std.specs.Prelude.{◌≡◌, ◌≢◌, Option, Some, None, Result, Ok, Err, ⊤}
 use Rattle.office_http_fields.specs.declared.ask.AskFault.{AskFault}
 use Rattle.office_http_fields.specs.declared.ask.AskFault.TheVariants.{NoRoute, Field as FieldFault, NoMemory}
 use Rattle.office_http_fields.specs.declared.ask.Field.{Field}
@@ -8,6 +8,11 @@ use Rattle.office_http_fields.specs.declared.ask.Field.{Field}
 abbrev pub Gives : {A : Type 0} → Result A AskFault → Result A AskFault → Type 0
 Gives (Ok x) wanted = wanted ≡ Ok x
 Gives (Err fault) wanted = fault ≢ NoMemory → wanted ≡ Err fault
+
+-- want of memory is told only where the fact holds
+abbrev pub WantsMemoryOnlyIf : {A : Type 0} → Result A AskFault → Type 0 → Type 0
+WantsMemoryOnlyIf (Ok x) P = ⊤
+WantsMemoryOnlyIf (Err fault) P = fault ≡ NoMemory → P
 
 -- a step, and the next on what it gave
 infixl 10 ◌>>=◌

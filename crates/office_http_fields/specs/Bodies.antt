@@ -1,6 +1,7 @@
 -- The body of a request: one JSON object, and the values under its keys.
-use Rattle.std.specs.Prelude.{◌≡◌, ◌≢◌, ℕ, List, Option, Some, None, Result, Ok, Err, option_and_then, if◌then◌else◌}
+use Rattle.std.specs.Prelude.{◌≡◌, ◌≢◌, ℕ, List, [], ◌∷◌, Bool, false, ◌==◌, IsTrue, IsUtf8, Option, Some, None, Result, Ok, Err, option_and_then, if◌then◌else◌}
 use Rattle.std.specs.Str.{is_utf8}
+use Rattle.json.specs.Word.{is_space}
 use Rattle.serde_json.specs.Data.{Data, object}
 use Rattle.serde_json.specs.Read.{read}
 use Rattle.serde_json.specs.Find.{get, as_number, as_str, as_u64}
@@ -17,6 +18,15 @@ use Rattle.office_http_fields.specs.Values.{day_spelled, part_of, within, words_
 -- the data that the bytes are
 abbrev pub json_of : List ℕ → Option Data
 json_of bytes = if is_utf8 bytes then read bytes else None
+
+-- the first byte that is no space opens an object
+abbrev pub opens_object : List ℕ → Bool
+opens_object [] = false
+opens_object (b ∷ bytes) = if is_space b then opens_object bytes else b == 123
+
+-- UTF-8 that opens an object: no other bytes are one
+abbrev pub MayBeObject : List ℕ → Type 0
+MayBeObject bytes = IsUtf8 bytes × IsTrue (opens_object bytes)
 
 -- the data, if it is an object
 abbrev pub object_in : Data → Option Data

@@ -1,23 +1,50 @@
 //! The body of a request: one JSON object, and the values under its keys.
-ghost use Rattle.std.specs.Prelude.{◌≡◌, option_map};
+ghost use Rattle.std.specs.Prelude.{◌≡◌, Some, option_map, IfErr, IfOk, IsOk};
+ghost use Rattle.std.specs.Result.{result_map_both};
 ghost use Rattle.serde_json.specs.View.{view};
-ghost use Rattle.office_http_fields.specs.Asks.{Gives};
-ghost use Rattle.office_http_fields.specs.Bodies.{number_in, text_in, ranged_in, words_in, day_in, part_in, GivesBody};
+ghost use Rattle.json.specs.Word.{is_space as space_byte};
+ghost use Rattle.office_http_fields.specs.Asks.{Gives, WantsMemoryOnlyIf};
+ghost use Rattle.office_http_fields.specs.Bodies.{number_in, text_in, ranged_in, words_in, day_in, part_in, opens_object as opens, GivesBody, MayBeObject};
+ghost use Rattle.office_http_fields.specs.Values.{words_of};
 
 use crate::ask::{AskFault, Field};
-use crate::value::{day_spelled, number_within, part_from, words_from};
+use crate::value::{day_spelled, is_part_code, is_words, number_within, part_from, words_from};
 use cabinet_core::{Day, PartCode};
 use serde_json::Value;
-use signal_records::{Number, Words};
+use signal_records::{NoMemory, Number, Words};
 use std::alloc::Global;
+use std::str;
 
-/// The object that the bytes of a body are.
+fn is_space(byte: u8) -> bool
+    ensures { result ≡ space_byte byte }
+{
+    matches!(byte, b' ' | b'\t' | b'\n' | b'\r')
+}
+
+// Whether the first byte that is no space opens an object.
+fn opens_object(bytes: &[u8]) -> bool
+    ensures { result ≡ opens bytes.now }
+{
+    for byte in bytes {
+        if !is_space(*byte) {
+            return *byte == b'{';
+        }
+    }
+    false
+}
+
+/// The object that the bytes of a body are. Want of memory is told of no bytes that can't be an object:
+/// they are Json, however many they are.
 // Reading needs a large local: a request without a body is not to pay for it.
 #[inline(never)]
 pub fn read(alloc: Global, bytes: &[u8]) -> Result<Value, AskFault>
-    ensures { GivesBody result bytes.now }
+    ensures gives { GivesBody result bytes.now }
+    ensures memory { WantsMemoryOnlyIf result (MayBeObject bytes.now) }
 {
-    match Value::from_slice(alloc, bytes) {
+    let Ok(text) = str::from_utf8(bytes) else {
+        return Err(AskFault::Json);
+    };
+    match Value::from_str(alloc, text) {
         Ok(value) => {
             if value.is_object() {
                 Ok(value)
@@ -26,7 +53,8 @@ pub fn read(alloc: Global, bytes: &[u8]) -> Result<Value, AskFault>
             }
         }
         Err(fault) => {
-            if fault.is_memory() {
+            // The reader may tell want of memory of any text: only of one that may be an object is it told on.
+            if fault.is_memory() && opens_object(bytes) {
                 Err(AskFault::NoMemory)
             } else {
                 Err(AskFault::Json)
@@ -55,39 +83,71 @@ pub fn number<Of, const LOW: u32, const HIGH: u32>(
     body: &Value,
     field: Field,
 ) -> Result<Number<Of, LOW, HIGH>, AskFault>
-    ensures { result ≡ ranged_in LOW HIGH (view body.now) field }
+    ensures number { result ≡ ranged_in LOW HIGH (view body.now) field }
+    ensures fault { IfErr result (λ fault. fault ≡ AskFault.Field field) }
 {
     let n = whole(body, field).ok_or(AskFault::Field(field))?;
     number_within(n).ok_or(AskFault::Field(field))
 }
 
-/// The words under a key.
-#[tactic(auto, unfolding(crate::specs::Bodies::words_in))]
+/// The text under a key, where it is words of at most so many bytes. It takes no memory.
+#[tactic(auto, unfolding(crate::specs::Bodies::words_in, crate::specs::Values::words_of))]
+pub fn words_text(body: &Value, field: Field, max: usize) -> Result<&str, AskFault>
+    ensures text { result_map_both (λ text. text.now) (λ fault. fault) result ≡ words_in max (view body.now) field }
+    ensures words { IfOk result (λ text. words_of max text.now ≡ Some text.now) }
+    ensures fault { IfErr result (λ fault. fault ≡ AskFault.Field field) }
+{
+    let text = text(body, field).ok_or(AskFault::Field(field))?;
+    if is_words(max, text.as_bytes()) {
+        Ok(text)
+    } else {
+        Err(AskFault::Field(field))
+    }
+}
+
+/// The words that a text is, which was seen to be some.
+pub fn words_copied<const MAX: usize>(alloc: Global, text: &str) -> Result<Words<MAX>, NoMemory>
+    requires { words_of MAX text.now ≡ Some text.now }
+    ensures { IfOk result (λ words. words ≡ text.now) }
+{
+    let Some(words) = words_from(alloc, text.as_bytes())? else {
+        unreachable!();
+    };
+    Ok(words)
+}
+
+/// The words under a key. Want of memory is told of words alone.
 pub fn words<const MAX: usize>(
     alloc: Global,
     body: &Value,
     field: Field,
 ) -> Result<Words<MAX>, AskFault>
-    ensures { Gives result (words_in MAX (view body.now) field) }
+    ensures gives { Gives result (words_in MAX (view body.now) field) }
+    ensures memory { WantsMemoryOnlyIf result (IsOk (words_in MAX (view body.now) field)) }
 {
-    let text = text(body, field).ok_or(AskFault::Field(field))?;
-    words_from(alloc, text.as_bytes())?.ok_or(AskFault::Field(field))
+    let text = words_text(body, field, MAX)?;
+    Ok(words_copied(alloc, text)?)
 }
 
 /// The day under its key.
 #[tactic(auto, unfolding(crate::specs::Bodies::day_in))]
 pub fn day(body: &Value) -> Result<Day, AskFault>
-    ensures { result ≡ day_in (view body.now) }
+    ensures day { result ≡ day_in (view body.now) }
+    ensures fault { IfErr result (λ fault. fault ≡ AskFault.Field Field.Day) }
 {
     let text = text(body, Field::Day).ok_or(AskFault::Field(Field::Day))?;
     day_spelled(text.as_bytes()).ok_or(AskFault::Field(Field::Day))
 }
 
-/// The code of a part under its key.
-#[tactic(auto, unfolding(crate::specs::Bodies::part_in))]
+/// The code of a part under its key. Want of memory is told of a code alone.
+#[tactic(auto, unfolding(crate::specs::Bodies::part_in, crate::specs::Values::part_of))]
 pub fn part(alloc: Global, body: &Value) -> Result<PartCode, AskFault>
-    ensures { Gives result (part_in (view body.now)) }
+    ensures gives { Gives result (part_in (view body.now)) }
+    ensures memory { WantsMemoryOnlyIf result (IsOk (part_in (view body.now))) }
 {
     let text = text(body, Field::Part).ok_or(AskFault::Field(Field::Part))?;
+    if !is_part_code(text.as_bytes()) {
+        return Err(AskFault::Field(Field::Part));
+    }
     part_from(alloc, text.as_bytes())?.ok_or(AskFault::Field(Field::Part))
 }

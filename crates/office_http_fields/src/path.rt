@@ -1,5 +1,5 @@
 //! The segments of a path, and the fields that they spell.
-ghost use Rattle.std.specs.Prelude.{◌≡◌, ◌≤◌, length, position};
+ghost use Rattle.std.specs.Prelude.{◌≡◌, ◌≤◌, length, position, IfErr};
 ghost use Rattle.std.specs.List.{position_or_len, after_first};
 ghost use Rattle.office_http_fields.specs.Paths.{is_slash, segment as segment_of, id_at, order_at, day_at};
 
@@ -48,7 +48,8 @@ pub(crate) fn segment(path: &[u8], index: usize) -> &[u8]
 /// The intersection of a path: its third segment.
 #[tactic(auto, unfolding(crate::specs::Paths::id_at))]
 pub fn id(path: &[u8]) -> Result<InterId, AskFault>
-    ensures { result ≡ id_at path.now }
+    ensures id { result ≡ id_at path.now }
+    ensures fault { IfErr result (λ fault. fault ≡ AskFault.Field Field.Id) }
 {
     number_spelled(segment(path, 2)).ok_or(AskFault::Field(Field::Id))
 }
@@ -56,7 +57,8 @@ pub fn id(path: &[u8]) -> Result<InterId, AskFault>
 /// The order of a path: its fifth segment.
 #[tactic(auto, unfolding(crate::specs::Paths::order_at))]
 pub fn order(path: &[u8]) -> Result<RecordNo, AskFault>
-    ensures { result ≡ order_at path.now }
+    ensures order { result ≡ order_at path.now }
+    ensures fault { IfErr result (λ fault. fault ≡ AskFault.Field Field.Order) }
 {
     number_spelled(segment(path, 4)).ok_or(AskFault::Field(Field::Order))
 }
@@ -64,7 +66,8 @@ pub fn order(path: &[u8]) -> Result<RecordNo, AskFault>
 /// The day of a path: its third segment.
 #[tactic(auto, unfolding(crate::specs::Paths::day_at))]
 pub fn day(path: &[u8]) -> Result<Day, AskFault>
-    ensures { result ≡ day_at path.now }
+    ensures day { result ≡ day_at path.now }
+    ensures fault { IfErr result (λ fault. fault ≡ AskFault.Field Field.Day) }
 {
     day_spelled(segment(path, 2)).ok_or(AskFault::Field(Field::Day))
 }

@@ -2,13 +2,16 @@
 ghost use Rattle.std.specs.Prelude.{◌≡◌, ◌-◌, ◌^◌, min, true, false, IfNone, IfSome, IfOk};
 ghost use Rattle.std.specs.Char.{is_ascii_digit};
 ghost use Rattle.std.specs.List.{list_all};
+ghost use Rattle.std.specs.Str.{is_utf8};
 ghost use Rattle.std.specs.Str.Parse.{digits_value};
 ghost use Rattle.signal_records.specs.Reading.{is_numeral};
-ghost use Rattle.office_http_fields.specs.Values.{within, number_spelled as spelled, words_of, day_spelled as day_of, part_of};
+ghost use Rattle.office_http_fields.specs.Values.{within, number_spelled as spelled, words_of, is_words as words_test, is_printed as printed, day_spelled as day_of, part_of, is_part_code as part_test};
+ghost use Rattle.cabinet_core.specs.Part.{is_code_byte as code_byte};
 
 use cabinet_core::{Day, PartCode, read_day};
 use signal_records::{NoMemory, Number, Words};
 use std::alloc::Global;
+use std::str;
 
 /// The number, where it is in its range.
 pub(crate) fn number_within<Of, const LOW: u32, const HIGH: u32>(
@@ -58,6 +61,31 @@ pub(crate) fn number_spelled<Of, const LOW: u32, const HIGH: u32>(
     number_within(numeral(text)?)
 }
 
+fn is_printed(byte: u8) -> bool
+    ensures { result ≡ printed byte }
+{
+    32 <= byte && byte != 127
+}
+
+fn are_printed(text: &[u8]) -> bool
+    ensures { result ≡ list_all printed text.now }
+{
+    text.iter().all(|byte| is_printed(*byte))
+}
+
+fn is_text(bytes: &[u8]) -> bool
+    ensures { result ≡ is_utf8 bytes.now }
+{
+    str::from_utf8(bytes).is_ok()
+}
+
+/// Whether a text is words of at most so many bytes.
+pub(crate) fn is_words(max: usize, text: &[u8]) -> bool
+    ensures { result ≡ words_test max text.now }
+{
+    is_text(text) && !text.is_empty() && text.len() <= max && are_printed(text)
+}
+
 /// The words that a text is.
 pub(crate) fn words_from<const MAX: usize>(
     alloc: Global,
@@ -73,6 +101,25 @@ pub(crate) fn day_spelled(text: &[u8]) -> Option<Day>
     ensures { result ≡ day_of text.now }
 {
     read_day(text)
+}
+
+fn is_code_byte(byte: u8) -> bool
+    ensures { result ≡ code_byte byte }
+{
+    matches!(byte, b'A'..=b'Z' | b'0'..=b'9' | b'-')
+}
+
+fn are_code_bytes(text: &[u8]) -> bool
+    ensures { result ≡ list_all code_byte text.now }
+{
+    text.iter().all(|byte| is_code_byte(*byte))
+}
+
+/// Whether a text is the code of a part.
+pub(crate) fn is_part_code(text: &[u8]) -> bool
+    ensures { result ≡ part_test text.now }
+{
+    !text.is_empty() && text.len() <= 20 && are_code_bytes(text)
 }
 
 /// The code of a part that a text is.
