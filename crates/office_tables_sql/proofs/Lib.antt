@@ -16,3 +16,4 @@ pub mod ListLemmas
 pub mod ListedLemmas
 mod TableLists
 mod IntersectionLists
+mod CheckLemmas
