@@ -1,3 +1,5 @@
 mod VersionLemmas
 mod StatementLemmas
 mod BlankLemmas
+mod ArrangedLemmas
+mod OpenLemmas
