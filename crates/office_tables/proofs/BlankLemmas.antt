@@ -41,6 +41,13 @@ absent shape.Pageless h = absurd (omega (arith, h))
 absent shape.FrozenTable h = absurd (omega (arith, h))
 absent (shape.FrozenIndex o) h = absurd (omega (arith, h))
 
+-- the trees of the nine tables have no row
+pub sixteen : (trees : Trees) → ((t : ℕ) → t < 16 → trees t ≡ []) → (version_in trees ≡ None) × AreEmpty trees
+sixteen trees none = (
+  ap (λ rows. get (rows_in layout.office_version rows) (number (pos 1) ∷ [])) (none 15 (omega arith)) ∙ get-empty cells_cmp (number (pos 1) ∷ []),
+  (none 0 (omega arith), (none 1 (omega arith), (none 3 (omega arith), (none 5 (omega arith), (none 7 (omega arith), (none 9 (omega arith), (none 11 (omega arith), (none 13 (omega arith), tt)))))))),
+)
+
 module _ (trees : Trees) (it : IsArranged trees) (none : AreListed (trees catalog_tree) no_schema) where
   no_rows : (tree : ℕ) → tree < 65536 → trees tree ≡ []
   no_rows tree low =
@@ -48,8 +55,5 @@ module _ (trees : Trees) (it : IsArranged trees) (none : AreListed (trees catalo
       ∙ ap (λ objects. number_in (column (row_for objects tree) 5)) (no_objects _ none) in
       subst (λ s. IsShaped s (trees tree)) (absent _ code) (it.ordered tree low)
 
-  pub blank_rows : AreEmpty trees
-  blank_rows = (no_rows 0 (omega arith), (no_rows 1 (omega arith), (no_rows 3 (omega arith), (no_rows 5 (omega arith), (no_rows 7 (omega arith), (no_rows 9 (omega arith), (no_rows 11 (omega arith), (no_rows 13 (omega arith), tt))))))))
-
-  pub blank_version : version_in trees ≡ None
-  blank_version = ap (λ rows. get (rows_in layout.office_version rows) (number (pos 1) ∷ [])) (no_rows 15 (omega arith)) ∙ get-empty cells_cmp (number (pos 1) ∷ [])
+  pub blank_rows : (version_in trees ≡ None) × AreEmpty trees
+  blank_rows = sixteen trees (λ t low. no_rows t (omega (arith, low)))

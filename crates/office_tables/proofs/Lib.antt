@@ -3,3 +3,4 @@ mod StatementLemmas
 mod BlankLemmas
 mod ArrangedLemmas
 mod OpenLemmas
+mod VacantLemmas

@@ -1,5 +1,5 @@
 -- What the steps of an opening come to.
-use Rattle.std.proofs.Common.{◌≡◌, ◌≢◌, ◌⊎◌, inl, inr, Option, None, Some, IfSome, IsTrue, Bool, true, false, not, refl, sym, ap, subst, ◌∙◌, arith}
+use Rattle.std.proofs.Common.{◌≡◌, ◌≢◌, ◌⊎◌, inl, inr, ℕ, List, [], ◌∷◌, Option, None, Some, IfSome, IsTrue, Bool, true, false, not, refl, sym, ap, subst, ◌∙◌, arith}
 use Rattle.sqlite.specs.Effect.{Database, IsDatabase}
 use Rattle.sqlite.specs.Held.{Held, state}
 use Rattle.sqlite.specs.State.{State, HasCleanDisk}
@@ -12,7 +12,7 @@ use Rattle.office_tables_sql.specs.Calls.{IsHonest, IsOffice}
 use Rattle.office_tables_sql.specs.Schema.{office_schema, no_schema}
 use Rattle.office_tables_sql.specs.Stored.{content_now, content_of}
 use Rattle.office_tables.specs.Arranged.{IsArranged}
-use Rattle.office_tables.specs.Opening.{AreMade, IsAsFound, IsOpened, IsRefused, MayBeTaken, HasOtherVersion, HasRowsAlone, OnlyReads}
+use Rattle.office_tables.specs.Opening.{AreMade, AreRun, IsAsFound, IsOpened, IsRefused, MayBeTaken, HasOtherVersion, HasRowsAlone, OnlyReads}
 use Rattle.office_tables.specs.SqlShelf.{SqlView}
 use Rattle.office_tables.specs.Version.{AreEmpty, version_in, first_version}
 use Rattle.office_tables.specs.declared.open.OpenFault.{OpenFault}
@@ -47,9 +47,13 @@ only_reads_found old new only settled = record {
     go trees (inl was) = was
     go trees (inr none) = absurd none
 
--- the first statement that made a table found the connection open
+-- the first statement found the connection open
 pub made_open : {S : Type 0} (g : Ghosts S) (old new : Held S) → AreMade g old new → IsTrue (state g old).is_open
-made_open g old new made = made.run.2.1.was_open
+made_open g old new made = made.run.dropped.2.1.was_open
+
+pub run_inside : {S : Type 0} (g : Ghosts S) (texts : List (List ℕ)) (old new : Held S) → AreRun g texts old new → old.in_transaction ≡ true → new.in_transaction ≡ true
+run_inside g [] old new is h = ap (λ (x : Held _). x.in_transaction) is ∙ h
+run_inside g (text ∷ more) old new run h = run_inside g more run.0 new run.3 run.2.1.mode
 
 module _ {S : Type 0} (g : Ghosts S) (conn : Held S) where
   abbrev IsSettled : Type 0

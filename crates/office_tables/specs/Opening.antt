@@ -12,6 +12,7 @@ use Rattle.office_tables_sql.specs.Schema.{no_schema}
 use Rattle.office_tables_sql.specs.Stored.{content_now, content_of}
 use Rattle.office_tables.specs.SqlShelf.{SqlView}
 use Rattle.office_tables.specs.Version.{AreEmpty, HasRow, version_in, first_version}
+use Rattle.office_tables.specs.declared.open.TheConstants.{DROPS}
 use Rattle.office_tables.specs.declared.open.OpenFault.{OpenFault}
 use Rattle.office_tables.specs.declared.open.OpenFault.TheVariants as fault
 
@@ -24,6 +25,11 @@ HasOtherVersion trees = (version_in trees ≢ None) × (version_in trees ≢ Som
 
 abbrev pub HasRowsAlone : Trees → Type 0
 HasRowsAlone trees = (version_in trees ≡ None) × HasRow trees
+
+-- the name is one of these
+abbrev pub IsOneOf : List ℕ → List (List ℕ) → Type 0
+IsOneOf name [] = ⊥
+IsOneOf name (first ∷ more) = (name ≡ first) ⊎ IsOneOf name more
 
 -- nothing was written, and the shelf goes on
 abbrev pub OnlyReads : State → State → Type 0
@@ -41,10 +47,16 @@ module _ {S : Type 0} (g : Ghosts S) where
   AreRun [] old new = new ≡ old
   AreRun (sql ∷ more) old new = (mid : Held S) × (count : ℕ) × ExecutesInside 0 sql [] (state g old) (state g mid) (Ok count) × AreRun more mid new
 
-  -- all tables were made and committed at once
+  -- tables of these names were dropped, and all tables made
+  pub record AreMadeAnew (old new : Held S) : Type 0 where
+    pub emptied : Held S
+    pub dropped : AreRun (map (λ text. text.now) DROPS) old emptied
+    pub made : AreRun (map (λ text. text.now) CREATES) emptied new
+
+  -- the same, committed at once
   pub record AreMade (old new : Held S) : Type 0 where
     pub last : Held S
-    pub run : AreRun (map (λ text. text.now) CREATES) (record old { in_transaction = true }) last
+    pub run : AreMadeAnew (record old { in_transaction = true }) last
     pub committed : (state g new).committed ≡ (state g last).now
 
   -- what is known of the tables that were opened over a connection

@@ -1,6 +1,7 @@
 //! Opening the tables of the office.
 
-ghost use Rattle.std.specs.Prelude.{◌≡◌, ◌≢◌, ◌⊎◌, ◌≤◌, true, false, map, Err, None, Some, IsTrue, IfOk, IfErr, IfSome, OnOk};
+ghost use Rattle.std.specs.Prelude.{◌≡◌, ◌≢◌, ◌⊎◌, ◌≤◌, true, false, map, [], Err, None, Some, IsTrue, IfOk, IfErr, IfSome, OnOk};
+ghost use Rattle.std.specs.List.{AllByRecursion};
 ghost use Rattle.sqlite.specs.State.{HasCleanDisk, IsLive, Opens, Survives};
 ghost use Rattle.sqlite.specs.Held.{state};
 ghost use Rattle.sqlite_trees.specs.View.{doubt};
@@ -9,12 +10,15 @@ ghost use Rattle.office_tables_sql.specs.Stored.{content_now, content_of};
 ghost use Rattle.office_tables_sql.specs.Calls.{IsHonest, IsOffice};
 ghost use Rattle.office_tables.specs.Version.{AreEmpty, HasRow, version_in, first_version};
 ghost use Rattle.office_tables.specs.Arranged.{IsArranged};
-ghost use Rattle.office_tables.specs.Opening.{AreMade, AreRun, HasOtherVersion, HasRowsAlone, MayBeTaken, OnlyReads};
+ghost use Rattle.office_tables.specs.declared.open.TheConstants.{NAMES};
+ghost use Rattle.office_tables.specs.Opening.{AreMade, AreMadeAnew, AreRun, HasOtherVersion, HasRowsAlone, IsOneOf, MayBeTaken, OnlyReads};
 
+use crate::vacant::vacant;
 use crate::version::{are_empty, is_first, store_version, stored_version};
 use office_tables_sql::schema::{CREATES, is_blank, is_office};
 use office_tables_sql::statement::SqlFault;
 use sqlite::{Alter, Connection, Transaction};
+use sqlite_schema::schema::{Schema, Table};
 use sqlite_trees::store::Store;
 use std::alloc::Global;
 
@@ -25,7 +29,8 @@ pub enum OpenFault {
     Version,
     /// No version is stored, and a table has a row.
     Damaged,
-    /// The database refused, or it has other tables, or a transaction is under way.
+    /// The database refused, or it has other tables, or these in another layout with rows, or a
+    /// transaction is under way.
     Store,
     /// A growth was refused.
     NoMemory,
@@ -45,7 +50,8 @@ impl From<SqlFault> for OpenFault {
     }
 }
 
-/// The same database, which was checked again, so that each tree is known to hold what its list of objects says.
+/// The same database, which was checked again, so that each tree is known to hold what its list
+/// of objects says.
 pub(crate) fn checked<S: Alter + Drop>(
     alloc: Global,
     conn: Connection<S>,
@@ -68,16 +74,77 @@ pub(crate) fn checked<S: Alter + Drop>(
     }
 }
 
-/// Makes the tables, all or none, in the order of their numbers.
+/// The nine names, those first whose tables refer to others.
+const NAMES: [&str; 9] = [
+    "used_part",
+    "delivery",
+    "work_order",
+    "inspection",
+    "draft",
+    "timing",
+    "part",
+    "intersection",
+    "office_version",
+];
+
+/// What drops the tables of those names.
+const DROPS: [&str; 9] = [
+    "DROP TABLE IF EXISTS used_part",
+    "DROP TABLE IF EXISTS delivery",
+    "DROP TABLE IF EXISTS work_order",
+    "DROP TABLE IF EXISTS inspection",
+    "DROP TABLE IF EXISTS draft",
+    "DROP TABLE IF EXISTS timing",
+    "DROP TABLE IF EXISTS part",
+    "DROP TABLE IF EXISTS intersection",
+    "DROP TABLE IF EXISTS office_version",
+];
+
+fn is_one_of(name: &[u8], names: &[&str]) -> bool
+    ensures { IsTrue result → IsOneOf name.now (map (λ text. text.now) names.now) }
+{
+    let Some((first, names)) = names.split_first() else {
+        return false;
+    };
+    name == first.as_bytes() || is_one_of(name, names)
+}
+
+fn are_named(tables: &[Table], names: &[&str]) -> bool
+    ensures { IsTrue result → AllByRecursion (λ t. IsOneOf t.name (map (λ text. text.now) names.now)) tables.now }
+{
+    let Some((table, tables)) = tables.split_first() else {
+        return true;
+    };
+    is_one_of(table.name.as_slice(), names) && are_named(tables, names)
+}
+
+/// Whether each table has one of the nine names, and there is no view.
+pub(crate) fn has_only_ours(schema: &Schema) -> bool
+    ensures named { IsTrue result → AllByRecursion (λ t. IsOneOf t.name (map (λ text. text.now) NAMES)) schema.now.tables }
+    ensures no_views { IsTrue result → schema.now.views ≡ [] }
+{
+    schema.views.is_empty() && are_named(schema.tables.as_slice(), &NAMES)
+}
+
+/// Makes the tables anew, all or none, in the order of their numbers.
 fn make_tables<S: Alter>(conn: &mut Connection<S>) -> Result<(), SqlFault>
     requires { (state S.Store conn.old).in_transaction ≡ false }
     ensures clean { doubt (state S.Store conn.old).is_clean ≤ doubt (state S.Store conn.new).is_clean }
     ensures made { HasCleanDisk (state S.Store conn.new) → OnOk result (AreMade S.Store conn.old conn.new) }
 {
     let mut tx = conn.transaction();
-    run_all(&mut tx, &CREATES)?;
+    make_anew(&mut tx)?;
     tx.commit()?;
     Ok(())
+}
+
+fn make_anew<S: Alter>(tx: &mut Transaction<'_, S>) -> Result<(), SqlFault>
+    ensures same_reference { tx.new.conn.ghost_name ≡ tx.old.conn.ghost_name }
+    ensures clean { doubt (state S.Store tx.old.conn.now).is_clean ≤ doubt (state S.Store tx.new.conn.now).is_clean }
+    ensures made { HasCleanDisk (state S.Store tx.new.conn.now) → tx.old.conn.now.in_transaction ≡ true → OnOk result (AreMadeAnew S.Store tx.old.conn.now tx.new.conn.now) }
+{
+    run_all(tx, &DROPS)?;
+    run_all(tx, &CREATES)
 }
 
 fn run_all<S: Alter>(tx: &mut Transaction<'_, S>, texts: &[&str]) -> Result<(), SqlFault>
@@ -146,7 +213,8 @@ pub(crate) type Prepared<S> = (Connection<S>, bool);
 /// Why tables were refused, and the connection as it was.
 pub(crate) type Refused<S> = (OpenFault, Option<Connection<S>>);
 
-/// The same database where its tables are those of the office, which are made where there are none, and whether they were made.
+/// The same database where its tables are those of the office, which are made anew where nothing
+/// is stored, and whether they were made.
 pub(crate) fn prepared<S: Alter + Drop>(
     alloc: Global,
     conn: Connection<S>,
@@ -171,9 +239,30 @@ pub(crate) fn prepared<S: Alter + Drop>(
         };
     }
     if is_office(conn.schema()) {
-        Ok((conn, false))
-    } else {
-        Err((OpenFault::Store, Some(conn)))
+        return Ok((conn, false));
+    }
+    if !has_only_ours(conn.schema()) {
+        return Err((OpenFault::Store, Some(conn)));
+    }
+    match laid_anew(alloc, conn) {
+        Ok(conn) => Ok((conn, true)),
+        Err(fault) => Err((fault, None)),
+    }
+}
+
+/// The same database with the tables of the office, where no tree of it has a row.
+fn laid_anew<S: Alter + Drop>(
+    alloc: Global,
+    conn: Connection<S>,
+) -> Result<Connection<S>, OpenFault>
+    ensures office { IfOk result (λ c. IsOffice (state S.Store c)) }
+    ensures clean { IfOk result (λ c. doubt (state S.Store conn).is_clean ≤ doubt (state S.Store c).is_clean) }
+    ensures made { IfOk result (λ c. HasCleanDisk (state S.Store c) → (version_in (state S.Store conn).committed.trees ≡ None) × AreEmpty (state S.Store conn).committed.trees) }
+    ensures fault { IfErr result (λ fault. (fault ≢ OpenFault.Version) × (fault ≢ OpenFault.Damaged)) }
+{
+    match vacant(alloc, conn)? {
+        Some(conn) => with_tables(alloc, conn),
+        None => Err(OpenFault::Store),
     }
 }
 

@@ -11,7 +11,7 @@ ghost use Rattle.office_tables.specs.Arranged.{IsArranged};
 ghost use Rattle.office_tables.specs.Opening.{IsOpened, IsRefused};
 
 use crate::change;
-use crate::open::{OpenFault, checked, claim, prepared};
+use crate::open::{OpenFault, checked, claim, has_only_ours, prepared};
 use cabinet_core::{Delivery, Hand, Inspection, Order, PartCode, UsedLine};
 use office_tables_cabinet::{delivery, inspection, order, part, used};
 use office_tables_shelf::counts::WriteCounts;
@@ -46,7 +46,8 @@ impl<S: Alter> Model for SqlShelf<S> {
 }
 
 impl<S: Alter> SqlShelf<S> {
-    /// Takes the tables of the office, which are made where the database has none. Version 1 is stored where none is and no table has a row.
+    /// Takes the tables of the office. Where no table has a row they are made, also where some are
+    /// missing or another layout has them. Version 1 is stored where none is and no table has a row.
     /// A transaction that is under way is refused. Where it refuses, the connection is dropped.
     pub fn open(alloc: Global, conn: Connection<S>) -> Result<SqlShelf<S>, OpenFault>
     where
@@ -60,8 +61,8 @@ impl<S: Alter> SqlShelf<S> {
         }
     }
 
-    /// As `open`, and gives the connection back where it refuses its tables. The database is checked
-    /// again first, which shows that the rows of each table are in order.
+    /// As `open`, and gives the connection back where it refuses its tables. The database is
+    /// checked again first, which shows that the rows of each table are in order.
     pub fn open_returning(
         alloc: Global,
         conn: Connection<S>,
@@ -74,8 +75,7 @@ impl<S: Alter> SqlShelf<S> {
         if !conn.is_autocommit() {
             return Err((OpenFault::Store, None));
         }
-        let is_known = is_blank(conn.schema()) || is_office(conn.schema());
-        if !is_known {
+        if !has_only_ours(conn.schema()) {
             return Err((OpenFault::Store, Some(conn)));
         }
         match checked(alloc, conn) {
@@ -121,8 +121,8 @@ impl<S: Alter> SqlShelf<S> {
 }
 
 impl<S: Start> SqlShelf<FileStore<FileFrom<S>>> {
-    /// As `open_returning`, over files that were just opened: the open has read and checked the whole
-    /// database, so that it is not read again.
+    /// As `open_returning`, over files that were just opened: the open has read and checked the
+    /// whole database, so that it is not read again.
     pub fn open_file(
         alloc: Global,
         conn: Connection<FileStore<FileFrom<S>>>,

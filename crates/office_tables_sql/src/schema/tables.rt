@@ -31,7 +31,8 @@ pub(crate) const USED_PART: &str =
 pub(crate) const OFFICE_VERSION: &str =
     "CREATE TABLE office_version (one INTEGER PRIMARY KEY CHECK (one = 1), version INTEGER NOT NULL) STRICT";
 
-/// Each table in the order of the numbers. A number is a place in the catalog, where each PRIMARY KEY of several columns takes one for its index.
+/// Each table in the order of the numbers. A number is a place in the catalog, where each PRIMARY
+/// KEY that is no rowid takes the next one for its index.
 pub(crate) const TABLES: [WantedTable<'static>; 9] = [
     WantedTable {
         name: "intersection",
