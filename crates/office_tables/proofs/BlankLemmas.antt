@@ -1,16 +1,21 @@
 -- A database that lists nothing has no rows.
-use Rattle.std.proofs.Common.{◌≡◌, ◌⊎◌, inl, inr, ℕ, ◌<◌, List, [], ◌∷◌, filter, Bool, true, refl, ap, subst, ◌∙◌, arith}
+use Rattle.std.proofs.Common.{◌≡◌, ◌⊎◌, inl, inr, ℕ, ◌<◌, List, [], ◌∷◌, filter, Bool, true, None, pos, refl, ap, subst, ◌∙◌, arith}
 use Rattle.std.specs.List.{AllZip}
+use Rattle.std.specs.FinMap.{get, get-empty}
 use Rattle.sqlite.specs.Order.{Row, column}
 use Rattle.sqlite.specs.View.{IsShaped}
 use Rattle.sqlite_trees.specs.declared.store.Shape.{Shape}
 use Rattle.sqlite_trees.specs.declared.store.Shape.TheVariants as shape
-use Rattle.sqlite_trees.specs.Objects.{catalog_tree, shape_code, number_in, row_for, IsListed}
-use Rattle.sqlite_trees.specs.View.{View, IsOrdered}
+use Rattle.sqlite_trees.specs.Objects.{catalog_tree, shape_code, number_in, row_for}
+use Rattle.sqlite.specs.Tree.{Trees}
 use Rattle.sqlite_catalog.specs.Listing.{AreListed, is_table_row, is_index_row, is_view_row}
 use Rattle.sqlite_catalog.proofs.LayoutLemmas.{row_kind}
 use Rattle.office_tables_sql.specs.Schema.{no_schema}
-use Rattle.office_tables.specs.Version.{AreEmpty}
+use Rattle.office_tables_shelf.specs.Cells.{number, cells_cmp}
+use Rattle.office_tables_sql.specs.Layout as layout
+use Rattle.office_tables_sql.specs.Stored.{rows_in}
+use Rattle.office_tables.specs.Arranged.{IsArranged}
+use Rattle.office_tables.specs.Version.{AreEmpty, version_in}
 
 no_pairs : {X Y : Type 0} (R : X → Y → Type 0) (xs : List X) → AllZip R xs [] → xs ≡ []
 no_pairs R [] h = refl
@@ -36,12 +41,19 @@ absent shape.Pageless h = absurd (omega (arith, h))
 absent shape.FrozenTable h = absurd (omega (arith, h))
 absent (shape.FrozenIndex o) h = absurd (omega (arith, h))
 
-module _ (v : View) (listed : IsListed (v.trees catalog_tree) v.shape v.reals) (ordered : IsOrdered v.shape v.trees) (none : AreListed (v.trees catalog_tree) no_schema) where
-  no_rows : (tree : ℕ) → tree < 65536 → v.trees tree ≡ []
-  no_rows tree low =
-      let code : shape_code (v.shape tree) ≡ 0 = listed.shapes tree (λ e. absurd (omega (arith, e, low))) (λ e. absurd (omega (arith, e, low)))
-      ∙ ap (λ objects. number_in (column (row_for objects tree) 5)) (no_objects _ none) in
-      subst (λ s. IsShaped s (v.trees tree)) (absent _ code) (ordered tree)
+-- the trees of the nine tables have no row
+pub sixteen : (trees : Trees) → ((t : ℕ) → t < 16 → trees t ≡ []) → (version_in trees ≡ None) × AreEmpty trees
+sixteen trees none = (
+  ap (λ rows. get (rows_in layout.office_version rows) (number (pos 1) ∷ [])) (none 15 (omega arith)) ∙ get-empty cells_cmp (number (pos 1) ∷ []),
+  (none 0 (omega arith), (none 1 (omega arith), (none 3 (omega arith), (none 5 (omega arith), (none 7 (omega arith), (none 9 (omega arith), (none 11 (omega arith), (none 13 (omega arith), tt)))))))),
+)
 
-  pub blank_rows : AreEmpty v.trees
-  blank_rows = (no_rows 0 (omega arith), (no_rows 1 (omega arith), (no_rows 3 (omega arith), (no_rows 5 (omega arith), (no_rows 7 (omega arith), (no_rows 9 (omega arith), (no_rows 11 (omega arith), (no_rows 13 (omega arith), tt))))))))
+module _ (trees : Trees) (it : IsArranged trees) (none : AreListed (trees catalog_tree) no_schema) where
+  no_rows : (tree : ℕ) → tree < 65536 → trees tree ≡ []
+  no_rows tree low =
+      let code : shape_code (it.shape tree) ≡ 0 = it.listed.shapes tree (λ e. absurd (omega (arith, e, low))) (λ e. absurd (omega (arith, e, low)))
+      ∙ ap (λ objects. number_in (column (row_for objects tree) 5)) (no_objects _ none) in
+      subst (λ s. IsShaped s (trees tree)) (absent _ code) (it.ordered tree low)
+
+  pub blank_rows : (version_in trees ≡ None) × AreEmpty trees
+  blank_rows = sixteen trees (λ t low. no_rows t (omega (arith, low)))

@@ -4,6 +4,7 @@
 mod change;
 pub mod open;
 pub mod sql_shelf;
+mod vacant;
 mod version;
 
 pub use office_tables_shelf::{counts, map_shelf, rows, shelf};

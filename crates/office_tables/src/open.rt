@@ -1,23 +1,24 @@
 //! Opening the tables of the office.
 
-ghost use Rattle.std.specs.Prelude.{◌≡◌, ◌≢◌, ◌≤◌, true, false, Err, None, Some, IsTrue, IfOk, IfErr, IfSome, OnOk};
+ghost use Rattle.std.specs.Prelude.{◌≡◌, ◌≢◌, ◌⊎◌, ◌≤◌, true, false, map, [], Err, None, Some, IsTrue, IfOk, IfErr, IfSome, OnOk};
 ghost use Rattle.std.specs.List.{AllByRecursion};
-ghost use Rattle.sqlite.specs.View.{IsShaped};
 ghost use Rattle.sqlite.specs.State.{HasCleanDisk, IsLive, Opens, Survives};
 ghost use Rattle.sqlite.specs.Held.{state};
 ghost use Rattle.sqlite_trees.specs.View.{doubt};
-ghost use Rattle.sqlite_trees.specs.Objects.{catalog_tree};
-ghost use Rattle.sqlite_catalog.specs.Listing.{AreListed};
 ghost use Rattle.office_tables_sql.specs.Schema.{no_schema};
 ghost use Rattle.office_tables_sql.specs.Stored.{content_now, content_of};
 ghost use Rattle.office_tables_sql.specs.Calls.{IsHonest, IsOffice};
 ghost use Rattle.office_tables.specs.Version.{AreEmpty, HasRow, version_in, first_version};
-ghost use Rattle.sqlite_trees.specs.declared.store.Shape.TheVariants as shape;
+ghost use Rattle.office_tables.specs.Arranged.{IsArranged};
+ghost use Rattle.office_tables.specs.declared.open.TheConstants.{NAMES};
+ghost use Rattle.office_tables.specs.Opening.{AreMade, AreMadeAnew, AreRun, HasOtherVersion, HasRowsAlone, IsOneOf, MayBeTaken, OnlyReads};
 
+use crate::vacant::vacant;
 use crate::version::{are_empty, is_first, store_version, stored_version};
 use office_tables_sql::schema::{CREATES, is_blank, is_office};
 use office_tables_sql::statement::SqlFault;
 use sqlite::{Alter, Connection, Transaction};
+use sqlite_schema::schema::{Schema, Table};
 use sqlite_trees::store::Store;
 use std::alloc::Global;
 
@@ -28,7 +29,8 @@ pub enum OpenFault {
     Version,
     /// No version is stored, and a table has a row.
     Damaged,
-    /// The database refused, or it has other tables, or a transaction is under way.
+    /// The database refused, or it has other tables, or these in another layout with rows, or a
+    /// transaction is under way.
     Store,
     /// A growth was refused.
     NoMemory,
@@ -48,15 +50,19 @@ impl From<SqlFault> for OpenFault {
     }
 }
 
-/// The same database, whose tables were checked again: the rowids of each table rise.
-fn checked<S: Alter + Drop>(alloc: Global, conn: Connection<S>) -> Result<Connection<S>, SqlFault>
+/// The same database, which was checked again, so that each tree is known to hold what its list
+/// of objects says.
+pub(crate) fn checked<S: Alter + Drop>(
+    alloc: Global,
+    conn: Connection<S>,
+) -> Result<Connection<S>, SqlFault>
     ensures autocommit { IfOk result (λ c. (state S.Store c).in_transaction ≡ false) }
     ensures clean { IfOk result (λ c. doubt (state S.Store conn).is_clean ≤ doubt (state S.Store c).is_clean) }
     ensures opens { IfOk result (λ c. HasCleanDisk (state S.Store c) → Opens (state S.Store c) × IsLive (state S.Store c)) }
     ensures was_open { IfOk result (λ c. HasCleanDisk (state S.Store c) → IsTrue (state S.Store conn).is_open) }
     ensures kept { IfOk result (λ c. HasCleanDisk (state S.Store c) → (state S.Store c).now.trees ≡ (state S.Store conn).committed.trees) }
-    ensures blank { IfOk result (λ c. HasCleanDisk (state S.Store c) → AreListed ((state S.Store conn).committed.trees catalog_tree) no_schema → AreEmpty (state S.Store conn).committed.trees) }
-    ensures ordered { IfOk result (λ c. HasCleanDisk (state S.Store c) → AllByRecursion (λ t. IsShaped shape.Table ((state S.Store c).now.trees t.tree)) (state S.Store c).now.schema.tables) }
+    ensures arranged { IfOk result (λ c. HasCleanDisk (state S.Store c) → IsArranged (state S.Store c).committed.trees) }
+    ensures crash { IfOk result (λ c. HasCleanDisk (state S.Store c) → (trees : _) → (state S.Store c).may_leave trees → (state S.Store conn).may_leave trees) }
 {
     let store = conn.into_store();
     if store.is_broken() {
@@ -68,20 +74,83 @@ fn checked<S: Alter + Drop>(alloc: Global, conn: Connection<S>) -> Result<Connec
     }
 }
 
-/// Makes the tables, all or none, in the order of their numbers.
+/// The nine names, those first whose tables refer to others.
+const NAMES: [&str; 9] = [
+    "used_part",
+    "delivery",
+    "work_order",
+    "inspection",
+    "draft",
+    "timing",
+    "part",
+    "intersection",
+    "office_version",
+];
+
+/// What drops the tables of those names.
+const DROPS: [&str; 9] = [
+    "DROP TABLE IF EXISTS used_part",
+    "DROP TABLE IF EXISTS delivery",
+    "DROP TABLE IF EXISTS work_order",
+    "DROP TABLE IF EXISTS inspection",
+    "DROP TABLE IF EXISTS draft",
+    "DROP TABLE IF EXISTS timing",
+    "DROP TABLE IF EXISTS part",
+    "DROP TABLE IF EXISTS intersection",
+    "DROP TABLE IF EXISTS office_version",
+];
+
+fn is_one_of(name: &[u8], names: &[&str]) -> bool
+    ensures { IsTrue result → IsOneOf name.now (map (λ text. text.now) names.now) }
+{
+    let Some((first, names)) = names.split_first() else {
+        return false;
+    };
+    name == first.as_bytes() || is_one_of(name, names)
+}
+
+fn are_named(tables: &[Table], names: &[&str]) -> bool
+    ensures { IsTrue result → AllByRecursion (λ t. IsOneOf t.name (map (λ text. text.now) names.now)) tables.now }
+{
+    let Some((table, tables)) = tables.split_first() else {
+        return true;
+    };
+    is_one_of(table.name.as_slice(), names) && are_named(tables, names)
+}
+
+/// Whether each table has one of the nine names, and there is no view.
+pub(crate) fn has_only_ours(schema: &Schema) -> bool
+    ensures named { IsTrue result → AllByRecursion (λ t. IsOneOf t.name (map (λ text. text.now) NAMES)) schema.now.tables }
+    ensures no_views { IsTrue result → schema.now.views ≡ [] }
+{
+    schema.views.is_empty() && are_named(schema.tables.as_slice(), &NAMES)
+}
+
+/// Makes the tables anew, all or none, in the order of their numbers.
 fn make_tables<S: Alter>(conn: &mut Connection<S>) -> Result<(), SqlFault>
     requires { (state S.Store conn.old).in_transaction ≡ false }
-    ensures { doubt (state S.Store conn.old).is_clean ≤ doubt (state S.Store conn.new).is_clean }
+    ensures clean { doubt (state S.Store conn.old).is_clean ≤ doubt (state S.Store conn.new).is_clean }
+    ensures made { HasCleanDisk (state S.Store conn.new) → OnOk result (AreMade S.Store conn.old conn.new) }
 {
     let mut tx = conn.transaction();
-    run_all(&mut tx, &CREATES)?;
+    make_anew(&mut tx)?;
     tx.commit()?;
     Ok(())
+}
+
+fn make_anew<S: Alter>(tx: &mut Transaction<'_, S>) -> Result<(), SqlFault>
+    ensures same_reference { tx.new.conn.ghost_name ≡ tx.old.conn.ghost_name }
+    ensures clean { doubt (state S.Store tx.old.conn.now).is_clean ≤ doubt (state S.Store tx.new.conn.now).is_clean }
+    ensures made { HasCleanDisk (state S.Store tx.new.conn.now) → tx.old.conn.now.in_transaction ≡ true → OnOk result (AreMadeAnew S.Store tx.old.conn.now tx.new.conn.now) }
+{
+    run_all(tx, &DROPS)?;
+    run_all(tx, &CREATES)
 }
 
 fn run_all<S: Alter>(tx: &mut Transaction<'_, S>, texts: &[&str]) -> Result<(), SqlFault>
     ensures same_reference { tx.new.conn.ghost_name ≡ tx.old.conn.ghost_name }
     ensures clean { doubt (state S.Store tx.old.conn.now).is_clean ≤ doubt (state S.Store tx.new.conn.now).is_clean }
+    ensures run { HasCleanDisk (state S.Store tx.new.conn.now) → tx.old.conn.now.in_transaction ≡ true → OnOk result (AreRun S.Store (map (λ text. text.now) texts.now) tx.old.conn.now tx.new.conn.now) }
 {
     for sql in texts {
         tx.execute(sql, &[])?;
@@ -100,6 +169,7 @@ fn claim_empty<S: Alter>(conn: &mut Connection<S>, fault: OpenFault) -> Result<(
     ensures version { result ≡ Err OpenFault.Version → fault ≡ OpenFault.Version }
     ensures damaged { result ≡ Err OpenFault.Damaged → fault ≡ OpenFault.Damaged }
     ensures has_row { IsHonest (state S.Store conn.new) → result ≡ Err OpenFault.Damaged → HasRow (state S.Store conn.old).now.trees }
+    ensures left { (result ≡ Err OpenFault.Version) ⊎ (result ≡ Err OpenFault.Damaged) → OnlyReads (state S.Store conn.old) (state S.Store conn.new) }
     ensures crash { Survives (state S.Store conn.old) (state S.Store conn.new) (λ trees. IsHonest (state S.Store conn.old) × (content_of trees ≡ content_now (state S.Store conn.old))) }
 {
     if !are_empty(conn)? {
@@ -117,9 +187,11 @@ pub(crate) fn claim<S: Alter>(conn: &mut Connection<S>, is_new: bool) -> Result<
     ensures same { IsHonest (state S.Store conn.new) → content_now (state S.Store conn.new) ≡ content_now (state S.Store conn.old) }
     ensures stored { IsHonest (state S.Store conn.new) → OnOk result (version_in (state S.Store conn.new).now.trees ≡ Some first_version) }
     ensures empty { IsHonest (state S.Store conn.new) → OnOk result (is_new ≡ true → AreEmpty (state S.Store conn.old).now.trees) }
+    ensures taken { IsHonest (state S.Store conn.new) → OnOk result (is_new ≡ false → MayBeTaken (state S.Store conn.old).now.trees) }
     ensures found { is_new ≡ true → (result ≢ Err OpenFault.Version) × (result ≢ Err OpenFault.Damaged) }
-    ensures version { IsHonest (state S.Store conn.new) → result ≡ Err OpenFault.Version → (version_in (state S.Store conn.old).now.trees ≢ None) × (version_in (state S.Store conn.old).now.trees ≢ Some first_version) }
-    ensures damaged { IsHonest (state S.Store conn.new) → result ≡ Err OpenFault.Damaged → (version_in (state S.Store conn.old).now.trees ≡ None) × HasRow (state S.Store conn.old).now.trees }
+    ensures version { IsHonest (state S.Store conn.new) → result ≡ Err OpenFault.Version → HasOtherVersion (state S.Store conn.old).now.trees }
+    ensures damaged { IsHonest (state S.Store conn.new) → result ≡ Err OpenFault.Damaged → HasRowsAlone (state S.Store conn.old).now.trees }
+    ensures left { (result ≡ Err OpenFault.Version) ⊎ (result ≡ Err OpenFault.Damaged) → OnlyReads (state S.Store conn.old) (state S.Store conn.new) }
     ensures crash { Survives (state S.Store conn.old) (state S.Store conn.new) (λ trees. IsHonest (state S.Store conn.old) × (content_of trees ≡ content_now (state S.Store conn.old))) }
 {
     if is_new {
@@ -135,32 +207,63 @@ pub(crate) fn claim<S: Alter>(conn: &mut Connection<S>, is_new: bool) -> Result<
     }
 }
 
-/// The same database where its tables are those of the office, which are made where there are none, and whether they were made.
+/// A connection whose tables are those of the office, and whether they were made.
+pub(crate) type Prepared<S> = (Connection<S>, bool);
+
+/// Why tables were refused, and the connection as it was.
+pub(crate) type Refused<S> = (OpenFault, Option<Connection<S>>);
+
+/// The same database where its tables are those of the office, which are made anew where nothing
+/// is stored, and whether they were made.
 pub(crate) fn prepared<S: Alter + Drop>(
     alloc: Global,
     conn: Connection<S>,
-) -> Result<(Connection<S>, bool), OpenFault>
+) -> Result<Prepared<S>, Refused<S>>
+    requires { HasCleanDisk (state S.Store conn) → IsArranged (state S.Store conn).committed.trees }
     ensures office { IfOk result (λ p. IsOffice (state S.Store p.0)) }
     ensures clean { IfOk result (λ p. doubt (state S.Store conn).is_clean ≤ doubt (state S.Store p.0).is_clean) }
-    ensures kept { IfOk result (λ p. HasCleanDisk (state S.Store p.0) → p.1 ≡ false → (state S.Store p.0).now.trees ≡ (state S.Store conn).committed.trees) }
-    ensures made { IfOk result (λ p. HasCleanDisk (state S.Store p.0) → p.1 ≡ true → AreEmpty (state S.Store conn).committed.trees) }
+    ensures kept { IfOk result (λ p. p.1 ≡ false → p.0 ≡ conn) }
+    ensures settled { IfOk result (λ p. p.1 ≡ false → IsHonest (state S.Store conn) → (state S.Store conn).now ≡ (state S.Store conn).committed) }
+    ensures made { IfOk result (λ p. HasCleanDisk (state S.Store p.0) → p.1 ≡ true → (version_in (state S.Store conn).committed.trees ≡ None) × AreEmpty (state S.Store conn).committed.trees) }
     ensures blank { IfOk result (λ p. (state S.Store conn).now.schema ≡ no_schema → p.1 ≡ true) }
-    ensures not_blank { IfOk result (λ p. p.1 ≡ true → (state S.Store conn).now.schema ≡ no_schema) }
-    ensures fault { IfErr result (λ fault. (fault ≢ OpenFault.Version) × (fault ≢ OpenFault.Damaged)) }
+    ensures fault { IfErr result (λ e. (e.0 ≢ OpenFault.Version) × (e.0 ≢ OpenFault.Damaged)) }
+    ensures back { IfErr result (λ e. IfSome e.1 (λ c. (c ≡ conn) × (IsHonest (state S.Store conn) → (state S.Store conn).now ≡ (state S.Store conn).committed))) }
 {
     if !conn.is_autocommit() {
-        return Err(OpenFault::Store);
+        return Err((OpenFault::Store, None));
     }
-    let is_new = is_blank(conn.schema());
-    let found = checked(alloc, conn)?;
-    if is_new {
-        let conn = with_tables(alloc, found)?;
-        return Ok((conn, true));
+    if is_blank(conn.schema()) {
+        return match with_tables(alloc, conn) {
+            Ok(conn) => Ok((conn, true)),
+            Err(fault) => Err((fault, None)),
+        };
     }
-    if !is_office(found.schema()) {
-        return Err(OpenFault::Store);
+    if is_office(conn.schema()) {
+        return Ok((conn, false));
     }
-    Ok((found, false))
+    if !has_only_ours(conn.schema()) {
+        return Err((OpenFault::Store, Some(conn)));
+    }
+    match laid_anew(alloc, conn) {
+        Ok(conn) => Ok((conn, true)),
+        Err(fault) => Err((fault, None)),
+    }
+}
+
+/// The same database with the tables of the office, where no tree of it has a row.
+fn laid_anew<S: Alter + Drop>(
+    alloc: Global,
+    conn: Connection<S>,
+) -> Result<Connection<S>, OpenFault>
+    ensures office { IfOk result (λ c. IsOffice (state S.Store c)) }
+    ensures clean { IfOk result (λ c. doubt (state S.Store conn).is_clean ≤ doubt (state S.Store c).is_clean) }
+    ensures made { IfOk result (λ c. HasCleanDisk (state S.Store c) → (version_in (state S.Store conn).committed.trees ≡ None) × AreEmpty (state S.Store conn).committed.trees) }
+    ensures fault { IfErr result (λ fault. (fault ≢ OpenFault.Version) × (fault ≢ OpenFault.Damaged)) }
+{
+    match vacant(alloc, conn)? {
+        Some(conn) => with_tables(alloc, conn),
+        None => Err(OpenFault::Store),
+    }
 }
 
 /// The same database with the tables of the office, which had none.
@@ -171,6 +274,7 @@ fn with_tables<S: Alter + Drop>(
     requires { (state S.Store conn).in_transaction ≡ false }
     ensures office { IfOk result (λ c. IsOffice (state S.Store c)) }
     ensures clean { IfOk result (λ c. doubt (state S.Store conn).is_clean ≤ doubt (state S.Store c).is_clean) }
+    ensures was_open { IfOk result (λ c. HasCleanDisk (state S.Store c) → IsTrue (state S.Store conn).is_open) }
     ensures fault { IfErr result (λ fault. (fault ≢ OpenFault.Version) × (fault ≢ OpenFault.Damaged)) }
 {
     make_tables(&mut conn)?;

@@ -1,24 +1,25 @@
 //! The tables in SQL.
 
-ghost use Rattle.std.specs.Prelude.{◌≡◌, ◌≢◌, false, Err, None, Some, IfSome, IfOk, IfErr};
+ghost use Rattle.std.specs.Prelude.{◌≡◌, false, IfOk, IfErr};
 ghost use Rattle.sqlite.specs.State.{HasCleanDisk};
 ghost use Rattle.sqlite.specs.Held.{state};
-ghost use Rattle.office_tables_shelf.specs.Content.{no_content};
-ghost use Rattle.office_tables_shelf.specs.Counts.{no_writes};
-ghost use Rattle.office_tables_sql.specs.Stored.{content_now, content_of};
-ghost use Rattle.office_tables_sql.specs.Calls.{IsAlwaysHonest, IsHonest};
-ghost use Rattle.office_tables_sql.specs.Schema.{no_schema};
-ghost use Rattle.office_tables.specs.Version.{HasRow, version_in, first_version};
+ghost use Rattle.sqlite.specs.Files.{file_state, over_files};
+ghost use Rattle.sqlite.specs.Start.{FindsIn};
+ghost use Rattle.sqlite.specs.WalFiles.{image_at};
+ghost use Rattle.office_tables_sql.specs.Calls.{IsHonest};
+ghost use Rattle.office_tables.specs.Arranged.{IsArranged};
+ghost use Rattle.office_tables.specs.Opening.{IsOpened, IsRefused};
 
 use crate::change;
-use crate::open::{OpenFault, claim, prepared};
+use crate::open::{OpenFault, checked, claim, has_only_ours, prepared};
 use cabinet_core::{Delivery, Hand, Inspection, Order, PartCode, UsedLine};
 use office_tables_shelf::counts::WriteCounts;
 use office_tables_shelf::rows::{IntersectionRow, RowChange, Table};
 use office_tables_shelf::shelf::{Shelf, ShelfFault};
+use office_tables_sql::schema::{is_blank, is_office};
 use office_tables_sql::{each_row, intersection, intersection_list, part, stored_row, timing};
 use signal_records::{Change, InterId, LineNo, RecordNo, Row};
-use sqlite::{Alter, Connection, params};
+use sqlite::{Alter, Connection, FileFrom, FileStore, Start, params};
 use std::alloc::Global;
 use std::marker::Model;
 
@@ -44,19 +45,14 @@ impl<S: Alter> Model for SqlShelf<S> {
 }
 
 impl<S: Alter> SqlShelf<S> {
-    /// Takes the tables of the office, which are made where the database has none. Version 1 is stored where none is and no table has a row.
+    /// Takes the tables of the office. Where no table has a row they are made, also where some are
+    /// missing or another layout has them. Version 1 is stored where none is and no table has a row.
     /// A transaction that is under way is refused. Where it refuses, the connection is dropped.
     pub fn open(alloc: Global, conn: Connection<S>) -> Result<SqlShelf<S>, OpenFault>
     where
         S: Drop,
-        ensures honest { IfOk result (λ shelf. IsHonest (state S.Store shelf.conn) → HasCleanDisk (state S.Store conn)) }
-        ensures kept { IfOk result (λ shelf. IsHonest (state S.Store shelf.conn) → content_now (state S.Store shelf.conn) ≡ content_of (state S.Store conn).committed.trees) }
-        ensures made { IfOk result (λ shelf. IsHonest (state S.Store shelf.conn) → (state S.Store conn).now.schema ≡ no_schema → content_now (state S.Store shelf.conn) ≡ no_content) }
-        ensures stored { IfOk result (λ shelf. IsHonest (state S.Store shelf.conn) → version_in (state S.Store shelf.conn).now.trees ≡ Some first_version) }
-        ensures no_writes { IfOk result (λ shelf. shelf.counts ≡ no_writes) }
-        ensures crash { IfOk result (λ shelf. IsHonest (state S.Store shelf.conn) → (trees : _) → (state S.Store shelf.conn).may_leave trees → content_of trees ≡ content_now (state S.Store shelf.conn)) }
-        ensures version { IsAlwaysHonest S.Store → result ≡ Err OpenFault.Version → (version_in (state S.Store conn).committed.trees ≢ None) × (version_in (state S.Store conn).committed.trees ≢ Some first_version) }
-        ensures damaged { IsAlwaysHonest S.Store → result ≡ Err OpenFault.Damaged → (version_in (state S.Store conn).committed.trees ≡ None) × HasRow (state S.Store conn).committed.trees }
+        ensures opened { IfOk result (IsOpened S.Store conn) }
+        ensures refused { IfErr result (λ fault. (back : _) × IsRefused S.Store conn fault back) }
     {
         match SqlShelf::open_returning(alloc, conn) {
             Ok(shelf) => Ok(shelf),
@@ -64,33 +60,50 @@ impl<S: Alter> SqlShelf<S> {
         }
     }
 
-    /// As `open`, and gives the connection back where it refuses its tables.
+    /// As `open`, and gives the connection back where it refuses its tables. The database is
+    /// checked again first, which shows that the rows of each table are in order.
     pub fn open_returning(
         alloc: Global,
         conn: Connection<S>,
     ) -> Result<SqlShelf<S>, (OpenFault, Option<Connection<S>>)>
     where
         S: Drop,
-        ensures honest { IfOk result (λ shelf. IsHonest (state S.Store shelf.conn) → HasCleanDisk (state S.Store conn)) }
-        ensures kept { IfOk result (λ shelf. IsHonest (state S.Store shelf.conn) → content_now (state S.Store shelf.conn) ≡ content_of (state S.Store conn).committed.trees) }
-        ensures made { IfOk result (λ shelf. IsHonest (state S.Store shelf.conn) → (state S.Store conn).now.schema ≡ no_schema → content_now (state S.Store shelf.conn) ≡ no_content) }
-        ensures stored { IfOk result (λ shelf. IsHonest (state S.Store shelf.conn) → version_in (state S.Store shelf.conn).now.trees ≡ Some first_version) }
-        ensures no_writes { IfOk result (λ shelf. shelf.counts ≡ no_writes) }
-        ensures crash { IfOk result (λ shelf. IsHonest (state S.Store shelf.conn) → (trees : _) → (state S.Store shelf.conn).may_leave trees → content_of trees ≡ content_now (state S.Store shelf.conn)) }
-        ensures unreached { IfErr result (λ e. e.1 ≡ None → (e.0 ≢ OpenFault.Version) × (e.0 ≢ OpenFault.Damaged)) }
-        ensures version { IfErr result (λ e. e.0 ≡ OpenFault.Version → IfSome e.1 (λ c. IsHonest (state S.Store c) → (version_in (state S.Store conn).committed.trees ≢ None) × (version_in (state S.Store conn).committed.trees ≢ Some first_version))) }
-        ensures damaged { IfErr result (λ e. e.0 ≡ OpenFault.Damaged → IfSome e.1 (λ c. IsHonest (state S.Store c) → (version_in (state S.Store conn).committed.trees ≡ None) × HasRow (state S.Store conn).committed.trees)) }
-        ensures refused { IfErr result (λ e. IfSome e.1 (λ c. IsHonest (state S.Store c) → (state S.Store conn).now.schema ≢ no_schema → content_now (state S.Store c) ≡ content_of (state S.Store conn).committed.trees)) }
+        ensures opened { IfOk result (IsOpened S.Store conn) }
+        ensures refused { IfErr result (λ e. IsRefused S.Store conn e.0 e.1) }
+    {
+        if !conn.is_autocommit() {
+            return Err((OpenFault::Store, None));
+        }
+        if !has_only_ours(conn.schema()) {
+            return Err((OpenFault::Store, Some(conn)));
+        }
+        match checked(alloc, conn) {
+            Ok(conn) => SqlShelf::open_arranged(alloc, conn),
+            Err(fault) => Err((OpenFault::from(fault), None)),
+        }
+    }
+
+    /// As `open_returning`, over a database whose rows are known to be in order.
+    fn open_arranged(
+        alloc: Global,
+        conn: Connection<S>,
+    ) -> Result<SqlShelf<S>, (OpenFault, Option<Connection<S>>)>
+    where
+        S: Drop,
+        requires { HasCleanDisk (state S.Store conn) → IsArranged (state S.Store conn).committed.trees }
+        ensures opened { IfOk result (IsOpened S.Store conn) }
+        ensures refused { IfErr result (λ e. IsRefused S.Store conn e.0 e.1) }
     {
         let (mut conn, is_new) = match prepared(alloc, conn) {
             Ok(found) => found,
-            Err(fault) => return Err((fault, None)),
+            Err(refused) => return Err(refused),
         };
         match claim(&mut conn, is_new) {
             Ok(()) => Ok(SqlShelf {
                 conn,
                 counts: WriteCounts::new(),
             }),
+            Err(fault) if is_new => Err((fault, None)),
             Err(fault) => Err((fault, Some(conn))),
         }
     }
@@ -103,6 +116,24 @@ impl<S: Alter> SqlShelf<S> {
     {
         let SqlShelf { conn, .. } = self;
         conn
+    }
+}
+
+impl<S: Start> SqlShelf<FileStore<FileFrom<S>>> {
+    /// As `open_returning`, over files that were just opened: the open has read and checked the
+    /// whole database, so that it is not read again.
+    pub fn open_file(
+        alloc: Global,
+        conn: Connection<FileStore<FileFrom<S>>>,
+    ) -> Result<
+        SqlShelf<FileStore<FileFrom<S>>>,
+        (OpenFault, Option<Connection<FileStore<FileFrom<S>>>>),
+    >
+        requires { HasCleanDisk (file_state conn) → FindsIn (image_at S.Start) (file_state conn) }
+        ensures opened { IfOk result (IsOpened over_files conn) }
+        ensures refused { IfErr result (λ e. IsRefused over_files conn e.0 e.1) }
+    {
+        SqlShelf::open_arranged(alloc, conn)
     }
 }
 

@@ -26,8 +26,7 @@ use Rattle.office_tables_sql.proofs.QueryLemmas.{find_query, ArePaired, answers,
 use Rattle.office_tables_shelf.specs.Cells.{number}
 use Rattle.office_tables_sql.specs.Stored.{cells, cells_at, rows_of, are_sound}
 use Rattle.office_tables_sql.specs.declared.intersection.TheConstants.{FIND as FIND_INTERSECTION, PUT as PUT_INTERSECTION}
-use Rattle.office_tables_sql.specs.declared.schema.timing.TheConstants.{INTERSECTION, TIMING, DRAFT, OFFICE_VERSION}
-use Rattle.office_tables_sql.specs.declared.schema.cabinet.TheConstants.{INSPECTION, WORK_ORDER, PART, DELIVERY, USED_PART}
+use Rattle.office_tables_sql.specs.declared.schema.tables.TheConstants.{INTERSECTION, TIMING, DRAFT, INSPECTION, WORK_ORDER, PART, DELIVERY, USED_PART, OFFICE_VERSION}
 use Rattle.office_tables_sql.specs.Calls.{IsQuery, Reads, command_of}
 use Rattle.office_tables_sql.proofs.StoredLemmas.{HaveKeys, get_columns, sound_rowids}
 use Rattle.office_tables_sql.specs.Schema.{intersection_table, timing_table, draft_table, inspection_table, work_order_table, part_table, delivery_table, used_part_table, version_table, office_schema}

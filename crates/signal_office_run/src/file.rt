@@ -1,13 +1,13 @@
 //! The office over the tables of a database in a file.
 
-ghost use Rattle.std.specs.Prelude.{◌≡◌, ◌≢◌, None, Some, Ok, IfOk, IfErr, IfSome};
+ghost use Rattle.std.specs.Prelude.{◌≡◌, ◌≢◌, None, Ok, IfOk, IfErr, IfSome};
 ghost use Rattle.sqlite.specs.Files.{file_state};
-ghost use Rattle.sqlite.specs.Held.{state};
+ghost use Rattle.sqlite.specs.Start.{FindsIn};
 ghost use Rattle.sqlite.specs.State.{HasCleanDisk};
 ghost use Rattle.sqlite.specs.WalFiles.{image_at};
 ghost use Rattle.office_tables.specs.Calls.{IsHonest};
 ghost use Rattle.office_tables.specs.Stored.{content_now, content_of};
-ghost use Rattle.office_tables.specs.Version.{HasRow, version_in, first_version};
+ghost use Rattle.office_tables.specs.Opening.{HasOtherVersion, HasRowsAlone};
 ghost use Rattle.office_desk.specs.Office.{Office as OfficeState};
 ghost use Rattle.office_desk.specs.StandFor.{StandForSound};
 ghost use Rattle.office_http.specs.Protocol.{office_protocol};
@@ -18,38 +18,40 @@ use crate::fault::Fault;
 use office_desk::office::Office;
 use office_http::{ServeFault, Served, Sink, Source, serve};
 use office_tables::sql_shelf::SqlShelf;
-use sqlite::{Alter, Connection, Error, FileFrom, FileStore, Start};
+use sqlite::{Connection, Error, FileFrom, FileStore, Start};
 use sqlite_disk::Disk;
 use std::alloc::Global;
 
 /// An office over tables in files, of which `S` says what they held.
 pub type FileOffice<S> = Office<SqlShelf<FileStore<FileFrom<S>>>>;
 
-/// The office over the tables of a database, which are made where it has none. Where the tables are
-/// refused, the connection comes back with the fault.
-fn open_tables<S: Alter + Drop>(
+/// The office over the tables of files that were just opened, which are made where there are none.
+/// Where the tables are refused, the connection comes back with the fault.
+fn open_tables<S: Start>(
     alloc: Global,
-    conn: Connection<S>,
-) -> Result<Office<SqlShelf<S>>, (Fault, Option<Connection<S>>)>
-    ensures honest { IfOk result (λ office. IsHonest (state S.Store office.conn) → HasCleanDisk (state S.Store conn)) }
-    ensures kept { IfOk result (λ office. IsHonest (state S.Store office.conn) → content_now (state S.Store office.conn) ≡ content_of (state S.Store conn).committed.trees) }
+    conn: Connection<FileStore<FileFrom<S>>>,
+) -> Result<FileOffice<S>, (Fault, Option<Connection<FileStore<FileFrom<S>>>>)>
+    requires { HasCleanDisk (file_state conn) → FindsIn (image_at S.Start) (file_state conn) }
+    ensures honest { IfOk result (λ office. IsHonest (file_state office.conn) → HasCleanDisk (file_state conn)) }
+    ensures kept { IfOk result (λ office. IsHonest (file_state office.conn) → content_now (file_state office.conn) ≡ content_of (file_state conn).committed.trees) }
     ensures unreached { IfErr result (λ e. e.1 ≡ None → (e.0 ≢ Fault.Version) × (e.0 ≢ Fault.Damaged)) }
-    ensures version { IfErr result (λ e. e.0 ≡ Fault.Version → IfSome e.1 (λ c. IsHonest (state S.Store c) → (version_in (state S.Store conn).committed.trees ≢ None) × (version_in (state S.Store conn).committed.trees ≢ Some first_version))) }
-    ensures damaged { IfErr result (λ e. e.0 ≡ Fault.Damaged → IfSome e.1 (λ c. IsHonest (state S.Store c) → (version_in (state S.Store conn).committed.trees ≡ None) × HasRow (state S.Store conn).committed.trees)) }
+    ensures version { IfErr result (λ e. e.0 ≡ Fault.Version → IfSome e.1 (λ c. IsHonest (file_state c) → HasOtherVersion (file_state conn).committed.trees)) }
+    ensures damaged { IfErr result (λ e. e.0 ≡ Fault.Damaged → IfSome e.1 (λ c. IsHonest (file_state c) → HasRowsAlone (file_state conn).committed.trees)) }
 {
-    match SqlShelf::open_returning(alloc, conn) {
+    match SqlShelf::open_file(alloc, conn) {
         Ok(shelf) => Ok(Office::new(shelf)),
         Err((fault, conn)) => Err((Fault::from(fault), conn)),
     }
 }
 
 /// As `open_tables`, but a connection whose tables are refused is dropped.
-fn office_over<S: Alter + Drop>(
+fn office_over<S: Start>(
     alloc: Global,
-    conn: Connection<S>,
-) -> Result<Office<SqlShelf<S>>, Fault>
-    ensures { IfOk result (λ office. IsHonest (state S.Store office.conn) →
-        HasCleanDisk (state S.Store conn) × (content_now (state S.Store office.conn) ≡ content_of (state S.Store conn).committed.trees)) }
+    conn: Connection<FileStore<FileFrom<S>>>,
+) -> Result<FileOffice<S>, Fault>
+    requires { HasCleanDisk (file_state conn) → FindsIn (image_at S.Start) (file_state conn) }
+    ensures { IfOk result (λ office. IsHonest (file_state office.conn) →
+        HasCleanDisk (file_state conn) × (content_now (file_state office.conn) ≡ content_of (file_state conn).committed.trees)) }
 {
     match open_tables(alloc, conn) {
         Ok(office) => Ok(office),

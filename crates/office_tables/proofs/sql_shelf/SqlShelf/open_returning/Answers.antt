@@ -1,31 +1,34 @@
-use Rattle.std.proofs.Common.{◌≡◌, Bool, true, false, refl, sym, ap, ◌∙◌}
+use Rattle.std.proofs.Common.{◌≡◌, sym, ap, subst, ◌∙◌, arith}
+use Rattle.std.proofs.lemmas.Result.{IfOk-weaker, IfErr-weaker}
 use Rattle.sqlite.specs.Effect.{Database}
-use Rattle.sqlite.specs.State.{HasCleanDisk}
 use Rattle.sqlite.specs.Held.{state}
-use Rattle.office_tables_sql.specs.Stored.{content_now, content_of}
-use Rattle.office_tables.proofs.VersionLemmas.{empty_content}
+use Rattle.sqlite.specs.State.{HasCleanDisk}
+use Rattle.sqlite_trees.specs.Objects.{catalog_tree}
+use Rattle.sqlite_catalog.specs.Listing.{AreListed}
+use Rattle.office_tables_sql.specs.Schema.{no_schema}
+use Rattle.office_tables.specs.Arranged.{IsArranged}
+use Rattle.office_tables.specs.Version.{AreEmpty}
+use Rattle.office_tables.proofs.BlankLemmas.{blank_rows}
+use Rattle.office_tables.proofs.OpenLemmas.{opened_before, refused_before}
 use Rattle.office_tables.proofs.sql_shelf.SqlShelf.open_returning.Goals as goal
 
-pub returns-in-Ok-claim-clause-kept : goal.returns-in-Ok-claim-clause-kept
-returns-in-Ok-claim-clause-kept g c honest = c.in-Ok-claim.ensures.same honest ∙ go c.in-Ok.found.1 refl
-  where
-    clean : HasCleanDisk (state g.S.Store c.in-Ok.found.0)
-    clean = (c.in-Ok-claim.ensures.honest honest).0
+pub returns-in-Ok-clause-opened : goal.returns-in-Ok-clause-opened
+returns-in-Ok-clause-opened g c =
+    let old = state g.S.Store c.args.conn in
+    let found = state g.S.Store c.in-Ok.conn in
+    let it = c.in-Ok.ensures in
+    let same : HasCleanDisk found → found.committed.trees ≡ old.committed.trees = λ h. sym (ap (λ (d : Database). d.trees) (it.opens h).0.clean) ∙ it.kept h in
+    let blank : HasCleanDisk found → old.now.schema ≡ no_schema → AreEmpty old.committed.trees = λ h is.
+    let opened = it.was_open h in
+    let listed = subst (AreListed (old.now.trees catalog_tree)) is (c.schema.ensures.live opened).0.lists.listed in
+    let none = subst (λ (d : Database). AreListed (d.trees catalog_tree) no_schema) (c.is_autocommit.ensures.settled c.if-not-is_autocommit.false opened) listed in
+    (blank_rows old.committed.trees (subst IsArranged (same h) (it.arranged h)) none).1 in
+    IfOk-weaker c.open_arranged.result _ _ (opened_before g.S.Store c.args.conn c.in-Ok.conn (λ h. omega (arith, h, it.clean)) same blank) c.open_arranged.ensures.opened
 
-    -- tables that were made are empty, and so was the database
-    go : (is_new : Bool) → c.in-Ok.found.1 ≡ is_new → content_now (state g.S.Store c.in-Ok.found.0) ≡ content_of (state g.S.Store c.args.conn).committed.trees
-    go false is = ap content_of (c.in-Ok.ensures.kept clean is)
-    go true is =
-        empty_content (state g.S.Store c.in-Ok.found.0).now.trees (c.in-Ok-claim.ensures.empty honest is)
-        ∙ sym (empty_content (state g.S.Store c.args.conn).committed.trees (c.in-Ok.ensures.made clean is))
-
-pub returns-in-Ok-claim-clause-made : goal.returns-in-Ok-claim-clause-made
-returns-in-Ok-claim-clause-made g c honest blank =
-    let it = c.in-Ok-claim.ensures in
-    it.same honest ∙ empty_content (state g.S.Store c.in-Ok.found.0).now.trees (it.empty honest (c.in-Ok.ensures.blank blank))
-
-pub returns-in-Ok-claim-clause-crash : goal.returns-in-Ok-claim-clause-crash
-returns-in-Ok-claim-clause-crash g c honest trees left =
-    let store = c.claim.new.conn.store in
-    let it = c.claim.ensures in
-    ap content_of (g.met.S.Store.settled store trees honest.1 left ∙ sym (ap (λ (d : Database). d.trees) (it.office.settled honest)))
+pub returns-in-Ok-clause-refused : goal.returns-in-Ok-clause-refused
+returns-in-Ok-clause-refused g c =
+    let old = state g.S.Store c.args.conn in
+    let found = state g.S.Store c.in-Ok.conn in
+    let it = c.in-Ok.ensures in
+    let same : HasCleanDisk found → found.committed.trees ≡ old.committed.trees = λ h. sym (ap (λ (d : Database). d.trees) (it.opens h).0.clean) ∙ it.kept h in
+    IfErr-weaker c.open_arranged.result _ _ (λ e. refused_before g.S.Store c.args.conn c.in-Ok.conn (λ h. omega (arith, h, it.clean)) same it.crash e.0 e.1) c.open_arranged.ensures.refused
