@@ -1,6 +1,6 @@
 //! A stream that comes whole or in single bytes.
 
-ghost use Rattle.std.specs.Prelude.{None};
+ghost use Rattle.std.specs.Prelude.{◌≤◌, length};
 
 use office_http::{Counts, Source};
 use std::{fmt, io};
@@ -14,10 +14,10 @@ pub(crate) enum Cut {
 
 impl fmt::Display for Cut {
     fn fmt<W: fmt::Write>(&self, f: &mut fmt::Formatter<W>) -> fmt::Result {
-        f.write_str(match self {
-            Cut::Whole => "whole",
-            Cut::SingleBytes => "in single bytes",
-        })
+        match self {
+            Cut::Whole => f.write_str("whole"),
+            Cut::SingleBytes => f.write_str("in single bytes"),
+        }
     }
 }
 
@@ -39,19 +39,28 @@ impl<'a> Feed<'a> {
     }
 }
 
-impl Source for Feed<'_> {
-    ghost told = { λ feed. record { bytes = None; counts = feed.counts } };
+/// Copies as many bytes as there is room for.
+fn give(rest: &mut &[u8], buf: &mut [u8]) -> usize
+    ensures { result ≤ length buf.new }
+{
+    let all = *rest;
+    let n = all.len().min(buf.len());
+    buf[..n].copy_from_slice(&all[..n]);
+    *rest = &all[n..];
+    n
+}
+
+impl<'a> Source for Feed<'a> {
+    ghost use Rattle.std.specs.Prelude.{None};
+
+    ghost told = { λ s. record { bytes = None; counts = s.counts } };
 
     fn read(&mut self, buf: &mut [u8]) -> io::Result<usize> {
-        let most = match self.cut {
-            Cut::Whole => buf.len(),
-            Cut::SingleBytes => 1,
+        let outcome = if self.cut == Cut::Whole {
+            Ok(give(&mut self.rest, buf))
+        } else {
+            Ok(give(&mut self.rest, &mut buf[..1]))
         };
-        let given = most.min(buf.len()).min(self.rest.len());
-        let (now, later) = self.rest.split_at(given);
-        buf[..given].copy_from_slice(now);
-        self.rest = later;
-        let outcome = Ok(given);
         self.counts.count(&outcome);
         outcome
     }

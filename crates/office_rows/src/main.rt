@@ -57,9 +57,6 @@ impl Stage<'_> {
     /// Plays the row over all tables that it is for.
     fn play_cut(&self, rt: &HostRuntime, cut: Cut) -> Result<bool, Fault> {
         let alloc = rt.alloc();
-        if self.row.runs() > 0 {
-            return self.play_over(rt, "the program", Some(Maps::new(alloc)), cut);
-        }
         let in_maps = self.row.needs_sql()
             || self.play_over(rt, "maps", Some(Maps::new(alloc)), cut)?;
         let in_sql = self.play_over(rt, "a database in memory", in_memory(alloc), cut)?;
@@ -67,11 +64,21 @@ impl Stage<'_> {
         Ok(in_maps && in_sql && on_disk)
     }
 
-    /// Plays the row in all ways, and says that it is as told if it is.
-    fn play(&self, rt: &HostRuntime) -> Result<bool, Fault> {
+    /// Plays the row in all ways. A row that runs the program is played once, since runs read and
+    /// write files.
+    fn play_all_ways(&self, rt: &HostRuntime) -> Result<bool, Fault> {
+        if self.row.runs() > 0 {
+            let tables = Some(Maps::new(rt.alloc()));
+            return self.play_over(rt, "the program", tables, Cut::Whole);
+        }
         let whole = self.play_cut(rt, Cut::Whole)?;
         let in_bytes = self.play_cut(rt, Cut::SingleBytes)?;
-        if !(whole && in_bytes) {
+        Ok(whole && in_bytes)
+    }
+
+    /// Plays the row, and says that it is as told if it is.
+    fn play(&self, rt: &HostRuntime) -> Result<bool, Fault> {
+        if !self.play_all_ways(rt)? {
             return Ok(false);
         }
         let name = self.name;

@@ -1,13 +1,17 @@
-//! The office served over a loopback connection, in one thread.
+//! The office served over loopback connections, in one thread.
 
 use crate::serving_tests::{ANSWERS, STREAM};
 use office_desk::office::Office;
-use office_http::{ServeStop, serve_on};
+use office_http::serve_on;
 use office_tables_shelf::map_shelf::MapShelf;
 use std::io;
 use std::io::Write;
 use std::net::{Ipv4Addr, Shutdown, SocketAddr, TcpListener, TcpStream};
 use std::test::Fail;
+
+/// The first answer where the intersection is there already.
+const SAME: &str =
+    "HTTP/1.1 200 OK\r\nContent-Type: application/json\r\nContent-Length: 17\r\n\r\n{\"result\":\"same\"}";
 
 /// Sends the first two requests of the stream to the listener, and closes the sending side.
 fn sent(rt: &HostRuntime, listener: &TcpListener) -> io::Result<TcpStream> {
@@ -17,26 +21,21 @@ fn sent(rt: &HostRuntime, listener: &TcpListener) -> io::Result<TcpStream> {
     Ok(wire)
 }
 
-/// Serves one connection by a new office.
-fn served(rt: &HostRuntime, listener: &TcpListener) -> Result<(), ServeStop> {
-    let alloc = rt.alloc();
-    let mut office = Office::new(MapShelf::new(alloc));
-    serve_on(alloc, listener, 1, &mut office)
-}
-
+/// Two connections wait, and each gets its own two answers: the first adds the intersection, and the second
+/// finds it there.
 #[test]
-fn serves_a_connection(rt: HostRuntime) -> Result<(), Fail> {
+fn each_connection_is_served_once(rt: HostRuntime) -> Result<(), Fail> {
+    let alloc = rt.alloc();
     let here = SocketAddr::from((Ipv4Addr::LOCALHOST, 0));
-    let Ok(listener) = TcpListener::bind(&rt, here) else {
-        return Err(Fail::from("no listener"));
-    };
-    let Ok(wire) = sent(&rt, &listener) else {
-        return Err(Fail::from("no connection"));
-    };
-    assert!(rt; served(&rt, &listener).is_ok());
-    let Ok(text) = io::read_to_string(rt.alloc(), wire) else {
-        return Err(Fail::from("no answer"));
-    };
+    let listener = TcpListener::bind(&rt, here)?;
+    let first = sent(&rt, &listener)?;
+    let second = sent(&rt, &listener)?;
+    let mut office = Office::new(MapShelf::new(alloc));
+    assert!(rt; serve_on(alloc, &listener, 2, &mut office).is_ok());
+    let text = io::read_to_string(alloc, first)?;
     assert_eq!(rt; text.as_bytes(), &ANSWERS[..273]);
+    let text = io::read_to_string(alloc, second)?;
+    let rest = text.as_str().strip_prefix(SAME).ok_or("another answer")?;
+    assert_eq!(rt; rest.as_bytes(), &ANSWERS[89..273]);
     Ok(())
 }
