@@ -11,7 +11,7 @@ use Rattle.cabinet_core.specs.declared.record.Delivery.{Delivery}
 use Rattle.cabinet_core.specs.declared.refusal.CabinetRefusal.{CabinetRefusal}
 use Rattle.cabinet_core.specs.declared.refusal.CabinetRefusal.TheVariants.{InspectionDiffers, OrderDiffers, UnknownOrder, OrderClosed, DayBeforeOpening, NoStock, StockFull, DeliveryDiffers, LineDiffers, CloseDiffers, NoMemory}
 use Rattle.cabinet_core.specs.declared.decide.CabinetChange.{CabinetChange}
-use Rattle.cabinet_core.specs.declared.decide.CabinetChange.TheVariants.{PutInspection, PutOrder, PutLine, PutDelivery, PutPart}
+use Rattle.cabinet_core.specs.declared.decide.CabinetChange.TheVariants.{PutOrder, PutLine, PutDelivery, PutPart}
 use Rattle.cabinet_core.specs.declared.decide.Recorded.{Recorded}
 use Rattle.cabinet_core.specs.declared.decide.Recorded.TheVariants.{Added, Same}
 

@@ -1,5 +1,5 @@
 -- A line of the table keeps the committed set as it is, or commits a set that breaks no rule.
-use Rattle.std.proofs.Common.{◌≡◌, ◌≢◌, ℕ, ◌+◌, ◌==◌, Bool, cond, true, false, List, [], ◌∷◌, length, Option, Some, None, Result, Ok, Err, refl, ap, sym, subst, ◌∙◌}
+use Rattle.std.proofs.Common.{◌≡◌, ℕ, ◌+◌, ◌==◌, Bool, cond, true, false, List, [], ◌∷◌, length, Option, Some, None, Result, Ok, Err, refl, sym}
 use Rattle.std.specs.Option.{option_map}
 use Rattle.signal_rules.specs.Violations.{violations_of}
 use Rattle.signal_rules.specs.declared.violation.Violation.{Violation}
@@ -7,8 +7,8 @@ use Rattle.draft_core.specs.declared.revision.TheConstants.{LAST_REVISION}
 use Rattle.draft_core.specs.declared.state.Stage.{Stage}
 use Rattle.draft_core.specs.declared.state.Stage.TheVariants.{Done}
 use Rattle.draft_core.specs.declared.refusal.DraftRefusal.{DraftRefusal}
-use Rattle.draft_core.specs.declared.refusal.DraftRefusal.TheVariants.{NotDone, NotTransaction, NotNormal, RevisionFull, VerifyFailed}
-use Rattle.draft_core.specs.Transaction.{TimingSide, Draft, holder_of, refused_by, unless, owned, begun, begun_from, committed, committed_with, abandoned, abandoned_from}
+use Rattle.draft_core.specs.declared.refusal.DraftRefusal.TheVariants.{NotDone, RevisionFull, VerifyFailed}
+use Rattle.draft_core.specs.Transaction.{TimingSide, Draft, holder_of, refused_by, unless, owned, committed, committed_with}
 
 -- what an owned command gives is the step of the draft that is held
 pub record OwnedStep (side : TimingSide) (step : Draft → Result TimingSide DraftRefusal) (next : TimingSide) : Type 0 where

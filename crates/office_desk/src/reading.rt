@@ -1,5 +1,6 @@
 //! What is read of an intersection.
-ghost use Rattle.std.specs.Prelude.{◌≡◌, IfOk, IfSome, map};
+ghost use Rattle.std.specs.Prelude.{◌≡◌, IfOk, OnErr, IfSome, map};
+ghost use Rattle.signal_records.specs.TimingSet.{after_changes};
 ghost use Rattle.office_tables_shelf.specs.Damage.{HasDamagedTiming};
 ghost use Rattle.office_tables_shelf.specs.Shelf.{IsKept, ListsDraft};
 ghost use Rattle.office_desk.specs.Damage.{HasDamage};
