@@ -8,7 +8,7 @@ use Rattle.std.specs.FinMap.Entries.{is_sorted, below_all, is_sorted-where_key, 
 use Rattle.std.specs.Option.{option_map}
 use Rattle.std.specs.Ordering.{is_eq, is_lt, eq_by_cmp}
 use Rattle.std.specs.declared.cmp.Ordering.TheVariants.{Equal}
-use Rattle.signal_records.specs.Key.{key_cmp}
+use Rattle.signal_records.specs.Key.{kind_of, first_of, second_of, key_cmp}
 use Rattle.signal_records.specs.TimingSet.{Rows}
 use Rattle.signal_records.specs.declared.key.Key.{Key}
 use Rattle.signal_records.specs.declared.record.Row.{Row}
@@ -92,7 +92,7 @@ module _ (tables : Content) (office : Office) (id : ℕ) (stands : StandForSound
       in_table true None of is none = found q ∙ (λ i. cond (of i) (is i) None) ∙ sym none
       in_table true (Some columns) of is none =
           let there = stands.stand.timing_keys q columns is in
-          let own : id ≡ there.0 = of_tells id there.0 _ (subst (λ k. is_of id k ≡ true) there.2 of) in
+          let own : id ≡ there.0 = of_tells id there.0 (number (pos (kind_of there.1)) ∷ number (pos (first_of there.1)) ∷ number (pos (second_of there.1)) ∷ []) (subst (λ k. is_of id k ≡ true) there.2 of) in
           at (there.1, there.2 ∙ ap (λ n. timing_key n there.1) (sym own))
 
       in_list : (o : Option (List Cell)) → finite.find cells_cmp q listed ≡ o → finite.find cells_cmp q (rows_of id tables.timing) ≡ finite.find cells_cmp q listed

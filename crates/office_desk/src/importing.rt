@@ -1,5 +1,5 @@
 //! Imports: records of the register decided in turn, each after those before it.
-ghost use Rattle.std.specs.Prelude.{◌≡◌, ◌≢◌, ◌≤◌, ◌+◌, ◌++◌, [], IfOk, OnOk};
+ghost use Rattle.std.specs.Prelude.{◌≡◌, ◌≢◌, ◌≤◌, ◌+◌, [], IfOk};
 ghost use Rattle.office_tables_shelf.specs.Counts.{writes_in};
 ghost use Rattle.office_tables_shelf.specs.Shelf.{IsKept};
 ghost use Rattle.office_tables_shelf.specs.declared.rows.Table.{Table};
@@ -17,10 +17,8 @@ use crate::records::Records;
 use crate::refusal::Refusal;
 use crate::reply::Reply;
 use cabinet_core::RecordCommand;
-use office_desk_cabinet::{Registered, decide_record};
-use office_tables_shelf::rows::RowChange;
+use office_desk_cabinet::{Pending, Registered, decide_record};
 use office_tables_shelf::shelf::{Shelf, ShelfFault};
-use signal_records::NoMemory;
 use std::alloc::Global;
 
 /// What came of a record of an import.
@@ -34,37 +32,29 @@ enum Taken {
     Refused(Refusal),
 }
 
-/// Adds rows to those that are pending.
-fn add_rows(pending: &mut Vec<RowChange>, mut rows: Vec<RowChange>) -> Result<(), NoMemory>
-    ensures { OnOk result (pending.new.items ≡ pending.old.items ++ rows.items) }
-{
-    pending.append(&mut rows)?;
-    Ok(())
-}
-
-/// Takes a record after those whose rows are pending, and adds its own rows to them.
+/// Takes a record after those whose rows are pending, and gives them back with its own.
 fn take_record<S: Shelf>(
     shelf: &mut S,
     alloc: Global,
-    pending: &mut Vec<RowChange>,
+    pending: Pending,
     command: &RecordCommand,
-) -> Result<Taken, ShelfFault>
-    ensures step { S.is_honest shelf.new → IfOk result (λ taken. TakesRecord (S.content shelf.old) pending.old.items command.now taken pending.new.items) }
+) -> Result<(Taken, Pending), ShelfFault>
+    ensures step { S.is_honest shelf.new → IfOk result (λ taken. TakesRecord (S.content shelf.old) pending command.now taken.0 taken.1) }
     ensures damaged { result ≡ Err ShelfFault.Damaged → S.is_honest shelf.new → MeetsCabinetDamage (S.content shelf.old) command.now (about_of command.now) }
-    ensures leaves { IfOk result (λ _. LeavesAnyTiming pending.old.items → LeavesAnyTiming pending.new.items) }
-    ensures writes { IfOk result (λ _. (table : Table) → writes_in table pending.new.items ≤ writes_in table pending.old.items + most_record_writes command.now table) }
+    ensures leaves { IfOk result (λ taken. LeavesAnyTiming pending → LeavesAnyTiming taken.1) }
+    ensures writes { IfOk result (λ taken. (table : Table) → writes_in table taken.1 ≤ writes_in table pending + most_record_writes command.now table) }
     ensures kept { IsKept S.is_honest S.content S.written S.may_leave shelf.old shelf.new }
 {
     if !is_known(shelf, alloc, cabinet_of(command))? {
-        return Ok(Taken::Refused(Refusal::UnknownIntersection));
+        return Ok((Taken::Refused(Refusal::UnknownIntersection), pending));
     }
-    match decide_record(shelf, alloc, pending.as_slice(), command)? {
+    match decide_record(shelf, alloc, &pending, command)? {
         Registered::Added(rows) => {
-            add_rows(pending, rows)?;
-            Ok(Taken::Added)
+            let next = pending.with(rows)?;
+            Ok((Taken::Added, next))
         }
-        Registered::Same => Ok(Taken::Same),
-        Registered::Refused(refusal) => Ok(Taken::Refused(refused(refusal))),
+        Registered::Same => Ok((Taken::Same, pending)),
+        Registered::Refused(refusal) => Ok((Taken::Refused(refused(refusal)), pending)),
     }
 }
 
@@ -81,11 +71,13 @@ pub(crate) fn decide_import<S: Shelf>(
     ensures refused { IfOk result (λ decided. IsRefused decided.reply → decided.changes.items ≡ []) }
     ensures kept { IsKept S.is_honest S.content S.written S.may_leave shelf.old shelf.new }
 {
-    let mut pending = Vec::new(alloc);
+    let mut pending = Pending::new(alloc);
     let mut added: usize = 0;
     let mut same: usize = 0;
     for (index, command) in records.as_slice().iter().enumerate() {
-        match take_record(shelf, alloc, &mut pending, command)? {
+        let (taken, next) = take_record(shelf, alloc, pending, command)?;
+        pending = next;
+        match taken {
             Taken::Added => added += 1,
             Taken::Same => same += 1,
             Taken::Refused(refusal) => {
@@ -97,6 +89,6 @@ pub(crate) fn decide_import<S: Shelf>(
     }
     Ok(Decided {
         reply: Reply::Imported { added, same },
-        changes: pending,
+        changes: pending.into_changes(),
     })
 }

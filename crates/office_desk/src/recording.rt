@@ -14,7 +14,7 @@ use crate::decided::Decided;
 use crate::refusal::Refusal;
 use crate::reply::Reply;
 use cabinet_core::{CabinetRefusal, RecordCommand};
-use office_desk_cabinet::{Registered, decide_record};
+use office_desk_cabinet::{Pending, Registered, decide_record};
 use office_tables_shelf::shelf::{Shelf, ShelfFault};
 use signal_records::InterId;
 use std::alloc::Global;
@@ -98,6 +98,7 @@ pub(crate) fn decide_record_command<S: Shelf>(
     if !is_known(shelf, alloc, cabinet_of(command))? {
         return Ok(Decided::refused(alloc, Refusal::UnknownIntersection));
     }
-    let told = decide_record(shelf, alloc, &[], command)?;
+    let pending = Pending::new(alloc);
+    let told = decide_record(shelf, alloc, &pending, command)?;
     Ok(answer(alloc, told))
 }

@@ -1,21 +1,61 @@
--- What stands at a place of the register after changes: what the last of them put there, or what stood there before.
-use Rattle.std.proofs.Common.{◌≡◌, ℕ, ◌+◌, ◌<◌, Bool, true, false, List, [], ◌∷◌, ◌++◌, cond, take, length, get_or, Option, Some, IfSome, option_map, Bor, refl, sym, ap, subst, ◌∙◌}
-use Rattle.std.proofs.lemmas.List.{take_more}
-use Rattle.std.specs.FinMap.{get, insert, get-insert}
+-- What stands under a key of the register after rows are written: what they put there over tables without a row, or what stood there before.
+use Rattle.std.proofs.Common.{◌≡◌, ℕ, Bool, true, false, ◌&&◌, List, [], ◌∷◌, ◌++◌, cond, Option, Some, None, option_map, refl, sym, ap, ◌∙◌}
+use Rattle.std.specs.FinMap.{get, insert, get-empty, get-insert}
 use Rattle.std.specs.Option.{option_or}
 use Rattle.std.specs.Ordering.{eq_by_cmp}
+use Rattle.std.specs.Prelude.{◌==◌}
+use Rattle.std.specs.Str.{bytes_eq}
 use Rattle.office_tables_shelf.proofs.CellLemmas.{cells_total}
+use Rattle.office_tables_shelf.specs.CabinetReads.{ReadsInspection, ReadsOrder, ReadsUsed, ReadsDelivery, ReadsHand}
 use Rattle.office_tables_shelf.specs.CabinetRows.{inspection_key, inspection_columns, order_key, order_columns, used_key, used_columns, part_key, part_columns, delivery_key, delivery_columns}
 use Rattle.office_tables_shelf.specs.Cells.{Cell, Rows, cells_cmp}
 use Rattle.office_tables_shelf.specs.Change.{changed, changed_by}
-use Rattle.office_tables_shelf.specs.Content.{Content}
+use Rattle.office_tables_shelf.specs.Content.{Content, no_content}
 use Rattle.office_tables_shelf.specs.declared.rows.RowChange.{RowChange}
 use Rattle.office_tables_shelf.specs.declared.rows.RowChange.TheVariants.{PutInspection, PutOrder, PutLine, PutPart, PutDelivery}
-use Rattle.office_desk_cabinet.specs.Places.{cells_at, is_put, cells_put}
-use Rattle.office_desk_cabinet.specs.declared.pending.Place.{Place}
-use Rattle.office_desk_cabinet.specs.declared.pending.Place.TheVariants.{Inspection, Order, Line, Part, Delivery}
+use Rattle.cabinet_core.specs.declared.record.Delivery.{Delivery as DeliveryRecord}
+use Rattle.cabinet_core.specs.declared.record.Inspection.{Inspection as InspectionRecord}
+use Rattle.cabinet_core.specs.declared.record.Order.{Order as OrderRecord}
+use Rattle.cabinet_core.specs.declared.record.UsedLine.{UsedLine}
+use Rattle.office_desk_cabinet.specs.Puts.{Puts}
 use Rattle.office_desk_cabinet.proofs.KeyTies.{numbered_ties, used_ties, delivery_ties}
 use Rattle.office_desk_cabinet.proofs.PartRows.{part_ties}
+
+-- ---- places
+
+-- where a row of the register stands: its table and its key
+data Place : Type 0 where
+  Inspection : ℕ → ℕ → Place
+  Order : ℕ → ℕ → Place
+  Line : ℕ → ℕ → ℕ → Place
+  Part : List ℕ → Place
+  Delivery : List ℕ → ℕ → Place
+
+-- the cells that stand at a place
+abbrev cells_at : Content → Place → Option (List Cell)
+cells_at tables (Inspection id n) = get tables.inspection (inspection_key id n)
+cells_at tables (Order id n) = get tables.work_order (order_key id n)
+cells_at tables (Line id order line) = get tables.used_part (used_key id order line)
+cells_at tables (Part code) = get tables.part (part_key code)
+cells_at tables (Delivery code n) = get tables.delivery (delivery_key code n)
+
+-- the change puts a row at the place
+abbrev is_put : Place → RowChange → Bool
+is_put (Inspection id n) (PutInspection of inspection) = of == id && inspection.number == n
+is_put (Order id n) (PutOrder of order) = of == id && order.number == n
+is_put (Line id order line) (PutLine of used) = of == id && (used.order == order && used.line == line)
+is_put (Part code) (PutPart part hand) = bytes_eq part code
+is_put (Delivery code n) (PutDelivery delivery) = bytes_eq delivery.part code && delivery.number == n
+is_put _ _ = false
+
+-- the cells of the row, beside its key
+abbrev cells_put : RowChange → List Cell
+cells_put (PutInspection id inspection) = inspection_columns inspection
+cells_put (PutOrder id order) = order_columns order
+cells_put (PutLine id used) = used_columns used
+cells_put (PutPart code hand) = part_columns hand
+cells_put (PutDelivery delivery) = delivery_columns delivery
+cells_put _ = []
 
 -- ---- one change
 
@@ -23,7 +63,7 @@ use Rattle.office_desk_cabinet.proofs.PartRows.{part_ties}
 put_under : (rows : Rows) (k cells q : List Cell) (b : Bool) → eq_by_cmp cells_cmp q k ≡ b → get (insert rows k cells) q ≡ cond b (Some cells) (get rows q)
 put_under rows k cells q b ties = get-insert cells_total rows k cells q ∙ ap (λ t. cond t (Some cells) (get rows q)) ties
 
-pub cells_changed : (tables : Content) (place : Place) (change : RowChange) → cells_at (changed tables change) place ≡ cond (is_put place change) (Some (cells_put change)) (cells_at tables place)
+cells_changed : (tables : Content) (place : Place) (change : RowChange) → cells_at (changed tables change) place ≡ cond (is_put place change) (Some (cells_put change)) (cells_at tables place)
 cells_changed tables (Inspection id n) (PutInspection of inspection) =
     put_under tables.inspection (inspection_key of inspection.number) (inspection_columns inspection) (inspection_key id n) _ (numbered_ties id n of inspection.number)
 cells_changed tables (Order id n) (PutOrder of order) =
@@ -31,43 +71,70 @@ cells_changed tables (Order id n) (PutOrder of order) =
 cells_changed tables (Line id order line) (PutLine of used) =
     put_under tables.used_part (used_key of used.order used.line) (used_columns used) (used_key id order line) _ (used_ties id order line of used.order used.line)
 cells_changed tables (Part code) (PutPart part hand) =
-    put_under tables.part (part_key part) (part_columns hand) (part_key code.now) _ (part_ties code.now part)
+    put_under tables.part (part_key part) (part_columns hand) (part_key code) _ (part_ties code part)
 cells_changed tables (Delivery code n) (PutDelivery delivery) =
-    put_under tables.delivery (delivery_key delivery.part delivery.number) (delivery_columns delivery) (delivery_key code.now n) _ (delivery_ties code.now n delivery.part delivery.number)
+    put_under tables.delivery (delivery_key delivery.part delivery.number) (delivery_columns delivery) (delivery_key code n) _ (delivery_ties code n delivery.part delivery.number)
 cells_changed tables _ _ = refl
 
 -- ---- changes in their order
 
-changed_push : (tables : Content) (changes : List RowChange) (change : RowChange) → changed_by tables (changes ++ change ∷ []) ≡ changed (changed_by tables changes) change
-changed_push tables [] change = refl
-changed_push tables (first ∷ changes) change = changed_push (changed tables first) changes change
+-- what the last of some changes puts at a place
+abbrev last_at : List RowChange → Place → Option (List Cell)
+last_at [] place = None
+last_at (change ∷ changes) place = option_or (last_at changes place) (cond (is_put place change) (Some (cells_put change)) None)
 
-either : (b : Bool) (new : List Cell) (old before : Option (List Cell)) → cond b (Some new) (option_or old before) ≡ option_or (cond b (Some new) old) before
-either true new old before = refl
-either false new old before = refl
+either : (later : Option (List Cell)) (b : Bool) (new : List Cell) (before : Option (List Cell)) → option_or later (cond b (Some new) before) ≡ option_or (option_or later (cond b (Some new) None)) before
+either None true new before = refl
+either None false new before = refl
+either (Some cells) b new before = refl
 
--- what was put last stands at the place, or what stood there before
-abbrev pub IsLastPut : Place → List RowChange → Option (Bor RowChange) → Type 0
-IsLastPut place changes last =
-    ((tables : Content) → cells_at (changed_by tables changes) place ≡ option_or (option_map (λ change. cells_put change.now) last) (cells_at tables place))
-    × IfSome last (λ change. is_put place change.now ≡ true)
+changed_at : (tables : Content) (changes : List RowChange) (place : Place) → cells_at (changed_by tables changes) place ≡ option_or (last_at changes place) (cells_at tables place)
+changed_at tables [] place = refl
+changed_at tables (change ∷ changes) place =
+    changed_at (changed tables change) changes place
+    ∙ ap (option_or (last_at changes place)) (cells_changed tables place change)
+    ∙ either (last_at changes place) (is_put place change) (cells_put change) (cells_at tables place)
 
-module _ (place : Place) (changes : List RowChange) (i : ℕ) (change : RowChange) (last : Option (Bor RowChange)) (low : i < length changes) (at : change ≡ get_or changes i change) (so_far : IsLastPut place (take i changes) last) where
-  one_more : (b : Bool) → is_put place change ≡ b → (tables : Content)
-      → cells_at (changed_by tables (take (i + 1) changes)) place ≡ option_or (cond b (Some (cells_put change)) (option_map (λ c. cells_put c.now) last)) (cells_at tables place)
-  one_more b is tables =
-      let next : take (i + 1) changes ≡ take i changes ++ change ∷ [] = take_more changes i change low ∙ ap (λ x. take i changes ++ x ∷ []) (sym at) in
-      ap (λ done. cells_at (changed_by tables done) place) next
-      ∙ ap (λ (t : Content). cells_at t place) (changed_push tables (take i changes) change)
-      ∙ cells_changed (changed_by tables (take i changes)) place change
-      ∙ ap (cond (is_put place change) (Some (cells_put change))) (so_far.0 tables)
-      ∙ either (is_put place change) (cells_put change) (option_map (λ c. cells_put c.now) last) (cells_at tables place)
-      ∙ ap (λ t. option_or (cond t (Some (cells_put change)) (option_map (λ c. cells_put c.now) last)) (cells_at tables place)) is
+nothing_at : (place : Place) → cells_at no_content place ≡ None
+nothing_at (Inspection id n) = get-empty cells_cmp (inspection_key id n)
+nothing_at (Order id n) = get-empty cells_cmp (order_key id n)
+nothing_at (Line id order line) = get-empty cells_cmp (used_key id order line)
+nothing_at (Part code) = get-empty cells_cmp (part_key code)
+nothing_at (Delivery code n) = get-empty cells_cmp (delivery_key code n)
 
-  -- one more change that puts a row there is the last
-  pub put_here : (ptr : ℕ × ℕ) (next : Option (Bor RowChange)) → next ≡ Some (record { ref_ptr = ptr; now = change }) → is_put place change ≡ true → IsLastPut place (take (i + 1) changes) next
-  put_here ptr next is hit = subst (IsLastPut place (take (i + 1) changes)) (sym is) (one_more true hit, hit)
+alone : (o : Option (List Cell)) → option_or o None ≡ o
+alone None = refl
+alone (Some cells) = refl
 
-  -- one that does not leaves the last
-  pub put_elsewhere : (next : Option (Bor RowChange)) → next ≡ last → is_put place change ≡ false → IsLastPut place (take (i + 1) changes) next
-  put_elsewhere next is miss = subst (IsLastPut place (take (i + 1) changes)) (sym is) (one_more false miss, so_far.1)
+-- over whatever tables, what the changes make of tables without a row comes first
+laid_over : (changes : List RowChange) (place : Place) (put : Option (List Cell)) → cells_at (changed_by no_content changes) place ≡ put → (tables : Content)
+    → cells_at (changed_by tables changes) place ≡ option_or put (cells_at tables place)
+laid_over changes place put is tables =
+    let last : last_at changes place ≡ put = sym (changed_at no_content changes place ∙ ap (option_or (last_at changes place)) (nothing_at place) ∙ alone (last_at changes place)) ∙ is in
+    changed_at tables changes place ∙ ap (λ o. option_or o (cells_at tables place)) last
+
+pub changed_append : (tables : Content) (changes later : List RowChange) → changed_by tables (changes ++ later) ≡ changed_by (changed_by tables changes) later
+changed_append tables [] later = refl
+changed_append tables (change ∷ changes) later = changed_append (changed tables change) changes later
+
+-- ---- what is read under a key
+
+pub inspection_put : (changes : List RowChange) (id n : ℕ) (put : Option InspectionRecord) → ReadsInspection (changed_by no_content changes) id n put → Puts (λ tables there. ReadsInspection tables id n there) changes put
+inspection_put changes id n None reads = λ tables before there. record { stored = laid_over changes (Inspection id n) None reads.stored tables ∙ there.stored; number = there.number }
+inspection_put changes id n (Some put) reads = λ tables. record { stored = laid_over changes (Inspection id n) _ reads.stored tables; number = reads.number }
+
+pub order_put : (changes : List RowChange) (id n : ℕ) (put : Option OrderRecord) → ReadsOrder (changed_by no_content changes) id n put → Puts (λ tables there. ReadsOrder tables id n there) changes put
+order_put changes id n None reads = λ tables before there. record { stored = laid_over changes (Order id n) None reads.stored tables ∙ there.stored; number = there.number }
+order_put changes id n (Some put) reads = λ tables. record { stored = laid_over changes (Order id n) _ reads.stored tables; number = reads.number }
+
+pub line_put : (changes : List RowChange) (id order line : ℕ) (put : Option UsedLine) → ReadsUsed (changed_by no_content changes) id order line put → Puts (λ tables there. ReadsUsed tables id order line there) changes put
+line_put changes id order line None reads = λ tables before there. record { stored = laid_over changes (Line id order line) None reads.stored tables ∙ there.stored; of = there.of; number = there.number }
+line_put changes id order line (Some put) reads = λ tables. record { stored = laid_over changes (Line id order line) _ reads.stored tables; of = reads.of; number = reads.number }
+
+pub delivery_put : (changes : List RowChange) (code : List ℕ) (n : ℕ) (put : Option DeliveryRecord) → ReadsDelivery (changed_by no_content changes) code n put → Puts (λ tables there. ReadsDelivery tables code n there) changes put
+delivery_put changes code n None reads = λ tables before there. record { stored = laid_over changes (Delivery code n) None reads.stored tables ∙ there.stored; part = there.part; number = there.number }
+delivery_put changes code n (Some put) reads = λ tables. record { stored = laid_over changes (Delivery code n) _ reads.stored tables; part = reads.part; number = reads.number }
+
+pub hand_put : (changes : List RowChange) (code : List ℕ) (put : Option ℕ) → ReadsHand (changed_by no_content changes) code put → Puts (λ tables there. ReadsHand tables code there) changes put
+hand_put changes code None reads = λ tables before there. laid_over changes (Part code) None reads tables ∙ there
+hand_put changes code (Some put) reads = λ tables. laid_over changes (Part code) _ reads tables

@@ -2,7 +2,7 @@ pub mod Register
 pub mod RegisterStep
 pub mod RegisterStands
 pub mod RegisterDamage
-pub mod Places
+pub mod Puts
 pub mod Registers
 pub mod Telling
 pub mod Stocking

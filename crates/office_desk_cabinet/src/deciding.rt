@@ -6,11 +6,11 @@ ghost use Rattle.office_tables_shelf.specs.Shelf.{IsKept};
 ghost use Rattle.office_tables_shelf.specs.declared.rows.Table.{Table};
 ghost use Rattle.office_desk_cabinet.specs.Registers.{Registers, LeavesTiming, most_record_writes, rows_told};
 
+use crate::pending::Pending;
 use crate::records::{decide_close_order, decide_inspect, decide_open_order};
 use crate::registered::Registered;
 use crate::stocking::{decide_receive, decide_use_part};
 use cabinet_core::{CabinetRefusal, RecordCommand};
-use office_tables_shelf::rows::RowChange;
 use office_tables_shelf::shelf::{Shelf, ShelfFault};
 use std::alloc::Global;
 
@@ -19,7 +19,7 @@ use std::alloc::Global;
 pub fn decide_record<S: Shelf>(
     shelf: &mut S,
     alloc: Global,
-    pending: &[RowChange],
+    pending: &Pending,
     command: &RecordCommand,
 ) -> Result<Registered, ShelfFault>
     ensures step { S.is_honest shelf.new → Registers (S.content shelf.old) pending.now command.now result }

@@ -11,6 +11,7 @@ mod standing;
 mod stocking;
 
 pub use deciding::decide_record;
+pub use pending::Pending;
 pub use registered::Registered;
 pub use showing::{cabinet_view, open_orders};
 pub use stocking::stock;

@@ -1,56 +1,120 @@
-//! What rows that are to be written put under a key of the register.
-ghost use Rattle.std.specs.Prelude.{◌≡◌, true, IfSome};
-ghost use Rattle.std.specs.Option.{option_map, option_or};
-ghost use Rattle.office_tables_shelf.specs.Change.{changed_by};
-ghost use Rattle.office_tables_shelf.specs.Content.{Content};
-ghost use Rattle.office_desk_cabinet.specs.Places.{cells_at, cells_put, is_put};
+//! Rows of the register that are to be written, and what they put under its keys.
+ghost use Rattle.std.specs.Prelude.{◌≡◌, ◌++◌, [], IfOk};
+ghost use Rattle.office_tables_shelf.specs.CabinetReads.{ReadsInspection, ReadsOrder, ReadsUsed, ReadsDelivery, ReadsHand};
+ghost use Rattle.office_desk_cabinet.specs.Puts.{Puts};
 
-use cabinet_core::PartCode;
+use cabinet_core::{Delivery, Hand, Inspection, Order, PartCode, UsedLine};
+use office_tables_shelf::map_shelf::MapShelf;
 use office_tables_shelf::rows::RowChange;
-use signal_records::{InterId, LineNo, RecordNo};
+use signal_records::{InterId, LineNo, NoMemory, RecordNo};
+use std::alloc::Global;
+use std::marker::Model;
 
-/// Where a row of the register stands: its table and its key.
-#[derive(Clone, Copy)]
-pub(crate) enum Place<'a> {
-    Inspection(InterId, RecordNo),
-    Order(InterId, RecordNo),
-    Line(InterId, RecordNo, LineNo),
-    Part(&'a PartCode),
-    Delivery(&'a PartCode, RecordNo),
+/// Rows that are to be written, in their order, with the last put under each key of the register.
+/// They are seen as a list.
+#[derive(Drop)]
+pub struct Pending {
+    changes: Vec<RowChange>,
+    /// What the changes make of tables without a row.
+    puts: MapShelf,
 }
 
-/// Whether a change puts a row at a place.
-fn is_put(place: &Place, change: &RowChange) -> bool
-    ensures { result ≡ is_put place.now change.now }
-{
-    match (place, change) {
-        (Place::Inspection(id, number), RowChange::PutInspection(of, inspection)) => {
-            of == id && inspection.number == *number
-        }
-        (Place::Order(id, number), RowChange::PutOrder(of, order)) => {
-            of == id && order.number == *number
-        }
-        (Place::Line(id, order, line), RowChange::PutLine(of, used)) => {
-            of == id && used.order == *order && used.line == *line
-        }
-        (Place::Part(code), RowChange::PutPart(part, _)) => part == *code,
-        (Place::Delivery(code, number), RowChange::PutDelivery(delivery)) => {
-            delivery.part == **code && delivery.number == *number
-        }
-        _ => false,
-    }
+impl Model for Pending {
+    ghost use Rattle.std.specs.Prelude.{◌≡◌, List};
+    ghost use Rattle.office_tables_shelf.specs.Change.{changed_by};
+    ghost use Rattle.office_tables_shelf.specs.Content.{no_content};
+    ghost use Rattle.office_tables_shelf.specs.declared.rows.RowChange.{RowChange};
+
+    ghost Value = { List RowChange };
+
+    ghost view = { λ p. p.changes.items };
+
+    ghost invariant = { λ p. p.puts.tables ≡ changed_by no_content p.changes.items };
 }
 
-/// The last of some changes that puts a row at a place, if one does.
-pub(crate) fn last_put<'a>(changes: &'a [RowChange], place: &Place) -> Option<&'a RowChange>
-    ensures cells { (tables : Content) → cells_at (changed_by tables changes.entry.now) place.now ≡ option_or (option_map (λ change. cells_put change.now) result) (cells_at tables place.now) }
-    ensures here { IfSome result (λ change. is_put place.now change.now ≡ true) }
-{
-    let mut last = None;
-    for change in changes {
-        if is_put(place, change) {
-            last = Some(change);
+impl Pending {
+    /// No rows.
+    pub fn new(alloc: Global) -> Pending
+        ensures { result ≡ [] }
+    {
+        Pending {
+            changes: Vec::new(alloc),
+            puts: MapShelf::new(alloc),
         }
     }
-    last
+
+    /// These rows, and others after them.
+    pub fn with(self, mut rows: Vec<RowChange>) -> Result<Pending, NoMemory>
+        ensures { IfOk result (λ next. next ≡ self ++ rows.items) }
+    {
+        let Pending {
+            mut changes,
+            mut puts,
+        } = self;
+        for row in rows.as_slice() {
+            puts = puts.with(row)?;
+        }
+        changes.append(&mut rows)?;
+        Ok(Pending { changes, puts })
+    }
+
+    /// The rows.
+    pub fn into_changes(self) -> Vec<RowChange>
+        ensures { result.items ≡ self }
+    {
+        let Pending { changes, .. } = self;
+        changes
+    }
+
+    /// The inspection that is put under a number of an intersection, if one is.
+    pub(crate) fn inspection(
+        &self,
+        id: InterId,
+        number: RecordNo,
+    ) -> Result<Option<Inspection>, NoMemory>
+        ensures { IfOk result (λ put. Puts (λ tables there. ReadsInspection tables id number there) self.now put) }
+    {
+        let put = self.puts.inspection_at(id, number)?;
+        Ok(put)
+    }
+
+    /// The order that is put under a number of an intersection, if one is.
+    pub(crate) fn order(&self, id: InterId, number: RecordNo) -> Result<Option<Order>, NoMemory>
+        ensures { IfOk result (λ put. Puts (λ tables there. ReadsOrder tables id number there) self.now put) }
+    {
+        let put = self.puts.order_at(id, number)?;
+        Ok(put)
+    }
+
+    /// The used part that is put under an order and a line of an intersection, if one is.
+    pub(crate) fn line(
+        &self,
+        id: InterId,
+        order: RecordNo,
+        line: LineNo,
+    ) -> Result<Option<UsedLine>, NoMemory>
+        ensures { IfOk result (λ put. Puts (λ tables there. ReadsUsed tables id order line there) self.now put) }
+    {
+        let put = self.puts.line_at(id, order, line)?;
+        Ok(put)
+    }
+
+    /// The delivery that is put under a part and a number, if one is.
+    pub(crate) fn delivery(
+        &self,
+        part: &PartCode,
+        number: RecordNo,
+    ) -> Result<Option<Delivery>, NoMemory>
+        ensures { IfOk result (λ put. Puts (λ tables there. ReadsDelivery tables part.now number there) self.now put) }
+    {
+        let put = self.puts.delivery_at(part, number)?;
+        Ok(put)
+    }
+
+    /// How many of a part are put on hand, if the rows say so.
+    pub(crate) fn hand(&self, part: &PartCode) -> Option<Hand>
+        ensures { Puts (λ tables there. ReadsHand tables part.now there) self.now result }
+    {
+        self.puts.hand_of(part)
+    }
 }

@@ -9,6 +9,7 @@ ghost use Rattle.office_tables_shelf.specs.Shelf.{IsKept};
 ghost use Rattle.office_tables_shelf.specs.declared.rows.Table.{Table};
 ghost use Rattle.office_desk_cabinet.specs.Registers.{Registers, LeavesTiming, most_record_writes, rows_told};
 
+use crate::pending::Pending;
 use crate::registered::Registered;
 use crate::rows::registered;
 use crate::standing::{inspection_at, order_at};
@@ -16,7 +17,6 @@ use cabinet_core::{
     CabinetRefusal, Closing, Inspection, Opening, RecordCommand, close_order, inspect,
     inspection_is_within, open_order,
 };
-use office_tables_shelf::rows::RowChange;
 use office_tables_shelf::shelf::{Shelf, ShelfFault};
 use signal_records::{InterId, RecordNo};
 use std::alloc::Global;
@@ -25,7 +25,7 @@ use std::alloc::Global;
 pub(crate) fn decide_inspect<S: Shelf>(
     shelf: &mut S,
     alloc: Global,
-    pending: &[RowChange],
+    pending: &Pending,
     id: InterId,
     inspection: &Inspection,
 ) -> Result<Registered, ShelfFault>
@@ -54,7 +54,7 @@ fn opening_is_within(opening: &Opening)
 pub(crate) fn decide_open_order<S: Shelf>(
     shelf: &mut S,
     alloc: Global,
-    pending: &[RowChange],
+    pending: &Pending,
     id: InterId,
     opening: &Opening,
 ) -> Result<Registered, ShelfFault>
@@ -82,7 +82,7 @@ fn closing_is_within(closing: &Closing)
 pub(crate) fn decide_close_order<S: Shelf>(
     shelf: &mut S,
     alloc: Global,
-    pending: &[RowChange],
+    pending: &Pending,
     id: InterId,
     order: RecordNo,
     closing: &Closing,

@@ -11,6 +11,7 @@ ghost use Rattle.office_desk_cabinet.specs.RegisterStands.{RegisterStandsSound};
 ghost use Rattle.office_desk_cabinet.specs.Registers.{Registers, LeavesTiming, most_record_writes, rows_told};
 ghost use Rattle.office_desk_cabinet.specs.Stocking.{TellsStock, stock_row_of, stock_rows_of};
 
+use crate::pending::Pending;
 use crate::registered::Registered;
 use crate::rows::registered;
 use crate::standing::{delivery_at, hand_at, line_at, order_at};
@@ -27,7 +28,7 @@ use std::alloc::Global;
 pub(crate) fn decide_use_part<S: Shelf>(
     shelf: &mut S,
     alloc: Global,
-    pending: &[RowChange],
+    pending: &Pending,
     id: InterId,
     line: &UsedLine,
 ) -> Result<Registered, ShelfFault>
@@ -92,7 +93,7 @@ fn received(
 pub(crate) fn decide_receive<S: Shelf>(
     shelf: &mut S,
     alloc: Global,
-    pending: &[RowChange],
+    pending: &Pending,
     delivery: &Delivery,
 ) -> Result<Registered, ShelfFault>
     ensures step { S.is_honest shelf.new → Registers (S.content shelf.old) pending.now (RecordCommand.Receive delivery.now) result }

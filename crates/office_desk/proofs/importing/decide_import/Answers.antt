@@ -2,8 +2,10 @@ use Rattle.std.proofs.Common.{◌≡◌, ◌+◌, ◌++◌, ◌≤◌, ◌<◌, 
 use Rattle.std.specs.Prelude.{◌⊎◌}
 use Rattle.std.proofs.lemmas.List.{drop_all}
 use Rattle.cabinet_core.specs.declared.command.RecordCommand.{RecordCommand}
+use Rattle.office_tables_shelf.specs.Counts.{writes_in}
 use Rattle.office_tables_shelf.specs.declared.rows.RowChange.{RowChange}
 use Rattle.office_tables_shelf.specs.declared.shelf.ShelfFault.{ShelfFault}
+use Rattle.office_desk.specs.Changes.{most_import_writes}
 use Rattle.office_desk.specs.Damage.{MeetsCabinetDamage}
 use Rattle.office_desk.specs.Step.{cabinet_of}
 use Rattle.office_desk.specs.Importing.{ImportsAny, LeavesAnyTiming, TakesRecord}
@@ -15,29 +17,29 @@ use Rattle.office_desk.proofs.importing.decide_import.Goals.{in-Added, in-Same}
 
 pub loop-index-init : goal.loop-index-init
 loop-index-init g c =
-    let none = c.new-pending.ensures.items in
+    let none = c.new-pending.ensures in
     record {
       counted = refl;
       imports = λ honest. subst (ImportsAny (g.S.Shelf.content c.args.shelf.now) c.args.records.now c.args.records.now 1 0 0) (sym none) (imports_start (g.S.Shelf.content c.args.shelf.now) c.args.records.now);
       leaves = subst LeavesAnyTiming (sym none) nothing_leaves;
-      writes = λ table. nothing_written table c.new-pending.result.items c.args.records.now none;
+      writes = λ table. nothing_written table c.new-pending.result c.args.records.now none;
       kept = record { honest_before = λ honest. honest; same_content = λ honest. refl; same_counts = refl; same_outcomes = λ honest tables left. left };
     }
 
-pub returns-in_err-take_record-clause-step : goal.returns-in_err-take_record-clause-step
-returns-in_err-take_record-clause-step g c = λ honest.
+pub returns-in_err-taken-clause-step : goal.returns-in_err-taken-clause-step
+returns-in_err-taken-clause-step g c = λ honest.
     let first = c.take_record.ensures.kept.honest_before honest in
     let index = c.loop-index.index in
     let item = c.command-item.result in
     let low = subst (λ (list : List RecordCommand). index < length list) c.as_slice-command-items.ensures c.loop-index-test.true in
     let at = subst (λ (list : List RecordCommand). item ≡ get_or list index item) c.as_slice-command-items.ensures c.command-item.is in
-    fault_decides _ c.args.records.now c.in_err-take_record.field-0.0 _ c.from_residual.ensures.1
+    fault_decides _ c.args.records.now c.in_err-taken.field-0.0 _ c.from_residual.ensures.1
     (λ damaged. damage_of_record _ c.args.records.now index item low at
     (subst (λ tables. MeetsCabinetDamage tables item (cabinet_of item)) (c.loop-index.invariant.kept.same_content first)
-    (c.take_record.ensures.damaged (c.in_err-take_record.was ∙ ap (λ (f : ShelfFault). Err f) damaged) honest)))
+    (c.take_record.ensures.damaged (c.in_err-taken.was ∙ ap (λ (f : ShelfFault). Err f) damaged) honest)))
 
-pub returns-in_err-take_record-clause-kept : goal.returns-in_err-take_record-clause-kept
-returns-in_err-take_record-clause-kept g c =
+pub returns-in_err-taken-clause-kept : goal.returns-in_err-taken-clause-kept
+returns-in_err-taken-clause-kept g c =
     let shelf = g.S.Shelf in
     kept_on shelf.is_honest shelf.content shelf.written shelf.may_leave c.args.shelf.now c.loop-index.shelf c.take_record.new.shelf c.loop-index.invariant.kept c.take_record.ensures.kept
 
@@ -54,11 +56,11 @@ returns-in-Refused-clause-step g c = λ honest.
     let all = c.args.records.now in
     let index = c.loop-index.index in
     let item = c.command-item.result in
-    let before = c.loop-index.pending.items in
-    let after = c.take_record.new.pending.items in
+    let before = c.loop-index.pending in
+    let after = c.in_ok-taken.next in
     let low = subst (λ (list : List RecordCommand). index < length list) c.as_slice-command-items.ensures c.loop-index-test.true in
     let at = subst (λ (list : List RecordCommand). item ≡ get_or list index item) c.as_slice-command-items.ensures c.command-item.is in
-    let takes = same_stored before item _ after (c.loop-index.invariant.kept.same_content first) (c.in_ok-take_record.ensures.step honest) in
+    let takes = same_stored before item _ after (c.loop-index.invariant.kept.same_content first) (c.in_ok-taken.ensures.step honest) in
     import_refused stored all (drop index all) item (drop (index + 1) all) (index + 1) c.loop-index.added c.loop-index.same _ before after c.in-Refused.refusal _ _
     (next_left all index item low at) (c.loop-index.invariant.imports first)
     (subst (λ t. TakesRecord stored before item t after) c.in-Refused.is takes)
@@ -71,33 +73,34 @@ loop-index-preserved g c =
     let all = c.args.records.now in
     let index = c.loop-index.index in
     let item = c.command-item.result in
-    let before = c.loop-index.pending.items in
-    let after = c.take_record.new.pending.items in
-    let t = c.in_ok-take_record.field-0 in
+    let before = c.loop-index.pending in
+    let after = c.in_ok-taken.next in
+    let t = c.in_ok-taken.taken in
     let low = subst (λ (list : List RecordCommand). index < length list) c.as_slice-command-items.ensures c.loop-index-test.true in
     let at = subst (λ (list : List RecordCommand). item ≡ get_or list index item) c.as_slice-command-items.ensures c.command-item.is in
-    let came : ((t ≡ Added) × (c.match-branch-2.added ≡ c.loop-index.added + 1) × (c.match-branch-2.same ≡ c.loop-index.same)) ⊎ ((t ≡ Same) × (c.match-branch-2.added ≡ c.loop-index.added) × (c.match-branch-2.same ≡ c.loop-index.same + 1)) =
-    elim c.match-branch-2.branch [ in-Added w ↦ inl (w.in-Added.is, w.added-is, w.same-is) | in-Same w ↦ inr (w.in-Same.is, w.added-is, w.same-is) ] in
+    let came : ((t ≡ Added) × (c.match-taken.added ≡ c.loop-index.added + 1) × (c.match-taken.same ≡ c.loop-index.same)) ⊎ ((t ≡ Same) × (c.match-taken.added ≡ c.loop-index.added) × (c.match-taken.same ≡ c.loop-index.same + 1)) =
+    elim c.match-taken.branch [ in-Added w ↦ inl (w.in-Added.is, w.added-is, w.same-is) | in-Same w ↦ inr (w.in-Same.is, w.added-is, w.same-is) ] in
     record {
       counted = counted_on c.loop-index.added c.loop-index.same index _ _ t c.loop-index.invariant.counted came;
       imports = λ honest.
           let first = c.take_record.ensures.kept.honest_before honest in
           imports_on stored all (drop index all) item (drop (index + 1) all) (index + 1) c.loop-index.added c.loop-index.same before after t _ _
           (next_left all index item low at) came (c.loop-index.invariant.imports first)
-          (same_stored before item t after (c.loop-index.invariant.kept.same_content first) (c.in_ok-take_record.ensures.step honest));
-      leaves = c.in_ok-take_record.ensures.leaves c.loop-index.invariant.leaves;
-      writes = λ table. writes_left table all index item _ _ _ low at (c.loop-index.invariant.writes table) (c.in_ok-take_record.ensures.writes table);
+          (same_stored before item t after (c.loop-index.invariant.kept.same_content first) (c.in_ok-taken.ensures.step honest));
+      leaves = c.in_ok-taken.ensures.leaves c.loop-index.invariant.leaves;
+      writes = λ table. writes_left table all index item _ _ _ low at (c.loop-index.invariant.writes table) (c.in_ok-taken.ensures.writes table);
       kept = kept_on shelf.is_honest shelf.content shelf.written shelf.may_leave c.args.shelf.now c.loop-index.shelf c.take_record.new.shelf c.loop-index.invariant.kept c.take_record.ensures.kept;
     }
 
 pub returns-clause-step : goal.returns-clause-step
 returns-clause-step g c = λ honest.
     let high = subst (λ (list : List RecordCommand). length list ≤ c.loop-index.index) c.as_slice-command-items.ensures c.loop-index-test.false in
-    import_done (g.S.Shelf.content c.args.shelf.now) c.args.records.now (drop c.loop-index.index c.args.records.now) (c.loop-index.index + 1) c.loop-index.added c.loop-index.same c.loop-index.pending.items _ _
-    (drop_all c.loop-index.index c.args.records.now high) (c.loop-index.invariant.imports honest) c.loop-index.invariant.leaves refl refl
+    import_done (g.S.Shelf.content c.args.shelf.now) c.args.records.now (drop c.loop-index.index c.args.records.now) (c.loop-index.index + 1) c.loop-index.added c.loop-index.same c.loop-index.pending _ _
+    (drop_all c.loop-index.index c.args.records.now high) (c.loop-index.invariant.imports honest) c.loop-index.invariant.leaves refl c.into_changes.ensures
 
 pub returns-clause-writes : goal.returns-clause-writes
 returns-clause-writes g c = λ honest.
     let high = subst (λ (list : List RecordCommand). length list ≤ c.loop-index.index) c.as_slice-command-items.ensures c.loop-index-test.false in
-    import_writes (g.S.Shelf.content c.args.shelf.now) c.args.records.now c.loop-index.pending.items
-    (λ table. writes_whole table c.args.records.now c.loop-index.index _ _ high (c.loop-index.invariant.writes table))
+    import_writes (g.S.Shelf.content c.args.shelf.now) c.args.records.now c.into_changes.result.items
+    (λ table. subst (λ changes. writes_in table changes ≤ most_import_writes c.args.records.now table) (sym c.into_changes.ensures)
+    (writes_whole table c.args.records.now c.loop-index.index _ _ high (c.loop-index.invariant.writes table)))

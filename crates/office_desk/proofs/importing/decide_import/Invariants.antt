@@ -12,8 +12,8 @@ invariant-loop-index g l =
     let shelf = g.S.Shelf in
     record {
       counted : l.added + l.same ≡ l.index;
-      imports : shelf.is_honest l.shelf → ImportsAny (shelf.content l.fn.shelf) l.records (drop l.index l.records) (l.index + 1) l.added l.same l.pending.items;
-      leaves : LeavesAnyTiming l.pending.items;
-      writes : (table : Table) → writes_in table l.pending.items + most_import_writes (drop l.index l.records) table ≤ most_import_writes l.records table;
+      imports : shelf.is_honest l.shelf → ImportsAny (shelf.content l.fn.shelf) l.records (drop l.index l.records) (l.index + 1) l.added l.same l.pending;
+      leaves : LeavesAnyTiming l.pending;
+      writes : (table : Table) → writes_in table l.pending + most_import_writes (drop l.index l.records) table ≤ most_import_writes l.records table;
       kept : IsKept shelf.is_honest shelf.content shelf.written shelf.may_leave l.fn.shelf l.shelf;
     }

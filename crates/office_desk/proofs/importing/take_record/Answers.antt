@@ -1,23 +1,23 @@
-use Rattle.std.proofs.Common.{◌≡◌, true, ap, arith}
+use Rattle.std.proofs.Common.{◌≡◌, true, ap, refl, arith}
 use Rattle.office_desk_cabinet.specs.Registers.{line_told, rows_told}
 use Rattle.office_desk.proofs.Imports.{few_more, leaves_more, record_added}
 use Rattle.office_desk.proofs.Recorded.{about_known}
 use Rattle.office_desk.proofs.importing.take_record.Goals as goal
 
-pub returns-in_ok-add_rows-in-Added-clause-step : goal.returns-in_ok-add_rows-in-Added-clause-step
-returns-in_ok-add_rows-in-Added-clause-step g c = λ honest office stands r register.
+pub returns-in_ok-next-in-Added-clause-step : goal.returns-in_ok-next-in-Added-clause-step
+returns-in_ok-next-in-Added-clause-step g c = λ honest office stands r register.
     let first = c.decide_record.ensures.kept.honest_before honest in
     let same = c.is_known.ensures.kept.same_content first in
     let test = c.if-not-branch.false in
     let there : c.in_ok-is_known.field-0 ≡ true = first_of (cc, grind arith) in
-    record_added (g.S.Shelf.content c.args.shelf.now) (g.S.Shelf.content c.is_known.new.shelf) c.args.command.now c.in-Added.rows.items c.as_slice.result.now c.args.pending.now.items _ _ office r
-    c.as_slice.ensures.value same (about_known _ _ _ _ _ c.cabinet_of.ensures there (c.in_ok-is_known.ensures.known first) office stands) register
-    (c.in_ok-rows.ensures.step honest) (ap line_told c.in-Added.is) (ap rows_told c.in-Added.is) c.in_ok-add_rows-in-Added.ensures
+    record_added (g.S.Shelf.content c.args.shelf.now) (g.S.Shelf.content c.is_known.new.shelf) c.args.command.now c.in-Added.rows.items c.args.pending c.args.pending _ _ office r
+    refl same (about_known _ _ _ _ _ c.cabinet_of.ensures there (c.in_ok-is_known.ensures.known first) office stands) register
+    (c.in_ok-rows.ensures.step honest) (ap line_told c.in-Added.is) (ap rows_told c.in-Added.is) c.in_ok-next-in-Added.ensures
 
-pub returns-in_ok-add_rows-in-Added-clause-leaves : goal.returns-in_ok-add_rows-in-Added-clause-leaves
-returns-in_ok-add_rows-in-Added-clause-leaves g c = λ before.
-    leaves_more c.args.pending.now.items c.in-Added.rows.items _ _ (ap rows_told c.in-Added.is) c.in_ok-add_rows-in-Added.ensures before c.in_ok-rows.ensures.leaves
+pub returns-in_ok-next-in-Added-clause-leaves : goal.returns-in_ok-next-in-Added-clause-leaves
+returns-in_ok-next-in-Added-clause-leaves g c = λ before.
+    leaves_more c.args.pending c.in-Added.rows.items _ _ (ap rows_told c.in-Added.is) c.in_ok-next-in-Added.ensures before c.in_ok-rows.ensures.leaves
 
-pub returns-in_ok-add_rows-in-Added-clause-writes : goal.returns-in_ok-add_rows-in-Added-clause-writes
-returns-in_ok-add_rows-in-Added-clause-writes g c = λ table.
-    few_more table c.args.pending.now.items c.in-Added.rows.items _ _ _ (ap rows_told c.in-Added.is) c.in_ok-add_rows-in-Added.ensures (c.in_ok-rows.ensures.writes table)
+pub returns-in_ok-next-in-Added-clause-writes : goal.returns-in_ok-next-in-Added-clause-writes
+returns-in_ok-next-in-Added-clause-writes g c = λ table.
+    few_more table c.args.pending c.in-Added.rows.items _ _ _ (ap rows_told c.in-Added.is) c.in_ok-next-in-Added.ensures (c.in_ok-rows.ensures.writes table)

@@ -1,4 +1,5 @@
-use Rattle.std.proofs.Common.{◌≡◌, true, false, arith, subst}
+use Rattle.std.proofs.Common.{◌≡◌, ◌∙◌, true, false, ap, arith, subst}
+use Rattle.office_tables_shelf.specs.Change.{changed_by}
 use Rattle.office_desk_cabinet.specs.Register.{Register}
 use Rattle.office_desk_cabinet.specs.RegisterStands.{RegisterStandsSound}
 use Rattle.office_desk_cabinet.specs.Registers.{RegistersFrom}
@@ -22,6 +23,6 @@ returns-clause-step g c = λ honest office stands.
     let done = c.in_ok-told.told in
     record_answers (g.S.Shelf.content c.args.shelf.now) office c.args.command.now done _ _ stands
     (about_known _ _ _ _ _ c.cabinet_of.ensures there (c.in_ok-is_known.ensures.known first))
-    (subst (λ t. (r : Register) → RegisterStandsSound t r → RegistersFrom t c.args.command.now done r) same (c.in_ok-told.ensures.step honest))
+    (subst (λ t. (r : Register) → RegisterStandsSound t r → RegistersFrom t c.args.command.now done r) (ap (changed_by (g.S.Shelf.content c.is_known.new.shelf)) c.new-pending.ensures ∙ same) (c.in_ok-told.ensures.step honest))
     (c.in_ok-told.ensures.leaves (g.S.Shelf.content c.args.shelf.now))
     c.answer.ensures.reply c.answer.ensures.changes

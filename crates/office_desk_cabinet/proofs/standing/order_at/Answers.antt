@@ -1,0 +1,12 @@
+use Rattle.std.proofs.Common.{subst}
+use Rattle.office_tables_shelf.specs.CabinetReads.{ReadsOrder}
+use Rattle.office_desk_cabinet.specs.Puts.{Puts}
+use Rattle.office_desk_cabinet.proofs.standing.order_at.Goals as goal
+
+pub returns-in-Some-clause-row : goal.returns-in-Some-clause-row
+returns-in-Some-clause-row g c = λ honest.
+    subst (Puts (λ tables there. ReadsOrder tables c.args.id c.args.number there) c.args.pending.now) c.in-Some.is c.in_ok-put.ensures (g.S.Shelf.content c.args.shelf.now)
+
+pub returns-clause-row : goal.returns-clause-row
+returns-clause-row g c = λ honest.
+    subst (Puts (λ tables there. ReadsOrder tables c.args.id c.args.number there) c.args.pending.now) c.in_default.is c.in_ok-put.ensures (g.S.Shelf.content c.args.shelf.now) c.in_ok-before.before (c.in_ok-before.ensures.row honest)
