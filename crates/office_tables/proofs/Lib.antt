@@ -1,4 +1,3 @@
 mod VersionLemmas
 mod StatementLemmas
 mod BlankLemmas
-mod KeyReads

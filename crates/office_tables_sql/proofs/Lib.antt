@@ -23,3 +23,4 @@ mod StoredCounts
 mod StoredPuts
 mod EachLemmas
 mod CodeReading
+mod KeyReads
