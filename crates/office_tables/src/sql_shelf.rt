@@ -167,7 +167,7 @@ impl<S: Alter> Shelf for SqlShelf<S> {
     }
 
     fn timing_rows(&mut self, alloc: Global, id: InterId) -> Result<Vec<Row>, ShelfFault> {
-        each_row::list(alloc, &mut self.conn, id)
+        reads::timing_rows(alloc, &mut self.conn, id)
     }
 
     fn committed_count(&mut self, _alloc: Global, id: InterId) -> Result<usize, ShelfFault> {
@@ -176,7 +176,7 @@ impl<S: Alter> Shelf for SqlShelf<S> {
     }
 
     fn draft_rows(&mut self, alloc: Global, id: InterId) -> Result<Vec<Change>, ShelfFault> {
-        each_row::list(alloc, &mut self.conn, id)
+        reads::draft_rows(alloc, &mut self.conn, id)
     }
 
     fn inspection(
@@ -185,11 +185,11 @@ impl<S: Alter> Shelf for SqlShelf<S> {
         id: InterId,
         number: RecordNo,
     ) -> Result<Option<Inspection>, ShelfFault> {
-        stored_row::find(alloc, &mut self.conn, id, params![id.get(), number.get()])
+        reads::inspection(alloc, &mut self.conn, id, number)
     }
 
     fn inspections(&mut self, alloc: Global, id: InterId) -> Result<Vec<Inspection>, ShelfFault> {
-        each_row::list(alloc, &mut self.conn, id)
+        reads::inspections(alloc, &mut self.conn, id)
     }
 
     fn order(
@@ -198,11 +198,11 @@ impl<S: Alter> Shelf for SqlShelf<S> {
         id: InterId,
         number: RecordNo,
     ) -> Result<Option<Order>, ShelfFault> {
-        stored_row::find(alloc, &mut self.conn, id, params![id.get(), number.get()])
+        reads::order(alloc, &mut self.conn, id, number)
     }
 
     fn orders(&mut self, alloc: Global, id: InterId) -> Result<Vec<Order>, ShelfFault> {
-        each_row::list(alloc, &mut self.conn, id)
+        reads::orders(alloc, &mut self.conn, id)
     }
 
     fn used_line(
@@ -212,12 +212,11 @@ impl<S: Alter> Shelf for SqlShelf<S> {
         order: RecordNo,
         line: LineNo,
     ) -> Result<Option<UsedLine>, ShelfFault> {
-        let key = params![id.get(), order.get(), line.get()];
-        stored_row::find(alloc, &mut self.conn, id, key)
+        reads::used_line(alloc, &mut self.conn, id, order, line)
     }
 
     fn used_lines(&mut self, alloc: Global, id: InterId) -> Result<Vec<UsedLine>, ShelfFault> {
-        each_row::list(alloc, &mut self.conn, id)
+        reads::used_lines(alloc, &mut self.conn, id)
     }
 
     fn delivery(
@@ -226,8 +225,7 @@ impl<S: Alter> Shelf for SqlShelf<S> {
         part: &PartCode,
         number: RecordNo,
     ) -> Result<Option<Delivery>, ShelfFault> {
-        let key = params![part.as_str(), number.get()];
-        stored_row::find(alloc, &mut self.conn, (), key)
+        reads::delivery(alloc, &mut self.conn, part, number)
     }
 
     fn hand(&mut self, alloc: Global, part: &PartCode) -> Result<Option<Hand>, ShelfFault> {
@@ -235,7 +233,7 @@ impl<S: Alter> Shelf for SqlShelf<S> {
     }
 
     fn parts(&mut self, alloc: Global) -> Result<Vec<(PartCode, Hand)>, ShelfFault> {
-        each_row::list_all(alloc, &mut self.conn)
+        reads::parts(alloc, &mut self.conn)
     }
 
     fn apply(&mut self, alloc: Global, changes: &[RowChange]) -> Result<(), ShelfFault> {

@@ -24,3 +24,4 @@ mod StoredPuts
 mod EachLemmas
 mod CodeReading
 mod CheckLemmas
+mod KeyReads

@@ -1,6 +1,6 @@
 -- The query that lists rows of a table, and what it shows.
 use Rattle.std.proofs.Common.{◌≡◌, ℕ, true, false, List, [], ◌∷◌, map, length, sym, subst, ap, ◌∙◌}
-use Rattle.std.specs.List.{IsDistinct, AllByRecursion, Any}
+use Rattle.std.specs.List.{IsDistinct, AllByRecursion}
 use Rattle.std.specs.Ordering.{eq_by_cmp}
 use Rattle.sqlite.specs.declared.types.Value.TheVariants.{Null}
 use Rattle.sqlite.specs.Effect as effect
@@ -10,7 +10,7 @@ use Rattle.sqlite.specs.Program.{overlay}
 use Rattle.sqlite.specs.Query.{IsAnswer}
 use Rattle.sqlite.specs.View.{IsShaped}
 use Rattle.sqlite_trees.specs.declared.store.Shape.TheVariants as shape
-use Rattle.sqlite_rules.proofs.ListLemmas.{all_from, all_has, any_has}
+use Rattle.sqlite_rules.proofs.ListLemmas.{all_from, all_has}
 use Rattle.sqlite_rules.specs.Lists.{Has}
 use Rattle.sqlite_schema.specs.Rules.{Obeys, clashes}
 use Rattle.sqlite_value.specs.Keys.{plain}
@@ -78,9 +78,3 @@ module _ {X : Type 0} (t : Table) (is_within : X → Type 0) (key : ℕ → X �
   damaged_at tables id rows is width row there none =
       let here = stands (key_shown t) (columns_shown t) (is_among t id) (rows_at tables t) rows is row there in
       record { key = key_shown t row; columns = columns_shown t row; of = here.0; stored = here.1; no_row = none (all_has (λ (r : Row). length r ≡ width_of t) rows row width there) }
-
-  pub damaged : (tables : Content) (id : ℕ) (rows : List Row) → map (row_shown t) rows ≡ rows_among t id (rows_at tables t) → AllByRecursion (λ row. length row ≡ width_of t) rows
-      → Any (λ row. length row ≡ width_of t → IsNoRow is_within key columns id (key_shown t row) (columns_shown t row)) rows → HasDamagedRow t is_within key columns tables id
-  damaged tables id rows is width bad =
-      let found = any_has (λ (row : Row). length row ≡ width_of t → IsNoRow is_within key columns id (key_shown t row) (columns_shown t row)) rows bad in
-      damaged_at tables id rows is width found.0 found.1 found.2

@@ -12,6 +12,7 @@ pub mod intersection_list;
 pub mod listed;
 pub mod order;
 pub mod part;
+pub mod reads;
 pub mod schema;
 pub mod statement;
 pub mod stored_row;

@@ -1,4 +1,4 @@
-use Rattle.office_tables.proofs.sql_shelf.SqlShelfShelf.orders.Goals as goal
+use Rattle.office_tables_sql.proofs.reads.used_lines.Goals as goal
 
 pub returns-clause-damaged : goal.returns-clause-damaged
 returns-clause-damaged g c is honest =

@@ -7,12 +7,12 @@ use Rattle.office_tables_shelf.specs.declared.rows.Table.TheVariants as table
 use Rattle.office_tables_sql.specs.Calls.{IsHonest}
 use Rattle.office_tables_sql.specs.Stored.{content_now}
 use Rattle.office_tables_sql.specs.Tables.{ListsRows}
-use Rattle.office_tables.proofs.KeyReads.{where_all}
-use Rattle.office_tables.proofs.sql_shelf.SqlShelfShelf.parts.Goals as goal
+use Rattle.office_tables_sql.proofs.KeyReads.{where_all}
+use Rattle.office_tables_sql.proofs.reads.parts.Goals as goal
 
 pub returns-clause-rows : goal.returns-clause-rows
 returns-clause-rows g c =
-    let tables = content_now (state g.S.Store c.args.self.now.conn) in
+    let tables = content_now (state g.S.Store c.args.conn.now) in
     IfOk-weaker c.list_all.result (λ found. IsHonest (state g.S.Store c.list_all.new.conn) → ListsRows table.Part (λ _ part. part_key part.0) (λ part. part_columns part.1) tables 0 found.items) _
     (λ found rows honest. rows honest ∙ where_all (entries tables.part)) c.list_all.ensures.rows
 
