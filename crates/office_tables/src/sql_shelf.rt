@@ -17,7 +17,6 @@ use office_tables_cabinet::{delivery, inspection, order, part, used};
 use office_tables_shelf::counts::WriteCounts;
 use office_tables_shelf::rows::{IntersectionRow, RowChange, Table};
 use office_tables_shelf::shelf::{Shelf, ShelfFault};
-use office_tables_sql::schema::{is_blank, is_office};
 use office_tables_sql::{draft_list, intersection, intersection_list, timing_list};
 use signal_records::{Change, InterId, RecordNo, Row};
 use sqlite::{Alter, Connection, FileFrom, FileStore, Start};
