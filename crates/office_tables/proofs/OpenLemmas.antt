@@ -1,5 +1,5 @@
 -- What the steps of an opening come to.
-use Rattle.std.proofs.Common.{◌≡◌, ◌≢◌, ◌⊎◌, inl, inr, ℕ, List, [], ◌∷◌, Option, None, Some, IfSome, IsTrue, Bool, true, false, not, refl, sym, ap, subst, ◌∙◌, arith}
+use Rattle.std.proofs.Common.{◌≡◌, ◌⊎◌, inl, inr, ℕ, List, [], ◌∷◌, Option, None, Some, IsTrue, Bool, true, false, not, refl, sym, ap, subst, ◌∙◌, arith}
 use Rattle.sqlite.specs.Effect.{Database, IsDatabase}
 use Rattle.sqlite.specs.Held.{Held, state}
 use Rattle.sqlite.specs.State.{State, HasCleanDisk}
@@ -16,7 +16,6 @@ use Rattle.office_tables.specs.Opening.{AreMade, AreRun, IsAsFound, IsOpened, Is
 use Rattle.office_tables.specs.SqlShelf.{SqlView}
 use Rattle.office_tables.specs.Version.{AreEmpty, version_in, first_version}
 use Rattle.office_tables.specs.declared.open.OpenFault.{OpenFault}
-use Rattle.office_tables.specs.declared.open.OpenFault.TheVariants as fault
 use Rattle.office_tables.proofs.ArrangedLemmas.{tables_rise}
 use Rattle.office_tables.proofs.VersionLemmas.{empty_content}
 

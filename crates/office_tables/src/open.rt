@@ -226,6 +226,7 @@ pub(crate) fn prepared<S: Alter + Drop>(
     ensures settled { IfOk result (λ p. p.1 ≡ false → IsHonest (state S.Store conn) → (state S.Store conn).now ≡ (state S.Store conn).committed) }
     ensures made { IfOk result (λ p. HasCleanDisk (state S.Store p.0) → p.1 ≡ true → (version_in (state S.Store conn).committed.trees ≡ None) × AreEmpty (state S.Store conn).committed.trees) }
     ensures blank { IfOk result (λ p. (state S.Store conn).now.schema ≡ no_schema → p.1 ≡ true) }
+    ensures ours { IfOk result (λ p. p.1 ≡ true → AllByRecursion (λ t. IsOneOf t.name (map (λ text. text.now) NAMES)) (state S.Store conn).now.schema.tables) }
     ensures fault { IfErr result (λ e. (e.0 ≢ OpenFault.Version) × (e.0 ≢ OpenFault.Damaged)) }
     ensures back { IfErr result (λ e. IfSome e.1 (λ c. (c ≡ conn) × (IsHonest (state S.Store conn) → (state S.Store conn).now ≡ (state S.Store conn).committed))) }
 {

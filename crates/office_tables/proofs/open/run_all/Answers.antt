@@ -1,6 +1,5 @@
-use Rattle.std.proofs.Common.{◌+◌, drop, map, [], refl, sym, subst, ◌∙◌, arith}
+use Rattle.std.proofs.Common.{map, refl, sym, subst, ◌∙◌, arith}
 use Rattle.std.proofs.lemmas.List.{drop_more, drop_all}
-use Rattle.sqlite.specs.Held.{state}
 use Rattle.office_tables.specs.Opening.{AreRun}
 use Rattle.office_tables.proofs.open.run_all.Goals as goal
 

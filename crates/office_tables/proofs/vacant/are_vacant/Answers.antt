@@ -1,5 +1,4 @@
 use Rattle.std.proofs.Common.{arith}
-use Rattle.sqlite.specs.View.{IsClean}
 use Rattle.sqlite_rules.proofs.ViewLemmas.{still_quiet}
 use Rattle.office_tables.proofs.VacantLemmas.{vacant_more}
 use Rattle.office_tables.proofs.vacant.are_vacant.Goals as goal
