@@ -1,7 +1,8 @@
 //! The CSV text of a body, and what its records spell.
-ghost use Rattle.std.specs.Prelude.{◌≡◌};
+ghost use Rattle.std.specs.Prelude.{◌≡◌, IsOk};
 ghost use Rattle.std.specs.Result.{result_map_both};
 ghost use Rattle.serde_json.specs.View.{view};
+ghost use Rattle.office_http_fields.specs.Asks.{WantsMemoryOnlyIf};
 ghost use Rattle.office_http_csv.specs.Bodies.{csv_in, csv_changes_in, csv_records_in, ask_fault, GivesList};
 
 use cabinet_core::RecordCommand;
@@ -31,7 +32,8 @@ fn text(body: &Value) -> Result<&str, AskFault>
 /// The changes that the records of the CSV text under its key spell.
 #[tactic(auto, unfolding(crate::specs::Bodies::csv_changes_in))]
 pub fn changes(alloc: Global, body: &Value) -> Result<Vec<Change>, AskFault>
-    ensures { GivesList result (csv_changes_in (view body.now)) }
+    ensures gives { GivesList result (csv_changes_in (view body.now)) }
+    ensures memory { WantsMemoryOnlyIf result (IsOk (csv_in (view body.now))) }
 {
     read_timing_csv(alloc, text(body)?.as_bytes()).map_err(of_file)
 }
@@ -39,7 +41,8 @@ pub fn changes(alloc: Global, body: &Value) -> Result<Vec<Change>, AskFault>
 /// The commands of the register that the records of the CSV text under its key spell.
 #[tactic(auto, unfolding(crate::specs::Bodies::csv_records_in))]
 pub fn records(alloc: Global, body: &Value) -> Result<Vec<RecordCommand>, AskFault>
-    ensures { GivesList result (csv_records_in (view body.now)) }
+    ensures gives { GivesList result (csv_records_in (view body.now)) }
+    ensures memory { WantsMemoryOnlyIf result (IsOk (csv_in (view body.now))) }
 {
     read_records_csv(alloc, text(body)?.as_bytes()).map_err(of_file)
 }

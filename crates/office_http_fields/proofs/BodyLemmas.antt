@@ -54,3 +54,11 @@ body_of-unopened bytes closed = by_test (is_utf8 bytes)
     by_test : (b : Bool) → or_fault Json (option_and_then object_in (cond b (read bytes) None)) ≡ Err Json
     by_test true = rw (read-no_object bytes closed)
     by_test false = refl
+
+-- bytes that are an object open one
+pub body_of-opens : (bytes : List ℕ) (d : Data) → body_of bytes ≡ Ok d → opens_object bytes ≡ true
+body_of-opens bytes d is = by_test (opens_object bytes) (body_of-unopened bytes)
+  where
+    by_test : (b : Bool) → (b ≡ false → body_of bytes ≡ Err Json) → b ≡ true
+    by_test true closed = refl
+    by_test false closed = let none = closed refl in cc

@@ -39,6 +39,7 @@ fn opens_object(bytes: &[u8]) -> bool
 #[inline(never)]
 pub fn read(alloc: Global, bytes: &[u8]) -> Result<Value, AskFault>
     ensures gives { GivesBody result bytes.now }
+    ensures opened { IfOk result (λ _. MayBeObject bytes.now) }
     ensures memory { WantsMemoryOnlyIf result (MayBeObject bytes.now) }
 {
     let Ok(text) = str::from_utf8(bytes) else {

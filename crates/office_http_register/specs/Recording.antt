@@ -1,5 +1,5 @@
 -- The commands of the register that requests ask: fields of the path from the left, then keys of the body by name.
-use Rattle.std.specs.Prelude.{ℕ, List, Result, Ok}
+use Rattle.std.specs.Prelude.{ℕ, List, Result, Ok, IsOk}
 use Rattle.serde_json.specs.Data.{Data}
 use Rattle.cabinet_core.specs.declared.command.RecordCommand.{RecordCommand}
 use Rattle.cabinet_core.specs.declared.command.RecordCommand.TheVariants as command
@@ -11,7 +11,7 @@ use Rattle.cabinet_core.specs.declared.record.UsedLine.{UsedLine}
 use Rattle.office_http_fields.specs.declared.ask.AskFault.{AskFault}
 use Rattle.office_http_fields.specs.declared.ask.Field.TheVariants.{Clerk, Count, Line, Number, Text}
 use Rattle.office_http_fields.specs.Asks.{◌>>=◌}
-use Rattle.office_http_fields.specs.Bodies.{body_of, day_in, part_in, ranged_in, words_in}
+use Rattle.office_http_fields.specs.Bodies.{MayBeObject, body_of, day_in, part_in, ranged_in, words_in}
 use Rattle.office_http_fields.specs.Paths.{id_at, order_at}
 use Rattle.office_http_register.specs.declared.kind.RecordKind.{RecordKind}
 use Rattle.office_http_register.specs.declared.kind.RecordKind.TheVariants.{Inspect, OpenOrder, UsePart, CloseOrder, Receive}
@@ -90,3 +90,11 @@ recorded_at CloseOrder path bytes = do
   closing ← closing_in body
   Ok (command.CloseOrder id order closing)
 recorded_at Receive path bytes = received_in bytes
+
+-- the path has the fields of a kind, and the body may be an object
+abbrev pub ReadsRecord : RecordKind → List ℕ → List ℕ → Type 0
+ReadsRecord Inspect path bytes = IsOk (id_at path) × MayBeObject bytes
+ReadsRecord OpenOrder path bytes = IsOk (id_at path) × MayBeObject bytes
+ReadsRecord UsePart path bytes = IsOk (id_at path) × IsOk (order_at path) × MayBeObject bytes
+ReadsRecord CloseOrder path bytes = IsOk (id_at path) × IsOk (order_at path) × MayBeObject bytes
+ReadsRecord Receive path bytes = MayBeObject bytes

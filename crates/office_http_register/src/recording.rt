@@ -1,7 +1,8 @@
 //! From a request to a command of the register.
 ghost use Rattle.std.specs.Prelude.{◌≡◌};
-ghost use Rattle.office_http_fields.specs.Asks.{Gives};
-ghost use Rattle.office_http_register.specs.Recording.{received_in, recorded_at};
+ghost use Rattle.office_http_fields.specs.Asks.{Gives, WantsMemoryOnlyIf};
+ghost use Rattle.office_http_fields.specs.Bodies.{MayBeObject};
+ghost use Rattle.office_http_register.specs.Recording.{ReadsRecord, received_in, recorded_at};
 ghost use Rattle.office_http_register.specs.declared.kind.RecordKind.TheVariants as kind;
 
 use crate::kind::RecordKind;
@@ -19,7 +20,9 @@ pub fn command_of(
     path: &[u8],
     body: &[u8],
 ) -> Result<RecordCommand, AskFault>
-    ensures { Gives result (recorded_at kind path.now body.now) }
+    ensures gives { Gives result (recorded_at kind path.now body.now) }
+    // Want of memory is told of no fault of the path, and of no body that can't be an object.
+    ensures memory { WantsMemoryOnlyIf result (ReadsRecord kind path.now body.now) }
 {
     match kind {
         RecordKind::Inspect => inspect(alloc, path, body),
@@ -32,7 +35,8 @@ pub fn command_of(
 
 #[tactic(auto, unfolding(crate::specs::Recording::recorded_at))]
 fn inspect(alloc: Global, path: &[u8], body: &[u8]) -> Result<RecordCommand, AskFault>
-    ensures { Gives result (recorded_at kind.Inspect path.now body.now) }
+    ensures gives { Gives result (recorded_at kind.Inspect path.now body.now) }
+    ensures memory { WantsMemoryOnlyIf result (ReadsRecord kind.Inspect path.now body.now) }
 {
     let id = path::id(path)?;
     let body = body::read(alloc, body)?;
@@ -42,7 +46,8 @@ fn inspect(alloc: Global, path: &[u8], body: &[u8]) -> Result<RecordCommand, Ask
 
 #[tactic(auto, unfolding(crate::specs::Recording::recorded_at))]
 fn open_order(alloc: Global, path: &[u8], body: &[u8]) -> Result<RecordCommand, AskFault>
-    ensures { Gives result (recorded_at kind.OpenOrder path.now body.now) }
+    ensures gives { Gives result (recorded_at kind.OpenOrder path.now body.now) }
+    ensures memory { WantsMemoryOnlyIf result (ReadsRecord kind.OpenOrder path.now body.now) }
 {
     let id = path::id(path)?;
     let body = body::read(alloc, body)?;
@@ -52,7 +57,8 @@ fn open_order(alloc: Global, path: &[u8], body: &[u8]) -> Result<RecordCommand, 
 
 #[tactic(auto, unfolding(crate::specs::Recording::recorded_at))]
 fn use_part(alloc: Global, path: &[u8], body: &[u8]) -> Result<RecordCommand, AskFault>
-    ensures { Gives result (recorded_at kind.UsePart path.now body.now) }
+    ensures gives { Gives result (recorded_at kind.UsePart path.now body.now) }
+    ensures memory { WantsMemoryOnlyIf result (ReadsRecord kind.UsePart path.now body.now) }
 {
     let id = path::id(path)?;
     let order = path::order(path)?;
@@ -63,7 +69,8 @@ fn use_part(alloc: Global, path: &[u8], body: &[u8]) -> Result<RecordCommand, As
 
 #[tactic(auto, unfolding(crate::specs::Recording::recorded_at))]
 fn close_order(alloc: Global, path: &[u8], body: &[u8]) -> Result<RecordCommand, AskFault>
-    ensures { Gives result (recorded_at kind.CloseOrder path.now body.now) }
+    ensures gives { Gives result (recorded_at kind.CloseOrder path.now body.now) }
+    ensures memory { WantsMemoryOnlyIf result (ReadsRecord kind.CloseOrder path.now body.now) }
 {
     let id = path::id(path)?;
     let order = path::order(path)?;
@@ -74,7 +81,8 @@ fn close_order(alloc: Global, path: &[u8], body: &[u8]) -> Result<RecordCommand,
 
 #[tactic(auto, unfolding(crate::specs::Recording::received_in))]
 fn receive(alloc: Global, body: &[u8]) -> Result<RecordCommand, AskFault>
-    ensures { Gives result (received_in body.now) }
+    ensures gives { Gives result (received_in body.now) }
+    ensures memory { WantsMemoryOnlyIf result (MayBeObject body.now) }
 {
     let body = body::read(alloc, body)?;
     let delivery = record::delivery(alloc, &body)?;

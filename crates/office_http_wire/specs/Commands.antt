@@ -1,5 +1,5 @@
 -- The command that a request asks.
-use Rattle.std.specs.Prelude.{ℕ, List, Result, Ok, Err, bytes_eq, if◌then◌else◌}
+use Rattle.std.specs.Prelude.{ℕ, List, Result, Ok, Err, IsOk, IsTrue, bytes_eq, if◌then◌else◌}
 use Rattle.office_desk.specs.declared.command.Command.{Command}
 use Rattle.office_desk.specs.declared.command.Command.TheVariants as command
 use Rattle.office_http_wire.specs.declared.ask.Asked.{Asked}
@@ -10,10 +10,10 @@ use Rattle.office_http_wire.specs.declared.ask.Form.TheVariants.{Json, Csv}
 use Rattle.office_http_wire.specs.declared.route.Endpoint.{Endpoint}
 use Rattle.office_http_wire.specs.declared.route.Endpoint.TheVariants.{AddIntersection, State, Timing, TimingCsv, Draft, Begin, Edit, EditCsv, Verify, Check, Commit, Reopen, Abandon, Record, Import, Cabinet, CabinetCsv, OpenOrders, Stock, Overdue}
 use Rattle.office_http_fields.specs.Asks.{◌>>=◌, or_no_route}
-use Rattle.office_http_fields.specs.Bodies.{body_of, id_in, interval_in, words_in}
+use Rattle.office_http_fields.specs.Bodies.{MayBeObject, body_of, id_in, interval_in, words_in}
 use Rattle.office_http_fields.specs.Paths.{day_at, id_at}
 use Rattle.office_http_csv.specs.Bodies.{csv_changes_in, csv_records_in}
-use Rattle.office_http_register.specs.Recording.{recorded_at}
+use Rattle.office_http_register.specs.Recording.{ReadsRecord, recorded_at}
 use Rattle.office_http_wire.specs.Routes.{endpoint_of, method_of}
 use Rattle.office_http_wire.specs.Rows.{changes_in}
 
@@ -125,3 +125,34 @@ unfoldable pub command_at : List ℕ → List ℕ → List ℕ → Result Asked 
 command_at method path bytes = do
   endpoint ← or_no_route (endpoint_of path)
   if bytes_eq method (method_of endpoint) then asked_at endpoint path bytes else Err Method
+
+-- the path has the fields of an endpoint, and the body that its requests have may be an object
+abbrev pub ReadsBody : Endpoint → List ℕ → List ℕ → Type 0
+ReadsBody AddIntersection path bytes = MayBeObject bytes
+ReadsBody State path bytes = ⊥
+ReadsBody Timing path bytes = ⊥
+ReadsBody TimingCsv path bytes = ⊥
+ReadsBody Draft path bytes = ⊥
+ReadsBody Begin path bytes = IsOk (id_at path) × MayBeObject bytes
+ReadsBody Edit path bytes = IsOk (id_at path) × MayBeObject bytes
+ReadsBody EditCsv path bytes = IsOk (id_at path) × MayBeObject bytes
+ReadsBody Verify path bytes = IsOk (id_at path) × MayBeObject bytes
+ReadsBody Check path bytes = IsOk (id_at path) × MayBeObject bytes
+ReadsBody Commit path bytes = IsOk (id_at path) × MayBeObject bytes
+ReadsBody Reopen path bytes = IsOk (id_at path) × MayBeObject bytes
+ReadsBody Abandon path bytes = IsOk (id_at path) × MayBeObject bytes
+ReadsBody (Record kind) path bytes = ReadsRecord kind path bytes
+ReadsBody Import path bytes = MayBeObject bytes
+ReadsBody Cabinet path bytes = ⊥
+ReadsBody CabinetCsv path bytes = ⊥
+ReadsBody OpenOrders path bytes = ⊥
+ReadsBody Stock path bytes = ⊥
+ReadsBody Overdue path bytes = ⊥
+
+abbrev pub ReadsAt : Result Endpoint AskFault → List ℕ → List ℕ → List ℕ → Type 0
+ReadsAt (Ok endpoint) method path bytes = IsTrue (bytes_eq method (method_of endpoint)) × ReadsBody endpoint path bytes
+ReadsAt (Err fault) method path bytes = ⊥
+
+-- a request whose route, method and path are right, and whose body may be an object: for no other is memory needed
+abbrev pub ReadsRequest : List ℕ → List ℕ → List ℕ → Type 0
+ReadsRequest method path bytes = ReadsAt (or_no_route (endpoint_of path)) method path bytes

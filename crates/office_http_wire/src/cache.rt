@@ -1,7 +1,7 @@
 //! A table of routes that is kept from one request to the next.
 ghost use Rattle.std.specs.Prelude.{◌≡◌, None, OnOk, IsSome};
-ghost use Rattle.office_http_fields.specs.Asks.{Gives};
-ghost use Rattle.office_http_wire.specs.Commands.{command_at};
+ghost use Rattle.office_http_fields.specs.Asks.{Gives, WantsMemoryOnlyIf};
+ghost use Rattle.office_http_wire.specs.Commands.{ReadsRequest, command_at};
 
 use crate::ask::Asked;
 use crate::route::Routes;
@@ -27,6 +27,8 @@ impl RouteCache {
     /// made first.
     pub fn command_of(&mut self, alloc: Global, request: &Request) -> Result<Asked, AskFault>
         ensures gives { Gives result (command_at request.now.method.now request.now.path.now request.now.body.now) }
+        // Once there is a table, want of memory is told only of a request whose body may be an object.
+        ensures memory { IsSome self.old.routes → WantsMemoryOnlyIf result (ReadsRequest request.now.method.now request.now.path.now request.now.body.now) }
         ensures made { OnOk result (IsSome self.new.routes) }
         ensures kept { IsSome self.old.routes → self.new ≡ self.old }
     {

@@ -1,7 +1,9 @@
 //! From a request to a command.
-ghost use Rattle.std.specs.Prelude.{◌≡◌};
-ghost use Rattle.office_http_fields.specs.Asks.{Gives};
-ghost use Rattle.office_http_wire.specs.Commands.{added_intersection, asked_at, asked_in_csv, asked_in_json, command_at, edited_by_csv, edited_in, id_and_clerk_in, imported_in};
+ghost use Rattle.std.specs.Prelude.{◌≡◌, IsOk};
+ghost use Rattle.office_http_fields.specs.Asks.{Gives, WantsMemoryOnlyIf};
+ghost use Rattle.office_http_fields.specs.Bodies.{MayBeObject};
+ghost use Rattle.office_http_fields.specs.Paths.{id_at};
+ghost use Rattle.office_http_wire.specs.Commands.{ReadsBody, ReadsRequest, added_intersection, asked_at, asked_in_csv, asked_in_json, command_at, edited_by_csv, edited_in, id_and_clerk_in, imported_in};
 
 use crate::ask::{Asked, Form};
 use crate::route::{Endpoint, Routes};
@@ -21,7 +23,10 @@ impl Routes {
     /// no JSON object, a key of the body by name, a row or a record of a CSV text that spells nothing.
     #[tactic(auto, unfolding(crate::specs::Commands::command_at))]
     pub fn command_of(&self, alloc: Global, request: &Request) -> Result<Asked, AskFault>
-        ensures { Gives result (command_at request.now.method.now request.now.path.now request.now.body.now) }
+        ensures gives { Gives result (command_at request.now.method.now request.now.path.now request.now.body.now) }
+        // A fault of the route, the method or the path is told, and so is a body that can't be an object,
+        // however long it is: want of memory is told of none of them.
+        ensures memory { WantsMemoryOnlyIf result (ReadsRequest request.now.method.now request.now.path.now request.now.body.now) }
     {
         let endpoint = self.endpoint_at(request.path)?;
         if !endpoint.allows(request.method) {
@@ -42,7 +47,8 @@ pub fn command_of(alloc: Global, request: &Request) -> Result<Asked, AskFault>
 // The command of an endpoint.
 #[tactic(auto, unfolding(crate::specs::Commands::asked_at))]
 fn asked(alloc: Global, endpoint: Endpoint, path: &[u8], body: &[u8]) -> Result<Asked, AskFault>
-    ensures { Gives result (asked_at endpoint path.now body.now) }
+    ensures gives { Gives result (asked_at endpoint path.now body.now) }
+    ensures memory { WantsMemoryOnlyIf result (ReadsBody endpoint path.now body.now) }
 {
     match endpoint {
         Endpoint::AddIntersection => add_intersection(alloc, body),
@@ -111,7 +117,8 @@ fn in_csv(command: Command) -> Asked
 
 #[tactic(auto, unfolding(crate::specs::Commands::added_intersection))]
 fn add_intersection(alloc: Global, body: &[u8]) -> Result<Asked, AskFault>
-    ensures { Gives result (added_intersection body.now) }
+    ensures gives { Gives result (added_intersection body.now) }
+    ensures memory { WantsMemoryOnlyIf result (MayBeObject body.now) }
 {
     let body = body::read(alloc, body)?;
     let id = body::number(&body, Field::Id)?;
@@ -123,7 +130,8 @@ fn add_intersection(alloc: Global, body: &[u8]) -> Result<Asked, AskFault>
 // The intersection of the path, and the clerk of the body.
 #[tactic(auto, unfolding(crate::specs::Commands::id_and_clerk_in))]
 fn id_and_clerk(alloc: Global, path: &[u8], body: &[u8]) -> Result<(InterId, Words<40>), AskFault>
-    ensures { Gives result (id_and_clerk_in path.now body.now) }
+    ensures gives { Gives result (id_and_clerk_in path.now body.now) }
+    ensures memory { WantsMemoryOnlyIf result (IsOk (id_at path.now) × MayBeObject body.now) }
 {
     let id = path::id(path)?;
     let body = body::read(alloc, body)?;
@@ -133,7 +141,8 @@ fn id_and_clerk(alloc: Global, path: &[u8], body: &[u8]) -> Result<(InterId, Wor
 
 #[tactic(auto, unfolding(crate::specs::Commands::edited_in))]
 fn edit(alloc: Global, path: &[u8], body: &[u8]) -> Result<Asked, AskFault>
-    ensures { Gives result (edited_in path.now body.now) }
+    ensures gives { Gives result (edited_in path.now body.now) }
+    ensures memory { WantsMemoryOnlyIf result (IsOk (id_at path.now) × MayBeObject body.now) }
 {
     let id = path::id(path)?;
     let body = body::read(alloc, body)?;
@@ -144,7 +153,8 @@ fn edit(alloc: Global, path: &[u8], body: &[u8]) -> Result<Asked, AskFault>
 
 #[tactic(auto, unfolding(crate::specs::Commands::edited_by_csv))]
 fn edit_csv(alloc: Global, path: &[u8], body: &[u8]) -> Result<Asked, AskFault>
-    ensures { Gives result (edited_by_csv path.now body.now) }
+    ensures gives { Gives result (edited_by_csv path.now body.now) }
+    ensures memory { WantsMemoryOnlyIf result (IsOk (id_at path.now) × MayBeObject body.now) }
 {
     let id = path::id(path)?;
     let body = body::read(alloc, body)?;
@@ -155,7 +165,8 @@ fn edit_csv(alloc: Global, path: &[u8], body: &[u8]) -> Result<Asked, AskFault>
 
 #[tactic(auto, unfolding(crate::specs::Commands::imported_in))]
 fn import(alloc: Global, body: &[u8]) -> Result<Asked, AskFault>
-    ensures { Gives result (imported_in body.now) }
+    ensures gives { Gives result (imported_in body.now) }
+    ensures memory { WantsMemoryOnlyIf result (MayBeObject body.now) }
 {
     let body = body::read(alloc, body)?;
     let records = Records::new(csv::records(alloc, &body)?);

@@ -185,7 +185,8 @@ impl Routes {
 
     /// The endpoint of a path: bytes that are not UTF-8 are in no route. It takes no memory.
     pub fn endpoint_at(&self, path: &[u8]) -> Result<Endpoint, AskFault>
-        ensures { result ≡ or_no_route (endpoint_of path.now) }
+        ensures endpoint { result ≡ or_no_route (endpoint_of path.now) }
+        ensures fault { IfErr result (λ fault. fault ≡ AskFault.NoRoute) }
     {
         let Ok(path) = str::from_utf8(path) else {
             return Err(AskFault::NoRoute);

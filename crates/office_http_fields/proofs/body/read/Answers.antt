@@ -1,4 +1,4 @@
-use Rattle.office_http_fields.proofs.BodyLemmas.{body_of-object, body_of-other, body_of-unread, body_of-unopened}
+use Rattle.office_http_fields.proofs.BodyLemmas.{body_of-object, body_of-other, body_of-unread, body_of-unopened, body_of-opens}
 use Rattle.office_http_fields.proofs.body.read.Goals as goal
 use Rattle.office_http_fields.proofs.body.read.Goals.{else-is_memory-via-then-is_memory+else-opens_object, else-is_memory-via-else-is_memory}
 
@@ -7,6 +7,12 @@ returns-in_default-clause-gives c = λ _. body_of-unread _ (λ text. absurd (c.i
 
 pub returns-then-is_object-clause-gives : goal.returns-then-is_object-clause-gives
 returns-then-is_object-clause-gives c = body_of-object _ _ c.in-Ok.ensures.cases.1 (rw c.in-Ok.ensures.cases.0 at c.in-Ok-from_str.ensures.ok) (cc)
+
+pub returns-then-is_object-clause-opened : goal.returns-then-is_object-clause-opened
+returns-then-is_object-clause-opened c =
+    let object = body_of-object _ _ c.in-Ok.ensures.cases.1 (rw c.in-Ok.ensures.cases.0 at c.in-Ok-from_str.ensures.ok) (cc) in
+    let opens = body_of-opens _ _ object in
+    (c.in-Ok.ensures.cases.1, opens)
 
 pub returns-else-is_object-clause-gives : goal.returns-else-is_object-clause-gives
 returns-else-is_object-clause-gives c = λ _. body_of-other _ _ c.in-Ok.ensures.cases.1 (rw c.in-Ok.ensures.cases.0 at c.in-Ok-from_str.ensures.ok) (cc)
