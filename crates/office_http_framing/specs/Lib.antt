@@ -1,3 +1,4 @@
+pub mod Asks
 pub mod Ends
 pub mod Fields
 pub mod Front

@@ -1,6 +1,7 @@
 //! The engine: it serves the requests of a stream, one after another.
 
 ghost use Rattle.std.specs.Prelude.{◌≡◌, ◌+◌, ◌*◌, ◌≤◌, ℕ, List, IfErr, OnErr};
+ghost use Rattle.office_http_framing.specs.Asks.{OnlyAsks};
 ghost use Rattle.office_http_framing.specs.Ends.{Grows, FailsOrGivesNone, WritesOrBreaksOff};
 ghost use Rattle.office_http_framing.specs.Front.{plain};
 ghost use Rattle.office_http_framing.specs.Limits.{longest_request};
@@ -97,6 +98,8 @@ pub fn serve<Tools, M: Machine<Tools>, R: Source, W: Sink>(
     ensures untouched { IfErr result (λ why. why ≡ ServeFault.NoMemory →
         Untouched (R.told reader.old) (R.told reader.new)
         (W.told writer.old) (W.told writer.new) machine.old machine.new) }
+    // The reader is called only while a request is awaited: not again after the last one or a fault.
+    ensures asks { OnlyAsks R.told max_requests reader.old reader.new }
     ensures reads { (R.told reader.new).counts.calls
         ≤ (R.told reader.old).counts.calls + longest_request * (max_requests + 1) + 1 }
 {

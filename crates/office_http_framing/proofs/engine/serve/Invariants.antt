@@ -1,6 +1,7 @@
 use Rattle.std.proofs.Common.{◌+◌, ◌-◌, ◌*◌, ◌≤◌, length}
 use Rattle.office_http_framing.specs.Ends.{Grows}
 use Rattle.office_http_framing.proofs.ServeLemmas.{Progress}
+use Rattle.office_http_framing.proofs.AskLemmas.{AsksSoFar}
 use Rattle.office_http_framing.proofs.engine.serve.Given as goal
 
 abbrev pub invariant-loop-left : goal.invariant-loop-left
@@ -11,6 +12,7 @@ invariant-loop-left g l = record {
       × Progress g.M.Machine.protocol l.fn.max_requests l.requests l.left l.buffer
       (g.R.Source.told l.fn.reader).bytes (g.R.Source.told l.reader).bytes
       (g.W.Sink.told l.fn.writer).bytes (g.W.Sink.told l.writer).bytes before after;
+  asks : AsksSoFar g.R.Source.told l.fn.max_requests l.left l.buffer l.fn.reader l.reader;
   room : l.requests + l.left ≤ l.fn.max_requests;
   held : length l.buffer ≤ 270336;
   reads : (g.R.Source.told l.reader).counts.calls ≤ (g.R.Source.told l.fn.reader).counts.calls + 270336 * l.requests + length l.buffer;
