@@ -5,4 +5,5 @@ pub mod FieldLemmas
 pub mod FrontLemmas
 pub mod LawLemmas
 pub mod ServeLemmas
+pub mod StopLemmas
 pub mod StreamLemmas

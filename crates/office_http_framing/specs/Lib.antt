@@ -6,4 +6,5 @@ pub mod Laws
 pub mod Limits
 pub mod Protocol
 pub mod Serve
+pub mod Stops
 pub mod Stream

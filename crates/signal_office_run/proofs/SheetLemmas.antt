@@ -5,7 +5,6 @@ use Rattle.signal_records.specs.TimingSet.{Rows}
 use Rattle.office_tables_shelf.specs.Content.{Content}
 use Rattle.office_desk.specs.Answers.{Answers}
 use Rattle.office_desk.specs.Office.{Office, Intersection}
-use Rattle.office_desk.specs.StandFor.{StandForSound}
 use Rattle.office_desk.specs.Step.{Step, answered, shown, state_shown}
 use Rattle.office_desk.specs.declared.command.Command.{Command}
 use Rattle.office_desk.specs.declared.command.Command.TheVariants as command
@@ -39,23 +38,19 @@ shown_timing (Some i) timing e =
     let same : made ≡ timing = cc in
     (i, refl, sym (ap (λ (t : RunningTiming). t.revision) same), sym (ap (λ (t : RunningTiming). t.rows) same))
 
--- the query State changes nothing, and shows the name
+-- the query State shows the name
 pub named : (tables : Content) (office : Office) (id : ℕ) (state : IntersectionState) → Answers office (command.State id) (Shown state) tables
-    → StandForSound tables office × IsNameOf office id state.name
+    → IsNameOf office id state.name
 named tables office id state answers =
     let taken = step_taken office answers.next (command.State id) (Shown state) answers.step (λ e. cc) in
-    let same : answers.next ≡ office = sym (ap (λ (p : Reply × Office). p.1) taken) in
-    let found = shown_name (get office.intersections id) id state (ap (λ (p : Reply × Office). p.0) taken) in
-    (subst (StandForSound tables) same answers.stand, found)
+    shown_name (get office.intersections id) id state (ap (λ (p : Reply × Office). p.0) taken)
 
--- the query Timing changes nothing, and shows the committed set
+-- the query Timing shows the committed set
 pub timed : (tables : Content) (office : Office) (id : ℕ) (timing : RunningTiming) → Answers office (command.Timing id) (Running timing) tables
-    → StandForSound tables office × IsTimingOf office id timing
+    → IsTimingOf office id timing
 timed tables office id timing answers =
     let taken = step_taken office answers.next (command.Timing id) (Running timing) answers.step (λ e. cc) in
-    let same : answers.next ≡ office = sym (ap (λ (p : Reply × Office). p.1) taken) in
-    let found = shown_timing (get office.intersections id) timing (ap (λ (p : Reply × Office). p.0) taken) in
-    (subst (StandForSound tables) same answers.stand, found)
+    shown_timing (get office.intersections id) timing (ap (λ (p : Reply × Office). p.0) taken)
 
 -- a name and a set of one intersection make its sheet
 pub sheet_is : (office : Office) (id : ℕ) (name text : List ℕ) (timing : RunningTiming) → IsNameOf office id name → IsTimingOf office id timing
