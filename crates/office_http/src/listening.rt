@@ -29,8 +29,8 @@ use std::time::Duration;
 /// The most requests of one connection.
 const CONNECTION_LIMIT: u32 = 10_000;
 
-/// How long one read or one write of a connection may wait. After that it has failed.
-const LONGEST_WAIT: Duration = Duration::from_secs(30);
+/// How many seconds one read or one write of a connection may wait. After that it has failed.
+const LONGEST_WAIT: u64 = 30;
 
 /// How the calls of a listener went. Each count stays at `u64::MAX` once it is there.
 #[derive(Clone, Copy, Debug, Default, PartialEq, Eq)]
@@ -113,8 +113,9 @@ impl<'a> FromListener<'a> {
 fn opened(stream: TcpStream) -> io::Result<Connection<FromRead<TcpStream>, ToWrite<TcpStream>>>
     ensures { IfOk result (λ c. (c.reader.counts ≡ no_calls) × (c.writer.counts ≡ no_calls)) }
 {
-    stream.set_read_timeout(Some(LONGEST_WAIT))?;
-    stream.set_write_timeout(Some(LONGEST_WAIT))?;
+    let wait = Duration::from_secs(LONGEST_WAIT);
+    stream.set_read_timeout(Some(wait))?;
+    stream.set_write_timeout(Some(wait))?;
     let _ = stream.set_nodelay(true);
     let writer = ToWrite::new(stream.try_clone()?);
     let reader = FromRead::new(stream);
@@ -122,6 +123,9 @@ fn opened(stream: TcpStream) -> io::Result<Connection<FromRead<TcpStream>, ToWri
 }
 
 impl Listen for FromListener<'_> {
+    ghost use Rattle.std.specs.Prelude.{◌≡◌, None, [], ◌∷◌};
+    ghost use Rattle.office_http.specs.Listening.{Adds, ends_of};
+
     type Reader = FromRead<TcpStream>;
     type Writer = ToWrite<TcpStream>;
 
@@ -137,7 +141,13 @@ impl Listen for FromListener<'_> {
         outcome
     }
 
-    fn take_back(&mut self, connection: Connection<FromRead<TcpStream>, ToWrite<TcpStream>>) {
+    fn take_back(&mut self, connection: Connection<FromRead<TcpStream>, ToWrite<TcpStream>>)
+        ensures counts { self.new.counts ≡ self.old.counts }
+        ensures given { Adds None None [] }
+        ensures returned { Adds None None (ends_of
+            (record { bytes = None; counts = connection.reader.counts })
+            (record { bytes = None; counts = connection.writer.counts }) ∷ []) }
+    {
         let Connection { reader, writer } = connection;
         drop(reader);
         drop(writer);

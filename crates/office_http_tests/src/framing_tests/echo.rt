@@ -18,7 +18,13 @@ impl Machine<Paths> for Echo {
 
     ghost State = { Unit {0} };
 
-    ghost stands_for = { λ _ _. Unit {0} };
+    ghost Stored = { Unit {0} };
+
+    ghost storage = { record {
+      holds = λ _. tt;
+      may_leave = λ _ _. Unit {0};
+      stands = λ _ _. Unit {0};
+    } };
 
     ghost is_honest = { λ _. Unit {0} };
 

@@ -35,8 +35,8 @@ returns-then-is_empty-clause-settles g c = λ honest.
     settles_kept g.S.Shelf.is_honest g.S.Shelf.content g.S.Shelf.written g.S.Shelf.may_leave c.args.office.now c.decide-decided.new.self c.decide-decided.ensures.kept honest
 
 -- refused, the changes may stand all the same after a crash
-pub returns-in-Err-clause-crash : goal.returns-in-Err-clause-crash
-returns-in-Err-clause-crash g c = λ honest before stands tables may.
+pub returns-clause-crash : goal.returns-clause-crash
+returns-clause-crash g c = λ honest before stands tables may.
     let honest_before = c.apply.ensures.honest honest in
     elim (c.apply.ensures.crash honest tables may) [
       | inl earlier ↦ inl (c.decide-decided.ensures.kept.same_outcomes honest_before tables earlier)
