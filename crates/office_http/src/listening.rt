@@ -66,6 +66,7 @@ pub trait Listen {
     ghost use Rattle.office_http.specs.Listening.{Adds, Listening, ends_of, listened};
 
     type Reader: Source;
+
     type Writer: Sink;
 
     // How its calls went so far, and what it gave and got back.
@@ -127,6 +128,7 @@ impl Listen for FromListener<'_> {
     ghost use Rattle.office_http.specs.Listening.{Adds, ends_of};
 
     type Reader = FromRead<TcpStream>;
+
     type Writer = ToWrite<TcpStream>;
 
     // The system does not tell what a connection gives and takes.

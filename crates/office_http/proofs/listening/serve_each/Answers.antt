@@ -39,7 +39,7 @@ returns-then-is_err-clause-did g c = λ honest before stands.
         omega (arith, c.loop-test.true),
         c.take_back.ensures.counts ∙ (c.in-Ok.ensures.counts ∙ ap one_accepted c.loop.invariant.counts),
         _,
-        turns-untouched _ _ _ _ _ _ _ _ so_far.5 c.in-Ok.ensures.given c.in-Ok.ensures.returned c.take_back.ensures.given c.take_back.ensures.returned same.0,
+        turns-untouched (g.L.Listen.told c.args.listener.now) (g.L.Listen.told c.loop.listener) (g.L.Listen.told c.accept.new.self) (g.L.Listen.told c.take_back.new.self) so_far.0 so_far.1 _ _ so_far.5 c.in-Ok.ensures.given c.in-Ok.ensures.returned c.take_back.ensures.given c.take_back.ensures.returned same.0,
       ),
     )
 
@@ -55,7 +55,7 @@ returns-then-is_err-clause-told g c =
         omega (arith, c.loop-test.true),
         c.take_back.ensures.counts ∙ (c.in-Ok.ensures.counts ∙ ap one_accepted c.loop.invariant.counts),
         _,
-        turns-untouched _ _ _ _ _ _ _ _ so_far.2 c.in-Ok.ensures.given c.in-Ok.ensures.returned c.take_back.ensures.given c.take_back.ensures.returned same.0,
+        turns-untouched (g.L.Listen.told c.args.listener.now) (g.L.Listen.told c.loop.listener) (g.L.Listen.told c.accept.new.self) (g.L.Listen.told c.take_back.new.self) so_far.0 so_far.1 _ _ so_far.2 c.in-Ok.ensures.given c.in-Ok.ensures.returned c.take_back.ensures.given c.take_back.ensures.returned same.0,
       ),
     )
 
@@ -72,13 +72,13 @@ loop-preserved g c =
             next.0,
             next.1,
             one_more _ _ _ _ before so_far.2 next.0 c.loop.counter so_far.0 so_far.1 _ _ so_far.4 next.2,
-            turns-next _ _ _ _ _ _ _ _ so_far.5 c.in-Ok.ensures.given c.in-Ok.ensures.returned c.take_back.ensures.given c.take_back.ensures.returned,
+            turns-next (g.L.Listen.told c.args.listener.now) (g.L.Listen.told c.loop.listener) (g.L.Listen.told c.accept.new.self) (g.L.Listen.told c.take_back.new.self) so_far.0 so_far.1 _ _ so_far.5 c.in-Ok.ensures.given c.in-Ok.ensures.returned c.take_back.ensures.given c.take_back.ensures.returned,
           );
       turned =
           let so_far = c.loop.invariant.turned in (
             so_far.0 ++ _ ∷ [],
             so_far.1 ++ _ ∷ [],
-            turns-next _ _ _ _ _ _ _ _ so_far.2 c.in-Ok.ensures.given c.in-Ok.ensures.returned c.take_back.ensures.given c.take_back.ensures.returned,
+            turns-next (g.L.Listen.told c.args.listener.now) (g.L.Listen.told c.loop.listener) (g.L.Listen.told c.accept.new.self) (g.L.Listen.told c.take_back.new.self) so_far.0 so_far.1 _ _ so_far.2 c.in-Ok.ensures.given c.in-Ok.ensures.returned c.take_back.ensures.given c.take_back.ensures.returned,
           );
       counts = c.take_back.ensures.counts ∙ (c.in-Ok.ensures.counts ∙ ap one_accepted c.loop.invariant.counts) ∙ accepted-next c.loop.counter _;
     }

@@ -41,9 +41,9 @@ returns-clause-crash g c = λ honest before stands tables may.
     elim (c.apply.ensures.crash honest tables may) [
       | inl earlier ↦ inl (c.decide-decided.ensures.kept.same_outcomes honest_before tables earlier)
       | inr made ↦
-        let is : tables ≡ changed_by (g.S.Shelf.content c.args.office.now) c.decide-decided.result.changes.items =
-            made ∙ (λ i. changed_by (c.decide-decided.ensures.kept.same_content honest_before i) (c.as_slice-changes.ensures.value i)) in
-        inr (stands_after (g.S.Shelf.content c.args.office.now) tables c.args.asked.now c.decide-decided.result.reply c.in-Ok.answer.items
-            (subst (AnswersAny (g.S.Shelf.content c.args.office.now) c.args.asked.now.command c.decide-decided.result.reply) (sym is) (c.decide-decided.ensures.step honest_before))
-            (λ refused. absurd (true≢false (sym (c.is_unavailable.ensures.1 refused) ∙ c.if-is_unavailable.false))) c.in-Ok.ensures before stands)
+          let is : tables ≡ changed_by (g.S.Shelf.content c.args.office.now) c.decide-decided.result.changes.items =
+          made ∙ (λ i. changed_by (c.decide-decided.ensures.kept.same_content honest_before i) (c.as_slice-changes.ensures.value i)) in
+          inr (stands_after (g.S.Shelf.content c.args.office.now) tables c.args.asked.now c.decide-decided.result.reply c.in-Ok.answer.items
+          (subst (AnswersAny (g.S.Shelf.content c.args.office.now) c.args.asked.now.command c.decide-decided.result.reply) (sym is) (c.decide-decided.ensures.step honest_before))
+          (λ refused. absurd (true≢false (sym (c.is_unavailable.ensures.1 refused) ∙ c.if-is_unavailable.false))) c.in-Ok.ensures before stands)
     ]

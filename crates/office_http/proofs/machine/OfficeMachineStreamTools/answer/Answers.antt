@@ -21,7 +21,7 @@ returns-in-Err-clause-ok g c = λ honest before stands.
 pub returns-in-Ok-clause-crash : goal.returns-in-Ok-clause-crash
 returns-in-Ok-clause-crash g c = λ honest before stands.
     subst (λ (read : Result Asked AskFault). OnErr c.answer_asked.result ((tables : Content) → g.S.Shelf.may_leave c.answer_asked.new.office tables →
-        g.S.Shelf.may_leave c.args.self.now tables ⊎ ((answer : List ℕ) × (after : Office) × AnswersRead read before answer after × StandForSound tables after)))
+    g.S.Shelf.may_leave c.args.self.now tables ⊎ ((answer : List ℕ) × (after : Office) × AnswersRead read before answer after × StandForSound tables after)))
     (sym c.in-Ok.ensures.gives) (c.answer_asked.ensures.crash honest before stands)
 
 pub returns-in-Err-clause-settles : goal.returns-in-Err-clause-settles
