@@ -1,9 +1,11 @@
 -- What the queries of the office show, and the sheet that they make.
-use Rattle.std.proofs.Common.{◌≡◌, ◌≢◌, inl, inr, ℕ, List, Option, Some, None, refl, sym, ap, subst, ◌∙◌}
+use Rattle.std.proofs.Common.{◌≡◌, ◌≢◌, inl, inr, ℕ, List, [], Option, Some, None, refl, sym, ap, subst, ◌∙◌}
 use Rattle.std.specs.FinMap.{get, values}
 use Rattle.signal_records.specs.TimingSet.{Rows}
 use Rattle.office_tables_shelf.specs.Content.{Content}
-use Rattle.office_desk.specs.Answers.{Answers}
+use Rattle.office_tables_shelf.specs.Change.{changed_by}
+use Rattle.office_tables_shelf.specs.declared.rows.RowChange.{RowChange}
+use Rattle.office_desk.specs.Answers.{Answers, AnswersAny}
 use Rattle.office_desk.specs.Office.{Office, Intersection}
 use Rattle.office_desk.specs.Step.{Step, answered, shown, state_shown}
 use Rattle.office_desk.specs.declared.command.Command.{Command}
@@ -15,6 +17,10 @@ use Rattle.office_desk.specs.declared.reply.Reply.TheVariants.{State as Shown, T
 use Rattle.office_desk.specs.declared.reply.RunningTiming.{RunningTiming}
 use Rattle.office_files.specs.Sheet.{sheet_text}
 use Rattle.signal_office_run.specs.Sheet.{IsNameOf, IsSheetOf, IsTimingOf}
+
+-- a reply without changes is a step that leaves the tables
+pub unchanged : (tables : Content) (asked : Command) (reply : Reply) (changes : List RowChange) → changes ≡ [] → AnswersAny tables asked reply (changed_by tables changes) → AnswersAny tables asked reply tables
+unchanged tables asked reply changes none answers = subst (λ cs. AnswersAny tables asked reply (changed_by tables cs)) none answers
 
 -- a command that was not answered unavailable took its step
 step_taken : (office next : Office) (asked : Command) (reply : Reply) → Step office asked reply next → reply ≢ Refused refusal.Unavailable
