@@ -1,8 +1,11 @@
 #!/usr/bin/env bash
 # Starts the program as a server on the loopback network over a file, asks it over one connection that is
-# kept open, makes a whole transaction and a run of the cabinet register over seventeen more, compares what it answers, and waits for its end. Then
-# it prints the timing sheet from the file. The program's path is the first word, the port the second, if
-# another than 8312 is wanted. Prints ok.
+# kept open, makes a whole transaction and a run of the cabinet register over seventeen more, and compares
+# what it answers. Then come clients that send nothing, half a head, or read nothing of a large answer, each
+# of which the server ends after 30 seconds, and clients that close in the middle: after each the next one is
+# answered. It waits for the server's end, and prints the timing sheet from the file. The program's path is
+# the first word, the port the second, if another than 8312 is wanted. Needs curl and Python 3, and takes
+# some 100 seconds. Prints ok.
 set -eu
 top=$(cd "$(dirname "$0")/.." && pwd)
 program=${1:?usage: tests/server.sh PROGRAM [PORT]}
@@ -10,10 +13,12 @@ port=${2:-8312}
 address=http://127.0.0.1:$port
 folder=$(mktemp -d)
 server=
+client=
 
 # The server is ended where it was not served to its end.
 clean() {
   [ -z "$server" ] || kill "$server" 2>/dev/null || true
+  [ -z "$client" ] || kill "$client" 2>/dev/null || true
   rm -rf "$folder"
 }
 trap clean EXIT
@@ -28,7 +33,7 @@ expect() {
   printf '%s' "$3" | cmp -s - "$2" || fail "$1: $(cat "$2")"
 }
 
-"$program" serve --port "$port" --count 18 --db "$folder/office.db" >"$folder/told" 2>"$folder/fault" </dev/null &
+"$program" serve --port "$port" --count 29 --db "$folder/office.db" >"$folder/told" 2>"$folder/fault" </dev/null &
 server=$!
 
 # It listens once it has said so. At most ten seconds.
@@ -86,7 +91,75 @@ show "a cabinet" intersections/12/cabinet \
   '{"inspections":[{"clerk":"Ana","day":"2026-03-01","number":1,"text":"Fan cleaned"}],"orders":[{"clerk":"Ana","closed":"2026-05-03","closer":"Bo","number":1,"opened":"2026-05-01","text":"Replace flash relay","used":[{"count":2,"line":1,"part":"RELAY"}]}]}'
 show "overdue" overdue/2027-03-02 '{"overdue":[{"due":"2027-03-01","id":12,"name":"Main St"}]}'
 
-# That was the last of the eighteen connections: the program ends, with status 0.
+# Two requests over one connection of Python's http.client, which keeps it open.
+python3 - "$port" <<'PYTHON' || fail "a kept connection of http.client"
+import http.client, sys
+connection = http.client.HTTPConnection("127.0.0.1", int(sys.argv[1]), timeout=10)
+connection.request("GET", "/stock")
+first = connection.getresponse()
+assert (first.status, first.read()) == (200, b'{"hand":[{"count":8,"part":"RELAY"}]}')
+kept = connection.sock
+connection.request("GET", "/intersections/12/open-orders")
+second = connection.getresponse()
+assert (second.status, second.read()) == (200, b'{"open":[]}')
+assert kept is not None and connection.sock is kept
+PYTHON
+
+# A client that does what its name says, tells that it is ready, and keeps its connection for two minutes
+# where it does not close it.
+cat >"$folder/client.py" <<'PYTHON'
+import socket, struct, sys, time
+port, what = int(sys.argv[1]), sys.argv[2]
+wire = socket.socket()
+if what == "reads-nothing":
+    wire.setsockopt(socket.SOL_SOCKET, socket.SO_RCVBUF, 4096)
+wire.connect(("127.0.0.1", port))
+if what == "half-a-head":
+    wire.sendall(b"GET /stock HTTP/1.1\r\nHost: 127")
+elif what == "reads-nothing":
+    # Ten thousand answers of the timing of an intersection fill whatever the system keeps of them.
+    wire.settimeout(3)
+    try:
+        wire.sendall(b"GET /intersections/12/timing HTTP/1.1\r\n\r\n" * 10000)
+    except TimeoutError:
+        pass
+elif what == "closes":
+    wire.sendall(b"POST /intersections HTTP/1.1\r\nContent-Length: 41\r\n\r\n{\"id\":13")
+    wire.close()
+elif what == "breaks-off":
+    wire.sendall(b"GET /intersections/12/timing HTTP/1.1\r\n\r\n" * 100 + b"GET /sto")
+    wire.setsockopt(socket.SOL_SOCKET, socket.SO_LINGER, struct.pack("ii", 1, 0))
+    wire.close()
+print("ready", flush=True)
+if what not in ("closes", "breaks-off"):
+    time.sleep(120)
+PYTHON
+
+# after WHAT LOW HIGH: after such a client the next one is answered, in so many seconds.
+after() {
+  python3 "$folder/client.py" "$port" "$1" >"$folder/ready" &
+  client=$!
+  for _ in $(seq 100); do
+    [ ! -s "$folder/ready" ] || break
+    sleep 0.1
+  done
+  local start=$SECONDS
+  curl --silent --show-error --max-time 60 --noproxy '*' --output "$folder/answer" "$address/stock" || fail "no answer after a client that $1"
+  expect "the answer after a client that $1" "$folder/answer" '{"hand":[{"count":8,"part":"RELAY"}]}'
+  local took=$((SECONDS - start))
+  [ "$took" -ge "$2" ] && [ "$took" -le "$3" ] || fail "answered $took seconds after a client that $1"
+  kill "$client" 2>/dev/null || true
+  wait "$client" 2>/dev/null || true
+  client=
+}
+
+after is-silent 25 40
+after half-a-head 25 40
+after reads-nothing 20 45
+after closes 0 5
+after breaks-off 0 5
+
+# That was the last of the twenty-nine connections: the program ends, with status 0.
 for _ in $(seq 100); do
   kill -0 "$server" 2>/dev/null || break
   sleep 0.1

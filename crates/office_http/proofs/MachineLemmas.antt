@@ -1,8 +1,10 @@
 -- How a decision and its answer make a step of the protocol.
-use Rattle.std.proofs.Common.{◌≡◌, ◌≢◌, inl, inr, ℕ, true, List, [], ◌∷◌, length, refl, sym, subst, arith}
+use Rattle.std.proofs.Common.{◌≡◌, ◌≢◌, ◌⊎◌, ◌∙◌, inl, inr, ℕ, true, List, [], ◌∷◌, length, refl, sym, subst, arith}
 use Rattle.std.proofs.lemmas.Bool.Decides.{nat_tests}
-use Rattle.std.specs.Prelude.{◌==◌, Result, Ok, Err, IfOk}
+use Rattle.std.specs.Prelude.{◌==◌, Result, Ok, Err, IfOk, OnOk, OnErr}
 use Rattle.office_tables_shelf.specs.Content.{Content}
+use Rattle.office_tables_shelf.specs.Shelf.{IsKept}
+use Rattle.office_tables_shelf.specs.declared.counts.WriteCounts.{WriteCounts}
 use Rattle.office_desk.specs.Answers.{AnswersAny}
 use Rattle.office_desk.specs.Office.{Office}
 use Rattle.office_desk.specs.StandFor.{StandForSound}
@@ -15,7 +17,8 @@ use Rattle.office_http_wire.specs.Faults.{ask_fault_text}
 use Rattle.office_http_wire.specs.declared.ask.Asked.{Asked}
 use Rattle.office_http_fields.specs.declared.ask.AskFault.{AskFault}
 use Rattle.office_http_fields.specs.declared.ask.AskFault.TheVariants.{NoMemory}
-use Rattle.office_http.specs.Protocol.{AnswersAsked, AnswersRead}
+use Rattle.office_http.specs.Protocol.{AnswersAsked, AnswersRead, StandsAfterAsked, office_storage}
+use Rattle.office_http_framing.specs.Stops.{Settles}
 
 -- a reply that is not unavailable is that of the command's own step
 own_step : (before : Office) (asked : Asked) (reply : Reply) (after : Office) (answer : List ℕ) → reply ≢ Refused Unavailable
@@ -38,6 +41,52 @@ pub answers_fault : {V E : Type 0} (items : V → List ℕ) (result : Result V E
 answers_fault items (Err e) read fault tables before stands gives text = tt
 answers_fault items (Ok v) read fault tables before stands gives text =
     (before, stands, subst (λ (r : Result Asked AskFault). AnswersRead r before (items v) before) (sym (gives text.0)) (text.1, refl))
+
+-- ---- what a stop leaves
+
+pub on_ok : {T E : Type 0} {P : Type 0} (r : Result T E) → P → OnOk r P
+on_ok (Ok x) p = p
+on_ok (Err e) p = tt
+
+pub on_err : {T E : Type 0} {P : Type 0} (r : Result T E) → P → OnErr r P
+on_err (Ok x) p = tt
+on_err (Err e) p = p
+
+-- a call that only reads settles: what a crash may leave stays, and so do the tables
+pub settles_kept : {Shelf : Type 0} (is_honest : Shelf → Type 0) (content : Shelf → Content) (written : Shelf → WriteCounts) (may_leave : Shelf → Content → Type 0) (old new : Shelf)
+    → IsKept is_honest content written may_leave old new → is_honest new → Settles (office_storage content may_leave) old new
+settles_kept is_honest content written may_leave old new kept honest = record {
+  crash = λ left may. inl (kept.same_outcomes honest left may);
+  settled = λ changed. absurd (changed (kept.same_content honest));
+}
+
+-- nothing was called
+pub settles_same : {Shelf : Type 0} (content : Shelf → Content) (may_leave : Shelf → Content → Type 0) (shelf : Shelf) → Settles (office_storage content may_leave) shelf shelf
+settles_same content may_leave shelf = record {
+  crash = λ left may. inl may;
+  settled = λ changed. absurd (changed refl);
+}
+
+-- changes that were made, after a call that only read
+pub settles_made : {Shelf : Type 0} (is_honest : Shelf → Type 0) (content : Shelf → Content) (written : Shelf → WriteCounts) (may_leave : Shelf → Content → Type 0) (old read new : Shelf) (made : Content)
+    → IsKept is_honest content written may_leave old read → is_honest read → content new ≡ made
+    → ((tables : Content) → may_leave new tables → may_leave read tables ⊎ (tables ≡ made))
+    → (content new ≢ content read → (tables : Content) → may_leave new tables → tables ≡ content new)
+    → Settles (office_storage content may_leave) old new
+settles_made is_honest content written may_leave old read new made kept honest is crash settled = record {
+  crash = λ left may. elim (crash left may) [
+    | inl earlier ↦ inl (kept.same_outcomes honest left earlier)
+    | inr now ↦ inr (now ∙ sym is)
+  ];
+  settled = λ changed left may. settled (λ same. changed (same ∙ kept.same_content honest)) left may;
+}
+
+-- tables with the changes stand for the office after the command's step
+pub stands_after : (old tables : Content) (asked : Asked) (reply : Reply) (answer : List ℕ) → AnswersAny old asked.command reply tables → reply ≢ Refused Unavailable
+    → answer ≡ answer_bytes reply asked.form → (before : Office) → StandForSound old before → StandsAfterAsked before asked tables
+stands_after old tables asked reply answer any other text before stands =
+    let step = answers_asked old tables asked reply answer any other text before stands in
+    (answer, step.0, step.2, step.1)
 
 -- a list that is found empty
 pub none_of : {X : Type 0} (xs : List X) → true ≡ (length xs == 0) → xs ≡ []

@@ -1,10 +1,13 @@
 -- How the office answers requests.
 use Rattle.std.specs.Prelude.{◌≡◌, ℕ, List, Result, Ok, Err}
 use Rattle.office_desk.specs.Office.{Office}
+use Rattle.office_desk.specs.StandFor.{StandForSound}
 use Rattle.office_desk.specs.Step.{answered}
 use Rattle.office_desk.specs.declared.reply.Reply.{Reply}
 use Rattle.office_http_framing.specs.Front.{PlainRequest}
 use Rattle.office_http_framing.specs.Protocol.{Protocol}
+use Rattle.office_http_framing.specs.Stops.{Storage}
+use Rattle.office_tables_shelf.specs.Content.{Content}
 use Rattle.office_http_wire.specs.Answers.{answer_bytes, unavailable_bytes}
 use Rattle.office_http_wire.specs.Commands.{command_at}
 use Rattle.office_http_wire.specs.Faults.{ask_fault_text, framing_fault_text}
@@ -25,6 +28,15 @@ AnswersRead (Err fault) before answer after = (answer ≡ ask_fault_text fault) 
 -- a request is read as a command or a fault
 abbrev pub AnswersRequest : Office → PlainRequest → List ℕ → Office → Type 0
 AnswersRequest before request answer after = AnswersRead (command_at request.method request.path request.body) before answer after
+
+-- the tables stand for the office after the command's step
+abbrev pub StandsAfterAsked : Office → Asked → Content → Type 0
+StandsAfterAsked before asked tables =
+    (answer : List ℕ) × (after : Office) × AnswersAsked before asked answer after × StandForSound tables after
+
+-- how the office is stored in tables
+abbrev pub office_storage : {Shelf : Type 0} → (Shelf → Content) → (Shelf → Content → Type 0) → Storage Shelf Office Content
+office_storage content may_leave = record { holds = content; may_leave = may_leave; stands = StandForSound }
 
 -- the answers of the office
 abbrev pub office_protocol : Protocol Office

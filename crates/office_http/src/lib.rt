@@ -8,7 +8,9 @@ mod listening;
 mod machine;
 mod service;
 
-pub use listening::{FromListener, Listen, ListenCounts, ServeStop, serve_each, serve_on};
+pub use listening::{
+    Connection, FromListener, Listen, ListenCounts, ServeStop, serve_each, serve_on,
+};
 pub use office_http_framing::ends::{
     Counts, FromRead, Sink, Source, ToWrite, WriteFailed, write_all,
 };

@@ -1,28 +1,36 @@
 //! The office served to the connections of a listener, one after another.
 
-ghost use Rattle.std.specs.Prelude.{◌≡◌, ◌↔◌, ℕ, Err, IsTrue, MatchResult};
+ghost use Rattle.std.specs.Prelude.{◌≡◌, ◌↔◌, ℕ, List, Err, IsTrue, IfOk, OnOk, OnErr, None};
 ghost use Rattle.office_desk.specs.Office.{Office as OfficeState};
 ghost use Rattle.office_desk.specs.StandFor.{StandForSound};
+ghost use Rattle.office_http_framing.specs.Ends.{no_calls};
+ghost use Rattle.office_http.specs.Protocol.{office_storage};
 ghost use Rattle.office_http.specs.Listening.{
+  Ends,
   EndsListening,
   ServedAsTold,
   ServesConnection,
   ServesEach,
+  ends_of,
   listened,
   no_listening,
 };
 
 use crate::service::serve;
 use office_desk::office::Office;
-use office_http_framing::ends::{FromRead, ToWrite};
+use office_http_framing::ends::{FromRead, Sink, Source, ToWrite};
 use office_http_framing::engine::{ServeFault, Served};
 use office_tables_shelf::shelf::Shelf;
 use std::alloc::{AllocError, Global};
 use std::io;
 use std::net::{TcpListener, TcpStream};
+use std::time::Duration;
 
 /// The most requests of one connection.
 const CONNECTION_LIMIT: u32 = 10_000;
+
+/// How many seconds one read or one write of a connection may wait. After that it has failed.
+const LONGEST_WAIT: u64 = 30;
 
 /// How the calls of a listener went. Each count stays at `u64::MAX` once it is there.
 #[derive(Clone, Copy, Debug, Default, PartialEq, Eq)]
@@ -44,20 +52,44 @@ impl ListenCounts {
     }
 }
 
-/// Where connections come from, seen as the counts of its calls.
-pub trait Listen {
-    ghost use Rattle.office_http.specs.Listening.{listened};
-    ghost use Rattle.office_http.specs.declared.listening.ListenCounts.{ListenCounts};
-
-    // How its calls went so far.
-    ghost told: { Self → ListenCounts };
-
-    /// Waits for the next connection.
-    fn accept(&mut self) -> io::Result<TcpStream>
-        ensures counts { told self.new ≡ listened result (told self.old) };
+/// The two ends of a connection. It can't be dropped, but is given back to its listener.
+pub struct Connection<R, W> {
+    pub reader: R,
+    pub writer: W,
 }
 
-/// The connections of a listener.
+/// Where connections come from, seen as the counts of its calls and, where they are known, the ends of
+/// the connections that it gave and of those that it got back, as they were then.
+pub trait Listen {
+    ghost use Rattle.std.specs.Prelude.{[], ◌∷◌, MatchResult};
+    ghost use Rattle.office_http_framing.specs.Ends.{no_calls};
+    ghost use Rattle.office_http.specs.Listening.{Adds, Listening, ends_of, listened};
+
+    type Reader: Source;
+
+    type Writer: Sink;
+
+    // How its calls went so far, and what it gave and got back.
+    ghost told: { Self → Listening };
+
+    /// Waits for the next connection, of which nothing was read or written yet.
+    fn accept(&mut self) -> io::Result<Connection<Self::Reader, Self::Writer>>
+        ensures counts { (told self.new).counts ≡ listened result (told self.old).counts }
+        ensures given { MatchResult result
+            (λ c. Adds (told self.old).given (told self.new).given (ends_of (Self.Reader.told c.reader) (Self.Writer.told c.writer) ∷ []))
+            (λ _. Adds (told self.old).given (told self.new).given []) }
+        ensures fresh { IfOk result (λ c. ((Self.Reader.told c.reader).counts ≡ no_calls) × ((Self.Writer.told c.writer).counts ≡ no_calls)) }
+        ensures returned { Adds (told self.old).returned (told self.new).returned [] };
+
+    /// Takes a connection back, and closes it.
+    fn take_back(&mut self, connection: Connection<Self::Reader, Self::Writer>)
+        ensures counts { (told self.new).counts ≡ (told self.old).counts }
+        ensures given { Adds (told self.old).given (told self.new).given [] }
+        ensures returned { Adds (told self.old).returned (told self.new).returned
+            (ends_of (Self.Reader.told connection.reader) (Self.Writer.told connection.writer) ∷ []) };
+}
+
+/// The connections of a listener of the system.
 #[derive(Debug, Drop)]
 pub struct FromListener<'a> {
     pub listener: &'a TcpListener,
@@ -76,23 +108,51 @@ impl<'a> FromListener<'a> {
     }
 }
 
-/// The connection, which sends each answer at once, however short it is. Where the system refuses
-/// that, answers may be held back for a moment, and no more.
-fn without_delay(stream: TcpStream) -> TcpStream {
+/// The two ends of a connection, of which no read and no write waits longer than `LONGEST_WAIT`. It
+/// sends each answer at once, however short it is; where the system refuses that, answers may be held
+/// back for a moment, and no more.
+fn opened(stream: TcpStream) -> io::Result<Connection<FromRead<TcpStream>, ToWrite<TcpStream>>>
+    ensures { IfOk result (λ c. (c.reader.counts ≡ no_calls) × (c.writer.counts ≡ no_calls)) }
+{
+    let wait = Duration::from_secs(LONGEST_WAIT);
+    stream.set_read_timeout(Some(wait))?;
+    stream.set_write_timeout(Some(wait))?;
     let _ = stream.set_nodelay(true);
-    stream
+    let writer = ToWrite::new(stream.try_clone()?);
+    let reader = FromRead::new(stream);
+    Ok(Connection { reader, writer })
 }
 
 impl Listen for FromListener<'_> {
-    ghost told = { λ s. s.counts };
+    ghost use Rattle.std.specs.Prelude.{◌≡◌, None, [], ◌∷◌};
+    ghost use Rattle.office_http.specs.Listening.{Adds, ends_of};
 
-    fn accept(&mut self) -> io::Result<TcpStream> {
+    type Reader = FromRead<TcpStream>;
+
+    type Writer = ToWrite<TcpStream>;
+
+    // The system does not tell what a connection gives and takes.
+    ghost told = { λ s. record { counts = s.counts; given = None; returned = None } };
+
+    fn accept(&mut self) -> io::Result<Connection<FromRead<TcpStream>, ToWrite<TcpStream>>> {
         let outcome = match self.listener.accept() {
-            Ok((stream, _)) => Ok(without_delay(stream)),
+            Ok((stream, _)) => opened(stream),
             Err(error) => Err(error),
         };
         self.counts.count(&outcome);
         outcome
+    }
+
+    fn take_back(&mut self, connection: Connection<FromRead<TcpStream>, ToWrite<TcpStream>>)
+        ensures counts { self.new.counts ≡ self.old.counts }
+        ensures given { Adds None None [] }
+        ensures returned { Adds None None (ends_of
+            (record { bytes = None; counts = connection.reader.counts })
+            (record { bytes = None; counts = connection.writer.counts }) ∷ []) }
+    {
+        let Connection { reader, writer } = connection;
+        drop(reader);
+        drop(writer);
     }
 }
 
@@ -113,20 +173,27 @@ fn wants_memory(outcome: &Result<Served, ServeFault>) -> bool
 }
 
 /// Serves one connection. A fault of its ends is its end.
-fn serve_connection<S: Shelf>(
+fn serve_connection<S: Shelf, R: Source, W: Sink>(
     alloc: Global,
     office: &mut Office<S>,
-    stream: &TcpStream,
+    connection: &mut Connection<R, W>,
 ) -> Result<(), AllocError>
+    requires reader { (R.told connection.old.reader).counts ≡ no_calls }
+    requires writer { (W.told connection.old.writer).counts ≡ no_calls }
     ensures honest { S.is_honest office.new → S.is_honest office.old }
-    ensures did { S.is_honest office.new → (before : OfficeState) → StandForSound (S.content office.old) before →
-        MatchResult result
-        (λ _. (after : OfficeState) × StandForSound (S.content office.new) after × ServesConnection before after)
-        (λ _. StandForSound (S.content office.new) before) }
+    ensures did { S.is_honest office.new → (before : OfficeState) → StandForSound (S.content office.old) before → OnOk result (
+        (after : OfficeState) × StandForSound (S.content office.new) after
+        × ServesConnection (office_storage S.content S.may_leave) office.old office.new
+        (ends_of (R.told connection.old.reader) (W.told connection.old.writer))
+        (ends_of (R.told connection.new.reader) (W.told connection.new.writer)) before after) }
+    // Where its buffer was refused, nothing was touched.
+    ensures untouched { OnErr result (
+        (ends_of (R.told connection.new.reader) (W.told connection.new.writer)
+        ≡ ends_of (R.told connection.old.reader) (W.told connection.old.writer)) × (office.new ≡ office.old)) }
 {
-    let mut reader = FromRead::new(stream);
-    let mut writer = ToWrite::new(stream);
-    let outcome = serve(alloc, office, &mut reader, &mut writer, CONNECTION_LIMIT);
+    let reader = &mut connection.reader;
+    let writer = &mut connection.writer;
+    let outcome = serve(alloc, office, reader, writer, CONNECTION_LIMIT);
     if wants_memory(&outcome) {
         return Err(AllocError);
     }
@@ -143,26 +210,31 @@ pub fn serve_each<S: Shelf, L: Listen>(
 ) -> Result<(), ServeStop>
     ensures honest { S.is_honest office.new → S.is_honest office.old }
 
-    // The office served each connection as `serve` does, and no other one.
+    // Each connection that the listener gave was served once, as `serve` does, from its first call to its
+    // being given back, and no other one.
     ensures did { S.is_honest office.new → (before : OfficeState) → StandForSound (S.content office.old) before →
-        (served : ℕ) × (after : OfficeState) × StandForSound (S.content office.new) after
-        × ServesEach before served after
-        × EndsListening count (L.told listener.old) (L.told listener.new) served result }
-    // The listener tells how many connections it gave, and a failure where it is the reason.
-    ensures told { (served : ℕ) × EndsListening count (L.told listener.old) (L.told listener.new) served result }
+        (served : ℕ) × (given : List Ends) × (returned : List Ends) × (after : OfficeState) × StandForSound (S.content office.new) after
+        × ServesEach (office_storage S.content S.may_leave) office.old before served given returned office.new after
+        × EndsListening count (L.told listener.old) (L.told listener.new) served given returned result }
+    // The listener tells how many connections it gave and got back, and a failure where it is the reason.
+    ensures told { (served : ℕ) × (given : List Ends) × (returned : List Ends)
+        × EndsListening count (L.told listener.old) (L.told listener.new) served given returned result }
 {
     for _ in 0..count {
-        let Ok(stream) = listener.accept() else {
+        let Ok(mut connection) = listener.accept() else {
             return Err(ServeStop::Accept);
         };
-        if serve_connection(alloc, office, &stream).is_err() {
+        let outcome = serve_connection(alloc, office, &mut connection);
+        listener.take_back(connection);
+        if outcome.is_err() {
             return Err(ServeStop::NoMemory);
         }
     }
     Ok(())
 }
 
-/// Serves so many connections of a listener of the system, as `serve_each` does.
+/// Serves so many connections of a listener of the system, as `serve_each` does. What these give and
+/// take no clause tells.
 pub fn serve_on<S: Shelf>(
     alloc: Global,
     listener: &TcpListener,
@@ -173,8 +245,8 @@ pub fn serve_on<S: Shelf>(
 
     // The office served each connection as `serve` does, and no other one; all where it says so.
     ensures did { S.is_honest office.new → (before : OfficeState) → StandForSound (S.content office.old) before →
-        (served : ℕ) × (after : OfficeState) × StandForSound (S.content office.new) after
-        × ServesEach before served after
+        (served : ℕ) × (given : List Ends) × (returned : List Ends) × (after : OfficeState) × StandForSound (S.content office.new) after
+        × ServesEach (office_storage S.content S.may_leave) office.old before served given returned office.new after
         × ServedAsTold count served result }
 {
     serve_each(alloc, &mut FromListener::new(listener), count, office)

@@ -1,7 +1,9 @@
+pub mod AskLemmas
 pub mod BufferLemmas
 pub mod EndLemmas
 pub mod FieldLemmas
 pub mod FrontLemmas
 pub mod LawLemmas
 pub mod ServeLemmas
+pub mod StopLemmas
 pub mod StreamLemmas

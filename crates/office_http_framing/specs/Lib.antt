@@ -1,3 +1,4 @@
+pub mod Asks
 pub mod Ends
 pub mod Fields
 pub mod Front
@@ -5,4 +6,5 @@ pub mod Laws
 pub mod Limits
 pub mod Protocol
 pub mod Serve
+pub mod Stops
 pub mod Stream

@@ -17,17 +17,26 @@ Closes protocol closed last = last ≡ []
 Closes protocol unfinished last = last ≡ []
 Closes protocol (faulty which) last = AnswersFault protocol which last
 
--- the machine ran over these requests, which are so many, and gave these answers
+-- what a stop leaves after these requests and answers
+abbrev pub StopLeaves : Type 1
+StopLeaves = List PlainRequest → List (List ℕ) → Type 0
+
+-- nothing is said of a stop
+abbrev pub no_stop : StopLeaves
+no_stop requests answers = Unit {0}
+
+-- the machine ran over these requests, which are so many, and gave these answers; and so much a stop leaves
 pub record RunsOver
-    {State : Type 0} (protocol : Protocol State) (before : State) (requests : List PlainRequest)
+    {State : Type 0} (protocol : Protocol State) (leaves : StopLeaves) (before : State) (requests : List PlainRequest)
     (answers : List (List ℕ)) (after : State) (count : ℕ) : Type 0 where
   pub run : Run protocol before requests answers after
   pub count_is : count ≡ length requests
+  pub stops : leaves requests answers
 
 -- The source gave bytes; the machine ran over their requests; the sink took the answers to them, in
 -- order, and then the answer to the fault if there is one.
 pub record Serves
-    {State : Type 0} (protocol : Protocol State) (limit : ℕ) (source source' sink sink' : Told)
+    {State : Type 0} (protocol : Protocol State) (leaves : StopLeaves) (limit : ℕ) (source source' sink sink' : Told)
     (before after : State) (count : ℕ) (ending : Ending) : Type 0 where
   pub given : List ℕ
   pub requests : List PlainRequest
@@ -35,14 +44,14 @@ pub record Serves
   pub last : List ℕ
   pub reads : Consumes source.bytes source'.bytes given
   pub are_requests : AreRequests limit given requests ending
-  pub runs : RunsOver protocol before requests answers after count
+  pub runs : RunsOver protocol leaves before requests answers after count
   pub closes : Closes protocol ending last
   pub writes : Appends sink.bytes sink'.bytes (concat answers ++ last)
 
 -- The source gave bytes that begin with these requests; the machine ran over them; the sink took
 -- all answers but the last, and the last up to some place.
 pub record BreaksOffAtAnswer
-    {State : Type 0} (protocol : Protocol State) (limit : ℕ) (source source' sink sink' : Told)
+    {State : Type 0} (protocol : Protocol State) (leaves : StopLeaves) (limit : ℕ) (source source' sink sink' : Told)
     (before after : State) (count : ℕ) : Type 0 where
   pub given : List ℕ
   pub requests : List PlainRequest
@@ -53,12 +62,12 @@ pub record BreaksOffAtAnswer
   pub unwritten : List ℕ
   pub reads : Consumes source.bytes source'.bytes given
   pub begins : BeginsWith limit given requests rest left
-  pub runs : RunsOver protocol before requests (answers ++ (part ++ unwritten) ∷ []) after count
+  pub runs : RunsOver protocol leaves before requests (answers ++ (part ++ unwritten) ∷ []) after count
   pub writes : Appends sink.bytes sink'.bytes (concat answers ++ part)
 
 -- The same, where the sink took the answers to all requests, and that to a fault up to some place.
 pub record BreaksOffAtFault
-    {State : Type 0} (protocol : Protocol State) (limit : ℕ) (source source' sink sink' : Told)
+    {State : Type 0} (protocol : Protocol State) (leaves : StopLeaves) (limit : ℕ) (source source' sink sink' : Told)
     (before after : State) (count : ℕ) : Type 0 where
   pub which : Fault
   pub given : List ℕ
@@ -68,7 +77,7 @@ pub record BreaksOffAtFault
   pub unwritten : List ℕ
   pub reads : Consumes source.bytes source'.bytes given
   pub are_requests : AreRequests limit given requests (faulty which)
-  pub runs : RunsOver protocol before requests answers after count
+  pub runs : RunsOver protocol leaves before requests answers after count
   pub answers_fault : AnswersFault protocol which (part ++ unwritten)
   pub writes : Appends sink.bytes sink'.bytes (concat answers ++ part)
 
@@ -80,18 +89,18 @@ pub record Untouched
   pub state_is : before ≡ after
 
 -- what the call did to a machine that meant `before`, by its outcome
-abbrev pub Did : {State : Type 0} → Protocol State → ℕ → Told → Told → Told → Told → State → State →
+abbrev pub Did : {State : Type 0} → Protocol State → StopLeaves → ℕ → Told → Told → Told → Told → State → State →
     Result Served ServeFault → Type 0
-Did protocol limit source source' sink sink' before after (Ok served) =
+Did protocol leaves limit source source' sink sink' before after (Ok served) =
     (ending : Ending)
-    × Serves protocol limit source source' sink sink' before after served.requests ending
+    × Serves protocol leaves limit source source' sink sink' before after served.requests ending
     × (ending ≡ unfinished → Rose source.counts.empties source'.counts.empties)
-Did protocol limit source source' sink sink' before after (Err (stop.Read requests)) =
-    Serves protocol limit source source' sink sink' before after requests unfinished
-Did protocol limit source source' sink sink' before after (Err (stop.Write requests)) =
-    BreaksOffAtAnswer protocol limit source source' sink sink' before after requests
-    ⊎ BreaksOffAtFault protocol limit source source' sink sink' before after requests
-Did protocol limit source source' sink sink' before after (Err stop.NoMemory) =
+Did protocol leaves limit source source' sink sink' before after (Err (stop.Read requests)) =
+    Serves protocol leaves limit source source' sink sink' before after requests unfinished
+Did protocol leaves limit source source' sink sink' before after (Err (stop.Write requests)) =
+    BreaksOffAtAnswer protocol leaves limit source source' sink sink' before after requests
+    ⊎ BreaksOffAtFault protocol leaves limit source source' sink sink' before after requests
+Did protocol leaves limit source source' sink sink' before after (Err stop.NoMemory) =
     Untouched source source' sink sink' before after
 
 -- a fault of an end is answered only where that end tells one

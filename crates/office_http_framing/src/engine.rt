@@ -1,11 +1,13 @@
 //! The engine: it serves the requests of a stream, one after another.
 
 ghost use Rattle.std.specs.Prelude.{◌≡◌, ◌+◌, ◌*◌, ◌≤◌, ℕ, List, IfErr, OnErr};
+ghost use Rattle.office_http_framing.specs.Asks.{OnlyAsks};
 ghost use Rattle.office_http_framing.specs.Ends.{Grows, FailsOrGivesNone, WritesOrBreaksOff};
 ghost use Rattle.office_http_framing.specs.Front.{plain};
 ghost use Rattle.office_http_framing.specs.Limits.{longest_request};
-ghost use Rattle.office_http_framing.specs.Protocol.{MayAnswer, AnswersFault};
+ghost use Rattle.office_http_framing.specs.Protocol.{AnswersFault};
 ghost use Rattle.office_http_framing.specs.Serve.{Did, TellsFault, Untouched};
+ghost use Rattle.office_http_framing.specs.Stops.{Deals, Leaves, Means};
 
 use crate::buffer::Buffer;
 use crate::ends::{Sink, Source, WriteFailed, write_all};
@@ -40,10 +42,9 @@ fn serve_request<Tools, M: Machine<Tools>, W: Sink>(
     writer: &mut W,
 ) -> Result<(), WriteFailed>
     ensures honest { M.is_honest machine.new → M.is_honest machine.old }
-    ensures step { M.is_honest machine.new → (before : M.State) → M.stands_for machine.old before →
+    ensures step { M.is_honest machine.new → (before : M.State) → Means M.storage machine.old before →
         (answer : List ℕ) × (after : M.State)
-        × MayAnswer M.protocol before (plain request.now) answer after
-        × M.stands_for machine.new after
+        × Deals M.protocol M.storage machine.old machine.new before (plain request.now) answer after
         × WritesOrBreaksOff result (W.told writer.old) (W.told writer.new) answer }
     ensures counts { Grows (W.told writer.old).counts (W.told writer.new).counts }
     ensures fault { OnErr result
@@ -85,10 +86,11 @@ pub fn serve<Tools, M: Machine<Tools>, R: Source, W: Sink>(
 ) -> Result<Served, ServeFault>
     ensures honest { M.is_honest machine.new → M.is_honest machine.old }
 
-    // What was read, answered and written.
-    ensures did { M.is_honest machine.new → (before : M.State) → M.stands_for machine.old before →
-        (after : M.State) × M.stands_for machine.new after
-        × Did M.protocol max_requests (R.told reader.old) (R.told reader.new)
+    // What was read, answered and written, and what a stop leaves of it.
+    ensures did { M.is_honest machine.new → (before : M.State) → Means M.storage machine.old before →
+        (after : M.State) × Means M.storage machine.new after
+        × Did M.protocol (Leaves M.protocol M.storage machine.old machine.new before after)
+        max_requests (R.told reader.old) (R.told reader.new)
         (W.told writer.old) (W.told writer.new) before after result }
     // Read and Write are answered only where that end told a failure, or a write of no byte.
     ensures fault { TellsFault (R.told reader.old) (R.told reader.new)
@@ -97,6 +99,8 @@ pub fn serve<Tools, M: Machine<Tools>, R: Source, W: Sink>(
     ensures untouched { IfErr result (λ why. why ≡ ServeFault.NoMemory →
         Untouched (R.told reader.old) (R.told reader.new)
         (W.told writer.old) (W.told writer.new) machine.old machine.new) }
+    // The reader is called only while a request is awaited: not again after the last one or a fault.
+    ensures asks { OnlyAsks R.told max_requests reader.old reader.new }
     ensures reads { (R.told reader.new).counts.calls
         ≤ (R.told reader.old).counts.calls + longest_request * (max_requests + 1) + 1 }
 {

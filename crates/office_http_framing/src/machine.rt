@@ -1,6 +1,6 @@
 //! What answers the requests: the engine knows no more of it than this trait says.
 
-ghost use Rattle.std.specs.Prelude.{◌≡◌, ℕ, List, IfOk, OnErr};
+ghost use Rattle.std.specs.Prelude.{◌≡◌, ◌⊎◌, ℕ, List, IfOk, OnOk, OnErr};
 
 use crate::front::{Fault, Request};
 use std::alloc::{AllocError, Global};
@@ -14,12 +14,16 @@ pub struct Unavailable;
 pub trait Machine<Tools> {
     ghost use Rattle.office_http_framing.specs.Front.{PlainRequest, plain};
     ghost use Rattle.office_http_framing.specs.Protocol.{Protocol};
+    ghost use Rattle.office_http_framing.specs.Stops.{Storage, Means, IsAfterStep, Settles};
 
     // What a machine means.
     ghost State: { Type 0 };
 
-    // The machine means this state.
-    ghost stands_for: { Self → State → Type 0 };
+    // What it stores of that.
+    ghost Stored: { Type 0 };
+
+    // What it holds now, what a crash may leave of that, and the states for which either stands.
+    ghost storage: { Storage Self State Stored };
 
     // What the machine keeps its state on has returned what was written, so far.
     ghost is_honest: { Self → Type 0 };
@@ -35,11 +39,17 @@ pub trait Machine<Tools> {
         request: &Request<'_>,
     ) -> Result<Vec<u8>, Unavailable>
         ensures honest { is_honest self.new → is_honest self.old }
-        ensures ok { is_honest self.new → (before : State) → stands_for self.old before → IfOk result (λ answer.
-            (after : State) × stands_for self.new after
+        ensures ok { is_honest self.new → (before : State) → Means storage self.old before → IfOk result (λ answer.
+            (after : State) × Means storage self.new after
             × protocol.step before (plain request.now) answer.items after) }
-        ensures err { is_honest self.new → (before : State) → stands_for self.old before →
-            OnErr result (stands_for self.new before) };
+        ensures err { is_honest self.new → (before : State) → Means storage self.old before →
+            OnErr result (Means storage self.new before) }
+        // A crash leaves what it could before, or what is held now; and that alone once that has changed.
+        ensures settles { is_honest self.new → OnOk result (Settles storage self.old self.new) }
+        // Where it was refused, a crash leaves what it could before, or the step all the same.
+        ensures crash { is_honest self.new → (before : State) → Means storage self.old before → OnErr result (
+            (left : Stored) → storage.may_leave self.new left →
+            storage.may_leave self.old left ⊎ IsAfterStep protocol storage before (plain request.now) left) };
 
     /// The whole answer to a fault of the framing, or memory was refused.
     fn fault_answer(alloc: Global, fault: Fault) -> Result<Vec<u8>, AllocError>

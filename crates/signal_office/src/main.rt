@@ -4,15 +4,19 @@
 use office_http::{FromRead, ToWrite};
 use signal_office_run::{Fault, report, run_words};
 use std::env;
+use std::io::ErrorKind;
 use std::process::ExitCode;
 
-/// Hands the words, the input and both outputs over. Words that are not UTF-8 are refused.
+/// Hands the words, the input and both outputs over. Words that are not UTF-8 are refused; where memory
+/// for them is refused, that is a fault.
 fn run(rt: &HostRuntime) -> Result<u8, Fault> {
     let alloc = rt.alloc();
-    let Ok(args) = env::args(rt) else {
-        return Err(Fault::Words);
+    let words = match env::args(rt) {
+        Ok(words) => words,
+        Err(error) if error.kind() == ErrorKind::OutOfMemory => return Err(Fault::Memory),
+        Err(_) => return Err(Fault::Words),
     };
-    let args: Vec<String> = args.collect(alloc)?;
+    let args: Vec<String> = words.collect(alloc)?;
     let words: Vec<&str> = args.iter().map(String::as_str).collect(alloc)?;
     let mut source = FromRead::new(rt.stdin());
     let mut out = ToWrite::new(rt.stdout());

@@ -1,11 +1,12 @@
 -- What the queries of the office show, and the sheet that they make.
-use Rattle.std.proofs.Common.{◌≡◌, ◌≢◌, inl, inr, ℕ, List, Option, Some, None, refl, sym, ap, subst, ◌∙◌}
+use Rattle.std.proofs.Common.{◌≡◌, ◌≢◌, inl, inr, ℕ, List, [], Option, Some, None, refl, sym, ap, subst, ◌∙◌}
 use Rattle.std.specs.FinMap.{get, values}
 use Rattle.signal_records.specs.TimingSet.{Rows}
 use Rattle.office_tables_shelf.specs.Content.{Content}
-use Rattle.office_desk.specs.Answers.{Answers}
+use Rattle.office_tables_shelf.specs.Change.{changed_by}
+use Rattle.office_tables_shelf.specs.declared.rows.RowChange.{RowChange}
+use Rattle.office_desk.specs.Answers.{Answers, AnswersAny}
 use Rattle.office_desk.specs.Office.{Office, Intersection}
-use Rattle.office_desk.specs.StandFor.{StandForSound}
 use Rattle.office_desk.specs.Step.{Step, answered, shown, state_shown}
 use Rattle.office_desk.specs.declared.command.Command.{Command}
 use Rattle.office_desk.specs.declared.command.Command.TheVariants as command
@@ -16,6 +17,10 @@ use Rattle.office_desk.specs.declared.reply.Reply.TheVariants.{State as Shown, T
 use Rattle.office_desk.specs.declared.reply.RunningTiming.{RunningTiming}
 use Rattle.office_files.specs.Sheet.{sheet_text}
 use Rattle.signal_office_run.specs.Sheet.{IsNameOf, IsSheetOf, IsTimingOf}
+
+-- a reply without changes is a step that leaves the tables
+pub unchanged : (tables : Content) (asked : Command) (reply : Reply) (changes : List RowChange) → changes ≡ [] → AnswersAny tables asked reply (changed_by tables changes) → AnswersAny tables asked reply tables
+unchanged tables asked reply changes none answers = subst (λ cs. AnswersAny tables asked reply (changed_by tables cs)) none answers
 
 -- a command that was not answered unavailable took its step
 step_taken : (office next : Office) (asked : Command) (reply : Reply) → Step office asked reply next → reply ≢ Refused refusal.Unavailable
@@ -39,23 +44,19 @@ shown_timing (Some i) timing e =
     let same : made ≡ timing = cc in
     (i, refl, sym (ap (λ (t : RunningTiming). t.revision) same), sym (ap (λ (t : RunningTiming). t.rows) same))
 
--- the query State changes nothing, and shows the name
+-- the query State shows the name
 pub named : (tables : Content) (office : Office) (id : ℕ) (state : IntersectionState) → Answers office (command.State id) (Shown state) tables
-    → StandForSound tables office × IsNameOf office id state.name
+    → IsNameOf office id state.name
 named tables office id state answers =
     let taken = step_taken office answers.next (command.State id) (Shown state) answers.step (λ e. cc) in
-    let same : answers.next ≡ office = sym (ap (λ (p : Reply × Office). p.1) taken) in
-    let found = shown_name (get office.intersections id) id state (ap (λ (p : Reply × Office). p.0) taken) in
-    (subst (StandForSound tables) same answers.stand, found)
+    shown_name (get office.intersections id) id state (ap (λ (p : Reply × Office). p.0) taken)
 
--- the query Timing changes nothing, and shows the committed set
+-- the query Timing shows the committed set
 pub timed : (tables : Content) (office : Office) (id : ℕ) (timing : RunningTiming) → Answers office (command.Timing id) (Running timing) tables
-    → StandForSound tables office × IsTimingOf office id timing
+    → IsTimingOf office id timing
 timed tables office id timing answers =
     let taken = step_taken office answers.next (command.Timing id) (Running timing) answers.step (λ e. cc) in
-    let same : answers.next ≡ office = sym (ap (λ (p : Reply × Office). p.1) taken) in
-    let found = shown_timing (get office.intersections id) timing (ap (λ (p : Reply × Office). p.0) taken) in
-    (subst (StandForSound tables) same answers.stand, found)
+    shown_timing (get office.intersections id) timing (ap (λ (p : Reply × Office). p.0) taken)
 
 -- a name and a set of one intersection make its sheet
 pub sheet_is : (office : Office) (id : ℕ) (name text : List ℕ) (timing : RunningTiming) → IsNameOf office id name → IsTimingOf office id timing

@@ -13,6 +13,11 @@ fault_of refusal.UnknownIntersection = told.UnknownIntersection
 fault_of refusal.Damaged = told.Damaged
 fault_of other = told.Store
 
+-- the faults of a query about one intersection
+abbrev pub IsFaultOfQuery : Fault → Type 0
+IsFaultOfQuery fault =
+    (fault ≡ told.UnknownIntersection) ⊎ ((fault ≡ told.Memory) ⊎ ((fault ≡ told.Store) ⊎ (fault ≡ told.Damaged)))
+
 -- An unknown intersection is told only where the office has none, and there nothing else is, unless memory or the database refuses.
 pub record TellsUnknown (office : Office) (id : ℕ) (fault : Fault) : Type 0 where
   pub unknown : fault ≡ told.UnknownIntersection → get office.intersections id ≡ None

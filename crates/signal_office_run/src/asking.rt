@@ -1,7 +1,9 @@
 //! A query of the office.
 
 ghost use Rattle.std.specs.Prelude.{◌≡◌};
+ghost use Rattle.office_tables_shelf.specs.Shelf.{IsKept};
 ghost use Rattle.office_desk.specs.Answers.{AnswersAny};
+ghost use Rattle.office_desk.specs.Changes.{IsQuery};
 ghost use Rattle.office_desk.specs.Damage.{MeetsDamage};
 
 use office_desk::command::Command;
@@ -11,11 +13,14 @@ use office_desk::reply::Reply;
 use office_tables_shelf::shelf::Shelf;
 use std::alloc::Global;
 
-/// What the office answers. It takes the query, so that those who ask have none to drop.
+/// What the office answers, which stays as it is. It takes the query, so that those who ask have none
+/// to drop.
 pub(crate) fn ask<S: Shelf>(alloc: Global, office: &mut Office<S>, query: Command) -> Reply
-    ensures honest { S.is_honest office.new → S.is_honest office.old }
-    ensures step { S.is_honest office.new → AnswersAny (S.content office.old) query result (S.content office.new) }
+    requires { IsQuery query }
+    ensures kept { IsKept S.is_honest S.content S.written S.may_leave office.old office.new }
+    ensures step { S.is_honest office.new → AnswersAny (S.content office.old) query result (S.content office.old) }
     ensures damaged { result ≡ Reply.Refused Refusal.Damaged → S.is_honest office.new → MeetsDamage (S.content office.old) query }
 {
-    office.run(alloc, &query)
+    let decided = office.decide(alloc, &query);
+    decided.reply
 }

@@ -1,18 +1,25 @@
 //! The office over the tables of a database in a file.
 
-ghost use Rattle.std.specs.Prelude.{◌≡◌, ◌≢◌, None, Ok, IfOk, IfErr, IfSome};
+ghost use Rattle.std.specs.Prelude.{◌≡◌, ◌≢◌, ◌≤◌, ◌+◌, ◌*◌, ℕ, List, None, Ok, IfOk, IfErr, IfSome};
 ghost use Rattle.sqlite.specs.Files.{file_state};
 ghost use Rattle.sqlite.specs.Start.{FindsIn};
 ghost use Rattle.sqlite.specs.State.{HasCleanDisk};
 ghost use Rattle.sqlite.specs.WalFiles.{image_at};
 ghost use Rattle.office_tables.specs.Calls.{IsHonest};
 ghost use Rattle.office_tables.specs.Stored.{content_now, content_of};
+ghost use Rattle.office_tables.specs.SqlShelf.{SqlView};
 ghost use Rattle.office_tables.specs.Opening.{HasOtherVersion, HasRowsAlone};
-ghost use Rattle.office_desk.specs.Office.{Office as OfficeState};
+ghost use Rattle.office_desk.specs.Office.{IsSound, Office as OfficeState};
 ghost use Rattle.office_desk.specs.StandFor.{StandForSound};
+ghost use Rattle.office_http.specs.Laws.{KeepsLaws};
 ghost use Rattle.office_http.specs.Protocol.{office_protocol};
-ghost use Rattle.office_http_framing.specs.Serve.{Did};
-ghost use Rattle.signal_office_run.specs.File.{StandInFiles};
+ghost use Rattle.office_http_framing.specs.Asks.{OnlyAsks};
+ghost use Rattle.office_http_framing.specs.Front.{PlainRequest};
+ghost use Rattle.office_http_framing.specs.Limits.{longest_request};
+ghost use Rattle.office_http_framing.specs.Protocol.{Run as ProtocolRun};
+ghost use Rattle.office_http_framing.specs.Serve.{Did, TellsFault};
+ghost use Rattle.office_http_framing.specs.Stops.{Leaves};
+ghost use Rattle.signal_office_run.specs.File.{AreOpenedFor, StandInFiles, sql_storage};
 
 use crate::fault::Fault;
 use office_desk::office::Office;
@@ -34,6 +41,8 @@ fn open_tables<S: Start>(
     requires { HasCleanDisk (file_state conn) → FindsIn (image_at S.Start) (file_state conn) }
     ensures honest { IfOk result (λ office. IsHonest (file_state office.conn) → HasCleanDisk (file_state conn)) }
     ensures kept { IfOk result (λ office. IsHonest (file_state office.conn) → content_now (file_state office.conn) ≡ content_of (file_state conn).committed.trees) }
+    // A crash leaves these tables, and nothing else.
+    ensures crash { IfOk result (λ office. IsHonest (file_state office.conn) → (trees : _) → (file_state office.conn).may_leave trees → content_of trees ≡ content_now (file_state office.conn)) }
     ensures unreached { IfErr result (λ e. e.1 ≡ None → (e.0 ≢ Fault.Version) × (e.0 ≢ Fault.Damaged)) }
     ensures version { IfErr result (λ e. e.0 ≡ Fault.Version → IfSome e.1 (λ c. IsHonest (file_state c) → HasOtherVersion (file_state conn).committed.trees)) }
     ensures damaged { IfErr result (λ e. e.0 ≡ Fault.Damaged → IfSome e.1 (λ c. IsHonest (file_state c) → HasRowsAlone (file_state conn).committed.trees)) }
@@ -51,7 +60,8 @@ fn office_over<S: Start>(
 ) -> Result<FileOffice<S>, Fault>
     requires { HasCleanDisk (file_state conn) → FindsIn (image_at S.Start) (file_state conn) }
     ensures { IfOk result (λ office. IsHonest (file_state office.conn) →
-        HasCleanDisk (file_state conn) × (content_now (file_state office.conn) ≡ content_of (file_state conn).committed.trees)) }
+        HasCleanDisk (file_state conn) × (content_now (file_state office.conn) ≡ content_of (file_state conn).committed.trees)
+        × ((trees : _) → (file_state office.conn).may_leave trees → content_of trees ≡ content_now (file_state office.conn))) }
 {
     match open_tables(alloc, conn) {
         Ok(office) => Ok(office),
@@ -73,7 +83,7 @@ pub(crate) fn open_file<S: Start>(
     start: S,
 ) -> Result<FileOffice<S>, Fault>
     ensures { IfOk result (λ office. IsHonest (file_state office.conn) → (before : OfficeState) → StandInFiles (image_at S.Start) before →
-        StandForSound (content_now (file_state office.conn)) before) }
+        AreOpenedFor file_state office before) }
 {
     match Connection::open_from(rt, path, false, start) {
         Ok(conn) => office_over(alloc, conn),
@@ -94,10 +104,25 @@ pub fn serve_file<S: Start, R: Source, W: Sink>(
     writer: &mut W,
     max_requests: u32,
 ) -> Result<(FileOffice<S>, Result<Served, ServeFault>), Fault>
+    // The bytes answered and the meaning of the tables are those of the office machine, run over the requests
+    // of the bytes read. A crash leaves the office before them, or after one of them; and, where one changed
+    // rows and no later one was answered unavailable, the tables as they are, alone.
     ensures did { IfOk result (λ served. IsHonest (file_state served.0.conn) → (before : OfficeState) → StandInFiles (image_at S.Start) before →
-        (after : OfficeState) × StandForSound (content_now (file_state served.0.conn)) after × Did office_protocol max_requests
+        (opened : SqlView _) × (after : OfficeState) × AreOpenedFor file_state opened before
+        × StandForSound (content_now (file_state served.0.conn)) after
+        × Did office_protocol (Leaves office_protocol (sql_storage file_state) opened served.0 before after) max_requests
         (R.told reader.old) (R.told reader.new) (W.told writer.old) (W.told writer.new) before after served.1) }
-    ensures refused { IfErr result (λ _. (R.told reader.new ≡ R.told reader.old) × (W.told writer.new ≡ W.told writer.old)) }
+    // Over the whole stream, the run that `did` tells keeps the laws of the office.
+    ensures laws { (before : OfficeState) (requests : List PlainRequest) (answers : List (List ℕ)) (after : OfficeState) →
+        ProtocolRun office_protocol before requests answers after → IsSound before → IsSound after →
+        KeepsLaws before requests answers after }
+    // Read and Write are answered only where that end told a fault.
+    ensures fault { IfOk result (λ served. TellsFault (R.told reader.old) (R.told reader.new) (W.told writer.old) (W.told writer.new) served.1) }
+    ensures refused { IfErr result (λ _. (reader.new ≡ reader.old) × (writer.new ≡ writer.old)) }
+    // The reader is called only while a request is awaited, and so often at most.
+    ensures asks { OnlyAsks R.told max_requests reader.old reader.new }
+    ensures reads { (R.told reader.new).counts.calls
+        ≤ (R.told reader.old).counts.calls + longest_request * (max_requests + 1) + 1 }
 {
     let mut office = open_file(rt, alloc, path, start)?;
     let outcome = serve(alloc, &mut office, reader, writer, max_requests);

@@ -23,6 +23,7 @@ pub fn overdue_of<S: Shelf>(
     day: Day,
     most: usize,
 ) -> Result<Vec<u8>, Fault>
+    // It changes nothing.
     ensures kept { IsKept S.is_honest S.content S.written S.may_leave office.old office.new }
     ensures report { IfOk result (λ text. S.is_honest office.new → (before : OfficeState) → StandForSound (S.content office.old) before →
         IsReportOf before day most text.items) }

@@ -1,9 +1,10 @@
 //! The office on a port of the loopback network.
 
-ghost use Rattle.std.specs.Prelude.{◌≡◌, ℕ};
+ghost use Rattle.std.specs.Prelude.{◌≡◌, ℕ, List};
 ghost use Rattle.office_desk.specs.Office.{Office as OfficeState};
 ghost use Rattle.office_desk.specs.StandFor.{StandForSound};
-ghost use Rattle.office_http.specs.Listening.{ServesEach};
+ghost use Rattle.office_http.specs.Listening.{Ends, ServesEach};
+ghost use Rattle.office_http.specs.Protocol.{office_storage};
 ghost use Rattle.signal_office_run.specs.Serving.{ServedAll};
 
 use crate::fault::Fault;
@@ -42,8 +43,8 @@ pub fn serve_port<S: Shelf, W: Sink>(
 
     // The office served each connection as `serve` does, and no other one; all where it says so.
     ensures did { S.is_honest office.new → (before : OfficeState) → StandForSound (S.content office.old) before →
-        (served : ℕ) × (after : OfficeState) × StandForSound (S.content office.new) after
-        × ServesEach before served after
+        (served : ℕ) × (given : List Ends) × (returned : List Ends) × (after : OfficeState) × StandForSound (S.content office.new) after
+        × ServesEach (office_storage S.content S.may_leave) office.old before served given returned office.new after
         × ServedAll count served result }
 {
     let listener = match listen(rt, alloc, port, out) {

@@ -1,9 +1,12 @@
 //! The timing sheet of an intersection, by the queries of the office.
 
-ghost use Rattle.std.specs.Prelude.{IfOk, IfErr};
+ghost use Rattle.std.specs.Prelude.{◌≡◌, Err, IfOk, IfErr};
+ghost use Rattle.office_tables_shelf.specs.Shelf.{IsKept};
+ghost use Rattle.office_desk.specs.Damage.{MeetsDamage};
 ghost use Rattle.office_desk.specs.Office.{Office as OfficeState};
 ghost use Rattle.office_desk.specs.StandFor.{StandForSound};
-ghost use Rattle.signal_office_run.specs.Fault.{TellsUnknown};
+ghost use Rattle.office_desk.specs.declared.command.Command.TheVariants as command;
+ghost use Rattle.signal_office_run.specs.Fault.{IsFaultOfQuery, TellsUnknown};
 ghost use Rattle.signal_office_run.specs.Sheet.{IsNameOf, IsSheetOf, IsTimingOf};
 
 use crate::asking::ask;
@@ -22,9 +25,11 @@ fn name_in<S: Shelf>(
     office: &mut Office<S>,
     id: InterId,
 ) -> Result<Words<120>, Fault>
-    ensures honest { S.is_honest office.new → S.is_honest office.old }
+    ensures kept { IsKept S.is_honest S.content S.written S.may_leave office.old office.new }
     ensures name { IfOk result (λ name. S.is_honest office.new → (before : OfficeState) → StandForSound (S.content office.old) before →
-        StandForSound (S.content office.new) before × IsNameOf before id name) }
+        IsNameOf before id name) }
+    ensures refused { IfErr result IsFaultOfQuery }
+    ensures damaged { result ≡ Err Fault.Damaged → S.is_honest office.new → MeetsDamage (S.content office.old) (command.State id) }
     ensures fault { IfErr result (λ fault. S.is_honest office.new → (before : OfficeState) → StandForSound (S.content office.old) before →
         TellsUnknown before id fault) }
 {
@@ -41,9 +46,11 @@ fn timing_in<S: Shelf>(
     office: &mut Office<S>,
     id: InterId,
 ) -> Result<RunningTiming, Fault>
-    ensures honest { S.is_honest office.new → S.is_honest office.old }
+    ensures kept { IsKept S.is_honest S.content S.written S.may_leave office.old office.new }
     ensures timing { IfOk result (λ timing. S.is_honest office.new → (before : OfficeState) → StandForSound (S.content office.old) before →
-        StandForSound (S.content office.new) before × IsTimingOf before id timing) }
+        IsTimingOf before id timing) }
+    ensures refused { IfErr result IsFaultOfQuery }
+    ensures damaged { result ≡ Err Fault.Damaged → S.is_honest office.new → MeetsDamage (S.content office.old) (command.Timing id) }
     ensures fault { IfErr result (λ fault. S.is_honest office.new → (before : OfficeState) → StandForSound (S.content office.old) before →
         TellsUnknown before id fault) }
 {
@@ -60,10 +67,14 @@ pub fn sheet_of<S: Shelf>(
     office: &mut Office<S>,
     id: InterId,
 ) -> Result<Vec<u8>, Fault>
-    ensures honest { S.is_honest office.new → S.is_honest office.old }
+    // It changes nothing.
+    ensures kept { IsKept S.is_honest S.content S.written S.may_leave office.old office.new }
     // The sheet is that of the set that the office runs, whatever is being drafted.
     ensures sheet { IfOk result (λ text. S.is_honest office.new → (before : OfficeState) → StandForSound (S.content office.old) before →
-        StandForSound (S.content office.new) before × IsSheetOf before id text.items) }
+        IsSheetOf before id text.items) }
+    // Where it fails, the intersection is unknown, memory or the database refused, or a row of it is no record.
+    ensures refused { IfErr result IsFaultOfQuery }
+    ensures damaged { result ≡ Err Fault.Damaged → S.is_honest office.new → MeetsDamage (S.content office.old) (command.Timing id) }
     // An unknown intersection is told where the office has none, and only there.
     ensures fault { IfErr result (λ fault. S.is_honest office.new → (before : OfficeState) → StandForSound (S.content office.old) before →
         TellsUnknown before id fault) }

@@ -1,12 +1,22 @@
-use Rattle.std.proofs.Common.{inr, refl}
+use Rattle.std.proofs.Common.{refl}
+use Rattle.office_http_framing.specs.Front.{plain}
+use Rattle.office_http_framing.proofs.StopLemmas.{deals-answered, deals-refused}
 use Rattle.office_http_framing.proofs.engine.serve_request.Goals as goal
+
+pub returns-in-Ok-clause-step : goal.returns-in-Ok-clause-step
+returns-in-Ok-clause-step g c honest before means =
+    let step = c.in-Ok.ensures.ok honest before means in (
+      c.in-Ok.answer.items,
+      step.0,
+      deals-answered g.M.Machine.protocol g.M.Machine.storage c.args.machine.now c.answer.new.self before (plain c.args.request.now) c.in-Ok.answer.items step.0 step.2 step.1 (c.in-Ok.ensures.settles honest),
+      rw c.deref.ensures.value at c.write_all.ensures.bytes,
+    )
 
 -- what was answered unavailable left the office
 pub returns-in-Err-clause-step : goal.returns-in-Err-clause-step
-returns-in-Err-clause-step g c honest before stands = (
+returns-in-Err-clause-step g c honest before means = (
   g.M.Machine.protocol.unavailable_text,
   before,
-  inr (refl, refl),
-  c.in-Err.ensures.err honest before stands,
+  deals-refused g.M.Machine.protocol g.M.Machine.storage c.args.machine.now c.answer.new.self before (plain c.args.request.now) (c.in-Err.ensures.err honest before means) (c.in-Err.ensures.crash honest before means),
   rw c.unavailable.ensures at c.write_all-in-Err.ensures.bytes,
 )

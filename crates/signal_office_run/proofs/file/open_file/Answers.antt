@@ -1,4 +1,4 @@
-use Rattle.std.proofs.Common.{sym, subst}
+use Rattle.std.proofs.Common.{sym, subst, ◌∙◌}
 use Rattle.std.proofs.lemmas.Result.{IfOk-weaker}
 use Rattle.sqlite.specs.Files.{file_state}
 use Rattle.office_desk.specs.StandFor.{StandForSound}
@@ -8,4 +8,8 @@ pub returns-in-Ok : goal.returns-in-Ok
 returns-in-Ok g c =
     IfOk-weaker c.office_over.result _ _ (λ office it honest before stands.
     let found = c.in-Ok.ensures.found (it honest).0 in
-    subst (λ tables. StandForSound tables before) (sym (it honest).1) (stands (file_state c.in-Ok.conn).committed.trees (record { holds = found.holds; reads = found.reads }))) c.office_over.ensures
+    let stand = subst (λ tables. StandForSound tables before) (sym (it honest).1) (stands (file_state c.in-Ok.conn).committed.trees (record { holds = found.holds; reads = found.reads })) in
+    record {
+      stand = stand;
+      crash = λ tables left. subst (λ t. StandForSound t before) (sym ((it honest).2 left.0 left.1) ∙ left.2) stand;
+    }) c.office_over.ensures

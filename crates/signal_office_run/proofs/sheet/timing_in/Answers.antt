@@ -7,12 +7,12 @@ use Rattle.signal_office_run.proofs.sheet.timing_in.Goals as goal
 
 pub returns-in-Timing-clause-timing : goal.returns-in-Timing-clause-timing
 returns-in-Timing-clause-timing g c = λ honest before stands.
-    timed (g.S.Shelf.content c.ask.new.office) before c.args.id c.in-Timing.timing (c.in-Timing.ensures.step honest before stands)
+    timed (g.S.Shelf.content c.args.office.now) before c.args.id c.in-Timing.timing (c.in-Timing.ensures.step honest before stands)
 
 pub returns-in-Refused-clause-fault : goal.returns-in-Refused-clause-fault
 returns-in-Refused-clause-fault g c = λ honest before stands.
     subst (TellsUnknown before c.args.id) (sym c.from.ensures)
-    (refused_tells (g.S.Shelf.content c.ask.new.office) before c.args.id (command.Timing c.args.id) c.in-Refused.refusal _ refl (λ i e. cc) (c.in-Refused.ensures.step honest before stands))
+    (refused_tells (g.S.Shelf.content c.args.office.now) before c.args.id (command.Timing c.args.id) c.in-Refused.refusal _ refl (λ i e. cc) (c.in-Refused.ensures.step honest before stands))
 
 pub returns-clause-fault : goal.returns-clause-fault
 returns-clause-fault g c = λ honest before stands. store_tells before c.args.id

@@ -1,0 +1,59 @@
+-- How the source is asked while a stream is served.
+use Rattle.std.proofs.Common.{◌≡◌, ℕ, suc, ◌<◌, List, [], ◌∷◌, ◌++◌, drop, refl, subst, ap, sym, ◌∙◌}
+use Rattle.std.specs.Io.KnownBytes.{Consumes}
+use Rattle.office_http_framing.specs.Asks.{Asks, OneRead, OnlyAsks}
+use Rattle.office_http_framing.specs.Ends.{Told, raised}
+use Rattle.office_http_framing.specs.Front.{PlainRequest, BeginsWithRequest, IsIncomplete}
+use Rattle.office_http_framing.specs.Stream.{left_after, BeginsWith, unfinished}
+use Rattle.office_http_framing.proofs.StreamLemmas.{BeginsWith-append, BeginsWith-next}
+
+-- the calls so far gave bytes that begin with some requests and then `held`, and so many more may come
+pub record AsksSoFar {Source : Type 0} (told : Source → Told) (limit left : ℕ) (held : List ℕ) (first source : Source) : Type 0 where
+  pub calls : ℕ
+  pub given : List ℕ
+  pub requests : List PlainRequest
+  pub asks : Asks told limit first calls given source
+  pub begins : BeginsWith limit given requests held left
+
+-- nothing was asked yet
+pub asks-start : {Source : Type 0} (told : Source → Told) (limit : ℕ) (first : Source) → AsksSoFar told limit limit [] first first
+asks-start told limit first = record { calls = 0; given = []; requests = []; asks = (refl, refl); begins = (refl, refl) }
+
+module _ {Source : Type 0} (told : Source → Told) (limit left : ℕ) (held : List ℕ) (first source : Source) (so_far : AsksSoFar told limit left held first source) where
+  -- a request was taken off
+  pub asks-next : (request : PlainRequest) (len left' : ℕ) (held' : List ℕ) → 0 < left → BeginsWithRequest held request len
+      → left_after left request ≡ left' → drop len held ≡ held' → AsksSoFar told limit left' held' first source
+  asks-next request len left' held' some whole same_left same_held =
+      subst (λ h. AsksSoFar told limit left' h first source) same_held
+      (subst (λ l. AsksSoFar told limit l (drop len held) first source) same_left
+      (record {
+        calls = so_far.calls;
+        given = so_far.given;
+        requests = so_far.requests ++ request ∷ [];
+        asks = so_far.asks;
+        begins = BeginsWith-next limit so_far.given so_far.requests held left request len so_far.begins some whole;
+      }))
+
+  -- one call more, while a request is awaited
+  pub asks-more : (next : Source) (piece held' : List ℕ) → 0 < left → IsIncomplete held → Consumes (told source).bytes (told next).bytes piece
+      → (told next).counts.calls ≡ raised (told source).counts.calls → held' ≡ held ++ piece → AsksSoFar told limit left held' first next
+  asks-more next piece held' some incomplete reads counts same_held =
+      subst (λ h. AsksSoFar told limit left h first next) (sym same_held)
+      (record {
+        calls = suc so_far.calls;
+        given = so_far.given ++ piece;
+        requests = so_far.requests;
+        asks = (
+          source,
+          so_far.given,
+          piece,
+          so_far.asks,
+          (so_far.requests, record { rest = held; left = left; begins = so_far.begins; ends = (some, incomplete) }),
+          record { reads = reads; calls = counts },
+          refl,
+        );
+        begins = BeginsWith-append limit so_far.given piece so_far.requests held left so_far.begins;
+      })
+
+  pub only_asks : OnlyAsks told limit first source
+  only_asks = (so_far.calls, so_far.given, so_far.asks)
