@@ -16,10 +16,9 @@ use cabinet_core::{Delivery, Hand, Inspection, Order, PartCode, UsedLine};
 use office_tables_shelf::counts::WriteCounts;
 use office_tables_shelf::rows::{IntersectionRow, RowChange, Table};
 use office_tables_shelf::shelf::{Shelf, ShelfFault};
-use office_tables_sql::schema::{is_blank, is_office};
-use office_tables_sql::{each_row, intersection, intersection_list, part, stored_row, timing};
+use office_tables_sql::{intersection, intersection_list, part, reads, timing};
 use signal_records::{Change, InterId, LineNo, RecordNo, Row};
-use sqlite::{Alter, Connection, FileFrom, FileStore, Start, params};
+use sqlite::{Alter, Connection, FileFrom, FileStore, Start};
 use std::alloc::Global;
 use std::marker::Model;
 
