@@ -1,12 +1,11 @@
 -- The records of an import, one after the other.
-use Rattle.std.proofs.Common.{◌≡◌, ◌≢◌, ◌+◌, ◌++◌, ◌≤◌, ◌<◌, ℕ, Bool, true, false, List, [], ◌∷◌, Option, Some, None, Result, Ok, Err, length, drop, get_or, zero, suc, refl, ap, sym, subst, ◌∙◌, inl, inr, arith}
+use Rattle.std.proofs.Common.{◌≡◌, ◌+◌, ◌++◌, ◌≤◌, ◌<◌, ℕ, Bool, true, false, List, [], ◌∷◌, Option, Some, None, Result, Ok, Err, length, drop, get_or, zero, suc, refl, ap, sym, subst, ◌∙◌, inl, inr, arith}
 use Rattle.std.proofs.Math.Seq.{drop-cons}
 use Rattle.std.specs.Prelude.{◌⊎◌, IsErrAnd}
-use Rattle.std.proofs.lemmas.List.{drop_all}
 use Rattle.cabinet_core.specs.Cabinet.{Line, added as added_line, same as same_line, refused as refused_line}
 use Rattle.cabinet_core.specs.declared.command.RecordCommand.{RecordCommand}
 use Rattle.cabinet_core.specs.declared.command.RecordCommand.TheVariants as register
-use Rattle.office_tables_shelf.specs.Change.{changed, changed_by, table_of}
+use Rattle.office_tables_shelf.specs.Change.{changed, changed_by}
 use Rattle.office_tables_shelf.specs.Content.{Content}
 use Rattle.office_tables_shelf.specs.Counts.{writes_in}
 use Rattle.office_tables_shelf.specs.declared.rows.RowChange.{RowChange}
@@ -15,18 +14,18 @@ use Rattle.office_tables_shelf.specs.declared.rows.Table.TheVariants as table
 use Rattle.office_tables_shelf.specs.declared.shelf.ShelfFault.{ShelfFault}
 use Rattle.office_tables_shelf.specs.declared.shelf.ShelfFault.TheVariants.{NoMemory, Store, Damaged}
 use Rattle.office_desk_cabinet.specs.Register.{Register}
-use Rattle.office_desk_cabinet.specs.Registers.{LeavesTiming, RegistersFrom, line_told, most_record_writes, rows_told}
+use Rattle.office_desk_cabinet.specs.Registers.{RegistersFrom, line_told, most_record_writes, rows_told}
 use Rattle.office_desk_cabinet.specs.RegisterStands.{RegisterStandsSound}
 use Rattle.office_desk_cabinet.specs.RegisterStep.{after_line, after_record, line_at, with_record}
 use Rattle.office_desk_cabinet.specs.declared.registered.Registered.{Registered}
-use Rattle.office_desk.specs.Answers.{Answers, AnswersAny, Decides}
+use Rattle.office_desk.specs.Answers.{AnswersAny, Decides}
 use Rattle.office_desk.specs.Changes.{most_import_writes, most_writes}
 use Rattle.office_desk.specs.Damage.{MeetsCabinetDamage, MeetsImportDamage}
-use Rattle.office_desk.specs.Importing.{ImportsFrom, ImportsAny, LeavesAnyTiming, TakesFrom, TakesRecord, goes_on}
+use Rattle.office_desk.specs.Importing.{ImportsAny, LeavesAnyTiming, TakesFrom, TakesRecord, goes_on}
 use Rattle.office_desk.specs.Office.{Office}
 use Rattle.office_desk.specs.Refusal.{line_of}
 use Rattle.office_desk.specs.StandFor.{StandForSound}
-use Rattle.office_desk.specs.Step.{cabinet_of, import_by, import_from, imported, is_known, with_recorded}
+use Rattle.office_desk.specs.Step.{cabinet_of, import_by, import_from, imported, is_known}
 use Rattle.office_desk.specs.declared.command.Command.TheVariants as command
 use Rattle.office_desk.specs.declared.decided.Decided.{Decided}
 use Rattle.office_desk.specs.declared.importing.Taken.{Taken}

@@ -1,5 +1,5 @@
 -- The table of the intersections has their rows in the order of their numbers, and each is a record.
-use Rattle.std.proofs.Common.{◌≡◌, ℕ, Bool, true, false, List, [], ◌∷◌, map, cond, Option, Some, None, T, Ordering, Less, Equal, Greater, refl, ap, sym, subst, ◌∙◌}
+use Rattle.std.proofs.Common.{◌≡◌, ℕ, true, false, List, [], ◌∷◌, map, cond, Option, Some, None, T, Ordering, Less, Equal, Greater, refl, ap, sym, subst, ◌∙◌}
 use Rattle.std.specs.Prelude.{IfSome}
 use Rattle.std.specs.Option.{option_map}
 use Rattle.std.specs.Int.{IsInRange}

@@ -1,5 +1,5 @@
 -- A step of the transaction leads from a sound timing side to a sound one.
-use Rattle.std.proofs.Common.{◌≡◌, ◌+◌, ◌≤◌, ◌==◌, ℕ, Bool, true, false, List, [], ◌∷◌, cond, Option, Some, None, Result, Ok, Err, refl, ap, sym, subst, ◌∙◌, arith}
+use Rattle.std.proofs.Common.{◌≡◌, ◌+◌, ◌≤◌, ◌==◌, ℕ, true, false, List, [], ◌∷◌, cond, Option, Some, None, Result, Ok, Err, refl, sym, subst, arith}
 use Rattle.std.proofs.lemmas.Bool.Decides.{nat_tests}
 use Rattle.std.specs.Prelude.{IfSome}
 use Rattle.std.specs.Ordering.{eq_by_cmp}
@@ -8,19 +8,19 @@ use Rattle.signal_records.specs.Key.{key_cmp}
 use Rattle.signal_records.specs.KeyOrder.{key_total, key_exact}
 use Rattle.signal_records.specs.Row.{key_of}
 use Rattle.signal_records.specs.TimingSet.{Rows, after_change, after_changes}
-use Rattle.signal_records.specs.Within.{IsRowWithin, IsChangeWithin, current_limits}
+use Rattle.signal_records.specs.Within.{IsRowWithin, current_limits}
 use Rattle.signal_records.specs.Words.{AreWords}
 use Rattle.signal_records.specs.declared.key.Key.{Key}
 use Rattle.signal_records.specs.declared.record.Row.{Row}
 use Rattle.signal_records.specs.declared.record.Change.{Change}
 use Rattle.signal_records.specs.declared.record.Change.TheVariants.{Put, Remove}
 use Rattle.signal_rules.specs.Violations.{violations_of}
-use Rattle.draft_core.specs.Transaction.{TimingSide, Draft, with_draft, begun, begun_from, edited, verified, checked, committed, reopened, abandoned, abandoned_from}
+use Rattle.draft_core.specs.Transaction.{TimingSide, Draft, with_draft, begun_from, edited, verified, checked, committed, reopened, abandoned_from}
 use Rattle.draft_core.specs.declared.revision.TheConstants.{LAST_REVISION}
 use Rattle.draft_core.specs.declared.refusal.DraftRefusal.{DraftRefusal}
 use Rattle.draft_core.specs.declared.refusal.DraftRefusal.TheVariants.{NotNormal, NotTransaction, NotVerify, NotDone}
 use Rattle.draft_core.specs.declared.state.Stage.TheVariants.{Transaction, Verify, Done}
-use Rattle.draft_core.proofs.Sound.{OwnedStep, owned_inverts, committed_inverts}
+use Rattle.draft_core.proofs.Sound.{owned_inverts, committed_inverts}
 use Rattle.office_tables_shelf.proofs.CellLemmas.{tied}
 use Rattle.office_desk.specs.Office.{Intersection, IsSoundIntersection, IsSoundDraft, AreRecords}
 use Rattle.office_desk.specs.Reading.{AreChangesWithin}

@@ -1,5 +1,5 @@
 -- Changes of the intersections and of their timing leave the register as it was.
-use Rattle.std.proofs.Common.{◌≡◌, List, refl, ap, sym, ◌∙◌}
+use Rattle.std.proofs.Common.{◌≡◌, ap, sym, ◌∙◌}
 use Rattle.std.specs.FinMap.{get}
 use Rattle.office_tables_shelf.specs.Cells.{Rows}
 use Rattle.office_tables_shelf.specs.CabinetRows.{part_key}

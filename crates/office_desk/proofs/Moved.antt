@@ -1,5 +1,5 @@
 -- The rows of a move make the tables stand for the office with the next timing side.
-use Rattle.std.proofs.Common.{◌≡◌, ℕ, Bool, true, false, List, [], ◌∷◌, cond, Option, Some, None, refl, ap, sym, subst, ◌∙◌}
+use Rattle.std.proofs.Common.{◌≡◌, ℕ, Bool, true, false, List, [], ◌∷◌, cond, Option, Some, None, refl, ap, sym, ◌∙◌}
 use Rattle.std.proofs.lemmas.Bool.{cases_Bool}
 use Rattle.std.specs.Prelude.{◌⊎◌, IfSome}
 use Rattle.std.proofs.Common.{inl, inr}
@@ -37,7 +37,7 @@ use Rattle.office_desk.specs.StandFor.{StandFor, HasTimingKeys, IsLeft, row_of}
 use Rattle.office_desk.specs.Step.{with_intersection}
 use Rattle.office_desk.proofs.KeptRegister.{KeepsRegister, kept_twice}
 use Rattle.office_desk.proofs.ReadBack.{left_at, left_within}
-use Rattle.office_desk.proofs.Stands.{DiffersAt, RowOf, stand_after}
+use Rattle.office_desk.proofs.Stands.{stand_after}
 
 -- ---- what a table has under the keys of an intersection after one change
 

@@ -13,13 +13,13 @@ use Rattle.office_tables_shelf.specs.declared.rows.RowChange.{RowChange}
 use Rattle.office_tables_shelf.specs.declared.rows.RowChange.TheVariants.{PutIntersection}
 use Rattle.office_desk.specs.Adding.{AddsRow, AreLimited}
 use Rattle.office_desk.specs.Answers.{Answers}
-use Rattle.office_desk.specs.Office.{Office, Intersection, IsSoundIntersection, no_timing, side_of, side_at}
+use Rattle.office_desk.specs.Office.{Office, IsSoundIntersection, no_timing, side_of, side_at}
 use Rattle.office_desk.specs.StandFor.{StandFor, StandForSound, row_of}
 use Rattle.office_desk.specs.Step.{added, new_intersection, with_intersection}
 use Rattle.office_desk.specs.declared.command.Command.TheVariants.{AddIntersection}
 use Rattle.office_desk.specs.declared.reply.Reply.{Reply}
 use Rattle.office_desk.proofs.EmptySet.{no_records, no_violations}
-use Rattle.office_desk.proofs.Stands.{row_read, RowOf, stand_after, sound_with}
+use Rattle.office_desk.proofs.Stands.{row_read, stand_after, sound_with}
 
 new_stands : (tables : Content) (office : Office) (id interval : ℕ) (name : List ℕ) → StandFor tables office → get office.intersections id ≡ None
     → StandFor (changed tables (PutIntersection id (row_of (new_intersection interval name)))) (with_intersection office id (new_intersection interval name))

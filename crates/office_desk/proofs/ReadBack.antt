@@ -13,10 +13,10 @@ use Rattle.signal_records.specs.declared.record.Row.{Row}
 use Rattle.signal_records.specs.declared.record.Change.{Change}
 use Rattle.signal_records.specs.declared.record.Change.TheVariants.{Put, Remove}
 use Rattle.draft_core.specs.DraftRows.{TimingStands, RowStands, row_at, said_at, left_by, changed_key}
-use Rattle.draft_core.specs.Transaction.{TimingSide, holder_of}
+use Rattle.draft_core.specs.Transaction.{TimingSide}
 use Rattle.draft_core.specs.declared.timing.Timing.{Timing}
 use Rattle.office_tables_shelf.specs.Content.{Content}
-use Rattle.office_tables_shelf.specs.Rows.{timing_key, timing_columns, left_columns}
+use Rattle.office_tables_shelf.specs.Rows.{timing_columns, left_columns}
 use Rattle.office_tables_shelf.specs.Shelf.{ReadsIntersection, ListsTiming, ListsDraft}
 use Rattle.office_tables_shelf.specs.declared.rows.IntersectionRow.{IntersectionRow}
 use Rattle.office_tables_shelf.proofs.CellLemmas.{tied}
@@ -24,8 +24,8 @@ use Rattle.office_tables_shelf.proofs.KeyLemmas.{row_in, timing_keys_rise, get_s
 use Rattle.office_tables_shelf.proofs.RowLemmas.{timing_columns_tell, left_columns_tell}
 use Rattle.office_desk.specs.declared.reading.Found.{Found}
 use Rattle.office_desk.specs.Office.{Office, Intersection, side_at, side_of}
-use Rattle.office_desk.specs.Reading.{AreWithin, AreChangesWithin, IsMadeOf, FoundStands, Finds, set_of_rows}
-use Rattle.office_desk.specs.StandFor.{StandForSound, DraftRowStands, IsLeft, row_of}
+use Rattle.office_desk.specs.Reading.{AreWithin, AreChangesWithin, IsMadeOf, Finds, set_of_rows}
+use Rattle.office_desk.specs.StandFor.{StandForSound, IsLeft, row_of}
 use Rattle.office_desk.proofs.Stands.{row_read, records_at}
 
 -- ---- the committed set

@@ -20,8 +20,7 @@ use Rattle.office_desk.specs.Answers.{Answers}
 use Rattle.office_desk.specs.Office.{Office, Intersection}
 use Rattle.office_desk.specs.Recording.{IsKnownIn}
 use Rattle.office_desk.specs.StandFor.{StandForSound, row_of}
-use Rattle.office_desk.specs.Step.{answered, cabinet_of, cabinet_shown, is_known, known, recorded, recorded_at, shown, told}
-use Rattle.office_desk.specs.declared.command.Command.{Command}
+use Rattle.office_desk.specs.Step.{cabinet_of, cabinet_shown, is_known, known, recorded, recorded_at, shown, told}
 use Rattle.office_desk.specs.declared.command.Command.TheVariants as command
 use Rattle.office_desk.specs.declared.refusal.Refusal.TheVariants as refusal
 use Rattle.office_desk.specs.declared.reply.Reply.{Reply}

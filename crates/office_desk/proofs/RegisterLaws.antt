@@ -1,5 +1,5 @@
 -- Over a run the register takes the records that were accepted, and no others: so its orders are open as they say, and its stock is theirs.
-use Rattle.std.proofs.Common.{◌≡◌, ◌⊎◌, inl, inr, ℕ, ◌+◌, Bool, true, false, cond, List, [], ◌∷◌, ◌++◌, Option, Some, None, Result, Ok, Err, refl, ap, sym, subst, ◌∙◌}
+use Rattle.std.proofs.Common.{◌≡◌, inl, inr, ℕ, ◌+◌, Bool, true, false, cond, List, [], ◌∷◌, ◌++◌, Option, Some, None, Result, Ok, Err, refl, ap, sym, subst, ◌∙◌}
 use Rattle.std.specs.FinMap.{get}
 use Rattle.cabinet_core.specs.Cabinet.{Line, added as added_line, same as same_line, refused as refused_line}
 use Rattle.cabinet_core.specs.declared.command.RecordCommand.{RecordCommand}
@@ -12,12 +12,11 @@ use Rattle.office_desk_cabinet.proofs.RecordLaws.{open_law, stock_law}
 use Rattle.office_desk.specs.Office.{Office, Intersection, IsSound}
 use Rattle.office_desk.proofs.Imports.{import_goes_on}
 use Rattle.office_desk.specs.RegisterRuns.{is_accepted, records_asked, accepted_of, accepted, new_by, new_among, RegisterRuns}
-use Rattle.office_desk.specs.Step.{Step, Run, answered, added, moved, transacted, told, recorded, recorded_at, known, cabinet_of, is_known, with_recorded, import_by, import_from, imported}
+use Rattle.office_desk.specs.Step.{Step, Run, answered, added, moved, transacted, told, recorded, recorded_at, known, cabinet_of, is_known, with_recorded, import_from, imported}
 use Rattle.office_desk.specs.declared.command.Command.{Command}
 use Rattle.office_desk.specs.declared.command.Command.TheVariants as command
 use Rattle.office_desk.specs.declared.refusal.Refusal.{Refusal}
 use Rattle.office_desk.specs.declared.reply.Reply.{Reply}
-use Rattle.office_desk.specs.declared.reply.Reply.TheVariants.{Imported, Refused}
 
 -- ---- one step
 

@@ -4,7 +4,7 @@ use Rattle.std.specs.Prelude.{◌⊎◌, ◌==◌, ◌&&◌}
 use Rattle.std.proofs.lemmas.Bool.Decides.{nat_tests}
 use Rattle.std.proofs.lemmas.Bool.{cases_Bool}
 use Rattle.std.specs.Option.{option_map}
-use Rattle.std.specs.FinMap.{get, insert, get-insert}
+use Rattle.std.specs.FinMap.{get, get-insert}
 use Rattle.std.specs.Cmp.{nat_cmp_total}
 use Rattle.std.specs.Ordering.{nat_cmp, eq_by_cmp}
 use Rattle.signal_records.specs.TimingSet.{Rows}
@@ -16,18 +16,16 @@ use Rattle.draft_core.specs.declared.refusal.DraftRefusal.TheVariants.{NotNormal
 use Rattle.draft_core.specs.declared.revision.TheConstants.{LAST_REVISION}
 use Rattle.draft_core.specs.declared.state.Stage.{Stage}
 use Rattle.draft_core.specs.declared.state.Stage.TheVariants.{Transaction}
-use Rattle.office_desk.specs.Office.{Office, Intersection, no_timing, side_of, side_at}
+use Rattle.office_desk.specs.Office.{Office, Intersection, side_of, side_at}
 use Rattle.cabinet_core.specs.declared.command.RecordCommand.{RecordCommand}
 use Rattle.office_desk_cabinet.specs.RegisterStep.{line_at}
-use Rattle.office_desk.specs.Step.{Step, Run, answered, added, moved, transacted, with_intersection, new_intersection, moved_to, cabinet_of, known, recorded, recorded_at, is_known, with_recorded, import_by, import_from, imported}
+use Rattle.office_desk.specs.Step.{Step, Run, answered, added, moved, transacted, with_intersection, new_intersection, cabinet_of, known, recorded, recorded_at, is_known, with_recorded, import_from, imported}
 use Rattle.office_desk.specs.Timing.{is_commit_of, is_moved, set_of_draft, running}
 use Rattle.office_desk.specs.declared.command.Command.{Command}
 use Rattle.office_desk.specs.declared.command.Command.TheVariants as command
 use Rattle.office_desk.proofs.Imports.{import_goes_on}
 use Rattle.office_desk.specs.declared.reply.Reply.{Reply}
-use Rattle.office_desk.specs.declared.reply.Reply.TheVariants as reply
 use Rattle.office_desk.specs.declared.refusal.Refusal.{Refusal}
-use Rattle.office_desk.specs.declared.refusal.Refusal.TheVariants as refusal
 
 -- ---- the lines of the table
 

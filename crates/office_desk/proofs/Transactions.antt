@@ -1,15 +1,13 @@
 -- What a command of the transaction answers, on what was found, is a step of the office.
-use Rattle.std.proofs.Common.{◌≡◌, ◌≢◌, ◌⊎◌, ◌+◌, ◌≤◌, ℕ, Bool, true, false, List, [], ◌∷◌, length, cond, Option, Some, None, Result, Ok, Err, refl, ap, sym, subst, ◌∙◌, inl, inr, arith}
-use Rattle.std.specs.Prelude.{IfSome, IfOk, OnErr, map}
+use Rattle.std.proofs.Common.{◌≡◌, ◌≢◌, ◌+◌, ◌≤◌, ℕ, false, List, [], ◌∷◌, length, Option, Some, None, Result, Ok, Err, refl, ap, sym, subst, ◌∙◌, inl, inr, arith}
+use Rattle.std.specs.Prelude.{IfSome, IfOk, OnErr}
 use Rattle.std.specs.FinMap.{get}
 use Rattle.std.specs.Int.{IsInRange}
 use Rattle.std.proofs.lemmas.List.{length-map}
 use Rattle.signal_records.specs.Words.{AreWords}
-use Rattle.signal_records.specs.declared.record.Change.{Change}
 use Rattle.signal_records.specs.declared.record.Change.TheVariants.{Put, Remove}
-use Rattle.signal_rules.specs.Violations.{violations_of}
 use Rattle.draft_core.specs.Moves.{Follows, FollowsSoundLine, Makes, timing_writes, draft_writes}
-use Rattle.draft_core.specs.Transaction.{TimingSide, state_of, verdict_of}
+use Rattle.draft_core.specs.Transaction.{TimingSide}
 use Rattle.draft_core.specs.declared.refusal.DraftRefusal.{DraftRefusal}
 use Rattle.draft_core.specs.declared.refusal.DraftRefusal.TheVariants as draft
 use Rattle.draft_core.specs.declared.timing.Move.{Move}
@@ -17,7 +15,6 @@ use Rattle.draft_core.specs.declared.timing.TimingChange.{TimingChange}
 use Rattle.draft_core.specs.declared.timing.TimingChange.TheVariants.{Committed, Drafted, DraftGone}
 use Rattle.office_tables_shelf.specs.Change.{changed_by}
 use Rattle.office_tables_shelf.specs.Content.{Content}
-use Rattle.office_tables_shelf.specs.Rows.{draft_key, draft_columns}
 use Rattle.office_tables_shelf.specs.Shelf.{ListsDraft, rows_of}
 use Rattle.office_tables_shelf.specs.declared.rows.RowChange.{RowChange}
 use Rattle.office_tables_shelf.specs.declared.rows.RowChange.TheVariants.{PutIntersection}
@@ -29,13 +26,12 @@ use Rattle.office_desk.specs.Answers.{Answers, AnswersAny, Decides}
 use Rattle.office_desk.specs.Changes.{IsRefused, most_intersection_writes, most_writes}
 use Rattle.office_tables_shelf.specs.Counts.{is_same_table, writes_in}
 use Rattle.office_desk.specs.Damage.{HasDamage, MeetsDamage}
-use Rattle.office_desk.specs.Moving.{WritesMove, WritesDecision, moved_row, row_change_of, row_changes_of}
+use Rattle.office_desk.specs.Moving.{WritesMove, WritesDecision, moved_row, row_changes_of}
 use Rattle.office_desk.specs.Office.{Office, Intersection, IsSoundIntersection}
 use Rattle.office_desk.specs.Reading.{FoundStands, Finds, FindsAny}
 use Rattle.office_desk.specs.StandFor.{StandForSound}
 use Rattle.office_desk.specs.Step.{answered, transacted, moved, moved_to, refusal_of_draft, with_intersection}
 use Rattle.office_desk.specs.Transacting.{command_of, line_of, IsAskWithin, IsBounded, most_committed, most_drafted}
-use Rattle.office_desk.specs.declared.command.Command.{Command}
 use Rattle.office_desk.specs.declared.decided.Decided.{Decided}
 use Rattle.office_desk.specs.declared.reading.Found.{Found}
 use Rattle.office_desk.specs.declared.refusal.Refusal.TheVariants as refusal
@@ -43,7 +39,7 @@ use Rattle.office_desk.specs.declared.reply.Reply.{Reply}
 use Rattle.office_desk.specs.declared.reply.Reply.TheVariants.{Moved, Refused}
 use Rattle.office_desk.specs.declared.transacting.Ask.{Ask}
 use Rattle.office_desk.specs.declared.transacting.Ask.TheVariants.{Begin, Edit, Verify, Check, Commit, Reopen, Abandon}
-use Rattle.office_desk.proofs.Keeps.{IsSoundSide, line_keeps, side_sound, sound_intersection}
+use Rattle.office_desk.proofs.Keeps.{line_keeps, side_sound, sound_intersection}
 use Rattle.office_desk.proofs.Moved.{move_stands, with_timing_side}
 use Rattle.office_desk.proofs.Stands.{sound_with}
 

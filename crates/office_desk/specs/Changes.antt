@@ -1,6 +1,5 @@
 -- Which rows an answered command changes.
 use Rattle.std.specs.Prelude.{ℕ, ◌+◌, ◌≤◌, List, [], ◌∷◌, length}
-use Rattle.signal_records.specs.declared.record.Change.{Change}
 use Rattle.office_tables_shelf.specs.Content.{Content}
 use Rattle.office_tables_shelf.specs.Counts.{count_of}
 use Rattle.office_tables_shelf.specs.Shelf.{rows_of}

@@ -1,18 +1,11 @@
 -- What a decision on the row that was read gives.
-use Rattle.std.specs.Prelude.{◌≡◌, ℕ, List, [], ◌∷◌, ◌==◌, ◌&&◌, if◌then◌else◌, Option, Some, None}
+use Rattle.std.specs.Prelude.{◌≡◌, ℕ, Some}
 use Rattle.std.specs.Option.{option_map}
-use Rattle.std.specs.Str.{bytes_eq}
-use Rattle.draft_core.specs.declared.state.DbState.{DbState}
-use Rattle.draft_core.specs.declared.state.DbState.TheVariants.{Normal, Transaction, Verify, Done}
 use Rattle.draft_core.specs.declared.state.Holder.{Holder}
-use Rattle.draft_core.specs.declared.state.Stage.{Stage}
-use Rattle.draft_core.specs.declared.state.Stage.TheVariants.{Transaction as InTransaction, Verify as InVerify, Done as InDone}
 use Rattle.draft_core.specs.declared.state.Verdict.{Verdict}
 use Rattle.draft_core.specs.Transaction.{TimingSide, state_of_holder, verdict_of}
 use Rattle.draft_core.specs.DraftRows.{TimingStands}
 use Rattle.office_tables_shelf.specs.declared.rows.IntersectionRow.{IntersectionRow}
-use Rattle.office_tables_shelf.specs.declared.rows.RowChange.{RowChange}
-use Rattle.office_tables_shelf.specs.declared.rows.RowChange.TheVariants.{PutIntersection}
 use Rattle.office_tables_shelf.specs.declared.shelf.ShelfFault.{ShelfFault}
 use Rattle.office_tables_shelf.specs.declared.shelf.ShelfFault.TheVariants.{NoMemory, Store, Damaged as StoredDamaged}
 use Rattle.std.specs.FinMap.{get}
@@ -20,10 +13,9 @@ use Rattle.office_tables_shelf.specs.Content.{Content}
 use Rattle.office_desk.specs.declared.reading.Found.{Found}
 use Rattle.office_desk.specs.declared.reply.IntersectionState.{IntersectionState}
 use Rattle.office_desk.specs.declared.reply.Reply.{Reply}
-use Rattle.office_desk.specs.declared.reply.Reply.TheVariants.{Added, Same, Refused}
 use Rattle.office_desk.specs.declared.refusal.Refusal.{Refusal}
-use Rattle.office_desk.specs.declared.refusal.Refusal.TheVariants.{IntersectionDiffers, Unavailable, Damaged}
-use Rattle.office_desk.specs.Office.{Office, Intersection, IsSoundIntersection}
+use Rattle.office_desk.specs.declared.refusal.Refusal.TheVariants.{Unavailable, Damaged}
+use Rattle.office_desk.specs.Office.{Office, Intersection}
 use Rattle.office_desk.specs.StandFor.{StandForSound, row_of}
 use Rattle.office_desk.specs.Step.{draft_shown}
 

@@ -6,7 +6,7 @@ use Rattle.signal_records.specs.Row.{key_of}
 use Rattle.signal_records.specs.Within.{IsRowWithin, IsKeyWithin, current_limits}
 use Rattle.signal_records.specs.declared.key.Key.{Key}
 use Rattle.signal_records.specs.declared.record.Row.{Row}
-use Rattle.draft_core.specs.Transaction.{Draft, holder_of}
+use Rattle.draft_core.specs.Transaction.{holder_of}
 use Rattle.draft_core.specs.DraftRows.{RowStands}
 use Rattle.office_tables_shelf.specs.Cells.{Cell, Rows, tree_rows}
 use Rattle.office_tables_shelf.specs.Content.{Content}

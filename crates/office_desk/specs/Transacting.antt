@@ -1,6 +1,5 @@
 -- The commands of the transaction on one intersection.
 use Rattle.std.specs.Prelude.{ℕ, ◌≤◌, List, length, Result}
-use Rattle.signal_records.specs.declared.record.Change.{Change}
 use Rattle.draft_core.specs.Moves.{timing_writes, draft_writes}
 use Rattle.draft_core.specs.Transaction.{TimingSide, begun, edited, verified, checked, committed, reopened, abandoned}
 use Rattle.draft_core.specs.declared.refusal.DraftRefusal.{DraftRefusal}

@@ -11,7 +11,7 @@ use Rattle.cabinet_core.specs.declared.record.Delivery.{Delivery}
 use Rattle.office_tables_shelf.specs.Cells.{Cell, cells_cmp}
 use Rattle.office_tables_shelf.specs.CabinetRows.{inspection_columns, order_columns, used_columns, delivery_columns, part_key, part_columns}
 use Rattle.office_tables_shelf.specs.Content.{Content, no_content}
-use Rattle.office_desk_cabinet.specs.Register.{Register, no_register, brought, taken, delivered, used, was_delivered, pieces, hand_of, IsInspectionAt, IsOrderAt, IsLineAt, IsDeliveryAt}
+use Rattle.office_desk_cabinet.specs.Register.{no_register, brought, taken, delivered, used, was_delivered, pieces, hand_of, IsInspectionAt, IsOrderAt, IsLineAt, IsDeliveryAt}
 use Rattle.office_desk_cabinet.specs.RegisterStands.{RegisterStandsSound}
 
 no_items : {X : Type 0} (xs : List X) → length xs ≡ 0 → xs ≡ []

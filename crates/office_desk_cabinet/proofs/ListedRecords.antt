@@ -1,5 +1,5 @@
 -- A list that was read from tables that stand for a sound register is that of the register.
-use Rattle.std.proofs.Common.{◌≡◌, ◌⊎◌, inl, inr, ℕ, pos, Bool, true, false, ◌&&◌, List, [], ◌∷◌, map, cond, Option, None, Some, option_map, T, refl, sym, ap, subst, ◌∙◌}
+use Rattle.std.proofs.Common.{◌≡◌, ℕ, pos, Bool, true, false, ◌&&◌, List, [], ◌∷◌, map, cond, Option, None, Some, option_map, T, refl, sym, ap, subst, ◌∙◌}
 use Rattle.std.specs.FinMap as finite
 use Rattle.std.specs.FinMap.{get, entries, entries_sorted, get-entries}
 use Rattle.std.specs.FinMap.Entries.{is_sorted, below_all, where_key, same_entries}

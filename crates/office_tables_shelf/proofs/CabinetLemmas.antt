@@ -1,5 +1,5 @@
 -- Trees of the cabinet's records: each stays under its own key, and those of an intersection are listed in order.
-use Rattle.std.proofs.Common.{◌≡◌, ◌⊎◌, inl, inr, ℕ, pos, ◌==◌, Bool, true, false, eqb, eqb-true, List, [], ◌∷◌, map, if◌then◌else◌, Option, Some, None, option_map, Ordering, nat_cmp, refl, sym, ap, subst, subst₂, ◌∙◌, arith}
+use Rattle.std.proofs.Common.{◌≡◌, ◌⊎◌, inl, inr, ℕ, pos, ◌==◌, true, false, eqb, eqb-true, List, [], ◌∷◌, map, if◌then◌else◌, Option, Some, None, option_map, Ordering, nat_cmp, refl, sym, ap, subst, subst₂, ◌∙◌, arith}
 use Rattle.std.proofs.lemmas.Bool.{cases_Bool}
 use Rattle.std.proofs.lemmas.Bool.Decides.{nat_tests}
 use Rattle.std.proofs.lemmas.Map.Entries.{entries_from_clone}

@@ -29,7 +29,7 @@ pub(crate) fn latest(inspections: &[Inspection]) -> Option<Day>
     latest
 }
 
-/// Adds the row of an intersection that was last inspected on this day, if it is overdue on the day.
+/// Adds the row of an intersection that was last inspected on this day, if it is overdue on a day.
 pub(crate) fn add_overdue(
     found: &mut Vec<OverdueRow>,
     day: Day,

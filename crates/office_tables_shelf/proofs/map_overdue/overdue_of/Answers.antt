@@ -2,7 +2,6 @@ use Rattle.std.proofs.Common.{◌≡◌, ◌∙◌, ◌++◌, [], ◌∷◌, Lis
 use Rattle.std.specs.FinMap.{entries}
 use Rattle.cabinet_core.specs.Overdue.{listed, overdue_list}
 use Rattle.cabinet_core.specs.declared.inspections.OverdueRow.{OverdueRow}
-use Rattle.office_tables_shelf.specs.Content.{Content}
 use Rattle.office_tables_shelf.specs.Overdue.{ReadsLast, seen_row}
 use Rattle.office_tables_shelf.specs.Shelf.{ListsIntersections, rows_of}
 use Rattle.office_tables_shelf.proofs.OverdueLemmas.{seen_length, seen_at, overdue_more, still_short, enough_found, all_found}

@@ -1,6 +1,6 @@
 use Rattle.std.proofs.Common.{rules, ◌≡◌, ◌∙◌}
 use Rattle.office_tables_shelf.specs.MapCabinet.{inspection_rows, order_rows, used_rows, part_rows, delivery_rows}
-use Rattle.office_tables_shelf.specs.MapShelf.{ShelfView, intersection_rows, timing_rows, draft_rows}
+use Rattle.office_tables_shelf.specs.MapShelf.{intersection_rows, timing_rows, draft_rows}
 use Rattle.office_tables_shelf.specs.contracts.map_shelf.MapShelf.{the_view}
 use Rattle.office_tables_shelf.proofs.CabinetLemmas.{same_clones}
 use Rattle.office_tables_shelf.proofs.map_shelf.MapShelf.copy.Goals as goal

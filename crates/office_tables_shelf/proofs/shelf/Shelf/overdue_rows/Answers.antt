@@ -1,4 +1,4 @@
-use Rattle.std.proofs.Common.{◌≡◌, ◌++◌, ◌∙◌, [], ◌∷◌, Err, inr, List, ap, arith, length, map, subst, sym}
+use Rattle.std.proofs.Common.{◌≡◌, ◌++◌, [], ◌∷◌, Err, inr, List, ap, arith, length, map, subst, sym}
 use Rattle.std.proofs.lemmas.Result.{err_from_is_err_and}
 use Rattle.cabinet_core.specs.Overdue.{listed, overdue_list}
 use Rattle.cabinet_core.specs.declared.inspections.OverdueRow.{OverdueRow}
