@@ -1,17 +1,16 @@
 -- A text that opens no object is none.
-use Rattle.std.proofs.Common.{◌≡◌, ℕ, zero, suc, List, [], ◌∷◌, Bool, true, false, cond, ◌==◌, Option, Some, None, length, IfSome, option_map, Err, refl, arith}
+use Rattle.std.proofs.Common.{◌≡◌, ℕ, zero, suc, List, [], ◌∷◌, Bool, true, false, cond, ◌==◌, Option, Some, None, length, IfSome, option_map, refl, arith}
 use Rattle.std.specs.Option.{option_and_then}
 use Rattle.std.proofs.lemmas.Bool.Decides.{nat_tests}
 use Rattle.json.specs.Token.{Token, begin_object, end_object, begin_array, end_array, key, string, number, boolean, null, bad}
 use Rattle.json.specs.Text.{content, plain}
-use Rattle.json.specs.Lex.{Lexeme, token, comma, colon, Mode, between, quote, backslash, operator, space, other, class, operator_lexeme, string_token, lex, lex_byte, Place, fresh, begins_colon, place_token, punctuate, tokens}
+use Rattle.json.specs.Lex.{Lexeme, token, comma, colon, between, quote, backslash, operator, space, other, operator_lexeme, string_token, lex, lex_byte, Place, fresh, place_token, punctuate, tokens}
 use Rattle.json.specs.Ascii as ascii
-use Rattle.json.specs.Word.{is_operator, is_space, head, after_number, word, literal, number_before}
+use Rattle.json.specs.Word.{is_space, head, after_number, word, literal, number_before}
 use Rattle.json.specs.Json as json
 use Rattle.serde_json.specs.Data.{Data, Num, Items, Members}
 use Rattle.serde_json.specs.Data as read_data
 use Rattle.serde_json.specs.Read.{read, of_json, number_of, of_items}
-use Rattle.office_http_fields.specs.declared.ask.AskFault.TheVariants.{Json}
 use Rattle.office_http_fields.specs.Bodies.{object_in, opens_object}
 
 abbrev is_open : Token → Bool

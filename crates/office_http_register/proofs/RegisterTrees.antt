@@ -1,5 +1,5 @@
 -- No tree of the register has a float.
-use Rattle.std.proofs.Common.{◌≡◌, ℕ, List, false, Option, Some, None, option_map, refl, ℤ, pos, negsuc}
+use Rattle.std.proofs.Common.{◌≡◌, ℕ, List, false, option_map, refl, ℤ, pos, negsuc}
 use Rattle.serde_json.specs.Written.{has_float}
 use Rattle.cabinet_core.specs.Overdue.{Listed}
 use Rattle.cabinet_core.specs.declared.record.Closing.{Closing}

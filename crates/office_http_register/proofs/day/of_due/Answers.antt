@@ -1,4 +1,4 @@
-use Rattle.std.proofs.Common.{refl, arith, ℤ, pos, ◌≤ℤ◌}
+use Rattle.std.proofs.Common.{refl, arith, pos, ◌≤ℤ◌}
 use Rattle.jiff.specs.Words.{epoch_day}
 use Rattle.jiff_core.proofs.SignedLemmas.{signed_arith}
 use Rattle.office_http_register.proofs.DueLemmas.{due_tree-is_text}
