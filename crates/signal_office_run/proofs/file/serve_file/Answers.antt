@@ -1,3 +1,4 @@
+use Rattle.office_http.proofs.StreamLaws.{keeps_laws}
 use Rattle.signal_office_run.proofs.file.serve_file.Goals as goal
 
 pub returns-clause-did : goal.returns-clause-did
@@ -6,3 +7,6 @@ returns-clause-did g c honest before stand =
     let opened = c.in_ok-office.ensures (it.honest honest) before stand in
     let served = it.did honest before opened.stand in
     (c.in_ok-office.office, served.0, opened, served.1, served.2)
+
+pub returns-in_err-office-clause-laws : goal.returns-in_err-office-clause-laws
+returns-in_err-office-clause-laws g c = keeps_laws
