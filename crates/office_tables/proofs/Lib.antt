@@ -1,7 +1,6 @@
 mod VersionLemmas
 mod StatementLemmas
 mod BlankLemmas
-mod KeyReads
 mod ArrangedLemmas
 mod OpenLemmas
 mod VacantLemmas
