@@ -1,14 +1,14 @@
 //! The office over the tables of a database in a file.
 
 ghost use Rattle.std.specs.Prelude.{◌≡◌, ◌≢◌, ◌≤◌, ◌+◌, ◌*◌, ℕ, List, None, Ok, IfOk, IfErr, IfSome};
-ghost use Rattle.sqlite.specs.Files.{file_state};
+ghost use Rattle.sqlite.specs.Files.{file_state, over_files};
 ghost use Rattle.sqlite.specs.Start.{FindsIn};
 ghost use Rattle.sqlite.specs.State.{HasCleanDisk};
 ghost use Rattle.sqlite.specs.WalFiles.{image_at};
 ghost use Rattle.office_tables.specs.Calls.{IsHonest};
 ghost use Rattle.office_tables.specs.Stored.{content_now, content_of};
 ghost use Rattle.office_tables.specs.SqlShelf.{SqlView};
-ghost use Rattle.office_tables.specs.Opening.{HasOtherVersion, HasRowsAlone};
+ghost use Rattle.office_tables.specs.Opening.{HasOtherVersion, HasRowsAlone, IsOpened};
 ghost use Rattle.office_desk.specs.Office.{IsSound, Office as OfficeState};
 ghost use Rattle.office_desk.specs.StandFor.{StandForSound};
 ghost use Rattle.office_http.specs.Laws.{KeepsLaws};
@@ -39,10 +39,7 @@ fn open_tables<S: Start>(
     conn: Connection<FileStore<FileFrom<S>>>,
 ) -> Result<FileOffice<S>, (Fault, Option<Connection<FileStore<FileFrom<S>>>>)>
     requires { HasCleanDisk (file_state conn) → FindsIn (image_at S.Start) (file_state conn) }
-    ensures honest { IfOk result (λ office. IsHonest (file_state office.conn) → HasCleanDisk (file_state conn)) }
-    ensures kept { IfOk result (λ office. IsHonest (file_state office.conn) → content_now (file_state office.conn) ≡ content_of (file_state conn).committed.trees) }
-    // A crash leaves these tables, and nothing else.
-    ensures crash { IfOk result (λ office. IsHonest (file_state office.conn) → (trees : _) → (file_state office.conn).may_leave trees → content_of trees ≡ content_now (file_state office.conn)) }
+    ensures opened { IfOk result (λ office. IsOpened over_files conn office) }
     ensures unreached { IfErr result (λ e. e.1 ≡ None → (e.0 ≢ Fault.Version) × (e.0 ≢ Fault.Damaged)) }
     ensures version { IfErr result (λ e. e.0 ≡ Fault.Version → IfSome e.1 (λ c. IsHonest (file_state c) → HasOtherVersion (file_state conn).committed.trees)) }
     ensures damaged { IfErr result (λ e. e.0 ≡ Fault.Damaged → IfSome e.1 (λ c. IsHonest (file_state c) → HasRowsAlone (file_state conn).committed.trees)) }
@@ -59,9 +56,7 @@ fn office_over<S: Start>(
     conn: Connection<FileStore<FileFrom<S>>>,
 ) -> Result<FileOffice<S>, Fault>
     requires { HasCleanDisk (file_state conn) → FindsIn (image_at S.Start) (file_state conn) }
-    ensures { IfOk result (λ office. IsHonest (file_state office.conn) →
-        HasCleanDisk (file_state conn) × (content_now (file_state office.conn) ≡ content_of (file_state conn).committed.trees)
-        × ((trees : _) → (file_state office.conn).may_leave trees → content_of trees ≡ content_now (file_state office.conn))) }
+    ensures opened { IfOk result (λ office. IsOpened over_files conn office) }
 {
     match open_tables(alloc, conn) {
         Ok(office) => Ok(office),

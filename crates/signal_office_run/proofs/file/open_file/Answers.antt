@@ -7,9 +7,9 @@ use Rattle.signal_office_run.proofs.file.open_file.Goals as goal
 pub returns-in-Ok : goal.returns-in-Ok
 returns-in-Ok g c =
     IfOk-weaker c.office_over.result _ _ (λ office it honest before stands.
-    let found = c.in-Ok.ensures.found (it honest).0 in
-    let stand = subst (λ tables. StandForSound tables before) (sym (it honest).1) (stands (file_state c.in-Ok.conn).committed.trees (record { holds = found.holds; reads = found.reads })) in
+    let found = c.in-Ok.ensures.found (it.honest honest) in
+    let stand = subst (λ tables. StandForSound tables before) (sym (it.kept honest)) (stands (file_state c.in-Ok.conn).committed.trees (record { holds = found.holds; reads = found.reads })) in
     record {
       stand = stand;
-      crash = λ tables left. subst (λ t. StandForSound t before) (sym ((it honest).2 left.0 left.1) ∙ left.2) stand;
-    }) c.office_over.ensures
+      crash = λ tables left. subst (λ t. StandForSound t before) (sym (it.crash honest left.0 left.1) ∙ left.2) stand;
+    }) c.office_over.ensures.opened

@@ -10,4 +10,4 @@ use Rattle.signal_office_run.proofs.memory.open_in_memory.Goals as goal
 pub returns : goal.returns
 returns c = nothing_stands _ (
     ap (λ (shelf : SqlView MemStore). content_now (state over_memory shelf.conn)) c.new.ensures
-    ∙ c.in_ok-shelf.ensures.made (memory_is_honest c.in_ok-shelf.shelf.conn) c.in_ok-conn.ensures.empty.2)
+    ∙ c.in_ok-shelf.ensures.opened.made (memory_is_honest c.in_ok-shelf.shelf.conn) c.in_ok-conn.ensures.empty.2)
