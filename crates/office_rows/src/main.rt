@@ -1,5 +1,5 @@
 //! Plays the row files of the working folder: each over maps, over a database in memory and over one
-//! in files, with its streams whole and in single bytes. It prints a line for each row, and ends with
+//! in files, with its streams whole or in single bytes. It prints a line for each row, and ends with
 //! status 1 where one is not as told.
 #![tactic(auto)]
 
@@ -54,26 +54,23 @@ impl Stage<'_> {
         Ok(true)
     }
 
-    /// Plays the row over all tables that it is for.
-    fn play_cut(&self, rt: &HostRuntime, cut: Cut) -> Result<bool, Fault> {
-        let alloc = rt.alloc();
-        let in_maps = self.row.needs_sql()
-            || self.play_over(rt, "maps", Some(Maps::new(alloc)), cut)?;
-        let in_sql = self.play_over(rt, "a database in memory", in_memory(alloc), cut)?;
-        let on_disk = self.play_over(rt, "a database in files", in_files(alloc), cut)?;
-        Ok(in_maps && in_sql && on_disk)
-    }
-
-    /// Plays the row in all ways. A row that runs the program is played once, since runs read and
-    /// write files.
+    /// Plays the row whole over maps and over a database in memory, and in single bytes over maps and
+    /// over a database in files. One whose tables another hand changes is played in memory alone, and
+    /// one that runs the program once, since runs read and write files.
     fn play_all_ways(&self, rt: &HostRuntime) -> Result<bool, Fault> {
+        let alloc = rt.alloc();
         if self.row.runs() > 0 {
-            let tables = Some(Maps::new(rt.alloc()));
+            let tables = Some(Maps::new(alloc));
             return self.play_over(rt, "the program", tables, Cut::Whole);
         }
-        let whole = self.play_cut(rt, Cut::Whole)?;
-        let in_bytes = self.play_cut(rt, Cut::SingleBytes)?;
-        Ok(whole && in_bytes)
+        let memory = self.play_over(rt, "a database in memory", in_memory(alloc), Cut::Whole)?;
+        if self.row.needs_sql() {
+            return Ok(memory);
+        }
+        let whole = self.play_over(rt, "maps", Some(Maps::new(alloc)), Cut::Whole)?;
+        let bytes = self.play_over(rt, "maps", Some(Maps::new(alloc)), Cut::SingleBytes)?;
+        let files = self.play_over(rt, "a database in files", in_files(alloc), Cut::SingleBytes)?;
+        Ok(memory && whole && bytes && files)
     }
 
     /// Plays the row, and says that it is as told if it is.
