@@ -26,6 +26,7 @@ fn sent(rt: &HostRuntime, listener: &TcpListener) -> io::Result<TcpStream> {
 #[test]
 fn each_connection_is_served_once(rt: HostRuntime) -> Result<(), Fail> {
     let alloc = rt.alloc();
+    let answers = ANSWERS.as_slice();
     let here = SocketAddr::from((Ipv4Addr::LOCALHOST, 0));
     let listener = TcpListener::bind(&rt, here)?;
     let first = sent(&rt, &listener)?;
@@ -33,9 +34,9 @@ fn each_connection_is_served_once(rt: HostRuntime) -> Result<(), Fail> {
     let mut office = Office::new(MapShelf::new(alloc));
     assert!(rt; serve_on(alloc, &listener, 2, &mut office).is_ok());
     let text = io::read_to_string(alloc, first)?;
-    assert_eq!(rt; text.as_bytes(), &ANSWERS[..273]);
+    assert_eq!(rt; text.as_bytes(), &answers[..273]);
     let text = io::read_to_string(alloc, second)?;
     let rest = text.as_str().strip_prefix(SAME).ok_or("another answer")?;
-    assert_eq!(rt; rest.as_bytes(), &ANSWERS[89..273]);
+    assert_eq!(rt; rest.as_bytes(), &answers[89..273]);
     Ok(())
 }
