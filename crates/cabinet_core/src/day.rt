@@ -14,7 +14,7 @@ use std::alloc::Global;
 use std::marker::Model;
 
 /// A day from 1970-01-01 to 2199-12-31. It is seen as its number, 0 to 84,005.
-#[derive(Clone, Copy, Debug, PartialEq, Eq, PartialOrd, Ord)]
+#[derive(Clone, Copy, PartialEq, Eq, PartialOrd, Ord)]
 pub struct Day {
     number: u32,
 }

@@ -19,7 +19,7 @@ pub type Hand = Number<Stocked, 0, MOST_ON_HAND>;
 
 /// The code of a part: 1 to 20 of the bytes `A` to `Z`, `0` to `9` and `-`. It is seen as the
 /// list of its bytes, and ordered by them.
-#[derive(Debug, Drop)]
+#[derive(Drop)]
 pub struct PartCode {
     text: String,
 }

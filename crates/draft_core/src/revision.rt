@@ -8,7 +8,7 @@ use std::marker::Model;
 pub const LAST_REVISION: u32 = 999_999;
 
 /// How often the timing set of an intersection was committed: 0 to 999,999.
-#[derive(Clone, Copy, Debug, PartialEq, Eq)]
+#[derive(Clone, Copy, PartialEq, Eq)]
 pub struct Revision {
     number: u32,
 }

@@ -4,7 +4,7 @@ use signal_records::Words;
 use std::alloc::AllocError;
 
 /// The states in which a clerk holds the draft.
-#[derive(Clone, Copy, Debug, PartialEq, Eq)]
+#[derive(Clone, Copy, PartialEq, Eq)]
 pub enum Stage {
     Transaction,
     Verify,
@@ -12,7 +12,7 @@ pub enum Stage {
 }
 
 /// The four states of the transaction.
-#[derive(Clone, Copy, Debug, PartialEq, Eq)]
+#[derive(Clone, Copy, PartialEq, Eq)]
 pub enum DbState {
     Normal,
     Transaction,
@@ -21,7 +21,7 @@ pub enum DbState {
 }
 
 /// What is known of the draft's consistency (NTCIP 1201, `dbVerifyStatus`). It is never stored.
-#[derive(Clone, Copy, Debug, PartialEq, Eq)]
+#[derive(Clone, Copy, PartialEq, Eq)]
 pub enum Verdict {
     NotDone,
     DoneWithError,

@@ -54,7 +54,7 @@ pub enum Refusal {
 }
 
 /// A line of the table of refusals.
-#[derive(Clone, Copy, Debug)]
+#[derive(Clone, Copy)]
 pub struct RefusalLine {
     pub number: u32,
     pub name: &'static str,

@@ -33,7 +33,7 @@ const CONNECTION_LIMIT: u32 = 10_000;
 const LONGEST_WAIT: u64 = 30;
 
 /// How the calls of a listener went. Each count stays at `u64::MAX` once it is there.
-#[derive(Clone, Copy, Debug, Default, PartialEq, Eq)]
+#[derive(Clone, Copy, Default)]
 pub struct ListenCounts {
     /// The calls that gave a connection.
     pub accepted: u64,
@@ -90,7 +90,7 @@ pub trait Listen {
 }
 
 /// The connections of a listener of the system.
-#[derive(Debug, Drop)]
+#[derive(Drop)]
 pub struct FromListener<'a> {
     pub listener: &'a TcpListener,
     pub counts: ListenCounts,
@@ -157,7 +157,7 @@ impl Listen for FromListener<'_> {
 }
 
 /// Why a listener was not served to the last connection.
-#[derive(Clone, Copy, Debug, PartialEq, Eq)]
+#[derive(Clone, Copy, Debug)]
 pub enum ServeStop {
     /// The listener failed.
     Accept,

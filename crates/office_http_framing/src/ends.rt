@@ -9,7 +9,7 @@ use std::io;
 use std::io::{Read, Write};
 
 /// How the calls of a source or a sink went. Each count stays at `u64::MAX` once it is there.
-#[derive(Clone, Copy, Debug, Default, PartialEq, Eq)]
+#[derive(Clone, Copy, Default)]
 pub struct Counts {
     pub calls: u64,
     pub failures: u64,
@@ -66,7 +66,7 @@ pub trait Sink {
 }
 
 /// A source of any reader.
-#[derive(Debug, Drop)]
+#[derive(Drop)]
 pub struct FromRead<R> {
     pub reader: R,
     pub counts: Counts,
@@ -95,7 +95,7 @@ impl<R: Read> Source for FromRead<R> {
 }
 
 /// A sink of any writer.
-#[derive(Debug, Drop)]
+#[derive(Drop)]
 pub struct ToWrite<W> {
     pub writer: W,
     pub counts: Counts,
@@ -124,7 +124,7 @@ impl<W: Write> Sink for ToWrite<W> {
 }
 
 /// Not all bytes were written: the sink failed, or took none. Its counts tell which.
-#[derive(Clone, Copy, Debug, PartialEq, Eq)]
+#[derive(Clone, Copy)]
 pub struct WriteFailed;
 
 /// Writes all the bytes, by as many writes as it takes. After an error those up to some place were

@@ -16,14 +16,14 @@ use crate::machine::Machine;
 use std::alloc::Global;
 
 /// How a stream was served to its end.
-#[derive(Clone, Copy, Debug, PartialEq, Eq)]
+#[derive(Clone, Copy, PartialEq, Eq)]
 pub struct Served {
     /// The whole requests that were dealt with.
     pub requests: u32,
 }
 
 /// Why a stream was not served to its end.
-#[derive(Clone, Copy, Debug, PartialEq, Eq)]
+#[derive(Clone, Copy, PartialEq, Eq)]
 pub enum ServeFault {
     /// The source failed after these requests.
     Read { requests: u32 },

@@ -18,7 +18,7 @@ pub const FIELD_LIMIT: usize = 64;
 const QUESTION_MARK: u8 = b'?';
 
 /// Why no request can be read at the front.
-#[derive(Clone, Copy, Debug, PartialEq, Eq)]
+#[derive(Clone, Copy)]
 pub enum Fault {
     /// The bytes are no head of a request.
     Head,
@@ -50,7 +50,7 @@ impl Fault {
 }
 
 /// A whole request, which borrows the bytes of the stream.
-#[derive(Clone, Copy, Debug)]
+#[derive(Clone, Copy)]
 pub struct Request<'b> {
     pub method: &'b [u8],
     /// The target up to its first question mark.
@@ -61,7 +61,7 @@ pub struct Request<'b> {
 }
 
 /// What stands at the front.
-#[derive(Clone, Copy, Debug)]
+#[derive(Clone, Copy)]
 pub enum Front<'b> {
     /// A whole request, and how many bytes it takes.
     Whole { request: Request<'b>, length: usize },

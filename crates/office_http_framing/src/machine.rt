@@ -6,7 +6,7 @@ use crate::front::{Fault, Request};
 use std::alloc::{AllocError, Global};
 
 /// Memory or the store was refused, and nothing was changed.
-#[derive(Clone, Copy, Debug, PartialEq, Eq)]
+#[derive(Clone, Copy)]
 pub struct Unavailable;
 
 /// A machine that answers requests one after another, each from the state that the one before it left.

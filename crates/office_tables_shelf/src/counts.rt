@@ -5,7 +5,7 @@ ghost use Rattle.office_tables_shelf.specs.Counts.{no_writes, count_of, count_at
 use crate::rows::{RowChange, Table};
 
 /// The row writes of each table so far. A count stays at `u64::MAX` once it is there.
-#[derive(Clone, Copy, Debug)]
+#[derive(Clone, Copy)]
 pub struct WriteCounts {
     intersection: u64,
     timing: u64,

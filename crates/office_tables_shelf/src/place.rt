@@ -5,21 +5,21 @@ use signal_records::{InterId, Key, LineNo, RecordNo};
 use std::alloc::AllocError;
 
 /// The place of a timing or draft row: its intersection, and its key there.
-#[derive(Clone, Copy, Debug, PartialEq, Eq, PartialOrd, Ord)]
+#[derive(Clone, Copy, PartialEq, Eq, PartialOrd, Ord)]
 pub struct Place {
     pub inter: InterId,
     pub key: Key,
 }
 
 /// The place of an inspection or an order: its intersection, and its number there.
-#[derive(Clone, Copy, Debug, PartialEq, Eq, PartialOrd, Ord)]
+#[derive(Clone, Copy, PartialEq, Eq, PartialOrd, Ord)]
 pub struct RecordPlace {
     pub inter: InterId,
     pub number: RecordNo,
 }
 
 /// The place of a used part: its intersection, the order, and the line of the order.
-#[derive(Clone, Copy, Debug, PartialEq, Eq, PartialOrd, Ord)]
+#[derive(Clone, Copy, PartialEq, Eq, PartialOrd, Ord)]
 pub struct LinePlace {
     pub inter: InterId,
     pub order: RecordNo,

@@ -64,7 +64,7 @@ pub enum RowChange {
 }
 
 /// A table whose rows are written.
-#[derive(Clone, Copy, Debug, PartialEq, Eq)]
+#[derive(Clone, Copy, PartialEq, Eq)]
 pub enum Table {
     Intersection,
     Timing,

@@ -192,7 +192,7 @@ fn days_are_read_and_written(rt: HostRuntime) -> Result<(), Fail> {
         ("2026-05-01", 20_574),
         ("2199-12-31", 84_005),
     ] {
-        assert_eq!(rt; Day::new(number), Some(day(text)?));
+        assert!(rt; Day::new(number) == Some(day(text)?));
         assert_eq!(rt; day(text)?.number(), number);
         assert_eq!(rt; write_day(alloc, day(text)?)?.as_str(), text);
     }

@@ -15,7 +15,7 @@ use signal_records::InterId;
 use std::alloc::{AllocError, Global};
 
 /// What the words ask the program to do.
-#[derive(Clone, Copy, Debug, PartialEq, Eq)]
+#[derive(Clone, Copy)]
 pub enum Job<'a> {
     /// Answer the requests on standard input, over a file or memory.
     Batch {

@@ -12,7 +12,7 @@ use std::alloc::AllocError;
 use std::fmt;
 
 /// Why the program ends with a fault, or refuses its words.
-#[derive(Clone, Copy, Debug, PartialEq, Eq)]
+#[derive(Clone, Copy)]
 pub enum Fault {
     /// The source failed.
     Read,

@@ -3,7 +3,7 @@
 use crate::number::{PHASES, RINGS};
 
 /// The limits of a version of the rows.
-#[derive(Clone, Copy, Debug)]
+#[derive(Clone, Copy)]
 pub(crate) struct Limits {
     /// The last phase.
     pub phases: u32,

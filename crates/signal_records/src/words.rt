@@ -9,7 +9,7 @@ use std::marker::Model;
 
 /// A text of 1 to `MAX` bytes of UTF-8 without control characters: none below U+0020, and no
 /// U+007F. It is seen as the list of its bytes.
-#[derive(Debug, Drop)]
+#[derive(Drop)]
 pub struct Words<const MAX: usize> {
     text: String,
 }

@@ -40,7 +40,7 @@ pub trait Judge {
 }
 
 /// A judge that answers the subject's part of the violations.
-#[derive(Clone, Copy, Debug)]
+#[derive(Clone, Copy)]
 pub struct Tally {
     calls: u64,
     seconds: u64,

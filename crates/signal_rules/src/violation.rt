@@ -7,7 +7,7 @@ use signal_records::{PatternNo, PhaseNo, SeqNo, SplitNo};
 use std::fmt;
 
 /// The rules, in their order.
-#[derive(Clone, Copy, Debug, PartialEq, Eq)]
+#[derive(Clone, Copy, PartialEq, Eq)]
 pub enum Rule {
     /// The yellow change interval of a phase is 3 to 6 seconds.
     V1,
@@ -38,7 +38,7 @@ pub enum Rule {
 }
 
 /// What a rule is about.
-#[derive(Clone, Copy, Debug, PartialEq, Eq)]
+#[derive(Clone, Copy, PartialEq, Eq)]
 pub enum Subject {
     Phase(PhaseNo),
     /// A sequence that has a row.
@@ -49,7 +49,7 @@ pub enum Subject {
 }
 
 /// A rule that a subject breaks.
-#[derive(Clone, Copy, Debug, PartialEq, Eq)]
+#[derive(Clone, Copy, PartialEq, Eq)]
 pub struct Violation {
     pub subject: Subject,
     pub rule: Rule,
