@@ -9,7 +9,7 @@ use Rattle.office_tables_shelf.specs.Cells.{Cell, null, number, text, odd}
 use Rattle.office_tables_sql.proofs.PutLemmas.{cast_int, cast_null}
 use Rattle.office_tables_sql.specs.Tables.{value_of, values_of, suits_kind, suit}
 
-cast_one : (k : Kind) (x : Cell) → suits_kind k x ≡ true → cast k (value_of x) ≡ value_of x
+pub cast_one : (k : Kind) (x : Cell) → suits_kind k x ≡ true → cast k (value_of x) ≡ value_of x
 cast_one kind.Integer null h = cast_null
 cast_one kind.Integer (number n) h = cast_int n
 cast_one kind.Integer (text t) h = absurd (true≢false (sym h))

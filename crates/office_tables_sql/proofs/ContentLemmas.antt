@@ -95,6 +95,32 @@ one_rowid (r ∷ rows) a b up (inr h) (inl y) same =
     absurd (let less = subst (λ v. value_cmp (rowid v) (rowid a) ≡ Less) (sym y) (all_has _ rows a up.0 h) in let back = tied_back value_cmp_total (rowid a) (rowid b) same in cc)
 one_rowid (r ∷ rows) a b up (inr h) (inr k) same = one_rowid rows a b up.1 h k same
 
+-- a row goes in place of those that have its key
+module _ (t : Layout) (rows : List Row) (ids : List ℤ) (stored : Row)
+    (gone : (r : Row) (id : ℤ) → Has rows r → Has ids id → has_rowid id r ≡ true → has_cells t (cells_at t.keys stored) r ≡ true)
+    (stays : (r : Row) → Has (without_all rows ids) r → has_cells t (cells_at t.keys stored) r ≡ false) where
+  -- the map of the rows has it put at its key
+  pub put_at : is_taken (without_all rows ids) stored ≡ false → rows_in t (put_row stored (without_all rows ids)) ≡ insert (rows_in t rows) (cells_at t.keys stored) (cells_at t.columns stored)
+  put_at fresh = same_map cells_total cells_exact _ _ (λ key.
+      get_rows t (put_row stored rest) key ∙ go key (cases_Bool (has_cells t key stored))
+      ∙ sym (get-insert cells_total (rows_in t rows) own (cells_at t.columns stored) key ∙ ap (cond (has_cells t key stored) (Some (cells_at t.columns stored))) (get_rows t rows key)))
+    where
+      rest : List Row
+      rest = without_all rows ids
+
+      own : List Cell
+      own = cells_at t.keys stored
+
+      go : (key : List Cell) → (has_cells t key stored ≡ true) ⊎ (has_cells t key stored ≡ false)
+          → option_map (cells_at t.columns) (find (has_cells t key) (put_row stored rest)) ≡ cond (has_cells t key stored) (Some (cells_at t.columns stored)) (option_map (cells_at t.columns) (find (has_cells t key) rows))
+      go key (inl hit) =
+          let none = λ (r : Row) (left : Has rest r). subst (λ k. has_cells t k r ≡ false) (sym (cells_exact key own (tied _ hit))) (stays r left) in
+          rw (hit, find_put (has_cells t key) stored rest hit none)
+      go key (inr miss) =
+          let out = λ (r : Row) (id : ℤ) (there : Has rows r) (among : Has ids id) (at_id : has_rowid id r ≡ true).
+          subst (λ k. is_eq (cells_cmp key k) ≡ false) (cells_exact own (cells_at t.keys r) (tied _ (gone r id there among at_id))) miss in
+          rw (miss, find_put_other (has_cells t key) stored rest fresh miss, find_without (has_cells t key) ids rows out)
+
 -- the rows that a new row meets are those with its key
 pub record MeetsKey (t : Layout) (indexes : List Index) (table : Table) (rows : List Row) (new stored : Row) : Type 0 where
   pub meets : (r : Row) → Has rows r → conflicts None indexes table new r ≡ agree plain t.keys r t.keys stored

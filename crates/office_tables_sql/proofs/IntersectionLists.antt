@@ -1,20 +1,17 @@
 -- The query that lists all intersections, and what it shows.
-use Rattle.std.proofs.Common.{◌≡◌, ℕ, true, false, List, [], ◌∷◌, map, length, codes, Less, refl, sym, ap, subst, ◌∙◌, inl, inr}
+use Rattle.std.proofs.Common.{◌≡◌, ℕ, true, List, [], ◌∷◌, map, length, codes, refl, sym, ap, subst, ◌∙◌}
 use Rattle.std.specs.FinMap.{entries}
 use Rattle.std.specs.FinMap.Entries.{where_key}
-use Rattle.std.specs.List.{IsDistinct, AllByRecursion, Any}
-use Rattle.std.specs.Ordering.{is_eq, eq_by_cmp}
+use Rattle.std.specs.List.{AllByRecursion, Any}
 use Rattle.sqlite.specs.declared.types.Value.TheVariants.{Null}
 use Rattle.sqlite.specs.Command.{Command}
 use Rattle.sqlite.specs.Command.TheVariants.{Select}
 use Rattle.sqlite.specs.Effect as effect
 use Rattle.sqlite.specs.Effect.{Database}
 use Rattle.sqlite.specs.Listing.{understood}
-use Rattle.sqlite.specs.Order.{Row, value_cmp}
+use Rattle.sqlite.specs.Order.{Row}
 use Rattle.sqlite.specs.Program.{overlay}
 use Rattle.sqlite.specs.Query.{IsAnswer}
-use Rattle.sqlite.specs.Tree.{rowid, IsTable}
-use Rattle.sqlite_rules.specs.Lists.{Has}
 use Rattle.sqlite_rules.proofs.ListLemmas.{all_has, all_from, any_has}
 use Rattle.sqlite_tied.specs.Compute.{everything}
 use Rattle.office_tables_shelf.specs.Cells.{Cell, cells_cmp}
@@ -26,9 +23,10 @@ use Rattle.office_tables_sql.specs.Listed.{numbered_entry, IsNoIntersection}
 use Rattle.office_tables_sql.specs.Stored as stored
 use Rattle.office_tables_sql.specs.Stored.{cells_at}
 use Rattle.office_tables_sql.specs.declared.intersection_list.TheConstants.{LIST}
-use Rattle.office_tables_sql.proofs.ListedLemmas.{IsListing, list_query, listing, shown_width, stands, same_order}
+use Rattle.office_tables_sql.proofs.ListedLemmas.{IsListing, list_query, listing, shown_width, stands}
 use Rattle.office_tables_sql.proofs.SchemaLemmas.{IsRead, AreShaped}
 use Rattle.office_tables_sql.proofs.StoredLemmas.{HaveKeys, sound_rowids}
+use Rattle.office_tables_sql.proofs.StoredLists.{rowids_distinct}
 
 abbrev pub list_text : List ℕ
 list_text = LIST.now
@@ -48,21 +46,6 @@ others_of row = (numbered_entry row).1
 
 is_listing : IsListing layout.intersection [] number_of others_of
 is_listing = record { shows = λ params row. refl; orders = λ a b. refl; keys = λ row. refl; others = λ row. refl }
-
--- rising rowids are keys that differ
-module _ (all : List Row) (sound : HaveKeys layout.intersection all) where
-  apart : (r x : Row) → Has all r → Has all x → value_cmp (rowid r) (rowid x) ≡ Less → eq_by_cmp cells_cmp (cells_at (0 ∷ []) r) (cells_at (0 ∷ []) x) ≡ false
-  apart r x here there below = ap is_eq (sym (same_order (0 ∷ []) (0 ∷ []) r x (sound r here) (sound x there))) ∙ rw below refl
-
-  each_apart : (r : Row) → Has all r → (xs : List Row) → ((x : Row) → Has xs x → Has all x) → AllByRecursion (λ x. value_cmp (rowid r) (rowid x) ≡ Less) xs
-      → AllByRecursion (λ k. eq_by_cmp cells_cmp (cells_at (0 ∷ []) r) k ≡ false) (map (cells_at (0 ∷ [])) xs)
-  each_apart r here [] within up = tt
-  each_apart r here (x ∷ xs) within up = (apart r x here (within x (inl refl)) up.0, each_apart r here xs (λ y there. within y (inr there)) up.1)
-
-  rowids_distinct : (rows : List Row) → IsTable rows → ((r : Row) → Has rows r → Has all r) → IsDistinct (eq_by_cmp cells_cmp) (map (cells_at (0 ∷ [])) rows)
-  unfolding IsDistinct
-  rowids_distinct [] up within = tt
-  rowids_distinct (r ∷ rows) up within = (each_apart r (within r (inl refl)) rows (λ x there. within x (inr there)) up.0, rowids_distinct rows up.1 (λ x there. within x (inr there)))
 
 every_entry : (es : List (List Cell × List Cell)) → where_key cells_cmp (λ _. true) es ≡ es
 every_entry [] = refl

@@ -6,7 +6,6 @@ pub mod CallLemmas
 pub mod WriteLemmas
 pub mod ContentLemmas
 pub mod PutLemmas
-pub mod KeyedLemmas
 pub mod RemoveLemmas
 mod BodyLemmas
 mod BodyReading
@@ -17,6 +16,9 @@ mod IntersectionLists
 mod FirstColumn
 mod TableLemmas
 mod Casts
+mod RanLemmas
+mod UpdateLemmas
+mod InsertLemmas
 mod StoredLists
 mod StoredFinds
 mod StoredCounts

@@ -30,7 +30,7 @@ use Rattle.office_tables_sql.specs.Stored.{cell_of, cells, cells_at, rows_in, is
 use Rattle.office_tables_sql.proofs.StoredLemmas.{HaveKeys}
 use Rattle.office_tables_sql.proofs.QueryLemmas.{cols}
 use Rattle.office_tables_sql.proofs.ContentLemmas.{level}
-use Rattle.office_tables_sql.proofs.RemoveLemmas.{permuted}
+use Rattle.office_tables_sql.proofs.RemoveLemmas.{permuted, has_map}
 use Rattle.office_tables_sql.proofs.ListLemmas.{entry, listed, strictly, sorted_found}
 
 -- ---- SQL's order of sound values is that of their cells
@@ -73,11 +73,6 @@ five_columns (a ∷ b ∷ c ∷ d ∷ []) wide = absurd (omega (arith, wide))
 five_columns (a ∷ b ∷ c ∷ d ∷ e ∷ f ∷ row) wide = absurd (omega (arith, wide))
 
 -- ---- lists
-
-has_map : {X Y : Type 0} (f : X → Y) (xs : List X) (y : Y) → Has (map f xs) y → (x : X) × Has xs x × (y ≡ f x)
-has_map f [] y h = absurd h
-has_map f (x ∷ xs) y (inl is) = (x, inl refl, is)
-has_map f (x ∷ xs) y (inr h) = let later = has_map f xs y h in (later.0, inr later.1, later.2)
 
 has_index : {X : Type 0} (xs : List X) (k : ℕ) (d : X) → k < length xs → Has xs (get_or xs k d)
 has_index [] k d h = absurd (omega arith)

@@ -1,13 +1,12 @@
 -- What a query by key answers.
-use Rattle.std.proofs.Common.{◌≡◌, ℕ, List, [], ◌∷◌, map, filter, find, slice_get, Bool, false, ◌&&◌, inl, inr, Option, None, Some, option_map, pos, negsuc, refl, sym, ap, subst₂, ◌∙◌, arith}
+use Rattle.std.proofs.Common.{◌≡◌, ℕ, List, [], ◌∷◌, map, filter, find, slice_get, Bool, ◌&&◌, inl, inr, Option, None, Some, option_map, refl, sym, ap, subst₂, ◌∙◌, arith}
 use Rattle.std.specs.Option.{option_to_list}
 use Rattle.sqlite.proofs.Callers.{one_permutation}
 use Rattle.std.proofs.lemmas.Bool.{cases_Bool}
 use Rattle.std.specs.List.Sorted.{IsPermutation}
 use Rattle.std.proofs.lemmas.List.Sorted.{IsPermutation-map, length_permutation}
-use Rattle.sqlite.specs.declared.types.Value.TheVariants.{Int}
 use Rattle.sqlite.specs.Order.{Row, column}
-use Rattle.sqlite.specs.Term.{Term, lit, col, op2, holds, eval_all}
+use Rattle.sqlite.specs.Term.{Term, col, op2, holds, eval_all}
 use Rattle.sqlite.specs.Query.{Query, inner, end, IsAnswer, output, Output, matches}
 use Rattle.sqlite.specs.Tree.{Trees}
 use Rattle.std.specs.List.{list_all}
@@ -17,7 +16,7 @@ use Rattle.sqlite_sql.specs.declared.ops.CompareOp.TheVariants.{Eq}
 use Rattle.sqlite_schema.specs.Rules.{agree}
 use Rattle.sqlite_value.specs.Keys.{plain, first_key}
 use Rattle.office_tables_sql.specs.Layout.{Layout, values_at, has_key}
-use Rattle.office_tables_sql.specs.Tables.{of_key, found_by}
+use Rattle.office_tables_sql.specs.Tables.{of_key, found_by, picked_by}
 
 -- the columns at these places
 abbrev pub cols : List ℕ → List Term
@@ -42,27 +41,32 @@ filter_agrees [] (q ∷ qs) paired key row = absurd paired
 filter_agrees (p ∷ ps) [] paired key row = absurd paired
 filter_agrees (p ∷ ps) (q ∷ qs) paired key row = ap (λ b. holds (key ∷ row ∷ []) (op2 (Compare Eq Binary) (col 1 p) (col 0 q)) && b) (filter_agrees ps qs paired key row)
 
-shown_values : (places : List ℕ) (key row : Row) → eval_all (cols places) (key ∷ row ∷ []) ≡ values_at places row
+pub shown_values : (places : List ℕ) (key row : Row) → eval_all (cols places) (key ∷ row ∷ []) ≡ values_at places row
 shown_values [] key row = refl
 shown_values (p ∷ ps) key row = ap (λ vs. column row p ∷ vs) (shown_values ps key row)
 
-module _ (t : Layout) (paired : ArePaired t.keys t.places) (shown : List ℕ) (key : Row) where
-  found_rows : (rows : List Row) → map (λ (o : Output). o.1) (map (output (find_query t shown)) (matches (λ _. rows) (key_filter t.keys t.places) (inner t.tree end) (key ∷ []))) ≡ map (values_at shown) (filter (has_key t key) rows)
-  found_rows [] = refl
-  found_rows (r ∷ rows) =
+module _ (t : Layout) (paired : ArePaired t.keys t.places) (terms : List Term) (key : Row) (show : Row → Row) (shows : (row : Row) → eval_all terms (key ∷ row ∷ []) ≡ show row) where
+  picked_rows : (rows : List Row) → map (λ (o : Output). o.1) (map (output (picked_by t terms)) (matches (λ _. rows) (key_filter t.keys t.places) (inner t.tree end) (key ∷ []))) ≡ map show (filter (has_key t key) rows)
+  picked_rows [] = refl
+  picked_rows (r ∷ rows) =
       let same = filter_agrees t.keys t.places paired key r in
       elim (cases_Bool (has_key t key r)) [
-        | inl hit ↦ rw (same, hit, shown_values shown key r, found_rows rows)
-        | inr miss ↦ rw (same, miss, found_rows rows)
+        | inl hit ↦ rw (same, hit, shows r, picked_rows rows)
+        | inr miss ↦ rw (same, miss, picked_rows rows)
       ]
 
-  -- the rows of the answer are those that have the key, in some order
-  pub answers : (db : Trees) (rows : List Row) → IsAnswer (find_query t shown) db key rows → IsPermutation (map (values_at shown) (filter (has_key t key) (db t.tree))) rows
-  answers db rows a =
-      let kept : a.kept ≡ map (output (find_query t shown)) (matches db (key_filter t.keys t.places) (inner t.tree end) (key ∷ [])) = a.distinct ∙ ap (map (output (find_query t shown))) a.grouped in
-      let listed = ap (map (λ (o : Output). o.1)) kept ∙ found_rows (db t.tree) in
+  -- the rows of the answer show those that have the key, in some order
+  pub picked : (db : Trees) (rows : List Row) → IsAnswer (picked_by t terms) db key rows → IsPermutation (map show (filter (has_key t key) (db t.tree))) rows
+  picked db rows a =
+      let kept : a.kept ≡ map (output (picked_by t terms)) (matches db (key_filter t.keys t.places) (inner t.tree end) (key ∷ [])) = a.distinct ∙ ap (map (output (picked_by t terms))) a.grouped in
+      let listed = ap (map (λ (o : Output). o.1)) kept ∙ picked_rows (db t.tree) in
       let same = IsPermutation-map (λ (o : Output). o.1) a.kept a.ordered a.same in
       subst₂ IsPermutation listed (sym a.shown) same
+
+-- as they stand
+pub answers : (t : Layout) → ArePaired t.keys t.places → (shown : List ℕ) (key : Row) (db : Trees) (rows : List Row) → IsAnswer (find_query t shown) db key rows
+    → IsPermutation (map (values_at shown) (filter (has_key t key) (db t.tree))) rows
+answers t paired shown key = picked t paired (cols shown) key (values_at shown) (shown_values shown key)
 
 module _ {X Y : Type 0} (p : X → Bool) (v : X → Y) where
   first_kept : (xs : List X) → find p xs ≡ slice_get (filter p xs) 0

@@ -48,7 +48,7 @@ use Rattle.office_tables_sql.proofs.PutLemmas.{still_ordered, shaped_without}
 pub permuted : {X : Type 0} (xs ys : List X) → IsPermutation xs ys → (y : X) → Has ys y → Has xs y
 permuted xs ys same y there = all_has (Has xs) ys y (all-permutation (Has xs) xs ys same (all_from (Has xs) xs (λ x h. h))) there
 
-has_map : {X Y : Type 0} (f : X → Y) (xs : List X) (y : Y) → Has (map f xs) y → (x : X) × Has xs x × (y ≡ f x)
+pub has_map : {X Y : Type 0} (f : X → Y) (xs : List X) (y : Y) → Has (map f xs) y → (x : X) × Has xs x × (y ≡ f x)
 has_map f [] y h = absurd h
 has_map f (x ∷ xs) y (inl is) = (x, inl refl, is)
 has_map f (x ∷ xs) y (inr h) = let later = has_map f xs y h in (later.0, inr later.1, later.2)
@@ -58,28 +58,31 @@ map_has f [] x h = absurd h
 map_has f (z ∷ xs) x (inl is) = inl (ap f is)
 map_has f (z ∷ xs) x (inr h) = inr (map_has f xs x h)
 
--- the rows with the key are taken out by their rowids
-module _ (t : Layout) (rows : List Row) (key : Row) (found : List Row) (hits : IsPermutation (map (values_at (0 ∷ [])) (filter (has_key t key) rows)) found) (shaped : IsShaped shape.Table rows) where
-  gone : (r : Row) (id : ℤ) → Has rows r → Has (ids_of found) id → has_rowid id r ≡ true → has_key t key r ≡ true
+-- the rows with the key are taken out by their rowids, which a query shows
+module _ (t : Layout) (rows : List Row) (key : Row) (show : Row → Row) (same_id : (r : Row) → rowid (show r) ≡ rowid r) (found : List Row)
+    (hits : IsPermutation (map show (filter (has_key t key) rows)) found) (shaped : IsShaped shape.Table rows) where
+  pub gone : (r : Row) (id : ℤ) → Has rows r → Has (ids_of found) id → has_rowid id r ≡ true → has_key t key r ≡ true
   gone r id there among at_id =
       let x = has_id found id among in
-      let hit = has_map (values_at (0 ∷ [])) (filter (has_key t key) rows) x.0 (permuted _ found hits x.0 x.1) in
+      let hit = has_map show (filter (has_key t key) rows) x.0 (permuted _ found hits x.0 x.1) in
       let other = hit.0 in
       let was = has_filtered (has_key t key) rows other hit.1 in
-      let is : id ≡ id_in (rowid other) = x.2 ∙ ap (λ v. id_in (rowid v)) hit.2 in
+      let is : id ≡ id_in (rowid other) = x.2 ∙ ap (λ v. id_in (rowid v)) hit.2 ∙ ap id_in (same_id other) in
       let int = int_is (rowid other) (all_has _ rows other shaped.1 was.0) in
       let equal : value_cmp (rowid r) (rowid other) ≡ Equal = subst (λ v. value_cmp (rowid r) v ≡ Equal) (ap Int is ∙ sym int) (tied _ at_id) in
       ap (has_key t key) (one_rowid rows r other shaped.0 there was.0 equal) ∙ was.1
 
-  stays : (r : Row) → Has (without_all rows (ids_of found)) r → has_key t key r ≡ false
+  pub stays : (r : Row) → Has (without_all rows (ids_of found)) r → has_key t key r ≡ false
   stays r left = false_from_ne_true _ (λ has.
       let there = without_all_has (ids_of found) rows r left in
-      let met = permuted found _ (IsPermutation-sym _ found hits) (rowid r ∷ []) (map_has (values_at (0 ∷ [])) (filter (has_key t key) rows) r (has_kept (has_key t key) rows r there has)) in
+      let met = permuted found _ (IsPermutation-sym _ found hits) (show r) (map_has show (filter (has_key t key) rows) r (has_kept (has_key t key) rows r there has)) in
       let int = int_is (rowid r) (all_has _ rows r shaped.1 there) in
-      let out = left_without (ids_of found) rows r (id_in (rowid r)) left (id_has found (rowid r ∷ []) met) in
+      let out = left_without (ids_of found) rows r (id_in (rowid r)) left (subst (Has (ids_of found)) (ap id_in (same_id r)) (id_has found (show r) met)) in
       let tie : value_cmp (rowid r) (Int (id_in (rowid r))) ≡ Equal = subst (λ v. value_cmp (rowid r) v ≡ Equal) int (level (value_cmp (rowid r) (rowid r)) (value_cmp_total.antisymm (rowid r) (rowid r))) in
       true≢false (sym (ap is_eq tie) ∙ out))
 
+-- so a removal leaves the others
+module _ (t : Layout) (rows : List Row) (key : Row) (found : List Row) (hits : IsPermutation (map (values_at (0 ∷ [])) (filter (has_key t key) rows)) found) (shaped : IsShaped shape.Table rows) where
   find_none : (p : Row → Bool) (all : List Row) → ((r : Row) → Has all r → p r ≡ false) → find p all ≡ None
   find_none p [] none = refl
   find_none p (r ∷ all) none = rw (none r (inl refl), find_none p all (λ x h. none x (inr h)))
@@ -101,11 +104,11 @@ module _ (t : Layout) (rows : List Row) (key : Row) (found : List Row) (hits : I
       go other (inl hit) =
           let none = λ (r : Row) (left : Has rest r). false_from_ne_true (has_cells t other r) (λ has.
           let tie = cells_total.congr other (cells_at t.keys r) (cells_at t.places key) (tied _ has) in
-          true≢false (sym (ties r (without_all_has (ids_of found) rows r left) ∙ ap is_eq (sym tie) ∙ hit) ∙ stays r left)) in
+          true≢false (sym (ties r (without_all_has (ids_of found) rows r left) ∙ ap is_eq (sym tie) ∙ hit) ∙ stays t rows key (values_at (0 ∷ [])) (λ x. refl) found hits shaped r left)) in
           rw (hit, find_none (has_cells t other) rest none)
       go other (inr miss) =
           let out = λ (r : Row) (id : ℤ) (there : Has rows r) (among : Has (ids_of found) id) (at_id : has_rowid id r ≡ true). (
-          let tie = tied _ (sym (ties r there) ∙ gone r id there among at_id) in
+          let tie = tied _ (sym (ties r there) ∙ gone t rows key (values_at (0 ∷ [])) (λ x. refl) found hits shaped r id there among at_id) in
           ap is_eq (alike_right cells_total (cells_at t.keys r) (cells_at t.places key) other tie) ∙ miss) in
           rw (miss, find_without (has_cells t other) (ids_of found) rows out)
 

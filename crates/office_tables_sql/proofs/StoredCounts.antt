@@ -1,5 +1,5 @@
 -- The query that counts rows of a table, and what it shows.
-use Rattle.std.proofs.Common.{◌≡◌, ◌⊎◌, inl, inr, ℕ, ◌<◌, ◌^◌, min, suc, Bool, true, false, List, [], ◌∷◌, map, filter, length, pos, Option, Some, None, IfSome, refl, sym, ap, subst, ◌∙◌, arith}
+use Rattle.std.proofs.Common.{◌≡◌, ◌⊎◌, inl, inr, ℕ, ◌<◌, ◌^◌, min, suc, Bool, true, false, List, [], ◌∷◌, map, filter, length, pos, Option, Some, refl, sym, ap, subst, ◌∙◌, arith}
 use Rattle.std.proofs.lemmas.Bool.{cases_Bool}
 use Rattle.std.proofs.lemmas.List.{length-map}
 use Rattle.std.proofs.lemmas.List.Sorted.{length_permutation}
@@ -7,8 +7,7 @@ use Rattle.std.specs.List.{AllZip, list_all}
 use Rattle.std.specs.List.Sorted.{IsPermutation}
 use Rattle.std.specs.Option.{option_to_list}
 use Rattle.std.specs.Ordering.{eq_by_cmp}
-use Rattle.sqlite.specs.declared.types.Value.{Value}
-use Rattle.sqlite.specs.declared.types.Value.TheVariants.{Null, Int}
+use Rattle.sqlite.specs.declared.types.Value.TheVariants.{Null}
 use Rattle.sqlite.specs.Effect as effect
 use Rattle.sqlite.specs.Effect.{Database, IsDatabase}
 use Rattle.sqlite.specs.Order.{Row, column}
@@ -24,11 +23,11 @@ use Rattle.office_tables_shelf.specs.declared.rows.Table.{Table}
 use Rattle.office_tables_sql.specs.Calls.{AreOrdered, Reads}
 use Rattle.office_tables_sql.specs.Schema.{office_schema}
 use Rattle.office_tables_sql.specs.Stored.{cell_of, cells_at, rows_in, content_of}
-use Rattle.office_tables_sql.specs.Tables.{rows_at, layout_at, schema_at, is_keyed, filter_of, params_of, is_among, rows_among, counting, counted_by, IsCountText}
+use Rattle.office_tables_sql.specs.Tables.{rows_at, layout_at, schema_at, filter_of, params_of, is_among, rows_among, counting, counted_by, IsCountText}
 use Rattle.office_tables_sql.proofs.ListLemmas.{counted}
 use Rattle.office_tables_sql.proofs.ListedLemmas.{distinct_kept}
 use Rattle.office_tables_sql.proofs.StoredLists.{own_keys, distinct, seen}
-use Rattle.office_tables_sql.proofs.TableLemmas.{same_tree, keyed, rows_in_tree}
+use Rattle.office_tables_sql.proofs.TableLemmas.{same_tree, facts, rows_in_tree}
 
 -- ---- one group, and how many it has
 
@@ -63,7 +62,7 @@ module _ (filters : List Term) (params : Row) (tree : ℕ) (test : Row → Bool)
 small : (n many : ℕ) → n < 2 ^ 32 → min many 9223372036854775807 ≡ n → n ≡ many
 small n many low is = omega (arith, low, is)
 
-module _ (t : Table) (is_own : is_keyed t ≡ true) (db : Database) (is : db.schema ≡ office_schema) (sound : IsDatabase db) (ordered : AreOrdered db.trees)
+module _ (t : Table) (db : Database) (is : db.schema ≡ office_schema) (sound : IsDatabase db) (ordered : AreOrdered db.trees)
     (sql : List ℕ) (means : IsCountText t sql) (id : ℕ) where
   abbrev rows : List Row
   rows = db.trees (schema_at t).tree
@@ -88,13 +87,13 @@ module _ (t : Table) (is_own : is_keyed t ≡ true) (db : Database) (is : db.sch
   pub counts : (row : Row) → Reads sql params db (row ∷ []) → (n : ℕ) → n < 2 ^ 32 → cell_of (column row 0) ≡ number (pos n) → n ≡ length (rows_among t id (rows_at (content_of db.trees) t))
   counts row reads n low is_n =
       let got = subst (λ k. effect.Reads k db params (row ∷ [])) means.is reads in
-      let it = shown rows (Some row) (seen t is_own db is sound ordered) (got.answer Null) in
+      let it = shown rows (Some row) (seen t db is sound ordered) (got.answer Null) in
       let same : row ∷ [] ≡ (count (length it.0) ∷ []) ∷ [] = it.2 in
       let here : cell_of (column row 0) ≡ number (pos (min (length it.0) 9223372036854775807)) = ap (λ (rs : List Row). first_cell rs) same in
       let number_is : number (pos (min (length it.0) 9223372036854775807)) ≡ number (pos n) = sym here ∙ is_n in
       let capped : min (length it.0) 9223372036854775807 ≡ n = cc in
-      let passes = λ (r : Row) (there : Has rows r). (keyed t is_own).first id r (own_keys t is_own db is sound ordered r there) in
-      let apart = distinct_kept (eq_by_cmp cells_cmp) (cells_at (layout_at t).keys) of rows (distinct t is_own db is sound ordered) in
+      let passes = λ (r : Row) (there : Has rows r). (facts t).first id r (own_keys t db is sound ordered r there) in
+      let apart = distinct_kept (eq_by_cmp cells_cmp) (cells_at (layout_at t).keys) of rows (distinct t db is sound ordered) in
       let tree : rows_at (content_of db.trees) t ≡ rows_in (layout_at t) rows = rows_in_tree t db.trees ∙ ap (λ n. rows_in (layout_at t) (db.trees n)) (same_tree t) in
       small n (length it.0) low capped ∙ it.1 ∙ as_many (filter_of t) params (layout_at t).tree of rows passes
       ∙ sym (counted (cells_at (layout_at t).keys) (cells_at (layout_at t).columns) (is_among t id) rows apart) ∙ ap (λ m. length (rows_among t id m)) (sym tree)

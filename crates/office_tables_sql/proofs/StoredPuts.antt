@@ -1,34 +1,122 @@
 -- The statements that put and remove a row of a table with a PRIMARY KEY of its own, and what they make of the tables.
-use Rattle.std.proofs.Common.{◌≡◌, ℕ, List, ◌++◌, sym, ap, ◌∙◌}
+use Rattle.std.proofs.Common.{◌≡◌, ◌≢◌, ℕ, List, [], ◌∷◌, ◌++◌, map, filter, length, false, refl, sym, ap, subst, ◌∙◌}
 use Rattle.std.specs.FinMap.{insert, remove}
+use Rattle.std.specs.List.Sorted.{IsPermutation}
+use Rattle.sqlite.specs.declared.types.Value.TheVariants.{Null}
+use Rattle.sqlite.specs.Effect.{Database}
 use Rattle.sqlite.specs.Order.{Row}
+use Rattle.sqlite.specs.Program.{overlay}
+use Rattle.sqlite.specs.Rows.{Written}
 use Rattle.sqlite.specs.State.{State}
+use Rattle.sqlite.specs.Term.{eval_all}
+use Rattle.sqlite.specs.Tree.{Trees}
+use Rattle.sqlite_rules.specs.Lists.{Has}
 use Rattle.office_tables_shelf.specs.Cells.{Cell}
+use Rattle.office_tables_shelf.specs.Content.{Content}
 use Rattle.office_tables_shelf.specs.declared.rows.Table.{Table}
+use Rattle.office_tables_shelf.specs.declared.rows.Table.TheVariants as table
 use Rattle.office_tables_sql.specs.Calls.{IsReady, Ran}
-use Rattle.office_tables_sql.specs.Stored.{content_now, rows_in}
-use Rattle.office_tables_sql.proofs.KeyedLemmas.{put_keyed}
+use Rattle.office_tables_sql.specs.Layout.{has_key}
+use Rattle.office_tables_sql.specs.Schema.{office_schema}
+use Rattle.office_tables_sql.specs.Stored.{content_of, content_now, rows_in}
+use Rattle.office_tables_sql.proofs.InsertLemmas.{Added, adds}
+use Rattle.office_tables_sql.proofs.PutLemmas.{still_ordered}
+use Rattle.office_tables_sql.proofs.QueryLemmas.{picked}
+use Rattle.office_tables_sql.proofs.RanLemmas.{wrote}
 use Rattle.office_tables_sql.proofs.RemoveLemmas.{remove_keyed}
-use Rattle.office_tables_sql.specs.Tables.{layout_at, schema_at, place_at, source_at, put_in, remove_in, key_given, values_of, IsKeyOf, IsPutText, IsRemoveText, Fits}
-use Rattle.office_tables_sql.proofs.Casts.{cast_suited}
-use Rattle.office_tables_sql.proofs.TableLemmas.{is_placed, is_low, is_uncounted, is_idle, keyed, same_tree, rows_in_tree, only_in}
-use Rattle.office_tables_sql.proofs.StoredLists.{shaped, own_keys}
+use Rattle.office_tables_sql.proofs.StoredLemmas.{has_cells}
+use Rattle.office_tables_sql.proofs.UpdateLemmas.{Renewed, renews}
+use Rattle.office_tables_sql.proofs.WriteLemmas.{went_on, same_value}
+use Rattle.office_tables_sql.specs.Tables.{rows_at, with_rows, layout_at, schema_at, place_at, renewed_at, put_in, remove_in, key_given, values_of, IsKeyOf, IsUpdateText, IsInsertText, IsRemoveText, Fits}
+use Rattle.office_tables_sql.proofs.TableLemmas.{is_placed, is_low, is_idle, facts, same_tree, rows_in_tree, only_in}
+use Rattle.office_tables_sql.proofs.StoredLists.{shaped, own_keys, seen}
 
-pub puts : (t : Table) (sql : List ℕ) (means : IsPutText t sql) (key columns : List Cell) (fits : Fits t key columns) (old new : State) (count : ℕ) → IsReady old → Ran sql (values_of (key ++ columns)) old new count
-    → IsReady new × (content_now new ≡ put_in (content_now old) t key columns)
-puts t sql means key columns fits old new count ready did =
-    let it = put_keyed (layout_at t) (schema_at t) (place_at t) (is_placed t) (is_uncounted t) (is_idle t) sql (source_at t) (record { is = means.is; plain = means.plain }) (values_of (key ++ columns)) (values_of (key ++ columns)) key columns
-    fits.given fits.mends (cast_suited (schema_at t).columns (key ++ columns) fits.suits) (λ n r. (keyed t means.keyed).meets n (values_of (key ++ columns)) r) fits.keyed fits.shows fits.whole
-    old new count (shaped t means.keyed old.now ready.schema ready.sound ready.ordered) (own_keys t means.keyed old.now ready.schema ready.sound ready.ordered) ready did in (
-      it.0,
-      only_in old.now.trees new.now.trees t _ it.1.others (it.1.at ∙ ap (λ rows. insert rows key columns) (sym (rows_in_tree t old.now.trees ∙ ap (λ n. rows_in (layout_at t) (old.now.trees n)) (same_tree t)))),
-    )
+-- the content with the rows that it has
+with_same : (t : Table) (tables : Content) → with_rows tables t (rows_at tables t) ≡ tables
+with_same table.Intersection tables = refl
+with_same table.Timing tables = refl
+with_same table.Draft tables = refl
+with_same table.Inspection tables = refl
+with_same table.WorkOrder tables = refl
+with_same table.Part tables = refl
+with_same table.Delivery tables = refl
+with_same table.UsedPart tables = refl
+
+-- the rows of a table as its tree has them
+in_tree : (t : Table) (trees : Trees) → rows_at (content_of trees) t ≡ rows_in (layout_at t) (trees (schema_at t).tree)
+in_tree t trees = rows_in_tree t trees ∙ ap (λ n. rows_in (layout_at t) (trees n)) (same_tree t)
+
+module _ (t : Table) (key columns : List Cell) (fits : Fits t key columns) where
+  abbrev tree : ℕ
+  tree = (schema_at t).tree
+
+  abbrev params : Row
+  params = values_of (key ++ columns)
+
+  -- no row has the key
+  abbrev IsFree : Trees → Type 0
+  IsFree trees = (r : Row) → Has (trees tree) r → has_cells (layout_at t) key r ≡ false
+
+  -- The row under the key has the other cells, or there is none and all is as it was.
+  pub record Updated (count : ℕ) (old new : State) : Type 0 where
+    pub ready : IsReady new
+    pub none : count ≡ 0 → (content_now new ≡ content_now old) × IsFree new.now.trees
+    pub some : count ≢ 0 → content_now new ≡ put_in (content_now old) t key columns
+
+  pub updates : (sql : List ℕ) → IsUpdateText t sql → (old new : State) (count : ℕ) → IsReady old → Ran sql params old new count → Updated count old new
+  updates sql means old new count ready did =
+      let did_write = wrote sql _ (record { is = means.is; plain = means.plain }) (place_at t) (schema_at t) (is_placed t) params old new count (record { runs = λ w. w; does = λ db out d. d }) ready did in
+      let asked = went_on did_write.rows in
+      let edited = went_on asked.2 in
+      let hits = picked (layout_at t) (facts t).paired (renewed_at t) params (λ row. eval_all (renewed_at t) (params ∷ row ∷ [])) (λ row. refl) (overlay old.now.trees []) asked.0 (asked.1.answer Null) in
+      let found = subst (λ rows. IsPermutation (map (λ row. eval_all (renewed_at t) (params ∷ row ∷ [])) (filter (has_key (layout_at t) params) rows)) asked.0) (seen t old.now ready.schema ready.sound ready.ordered) hits in
+      let next : new.now.trees ≡ edited.0 = ap (λ (d : Database). d.trees) did_write.now ∙ ap (λ (w : Written). w.trees) (same_value edited.2) in
+      let told = did_write.counted ∙ ap (λ (w : Written). length w.rows) (same_value edited.2) in
+      let it = subst (Renewed t key columns fits old.now ready.schema ready.sound ready.ordered count) (sym next) (renews t key columns fits old.now ready.schema ready.sound ready.ordered count edited.0 asked.0 found edited.1 told) in
+      record {
+        ready = record {
+          inside = did.inside;
+          schema = ap (λ (d : Database). d.schema) did_write.now;
+          sound = did_write.sound;
+          ordered = still_ordered office_schema.tables tree old.now.trees new.now.trees ready.ordered it.others it.shapes;
+        };
+        none = λ none. (
+          only_in old.now.trees new.now.trees t _ it.others (ap (rows_in (layout_at t)) (it.none none).0 ∙ sym (in_tree t old.now.trees)) ∙ with_same t (content_now old),
+          subst (λ rows. (r : Row) → Has rows r → has_cells (layout_at t) key r ≡ false) (sym (it.none none).0) (it.none none).1,
+        );
+        some = λ some. only_in old.now.trees new.now.trees t _ it.others (it.some some ∙ ap (λ rows. insert rows key columns) (sym (in_tree t old.now.trees)));
+      }
+
+  pub inserts : (sql : List ℕ) → IsInsertText t sql → (old new : State) (count : ℕ) → IsReady old → IsFree old.now.trees → Ran sql params old new count → IsReady new × (content_now new ≡ put_in (content_now old) t key columns)
+  inserts sql means old new count ready free did =
+      let did_write = wrote sql _ (record { is = means.is; plain = means.plain }) (place_at t) (schema_at t) (is_placed t) params old new count (record { runs = λ w. w; does = λ db out d. d }) ready did in
+      let added = adds t key columns fits old.step_limit old.now.trees (shaped t old.now ready.schema ready.sound ready.ordered) free did_write.written did_write.rows in
+      let it = subst (Added t key columns fits old.step_limit old.now.trees (shaped t old.now ready.schema ready.sound ready.ordered) free) (sym (ap (λ (d : Database). d.trees) did_write.now)) added in (
+        record {
+          inside = did.inside;
+          schema = ap (λ (d : Database). d.schema) did_write.now;
+          sound = did_write.sound;
+          ordered = still_ordered office_schema.tables tree old.now.trees new.now.trees ready.ordered it.others it.shapes;
+        },
+        only_in old.now.trees new.now.trees t _ it.others (it.at ∙ ap (λ rows. insert rows key columns) (sym (in_tree t old.now.trees))),
+      )
+
+  -- One statement put the row, or the two together.
+  pub one_put : (sql : List ℕ) → IsUpdateText t sql → (old new : State) (count : ℕ) → count ≢ 0 → IsReady old → Ran sql params old new count → IsReady new × (content_now new ≡ put_in (content_now old) t key columns)
+  one_put sql means old new count some ready did = let it = updates sql means old new count ready did in (it.ready, it.some some)
+
+  pub two_put : (update insert : List ℕ) → IsUpdateText t update → IsInsertText t insert → (old mid new : State) (count added : ℕ) → count ≡ 0 → IsReady old → Ran update params old mid count → Ran insert params mid new added
+      → IsReady new × (content_now new ≡ put_in (content_now old) t key columns)
+  two_put update insert changes adds old mid new count added none ready first second =
+      let it = updates update changes old mid count ready first in
+      let then = inserts insert adds mid new added it.ready (it.none none).1 second in
+      (then.0, then.1 ∙ ap (λ tables. put_in tables t key columns) (it.none none).0)
 
 pub removes : (t : Table) (sql : List ℕ) (means : IsRemoveText t sql) (key : Row) (given : IsKeyOf t key) (old new : State) (count : ℕ) → IsReady old → Ran sql key old new count
     → IsReady new × (content_now new ≡ remove_in (content_now old) t (key_given t key))
 removes t sql means key given old new count ready did =
-    let it = remove_keyed (layout_at t) (keyed t means.keyed).paired (schema_at t) (place_at t) (is_placed t) (λ trees. is_low t trees ∙ ap trees (same_tree t)) (is_idle t) sql (record { is = means.is; plain = means.plain }) key given
-    old new count (shaped t means.keyed old.now ready.schema ready.sound ready.ordered) (own_keys t means.keyed old.now ready.schema ready.sound ready.ordered) ready did in (
+    let it = remove_keyed (layout_at t) (facts t).paired (schema_at t) (place_at t) (is_placed t) (λ trees. is_low t trees ∙ ap trees (same_tree t)) (is_idle t) sql (record { is = means.is; plain = means.plain }) key given
+    old new count (shaped t old.now ready.schema ready.sound ready.ordered) (own_keys t old.now ready.schema ready.sound ready.ordered) ready did in (
       it.0,
-      only_in old.now.trees new.now.trees t _ it.1.others (it.1.at ∙ ap (λ rows. remove rows (key_given t key)) (sym (rows_in_tree t old.now.trees ∙ ap (λ n. rows_in (layout_at t) (old.now.trees n)) (same_tree t)))),
+      only_in old.now.trees new.now.trees t _ it.1.others (it.1.at ∙ ap (λ rows. remove rows (key_given t key)) (sym (in_tree t old.now.trees))),
     )

@@ -1,15 +1,13 @@
 -- What is known of each table by computation on the schema.
-use Rattle.std.proofs.Common.{◌≡◌, ◌≢◌, ◌||◌, inl, inr, ℕ, ℤ, true, false, [], ◌∷◌, slice_get, pos, None, Some, refl, sym, ap, ◌∙◌, true≢false}
+use Rattle.std.proofs.Common.{◌≡◌, ◌≢◌, ◌⊎◌, inl, inr, ℕ, true, false, [], ◌∷◌, slice_get, None, Some, refl, sym, ap, ◌∙◌}
 use Rattle.std.specs.List.{AllByRecursion, list_all}
-use Rattle.sqlite.specs.declared.types.Value.TheVariants.{Int}
 use Rattle.sqlite.specs.Order.{Row}
 use Rattle.sqlite.specs.Term.{holds}
 use Rattle.sqlite.specs.Tree.{Trees}
 use Rattle.sqlite.specs.Program.{overlay}
 use Rattle.sqlite_rules.specs.Lists.{Has}
 use Rattle.sqlite_rules.proofs.ListLemmas.{all_has}
-use Rattle.sqlite_rules.specs.Keys.{conflicts}
-use Rattle.sqlite_schema.specs.Rules.{agree, guards}
+use Rattle.sqlite_schema.specs.Rules.{guards}
 use Rattle.sqlite_schema.specs.declared.schema.Index.{Index}
 use Rattle.sqlite_value.specs.Keys.{plain}
 use Rattle.office_tables_shelf.specs.Cells.{Rows}
@@ -21,7 +19,7 @@ use Rattle.office_tables_sql.proofs.ListedLemmas.{IsListing}
 use Rattle.office_tables_sql.proofs.QueryLemmas.{ArePaired}
 use Rattle.office_tables_sql.proofs.SoundLemmas.{has_key_at}
 use Rattle.office_tables_sql.proofs.WriteLemmas.{IsIdle}
-use Rattle.office_tables_sql.specs.Tables.{rows_at, with_rows, layout_at, schema_at, place_at, is_keyed, key_shown, columns_shown, filter_of, params_of, is_among}
+use Rattle.office_tables_sql.specs.Tables.{rows_at, with_rows, layout_at, schema_at, place_at, key_shown, columns_shown, filter_of, params_of, is_among}
 use Rattle.office_tables_sql.proofs.FirstColumn.{first_is}
 
 -- ---- the schema
@@ -86,30 +84,33 @@ is_idle table.Part = record { on_change = λ olds new. refl; on_delete = λ olds
 is_idle table.Delivery = record { on_change = λ olds new. refl; on_delete = λ olds. refl }
 is_idle table.UsedPart = record { on_change = λ olds new. refl; on_delete = λ olds. refl }
 
--- ---- a table with a PRIMARY KEY of its own
+-- ---- keys
 
--- what such a table has
-pub record Keyed (t : Table) : Type 0 where
+-- a PRIMARY KEY of its own
+pub record OwnKey (t : Table) : Type 0 where
   pub keyless : (schema_at t).key ≡ None
   pub sound : list_all (has_key_at (schema_at t)) (layout_at t).keys ≡ true
-  pub paired : ArePaired (layout_at t).keys (layout_at t).places
   pub index : Index
   pub has : Has office_schema.indexes index
   pub guard : guards index (schema_at t) ≡ true
   pub order : index.order ≡ plain
   pub columns : index.columns ≡ (layout_at t).keys
-  pub meets : (n : ℤ) (vs r : Row) → conflicts None office_schema.indexes (schema_at t) (Int n ∷ vs) r ≡ (agree plain (0 ∷ []) r (0 ∷ []) (Int n ∷ vs) || (agree plain (layout_at t).keys r (layout_at t).keys (Int n ∷ vs) || false))
+
+pub record Facts (t : Table) : Type 0 where
+  -- the rowid is the key, or there is an index for it
+  pub key : ((layout_at t).keys ≡ 0 ∷ []) ⊎ OwnKey t
+  pub paired : ArePaired (layout_at t).keys (layout_at t).places
   pub first : (id : ℕ) (row : Row) → are_sound (layout_at t).keys row ≡ true → list_all (holds (params_of t id ∷ row ∷ [])) (filter_of t) ≡ is_among t id (cells_at (layout_at t).keys row)
 
-pub keyed : (t : Table) → is_keyed t ≡ true → Keyed t
-keyed table.Intersection h = absurd (true≢false (sym h))
-keyed table.Timing h = record { keyless = refl; sound = refl; paired = tt; index = _; has = inl refl; guard = refl; order = refl; columns = refl; meets = λ n vs r. refl; first = λ id. first_is id (2 ∷ 3 ∷ 4 ∷ []) }
-keyed table.Draft h = record { keyless = refl; sound = refl; paired = tt; index = _; has = inr (inl refl); guard = refl; order = refl; columns = refl; meets = λ n vs r. refl; first = λ id. first_is id (2 ∷ 3 ∷ 4 ∷ []) }
-keyed table.Inspection h = record { keyless = refl; sound = refl; paired = tt; index = _; has = inr (inr (inl refl)); guard = refl; order = refl; columns = refl; meets = λ n vs r. refl; first = λ id. first_is id (2 ∷ []) }
-keyed table.WorkOrder h = record { keyless = refl; sound = refl; paired = tt; index = _; has = inr (inr (inr (inl refl))); guard = refl; order = refl; columns = refl; meets = λ n vs r. refl; first = λ id. first_is id (2 ∷ []) }
-keyed table.Part h = record { keyless = refl; sound = refl; paired = tt; index = _; has = inr (inr (inr (inr (inl refl)))); guard = refl; order = refl; columns = refl; meets = λ n vs r. refl; first = λ id row h. refl }
-keyed table.Delivery h = record { keyless = refl; sound = refl; paired = tt; index = _; has = inr (inr (inr (inr (inr (inl refl))))); guard = refl; order = refl; columns = refl; meets = λ n vs r. refl; first = λ id row h. refl }
-keyed table.UsedPart h = record { keyless = refl; sound = refl; paired = tt; index = _; has = inr (inr (inr (inr (inr (inr (inl refl)))))); guard = refl; order = refl; columns = refl; meets = λ n vs r. refl; first = λ id. first_is id (2 ∷ 3 ∷ []) }
+pub facts : (t : Table) → Facts t
+facts table.Intersection = record { key = inl refl; paired = tt; first = λ id row h. refl }
+facts table.Timing = record { key = inr (record { keyless = refl; sound = refl; index = _; has = inl refl; guard = refl; order = refl; columns = refl }); paired = tt; first = λ id. first_is id (2 ∷ 3 ∷ 4 ∷ []) }
+facts table.Draft = record { key = inr (record { keyless = refl; sound = refl; index = _; has = inr (inl refl); guard = refl; order = refl; columns = refl }); paired = tt; first = λ id. first_is id (2 ∷ 3 ∷ 4 ∷ []) }
+facts table.Inspection = record { key = inr (record { keyless = refl; sound = refl; index = _; has = inr (inr (inl refl)); guard = refl; order = refl; columns = refl }); paired = tt; first = λ id. first_is id (2 ∷ []) }
+facts table.WorkOrder = record { key = inr (record { keyless = refl; sound = refl; index = _; has = inr (inr (inr (inl refl))); guard = refl; order = refl; columns = refl }); paired = tt; first = λ id. first_is id (2 ∷ []) }
+facts table.Part = record { key = inr (record { keyless = refl; sound = refl; index = _; has = inr (inr (inr (inr (inl refl)))); guard = refl; order = refl; columns = refl }); paired = tt; first = λ id row h. refl }
+facts table.Delivery = record { key = inr (record { keyless = refl; sound = refl; index = _; has = inr (inr (inr (inr (inr (inl refl))))); guard = refl; order = refl; columns = refl }); paired = tt; first = λ id row h. refl }
+facts table.UsedPart = record { key = inr (record { keyless = refl; sound = refl; index = _; has = inr (inr (inr (inr (inr (inr (inl refl)))))); guard = refl; order = refl; columns = refl }); paired = tt; first = λ id. first_is id (2 ∷ 3 ∷ []) }
 
 -- ---- what a query shows
 

@@ -6,21 +6,25 @@ use Rattle.cabinet_core.specs.declared.record.Closing.{Closing}
 use Rattle.office_tables_shelf.specs.Cells.{number, text}
 use Rattle.office_tables_shelf.specs.CabinetRows.{order_key, closed_cell, closer_cell}
 use Rattle.office_tables_shelf.specs.declared.rows.Table.TheVariants.{WorkOrder}
-use Rattle.office_tables_sql.specs.Tables.{IsListText, IsFindText, IsPutText, Fits}
-use Rattle.office_tables_sql.specs.declared.order.TheConstants.{LIST, FIND, PUT}
+use Rattle.office_tables_sql.specs.Tables.{IsListText, IsFindText, IsUpdateText, IsInsertText, Fits}
+use Rattle.office_tables_sql.specs.declared.order.TheConstants.{LIST, FIND, UPDATE, INSERT}
 
 pub lists : IsListText WorkOrder LIST.now
 unfolding understood everything
-lists = record { keyed = refl; names = codes "inter" ∷ codes "number" ∷ codes "opened" ∷ codes "clerk" ∷ codes "body" ∷ codes "closed" ∷ codes "closer" ∷ []; is = refl; query = record { plain = (refl, refl); unlisted = refl } }
+lists = record { names = codes "inter" ∷ codes "number" ∷ codes "opened" ∷ codes "clerk" ∷ codes "body" ∷ codes "closed" ∷ codes "closer" ∷ []; is = refl; query = record { plain = (refl, refl); unlisted = refl } }
 
 pub finds : IsFindText WorkOrder FIND.now
 unfolding understood everything
-finds = record { keyed = refl; names = codes "inter" ∷ codes "number" ∷ codes "opened" ∷ codes "clerk" ∷ codes "body" ∷ codes "closed" ∷ codes "closer" ∷ []; is = refl; query = record { plain = (refl, refl); unlisted = refl } }
+finds = record { names = codes "inter" ∷ codes "number" ∷ codes "opened" ∷ codes "clerk" ∷ codes "body" ∷ codes "closed" ∷ codes "closer" ∷ []; is = refl; query = record { plain = (refl, refl); unlisted = refl } }
 
-pub puts : IsPutText WorkOrder PUT.now
+pub updates : IsUpdateText WorkOrder UPDATE.now
 unfolding understood everything
-puts = record { keyed = refl; is = refl; plain = (refl, refl) }
+updates = record { is = refl; plain = (refl, refl) }
+
+pub inserts : IsInsertText WorkOrder INSERT.now
+unfolding understood everything
+inserts = record { is = refl; plain = (refl, refl) }
 
 pub fits : (id n opened : ℕ) (clerk body : List ℕ) (closing : Option Closing) → Fits WorkOrder (order_key id n) (number (pos opened) ∷ text clerk ∷ text body ∷ closed_cell closing ∷ closer_cell closing ∷ [])
-fits id n opened clerk body None = record { given = λ limit db rows h. h.1; mends = refl; suits = refl; keyed = λ n. refl; shows = λ n. refl; whole = λ n. refl }
-fits id n opened clerk body (Some closing) = record { given = λ limit db rows h. h.1; mends = refl; suits = refl; keyed = λ n. refl; shows = λ n. refl; whole = λ n. refl }
+fits id n opened clerk body None = record { whole = refl; named = refl; given = λ limit db rows h. h.1; rest = λ row. refl; numbered = refl; suits = refl; placed = λ rows. (refl, refl); kept = λ n row has. refl; shows = λ n. refl }
+fits id n opened clerk body (Some closing) = record { whole = refl; named = refl; given = λ limit db rows h. h.1; rest = λ row. refl; numbered = refl; suits = refl; placed = λ rows. (refl, refl); kept = λ n row has. refl; shows = λ n. refl }

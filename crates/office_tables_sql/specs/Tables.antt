@@ -1,25 +1,26 @@
 -- The eight tables by their names: where each keeps its rows, and what its statements mean.
-use Rattle.std.specs.Prelude.{◌≡◌, ◌≢◌, ℕ, suc, ℤ, pos, negsuc, Bool, true, false, ◌&&◌, cond, List, [], ◌∷◌, ◌++◌, map, length, Option, Some, None, IfSome, Ok}
+use Rattle.std.specs.Prelude.{◌≡◌, ◌≢◌, ℕ, suc, ℤ, pos, negsuc, Bool, true, false, ◌&&◌, cond, List, [], ◌∷◌, ◌++◌, map, length, Option, Some, None, IfSome, Ok, slice_get, unwrap_or}
 use Rattle.std.specs.Option.{option_map}
 use Rattle.std.specs.FinMap.{get, insert, remove, entries}
 use Rattle.std.specs.FinMap.Entries.{where_key}
-use Rattle.sqlite.specs.Command.TheVariants.{Select, InsertOr, Delete}
+use Rattle.sqlite.specs.Command.TheVariants.{Select, Insert, Update, Delete}
 use Rattle.sqlite.specs.Kind.{Kind}
 use Rattle.sqlite.specs.Kind.TheVariants as kind
 use Rattle.sqlite.specs.declared.types.Value.{Value}
 use Rattle.sqlite.specs.declared.types.Value.TheVariants.{Null, Int, Text}
+use Rattle.sqlite.specs.Edit.{with_rowid}
 use Rattle.sqlite.specs.Effect.{Database}
 use Rattle.sqlite.specs.Listing.{understood}
 use Rattle.sqlite.specs.Order.{Row}
 use Rattle.sqlite.specs.Query.{Query, inner, end}
-use Rattle.sqlite.specs.Rows.{Sourced, mended, stamped}
+use Rattle.sqlite.specs.Rowids.TheVariants.{Chosen}
+use Rattle.sqlite.specs.Rows.{Sourced, stamped}
 use Rattle.sqlite.specs.Source.{Source}
 use Rattle.sqlite.specs.Source.TheVariants.{Values}
 use Rattle.sqlite.specs.Table.{Table as SqlTable}
-use Rattle.sqlite.specs.Term.{Term, lit, col, op2}
+use Rattle.sqlite.specs.Term.{Term, lit, col, op2, eval_all}
 use Rattle.sqlite.specs.Collation.TheVariants.{Binary}
 use Rattle.sqlite_schema.specs.declared.schema.Column.{Column}
-use Rattle.sqlite_schema.specs.declared.command.Conflict.TheVariants.{Replace}
 use Rattle.sqlite_sql.specs.Group.{Grouping}
 use Rattle.sqlite_sql.specs.declared.aggregate.AggregateOp.TheVariants.{CountRows}
 use Rattle.sqlite_sql.specs.declared.ops.BinaryOp.TheVariants.{Compare}
@@ -216,7 +217,6 @@ listed_by t filter = record {
 
 -- the text lists the rows, in the order of their keys
 pub record IsListText (t : Table) (sql : List ℕ) : Type 0 where
-  pub keyed : is_keyed t ≡ true
   pub names : List (List ℕ)
   pub is : command_of (understood office_schema sql) ≡ Select (record { lets = []; body = listed_by (layout_at t) (filter_of t) }) names
   pub query : IsQuery sql
@@ -240,7 +240,6 @@ counted_by t filter = record {
 
 -- the text counts those rows
 pub record IsCountText (t : Table) (sql : List ℕ) : Type 0 where
-  pub keyed : is_keyed t ≡ true
   pub names : List (List ℕ)
   pub is : command_of (understood office_schema sql) ≡ Select (record { lets = []; body = counted_by (layout_at t) (filter_of t) }) names
   pub query : IsQuery sql
@@ -251,12 +250,13 @@ of_key [] at = []
 of_key (p ∷ ps) [] = []
 of_key (p ∷ ps) (q ∷ qs) = op2 (Compare Eq Binary) (col 1 p) (col 0 q) ∷ of_key ps qs
 
-abbrev pub found_by : Layout → List ℕ → Query
-found_by t shown = record {
+-- these terms of the rows whose key columns are the parameters
+abbrev pub picked_by : Layout → List Term → Query
+picked_by t shown = record {
   from = inner t.tree end;
   filter = of_key t.keys t.places;
   group = None;
-  project = map (col 1) shown;
+  project = shown;
   distinct = false;
   collations = [];
   order = [];
@@ -264,9 +264,11 @@ found_by t shown = record {
   offset = lit (Int (pos 0));
 }
 
+abbrev pub found_by : Layout → List ℕ → Query
+found_by t shown = picked_by t (map (col 1) shown)
+
 -- the text finds the row whose key is the parameters
 pub record IsFindText (t : Table) (sql : List ℕ) : Type 0 where
-  pub keyed : is_keyed t ≡ true
   pub names : List (List ℕ)
   pub is : command_of (understood office_schema sql) ≡ Select (record { lets = []; body = found_by (layout_at t) (places_of t) }) names
   pub query : IsQuery sql
@@ -279,19 +281,34 @@ IsKeyOf t values = are_sound (layout_at t).places values ≡ true
 abbrev pub key_given : Table → Row → List Cell
 key_given t = cells_at (layout_at t).places
 
--- a row of the parameters, its rowid to be chosen
-abbrev pub source_at : Table → Source
-source_at t = Values (lit Null ∷ map (col 0) (places_from 0 (places_of t))) (suc (width_of t))
+-- What a stored row has between its rowid and its other columns: its key, or, where the rowid is the key, nothing in the key's own column.
+abbrev pub beside_rowid : {X : Type 0} → Table → X → List X → List X
+beside_rowid t nothing key = cond (is_keyed t) key (nothing ∷ [])
 
--- the text puts a row of the parameters in place of those that it meets
-pub record IsPutText (t : Table) (sql : List ℕ) : Type 0 where
-  pub keyed : is_keyed t ≡ true
-  pub is : command_of (understood office_schema sql) ≡ InsertOr (place_at t) Replace (source_at t) []
+-- the parameters that follow the key
+abbrev pub others_given : Table → List Term
+others_given t = map (col 0) (places_from (length (layout_at t).keys) (layout_at t).columns)
+
+-- a row of the parameters, its rowid to be chosen where it is not the key
+abbrev pub source_at : Table → Source
+source_at t = Values (cond (is_keyed t) (lit Null) (col 0 0) ∷ (beside_rowid t (lit Null) (map (col 0) (layout_at t).places) ++ others_given t)) (suc (length (schema_at t).columns))
+
+-- the row as it stands, but for the columns beside the key, which the parameters give
+abbrev pub renewed_at : Table → List Term
+renewed_at t = col 1 0 ∷ col 1 0 ∷ (beside_rowid t (lit Null) (map (col 1) (layout_at t).keys) ++ others_given t)
+
+-- the text gives the row under the key of the parameters the other columns of the parameters
+pub record IsUpdateText (t : Table) (sql : List ℕ) : Type 0 where
+  pub is : command_of (understood office_schema sql) ≡ Update (place_at t) (record { lets = []; body = picked_by (layout_at t) (renewed_at t) })
+  pub plain : IsWriting sql
+
+-- the text adds a row of the parameters
+pub record IsInsertText (t : Table) (sql : List ℕ) : Type 0 where
+  pub is : command_of (understood office_schema sql) ≡ Insert (place_at t) (source_at t)
   pub plain : IsWriting sql
 
 -- the text removes the row whose key is the parameters
 pub record IsRemoveText (t : Table) (sql : List ℕ) : Type 0 where
-  pub keyed : is_keyed t ≡ true
   pub is : command_of (understood office_schema sql) ≡ Delete (place_at t) (record { lets = []; body = found_by (layout_at t) (0 ∷ []) })
   pub plain : IsWriting sql
 
@@ -329,11 +346,29 @@ suit [] cells = true
 suit (c ∷ cs) [] = true
 suit (c ∷ cs) (x ∷ xs) = suits_kind c.kind x && suit cs xs
 
+-- the rowid that is given for a row: its key, or none
+abbrev pub id_given : Table → List Cell → Cell
+id_given t key = cond (is_keyed t) null (unwrap_or (slice_get key 0) null)
+
+-- what is stored beside the rowid
+abbrev pub stored_beside : Table → List Cell → List Cell → Row
+stored_beside t key columns = values_of (beside_rowid t null key ++ columns)
+
+-- the row that is given for the cells
+abbrev pub row_given : Table → List Cell → List Cell → Row
+row_given t key columns = value_of (id_given t key) ∷ stored_beside t key columns
+
 -- the table takes the cells as they are
 pub record Fits (t : Table) (key columns : List Cell) : Type 0 where
-  pub given : (limit : Option ℕ) (db : Database) (rows : List Row) → Sourced limit db (stamped (schema_at t) (values_of (key ++ columns))) (source_at t) (Ok rows) → rows ≡ (Null ∷ values_of (key ++ columns)) ∷ []
-  pub mends : mended Replace (schema_at t) (Null ∷ values_of (key ++ columns)) ≡ Null ∷ values_of (key ++ columns)
-  pub suits : suit (schema_at t).columns (key ++ columns) ≡ true
-  pub keyed : (n : ℤ) → cells_at (layout_at t).keys (Int n ∷ values_of (key ++ columns)) ≡ key
-  pub shows : (n : ℤ) → cells_at (layout_at t).columns (Int n ∷ values_of (key ++ columns)) ≡ columns
-  pub whole : (n : ℤ) → are_sound (layout_at t).keys (Int n ∷ values_of (key ++ columns)) ≡ true
+  -- they are what the statements read of the parameters
+  pub whole : IsKeyOf t (values_of (key ++ columns))
+  pub named : key_given t (values_of (key ++ columns)) ≡ key
+  pub given : (limit : Option ℕ) (db : Database) (rows : List Row) → Sourced limit db (stamped (schema_at t) (values_of (key ++ columns))) (source_at t) (Ok rows) → rows ≡ row_given t key columns ∷ []
+  pub rest : (row : Row) → eval_all (others_given t) (values_of (key ++ columns) ∷ row ∷ []) ≡ values_of columns
+  -- the columns take them
+  pub numbered : suits_kind kind.Integer (id_given t key) ≡ true
+  pub suits : suit (schema_at t).columns (beside_rowid t null key ++ columns) ≡ true
+  -- a row of them that is added, and one that took them, show them
+  pub placed : (rows : List Row) → (cells_at (layout_at t).keys (with_rowid Chosen rows (row_given t key columns)) ≡ key) × (cells_at (layout_at t).columns (with_rowid Chosen rows (row_given t key columns)) ≡ columns)
+  pub kept : (n : ℤ) (row : Row) → cells_at (layout_at t).keys (Int n ∷ row) ≡ key → cells_at (layout_at t).keys (Int n ∷ stored_beside t key columns) ≡ key
+  pub shows : (n : ℤ) → cells_at (layout_at t).columns (Int n ∷ stored_beside t key columns) ≡ columns

@@ -3,25 +3,29 @@ use Rattle.std.specs.Prelude.{[], ◌∷◌, codes, refl}
 use Rattle.sqlite.specs.Listing.{understood}
 use Rattle.sqlite_tied.specs.Compute.{everything}
 use Rattle.office_tables_shelf.specs.declared.rows.Table.TheVariants.{Timing}
-use Rattle.office_tables_sql.specs.Tables.{IsListText, IsFindText, IsCountText, IsPutText, IsRemoveText}
-use Rattle.office_tables_sql.specs.declared.timing.TheConstants.{LIST, FIND, COUNT, PUT, REMOVE}
+use Rattle.office_tables_sql.specs.Tables.{IsListText, IsFindText, IsCountText, IsUpdateText, IsInsertText, IsRemoveText}
+use Rattle.office_tables_sql.specs.declared.timing.TheConstants.{LIST, FIND, COUNT, UPDATE, INSERT, REMOVE}
 
 pub lists : IsListText Timing LIST.now
 unfolding understood everything
-lists = record { keyed = refl; names = codes "inter" ∷ codes "kind" ∷ codes "a" ∷ codes "b" ∷ codes "body" ∷ []; is = refl; query = record { plain = (refl, refl); unlisted = refl } }
+lists = record { names = codes "inter" ∷ codes "kind" ∷ codes "a" ∷ codes "b" ∷ codes "body" ∷ []; is = refl; query = record { plain = (refl, refl); unlisted = refl } }
 
 pub finds : IsFindText Timing FIND.now
 unfolding understood everything
-finds = record { keyed = refl; names = codes "inter" ∷ codes "kind" ∷ codes "a" ∷ codes "b" ∷ codes "body" ∷ []; is = refl; query = record { plain = (refl, refl); unlisted = refl } }
+finds = record { names = codes "inter" ∷ codes "kind" ∷ codes "a" ∷ codes "b" ∷ codes "body" ∷ []; is = refl; query = record { plain = (refl, refl); unlisted = refl } }
 
 pub counts : IsCountText Timing COUNT.now
 unfolding understood everything
-counts = record { keyed = refl; names = codes "count(*)" ∷ []; is = refl; query = record { plain = (refl, refl); unlisted = refl } }
+counts = record { names = codes "count(*)" ∷ []; is = refl; query = record { plain = (refl, refl); unlisted = refl } }
 
-pub puts : IsPutText Timing PUT.now
+pub updates : IsUpdateText Timing UPDATE.now
 unfolding understood everything
-puts = record { keyed = refl; is = refl; plain = (refl, refl) }
+updates = record { is = refl; plain = (refl, refl) }
+
+pub inserts : IsInsertText Timing INSERT.now
+unfolding understood everything
+inserts = record { is = refl; plain = (refl, refl) }
 
 pub removes : IsRemoveText Timing REMOVE.now
 unfolding understood everything
-removes = record { keyed = refl; is = refl; plain = (refl, refl) }
+removes = record { is = refl; plain = (refl, refl) }

@@ -13,15 +13,16 @@ const LIST: &str = "SELECT part, number, day, amount FROM delivery ORDER BY part
 
 const FIND: &str = "SELECT part, number, day, amount FROM delivery WHERE part = ?1 AND number = ?2";
 
-const PUT: &str =
-    "INSERT OR REPLACE INTO delivery (part, number, day, amount) VALUES (?1, ?2, ?3, ?4)";
+const UPDATE: &str = "UPDATE delivery SET day = ?3, amount = ?4 WHERE part = ?1 AND number = ?2";
+
+const INSERT: &str = "INSERT INTO delivery (part, number, day, amount) VALUES (?1, ?2, ?3, ?4)";
 
 impl StoredRow for Delivery {
     ghost use Rattle.std.specs.Prelude.{refl};
     ghost use Rattle.cabinet_core.specs.Within.{IsDeliveryWithin};
     ghost use Rattle.office_tables_shelf.specs.CabinetRows.{delivery_key, delivery_columns};
     ghost use Rattle.office_tables_shelf.specs.declared.rows.Table.TheVariants as table;
-    ghost use Rattle.office_tables_sql.specs.declared.delivery.TheConstants.{LIST, FIND, PUT};
+    ghost use Rattle.office_tables_sql.specs.declared.delivery.TheConstants.{LIST, FIND, UPDATE, INSERT};
     ghost use Rattle.office_tables_sql.specs.DeliveryTexts as texts;
 
     type Of = ();
@@ -40,15 +41,19 @@ impl StoredRow for Delivery {
 
     ghost find_text = { FIND.now };
 
-    ghost put_text = { PUT.now };
+    ghost update_text = { UPDATE.now };
+
+    ghost insert_text = { INSERT.now };
 
     ghost lists = { texts.lists };
 
     ghost finds = { texts.finds };
 
-    ghost puts = { texts.puts };
+    ghost updates = { texts.updates };
 
-    ghost fits = { λ _ delivery. record { given = λ limit db rows h. h.1; mends = refl; suits = refl; keyed = λ n. refl; shows = λ n. refl; whole = λ n. refl } };
+    ghost inserts = { texts.inserts };
+
+    ghost fits = { λ _ delivery. record { whole = refl; named = refl; given = λ limit db rows h. h.1; rest = λ row. refl; numbered = refl; suits = refl; placed = λ rows. (refl, refl); kept = λ n row has. refl; shows = λ n. refl } };
 
     fn list_text() -> &'static str {
         LIST
@@ -58,8 +63,12 @@ impl StoredRow for Delivery {
         FIND
     }
 
-    fn put_text() -> &'static str {
-        PUT
+    fn update_text() -> &'static str {
+        UPDATE
+    }
+
+    fn insert_text() -> &'static str {
+        INSERT
     }
 
     fn read(alloc: Global, _of: (), row: &Row) -> Result<Delivery, ShelfFault> {

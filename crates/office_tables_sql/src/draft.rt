@@ -22,8 +22,10 @@ const LIST: &str =
 const FIND: &str =
     "SELECT inter, kind, a, b, body FROM draft WHERE inter = ?1 AND kind = ?2 AND a = ?3 AND b = ?4";
 
-const PUT: &str =
-    "INSERT OR REPLACE INTO draft (inter, kind, a, b, body) VALUES (?1, ?2, ?3, ?4, ?5)";
+const UPDATE: &str =
+    "UPDATE draft SET body = ?5 WHERE inter = ?1 AND kind = ?2 AND a = ?3 AND b = ?4";
+
+const INSERT: &str = "INSERT INTO draft (inter, kind, a, b, body) VALUES (?1, ?2, ?3, ?4, ?5)";
 
 const REMOVE: &str = "DELETE FROM draft WHERE inter = ?1 AND kind = ?2 AND a = ?3 AND b = ?4";
 
@@ -58,7 +60,7 @@ impl StoredRow for Change {
     ghost use Rattle.signal_records.specs.Within.{IsChangeWithin, current_limits};
     ghost use Rattle.office_tables_shelf.specs.Rows.{draft_key, draft_columns};
     ghost use Rattle.office_tables_shelf.specs.declared.rows.Table.TheVariants as table;
-    ghost use Rattle.office_tables_sql.specs.declared.draft.TheConstants.{LIST, FIND, PUT};
+    ghost use Rattle.office_tables_sql.specs.declared.draft.TheConstants.{LIST, FIND, UPDATE, INSERT};
     ghost use Rattle.office_tables_sql.specs.DraftTexts as texts;
 
     type Of = InterId;
@@ -77,13 +79,17 @@ impl StoredRow for Change {
 
     ghost find_text = { FIND.now };
 
-    ghost put_text = { PUT.now };
+    ghost update_text = { UPDATE.now };
+
+    ghost insert_text = { INSERT.now };
 
     ghost lists = { texts.lists };
 
     ghost finds = { texts.finds };
 
-    ghost puts = { texts.puts };
+    ghost updates = { texts.updates };
+
+    ghost inserts = { texts.inserts };
 
     ghost fits = { texts.fits };
 
@@ -95,8 +101,12 @@ impl StoredRow for Change {
         FIND
     }
 
-    fn put_text() -> &'static str {
-        PUT
+    fn update_text() -> &'static str {
+        UPDATE
+    }
+
+    fn insert_text() -> &'static str {
+        INSERT
     }
 
     /// Without a body it removes what is under its key.

@@ -18,14 +18,17 @@ const LIST: &str =
 const FIND: &str =
     "SELECT inter, number, day, clerk, body FROM inspection WHERE inter = ?1 AND number = ?2";
 
-const PUT: &str =
-    "INSERT OR REPLACE INTO inspection (inter, number, day, clerk, body) VALUES (?1, ?2, ?3, ?4, ?5)";
+const UPDATE: &str =
+    "UPDATE inspection SET day = ?3, clerk = ?4, body = ?5 WHERE inter = ?1 AND number = ?2";
+
+const INSERT: &str =
+    "INSERT INTO inspection (inter, number, day, clerk, body) VALUES (?1, ?2, ?3, ?4, ?5)";
 
 impl StoredRow for Inspection {
     ghost use Rattle.std.specs.Prelude.{refl};
     ghost use Rattle.cabinet_core.specs.Within.{IsInspectionWithin};
     ghost use Rattle.office_tables_shelf.specs.declared.rows.Table.TheVariants as table;
-    ghost use Rattle.office_tables_sql.specs.declared.inspection.TheConstants.{LIST, FIND, PUT};
+    ghost use Rattle.office_tables_sql.specs.declared.inspection.TheConstants.{LIST, FIND, UPDATE, INSERT};
     ghost use Rattle.office_tables_sql.specs.InspectionTexts as texts;
 
     type Of = InterId;
@@ -44,15 +47,19 @@ impl StoredRow for Inspection {
 
     ghost find_text = { FIND.now };
 
-    ghost put_text = { PUT.now };
+    ghost update_text = { UPDATE.now };
+
+    ghost insert_text = { INSERT.now };
 
     ghost lists = { texts.lists };
 
     ghost finds = { texts.finds };
 
-    ghost puts = { texts.puts };
+    ghost updates = { texts.updates };
 
-    ghost fits = { λ id inspection. record { given = λ limit db rows h. h.1; mends = refl; suits = refl; keyed = λ n. refl; shows = λ n. refl; whole = λ n. refl } };
+    ghost inserts = { texts.inserts };
+
+    ghost fits = { λ id inspection. record { whole = refl; named = refl; given = λ limit db rows h. h.1; rest = λ row. refl; numbered = refl; suits = refl; placed = λ rows. (refl, refl); kept = λ n row has. refl; shows = λ n. refl } };
 
     fn list_text() -> &'static str {
         LIST
@@ -62,8 +69,12 @@ impl StoredRow for Inspection {
         FIND
     }
 
-    fn put_text() -> &'static str {
-        PUT
+    fn update_text() -> &'static str {
+        UPDATE
+    }
+
+    fn insert_text() -> &'static str {
+        INSERT
     }
 
     fn read(alloc: Global, id: InterId, row: &Row) -> Result<Inspection, ShelfFault> {

@@ -26,13 +26,16 @@ const LIST: &str =
 const FIND: &str =
     "SELECT inter, number, opened, clerk, body, closed, closer FROM work_order WHERE inter = ?1 AND number = ?2";
 
-const PUT: &str =
-    "INSERT OR REPLACE INTO work_order (inter, number, opened, clerk, body, closed, closer) VALUES (?1, ?2, ?3, ?4, ?5, ?6, ?7)";
+const UPDATE: &str =
+    "UPDATE work_order SET opened = ?3, clerk = ?4, body = ?5, closed = ?6, closer = ?7 WHERE inter = ?1 AND number = ?2";
+
+const INSERT: &str =
+    "INSERT INTO work_order (inter, number, opened, clerk, body, closed, closer) VALUES (?1, ?2, ?3, ?4, ?5, ?6, ?7)";
 
 impl StoredRow for Order {
     ghost use Rattle.cabinet_core.specs.Within.{IsOrderWithin};
     ghost use Rattle.office_tables_shelf.specs.declared.rows.Table.TheVariants as table;
-    ghost use Rattle.office_tables_sql.specs.declared.order.TheConstants.{LIST, FIND, PUT};
+    ghost use Rattle.office_tables_sql.specs.declared.order.TheConstants.{LIST, FIND, UPDATE, INSERT};
     ghost use Rattle.office_tables_sql.specs.OrderTexts as texts;
 
     type Of = InterId;
@@ -51,13 +54,17 @@ impl StoredRow for Order {
 
     ghost find_text = { FIND.now };
 
-    ghost put_text = { PUT.now };
+    ghost update_text = { UPDATE.now };
+
+    ghost insert_text = { INSERT.now };
 
     ghost lists = { texts.lists };
 
     ghost finds = { texts.finds };
 
-    ghost puts = { texts.puts };
+    ghost updates = { texts.updates };
+
+    ghost inserts = { texts.inserts };
 
     ghost fits = { λ id order. texts.fits id order.number order.opened order.clerk order.text order.closing };
 
@@ -69,8 +76,12 @@ impl StoredRow for Order {
         FIND
     }
 
-    fn put_text() -> &'static str {
-        PUT
+    fn update_text() -> &'static str {
+        UPDATE
+    }
+
+    fn insert_text() -> &'static str {
+        INSERT
     }
 
     fn read(alloc: Global, id: InterId, row: &Row) -> Result<Order, ShelfFault> {

@@ -23,7 +23,9 @@ const LIST: &str = "SELECT code, hand FROM part ORDER BY code";
 
 const FIND: &str = "SELECT code, hand FROM part WHERE code = ?1";
 
-const PUT: &str = "INSERT OR REPLACE INTO part (code, hand) VALUES (?1, ?2)";
+const UPDATE: &str = "UPDATE part SET hand = ?2 WHERE code = ?1";
+
+const INSERT: &str = "INSERT INTO part (code, hand) VALUES (?1, ?2)";
 
 impl StoredRow for (PartCode, Hand) {
     ghost use Rattle.std.specs.Prelude.{refl};
@@ -31,7 +33,7 @@ impl StoredRow for (PartCode, Hand) {
     ghost use Rattle.office_tables_shelf.specs.CabinetReads.{IsHand};
     ghost use Rattle.office_tables_shelf.specs.CabinetRows.{part_key, part_columns};
     ghost use Rattle.office_tables_shelf.specs.declared.rows.Table.TheVariants as table;
-    ghost use Rattle.office_tables_sql.specs.declared.part.TheConstants.{LIST, FIND, PUT};
+    ghost use Rattle.office_tables_sql.specs.declared.part.TheConstants.{LIST, FIND, UPDATE, INSERT};
     ghost use Rattle.office_tables_sql.specs.PartTexts as texts;
 
     type Of = ();
@@ -50,15 +52,19 @@ impl StoredRow for (PartCode, Hand) {
 
     ghost find_text = { FIND.now };
 
-    ghost put_text = { PUT.now };
+    ghost update_text = { UPDATE.now };
+
+    ghost insert_text = { INSERT.now };
 
     ghost lists = { texts.lists };
 
     ghost finds = { texts.finds };
 
-    ghost puts = { texts.puts };
+    ghost updates = { texts.updates };
 
-    ghost fits = { λ _ part. record { given = λ limit db rows h. h.1; mends = refl; suits = refl; keyed = λ n. refl; shows = λ n. refl; whole = λ n. refl } };
+    ghost inserts = { texts.inserts };
+
+    ghost fits = { λ _ part. record { whole = refl; named = refl; given = λ limit db rows h. h.1; rest = λ row. refl; numbered = refl; suits = refl; placed = λ rows. (refl, refl); kept = λ n row has. refl; shows = λ n. refl } };
 
     fn list_text() -> &'static str {
         LIST
@@ -68,8 +74,12 @@ impl StoredRow for (PartCode, Hand) {
         FIND
     }
 
-    fn put_text() -> &'static str {
-        PUT
+    fn update_text() -> &'static str {
+        UPDATE
+    }
+
+    fn insert_text() -> &'static str {
+        INSERT
     }
 
     fn read(alloc: Global, _of: (), row: &Row) -> Result<(PartCode, Hand), ShelfFault> {

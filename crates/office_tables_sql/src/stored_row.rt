@@ -10,7 +10,7 @@ ghost use Rattle.office_tables_shelf.specs.Rows.{timing_key};
 ghost use Rattle.office_tables_shelf.specs.declared.rows.Table.{Table};
 ghost use Rattle.office_tables_sql.specs.Stored.{content_now};
 ghost use Rattle.office_tables_sql.specs.Calls.{IsHonest, IsOffice, IsReady, Keeps, StandsOn};
-ghost use Rattle.office_tables_sql.specs.Tables.{put_in, remove_in, key_values, key_shown, columns_shown, width_of, key_given, IsKeyOf, IsUnder, ReadsRow, HasDamagedUnder, IsNoRow, IsListText, IsFindText, IsPutText, IsRemoveText, Fits, values_of};
+ghost use Rattle.office_tables_sql.specs.Tables.{put_in, remove_in, key_values, key_shown, columns_shown, width_of, key_given, IsKeyOf, IsUnder, ReadsRow, HasDamagedUnder, IsNoRow, IsListText, IsFindText, IsUpdateText, IsInsertText, IsRemoveText, Fits, values_of};
 
 use crate::statement::{SqlFault, select_one, write};
 use office_tables_shelf::shelf::ShelfFault;
@@ -37,8 +37,10 @@ pub trait StoredRow: Sized + Drop {
     ghost list_text: { List ℕ };
     /// The query of the row under a whole key.
     ghost find_text: { List ℕ };
-    /// The statement that puts a row under its key.
-    ghost put_text: { List ℕ };
+    /// The statement that changes the row under a key.
+    ghost update_text: { List ℕ };
+    /// The statement that adds a row.
+    ghost insert_text: { List ℕ };
 
     fn list_text() -> &'static str
         ensures { result.now ≡ list_text };
@@ -46,8 +48,11 @@ pub trait StoredRow: Sized + Drop {
     fn find_text() -> &'static str
         ensures { result.now ≡ find_text };
 
-    fn put_text() -> &'static str
-        ensures { result.now ≡ put_text };
+    fn update_text() -> &'static str
+        ensures { result.now ≡ update_text };
+
+    fn insert_text() -> &'static str
+        ensures { result.now ≡ insert_text };
 
     /// What a row of the list stands for.
     fn read(alloc: Global, of: Self::Of, row: &Row) -> Result<Self, ShelfFault>
@@ -55,7 +60,7 @@ pub trait StoredRow: Sized + Drop {
         ensures columns { IfOk result (λ x. columns x ≡ columns_shown table row.now) }
         ensures damaged { result ≡ Err ShelfFault.Damaged → length row.now ≡ width_of table → IsNoRow is_within key columns (number of) (key_shown table row.now) (columns_shown table row.now) };
 
-    /// The parameters of the statement that puts it; `text` is room for a text that is made for it.
+    /// The parameters of the statements that put it; `text` is room for a text that is made for it.
     fn bind<'a>(
         &'a self,
         alloc: Global,
@@ -68,7 +73,9 @@ pub trait StoredRow: Sized + Drop {
 
     ghost finds: { IsFindText table find_text };
 
-    ghost puts: { IsPutText table put_text };
+    ghost updates: { IsUpdateText table update_text };
+
+    ghost inserts: { IsInsertText table insert_text };
 
     ghost fits: { (id : ℕ) (x : Self) → Fits table (key id x) (columns x) };
 }
@@ -120,7 +127,7 @@ fn under<T: StoredRow, S: Alter>(
     select_one(conn, T::find_text(), key)
 }
 
-/// Puts a row under its key.
+/// Puts a row under its key: changes the row that is there, or adds one.
 pub fn put<T: StoredRow, S: Alter>(
     alloc: Global,
     tx: &mut Transaction<'_, S>,
@@ -137,7 +144,10 @@ pub fn put<T: StoredRow, S: Alter>(
     let Ok(values) = row.bind(alloc, of, &mut text) else {
         return Err(SqlFault::NoMemory);
     };
-    write(tx, T::put_text(), values.as_slice())?;
+    let changed = write(tx, T::update_text(), values.as_slice())?;
+    if changed == 0 {
+        write(tx, T::insert_text(), values.as_slice())?;
+    }
     Ok(())
 }
 

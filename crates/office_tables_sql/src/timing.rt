@@ -26,8 +26,10 @@ const FIND: &str =
 
 const COUNT: &str = "SELECT count(*) FROM timing WHERE inter = ?1";
 
-const PUT: &str =
-    "INSERT OR REPLACE INTO timing (inter, kind, a, b, body) VALUES (?1, ?2, ?3, ?4, ?5)";
+const UPDATE: &str =
+    "UPDATE timing SET body = ?5 WHERE inter = ?1 AND kind = ?2 AND a = ?3 AND b = ?4";
+
+const INSERT: &str = "INSERT INTO timing (inter, kind, a, b, body) VALUES (?1, ?2, ?3, ?4, ?5)";
 
 const REMOVE: &str = "DELETE FROM timing WHERE inter = ?1 AND kind = ?2 AND a = ?3 AND b = ?4";
 
@@ -53,7 +55,7 @@ impl StoredRow for Row {
     ghost use Rattle.signal_records.specs.Within.{IsRowWithin, current_limits};
     ghost use Rattle.office_tables_shelf.specs.Rows.{timing_key, timing_columns};
     ghost use Rattle.office_tables_shelf.specs.declared.rows.Table.TheVariants as table;
-    ghost use Rattle.office_tables_sql.specs.declared.timing.TheConstants.{LIST, FIND, PUT};
+    ghost use Rattle.office_tables_sql.specs.declared.timing.TheConstants.{LIST, FIND, UPDATE, INSERT};
     ghost use Rattle.office_tables_sql.specs.TimingTexts as texts;
 
     type Of = InterId;
@@ -72,15 +74,19 @@ impl StoredRow for Row {
 
     ghost find_text = { FIND.now };
 
-    ghost put_text = { PUT.now };
+    ghost update_text = { UPDATE.now };
+
+    ghost insert_text = { INSERT.now };
 
     ghost lists = { texts.lists };
 
     ghost finds = { texts.finds };
 
-    ghost puts = { texts.puts };
+    ghost updates = { texts.updates };
 
-    ghost fits = { λ id row. record { given = λ limit db rows h. h.1; mends = refl; suits = refl; keyed = λ n. refl; shows = λ n. refl; whole = λ n. refl } };
+    ghost inserts = { texts.inserts };
+
+    ghost fits = { λ id row. record { whole = refl; named = refl; given = λ limit db rows h. h.1; rest = λ row. refl; numbered = refl; suits = refl; placed = λ rows. (refl, refl); kept = λ n row has. refl; shows = λ n. refl } };
 
     fn list_text() -> &'static str {
         LIST
@@ -90,8 +96,12 @@ impl StoredRow for Row {
         FIND
     }
 
-    fn put_text() -> &'static str {
-        PUT
+    fn update_text() -> &'static str {
+        UPDATE
+    }
+
+    fn insert_text() -> &'static str {
+        INSERT
     }
 
     /// Its body is a row, and the columns before it are that row's key.

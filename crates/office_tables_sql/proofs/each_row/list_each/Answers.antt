@@ -1,4 +1,4 @@
-use Rattle.std.proofs.Common.{◌≡◌, ◌++◌, rules, refl, pos, None, Some, [], ◌∷◌, map, arith, ap, subst, sym, ◌∙◌, Err}
+use Rattle.std.proofs.Common.{◌≡◌, ◌++◌, rules, refl, None, Some, [], ◌∷◌, map, arith, ap, subst, sym, ◌∙◌, Err}
 use Rattle.std.specs.Prelude.{option_copied}
 use Rattle.sqlite.specs.Given.{GivesOn, row_if}
 use Rattle.sqlite.specs.Order.{Row}
@@ -79,7 +79,7 @@ returns-in_default-get-clause-rows g c =
     let shown = λ (clean : HasCleanDisk new). subst (GivesOn g.S.Store text params c.rows.rows.conn.now c.advance.new.self.conn.now now.1) none (step.ok clean text params now.1 now.2) in
     let reads : Reads sql params old.now now.1 = all_read sql text params means.query old c.requires.office c.requires.opened c.requires.text mid inv.1 inv.2 (λ clean. (inv.3 clean).0) new step.survives mode now.1 shown honest in
     let was : IsHonest old = (still_keeps sql text params means.query old c.requires.office c.requires.opened c.requires.text new survives mode unchanged).honest honest in
-    now.3 ∙ lists g.T.StoredRow.table means.keyed old.now (c.requires.office.schema was) (c.requires.office.sound was) (c.requires.office.ordered was) sql means (g.T.StoredRow.number c.args.of) now.1 reads in
+    now.3 ∙ lists g.T.StoredRow.table old.now (c.requires.office.schema was) (c.requires.office.sound was) (c.requires.office.ordered was) sql means (g.T.StoredRow.number c.args.of) now.1 reads in
     search rules
 
 pub returns-in_default-get-clause-kept : goal.returns-in_default-get-clause-kept
@@ -126,7 +126,7 @@ returns-in_err-record-clause-damaged g c bad =
     let sound = c.requires.office.sound was in
     let ordered = c.requires.office.ordered was in
     damaged_at g.T.StoredRow.table g.T.StoredRow.is_within g.T.StoredRow.key g.T.StoredRow.columns (content_now old) (g.T.StoredRow.number c.args.of) all
-    (lists g.T.StoredRow.table means.keyed old.now schema sound ordered sql means (g.T.StoredRow.number c.args.of) all whole.1) (width g.T.StoredRow.table means.keyed old.now schema sound ordered sql means (g.T.StoredRow.number c.args.of) all whole.1)
+    (lists g.T.StoredRow.table old.now schema sound ordered sql means (g.T.StoredRow.number c.args.of) all whole.1) (width g.T.StoredRow.table old.now schema sound ordered sql means (g.T.StoredRow.number c.args.of) all whole.1)
     c.in-Some.row.now (has_mid now.1 c.in-Some.row.now whole.0) (c.read.ensures.damaged is) in
     search rules
 

@@ -17,5 +17,5 @@ returns-clause-found g c honest =
     let means = g.met.T.StoredRow.finds in
     let key = bound c.args.key.now in
     IfOk-weaker c.select_one.result (λ row. Reads g.T.StoredRow.find_text key db (option_to_list row)) _
-    (λ row. finds g.T.StoredRow.table means.keyed db (c.requires.office.schema before) (c.requires.office.sound before) (c.requires.office.ordered before) g.T.StoredRow.find_text means key c.requires.key row)
+    (λ row. finds g.T.StoredRow.table db (c.requires.office.schema before) (c.requires.office.sound before) (c.requires.office.ordered before) g.T.StoredRow.find_text means key c.requires.key row)
     (rw c.find_text.ensures at (c.select_one.ensures.row honest))

@@ -1,4 +1,4 @@
-use Rattle.std.proofs.Common.{◌<◌, ◌^◌, rules, pos, refl, [], ◌∷◌}
+use Rattle.std.proofs.Common.{◌<◌, ◌^◌, rules, pos, [], ◌∷◌}
 use Rattle.sqlite.specs.declared.types.Value.TheVariants.{Int}
 use Rattle.sqlite.specs.Held.{state}
 use Rattle.office_tables_shelf.specs.declared.rows.Table.TheVariants.{Timing}
@@ -18,4 +18,4 @@ returns-in-Ok-clause-count g c honest =
     let read : Reads COUNT.now (Int (pos c.args.id) ∷ []) db (c.in-Some.row ∷ []) =
     rw (c.in-Some.is, c.params-to_sql.ensures, c.get.ensures.value) at (c.in_ok-row.ensures.row honest) in
     let low : c.in-Ok.count < 2 ^ 32 = search rules in
-    counts Timing refl db (c.requires.schema before) (c.requires.sound before) (c.requires.ordered before) COUNT.now texts.counts c.args.id c.in-Some.row read c.in-Ok.count low c.in-Ok.ensures.ok
+    counts Timing db (c.requires.schema before) (c.requires.sound before) (c.requires.ordered before) COUNT.now texts.counts c.args.id c.in-Some.row read c.in-Ok.count low c.in-Ok.ensures.ok

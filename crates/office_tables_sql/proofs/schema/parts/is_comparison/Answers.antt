@@ -1,4 +1,4 @@
-use Rattle.std.proofs.Common.{◌≡◌, ◌∷◌, [], sym, ap, ap₂, ◌∙◌, arith}
+use Rattle.std.proofs.Common.{sym, ap, ap₂, ◌∙◌, arith}
 use Rattle.sqlite_schema.specs.Code.{terms_in}
 use Rattle.office_tables_sql.proofs.CheckLemmas.{compared, comparing, one_root}
 use Rattle.office_tables_sql.proofs.schema.parts.is_comparison.Goals as goal
