@@ -100,9 +100,9 @@ close_changes (Some order) asked = PutOrder (with_closing order asked) ∷ []
 abbrev pub receive_changes : Option ℕ → Delivery → List CabinetChange
 receive_changes hand asked = PutPart asked.part (on_hand hand + asked.count) ∷ PutDelivery asked ∷ []
 
--- a decision says which line it is, and where something is added, which rows are put
+-- a decision says which line it is, and where something is added, which rows are put; want of memory is told only where something is to be added
 abbrev pub Records : Result Recorded CabinetRefusal → Line → List CabinetChange → Type 0
 Records (Ok (Added changes)) line list = (line ≡ added) × (changes.items ≡ list)
 Records (Ok Same) line list = line ≡ same
-Records (Err NoMemory) line list = Unit
+Records (Err NoMemory) line list = line ≡ added
 Records (Err refusal) line list = line ≡ refused refusal

@@ -1,5 +1,5 @@
 -- What a decision of the transaction has to give.
-use Rattle.std.specs.Prelude.{◌≡◌, ◌⊎◌, ℕ, ◌+◌, List, [], ◌∷◌, cond, Option, Some, None, Result, Ok, Err}
+use Rattle.std.specs.Prelude.{◌≡◌, ◌⊎◌, ℕ, ◌+◌, List, [], ◌∷◌, cond, Option, Some, None, Result, Ok, Err, IfErr}
 use Rattle.std.specs.Option.{option_map}
 use Rattle.std.specs.FinMap.{get}
 use Rattle.std.specs.Ordering.{eq_by_cmp}
@@ -16,7 +16,7 @@ use Rattle.draft_core.specs.declared.timing.Move.{Move}
 use Rattle.draft_core.specs.declared.timing.TimingChange.{TimingChange}
 use Rattle.draft_core.specs.declared.timing.TimingChange.TheVariants.{Committed, Drafted, DraftGone}
 use Rattle.draft_core.specs.declared.refusal.DraftRefusal.{DraftRefusal}
-use Rattle.draft_core.specs.declared.refusal.DraftRefusal.TheVariants.{NoMemory}
+use Rattle.draft_core.specs.declared.refusal.DraftRefusal.TheVariants.{NotNormal, NotTransaction, NotOwner, NotVerify, NotDone, VerifyFailed, RevisionFull, NoMemory}
 use Rattle.draft_core.specs.DraftRows.{TimingStands, RowStands, row_at, said_at, changed_key, left_by, overlaid}
 use Rattle.draft_core.specs.Transaction.{TimingSide, holder_of, state_of, verdict_of}
 
@@ -86,3 +86,27 @@ FollowsLine timing clerk result line = (side : TimingSide) → TimingStands timi
 -- whichever timing side is stood for, if its committed set breaks no rule
 abbrev pub FollowsSoundLine : Timing → List ℕ → Result Move DraftRefusal → (TimingSide → Result TimingSide DraftRefusal) → Type 0
 FollowsSoundLine timing clerk result line = (side : TimingSide) → TimingStands timing side → violations_of side.committed ≡ [] → Follows timing clerk result (line side)
+
+-- ---- refusals, whichever timing side is stood for, or none
+
+-- what the test of state and owner refuses is refused so, never for want of memory; what it passes is refused, if at all, for what comes after it
+abbrev pub RefusesFirst : Option DraftRefusal → (DraftRefusal → Type 0) → Result Move DraftRefusal → Type 0
+RefusesFirst (Some why) Later result = result ≡ Err why
+RefusesFirst None Later result = IfErr result Later
+
+abbrev pub Never : DraftRefusal → Type 0
+Never why = ⊥
+
+abbrev pub IsMemory : DraftRefusal → Type 0
+IsMemory why = why ≡ NoMemory
+
+-- a draft that was checked is not committed
+abbrev pub IsUnsettled : DraftRefusal → Type 0
+IsUnsettled (VerifyFailed count) = Unit {0}
+IsUnsettled RevisionFull = Unit {0}
+IsUnsettled NoMemory = Unit {0}
+IsUnsettled NotNormal = ⊥
+IsUnsettled NotTransaction = ⊥
+IsUnsettled NotOwner = ⊥
+IsUnsettled NotVerify = ⊥
+IsUnsettled NotDone = ⊥

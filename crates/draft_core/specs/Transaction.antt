@@ -69,6 +69,16 @@ refused_by None stage wrong clerk = Some wrong
 refused_by (Some holder) stage wrong clerk =
     if is_stage holder.stage stage then (if bytes_eq holder.owner clerk then None else Some NotOwner) else Some wrong
 
+-- a draft is held already
+abbrev pub refused_if_held : Option Holder → Option DraftRefusal
+refused_if_held None = None
+refused_if_held (Some holder) = Some NotNormal
+
+-- there is no draft
+abbrev pub refused_if_free : Option Holder → Option DraftRefusal
+refused_if_free None = Some NotTransaction
+refused_if_free (Some holder) = None
+
 -- the step, where there is no refusal and a draft is held
 abbrev pub unless : Option DraftRefusal → Option Draft → DraftRefusal → (Draft → Result TimingSide DraftRefusal) → Result TimingSide DraftRefusal
 unless (Some refusal) draft wrong step = Err refusal

@@ -1,11 +1,11 @@
 //! The transaction table as decisions: what each command changes, or why it is refused.
 
-ghost use Rattle.std.specs.Prelude.{◌≡◌, ◌≤◌, [], length, Some, IfOk, List, ℕ};
+ghost use Rattle.std.specs.Prelude.{◌≡◌, ◌≤◌, [], length, Some, IfErr, IfOk, List, ℕ};
 ghost use Rattle.signal_rules.specs.Violations.{violations_of};
 ghost use Rattle.draft_core.specs.Transaction as table;
 ghost use Rattle.draft_core.specs.Transaction.{TimingSide, Draft};
 ghost use Rattle.draft_core.specs.DraftRows.{TimingStands};
-ghost use Rattle.draft_core.specs.Moves.{Follows, FollowsLine, FollowsSoundLine, timing_writes, draft_writes};
+ghost use Rattle.draft_core.specs.Moves.{Follows, FollowsLine, FollowsSoundLine, IsMemory, IsUnsettled, Never, RefusesFirst, timing_writes, draft_writes};
 
 use crate::holding::refused_by;
 use crate::judging::{next_revision, verdict_on};
@@ -37,6 +37,7 @@ fn stays(alloc: Global, timing: &Timing, state: DbState, verdict: Verdict) -> Mo
 /// `NotNormal` in each state but Normal.
 pub fn begin(alloc: Global, timing: &Timing, _clerk: &Words<40>) -> Result<Move, DraftRefusal>
     ensures line { FollowsLine timing.now _clerk.now result (λ side. table.begun side _clerk.now) }
+    ensures refuses { RefusesFirst (table.refused_if_held timing.now.holder) Never result }
     ensures bounds { IfOk result (λ move. move.changes.items ≡ []) }
 {
     if timing.holder.is_some() {
@@ -56,6 +57,7 @@ pub fn edit(
     changes: &[Change],
 ) -> Result<Move, DraftRefusal>
     ensures line { FollowsLine timing.now clerk.now result (λ side. table.edited side clerk.now changes.now) }
+    ensures refuses { RefusesFirst (table.refused_by timing.now.holder Stage.Transaction DraftRefusal.NotTransaction clerk.now) IsMemory result }
     ensures bounds { IfOk result (λ move. (timing_writes move.changes.items ≡ 0) × (draft_writes move.changes.items ≤ length changes.now)) }
 {
     let wrong = DraftRefusal::NotTransaction;
@@ -75,6 +77,7 @@ pub fn edit(
 /// `NotTransaction` in each state but Transaction, and then `NotOwner` for another clerk.
 pub fn verify(alloc: Global, timing: &Timing, clerk: &Words<40>) -> Result<Move, DraftRefusal>
     ensures line { FollowsLine timing.now clerk.now result (λ side. table.verified side clerk.now) }
+    ensures refuses { RefusesFirst (table.refused_by timing.now.holder Stage.Transaction DraftRefusal.NotTransaction clerk.now) Never result }
     ensures bounds { IfOk result (λ move. move.changes.items ≡ []) }
 {
     let wrong = DraftRefusal::NotTransaction;
@@ -89,6 +92,7 @@ pub fn verify(alloc: Global, timing: &Timing, clerk: &Words<40>) -> Result<Move,
 /// `NotVerify` in each state but Verify, and then `NotOwner` for another clerk.
 pub fn check(alloc: Global, timing: &Timing, clerk: &Words<40>) -> Result<Move, DraftRefusal>
     ensures line { FollowsSoundLine timing.now clerk.now result (λ side. table.checked side clerk.now) }
+    ensures refuses { RefusesFirst (table.refused_by timing.now.holder Stage.Verify DraftRefusal.NotVerify clerk.now) IsMemory result }
     ensures bounds { IfOk result (λ move. move.changes.items ≡ []) }
 {
     let wrong = DraftRefusal::NotVerify;
@@ -106,6 +110,7 @@ pub fn check(alloc: Global, timing: &Timing, clerk: &Words<40>) -> Result<Move, 
 /// breaks rules, and `RevisionFull` at the last revision, in this order.
 pub fn commit(alloc: Global, timing: &Timing, clerk: &Words<40>) -> Result<Move, DraftRefusal>
     ensures line { FollowsSoundLine timing.now clerk.now result (λ side. table.committed side clerk.now) }
+    ensures refuses { RefusesFirst (table.refused_by timing.now.holder Stage.Done DraftRefusal.NotDone clerk.now) IsUnsettled result }
     ensures bounds { IfOk result (λ move. (timing_writes move.changes.items ≤ length timing.now.delta) × (draft_writes move.changes.items ≤ length timing.now.delta)) }
 {
     let wrong = DraftRefusal::NotDone;
@@ -119,6 +124,7 @@ pub fn commit(alloc: Global, timing: &Timing, clerk: &Words<40>) -> Result<Move,
 fn settled(alloc: Global, timing: &Timing) -> Result<Move, DraftRefusal>
     ensures line { (side : TimingSide) → (draft : Draft) → (clerk : List ℕ) → TimingStands timing.now side → side.draft ≡ Some draft → violations_of side.committed ≡ [] →
         Follows timing.now clerk result (table.committed_with side draft (violations_of draft.set)) }
+    ensures refuses { IfErr result IsUnsettled }
     ensures bounds { IfOk result (λ move. (timing_writes move.changes.items ≤ length timing.now.delta) × (draft_writes move.changes.items ≤ length timing.now.delta)) }
 {
     let found = violations_after(alloc, &timing.committed, timing.delta.as_slice())?;
@@ -136,6 +142,7 @@ fn settled(alloc: Global, timing: &Timing) -> Result<Move, DraftRefusal>
 /// `NotDone` in each state but Done, and then `NotOwner` for another clerk.
 pub fn reopen(alloc: Global, timing: &Timing, clerk: &Words<40>) -> Result<Move, DraftRefusal>
     ensures line { FollowsLine timing.now clerk.now result (λ side. table.reopened side clerk.now) }
+    ensures refuses { RefusesFirst (table.refused_by timing.now.holder Stage.Done DraftRefusal.NotDone clerk.now) Never result }
     ensures bounds { IfOk result (λ move. move.changes.items ≡ []) }
 {
     let wrong = DraftRefusal::NotDone;
@@ -150,6 +157,7 @@ pub fn reopen(alloc: Global, timing: &Timing, clerk: &Words<40>) -> Result<Move,
 /// `NotTransaction` in state Normal.
 pub fn abandon(alloc: Global, timing: &Timing, _clerk: &Words<40>) -> Result<Move, DraftRefusal>
     ensures line { FollowsLine timing.now _clerk.now result table.abandoned }
+    ensures refuses { RefusesFirst (table.refused_if_free timing.now.holder) IsMemory result }
     ensures bounds { IfOk result (λ move. (timing_writes move.changes.items ≡ 0) × (draft_writes move.changes.items ≤ length timing.now.delta)) }
 {
     if timing.holder.is_none() {

@@ -1,7 +1,7 @@
 -- The records of an import, one after the other.
 use Rattle.std.proofs.Common.{◌≡◌, ◌+◌, ◌++◌, ◌≤◌, ◌<◌, ℕ, Bool, true, false, List, [], ◌∷◌, Option, Some, None, Result, Ok, Err, length, drop, get_or, zero, suc, refl, ap, sym, subst, ◌∙◌, inl, inr, arith}
 use Rattle.std.proofs.Math.Seq.{drop-cons}
-use Rattle.std.specs.Prelude.{◌⊎◌, IsErrAnd}
+use Rattle.std.specs.Prelude.{◌⊎◌}
 use Rattle.cabinet_core.specs.Cabinet.{Line, added as added_line, same as same_line, refused as refused_line}
 use Rattle.cabinet_core.specs.declared.command.RecordCommand.{RecordCommand}
 use Rattle.cabinet_core.specs.declared.command.RecordCommand.TheVariants as register
@@ -11,16 +11,15 @@ use Rattle.office_tables_shelf.specs.Counts.{writes_in}
 use Rattle.office_tables_shelf.specs.declared.rows.RowChange.{RowChange}
 use Rattle.office_tables_shelf.specs.declared.rows.Table.{Table}
 use Rattle.office_tables_shelf.specs.declared.rows.Table.TheVariants as table
-use Rattle.office_tables_shelf.specs.declared.shelf.ShelfFault.{ShelfFault}
-use Rattle.office_tables_shelf.specs.declared.shelf.ShelfFault.TheVariants.{NoMemory, Store, Damaged}
 use Rattle.office_desk_cabinet.specs.Register.{Register}
 use Rattle.office_desk_cabinet.specs.Registers.{RegistersFrom, line_told, most_record_writes, rows_told}
 use Rattle.office_desk_cabinet.specs.RegisterStands.{RegisterStandsSound}
 use Rattle.office_desk_cabinet.specs.RegisterStep.{after_line, after_record, line_at, with_record}
 use Rattle.office_desk_cabinet.specs.declared.registered.Registered.{Registered}
-use Rattle.office_desk.specs.Answers.{AnswersAny, Decides}
-use Rattle.office_desk.specs.Changes.{most_import_writes, most_writes}
+use Rattle.office_desk.specs.Answers.{AnswersAny}
+use Rattle.office_desk.specs.Changes.{IsRefused, most_import_writes, most_writes}
 use Rattle.office_desk.specs.Damage.{MeetsCabinetDamage, MeetsImportDamage}
+use Rattle.office_desk.specs.Deciding.{IsDecision}
 use Rattle.office_desk.specs.Importing.{ImportsAny, LeavesAnyTiming, TakesFrom, TakesRecord, goes_on}
 use Rattle.office_desk.specs.Office.{Office}
 use Rattle.office_desk.specs.Refusal.{line_of}
@@ -31,11 +30,14 @@ use Rattle.office_desk.specs.declared.decided.Decided.{Decided}
 use Rattle.office_desk.specs.declared.importing.Taken.{Taken}
 use Rattle.office_desk.specs.declared.importing.Taken.TheVariants as taken
 use Rattle.office_desk.specs.declared.refusal.Refusal.{Refusal}
+use Rattle.office_desk.specs.declared.refusal.Refusal.TheVariants as refusal
 use Rattle.office_desk.specs.declared.refusal.Refusal.TheVariants.{ImportRow}
 use Rattle.office_desk.specs.declared.reply.Reply.{Reply}
 use Rattle.office_desk.specs.declared.reply.Reply.TheVariants.{Imported, Refused}
+use Rattle.office_desk.proofs.Decisions.{told_decides}
 use Rattle.office_desk.proofs.Recorded.{register_of, stands_after}
 use Rattle.office_desk.proofs.Shown.{query_answers}
+use Rattle.office_desk.proofs.Writes.{import_writes}
 
 -- where the import goes on after a record, that was added or was there
 pub import_goes_on : {X : Type 0} → (P : Line → Type 0) (at : ℕ) (there : Bool) (line : Line) (added same : Result X Refusal) (done : X)
@@ -143,7 +145,7 @@ imports_same stored all rest c cs at added same before after is imports takes of
     }
 
 -- the first refusal refuses them all
-pub import_refused : (stored : Content) (all rest : List RecordCommand) (c : RecordCommand) (cs : List RecordCommand) (at added same cause : ℕ) (before after : List RowChange) (why : Refusal) (said : Reply) (changes : List RowChange) → rest ≡ c ∷ cs
+import_refused : (stored : Content) (all rest : List RecordCommand) (c : RecordCommand) (cs : List RecordCommand) (at added same cause : ℕ) (before after : List RowChange) (why : Refusal) (said : Reply) (changes : List RowChange) → rest ≡ c ∷ cs
     → ImportsAny stored all rest at added same before → TakesRecord stored before c (taken.Refused why) after → cause ≡ (line_of why).number
     → said ≡ Refused (ImportRow at cause) → changes ≡ [] → AnswersAny stored (command.Import all) said (changed_by stored changes)
 import_refused stored all rest c cs at added same cause before after why said changes left imports takes number is none office stands =
@@ -154,7 +156,7 @@ import_refused stored all rest c cs at added same cause before after why said ch
     (ap (imported office) goes ∙ (λ k. (Refused (ImportRow at (sym number k)), office))) is none
 
 -- after the last record
-pub import_done : (stored : Content) (all rest : List RecordCommand) (at added same : ℕ) (pending changes : List RowChange) (said : Reply) → rest ≡ []
+import_done : (stored : Content) (all rest : List RecordCommand) (at added same : ℕ) (pending changes : List RowChange) (said : Reply) → rest ≡ []
     → ImportsAny stored all rest at added same pending → LeavesAnyTiming pending → said ≡ Imported added same → changes ≡ pending
     → AnswersAny stored (command.Import all) said (changed_by stored changes)
 import_done stored all rest at added same pending changes said none imports leaves is rows office stands =
@@ -182,14 +184,6 @@ record_added stored seen c rows shown before after told office r slice same know
           (subst (λ l. RegisterStandsSound (changed_by (changed_by stored before) rows) (after_line l (with_record r c) r)) line
           (subst (λ t. RegisterStandsSound (changed_by (changed_by stored before) t) (after_record r c)) those from.stand));
     }
-
--- a fault of the shelf under a record
-pub fault_decides : (tables : Content) (all : List RecordCommand) (fault : ShelfFault) (result : Result Decided ShelfFault) → IsErrAnd result (λ e. e ≡ fault)
-    → (fault ≡ Damaged → MeetsImportDamage tables all) → Decides tables (command.Import all) result
-fault_decides tables all fault (Ok decided) is damage = absurd is
-fault_decides tables all fault (Err Damaged) is damage = damage (sym is)
-fault_decides tables all fault (Err NoMemory) is damage = tt
-fault_decides tables all fault (Err Store) is damage = tt
 
 -- both ways to go on at once: a record is new, or it was there
 pub imports_on : (stored : Content) (all rest : List RecordCommand) (c : RecordCommand) (cs : List RecordCommand) (at added same : ℕ) (before after : List RowChange) (t : Taken) (added_now same_now : ℕ) → rest ≡ c ∷ cs
@@ -220,35 +214,24 @@ nothing_written table pending records none = let zero_writes = ap (writes_in tab
 pub same_stored : (before : List RowChange) (c : RecordCommand) (t : Taken) (after : List RowChange) {stored seen : Content} → seen ≡ stored → TakesRecord seen before c t after → TakesRecord stored before c t after
 same_stored before c t after same takes = subst (λ s. TakesRecord s before c t after) same takes
 
--- a record writes no row but of the register
-no_others : (c : RecordCommand) → (most_record_writes c table.Intersection ≡ 0) × (most_record_writes c table.Timing ≡ 0) × (most_record_writes c table.Draft ≡ 0)
-no_others (register.Inspect id inspection) = (refl, refl, refl)
-no_others (register.OpenOrder id opening) = (refl, refl, refl)
-no_others (register.UsePart id line) = (refl, refl, refl)
-no_others (register.CloseOrder id order closing) = (refl, refl, refl)
-no_others (register.Receive delivery) = (refl, refl, refl)
+-- ---- the decision
 
-both_zero : (a b : ℕ) → a ≡ 0 → b ≡ 0 → a + b ≡ 0
-both_zero a b one two = omega (arith, one, two)
+-- every record was taken
+pub import_decides : (is_honest : Type 0) (stored : Content) (all rest : List RecordCommand) (at added same : ℕ) (pending : List RowChange) (decided : Decided) → rest ≡ []
+    → (is_honest → ImportsAny stored all rest at added same pending) → LeavesAnyTiming pending → ((table : Table) → writes_in table pending ≤ most_import_writes all table)
+    → decided.reply ≡ Imported added same → decided.changes.items ≡ pending → IsDecision is_honest stored (command.Import all) decided
+import_decides is_honest stored all rest at added same pending decided none imports leaves few told rows = record {
+  step = λ honest. import_done stored all rest at added same pending decided.changes.items decided.reply none (imports honest) leaves told rows;
+  writes = λ honest. import_writes stored all decided.changes.items (λ table. subst (λ list. writes_in table list ≤ most_import_writes all table) (sym rows) (few table));
+  refused = λ refused. absurd (subst IsRefused told refused);
+  query = λ query. absurd query;
+  undamaged = λ e. absurd (let f : Imported added same ≡ Refused refusal.Damaged = sym told ∙ e in cc);
+}
 
-none_of_others : (records : List RecordCommand) → (most_import_writes records table.Intersection ≡ 0) × (most_import_writes records table.Timing ≡ 0) × (most_import_writes records table.Draft ≡ 0)
-none_of_others [] = (refl, refl, refl)
-none_of_others (c ∷ cs) =
-    let one = no_others c in
-    let rest = none_of_others cs in (
-      both_zero (most_record_writes c table.Intersection) (most_import_writes cs table.Intersection) one.0 rest.0,
-      both_zero (most_record_writes c table.Timing) (most_import_writes cs table.Timing) one.1 rest.1,
-      both_zero (most_record_writes c table.Draft) (most_import_writes cs table.Draft) one.2 rest.2,
-    )
-
--- an import writes at most what its records may
-pub import_writes : (tables : Content) (records : List RecordCommand) (pending : List RowChange) → ((table : Table) → writes_in table pending ≤ most_import_writes records table)
-    → (table : Table) → writes_in table pending ≤ most_writes tables (command.Import records) table
-import_writes tables records pending few table.Intersection = subst (λ n. writes_in table.Intersection pending ≤ n) (none_of_others records).0 (few table.Intersection)
-import_writes tables records pending few table.Timing = subst (λ n. writes_in table.Timing pending ≤ n) (none_of_others records).1 (few table.Timing)
-import_writes tables records pending few table.Draft = subst (λ n. writes_in table.Draft pending ≤ n) (none_of_others records).2 (few table.Draft)
-import_writes tables records pending few table.Inspection = few table.Inspection
-import_writes tables records pending few table.WorkOrder = few table.WorkOrder
-import_writes tables records pending few table.Part = few table.Part
-import_writes tables records pending few table.Delivery = few table.Delivery
-import_writes tables records pending few table.UsedPart = few table.UsedPart
+-- a record was refused
+pub refused_decides : (is_honest : Type 0) (stored : Content) (all rest : List RecordCommand) (c : RecordCommand) (cs : List RecordCommand) (at added same cause : ℕ) (before after : List RowChange) (why : Refusal) (decided : Decided)
+    → rest ≡ c ∷ cs → (is_honest → ImportsAny stored all rest at added same before) → (is_honest → TakesRecord stored before c (taken.Refused why) after)
+    → cause ≡ (line_of why).number → decided.reply ≡ Refused (ImportRow at cause) → decided.changes.items ≡ [] → IsDecision is_honest stored (command.Import all) decided
+refused_decides is_honest stored all rest c cs at added same cause before after why decided left imports takes number told none =
+    told_decides is_honest stored (command.Import all) (Refused (ImportRow at cause)) decided told (λ e. cc) none
+    (λ honest. import_refused stored all rest c cs at added same cause before after why _ _ left (imports honest) (takes honest) number told none)

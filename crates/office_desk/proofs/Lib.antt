@@ -1,4 +1,5 @@
 pub mod Rows
+pub mod Decisions
 pub mod EmptySet
 pub mod KeptRegister
 pub mod Stands

@@ -1,23 +1,34 @@
 -- What AddIntersection answers, on the row that was read, is a step of the office.
-use Rattle.std.proofs.Common.{◌≡◌, ℕ, List, Option, Some, None, refl, ap, sym, subst, ◌∙◌, inr, lit≤}
+use Rattle.std.proofs.Common.{◌≡◌, ◌≢◌, ℕ, ◌≤◌, Bool, true, false, List, [], ◌∷◌, Option, Some, None, refl, ap, sym, subst, ◌∙◌, inr, lit≤, arith}
+use Rattle.std.specs.Prelude.{if◌then◌else◌, ◌==◌, ◌&&◌}
+use Rattle.std.specs.Str.{bytes_eq}
 use Rattle.std.specs.Option.{option_map}
 use Rattle.std.specs.FinMap.{get}
 use Rattle.draft_core.specs.DraftRows.{RowStands}
 use Rattle.draft_core.specs.Transaction.{TimingSide}
 use Rattle.office_tables_shelf.specs.Change.{changed, changed_by}
 use Rattle.office_tables_shelf.specs.Content.{Content}
+use Rattle.office_tables_shelf.specs.Counts.{writes_in}
 use Rattle.office_tables_shelf.specs.Rows.{timing_columns}
 use Rattle.office_tables_shelf.specs.Shelf.{ReadsIntersection}
 use Rattle.office_tables_shelf.specs.declared.rows.IntersectionRow.{IntersectionRow}
 use Rattle.office_tables_shelf.specs.declared.rows.RowChange.{RowChange}
 use Rattle.office_tables_shelf.specs.declared.rows.RowChange.TheVariants.{PutIntersection}
+use Rattle.office_tables_shelf.specs.declared.rows.Table.{Table}
+use Rattle.office_tables_shelf.specs.declared.rows.Table.TheVariants as table
 use Rattle.office_desk.specs.Adding.{AddsRow, AreLimited}
 use Rattle.office_desk.specs.Answers.{Answers}
+use Rattle.office_desk.specs.Changes.{IsRefused, most_writes}
+use Rattle.office_desk.specs.Deciding.{IsDecision}
 use Rattle.office_desk.specs.Office.{Office, IsSoundIntersection, no_timing, side_of, side_at}
 use Rattle.office_desk.specs.StandFor.{StandFor, StandForSound, row_of}
 use Rattle.office_desk.specs.Step.{added, new_intersection, with_intersection}
 use Rattle.office_desk.specs.declared.command.Command.TheVariants.{AddIntersection}
+use Rattle.office_desk.specs.declared.decided.Decided.{Decided}
+use Rattle.office_desk.specs.declared.refusal.Refusal.TheVariants as refusal
 use Rattle.office_desk.specs.declared.reply.Reply.{Reply}
+use Rattle.office_desk.specs.declared.reply.Reply.TheVariants as reply
+use Rattle.office_desk.proofs.Decisions.{told_decides}
 use Rattle.office_desk.proofs.EmptySet.{no_records, no_violations}
 use Rattle.office_desk.proofs.Stands.{row_read, stand_after, sound_with}
 
@@ -52,7 +63,7 @@ new_is_sound id interval name limited = record {
   draft = tt;
 }
 
-pub add_answers : (tables : Content) (office : Office) (id interval : ℕ) (name : List ℕ) (row : Option IntersectionRow) (reply : Reply) (changes : List RowChange)
+add_answers : (tables : Content) (office : Office) (id interval : ℕ) (name : List ℕ) (row : Option IntersectionRow) (reply : Reply) (changes : List RowChange)
     → StandForSound tables office → ReadsIntersection tables id row → AddsRow id interval name row reply changes
     → Answers office (AddIntersection id interval name) reply (changed_by tables changes)
 add_answers tables office id interval name row reply changes stands reads adds =
@@ -72,3 +83,32 @@ add_answers tables office id interval name row reply changes stands reads adds =
         stand = subst (λ list. StandForSound (changed_by tables list) office) (sym f.1) stands;
       }
     ] refl (subst (λ r. AddsRow id interval name r reply changes) (row_read tables office id row stands.stand reads) adds)
+
+-- ---- the decision
+
+one_row : (tables : Content) (id interval : ℕ) (name : List ℕ) (row : IntersectionRow) (written : Table) → writes_in written (PutIntersection id row ∷ []) ≤ most_writes tables (AddIntersection id interval name) written
+one_row tables id interval name row table.Intersection = omega arith
+one_row tables id interval name row table.Timing = omega arith
+one_row tables id interval name row table.Draft = omega arith
+one_row tables id interval name row table.Inspection = omega arith
+one_row tables id interval name row table.WorkOrder = omega arith
+one_row tables id interval name row table.Part = omega arith
+one_row tables id interval name row table.Delivery = omega arith
+one_row tables id interval name row table.UsedPart = omega arith
+
+never_damaged : (is_equal : Bool) → (if is_equal then reply.Same else reply.Refused refusal.IntersectionDiffers) ≢ reply.Refused refusal.Damaged
+never_damaged true e = cc
+never_damaged false e = cc
+
+pub add_decides : (is_honest : Type 0) (tables : Content) (id interval : ℕ) (name : List ℕ) (row : Option IntersectionRow) (decided : Decided)
+    → (is_honest → ReadsIntersection tables id row) → AddsRow id interval name row decided.reply decided.changes.items → IsDecision is_honest tables (AddIntersection id interval name) decided
+add_decides is_honest tables id interval name None decided reads adds = record {
+  step = λ honest office stands. add_answers tables office id interval name None decided.reply decided.changes.items stands (reads honest) adds;
+  writes = λ honest written. subst (λ (list : List RowChange). writes_in written list ≤ most_writes tables (AddIntersection id interval name) written) (sym adds.1) (one_row tables id interval name (row_of (new_intersection interval name)) written);
+  refused = λ refused. absurd (subst IsRefused adds.0 refused);
+  query = λ query. absurd query;
+  undamaged = λ e. absurd (let f : reply.Added ≡ reply.Refused refusal.Damaged = sym adds.0 ∙ e in cc);
+}
+add_decides is_honest tables id interval name (Some row) decided reads adds =
+    told_decides is_honest tables (AddIntersection id interval name) _ decided adds.0 (never_damaged (bytes_eq row.name name && (row.interval == interval))) adds.1
+    (λ honest office stands. add_answers tables office id interval name (Some row) decided.reply decided.changes.items stands (reads honest) adds)

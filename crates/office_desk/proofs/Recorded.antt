@@ -1,32 +1,43 @@
 -- What the commands and queries of the register answer is a step of the office.
-use Rattle.std.proofs.Common.{◌≡◌, ℕ, Bool, true, false, List, [], Option, Some, None, is_some, refl, ap, sym, subst, ◌∙◌, inr}
+use Rattle.std.proofs.Common.{◌≡◌, ◌≢◌, ◌≤◌, ℕ, Bool, true, false, List, [], Option, Some, None, is_some, refl, ap, sym, subst, ◌∙◌, inr}
 use Rattle.std.specs.Option.{option_map}
 use Rattle.std.specs.FinMap.{get}
 use Rattle.cabinet_core.specs.declared.command.RecordCommand.{RecordCommand}
 use Rattle.cabinet_core.specs.declared.record.CabinetView.{CabinetView}
+use Rattle.cabinet_core.specs.declared.refusal.CabinetRefusal.{CabinetRefusal}
+use Rattle.cabinet_core.specs.declared.refusal.CabinetRefusal.TheVariants as cabinet
 use Rattle.office_tables_shelf.specs.Cells.{Rows}
 use Rattle.office_tables_shelf.specs.Change.{changed_by}
 use Rattle.office_tables_shelf.specs.Content.{Content}
+use Rattle.office_tables_shelf.specs.Counts.{writes_in}
 use Rattle.office_tables_shelf.specs.Rows.{timing_key}
 use Rattle.office_tables_shelf.specs.Shelf.{ReadsIntersection}
 use Rattle.office_tables_shelf.specs.declared.rows.IntersectionRow.{IntersectionRow}
 use Rattle.office_tables_shelf.specs.declared.rows.RowChange.{RowChange}
+use Rattle.office_tables_shelf.specs.declared.rows.Table.{Table}
 use Rattle.office_desk_cabinet.specs.Register.{Register, open_at, stock_of}
+use Rattle.office_desk_cabinet.specs.RegisterDamage.{MeetsRecordDamage}
 use Rattle.office_desk_cabinet.specs.RegisterStands.{RegisterStandsSound}
 use Rattle.office_desk_cabinet.specs.RegisterStep.{after_record}
-use Rattle.office_desk_cabinet.specs.Registers.{LeavesTiming, RegistersFrom, ShowsCabinet, line_told, rows_told}
+use Rattle.office_desk_cabinet.specs.Registers.{LeavesTiming, RegistersFrom, ShowsCabinet, line_told, most_record_writes, rows_told}
 use Rattle.office_desk_cabinet.specs.declared.registered.Registered.{Registered}
+use Rattle.office_desk_cabinet.specs.declared.registered.Registered.TheVariants.{Added, Same, Refused}
 use Rattle.office_desk.specs.Answers.{Answers}
+use Rattle.office_desk.specs.Changes.{IsRefused}
+use Rattle.office_desk.specs.Damage.{MeetsCabinetDamage}
+use Rattle.office_desk.specs.Deciding.{IsDecision}
 use Rattle.office_desk.specs.Office.{Office, Intersection}
 use Rattle.office_desk.specs.Recording.{IsKnownIn}
 use Rattle.office_desk.specs.StandFor.{StandForSound, row_of}
-use Rattle.office_desk.specs.Step.{cabinet_of, cabinet_shown, is_known, known, recorded, recorded_at, shown, told}
+use Rattle.office_desk.specs.Step.{cabinet_of, cabinet_shown, is_known, known, recorded, recorded_at, refusal_of_record, shown, told}
 use Rattle.office_desk.specs.declared.command.Command.TheVariants as command
+use Rattle.office_desk.specs.declared.decided.Decided.{Decided}
 use Rattle.office_desk.specs.declared.refusal.Refusal.TheVariants as refusal
 use Rattle.office_desk.specs.declared.reply.Reply.{Reply}
 use Rattle.office_desk.specs.declared.reply.Reply.TheVariants as reply
 use Rattle.office_desk.proofs.Shown.{query_answers}
 use Rattle.office_desk.proofs.Stands.{row_read}
+use Rattle.office_desk.proofs.Writes.{record_writes}
 
 -- ---- whether the intersection is there
 
@@ -99,6 +110,52 @@ pub record_unknown : (tables : Content) (office : Office) (c : RecordCommand) (s
     → StandForSound tables office → IsKnownIn tables (cabinet_of c) false → said ≡ reply.Refused refusal.UnknownIntersection → changes ≡ [] → Answers office (command.Record c) said (changed_by tables changes)
 record_unknown tables office c said changes stands gone is none =
     query_answers tables office (command.Record c) (reply.Refused refusal.UnknownIntersection) said changes stands (at_unknown office (cabinet_of c) (recorded office c) (gone office stands)) is none
+
+-- a row of the register that is no record
+pub meets_record : (tables : Content) (c : RecordCommand) → MeetsRecordDamage tables c → MeetsCabinetDamage tables c (cabinet_of c)
+meets_record tables c damage = go (cabinet_of c)
+  where
+    go : (about : Option ℕ) → MeetsCabinetDamage tables c about
+    go None = damage
+    go (Some id) = inr damage
+
+-- ---- the decision
+
+never_damaged : (why : CabinetRefusal) → reply.Refused (refusal_of_record why) ≢ reply.Refused refusal.Damaged
+never_damaged cabinet.InspectionDiffers e = cc
+never_damaged cabinet.OrderDiffers e = cc
+never_damaged cabinet.UnknownOrder e = cc
+never_damaged cabinet.OrderClosed e = cc
+never_damaged cabinet.DayBeforeOpening e = cc
+never_damaged cabinet.NoStock e = cc
+never_damaged cabinet.StockFull e = cc
+never_damaged cabinet.DeliveryDiffers e = cc
+never_damaged cabinet.LineDiffers e = cc
+never_damaged cabinet.CloseDiffers e = cc
+never_damaged cabinet.NoMemory e = cc
+
+told_undamaged : (done : Registered) → told (line_told done) ≢ reply.Refused refusal.Damaged
+told_undamaged (Added rows) e = cc
+told_undamaged Same e = cc
+told_undamaged (Refused why) e = never_damaged why e
+
+refused_writes_none : (done : Registered) → IsRefused (told (line_told done)) → rows_told done ≡ []
+refused_writes_none (Added rows) refused = absurd refused
+refused_writes_none Same refused = refl
+refused_writes_none (Refused why) refused = refl
+
+-- of a command on an intersection that is there
+pub record_decides : (is_honest : Type 0) (tables : Content) (c : RecordCommand) (done : Registered) (decided : Decided)
+    → (is_honest → (office : Office) → StandForSound tables office → Answers office (command.Record c) decided.reply (changed_by tables decided.changes.items))
+    → ((table : Table) → writes_in table (rows_told done) ≤ most_record_writes c table)
+    → decided.reply ≡ told (line_told done) → decided.changes.items ≡ rows_told done → IsDecision is_honest tables (command.Record c) decided
+record_decides is_honest tables c done decided step few is rows = record {
+  step = step;
+  writes = λ honest. record_writes tables c decided.changes.items (λ table. subst (λ list. writes_in table list ≤ most_record_writes c table) (sym rows) (few table));
+  refused = λ refused. rows ∙ refused_writes_none done (subst IsRefused is refused);
+  query = λ query. absurd query;
+  undamaged = λ e. told_undamaged done (sym is ∙ e);
+}
 
 -- ---- queries
 

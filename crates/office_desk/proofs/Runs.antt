@@ -7,7 +7,7 @@ use Rattle.office_tables_shelf.specs.Content.{Content}
 use Rattle.office_tables_shelf.specs.declared.rows.RowChange.{RowChange}
 use Rattle.office_tables_shelf.specs.declared.shelf.ShelfFault.{ShelfFault}
 use Rattle.office_tables_shelf.specs.declared.shelf.ShelfFault.TheVariants.{NoMemory, Store, Damaged}
-use Rattle.office_desk.specs.Answers.{AnswersAny, Answers, Decides, RunsAny, RunsTo}
+use Rattle.office_desk.specs.Answers.{AnswersAny, Answers, RunsAny, RunsTo}
 use Rattle.cabinet_core.specs.declared.command.RecordCommand.{RecordCommand}
 use Rattle.office_desk_cabinet.proofs.Undamaged.{no_damaged_inspection, no_damaged_order, no_damaged_used, no_damaged_part, undamaged_record}
 use Rattle.office_desk.specs.Damage.{MeetsCabinetDamage, MeetsImportDamage, MeetsDamage}
@@ -79,10 +79,10 @@ damage_refuted tables (command.Overdue day) (inl row) = no_damaged_intersection 
 damage_refuted tables (command.Overdue day) (inr inspection) = λ office stands. no_damaged_inspection tables office.register inspection.0 (register_of tables office stands) inspection.1
 
 -- a fault of the shelf, answered as its refusal
-pub fault_answers : (tables : Content) (command : Command) (fault : ShelfFault) (reply : Reply) (changes : List RowChange) → Decides tables command (Err fault) → reply ≡ Refused (refusal_of fault) → changes ≡ [] → AnswersAny tables command reply (changed_by tables changes)
-fault_answers tables command NoMemory reply changes decides r e = unavailable_answers tables command reply changes r e
-fault_answers tables command Store reply changes decides r e = unavailable_answers tables command reply changes r e
-fault_answers tables command Damaged reply changes decides r e = λ office stands. absurd (damage_refuted tables command decides office stands)
+pub fault_answers : (tables : Content) (command : Command) (fault : ShelfFault) (reply : Reply) (changes : List RowChange) → (fault ≡ Damaged → MeetsDamage tables command) → reply ≡ Refused (refusal_of fault) → changes ≡ [] → AnswersAny tables command reply (changed_by tables changes)
+fault_answers tables command NoMemory reply changes meets r e = unavailable_answers tables command reply changes r e
+fault_answers tables command Store reply changes meets r e = unavailable_answers tables command reply changes r e
+fault_answers tables command Damaged reply changes meets r e = λ office stands. absurd (damage_refuted tables command (meets refl) office stands)
 
 -- changes that were decided on the first tables, and applied to the same
 pub applied : (first mid new : Content) (given changes : List RowChange) → new ≡ changed_by mid given → mid ≡ first → given ≡ changes → new ≡ changed_by first changes

@@ -21,11 +21,12 @@ use Rattle.office_tables_shelf.specs.declared.rows.RowChange.TheVariants.{PutInt
 use Rattle.office_tables_shelf.specs.declared.rows.Table.{Table}
 use Rattle.office_tables_shelf.specs.declared.rows.Table.TheVariants as table
 use Rattle.office_tables_shelf.specs.declared.shelf.ShelfFault.{ShelfFault}
-use Rattle.office_tables_shelf.specs.declared.shelf.ShelfFault.TheVariants.{NoMemory, Store, Damaged}
-use Rattle.office_desk.specs.Answers.{Answers, AnswersAny, Decides}
-use Rattle.office_desk.specs.Changes.{IsRefused, most_intersection_writes, most_writes}
+use Rattle.office_tables_shelf.specs.declared.shelf.ShelfFault.TheVariants.{NoMemory, Damaged}
+use Rattle.office_desk.specs.Answers.{Answers, AnswersAny}
+use Rattle.office_desk.specs.Changes.{IsQuery, IsRefused, most_intersection_writes, most_writes}
 use Rattle.office_tables_shelf.specs.Counts.{is_same_table, writes_in}
 use Rattle.office_desk.specs.Damage.{HasDamage, MeetsDamage}
+use Rattle.office_desk.specs.Deciding.{Decides, IsDecision}
 use Rattle.office_desk.specs.Moving.{WritesMove, WritesDecision, moved_row, row_changes_of}
 use Rattle.office_desk.specs.Office.{Office, Intersection, IsSoundIntersection}
 use Rattle.office_desk.specs.Reading.{FoundStands, Finds, FindsAny}
@@ -39,6 +40,7 @@ use Rattle.office_desk.specs.declared.reply.Reply.{Reply}
 use Rattle.office_desk.specs.declared.reply.Reply.TheVariants.{Moved, Refused}
 use Rattle.office_desk.specs.declared.transacting.Ask.{Ask}
 use Rattle.office_desk.specs.declared.transacting.Ask.TheVariants.{Begin, Edit, Verify, Check, Commit, Reopen, Abandon}
+use Rattle.office_desk.proofs.Decisions.{unknown_decides}
 use Rattle.office_desk.proofs.Keeps.{line_keeps, side_sound, sound_intersection}
 use Rattle.office_desk.proofs.Moved.{move_stands, with_timing_side}
 use Rattle.office_desk.proofs.Stands.{sound_with}
@@ -86,7 +88,7 @@ turned_down tables office id clerk ask i why reply changes stands there line tol
 }
 
 -- one on an intersection that is not there
-pub unknown_answers : (tables : Content) (id : ℕ) (clerk : List ℕ) (ask : Ask) (reply : Reply) (changes : List RowChange) → FindsAny tables id None
+unknown_answers : (tables : Content) (id : ℕ) (clerk : List ℕ) (ask : Ask) (reply : Reply) (changes : List RowChange) → FindsAny tables id None
     → reply ≡ Refused refusal.UnknownIntersection → changes ≡ [] → AnswersAny tables (command_of id clerk ask) reply (changed_by tables changes)
 unknown_answers tables id clerk ask reply changes finds told none office stands = record {
   next = office;
@@ -120,32 +122,6 @@ move_answers tables id clerk ask found decision reply changes words within finds
           (follows i.timing here.timing_stands sound.no_violations) writes
     ] refl (finds office stands) (stands.sound.intersections id)
 
--- a decision on what was found
-pub transact_decides : (tables : Content) (id : ℕ) (clerk : List ℕ) (ask : Ask) (found : Found) (decision : Result Move DraftRefusal) (result : Result Decided ShelfFault)
-    → AreWords 40 clerk → IsAskWithin ask → FindsAny tables id (Some found) → FollowsSoundLine found.timing clerk decision (λ side. line_of ask clerk side)
-    → IfOk result (λ decided. WritesDecision id clerk found decision decided.reply decided.changes.items) → OnErr result (result ≡ Err NoMemory)
-    → Decides tables (command_of id clerk ask) result
-transact_decides tables id clerk ask found decision (Ok decided) words within finds follows writes fault =
-    move_answers tables id clerk ask found decision decided.reply decided.changes.items words within finds follows writes
-transact_decides tables id clerk ask found decision (Err NoMemory) words within finds follows writes fault = tt
-transact_decides tables id clerk ask found decision (Err Store) words within finds follows writes fault = tt
-transact_decides tables id clerk ask found decision (Err Damaged) words within finds follows writes fault = absurd (let f : Err Damaged ≡ Err NoMemory = fault in cc)
-
-meets : (tables : Content) (id : ℕ) (clerk : List ℕ) (ask : Ask) → HasDamage tables id → MeetsDamage tables (command_of id clerk ask)
-meets tables id clerk Begin damage = damage
-meets tables id clerk (Edit changes) damage = damage
-meets tables id clerk Verify damage = damage
-meets tables id clerk Check damage = damage
-meets tables id clerk Commit damage = damage
-meets tables id clerk Reopen damage = damage
-meets tables id clerk Abandon damage = damage
-
--- a fault that the shelf answered
-pub fault_decides : (tables : Content) (id : ℕ) (clerk : List ℕ) (ask : Ask) (fault : ShelfFault) → (fault ≡ Damaged → HasDamage tables id) → Decides tables (command_of id clerk ask) (Err fault)
-fault_decides tables id clerk ask NoMemory damage = tt
-fault_decides tables id clerk ask Store damage = tt
-fault_decides tables id clerk ask Damaged damage = meets tables id clerk ask (damage refl)
-
 -- ---- replies
 
 not_damaged : (why : DraftRefusal) → Refused (refusal_of_draft why) ≢ Refused refusal.Damaged
@@ -158,11 +134,11 @@ not_damaged (draft.VerifyFailed count) e = cc
 not_damaged draft.RevisionFull e = cc
 not_damaged draft.NoMemory e = cc
 
-pub reply_undamaged : (id : ℕ) (clerk : List ℕ) (found : Found) (decision : Result Move DraftRefusal) (reply : Reply) (changes : List RowChange) → WritesDecision id clerk found decision reply changes → reply ≢ Refused refusal.Damaged
+reply_undamaged : (id : ℕ) (clerk : List ℕ) (found : Found) (decision : Result Move DraftRefusal) (reply : Reply) (changes : List RowChange) → WritesDecision id clerk found decision reply changes → reply ≢ Refused refusal.Damaged
 reply_undamaged id clerk found (Ok move) reply changes writes e = absurd (let f : Moved move.revision move.state move.verdict ≡ Refused refusal.Damaged = sym writes.told ∙ e in cc)
 reply_undamaged id clerk found (Err why) reply changes writes e = not_damaged why (sym writes.1 ∙ e)
 
-pub refused_unchanged : (id : ℕ) (clerk : List ℕ) (found : Found) (decision : Result Move DraftRefusal) (reply : Reply) (changes : List RowChange) → WritesDecision id clerk found decision reply changes → IsRefused reply → changes ≡ []
+refused_unchanged : (id : ℕ) (clerk : List ℕ) (found : Found) (decision : Result Move DraftRefusal) (reply : Reply) (changes : List RowChange) → WritesDecision id clerk found decision reply changes → IsRefused reply → changes ≡ []
 refused_unchanged id clerk found (Ok move) reply changes writes refused = absurd (subst IsRefused writes.told refused)
 refused_unchanged id clerk found (Err why) reply changes writes refused = writes.2
 
@@ -235,7 +211,7 @@ move_writes tables id clerk ask row rows changes table.Part many bounds = no_mor
 move_writes tables id clerk ask row rows changes table.Delivery many bounds = no_more _ 0 _ (none_written table.Delivery refl refl id changes) (omega arith)
 move_writes tables id clerk ask row rows changes table.UsedPart many bounds = no_more _ 0 _ (none_written table.UsedPart refl refl id changes) (omega arith)
 
-pub transact_writes : (tables : Content) (id : ℕ) (clerk : List ℕ) (ask : Ask) (found : Found) (decision : Result Move DraftRefusal) (reply : Reply) (changes : List RowChange)
+transact_writes : (tables : Content) (id : ℕ) (clerk : List ℕ) (ask : Ask) (found : Found) (decision : Result Move DraftRefusal) (reply : Reply) (changes : List RowChange)
     → WritesDecision id clerk found decision reply changes → IfOk decision (λ move. IsBounded ask (length found.timing.delta) move.changes.items) → ListsDraft tables id found.timing.delta
     → (other : Table) → writes_in other changes ≤ most_writes tables (command_of id clerk ask) other
 transact_writes tables id clerk ask found (Ok move) reply changes writes bounds lists other =
@@ -244,10 +220,45 @@ transact_writes tables id clerk ask found (Ok move) reply changes writes bounds 
 transact_writes tables id clerk ask found (Err why) reply changes writes bounds lists other =
     subst (λ list. writes_in other list ≤ most_writes tables (command_of id clerk ask) other) (sym writes.2) (omega arith)
 
--- the same of the decision as a result
-pub transact_bounds : (tables : Content) (id : ℕ) (clerk : List ℕ) (ask : Ask) (found : Found) (decision : Result Move DraftRefusal) (result : Result Decided ShelfFault)
-    → IfOk result (λ decided. WritesDecision id clerk found decision decided.reply decided.changes.items)
-    → IfOk decision (λ move. IsBounded ask (length found.timing.delta) move.changes.items) → ListsDraft tables id found.timing.delta
-    → IfOk result (λ decided. (other : Table) → writes_in other decided.changes.items ≤ most_writes tables (command_of id clerk ask) other)
-transact_bounds tables id clerk ask found decision (Ok decided) writes bounds lists = transact_writes tables id clerk ask found decision decided.reply decided.changes.items writes bounds lists
-transact_bounds tables id clerk ask found decision (Err fault) writes bounds lists = tt
+-- ---- the decision
+
+never_query : (id : ℕ) (clerk : List ℕ) (ask : Ask) → IsQuery (command_of id clerk ask) → ⊥
+never_query id clerk Begin query = query
+never_query id clerk (Edit changes) query = query
+never_query id clerk Verify query = query
+never_query id clerk Check query = query
+never_query id clerk Commit query = query
+never_query id clerk Reopen query = query
+never_query id clerk Abandon query = query
+
+-- on what was found
+pub transact_decides : (is_honest : Type 0) (tables : Content) (id : ℕ) (clerk : List ℕ) (ask : Ask) (found : Found) (decision : Result Move DraftRefusal) (result : Result Decided ShelfFault)
+    → AreWords 40 clerk → IsAskWithin ask → (is_honest → FindsAny tables id (Some found)) → (is_honest → ListsDraft tables id found.timing.delta)
+    → FollowsSoundLine found.timing clerk decision (λ side. line_of ask clerk side) → IfOk decision (λ move. IsBounded ask (length found.timing.delta) move.changes.items)
+    → IfOk result (λ decided. WritesDecision id clerk found decision decided.reply decided.changes.items) → OnErr result (result ≡ Err NoMemory)
+    → Decides is_honest tables (command_of id clerk ask) result
+transact_decides is_honest tables id clerk ask found decision (Ok decided) words within finds lists follows bounds writes fault = record {
+  step = λ honest. move_answers tables id clerk ask found decision decided.reply decided.changes.items words within (finds honest) follows writes;
+  writes = λ honest. transact_writes tables id clerk ask found decision decided.reply decided.changes.items writes bounds (lists honest);
+  refused = refused_unchanged id clerk found decision decided.reply decided.changes.items writes;
+  query = λ query. absurd (never_query id clerk ask query);
+  undamaged = reply_undamaged id clerk found decision decided.reply decided.changes.items writes;
+}
+transact_decides is_honest tables id clerk ask found decision (Err other) words within finds lists follows bounds writes fault =
+    λ damaged. absurd (let f : Err other ≡ Err NoMemory = fault in cc)
+
+-- on an intersection that is not there
+pub absent_decides : (is_honest : Type 0) (tables : Content) (id : ℕ) (clerk : List ℕ) (ask : Ask) (decided : Decided) → (is_honest → FindsAny tables id None)
+    → decided.reply ≡ Refused refusal.UnknownIntersection → decided.changes.items ≡ [] → IsDecision is_honest tables (command_of id clerk ask) decided
+absent_decides is_honest tables id clerk ask decided finds told none =
+    unknown_decides is_honest tables (command_of id clerk ask) decided told none (λ honest. unknown_answers tables id clerk ask decided.reply decided.changes.items (finds honest) told none)
+
+-- where a row that is read is no record
+pub meets : (tables : Content) (id : ℕ) (clerk : List ℕ) (ask : Ask) → HasDamage tables id → MeetsDamage tables (command_of id clerk ask)
+meets tables id clerk Begin damage = damage
+meets tables id clerk (Edit changes) damage = damage
+meets tables id clerk Verify damage = damage
+meets tables id clerk Check damage = damage
+meets tables id clerk Commit damage = damage
+meets tables id clerk Reopen damage = damage
+meets tables id clerk Abandon damage = damage

@@ -1,6 +1,8 @@
 -- The counts of writes rise by at most the changes of each table.
-use Rattle.std.proofs.Common.{◌≡◌, ℕ, ◌+◌, ◌≤◌, List, [], ◌∷◌, cond, sym, subst, arith}
+use Rattle.std.proofs.Common.{◌≡◌, ℕ, ◌+◌, ◌≤◌, List, [], ◌∷◌, cond, refl, sym, subst, arith}
 use Rattle.std.proofs.lemmas.Bool.Decides.{nat_tests}
+use Rattle.cabinet_core.specs.declared.command.RecordCommand.{RecordCommand}
+use Rattle.cabinet_core.specs.declared.command.RecordCommand.TheVariants as register
 use Rattle.office_tables_shelf.specs.Change.{table_of}
 use Rattle.office_tables_shelf.specs.Content.{Content}
 use Rattle.office_tables_shelf.specs.Counts.{count_of, count_at, counted, counts_after}
@@ -8,9 +10,11 @@ use Rattle.office_tables_shelf.specs.declared.counts.WriteCounts.{WriteCounts}
 use Rattle.office_tables_shelf.specs.declared.rows.RowChange.{RowChange}
 use Rattle.office_tables_shelf.specs.declared.rows.Table.{Table}
 use Rattle.office_tables_shelf.specs.declared.rows.Table.TheVariants as table
-use Rattle.office_desk.specs.Changes.{RiseAtMost, most_writes}
+use Rattle.office_desk_cabinet.specs.Registers.{most_record_writes}
+use Rattle.office_desk.specs.Changes.{RiseAtMost, most_import_writes, most_writes}
 use Rattle.office_tables_shelf.specs.Counts.{is_same_table, writes_in}
 use Rattle.office_desk.specs.declared.command.Command.{Command}
+use Rattle.office_desk.specs.declared.command.Command.TheVariants as command
 
 capped : (n : ℕ) → counted n ≤ n + 1
 capped n = grind (arith, nat_tests)
@@ -102,3 +106,50 @@ rise_at_most tables command changes old new few is other =
 
 pub no_rise : (tables : Content) (command : Command) (old new : WriteCounts) → new ≡ old → RiseAtMost tables command old new
 no_rise tables command old new is other = subst (λ (counts : WriteCounts). count_of counts other ≤ count_of old other + most_writes tables command other) (sym is) (omega arith)
+
+-- ---- rows of the register
+
+-- a record writes no row but of the register
+no_others : (c : RecordCommand) → (most_record_writes c table.Intersection ≡ 0) × (most_record_writes c table.Timing ≡ 0) × (most_record_writes c table.Draft ≡ 0)
+no_others (register.Inspect id inspection) = (refl, refl, refl)
+no_others (register.OpenOrder id opening) = (refl, refl, refl)
+no_others (register.UsePart id line) = (refl, refl, refl)
+no_others (register.CloseOrder id order closing) = (refl, refl, refl)
+no_others (register.Receive delivery) = (refl, refl, refl)
+
+-- a record writes at most what it may
+pub record_writes : (tables : Content) (c : RecordCommand) (rows : List RowChange) → ((table : Table) → writes_in table rows ≤ most_record_writes c table)
+    → (table : Table) → writes_in table rows ≤ most_writes tables (command.Record c) table
+record_writes tables c rows few table.Intersection = subst (λ n. writes_in table.Intersection rows ≤ n) (no_others c).0 (few table.Intersection)
+record_writes tables c rows few table.Timing = subst (λ n. writes_in table.Timing rows ≤ n) (no_others c).1 (few table.Timing)
+record_writes tables c rows few table.Draft = subst (λ n. writes_in table.Draft rows ≤ n) (no_others c).2 (few table.Draft)
+record_writes tables c rows few table.Inspection = few table.Inspection
+record_writes tables c rows few table.WorkOrder = few table.WorkOrder
+record_writes tables c rows few table.Part = few table.Part
+record_writes tables c rows few table.Delivery = few table.Delivery
+record_writes tables c rows few table.UsedPart = few table.UsedPart
+
+both_zero : (a b : ℕ) → a ≡ 0 → b ≡ 0 → a + b ≡ 0
+both_zero a b one two = omega (arith, one, two)
+
+none_of_others : (records : List RecordCommand) → (most_import_writes records table.Intersection ≡ 0) × (most_import_writes records table.Timing ≡ 0) × (most_import_writes records table.Draft ≡ 0)
+none_of_others [] = (refl, refl, refl)
+none_of_others (c ∷ cs) =
+    let one = no_others c in
+    let rest = none_of_others cs in (
+      both_zero (most_record_writes c table.Intersection) (most_import_writes cs table.Intersection) one.0 rest.0,
+      both_zero (most_record_writes c table.Timing) (most_import_writes cs table.Timing) one.1 rest.1,
+      both_zero (most_record_writes c table.Draft) (most_import_writes cs table.Draft) one.2 rest.2,
+    )
+
+-- an import writes at most what its records may
+pub import_writes : (tables : Content) (records : List RecordCommand) (pending : List RowChange) → ((table : Table) → writes_in table pending ≤ most_import_writes records table)
+    → (table : Table) → writes_in table pending ≤ most_writes tables (command.Import records) table
+import_writes tables records pending few table.Intersection = subst (λ n. writes_in table.Intersection pending ≤ n) (none_of_others records).0 (few table.Intersection)
+import_writes tables records pending few table.Timing = subst (λ n. writes_in table.Timing pending ≤ n) (none_of_others records).1 (few table.Timing)
+import_writes tables records pending few table.Draft = subst (λ n. writes_in table.Draft pending ≤ n) (none_of_others records).2 (few table.Draft)
+import_writes tables records pending few table.Inspection = few table.Inspection
+import_writes tables records pending few table.WorkOrder = few table.WorkOrder
+import_writes tables records pending few table.Part = few table.Part
+import_writes tables records pending few table.Delivery = few table.Delivery
+import_writes tables records pending few table.UsedPart = few table.UsedPart

@@ -1,13 +1,8 @@
 -- What it means that a command was answered rightly, on tables that stand for an office.
-use Rattle.std.specs.Prelude.{◌≡◌, ℕ, List, Result, Ok, Err}
+use Rattle.std.specs.Prelude.{◌≡◌, ℕ, List}
 use Rattle.office_tables_shelf.specs.Content.{Content}
-use Rattle.office_tables_shelf.specs.Change.{changed_by}
-use Rattle.office_tables_shelf.specs.declared.shelf.ShelfFault.{ShelfFault}
-use Rattle.office_tables_shelf.specs.declared.shelf.ShelfFault.TheVariants.{NoMemory, Store, Damaged}
 use Rattle.office_desk.specs.declared.command.Command.{Command}
-use Rattle.office_desk.specs.declared.decided.Decided.{Decided}
 use Rattle.office_desk.specs.declared.reply.Reply.{Reply}
-use Rattle.office_desk.specs.Damage.{MeetsDamage}
 use Rattle.office_desk.specs.Office.{Office, side_at}
 use Rattle.office_desk.specs.Step.{Step, Run}
 use Rattle.office_desk.specs.Timing.{running}
@@ -24,13 +19,6 @@ pub record Answers (office : Office) (command : Command) (reply : Reply) (tables
 -- Whichever sound office the old tables stand for, the reply and the new tables are one step of it.
 abbrev pub AnswersAny : Content → Command → Reply → Content → Type 0
 AnswersAny old command reply new = (office : Office) → StandForSound old office → Answers office command reply new
-
--- A decision on tables: what it changes makes the step; and Damaged comes only where a row that it reads is no record.
-abbrev pub Decides : Content → Command → Result Decided ShelfFault → Type 0
-Decides tables command (Ok decided) = AnswersAny tables command decided.reply (changed_by tables decided.changes.items)
-Decides tables command (Err Damaged) = MeetsDamage tables command
-Decides tables command (Err NoMemory) = Unit {0}
-Decides tables command (Err Store) = Unit {0}
 
 -- From an office, the replies are those of a run, the tables stand for a sound office after it, and each committed set is the draft
 -- as it stood just before its last accepted commit, or what it was at the start (empty where there was no intersection); and orders

@@ -9,6 +9,7 @@ pub mod Repeats
 pub mod Answers
 pub mod Changes
 pub mod Damage
+pub mod Deciding
 pub mod Adding
 pub mod Reading
 pub mod Moving

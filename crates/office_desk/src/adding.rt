@@ -1,11 +1,8 @@
 //! The command AddIntersection.
-ghost use Rattle.std.specs.Prelude.{◌≡◌, ◌≢◌, ◌≤◌, [], IfOk};
+ghost use Rattle.std.specs.Prelude.{IfOk};
 ghost use Rattle.office_tables_shelf.specs.Shelf.{IsKept};
-ghost use Rattle.office_tables_shelf.specs.declared.rows.Table.{Table};
 ghost use Rattle.office_desk.specs.Adding.{AddsRow};
-ghost use Rattle.office_desk.specs.Answers.{Decides};
-ghost use Rattle.office_desk.specs.Changes.{IsRefused, most_writes};
-ghost use Rattle.office_tables_shelf.specs.Counts.{writes_in};
+ghost use Rattle.office_desk.specs.Deciding.{Decides};
 
 use crate::command::Command;
 use crate::decided::Decided;
@@ -57,10 +54,7 @@ pub(crate) fn decide_add<S: Shelf>(
     interval: Interval,
     name: &Words<120>,
 ) -> Result<Decided, ShelfFault>
-    ensures step { S.is_honest shelf.new → Decides (S.content shelf.old) (Command.AddIntersection id interval name.now) result }
-    ensures writes { S.is_honest shelf.new → IfOk result (λ decided. (table : Table) → writes_in table decided.changes.items ≤ most_writes (S.content shelf.old) (Command.AddIntersection id interval name.now) table) }
-    ensures undamaged { IfOk result (λ decided. decided.reply ≢ Reply.Refused Refusal.Damaged) }
-    ensures refused { IfOk result (λ decided. IsRefused decided.reply → decided.changes.items ≡ []) }
+    ensures decides { Decides (S.is_honest shelf.new) (S.content shelf.old) (Command.AddIntersection id interval name.now) result }
     ensures kept { IsKept S.is_honest S.content S.written S.may_leave shelf.old shelf.new }
 {
     let row = shelf.intersection(alloc, id)?;

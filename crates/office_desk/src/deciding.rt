@@ -1,9 +1,10 @@
 //! How a command is decided over a shelf.
-ghost use Rattle.std.specs.Prelude.{◌≡◌, ◌≢◌, ◌≤◌, [], IfOk};
+ghost use Rattle.std.specs.Prelude.{◌≡◌, ◌≤◌, []};
 ghost use Rattle.office_tables_shelf.specs.Change.{changed_by};
 ghost use Rattle.office_tables_shelf.specs.Shelf.{IsKept};
 ghost use Rattle.office_tables_shelf.specs.declared.rows.Table.{Table};
-ghost use Rattle.office_desk.specs.Answers.{Decides, AnswersAny};
+ghost use Rattle.office_desk.specs.Answers.{AnswersAny};
+ghost use Rattle.office_desk.specs.Deciding.{Decides};
 ghost use Rattle.office_desk.specs.Changes.{IsRefused, IsQuery, most_writes};
 ghost use Rattle.office_tables_shelf.specs.Counts.{writes_in};
 ghost use Rattle.office_desk.specs.Damage.{MeetsDamage};
@@ -19,10 +20,7 @@ use crate::refusal::Refusal;
 use crate::register_showing::{decide_cabinet, decide_open_orders, decide_stock};
 use crate::reply::Reply;
 use crate::showing::{decide_draft, decide_state, decide_timing};
-use crate::transacting::{
-    decide_abandon, decide_begin, decide_check, decide_commit, decide_edit, decide_reopen,
-    decide_verify,
-};
+use crate::transacting::{Ask, transact};
 use office_tables_shelf::shelf::{Shelf, ShelfFault};
 use std::alloc::Global;
 
@@ -42,24 +40,22 @@ fn try_decide<S: Shelf>(
     alloc: Global,
     command: &Command,
 ) -> Result<Decided, ShelfFault>
-    ensures step { S.is_honest shelf.new → Decides (S.content shelf.old) command.now result }
-    ensures writes { S.is_honest shelf.new → IfOk result (λ decided. (table : Table) → writes_in table decided.changes.items ≤ most_writes (S.content shelf.old) command.now table) }
-    ensures undamaged { IfOk result (λ decided. decided.reply ≢ Reply.Refused Refusal.Damaged) }
-    ensures refused { IfOk result (λ decided. IsRefused decided.reply → decided.changes.items ≡ []) }
-    ensures query { IsQuery command.now → IfOk result (λ decided. decided.changes.items ≡ []) }
+    ensures decides { Decides (S.is_honest shelf.new) (S.content shelf.old) command.now result }
     ensures kept { IsKept S.is_honest S.content S.written S.may_leave shelf.old shelf.new }
 {
     match command {
         Command::AddIntersection { id, interval, name } => {
             decide_add(shelf, alloc, *id, *interval, name)
         }
-        Command::Begin { id, clerk } => decide_begin(shelf, alloc, *id, clerk),
-        Command::Edit { id, clerk, changes } => decide_edit(shelf, alloc, *id, clerk, changes),
-        Command::Verify { id, clerk } => decide_verify(shelf, alloc, *id, clerk),
-        Command::Check { id, clerk } => decide_check(shelf, alloc, *id, clerk),
-        Command::Commit { id, clerk } => decide_commit(shelf, alloc, *id, clerk),
-        Command::Reopen { id, clerk } => decide_reopen(shelf, alloc, *id, clerk),
-        Command::Abandon { id, clerk } => decide_abandon(shelf, alloc, *id, clerk),
+        Command::Begin { id, clerk } => transact(shelf, alloc, *id, clerk, Ask::Begin),
+        Command::Edit { id, clerk, changes } => {
+            transact(shelf, alloc, *id, clerk, Ask::Edit(changes.as_slice()))
+        }
+        Command::Verify { id, clerk } => transact(shelf, alloc, *id, clerk, Ask::Verify),
+        Command::Check { id, clerk } => transact(shelf, alloc, *id, clerk, Ask::Check),
+        Command::Commit { id, clerk } => transact(shelf, alloc, *id, clerk, Ask::Commit),
+        Command::Reopen { id, clerk } => transact(shelf, alloc, *id, clerk, Ask::Reopen),
+        Command::Abandon { id, clerk } => transact(shelf, alloc, *id, clerk, Ask::Abandon),
         Command::State { id } => decide_state(shelf, alloc, *id),
         Command::Timing { id } => decide_timing(shelf, alloc, *id),
         Command::Draft { id } => decide_draft(shelf, alloc, *id),
@@ -83,6 +79,6 @@ pub(crate) fn decide_on<S: Shelf>(shelf: &mut S, alloc: Global, command: &Comman
 {
     match try_decide(shelf, alloc, command) {
         Ok(decided) => decided,
-        Err(fault) => Decided::unchanged(alloc, Reply::Refused(refused(fault))),
+        Err(fault) => Decided::refused(alloc, refused(fault)),
     }
 }

@@ -16,8 +16,7 @@ ghost use Rattle.office_desk.specs.Step.{overdue_on};
 
 use crate::command::Command;
 use crate::decided::Decided;
-use crate::deciding::decide_on;
-use crate::overdue::overdue_first_on;
+use crate::deciding::{decide_on, refused};
 use crate::refusal::Refusal;
 use crate::reply::Reply;
 use crate::running::{run_all_on, run_on};
@@ -129,6 +128,9 @@ impl<S: Shelf> Office<S> {
         ensures damaged { result ≡ Err Refusal.Damaged → S.is_honest self.new → MeetsDamage (S.content self.old) (Command.Overdue day) }
         ensures kept { IsKept S.is_honest S.content S.written S.may_leave self.old self.new }
     {
-        overdue_first_on(&mut self.shelf, alloc, day, most)
+        match self.shelf.overdue_rows(alloc, day, most) {
+            Ok(found) => return Ok(found),
+            Err(fault) => return Err(refused(fault)),
+        }
     }
 }

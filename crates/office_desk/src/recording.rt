@@ -1,11 +1,8 @@
 //! The commands of the register.
-ghost use Rattle.std.specs.Prelude.{◌≡◌, ◌≢◌, ◌≤◌, [], IfOk, Err};
-ghost use Rattle.office_tables_shelf.specs.Counts.{writes_in};
+ghost use Rattle.std.specs.Prelude.{◌≡◌, IfOk, Err};
 ghost use Rattle.office_tables_shelf.specs.Shelf.{IsKept};
-ghost use Rattle.office_tables_shelf.specs.declared.rows.Table.{Table};
 ghost use Rattle.office_desk_cabinet.specs.Registers.{line_told, rows_told};
-ghost use Rattle.office_desk.specs.Answers.{Decides};
-ghost use Rattle.office_desk.specs.Changes.{IsRefused, most_writes};
+ghost use Rattle.office_desk.specs.Deciding.{Decides};
 ghost use Rattle.office_desk.specs.Recording.{IsKnownIn, HasDamagedAbout};
 ghost use Rattle.office_desk.specs.Step.{cabinet_of as about_of, refusal_of_record, told as reply_of};
 
@@ -89,10 +86,7 @@ pub(crate) fn decide_record_command<S: Shelf>(
     alloc: Global,
     command: &RecordCommand,
 ) -> Result<Decided, ShelfFault>
-    ensures step { S.is_honest shelf.new → Decides (S.content shelf.old) (Command.Record command.now) result }
-    ensures writes { S.is_honest shelf.new → IfOk result (λ decided. (table : Table) → writes_in table decided.changes.items ≤ most_writes (S.content shelf.old) (Command.Record command.now) table) }
-    ensures undamaged { IfOk result (λ decided. decided.reply ≢ Reply.Refused Refusal.Damaged) }
-    ensures refused { IfOk result (λ decided. IsRefused decided.reply → decided.changes.items ≡ []) }
+    ensures decides { Decides (S.is_honest shelf.new) (S.content shelf.old) (Command.Record command.now) result }
     ensures kept { IsKept S.is_honest S.content S.written S.may_leave shelf.old shelf.new }
 {
     if !is_known(shelf, alloc, cabinet_of(command))? {

@@ -1,7 +1,6 @@
 //! The queries Cabinet, OpenOrders and Stock.
-ghost use Rattle.std.specs.Prelude.{◌≡◌, ◌≢◌, [], IfOk};
 ghost use Rattle.office_tables_shelf.specs.Shelf.{IsKept};
-ghost use Rattle.office_desk.specs.Answers.{Decides};
+ghost use Rattle.office_desk.specs.Deciding.{Decides};
 
 use crate::command::Command;
 use crate::decided::Decided;
@@ -19,9 +18,7 @@ pub(crate) fn decide_cabinet<S: Shelf>(
     alloc: Global,
     id: InterId,
 ) -> Result<Decided, ShelfFault>
-    ensures step { S.is_honest shelf.new → Decides (S.content shelf.old) (Command.Cabinet id) result }
-    ensures changes { IfOk result (λ decided. decided.changes.items ≡ []) }
-    ensures undamaged { IfOk result (λ decided. decided.reply ≢ Reply.Refused Refusal.Damaged) }
+    ensures decides { Decides (S.is_honest shelf.new) (S.content shelf.old) (Command.Cabinet id) result }
     ensures kept { IsKept S.is_honest S.content S.written S.may_leave shelf.old shelf.new }
 {
     if !is_known(shelf, alloc, Some(id))? {
@@ -38,9 +35,7 @@ pub(crate) fn decide_open_orders<S: Shelf>(
     alloc: Global,
     id: InterId,
 ) -> Result<Decided, ShelfFault>
-    ensures step { S.is_honest shelf.new → Decides (S.content shelf.old) (Command.OpenOrders id) result }
-    ensures changes { IfOk result (λ decided. decided.changes.items ≡ []) }
-    ensures undamaged { IfOk result (λ decided. decided.reply ≢ Reply.Refused Refusal.Damaged) }
+    ensures decides { Decides (S.is_honest shelf.new) (S.content shelf.old) (Command.OpenOrders id) result }
     ensures kept { IsKept S.is_honest S.content S.written S.may_leave shelf.old shelf.new }
 {
     let known = is_known(shelf, alloc, Some(id))?;
@@ -54,9 +49,7 @@ pub(crate) fn decide_open_orders<S: Shelf>(
 
 /// Decides Stock.
 pub(crate) fn decide_stock<S: Shelf>(shelf: &mut S, alloc: Global) -> Result<Decided, ShelfFault>
-    ensures step { S.is_honest shelf.new → Decides (S.content shelf.old) Command.Stock result }
-    ensures changes { IfOk result (λ decided. decided.changes.items ≡ []) }
-    ensures undamaged { IfOk result (λ decided. decided.reply ≢ Reply.Refused Refusal.Damaged) }
+    ensures decides { Decides (S.is_honest shelf.new) (S.content shelf.old) Command.Stock result }
     ensures kept { IsKept S.is_honest S.content S.written S.may_leave shelf.old shelf.new }
 {
     let list = stock(shelf, alloc)?;

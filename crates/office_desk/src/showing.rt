@@ -1,13 +1,10 @@
 //! The queries State, Timing and Draft.
-ghost use Rattle.std.specs.Prelude.{◌≡◌, ◌≢◌, ◌≤◌, ℕ, [], length, map, Some, IfOk};
+ghost use Rattle.std.specs.Prelude.{◌≡◌, ◌≢◌, ℕ, length, map, Some, IfOk};
 ghost use Rattle.std.specs.FinMap.{get, empty};
 ghost use Rattle.signal_records.specs.TimingSet.{after_changes};
 ghost use Rattle.draft_core.specs.Transaction.{state_of_holder};
 ghost use Rattle.office_tables_shelf.specs.Shelf.{IsKept};
-ghost use Rattle.office_tables_shelf.specs.declared.rows.Table.{Table};
-ghost use Rattle.office_desk.specs.Answers.{Decides};
-ghost use Rattle.office_desk.specs.Changes.{most_writes};
-ghost use Rattle.office_tables_shelf.specs.Counts.{writes_in};
+ghost use Rattle.office_desk.specs.Deciding.{Decides};
 ghost use Rattle.office_desk.specs.Damage.{HasDamage, IsDone};
 ghost use Rattle.office_desk.specs.Decisions.{row_shown, IsVerdictOf, ShowsDraft};
 
@@ -87,9 +84,7 @@ pub(crate) fn decide_state<S: Shelf>(
     alloc: Global,
     id: InterId,
 ) -> Result<Decided, ShelfFault>
-    ensures step { S.is_honest shelf.new → Decides (S.content shelf.old) (Command.State id) result }
-    ensures changes { IfOk result (λ decided. decided.changes.items ≡ []) }
-    ensures undamaged { IfOk result (λ decided. decided.reply ≢ Reply.Refused Refusal.Damaged) }
+    ensures decides { Decides (S.is_honest shelf.new) (S.content shelf.old) (Command.State id) result }
     ensures kept { IsKept S.is_honest S.content S.written S.may_leave shelf.old shelf.new }
 {
     let Some(row) = shelf.intersection(alloc, id)? else {
@@ -106,9 +101,7 @@ pub(crate) fn decide_timing<S: Shelf>(
     alloc: Global,
     id: InterId,
 ) -> Result<Decided, ShelfFault>
-    ensures step { S.is_honest shelf.new → Decides (S.content shelf.old) (Command.Timing id) result }
-    ensures changes { IfOk result (λ decided. decided.changes.items ≡ []) }
-    ensures undamaged { IfOk result (λ decided. decided.reply ≢ Reply.Refused Refusal.Damaged) }
+    ensures decides { Decides (S.is_honest shelf.new) (S.content shelf.old) (Command.Timing id) result }
     ensures kept { IsKept S.is_honest S.content S.written S.may_leave shelf.old shelf.new }
 {
     let Some(row) = shelf.intersection(alloc, id)? else {
@@ -154,9 +147,7 @@ pub(crate) fn decide_draft<S: Shelf>(
     alloc: Global,
     id: InterId,
 ) -> Result<Decided, ShelfFault>
-    ensures step { S.is_honest shelf.new → Decides (S.content shelf.old) (Command.Draft id) result }
-    ensures changes { IfOk result (λ decided. decided.changes.items ≡ []) }
-    ensures undamaged { IfOk result (λ decided. decided.reply ≢ Reply.Refused Refusal.Damaged) }
+    ensures decides { Decides (S.is_honest shelf.new) (S.content shelf.old) (Command.Draft id) result }
     ensures kept { IsKept S.is_honest S.content S.written S.may_leave shelf.old shelf.new }
 {
     let Some(found) = find(shelf, alloc, id)? else {

@@ -1,8 +1,16 @@
--- What is told of a decision, from the line that it takes: the step of the register, the rows that stay, and how many are written.
-use Rattle.std.proofs.Common.{◌≡◌, ◌≢◌, ◌≤◌, ℕ, List, [], ◌∷◌, Result, Ok, Err, refl, sym, ap, subst, ◌∙◌, arith}
-use Rattle.std.specs.Prelude.{IfOk, OnErr}
-use Rattle.cabinet_core.specs.Cabinet.{Line, added, same, refused, Records}
+-- What is told of a decision, from the line that it takes: the step of the register, the rows that stay, how many are written, and which refusal.
+use Rattle.std.proofs.Common.{◌≡◌, ◌≤◌, ℕ, ◌+◌, Bool, true, false, List, [], ◌∷◌, Option, Some, None, Result, Ok, Err, is_some, refl, sym, ap, subst, ◌∙◌, inl, inr, arith}
+use Rattle.std.specs.Prelude.{IfOk, OnErr, if◌then◌else◌, nat_lt}
+use Rattle.cabinet_core.specs.Cabinet.{Line, added, same, refused, Records, inspect_line, open_line, use_line, close_line, close_order_line, receive_line, is_same_inspection, is_opened_so, is_same_line, is_same_closing, is_same_delivery, on_hand}
 use Rattle.cabinet_core.specs.declared.command.RecordCommand.{RecordCommand}
+use Rattle.cabinet_core.specs.declared.command.RecordCommand.TheVariants.{Inspect, OpenOrder, UsePart, CloseOrder, Receive}
+use Rattle.cabinet_core.specs.declared.part.TheConstants.{MOST_ON_HAND}
+use Rattle.cabinet_core.specs.declared.record.Closing.{Closing}
+use Rattle.cabinet_core.specs.declared.record.Delivery.{Delivery}
+use Rattle.cabinet_core.specs.declared.record.Inspection.{Inspection}
+use Rattle.cabinet_core.specs.declared.record.Opening.{Opening}
+use Rattle.cabinet_core.specs.declared.record.Order.{Order}
+use Rattle.cabinet_core.specs.declared.record.UsedLine.{UsedLine}
 use Rattle.cabinet_core.specs.declared.decide.CabinetChange.{CabinetChange}
 use Rattle.cabinet_core.specs.declared.decide.CabinetChange.TheVariants as change
 use Rattle.cabinet_core.specs.declared.decide.Recorded.{Recorded}
@@ -20,10 +28,10 @@ use Rattle.office_desk_cabinet.specs.Register.{Register}
 use Rattle.office_desk_cabinet.specs.RegisterDamage.{MeetsRecordDamage}
 use Rattle.office_desk_cabinet.specs.RegisterStands.{RegisterStandsSound}
 use Rattle.office_desk_cabinet.specs.RegisterStep.{line_at, with_record, after_line, after_record}
-use Rattle.office_desk_cabinet.specs.Registers.{line_told, rows_told, RegistersFrom, Registers, LeavesTiming, most_record_writes}
+use Rattle.office_desk_cabinet.specs.Registers.{line_told, rows_told, IsNamed, RegistersFrom, Registers, LeavesTiming, most_record_writes}
 use Rattle.office_desk_cabinet.specs.Telling.{row_change_of, row_changes_of, Tells}
 use Rattle.office_desk_cabinet.specs.declared.registered.Registered.{Registered}
-use Rattle.office_desk_cabinet.specs.declared.registered.Registered.TheVariants.{Same, Refused}
+use Rattle.office_desk_cabinet.specs.declared.registered.Registered.TheVariants.{Refused}
 
 -- the rows that a line writes
 abbrev pub rows_for : Line → List RowChange → List RowChange
@@ -144,14 +152,41 @@ answer_writes command id line list decision (Ok told) is tells few = λ other.
     (rows_few other line (row_changes_of id list) (most_record_writes command other) (few other))
 answer_writes command id line list decision (Err fault) is tells few = tt
 
--- ---- never want of memory
+-- ---- the refusals
 
-tells_memory : (id : ℕ) (decision : Result Recorded CabinetRefusal) (told : Registered) → Tells id decision told → told ≢ Refused refusal.NoMemory
-tells_memory id (Ok (recorded.Added changes)) told tells is = absurd (let f : added ≡ refused refusal.NoMemory = sym tells.0 ∙ ap line_told is in cc)
-tells_memory id (Ok recorded.Same) told tells is = absurd (let f : Same ≡ Refused refusal.NoMemory = sym tells ∙ is in cc)
-tells_memory id (Err why) told tells is = tells.0 (let f : Refused why ≡ Refused refusal.NoMemory = sym tells.1 ∙ is in cc)
+pub answer_named : (command : RecordCommand) (id : ℕ) (line : Line) (list : List CabinetChange) (decision : Result Recorded CabinetRefusal) (result : Result Registered ShelfFault)
+    → Records decision line list → IfOk result (λ told. Tells id decision told) → IsNamed command line → IfOk result (λ told. IsNamed command (line_told told))
+answer_named command id line list decision (Ok told) is tells named = subst (IsNamed command) (sym (told_by id line list decision told is tells).same_line) named
+answer_named command id line list decision (Err fault) is tells named = tt
 
-pub answer_memory : (id : ℕ) (decision : Result Recorded CabinetRefusal) (result : Result Registered ShelfFault) → IfOk result (λ told. Tells id decision told)
-    → IfOk result (λ told. told ≢ Refused refusal.NoMemory)
-answer_memory id decision (Ok told) tells = tells_memory id decision told tells
-answer_memory id decision (Err fault) tells = tt
+either : (P : Line → Type 0) (b : Bool) (one other : Line) → P one → P other → P (if b then one else other)
+either P true one other p q = p
+either P false one other p q = q
+
+pub inspect_named : (id : ℕ) (there : Option Inspection) (asked : Inspection) → IsNamed (Inspect id asked) (inspect_line there asked)
+inspect_named id None asked = tt
+inspect_named id (Some there) asked = either (IsNamed (Inspect id asked)) (is_same_inspection there asked) same (refused refusal.InspectionDiffers) tt (inl refl)
+
+pub open_named : (id : ℕ) (there : Option Order) (asked : Opening) → IsNamed (OpenOrder id asked) (open_line there asked)
+open_named id None asked = tt
+open_named id (Some there) asked = either (IsNamed (OpenOrder id asked)) (is_opened_so there asked) same (refused refusal.OrderDiffers) tt (inl refl)
+
+pub use_named : (id : ℕ) (there : Option UsedLine) (order : Option Order) (hand : Option ℕ) (asked : UsedLine) → IsNamed (UsePart id asked) (use_line there order hand asked)
+use_named id (Some there) order hand asked = either (IsNamed (UsePart id asked)) (is_same_line there asked) same (refused refusal.LineDiffers) tt (inl refl)
+use_named id None None hand asked = inr (inl refl)
+use_named id None (Some order) hand asked =
+    let P = IsNamed (UsePart id asked) in
+    either P (is_some order.closing) (refused refusal.OrderClosed) _ (inr (inr (inl refl)))
+    (either P (nat_lt (on_hand hand) asked.count) (refused refusal.NoStock) added (inr (inr (inr (inl refl)))) tt)
+
+close_order_named : (id number : ℕ) (order : Order) (closing : Option Closing) (asked : Closing) → IsNamed (CloseOrder id number asked) (close_order_line order closing asked)
+close_order_named id number order (Some there) asked = either (IsNamed (CloseOrder id number asked)) (is_same_closing there asked) same (refused refusal.CloseDiffers) tt (inr (inl refl))
+close_order_named id number order None asked = either (IsNamed (CloseOrder id number asked)) (nat_lt asked.day order.opened) (refused refusal.DayBeforeOpening) added (inr (inr (inl refl))) tt
+
+pub close_named : (id number : ℕ) (order : Option Order) (asked : Closing) → IsNamed (CloseOrder id number asked) (close_line order asked)
+close_named id number None asked = inl refl
+close_named id number (Some order) asked = close_order_named id number order order.closing asked
+
+pub receive_named : (there : Option Delivery) (hand : Option ℕ) (asked : Delivery) → IsNamed (Receive asked) (receive_line there hand asked)
+receive_named (Some there) hand asked = either (IsNamed (Receive asked)) (is_same_delivery there asked) same (refused refusal.DeliveryDiffers) tt (inl refl)
+receive_named None hand asked = either (IsNamed (Receive asked)) (nat_lt MOST_ON_HAND (on_hand hand + asked.count)) (refused refusal.StockFull) added (inr (inl refl)) tt

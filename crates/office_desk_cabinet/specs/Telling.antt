@@ -24,6 +24,12 @@ row_change_of id (change.PutDelivery delivery) = PutDelivery delivery
 abbrev pub row_changes_of : ℕ → List CabinetChange → List RowChange
 row_changes_of id = map (row_change_of id)
 
+-- only what is added wants memory, unless the decision itself found none
+abbrev pub WantsMemory : Result Recorded CabinetRefusal → Type 0
+WantsMemory (Ok (recorded.Added changes)) = Unit {0}
+WantsMemory (Ok recorded.Same) = ⊥
+WantsMemory (Err refusal) = refusal ≡ NoMemory
+
 -- a decision as it is told: what is added in rows, and a refusal unless it is for want of memory
 abbrev pub Tells : ℕ → Result Recorded CabinetRefusal → Registered → Type 0
 Tells id (Ok (recorded.Added changes)) told = (line_told told ≡ added) × (rows_told told ≡ row_changes_of id changes.items)

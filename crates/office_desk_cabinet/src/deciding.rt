@@ -1,16 +1,16 @@
 //! The commands of the register, decided.
-ghost use Rattle.std.specs.Prelude.{◌≡◌, ◌≢◌, ◌≤◌, IfOk};
+ghost use Rattle.std.specs.Prelude.{◌≤◌, IfOk};
 ghost use Rattle.office_tables_shelf.specs.Content.{Content};
 ghost use Rattle.office_tables_shelf.specs.Counts.{writes_in};
 ghost use Rattle.office_tables_shelf.specs.Shelf.{IsKept};
 ghost use Rattle.office_tables_shelf.specs.declared.rows.Table.{Table};
-ghost use Rattle.office_desk_cabinet.specs.Registers.{Registers, LeavesTiming, most_record_writes, rows_told};
+ghost use Rattle.office_desk_cabinet.specs.Registers.{IsNamed, LeavesTiming, Registers, line_told, most_record_writes, rows_told};
 
 use crate::pending::Pending;
 use crate::records::{decide_close_order, decide_inspect, decide_open_order};
 use crate::registered::Registered;
 use crate::stocking::{decide_receive, decide_use_part};
-use cabinet_core::{CabinetRefusal, RecordCommand};
+use cabinet_core::RecordCommand;
 use office_tables_shelf::shelf::{Shelf, ShelfFault};
 use std::alloc::Global;
 
@@ -25,7 +25,7 @@ pub fn decide_record<S: Shelf>(
     ensures step { S.is_honest shelf.new → Registers (S.content shelf.old) pending.now command.now result }
     ensures leaves { IfOk result (λ told. (tables : Content) → LeavesTiming tables (rows_told told)) }
     ensures writes { IfOk result (λ told. (table : Table) → writes_in table (rows_told told) ≤ most_record_writes command.now table) }
-    ensures never_memory { IfOk result (λ told. told ≢ Registered.Refused CabinetRefusal.NoMemory) }
+    ensures named { IfOk result (λ told. IsNamed command.now (line_told told)) }
     ensures kept { IsKept S.is_honest S.content S.written S.may_leave shelf.old shelf.new }
 {
     match command {

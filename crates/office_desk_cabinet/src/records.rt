@@ -1,5 +1,5 @@
 //! Inspections and orders: their commands decided.
-ghost use Rattle.std.specs.Prelude.{◌≡◌, ◌≢◌, ◌≤◌, IfOk};
+ghost use Rattle.std.specs.Prelude.{◌≤◌, IfOk};
 ghost use Rattle.cabinet_core.specs.Cabinet.{record_of};
 ghost use Rattle.cabinet_core.specs.Within.{IsClosingWithin, IsOrderWithin};
 ghost use Rattle.cabinet_core.specs.declared.command.RecordCommand.{RecordCommand};
@@ -7,15 +7,15 @@ ghost use Rattle.office_tables_shelf.specs.Content.{Content};
 ghost use Rattle.office_tables_shelf.specs.Counts.{writes_in};
 ghost use Rattle.office_tables_shelf.specs.Shelf.{IsKept};
 ghost use Rattle.office_tables_shelf.specs.declared.rows.Table.{Table};
-ghost use Rattle.office_desk_cabinet.specs.Registers.{Registers, LeavesTiming, most_record_writes, rows_told};
+ghost use Rattle.office_desk_cabinet.specs.Registers.{IsNamed, LeavesTiming, Registers, line_told, most_record_writes, rows_told};
 
 use crate::pending::Pending;
 use crate::registered::Registered;
 use crate::rows::registered;
 use crate::standing::{inspection_at, order_at};
 use cabinet_core::{
-    CabinetRefusal, Closing, Inspection, Opening, RecordCommand, close_order, inspect,
-    inspection_is_within, open_order,
+    Closing, Inspection, Opening, RecordCommand, close_order, inspect, inspection_is_within,
+    open_order,
 };
 use office_tables_shelf::shelf::{Shelf, ShelfFault};
 use signal_records::{InterId, RecordNo};
@@ -32,7 +32,7 @@ pub(crate) fn decide_inspect<S: Shelf>(
     ensures step { S.is_honest shelf.new → Registers (S.content shelf.old) pending.now (RecordCommand.Inspect id inspection.now) result }
     ensures leaves { IfOk result (λ told. (tables : Content) → LeavesTiming tables (rows_told told)) }
     ensures writes { IfOk result (λ told. (table : Table) → writes_in table (rows_told told) ≤ most_record_writes (RecordCommand.Inspect id inspection.now) table) }
-    ensures never_memory { IfOk result (λ told. told ≢ Registered.Refused CabinetRefusal.NoMemory) }
+    ensures named { IfOk result (λ told. IsNamed (RecordCommand.Inspect id inspection.now) (line_told told)) }
     ensures kept { IsKept S.is_honest S.content S.written S.may_leave shelf.old shelf.new }
 {
     inspection_is_within(inspection);
@@ -61,7 +61,7 @@ pub(crate) fn decide_open_order<S: Shelf>(
     ensures step { S.is_honest shelf.new → Registers (S.content shelf.old) pending.now (RecordCommand.OpenOrder id opening.now) result }
     ensures leaves { IfOk result (λ told. (tables : Content) → LeavesTiming tables (rows_told told)) }
     ensures writes { IfOk result (λ told. (table : Table) → writes_in table (rows_told told) ≤ most_record_writes (RecordCommand.OpenOrder id opening.now) table) }
-    ensures never_memory { IfOk result (λ told. told ≢ Registered.Refused CabinetRefusal.NoMemory) }
+    ensures named { IfOk result (λ told. IsNamed (RecordCommand.OpenOrder id opening.now) (line_told told)) }
     ensures kept { IsKept S.is_honest S.content S.written S.may_leave shelf.old shelf.new }
 {
     opening_is_within(opening);
@@ -90,7 +90,7 @@ pub(crate) fn decide_close_order<S: Shelf>(
     ensures step { S.is_honest shelf.new → Registers (S.content shelf.old) pending.now (RecordCommand.CloseOrder id order closing.now) result }
     ensures leaves { IfOk result (λ told. (tables : Content) → LeavesTiming tables (rows_told told)) }
     ensures writes { IfOk result (λ told. (table : Table) → writes_in table (rows_told told) ≤ most_record_writes (RecordCommand.CloseOrder id order closing.now) table) }
-    ensures never_memory { IfOk result (λ told. told ≢ Registered.Refused CabinetRefusal.NoMemory) }
+    ensures named { IfOk result (λ told. IsNamed (RecordCommand.CloseOrder id order closing.now) (line_told told)) }
     ensures kept { IsKept S.is_honest S.content S.written S.may_leave shelf.old shelf.new }
 {
     closing_is_within(closing);

@@ -1,6 +1,6 @@
 //! A decision of the register, with its changes as rows.
 ghost use Rattle.std.specs.Prelude.{◌≡◌, IfOk, OnErr};
-ghost use Rattle.office_desk_cabinet.specs.Telling.{Tells, row_change_of, row_changes_of};
+ghost use Rattle.office_desk_cabinet.specs.Telling.{Tells, WantsMemory, row_change_of, row_changes_of};
 
 use crate::registered::Registered;
 use cabinet_core::{CabinetChange, CabinetRefusal, Recorded};
@@ -45,6 +45,7 @@ pub(crate) fn registered(
 ) -> Result<Registered, ShelfFault>
     ensures tells { IfOk result (λ told. Tells id decision told) }
     ensures fault { OnErr result (result ≡ Err ShelfFault.NoMemory) }
+    ensures wants { OnErr result (WantsMemory decision) }
 {
     match decision {
         Ok(Recorded::Added(changes)) => {

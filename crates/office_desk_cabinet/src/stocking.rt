@@ -1,5 +1,5 @@
 //! The stock: parts used, deliveries received, and what is on hand.
-ghost use Rattle.std.specs.Prelude.{◌≡◌, ◌≢◌, ◌≤◌, IfOk, OnErr};
+ghost use Rattle.std.specs.Prelude.{◌≡◌, ◌≤◌, IfOk, OnErr};
 ghost use Rattle.cabinet_core.specs.declared.command.RecordCommand.{RecordCommand};
 ghost use Rattle.office_tables_shelf.specs.CabinetReads.{HasDamagedPart};
 ghost use Rattle.office_tables_shelf.specs.Content.{Content};
@@ -8,8 +8,9 @@ ghost use Rattle.office_tables_shelf.specs.Shelf.{IsKept};
 ghost use Rattle.office_tables_shelf.specs.declared.rows.Table.{Table};
 ghost use Rattle.office_desk_cabinet.specs.Register.{Register, stock_of};
 ghost use Rattle.office_desk_cabinet.specs.RegisterStands.{RegisterStandsSound};
-ghost use Rattle.office_desk_cabinet.specs.Registers.{Registers, LeavesTiming, most_record_writes, rows_told};
+ghost use Rattle.office_desk_cabinet.specs.Registers.{IsNamed, LeavesTiming, Registers, line_told, most_record_writes, rows_told};
 ghost use Rattle.office_desk_cabinet.specs.Stocking.{TellsStock, stock_row_of, stock_rows_of};
+ghost use Rattle.office_desk_cabinet.specs.Telling.{WantsMemory};
 
 use crate::pending::Pending;
 use crate::registered::Registered;
@@ -35,7 +36,7 @@ pub(crate) fn decide_use_part<S: Shelf>(
     ensures step { S.is_honest shelf.new → Registers (S.content shelf.old) pending.now (RecordCommand.UsePart id line.now) result }
     ensures leaves { IfOk result (λ told. (tables : Content) → LeavesTiming tables (rows_told told)) }
     ensures writes { IfOk result (λ told. (table : Table) → writes_in table (rows_told told) ≤ most_record_writes (RecordCommand.UsePart id line.now) table) }
-    ensures never_memory { IfOk result (λ told. told ≢ Registered.Refused CabinetRefusal.NoMemory) }
+    ensures named { IfOk result (λ told. IsNamed (RecordCommand.UsePart id line.now) (line_told told)) }
     ensures kept { IsKept S.is_honest S.content S.written S.may_leave shelf.old shelf.new }
 {
     used_line_is_within(line);
@@ -77,6 +78,7 @@ fn received(
 ) -> Result<Registered, ShelfFault>
     ensures tells { IfOk result (λ told. TellsStock decision told) }
     ensures fault { OnErr result (result ≡ Err ShelfFault.NoMemory) }
+    ensures wants { OnErr result (WantsMemory decision) }
 {
     match decision {
         Ok(Recorded::Added(changes)) => {
@@ -99,7 +101,7 @@ pub(crate) fn decide_receive<S: Shelf>(
     ensures step { S.is_honest shelf.new → Registers (S.content shelf.old) pending.now (RecordCommand.Receive delivery.now) result }
     ensures leaves { IfOk result (λ told. (tables : Content) → LeavesTiming tables (rows_told told)) }
     ensures writes { IfOk result (λ told. (table : Table) → writes_in table (rows_told told) ≤ most_record_writes (RecordCommand.Receive delivery.now) table) }
-    ensures never_memory { IfOk result (λ told. told ≢ Registered.Refused CabinetRefusal.NoMemory) }
+    ensures named { IfOk result (λ told. IsNamed (RecordCommand.Receive delivery.now) (line_told told)) }
     ensures kept { IsKept S.is_honest S.content S.written S.may_leave shelf.old shelf.new }
 {
     delivery_is_within(delivery);

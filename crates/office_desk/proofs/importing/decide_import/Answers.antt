@@ -9,7 +9,8 @@ use Rattle.office_desk.specs.Damage.{MeetsCabinetDamage}
 use Rattle.office_desk.specs.Step.{cabinet_of}
 use Rattle.office_desk.specs.Importing.{ImportsAny, LeavesAnyTiming, TakesRecord}
 use Rattle.office_desk.specs.declared.importing.Taken.TheVariants.{Added, Same}
-use Rattle.office_desk.proofs.Imports.{counted_on, damage_of_record, fault_decides, import_done, import_refused, import_writes, imports_on, imports_start, nothing_leaves, nothing_written, next_left, same_stored, writes_left, writes_whole}
+use Rattle.office_desk.proofs.Decisions.{fault_decides}
+use Rattle.office_desk.proofs.Imports.{counted_on, damage_of_record, import_decides, imports_on, imports_start, next_left, nothing_leaves, nothing_written, refused_decides, same_stored, writes_left, writes_whole}
 use Rattle.office_tables_shelf.proofs.KeptLemmas.{kept_on}
 use Rattle.office_desk.proofs.importing.decide_import.Goals as goal
 use Rattle.office_desk.proofs.importing.decide_import.Goals.{in-Added, in-Same}
@@ -25,16 +26,15 @@ loop-index-init g c =
       kept = record { honest_before = λ honest. honest; same_content = λ honest. refl; same_counts = refl; same_outcomes = λ honest tables left. left };
     }
 
-pub returns-in_err-taken-clause-step : goal.returns-in_err-taken-clause-step
-returns-in_err-taken-clause-step g c = λ honest.
-    let first = c.take_record.ensures.kept.honest_before honest in
+pub returns-in_err-taken-clause-decides : goal.returns-in_err-taken-clause-decides
+returns-in_err-taken-clause-decides g c =
     let index = c.loop-index.index in
     let item = c.command-item.result in
     let low = subst (λ (list : List RecordCommand). index < length list) c.as_slice-command-items.ensures c.loop-index-test.true in
     let at = subst (λ (list : List RecordCommand). item ≡ get_or list index item) c.as_slice-command-items.ensures c.command-item.is in
-    fault_decides _ c.args.records.now c.in_err-taken.field-0.0 _ c.from_residual.ensures.1
-    (λ damaged. damage_of_record _ c.args.records.now index item low at
-    (subst (λ tables. MeetsCabinetDamage tables item (cabinet_of item)) (c.loop-index.invariant.kept.same_content first)
+    fault_decides _ _ _ c.in_err-taken.field-0.0 _ c.from_residual.ensures.1
+    (λ damaged honest. damage_of_record _ c.args.records.now index item low at
+    (subst (λ tables. MeetsCabinetDamage tables item (cabinet_of item)) (c.loop-index.invariant.kept.same_content (c.take_record.ensures.kept.honest_before honest))
     (c.take_record.ensures.damaged (c.in_err-taken.was ∙ ap (λ (f : ShelfFault). Err f) damaged) honest)))
 
 pub returns-in_err-taken-clause-kept : goal.returns-in_err-taken-clause-kept
@@ -48,9 +48,8 @@ overflow_add-added g c =
     let test = c.loop-index-test.true in
     omega (arith, counted, test, c.loop-index.auto.index-end)
 
-pub returns-in-Refused-clause-step : goal.returns-in-Refused-clause-step
-returns-in-Refused-clause-step g c = λ honest.
-    let first = c.take_record.ensures.kept.honest_before honest in
+pub returns-in-Refused-clause-decides : goal.returns-in-Refused-clause-decides
+returns-in-Refused-clause-decides g c =
     let stored = g.S.Shelf.content c.args.shelf.now in
     let all = c.args.records.now in
     let index = c.loop-index.index in
@@ -59,10 +58,10 @@ returns-in-Refused-clause-step g c = λ honest.
     let after = c.in_ok-taken.next in
     let low = subst (λ (list : List RecordCommand). index < length list) c.as_slice-command-items.ensures c.loop-index-test.true in
     let at = subst (λ (list : List RecordCommand). item ≡ get_or list index item) c.as_slice-command-items.ensures c.command-item.is in
-    let takes = same_stored before item _ after (c.loop-index.invariant.kept.same_content first) (c.in_ok-taken.ensures.step honest) in
-    import_refused stored all (drop index all) item (drop (index + 1) all) (index + 1) c.loop-index.added c.loop-index.same _ before after c.in-Refused.refusal _ _
-    (next_left all index item low at) (c.loop-index.invariant.imports first)
-    (subst (λ t. TakesRecord stored before item t after) c.in-Refused.is takes)
+    refused_decides _ stored all (drop index all) item (drop (index + 1) all) (index + 1) c.loop-index.added c.loop-index.same _ before after c.in-Refused.refusal _
+    (next_left all index item low at) (λ honest. c.loop-index.invariant.imports (c.take_record.ensures.kept.honest_before honest))
+    (λ honest. subst (λ t. TakesRecord stored before item t after) c.in-Refused.is
+    (same_stored before item _ after (c.loop-index.invariant.kept.same_content (c.take_record.ensures.kept.honest_before honest)) (c.in_ok-taken.ensures.step honest)))
     c.number-cause.ensures c.refused.ensures.reply c.refused.ensures.no_changes
 
 pub loop-index-preserved : goal.loop-index-preserved
@@ -91,15 +90,11 @@ loop-index-preserved g c =
       kept = kept_on shelf.is_honest shelf.content shelf.written shelf.may_leave c.args.shelf.now c.loop-index.shelf c.take_record.new.shelf c.loop-index.invariant.kept c.take_record.ensures.kept;
     }
 
-pub returns-clause-step : goal.returns-clause-step
-returns-clause-step g c = λ honest.
-    let high = subst (λ (list : List RecordCommand). length list ≤ c.loop-index.index) c.as_slice-command-items.ensures c.loop-index-test.false in
-    import_done (g.S.Shelf.content c.args.shelf.now) c.args.records.now (drop c.loop-index.index c.args.records.now) (c.loop-index.index + 1) c.loop-index.added c.loop-index.same c.loop-index.pending _ _
-    (drop_all c.loop-index.index c.args.records.now high) (c.loop-index.invariant.imports honest) c.loop-index.invariant.leaves refl c.into_changes.ensures
-
-pub returns-clause-writes : goal.returns-clause-writes
-returns-clause-writes g c = λ honest.
-    let high = subst (λ (list : List RecordCommand). length list ≤ c.loop-index.index) c.as_slice-command-items.ensures c.loop-index-test.false in
-    import_writes (g.S.Shelf.content c.args.shelf.now) c.args.records.now c.into_changes.result.items
-    (λ table. subst (λ changes. writes_in table changes ≤ most_import_writes c.args.records.now table) (sym c.into_changes.ensures)
-    (writes_whole table c.args.records.now c.loop-index.index _ _ high (c.loop-index.invariant.writes table)))
+pub returns-clause-decides : goal.returns-clause-decides
+returns-clause-decides g c =
+    let all = c.args.records.now in
+    let index = c.loop-index.index in
+    let high = subst (λ (list : List RecordCommand). length list ≤ index) c.as_slice-command-items.ensures c.loop-index-test.false in
+    import_decides _ (g.S.Shelf.content c.args.shelf.now) all (drop index all) (index + 1) c.loop-index.added c.loop-index.same c.loop-index.pending _
+    (drop_all index all high) c.loop-index.invariant.imports c.loop-index.invariant.leaves
+    (λ table. writes_whole table all index _ _ high (c.loop-index.invariant.writes table)) refl c.into_changes.ensures

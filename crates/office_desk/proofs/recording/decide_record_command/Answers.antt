@@ -1,28 +1,41 @@
-use Rattle.std.proofs.Common.{◌≡◌, ◌∙◌, true, false, ap, arith, subst}
+use Rattle.std.proofs.Common.{◌≡◌, ◌∙◌, true, false, ap, arith, subst, Err}
+use Rattle.office_tables_shelf.specs.declared.shelf.ShelfFault.{ShelfFault}
 use Rattle.office_tables_shelf.specs.Change.{changed_by}
 use Rattle.office_desk_cabinet.specs.Register.{Register}
+use Rattle.office_desk_cabinet.specs.RegisterDamage.{MeetsRecordDamage}
 use Rattle.office_desk_cabinet.specs.RegisterStands.{RegisterStandsSound}
-use Rattle.office_desk_cabinet.specs.Registers.{RegistersFrom}
-use Rattle.office_desk.proofs.Recorded.{about_known, record_answers, record_unknown}
+use Rattle.office_desk_cabinet.specs.Registers.{Registers, RegistersFrom}
+use Rattle.office_desk.proofs.Decisions.{fault_decides, unknown_decides}
+use Rattle.office_desk.proofs.Recorded.{about_known, meets_record, record_answers, record_decides, record_unknown}
 use Rattle.office_desk.proofs.recording.decide_record_command.Goals as goal
 
-pub returns-then-not-branch-clause-step : goal.returns-then-not-branch-clause-step
-returns-then-not-branch-clause-step g c = λ honest office stands.
+pub returns-then-not-branch-clause-decides : goal.returns-then-not-branch-clause-decides
+returns-then-not-branch-clause-decides g c =
     let test = c.if-not-branch.true in
     let gone : c.in_ok-is_known.field-0 ≡ false = first_of (cc, grind arith) in
+    unknown_decides _ _ _ _ c.refused.ensures.reply c.refused.ensures.no_changes (λ honest office stands.
     record_unknown _ office c.args.command.now _ _ stands
     (about_known _ _ _ _ _ c.cabinet_of.ensures gone (c.in_ok-is_known.ensures.known honest))
-    c.refused.ensures.reply c.refused.ensures.no_changes
+    c.refused.ensures.reply c.refused.ensures.no_changes)
 
-pub returns-clause-step : goal.returns-clause-step
-returns-clause-step g c = λ honest office stands.
-    let first = c.decide_record.ensures.kept.honest_before honest in
-    let same = c.is_known.ensures.kept.same_content first in
+pub returns-clause-decides : goal.returns-clause-decides
+returns-clause-decides g c =
     let test = c.if-not-branch.false in
     let there : c.in_ok-is_known.field-0 ≡ true = first_of (cc, grind arith) in
     let done = c.in_ok-told.told in
+    record_decides _ _ _ done _ (λ honest office stands.
+    let first = c.decide_record.ensures.kept.honest_before honest in
+    let same = c.is_known.ensures.kept.same_content first in
     record_answers (g.S.Shelf.content c.args.shelf.now) office c.args.command.now done _ _ stands
     (about_known _ _ _ _ _ c.cabinet_of.ensures there (c.in_ok-is_known.ensures.known first))
     (subst (λ t. (r : Register) → RegisterStandsSound t r → RegistersFrom t c.args.command.now done r) (ap (changed_by (g.S.Shelf.content c.is_known.new.shelf)) c.new-pending.ensures ∙ same) (c.in_ok-told.ensures.step honest))
     (c.in_ok-told.ensures.leaves (g.S.Shelf.content c.args.shelf.now))
-    c.answer.ensures.reply c.answer.ensures.changes
+    c.answer.ensures.reply c.answer.ensures.changes) c.in_ok-told.ensures.writes c.answer.ensures.reply c.answer.ensures.changes
+
+pub returns-in_err-told-clause-decides : goal.returns-in_err-told-clause-decides
+returns-in_err-told-clause-decides g c =
+    let asked = c.args.command.now in
+    fault_decides _ _ _ c.in_err-told.field-0.0 _ c.from_residual-in_err-told.ensures.1 (λ damaged honest.
+    let same = c.is_known.ensures.kept.same_content (c.decide_record.ensures.kept.honest_before honest) in
+    meets_record _ asked (subst (λ t. MeetsRecordDamage t asked) same
+    (subst (Registers (g.S.Shelf.content c.is_known.new.shelf) c.new-pending.result asked) (c.in_err-told.was ∙ ap (λ (f : ShelfFault). Err f) damaged) (c.decide_record.ensures.step honest))))

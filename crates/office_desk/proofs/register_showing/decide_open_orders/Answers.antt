@@ -2,18 +2,21 @@ use Rattle.std.proofs.Common.{◌≡◌, ◌∙◌, Some, ℕ, List, true, false
 use Rattle.office_desk_cabinet.specs.Register.{Register, open_at}
 use Rattle.office_desk_cabinet.specs.RegisterStands.{RegisterStandsSound}
 use Rattle.office_desk.specs.declared.reply.Reply.TheVariants.{OpenOrders}
+use Rattle.office_desk.proofs.Decisions.{told_decides, unknown_decides}
 use Rattle.office_desk.proofs.Recorded.{about_known, orders_answer, orders_unknown}
 use Rattle.office_desk.proofs.register_showing.decide_open_orders.Goals as goal
 
-pub returns-then-not-known-clause-step : goal.returns-then-not-known-clause-step
-returns-then-not-known-clause-step g c = λ honest office stands.
+pub returns-then-not-known-clause-decides : goal.returns-then-not-known-clause-decides
+returns-then-not-known-clause-decides g c =
     let test = c.if-not-known.true in
     let gone : c.in_ok-known.known ≡ false = first_of (cc, grind arith) in
+    unknown_decides _ _ _ _ c.refused.ensures.reply c.refused.ensures.no_changes (λ honest office stands.
     orders_unknown _ office c.args.id _ _ stands
-    (about_known _ (Some c.args.id) (Some c.args.id) _ _ refl gone (c.in_ok-known.ensures.known honest)) c.refused.ensures.reply c.refused.ensures.no_changes
+    (about_known _ (Some c.args.id) (Some c.args.id) _ _ refl gone (c.in_ok-known.ensures.known honest)) c.refused.ensures.reply c.refused.ensures.no_changes)
 
-pub returns-clause-step : goal.returns-clause-step
-returns-clause-step g c = λ honest office stands.
+pub returns-clause-decides : goal.returns-clause-decides
+returns-clause-decides g c =
+    told_decides _ _ _ _ _ c.unchanged.ensures.reply (λ e. cc) c.unchanged.ensures.no_changes (λ honest office stands.
     let first = c.open_orders.ensures.kept.honest_before honest in
     let same = c.is_known.ensures.kept.same_content first in
     let test = c.if-not-known.false in
@@ -22,4 +25,4 @@ returns-clause-step g c = λ honest office stands.
     orders_answer (g.S.Shelf.content c.args.shelf.now) office c.args.id list _ _ stands
     (about_known _ (Some c.args.id) (Some c.args.id) _ _ refl there (c.in_ok-known.ensures.known first))
     (subst (λ t. (r : Register) → RegisterStandsSound t r → list ≡ open_at r c.args.id) same (c.in_ok-list.ensures.shows honest))
-    (c.unchanged.ensures.reply ∙ ap (λ (numbers : List ℕ). OpenOrders numbers) c.new-numbers.ensures) c.unchanged.ensures.no_changes
+    (c.unchanged.ensures.reply ∙ ap (λ (numbers : List ℕ). OpenOrders numbers) c.new-numbers.ensures) c.unchanged.ensures.no_changes)

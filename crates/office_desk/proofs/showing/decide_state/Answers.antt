@@ -1,15 +1,20 @@
-use Rattle.std.proofs.Common.{◌∙◌, subst}
+use Rattle.std.proofs.Common.{◌∙◌, subst, Err, ap, inr}
+use Rattle.office_tables_shelf.specs.declared.shelf.ShelfFault.{ShelfFault}
 use Rattle.office_tables_shelf.specs.Shelf.{ReadsIntersection, CountsTiming}
+use Rattle.office_desk.specs.Damage.{HasDamage}
 use Rattle.office_desk.specs.Decisions.{IsVerdictOf}
+use Rattle.office_desk.proofs.Decisions.{fault_decides, told_decides, unknown_decides}
 use Rattle.office_desk.proofs.Shown.{state_answers, unknown_state}
 use Rattle.office_desk.proofs.showing.decide_state.Goals as goal
 
-pub returns-in_default-clause-step : goal.returns-in_default-clause-step
-returns-in_default-clause-step g c = λ honest office stands.
-    unknown_state _ office _ _ _ stands (subst (ReadsIntersection (g.S.Shelf.content c.args.shelf.now) c.args.id) c.in_default.is (c.in_ok-row.ensures.row honest)) c.refused.ensures.reply c.refused.ensures.no_changes
+pub returns-in_default-clause-decides : goal.returns-in_default-clause-decides
+returns-in_default-clause-decides g c =
+    unknown_decides _ _ _ _ c.refused.ensures.reply c.refused.ensures.no_changes (λ honest office stands.
+    unknown_state _ office _ _ _ stands (subst (ReadsIntersection (g.S.Shelf.content c.args.shelf.now) c.args.id) c.in_default.is (c.in_ok-row.ensures.row honest)) c.refused.ensures.reply c.refused.ensures.no_changes)
 
-pub returns-clause-step : goal.returns-clause-step
-returns-clause-step g c = λ honest office stands.
+pub returns-clause-decides : goal.returns-clause-decides
+returns-clause-decides g c =
+    told_decides _ _ _ _ _ (c.unchanged.ensures.reply ∙ c.shown.ensures) (λ e. cc) c.unchanged.ensures.no_changes (λ honest office stands.
     let read = c.verdict_at.ensures.kept.honest_before honest in
     let first = c.committed_count.ensures.kept.honest_before read in
     let same = c.intersection.ensures.kept.same_content first in
@@ -18,4 +23,19 @@ returns-clause-step g c = λ honest office stands.
     (subst (ReadsIntersection (g.S.Shelf.content c.args.shelf.now) c.args.id) c.in-Some.is (c.in_ok-row.ensures.row first))
     (subst (λ t. CountsTiming t c.args.id c.in_ok-rows.rows) same (c.in_ok-rows.ensures.count read))
     (subst (λ t. IsVerdictOf t c.args.id c.in-Some.row c.in_ok-verify.verify) still (c.in_ok-verify.ensures.verdict honest))
-    (c.unchanged.ensures.reply ∙ c.shown.ensures) c.unchanged.ensures.no_changes
+    (c.unchanged.ensures.reply ∙ c.shown.ensures) c.unchanged.ensures.no_changes)
+
+pub returns-in_err-verify-clause-decides : goal.returns-in_err-verify-clause-decides
+returns-in_err-verify-clause-decides g c =
+    let tables = g.S.Shelf.content c.args.shelf.now in
+    fault_decides _ _ _ c.in_err-verify.field-0.0 _ c.from_residual-in_err-verify.ensures.1 (λ damaged honest.
+    let read = c.verdict_at.ensures.kept.honest_before honest in
+    let first = c.committed_count.ensures.kept.honest_before read in
+    let still = c.committed_count.ensures.kept.same_content read ∙ c.intersection.ensures.kept.same_content first in
+    let met = c.verdict_at.ensures.damaged (c.in_err-verify.was ∙ ap (λ (f : ShelfFault). Err f) damaged) honest in
+    inr (record {
+      row = c.in-Some.row;
+      read = subst (ReadsIntersection tables c.args.id) c.in-Some.is (c.in_ok-row.ensures.row first);
+      done = met.0;
+      damage = subst (λ t. HasDamage t c.args.id) still met.1;
+    }))

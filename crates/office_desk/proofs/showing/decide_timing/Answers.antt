@@ -1,15 +1,18 @@
 use Rattle.std.proofs.Common.{◌∙◌, ap, subst}
 use Rattle.office_tables_shelf.specs.Shelf.{ReadsIntersection, ListsTiming}
 use Rattle.office_desk.specs.Reading.{AreWithin, set_of_rows}
+use Rattle.office_desk.proofs.Decisions.{told_decides, unknown_decides}
 use Rattle.office_desk.proofs.Shown.{timing_answers, unknown_timing}
 use Rattle.office_desk.proofs.showing.decide_timing.Goals as goal
 
-pub returns-in_default-clause-step : goal.returns-in_default-clause-step
-returns-in_default-clause-step g c = λ honest office stands.
-    unknown_timing _ office _ _ _ stands (subst (ReadsIntersection (g.S.Shelf.content c.args.shelf.now) c.args.id) c.in_default.is (c.in_ok-row.ensures.row honest)) c.refused.ensures.reply c.refused.ensures.no_changes
+pub returns-in_default-clause-decides : goal.returns-in_default-clause-decides
+returns-in_default-clause-decides g c =
+    unknown_decides _ _ _ _ c.refused.ensures.reply c.refused.ensures.no_changes (λ honest office stands.
+    unknown_timing _ office _ _ _ stands (subst (ReadsIntersection (g.S.Shelf.content c.args.shelf.now) c.args.id) c.in_default.is (c.in_ok-row.ensures.row honest)) c.refused.ensures.reply c.refused.ensures.no_changes)
 
-pub returns-clause-step : goal.returns-clause-step
-returns-clause-step g c = λ honest office stands.
+pub returns-clause-decides : goal.returns-clause-decides
+returns-clause-decides g c =
+    told_decides _ _ _ _ _ c.unchanged.ensures.reply (λ e. cc) c.unchanged.ensures.no_changes (λ honest office stands.
     let first = c.timing_rows.ensures.kept.honest_before honest in
     let same = c.intersection.ensures.kept.same_content first in
     timing_answers (g.S.Shelf.content c.args.shelf.now) office c.args.id c.in-Some.row c.in_ok-listed.listed.items c.in_ok-set.set _ _ stands
@@ -17,4 +20,4 @@ returns-clause-step g c = λ honest office stands.
     (subst (λ t. ListsTiming t c.args.id c.in_ok-listed.listed.items) same (c.in_ok-listed.ensures.rows honest))
     (subst AreWithin c.as_slice-rows.ensures.value c.rows_are_within.ensures)
     (c.in_ok-set.ensures ∙ ap set_of_rows c.as_slice-rows.ensures.value)
-    c.unchanged.ensures.reply c.unchanged.ensures.no_changes
+    c.unchanged.ensures.reply c.unchanged.ensures.no_changes)

@@ -4,7 +4,7 @@ use Rattle.cabinet_core.specs.declared.command.RecordCommand.TheVariants.{Receiv
 use Rattle.office_tables_shelf.specs.CabinetReads.{ReadsDelivery}
 use Rattle.office_tables_shelf.specs.Change.{changed_by}
 use Rattle.office_desk_cabinet.proofs.Stocked.{receive_answers, receive_writes, received_tells}
-use Rattle.office_desk_cabinet.proofs.Told.{answer_leaves, answer_writes, answer_memory}
+use Rattle.office_desk_cabinet.proofs.Told.{answer_leaves, answer_named, answer_writes, receive_named}
 use Rattle.office_desk_cabinet.proofs.stocking.decide_receive.Goals as goal
 
 pub returns-clause-step : goal.returns-clause-step
@@ -34,9 +34,11 @@ returns-clause-writes g c =
     answer_writes (Receive asked) 0 line _ c.receive-decision.result c.received.result c.receive-decision.ensures
     (received_tells 0 asked line hand c.receive-decision.result c.received.result c.receive-decision.ensures c.received.ensures.tells) (receive_writes 0 asked hand)
 
-pub returns-clause-never_memory : goal.returns-clause-never_memory
-returns-clause-never_memory g c =
+pub returns-clause-named : goal.returns-clause-named
+returns-clause-named g c =
     let asked = c.args.delivery.now in
+    let there = c.in_ok-there.there in
     let hand = c.in_ok-hand.hand in
-    answer_memory 0 c.receive-decision.result c.received.result
-    (received_tells 0 asked (receive_line c.in_ok-there.there hand asked) hand c.receive-decision.result c.received.result c.receive-decision.ensures c.received.ensures.tells)
+    let line = receive_line there hand asked in
+    answer_named (Receive asked) 0 line _ c.receive-decision.result c.received.result c.receive-decision.ensures
+    (received_tells 0 asked line hand c.receive-decision.result c.received.result c.receive-decision.ensures c.received.ensures.tells) (receive_named there hand asked)

@@ -3,7 +3,7 @@ use Rattle.cabinet_core.specs.declared.command.RecordCommand.TheVariants.{UsePar
 use Rattle.office_tables_shelf.specs.Change.{changed_by}
 use Rattle.office_tables_shelf.specs.CabinetReads.{ReadsUsed, ReadsOrder}
 use Rattle.office_desk_cabinet.proofs.Stocked.{use_answers, use_writes}
-use Rattle.office_desk_cabinet.proofs.Told.{answer_leaves, answer_writes, answer_memory}
+use Rattle.office_desk_cabinet.proofs.Told.{answer_leaves, answer_named, answer_writes, use_named}
 use Rattle.office_desk_cabinet.proofs.stocking.decide_use_part.Goals as goal
 
 pub returns-clause-step : goal.returns-clause-step
@@ -26,5 +26,6 @@ returns-clause-leaves g c = answer_leaves _ _ _ c.registered.ensures.tells
 pub returns-clause-writes : goal.returns-clause-writes
 returns-clause-writes g c = answer_writes (UsePart c.args.id c.args.line.now) _ _ _ _ _ c.use_part-decision.ensures c.registered.ensures.tells (use_writes c.args.id c.args.line.now c.in_ok-hand.hand)
 
-pub returns-clause-never_memory : goal.returns-clause-never_memory
-returns-clause-never_memory g c = answer_memory _ _ _ c.registered.ensures.tells
+pub returns-clause-named : goal.returns-clause-named
+returns-clause-named g c =
+    answer_named (UsePart c.args.id c.args.line.now) _ _ _ _ _ c.use_part-decision.ensures c.registered.ensures.tells (use_named c.args.id c.in_ok-there.there c.in_ok-order.order c.in_ok-hand.hand c.args.line.now)

@@ -1,0 +1,29 @@
+-- What every decision on a command promises.
+use Rattle.std.specs.Prelude.{◌≡◌, ◌≢◌, ◌≤◌, [], Result, Ok, Err}
+use Rattle.office_tables_shelf.specs.Change.{changed_by}
+use Rattle.office_tables_shelf.specs.Content.{Content}
+use Rattle.office_tables_shelf.specs.Counts.{writes_in}
+use Rattle.office_tables_shelf.specs.declared.rows.Table.{Table}
+use Rattle.office_tables_shelf.specs.declared.shelf.ShelfFault.{ShelfFault}
+use Rattle.office_tables_shelf.specs.declared.shelf.ShelfFault.TheVariants as fault
+use Rattle.office_desk.specs.declared.command.Command.{Command}
+use Rattle.office_desk.specs.declared.decided.Decided.{Decided}
+use Rattle.office_desk.specs.declared.refusal.Refusal.TheVariants.{Damaged}
+use Rattle.office_desk.specs.declared.reply.Reply.TheVariants.{Refused}
+use Rattle.office_desk.specs.Answers.{AnswersAny}
+use Rattle.office_desk.specs.Changes.{IsRefused, IsQuery, most_writes}
+use Rattle.office_desk.specs.Damage.{MeetsDamage}
+
+-- The reply and what the rows make of the tables are one step; the rows are at most those of the kind of command, and none where it is refused or only asks;
+-- and a row that is no record is told as a fault, never as a reply.
+pub record IsDecision (is_honest : Type 0) (tables : Content) (command : Command) (decided : Decided) : Type 0 where
+  pub step : is_honest → AnswersAny tables command decided.reply (changed_by tables decided.changes.items)
+  pub writes : is_honest → (table : Table) → writes_in table decided.changes.items ≤ most_writes tables command table
+  pub refused : IsRefused decided.reply → decided.changes.items ≡ []
+  pub query : IsQuery command → decided.changes.items ≡ []
+  pub undamaged : decided.reply ≢ Refused Damaged
+
+-- The command is decided, or a fault is told: Damaged only where a row that it reads is no record.
+abbrev pub Decides : Type 0 → Content → Command → Result Decided ShelfFault → Type 0
+Decides is_honest tables command (Ok decided) = IsDecision is_honest tables command decided
+Decides is_honest tables command (Err why) = why ≡ fault.Damaged → is_honest → MeetsDamage tables command
