@@ -62,16 +62,6 @@ same_order (p ∷ ps) (q ∷ qs) a b h k =
     let later = same_order ps qs a b hs.1 ks.1 in
     λ i. ordering_then (first i) (later i)
 
--- a row of five columns is shown whole
-pub five_columns : (row : Row) → length row ≡ 5 → cells row ≡ cells_at (0 ∷ 1 ∷ 2 ∷ 3 ∷ 4 ∷ []) row
-five_columns (a ∷ b ∷ c ∷ d ∷ e ∷ []) wide = refl
-five_columns [] wide = absurd (omega (arith, wide))
-five_columns (a ∷ []) wide = absurd (omega (arith, wide))
-five_columns (a ∷ b ∷ []) wide = absurd (omega (arith, wide))
-five_columns (a ∷ b ∷ c ∷ []) wide = absurd (omega (arith, wide))
-five_columns (a ∷ b ∷ c ∷ d ∷ []) wide = absurd (omega (arith, wide))
-five_columns (a ∷ b ∷ c ∷ d ∷ e ∷ f ∷ row) wide = absurd (omega (arith, wide))
-
 -- ---- lists
 
 has_index : {X : Type 0} (xs : List X) (k : ℕ) (d : X) → k < length xs → Has xs (get_or xs k d)
