@@ -1,5 +1,5 @@
 -- What a new row does to the map of a table's rows.
-use Rattle.std.proofs.Common.{◌≡◌, ◌⊎◌, inl, inr, ℤ, List, [], ◌∷◌, filter, find, Bool, true, false, not, None, Some, cond, option_map, refl, sym, ap, subst, ◌∙◌, true≢false}
+use Rattle.std.proofs.Common.{◌≡◌, ◌⊎◌, inl, inr, ℤ, List, [], ◌∷◌, filter, find, Bool, true, false, not, Some, cond, option_map, refl, sym, ap, subst, ◌∙◌, true≢false}
 use Rattle.std.proofs.lemmas.Bool.{cases_Bool, false_from_ne_true, not-true, not-false, or_parts}
 use Rattle.std.proofs.lemmas.Cmp.{tied_back}
 use Rattle.std.specs.declared.cmp.Ordering.{Ordering}
@@ -10,23 +10,17 @@ use Rattle.sqlite.specs.Order.{Row, value_cmp}
 use Rattle.sqlite.specs.Tree.{rowid, has_rowid, put_row, without_rowid, IsTable}
 use Rattle.sqlite.specs.View.{IsShaped}
 use Rattle.sqlite.specs.Edit.{is_taken, without_all, id_in}
-use Rattle.sqlite.specs.Table.{Table}
 use Rattle.sqlite_trees.specs.declared.store.Shape.TheVariants as shape
-use Rattle.sqlite_schema.specs.declared.schema.Index.{Index}
-use Rattle.sqlite_schema.specs.Rules.{agree}
-use Rattle.sqlite_value.specs.Keys.{plain}
 use Rattle.sqlite_value.proofs.OrderLemmas.{value_cmp_total}
 use Rattle.sqlite_rules.specs.Calls.{ids_of}
-use Rattle.sqlite_rules.specs.Keys.{AreConflicts, conflicts}
 use Rattle.sqlite_rules.specs.Lists.{Has}
 use Rattle.sqlite_rules.proofs.ListLemmas.{all_has, has_filtered, some_from}
 use Rattle.sqlite_rules.proofs.TableLemmas.{int_is, without_all_has}
-use Rattle.std.specs.Cmp.{alike_right}
 use Rattle.std.specs.FinMap.{insert, same_map, get-insert}
 use Rattle.office_tables_shelf.specs.Cells.{Cell, cells_cmp, number}
 use Rattle.office_tables_shelf.proofs.CellLemmas.{cells_total, cells_exact, tied}
 use Rattle.office_tables_sql.specs.Stored.{cell_of, cells_at, rows_in}
-use Rattle.office_tables_sql.proofs.StoredLemmas.{agree_ties, has_cells, get_rows, HaveKeys}
+use Rattle.office_tables_sql.proofs.StoredLemmas.{has_cells, get_rows}
 use Rattle.office_tables_sql.specs.Layout.{Layout}
 
 module _ (p : Row → Bool) where

@@ -26,7 +26,7 @@ use Rattle.sqlite_rules.proofs.ListLemmas.{has_filtered}
 use Rattle.office_tables_shelf.specs.Cells.{Cell, Rows, cell_cmp, cells_cmp}
 use Rattle.office_tables_shelf.proofs.CellLemmas.{cells_total, cells_exact, is_under, find_entry}
 use Rattle.office_tables_sql.specs.Layout.{Layout, values_at}
-use Rattle.office_tables_sql.specs.Stored.{cell_of, cells, cells_at, rows_in, is_sound, are_sound}
+use Rattle.office_tables_sql.specs.Stored.{cell_of, cells_at, rows_in, is_sound, are_sound}
 use Rattle.office_tables_sql.proofs.StoredLemmas.{HaveKeys}
 use Rattle.office_tables_sql.proofs.QueryLemmas.{cols}
 use Rattle.office_tables_sql.proofs.ContentLemmas.{level}

@@ -1,5 +1,5 @@
 -- What DELETE by key makes of a table.
-use Rattle.std.proofs.Common.{◌≡◌, ◌≢◌, ◌⊎◌, inl, inr, ℕ, ℤ, List, [], ◌∷◌, map, filter, find, slice_get, Bool, true, false, None, Some, cond, option_map, Ok, refl, sym, ap, subst, ◌∙◌, true≢false}
+use Rattle.std.proofs.Common.{◌≡◌, ◌≢◌, ◌⊎◌, inl, inr, ℕ, ℤ, List, [], ◌∷◌, map, filter, find, slice_get, Bool, true, false, None, Some, cond, option_map, refl, sym, ap, subst, ◌∙◌, true≢false}
 use Rattle.std.proofs.lemmas.Bool.{cases_Bool, false_from_ne_true}
 use Rattle.std.proofs.lemmas.List.Sorted.{IsPermutation-sym}
 use Rattle.std.specs.List.Sorted.{IsPermutation}
@@ -8,21 +8,17 @@ use Rattle.std.specs.declared.cmp.Ordering.TheVariants.{Equal}
 use Rattle.std.specs.Ordering.{is_eq}
 use Rattle.sqlite.specs.declared.types.Value.TheVariants.{Null, Int}
 use Rattle.sqlite.specs.Command.TheVariants.{Delete}
-use Rattle.sqlite.specs.Does.{Tally, Does, AtPlace, OnRows}
-use Rattle.sqlite.specs.Effect.{Database}
 use Rattle.sqlite.specs.Edit.{edit_of, without_all, id_in, taken_by}
 use Rattle.sqlite.specs.Order.{Row, value_cmp}
 use Rattle.sqlite.specs.Program.{overlay}
 use Rattle.sqlite.specs.Rowids.TheVariants.{Given}
 use Rattle.sqlite.specs.Rows.{Written}
-use Rattle.sqlite.specs.State.{State, Runs, mode_of}
-use Rattle.sqlite.specs.Listing.{understood}
+use Rattle.sqlite.specs.State.{State}
 use Rattle.sqlite.specs.Table.{Table}
 use Rattle.sqlite.specs.Tree.{Trees, rowid, has_rowid}
 use Rattle.sqlite.specs.View.{IsShaped}
 use Rattle.sqlite.proofs.Callers.{one_step}
 use Rattle.sqlite_schema.specs.declared.schema.Keys.TheVariants.{Enforced}
-use Rattle.sqlite_schema.specs.declared.program.Program.{Program}
 use Rattle.sqlite_trees.specs.declared.store.Shape.TheVariants as shape
 use Rattle.sqlite_trees.proofs.ListLemmas.{all-permutation}
 use Rattle.sqlite_value.proofs.OrderLemmas.{value_cmp_total}
@@ -38,7 +34,7 @@ use Rattle.office_tables_shelf.specs.Cells.{Cell, cells_cmp}
 use Rattle.office_tables_shelf.proofs.CellLemmas.{cells_total, cells_exact, tied}
 use Rattle.office_tables_sql.specs.Stored.{cells_at, rows_in, are_sound}
 use Rattle.office_tables_sql.proofs.StoredLemmas.{agree_ties, has_cells, get_rows, HaveKeys}
-use Rattle.office_tables_sql.specs.Calls.{IsReady, Ran, statement_of}
+use Rattle.office_tables_sql.specs.Calls.{IsReady, Ran}
 use Rattle.office_tables_sql.proofs.QueryLemmas.{find_query, ArePaired, answers}
 use Rattle.office_tables_sql.proofs.SchemaLemmas.{IsWrite}
 use Rattle.office_tables_sql.proofs.WriteLemmas.{IsIdle, went_on, same_value, shaped_without, wrote}

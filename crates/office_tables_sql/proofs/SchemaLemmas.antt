@@ -1,14 +1,11 @@
 -- The texts of the statements, and what they mean over the schema.
-use Rattle.std.proofs.Common.{◌≡◌, ℕ, List, [], ◌∷◌, map, filter, find, length, codes, true, pos, Ok, Option, None, Some, IfSome, option_map, refl, sym, ap, ◌∙◌, subst}
+use Rattle.std.proofs.Common.{◌≡◌, ℕ, List, [], map, filter, find, length, true, Ok, Option, None, Some, IfSome, option_map, refl, sym, ap, ◌∙◌, subst}
 use Rattle.std.proofs.lemmas.List.{length-map}
 use Rattle.std.specs.FinMap.{get}
 use Rattle.sqlite.specs.Compile.{table_defined_by}
-use Rattle.sqlite.specs.declared.types.Value.TheVariants.{Null, Int}
+use Rattle.sqlite.specs.declared.types.Value.TheVariants.{Null}
 use Rattle.sqlite.specs.Command.{Command}
-use Rattle.sqlite.specs.Command.TheVariants.{InsertOr, Select}
-use Rattle.sqlite_schema.specs.declared.command.Conflict.TheVariants.{Replace}
-use Rattle.sqlite.specs.Source.TheVariants.{Values}
-use Rattle.sqlite.specs.Term.{lit, col}
+use Rattle.sqlite.specs.Command.TheVariants.{Select}
 use Rattle.sqlite_tied.specs.Compute.{everything}
 use Rattle.sqlite.specs.Listing.{understood}
 use Rattle.sqlite.specs.Given.{IsPlain}
@@ -21,13 +18,12 @@ use Rattle.sqlite.specs.View.{IsShaped}
 use Rattle.sqlite_trees.specs.declared.store.Shape.TheVariants as shape
 use Rattle.sqlite.specs.Program.{overlay}
 use Rattle.sqlite.specs.Tree.{Trees}
-use Rattle.office_tables_sql.specs.Layout.{Layout, values_at, has_key, columns_of, intersection}
+use Rattle.office_tables_sql.specs.Layout.{Layout, values_at, has_key, columns_of}
 use Rattle.office_tables_sql.proofs.QueryLemmas.{find_query, ArePaired, answers, one_found}
-use Rattle.office_tables_shelf.specs.Cells.{number}
 use Rattle.office_tables_sql.specs.Stored.{cells, cells_at, rows_of, are_sound}
 use Rattle.office_tables_sql.specs.declared.schema.tables.TheConstants.{INTERSECTION, TIMING, DRAFT, INSPECTION, WORK_ORDER, PART, DELIVERY, USED_PART, OFFICE_VERSION}
 use Rattle.office_tables_sql.specs.Calls.{IsQuery, Reads, command_of}
-use Rattle.office_tables_sql.proofs.StoredLemmas.{HaveKeys, get_columns, sound_rowids}
+use Rattle.office_tables_sql.proofs.StoredLemmas.{HaveKeys, get_columns}
 use Rattle.office_tables_sql.specs.Schema.{intersection_table, timing_table, draft_table, inspection_table, work_order_table, part_table, delivery_table, used_part_table, version_table, office_schema}
 
 -- the text is this query

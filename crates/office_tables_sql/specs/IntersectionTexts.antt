@@ -27,5 +27,25 @@ inserts = record { is = refl; plain = (refl, refl) }
 
 pub fits : (id : ℕ) (name : List ℕ) (days revision : ℕ) (holder : Option Holder)
     → Fits Intersection (intersection_key id) (text name ∷ number (pos days) ∷ number (pos revision) ∷ number (pos (state_number holder)) ∷ owner_cell holder ∷ [])
-fits id name days revision None = record { whole = refl; named = refl; given = λ limit db rows h. h.1; rest = λ row. refl; numbered = refl; suits = refl; placed = λ rows. (refl, refl); kept = λ n row has. has; shows = λ n. refl }
-fits id name days revision (Some holder) = record { whole = refl; named = refl; given = λ limit db rows h. h.1; rest = λ row. refl; numbered = refl; suits = refl; placed = λ rows. (refl, refl); kept = λ n row has. has; shows = λ n. refl }
+fits id name days revision None = record {
+  whole = refl;
+  named = refl;
+  given = λ limit db rows h. h.1;
+  rest = λ row. refl;
+  numbered = refl;
+  suits = refl;
+  placed = λ rows. (refl, refl);
+  kept = λ n row has. has;
+  shows = λ n. refl;
+}
+fits id name days revision (Some holder) = record {
+  whole = refl;
+  named = refl;
+  given = λ limit db rows h. h.1;
+  rest = λ row. refl;
+  numbered = refl;
+  suits = refl;
+  placed = λ rows. (refl, refl);
+  kept = λ n row has. has;
+  shows = λ n. refl;
+}

@@ -1,5 +1,5 @@
 -- The columns of a timing or draft row as a query shows it.
-use Rattle.std.specs.Prelude.{ℕ, List, [], ◌∷◌}
+use Rattle.std.specs.Prelude.{List, [], ◌∷◌}
 use Rattle.sqlite.specs.Order.{Row}
 use Rattle.office_tables_shelf.specs.Cells.{Cell}
 use Rattle.office_tables_sql.specs.Stored.{cells_at}
