@@ -28,7 +28,7 @@ fn change_row<S: Alter>(
     ensures crash { Survives (state S.Store tx.old.conn.now) (state S.Store tx.new.conn.now) (λ _. ⊥) }
 {
     match change {
-        RowChange::PutIntersection(id, row) => intersection::put(tx, *id, row),
+        RowChange::PutIntersection(id, row) => intersection::put(alloc, tx, *id, row),
         RowChange::PutTiming(id, row) => stored_row::put(alloc, tx, *id, row),
         RowChange::RemoveTiming(id, key) => stored_row::remove::<Row, S>(tx, *id, key),
         RowChange::PutDraft(id, change) => stored_row::put(alloc, tx, *id, change),

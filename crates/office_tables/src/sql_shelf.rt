@@ -16,7 +16,7 @@ use cabinet_core::{Delivery, Hand, Inspection, Order, PartCode, UsedLine};
 use office_tables_shelf::counts::WriteCounts;
 use office_tables_shelf::rows::{IntersectionRow, RowChange, Table};
 use office_tables_shelf::shelf::{Shelf, ShelfFault};
-use office_tables_sql::{intersection, intersection_list, part, reads, timing};
+use office_tables_sql::{intersection, part, reads, timing};
 use signal_records::{Change, InterId, LineNo, RecordNo, Row};
 use sqlite::{Alter, Connection, FileFrom, FileStore, Start};
 use std::alloc::Global;
@@ -162,7 +162,7 @@ impl<S: Alter> Shelf for SqlShelf<S> {
         &mut self,
         alloc: Global,
     ) -> Result<Vec<(InterId, IntersectionRow)>, ShelfFault> {
-        intersection_list::intersections(alloc, &mut self.conn)
+        reads::intersections(alloc, &mut self.conn)
     }
 
     fn timing_rows(&mut self, alloc: Global, id: InterId) -> Result<Vec<Row>, ShelfFault> {

@@ -14,7 +14,7 @@ use sqlite::{Alter, Connection, Row, Transaction, params};
 
 const FIND: &str = "SELECT version FROM office_version WHERE one = ?1";
 
-const PUT: &str = "INSERT OR REPLACE INTO office_version (one, version) VALUES (?1, ?2)";
+const PUT: &str = "INSERT INTO office_version (one, version) VALUES (?1, ?2)";
 
 /// One query of all rows for each of the eight tables.
 const LISTINGS: [&str; 8] = [

@@ -1,13 +1,27 @@
 -- Numbers and texts stay as they are in columns of their kinds.
-use Rattle.std.proofs.Common.{◌≡◌, true, List, [], ◌∷◌, refl, sym, true≢false}
+use Rattle.std.proofs.Common.{Bool, false, cond, ℤ, ◌≡◌, true, List, [], ◌∷◌, refl, sym, true≢false}
 use Rattle.std.proofs.lemmas.Bool.{and_parts}
+use Rattle.sqlite.specs.declared.types.Value.{Value}
+use Rattle.sqlite.specs.declared.types.Value.TheVariants.{Null, Int}
+use Rattle.sqlite.specs.Ops.{unary}
 use Rattle.sqlite.specs.Cast.{cast, cast_all}
 use Rattle.sqlite.specs.Kind.{Kind}
 use Rattle.sqlite.specs.Kind.TheVariants as kind
 use Rattle.sqlite_schema.specs.declared.schema.Column.{Column}
 use Rattle.office_tables_shelf.specs.Cells.{Cell, null, number, text, odd}
-use Rattle.office_tables_sql.proofs.PutLemmas.{cast_int, cast_null}
 use Rattle.office_tables_sql.specs.Tables.{value_of, values_of, suits_kind, suit}
+
+either : (b : Bool) (x : Value) → cond b x x ≡ x
+either true x = refl
+either false x = refl
+
+pub cast_int : (n : ℤ) → cast kind.Integer (Int n) ≡ Int n
+unfolding unary
+cast_int n = either _ (Int n)
+
+pub cast_null : cast kind.Integer Null ≡ Null
+unfolding unary
+cast_null = either _ Null
 
 pub cast_one : (k : Kind) (x : Cell) → suits_kind k x ≡ true → cast k (value_of x) ≡ value_of x
 cast_one kind.Integer null h = cast_null

@@ -1,5 +1,5 @@
 -- What a new row does to the map of a table's rows.
-use Rattle.std.proofs.Common.{◌≡◌, ◌⊎◌, inl, inr, ℤ, List, [], ◌∷◌, filter, find, Bool, true, false, not, None, Some, cond, option_map, refl, sym, ap, subst, ◌∙◌, true≢false}
+use Rattle.std.proofs.Common.{◌≡◌, ◌⊎◌, inl, inr, ℤ, List, [], ◌∷◌, filter, find, Bool, true, false, not, Some, cond, option_map, refl, sym, ap, subst, ◌∙◌, true≢false}
 use Rattle.std.proofs.lemmas.Bool.{cases_Bool, false_from_ne_true, not-true, not-false, or_parts}
 use Rattle.std.proofs.lemmas.Cmp.{tied_back}
 use Rattle.std.specs.declared.cmp.Ordering.{Ordering}
@@ -10,23 +10,17 @@ use Rattle.sqlite.specs.Order.{Row, value_cmp}
 use Rattle.sqlite.specs.Tree.{rowid, has_rowid, put_row, without_rowid, IsTable}
 use Rattle.sqlite.specs.View.{IsShaped}
 use Rattle.sqlite.specs.Edit.{is_taken, without_all, id_in}
-use Rattle.sqlite.specs.Table.{Table}
 use Rattle.sqlite_trees.specs.declared.store.Shape.TheVariants as shape
-use Rattle.sqlite_schema.specs.declared.schema.Index.{Index}
-use Rattle.sqlite_schema.specs.Rules.{agree}
-use Rattle.sqlite_value.specs.Keys.{plain}
 use Rattle.sqlite_value.proofs.OrderLemmas.{value_cmp_total}
 use Rattle.sqlite_rules.specs.Calls.{ids_of}
-use Rattle.sqlite_rules.specs.Keys.{AreConflicts, conflicts}
 use Rattle.sqlite_rules.specs.Lists.{Has}
-use Rattle.sqlite_rules.proofs.ListLemmas.{all_has, has_filtered}
+use Rattle.sqlite_rules.proofs.ListLemmas.{all_has, has_filtered, some_from}
 use Rattle.sqlite_rules.proofs.TableLemmas.{int_is, without_all_has}
-use Rattle.std.specs.Cmp.{alike_right}
 use Rattle.std.specs.FinMap.{insert, same_map, get-insert}
-use Rattle.office_tables_shelf.specs.Cells.{Cell, cells_cmp}
+use Rattle.office_tables_shelf.specs.Cells.{Cell, cells_cmp, number}
 use Rattle.office_tables_shelf.proofs.CellLemmas.{cells_total, cells_exact, tied}
-use Rattle.office_tables_sql.specs.Stored.{cells_at, rows_in, are_sound}
-use Rattle.office_tables_sql.proofs.StoredLemmas.{agree_ties, has_cells, get_rows, HaveKeys}
+use Rattle.office_tables_sql.specs.Stored.{cell_of, cells_at, rows_in}
+use Rattle.office_tables_sql.proofs.StoredLemmas.{has_cells, get_rows}
 use Rattle.office_tables_sql.specs.Layout.{Layout}
 
 module _ (p : Row → Bool) where
@@ -121,56 +115,12 @@ module _ (t : Layout) (rows : List Row) (ids : List ℤ) (stored : Row)
           subst (λ k. is_eq (cells_cmp key k) ≡ false) (cells_exact own (cells_at t.keys r) (tied _ (gone r id there among at_id))) miss in
           rw (miss, find_put_other (has_cells t key) stored rest fresh miss, find_without (has_cells t key) ids rows out)
 
--- the rows that a new row meets are those with its key
-pub record MeetsKey (t : Layout) (indexes : List Index) (table : Table) (rows : List Row) (new stored : Row) : Type 0 where
-  pub meets : (r : Row) → Has rows r → conflicts None indexes table new r ≡ agree plain t.keys r t.keys stored
-
-module _ (t : Layout) (indexes : List Index) (table : Table) (rows : List Row) (new stored : Row) (found : List Row) (hits : AreConflicts None indexes table rows new found)
-    (shaped : IsShaped shape.Table rows) (same : MeetsKey t indexes table rows new stored) where
-  -- a row that goes has the key, and one that stays has not
-  gone : (r : Row) (id : ℤ) → Has rows r → Has (ids_of found) id → has_rowid id r ≡ true → agree plain t.keys r t.keys stored ≡ true
-  gone r id there among at_id =
-      let x = has_id found id among in
-      let hit = hits.sound x.0 x.1 in
-      let other = hit.0 in
-      let is : id ≡ id_in (rowid other) = x.2 ∙ ap (λ v. id_in (rowid v)) hit.3 in
-      let int = int_is (rowid other) (all_has _ rows other shaped.1 hit.1) in
-      let equal : value_cmp (rowid r) (rowid other) ≡ Equal = subst (λ v. value_cmp (rowid r) v ≡ Equal) (ap Int is ∙ sym int) (tied _ at_id) in
-      let one = one_rowid rows r other shaped.0 there hit.1 equal in
-      sym (same.meets r there) ∙ ap (conflicts None indexes table new) one ∙ hit.2
-
-  stays : (r : Row) → Has (without_all rows (ids_of found)) r → agree plain t.keys r t.keys stored ≡ false
-  stays r left = false_from_ne_true _ (λ agrees.
-      let there = without_all_has (ids_of found) rows r left in
-      let met = hits.complete r there (same.meets r there ∙ agrees) in
-      let int = int_is (rowid r) (all_has _ rows r shaped.1 there) in
-      let out = left_without (ids_of found) rows r (id_in (rowid r)) left (id_has found (rowid r ∷ []) met) in
-      let tie : value_cmp (rowid r) (Int (id_in (rowid r))) ≡ Equal = subst (λ v. value_cmp (rowid r) v ≡ Equal) int (level (value_cmp (rowid r) (rowid r)) (value_cmp_total.antisymm (rowid r) (rowid r))) in
-      true≢false (sym (ap is_eq tie) ∙ out))
-
-  -- the map of the rows has the new one put at its key
-  pub put_rows : HaveKeys t rows → are_sound t.keys stored ≡ true → is_taken (without_all rows (ids_of found)) stored ≡ false
-      → rows_in t (put_row stored (without_all rows (ids_of found))) ≡ insert (rows_in t rows) (cells_at t.keys stored) (cells_at t.columns stored)
-  put_rows sound given fresh = same_map cells_total cells_exact _ _ (λ key.
-      get_rows t (put_row stored rest) key ∙ go key (cases_Bool (has_cells t key stored))
-      ∙ sym (get-insert cells_total (rows_in t rows) (cells_at t.keys stored) (cells_at t.columns stored) key ∙ ap (cond (has_cells t key stored) (Some (cells_at t.columns stored))) (get_rows t rows key)))
-    where
-      rest : List Row
-      rest = without_all rows (ids_of found)
-
-      -- rows with the new one's cells have its key in SQL too, and the other way round
-      ties : (r : Row) → Has rows r → agree plain t.keys r t.keys stored ≡ is_eq (cells_cmp (cells_at t.keys r) (cells_at t.keys stored))
-      ties r there = agree_ties t.keys t.keys r stored (sound r there) given
-
-      go : (key : List Cell) → (has_cells t key stored ≡ true) ⊎ (has_cells t key stored ≡ false)
-          → option_map (cells_at t.columns) (find (has_cells t key) (put_row stored rest)) ≡ cond (has_cells t key stored) (Some (cells_at t.columns stored)) (option_map (cells_at t.columns) (find (has_cells t key) rows))
-      go key (inl hit) =
-          let none = λ (r : Row) (left : Has rest r). false_from_ne_true (has_cells t key r) (λ has.
-          let tie = cells_total.congr key (cells_at t.keys r) (cells_at t.keys stored) (tied _ has) in
-          true≢false (sym (ties r (without_all_has (ids_of found) rows r left) ∙ ap is_eq (sym tie) ∙ hit) ∙ stays r left)) in
-          rw (hit, find_put (has_cells t key) stored rest hit none)
-      go key (inr miss) =
-          let out = λ (r : Row) (id : ℤ) (there : Has rows r) (among : Has (ids_of found) id) (at_id : has_rowid id r ≡ true). (
-          let tie = tied _ (sym (ties r there) ∙ gone r id there among at_id) in
-          ap is_eq (alike_right cells_total (cells_at t.keys r) (cells_at t.keys stored) key tie) ∙ miss) in
-          rw (miss, find_put_other (has_cells t key) stored rest fresh miss, find_without (has_cells t key) (ids_of found) rows out)
+-- Where the key is the rowid, no row has the key of a new row whose rowid is free.
+pub free_rowid : (rows : List Row) (n : ℤ) (row : Row) → IsShaped shape.Table rows → is_taken rows (Int n ∷ row) ≡ false → (t : Layout) → t.keys ≡ 0 ∷ [] → (r : Row) → Has rows r → has_cells t (number n ∷ []) r ≡ false
+free_rowid rows n row shaped free t keys r there = false_from_ne_true _ (λ hit.
+    let int = int_is (rowid r) (all_has _ rows r shaped.1 there) in
+    let same : number n ∷ [] ≡ cell_of (rowid r) ∷ [] = subst (λ places. number n ∷ [] ≡ cells_at places r) keys (cells_exact _ _ (tied _ hit)) in
+    let cell : number n ∷ [] ≡ number (id_in (rowid r)) ∷ [] = same ∙ ap (λ v. cell_of v ∷ []) int in
+    let is : n ≡ id_in (rowid r) = cc in
+    let tie : is_eq (value_cmp (rowid r) (Int n)) ≡ true = subst (λ v. is_eq (value_cmp (rowid r) v) ≡ true) (int ∙ ap Int (sym is)) (ap is_eq (level (value_cmp (rowid r) (rowid r)) (value_cmp_total.antisymm (rowid r) (rowid r)))) in
+    true≢false (sym (some_from (λ x. is_eq (value_cmp (rowid x) (Int n))) rows r there tie) ∙ free))

@@ -5,20 +5,17 @@ pub mod SoundLemmas
 pub mod CallLemmas
 pub mod WriteLemmas
 pub mod ContentLemmas
-pub mod PutLemmas
 pub mod RemoveLemmas
 mod BodyLemmas
 mod BodyReading
 mod KeyReading
 pub mod ListLemmas
 pub mod ListedLemmas
-mod IntersectionLists
 mod FirstColumn
 mod TableLemmas
-mod Casts
-mod RanLemmas
+pub mod Casts
 mod UpdateLemmas
-mod InsertLemmas
+pub mod InsertLemmas
 mod StoredLists
 mod StoredFinds
 mod StoredCounts

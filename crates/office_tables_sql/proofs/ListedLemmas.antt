@@ -26,7 +26,7 @@ use Rattle.sqlite_rules.proofs.ListLemmas.{has_filtered}
 use Rattle.office_tables_shelf.specs.Cells.{Cell, Rows, cell_cmp, cells_cmp}
 use Rattle.office_tables_shelf.proofs.CellLemmas.{cells_total, cells_exact, is_under, find_entry}
 use Rattle.office_tables_sql.specs.Layout.{Layout, values_at}
-use Rattle.office_tables_sql.specs.Stored.{cell_of, cells, cells_at, rows_in, is_sound, are_sound}
+use Rattle.office_tables_sql.specs.Stored.{cell_of, cells_at, rows_in, is_sound, are_sound}
 use Rattle.office_tables_sql.proofs.StoredLemmas.{HaveKeys}
 use Rattle.office_tables_sql.proofs.QueryLemmas.{cols}
 use Rattle.office_tables_sql.proofs.ContentLemmas.{level}
@@ -61,16 +61,6 @@ same_order (p ∷ ps) (q ∷ qs) a b h k =
     let first = same_cmp (column a p) (column b q) hs.0 ks.0 in
     let later = same_order ps qs a b hs.1 ks.1 in
     λ i. ordering_then (first i) (later i)
-
--- a row of five columns is shown whole
-pub five_columns : (row : Row) → length row ≡ 5 → cells row ≡ cells_at (0 ∷ 1 ∷ 2 ∷ 3 ∷ 4 ∷ []) row
-five_columns (a ∷ b ∷ c ∷ d ∷ e ∷ []) wide = refl
-five_columns [] wide = absurd (omega (arith, wide))
-five_columns (a ∷ []) wide = absurd (omega (arith, wide))
-five_columns (a ∷ b ∷ []) wide = absurd (omega (arith, wide))
-five_columns (a ∷ b ∷ c ∷ []) wide = absurd (omega (arith, wide))
-five_columns (a ∷ b ∷ c ∷ d ∷ []) wide = absurd (omega (arith, wide))
-five_columns (a ∷ b ∷ c ∷ d ∷ e ∷ f ∷ row) wide = absurd (omega (arith, wide))
 
 -- ---- lists
 

@@ -1,5 +1,5 @@
 -- What DELETE by key makes of a table.
-use Rattle.std.proofs.Common.{◌≡◌, ◌≢◌, ◌⊎◌, inl, inr, ℕ, ℤ, List, [], ◌∷◌, map, filter, find, slice_get, Bool, true, false, None, Some, cond, option_map, Ok, refl, sym, ap, subst, ◌∙◌, true≢false}
+use Rattle.std.proofs.Common.{◌≡◌, ◌≢◌, ◌⊎◌, inl, inr, ℕ, ℤ, List, [], ◌∷◌, map, filter, find, slice_get, Bool, true, false, None, Some, cond, option_map, refl, sym, ap, subst, ◌∙◌, true≢false}
 use Rattle.std.proofs.lemmas.Bool.{cases_Bool, false_from_ne_true}
 use Rattle.std.proofs.lemmas.List.Sorted.{IsPermutation-sym}
 use Rattle.std.specs.List.Sorted.{IsPermutation}
@@ -8,21 +8,17 @@ use Rattle.std.specs.declared.cmp.Ordering.TheVariants.{Equal}
 use Rattle.std.specs.Ordering.{is_eq}
 use Rattle.sqlite.specs.declared.types.Value.TheVariants.{Null, Int}
 use Rattle.sqlite.specs.Command.TheVariants.{Delete}
-use Rattle.sqlite.specs.Does.{Tally, Does, AtPlace, OnRows}
-use Rattle.sqlite.specs.Effect.{Database}
 use Rattle.sqlite.specs.Edit.{edit_of, without_all, id_in, taken_by}
 use Rattle.sqlite.specs.Order.{Row, value_cmp}
 use Rattle.sqlite.specs.Program.{overlay}
 use Rattle.sqlite.specs.Rowids.TheVariants.{Given}
 use Rattle.sqlite.specs.Rows.{Written}
-use Rattle.sqlite.specs.State.{State, Runs, mode_of}
-use Rattle.sqlite.specs.Listing.{understood}
+use Rattle.sqlite.specs.State.{State}
 use Rattle.sqlite.specs.Table.{Table}
 use Rattle.sqlite.specs.Tree.{Trees, rowid, has_rowid}
 use Rattle.sqlite.specs.View.{IsShaped}
 use Rattle.sqlite.proofs.Callers.{one_step}
 use Rattle.sqlite_schema.specs.declared.schema.Keys.TheVariants.{Enforced}
-use Rattle.sqlite_schema.specs.declared.program.Program.{Program}
 use Rattle.sqlite_trees.specs.declared.store.Shape.TheVariants as shape
 use Rattle.sqlite_trees.proofs.ListLemmas.{all-permutation}
 use Rattle.sqlite_value.proofs.OrderLemmas.{value_cmp_total}
@@ -38,12 +34,11 @@ use Rattle.office_tables_shelf.specs.Cells.{Cell, cells_cmp}
 use Rattle.office_tables_shelf.proofs.CellLemmas.{cells_total, cells_exact, tied}
 use Rattle.office_tables_sql.specs.Stored.{cells_at, rows_in, are_sound}
 use Rattle.office_tables_sql.proofs.StoredLemmas.{agree_ties, has_cells, get_rows, HaveKeys}
-use Rattle.office_tables_sql.specs.Calls.{IsReady, Ran, statement_of}
+use Rattle.office_tables_sql.specs.Calls.{IsReady, Ran}
 use Rattle.office_tables_sql.proofs.QueryLemmas.{find_query, ArePaired, answers}
 use Rattle.office_tables_sql.proofs.SchemaLemmas.{IsWrite}
-use Rattle.office_tables_sql.proofs.WriteLemmas.{IsIdle, went_on, same_value}
+use Rattle.office_tables_sql.proofs.WriteLemmas.{IsIdle, went_on, same_value, shaped_without, wrote}
 use Rattle.office_tables_sql.proofs.ContentLemmas.{find_without, left_without, has_id, id_has, one_rowid, level}
-use Rattle.office_tables_sql.proofs.PutLemmas.{still_ordered, shaped_without}
 
 pub permuted : {X : Type 0} (xs ys : List X) → IsPermutation xs ys → (y : X) → Has ys y → Has xs y
 permuted xs ys same y there = all_has (Has xs) ys y (all-permutation (Has xs) xs ys same (all_from (Has xs) xs (λ x h. h))) there
@@ -121,31 +116,18 @@ module _ (t : Layout) (paired : ArePaired t.keys t.places) (table : Table) (at :
     (idle : IsIdle office_schema table) (sql : List ℕ) (is : IsWrite sql (Delete at (record { lets = []; body = find_query t (0 ∷ []) }))) (key : Row) (whole : are_sound t.places key ≡ true) where
   pub remove_keyed : (old new : State) (count : ℕ) → IsShaped shape.Table (old.now.trees table.tree) → HaveKeys t (old.now.trees table.tree) → IsReady old → Ran sql key old new count → IsReady new × RemovesIn t table.tree key old.now.trees new.now.trees
   remove_keyed old new count was keys ready did =
-      let text = statement_of sql (understood office_schema sql) in
-      let q : Program = record { lets = []; body = find_query t (0 ∷ []) } in
       let db = old.now.trees in
-      let writes = subst (λ c. Runs old new None c text key count) is.is (did.runs ready.schema) in
-      let does = subst (λ s. Does old.step_limit (mode_of old) key (record old.now { schema = s }) text None (Delete at q) (Ok (writes.tally, new.now))) ready.schema writes.changed in
-      let run = λ (x : Table). OnRows (record { limit = old.step_limit; keys = Enforced; schema = office_schema; table = x; params = key }) (mode_of old) None (Delete at q) db in
-      let went = went_on (subst (λ o. AtPlace run o (Ok (writes.tally, new.now))) place does) in
-      let asked = went_on went.1 in
+      let rows = db table.tree in
+      let it = wrote sql _ is at table place key old new count (record { runs = λ w. w; does = λ db out d. d }) ready did in
+      let asked = went_on it.rows in
       let cut = went_on asked.2 in
       let edit = edit_of db table (ids_of asked.0) Given 0 [] in
-      let it = one_step office_schema Enforced db cut.0 edit (idle.on_delete (taken_by db edit)) cut.1 in
-      let shown = went_on (went_on went.2).2 in
-      let trees : went.0.trees ≡ cut.0 = ap (λ (w : Written). w.trees) (same_value cut.2) in
-      let now : new.now ≡ record { schema = office_schema; trees = went.0.trees } = ap (λ (p : Tally × Database). p.1) (same_value shown.2) in
-      let next : new.now.trees ≡ cut.0 = ap (λ (d : Database). d.trees) now ∙ trees in
-      let rows = db table.tree in
+      let step = one_step office_schema Enforced db cut.0 edit (idle.on_delete (taken_by db edit)) cut.1 in
+      let next : new.now.trees ≡ cut.0 = it.trees ∙ ap (λ (w : Written). w.trees) (same_value cut.2) in
       let same = answers t paired (0 ∷ []) key (overlay db []) asked.0 (asked.1.answer Null) in
       let hits = subst (λ all. IsPermutation (map (values_at (0 ∷ [])) (filter (has_key t key) all)) asked.0) (low db) same in
-      let left : new.now.trees table.tree ≡ without_all rows (ids_of asked.0) = ap (λ (x : Trees). x table.tree) next ∙ it.rows in
-      let others = subst (λ (x : Trees). AllByRecursion (λ (y : Table). y.tree ≢ table.tree → x y.tree ≡ db y.tree) office_schema.tables) (sym next) it.tables in (
-        record {
-          inside = did.inside;
-          schema = ap (λ (d : Database). d.schema) now;
-          sound = writes.sound;
-          ordered = still_ordered office_schema.tables table.tree db new.now.trees ready.ordered others (subst (IsShaped shape.Table) (sym left) (shaped_without (ids_of asked.0) rows was));
-        },
+      let left : new.now.trees table.tree ≡ without_all rows (ids_of asked.0) = ap (λ (x : Trees). x table.tree) next ∙ step.rows in
+      let others = subst (λ (x : Trees). AllByRecursion (λ (y : Table). y.tree ≢ table.tree → x y.tree ≡ db y.tree) office_schema.tables) (sym next) step.tables in (
+        it.goes_on others (subst (IsShaped shape.Table) (sym left) (shaped_without (ids_of asked.0) rows was)),
         record { at = ap (rows_in t) left ∙ removed_rows t rows key asked.0 hits was keys whole; others = others },
       )

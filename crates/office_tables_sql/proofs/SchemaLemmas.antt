@@ -1,14 +1,11 @@
 -- The texts of the statements, and what they mean over the schema.
-use Rattle.std.proofs.Common.{◌≡◌, ℕ, List, [], ◌∷◌, map, filter, find, length, codes, true, pos, Ok, Option, None, Some, IfSome, option_map, refl, sym, ap, ◌∙◌, subst}
+use Rattle.std.proofs.Common.{◌≡◌, ℕ, List, [], map, filter, find, length, true, Ok, Option, None, Some, IfSome, option_map, refl, sym, ap, ◌∙◌, subst}
 use Rattle.std.proofs.lemmas.List.{length-map}
 use Rattle.std.specs.FinMap.{get}
 use Rattle.sqlite.specs.Compile.{table_defined_by}
-use Rattle.sqlite.specs.declared.types.Value.TheVariants.{Null, Int}
+use Rattle.sqlite.specs.declared.types.Value.TheVariants.{Null}
 use Rattle.sqlite.specs.Command.{Command}
-use Rattle.sqlite.specs.Command.TheVariants.{InsertOr, Select}
-use Rattle.sqlite_schema.specs.declared.command.Conflict.TheVariants.{Replace}
-use Rattle.sqlite.specs.Source.TheVariants.{Values}
-use Rattle.sqlite.specs.Term.{lit, col}
+use Rattle.sqlite.specs.Command.TheVariants.{Select}
 use Rattle.sqlite_tied.specs.Compute.{everything}
 use Rattle.sqlite.specs.Listing.{understood}
 use Rattle.sqlite.specs.Given.{IsPlain}
@@ -21,14 +18,12 @@ use Rattle.sqlite.specs.View.{IsShaped}
 use Rattle.sqlite_trees.specs.declared.store.Shape.TheVariants as shape
 use Rattle.sqlite.specs.Program.{overlay}
 use Rattle.sqlite.specs.Tree.{Trees}
-use Rattle.office_tables_sql.specs.Layout.{Layout, values_at, has_key, columns_of, intersection}
+use Rattle.office_tables_sql.specs.Layout.{Layout, values_at, has_key, columns_of}
 use Rattle.office_tables_sql.proofs.QueryLemmas.{find_query, ArePaired, answers, one_found}
-use Rattle.office_tables_shelf.specs.Cells.{number}
 use Rattle.office_tables_sql.specs.Stored.{cells, cells_at, rows_of, are_sound}
-use Rattle.office_tables_sql.specs.declared.intersection.TheConstants.{FIND as FIND_INTERSECTION, PUT as PUT_INTERSECTION}
 use Rattle.office_tables_sql.specs.declared.schema.tables.TheConstants.{INTERSECTION, TIMING, DRAFT, INSPECTION, WORK_ORDER, PART, DELIVERY, USED_PART, OFFICE_VERSION}
 use Rattle.office_tables_sql.specs.Calls.{IsQuery, Reads, command_of}
-use Rattle.office_tables_sql.proofs.StoredLemmas.{HaveKeys, get_columns, sound_rowids}
+use Rattle.office_tables_sql.proofs.StoredLemmas.{HaveKeys, get_columns}
 use Rattle.office_tables_sql.specs.Schema.{intersection_table, timing_table, draft_table, inspection_table, work_order_table, part_table, delivery_table, used_part_table, version_table, office_schema}
 
 -- the text is this query
@@ -77,28 +72,6 @@ version_defined : table_defined_by OFFICE_VERSION.now ≡ Ok (record version_tab
 unfolding understood everything
 version_defined = refl
 
--- ---- the statements on rows
-
-abbrev pub find_intersection_text : List ℕ
-find_intersection_text = FIND_INTERSECTION.now
-
-abbrev pub find_intersection_command : Command
-find_intersection_command = Select (record { lets = []; body = find_query intersection intersection.columns }) (codes "name" ∷ codes "days" ∷ codes "revision" ∷ codes "state" ∷ codes "owner" ∷ [])
-
-pub find_intersection_is : IsRead find_intersection_text find_intersection_command
-unfolding understood everything
-find_intersection_is = record { is = refl; query = record { plain = (refl, refl); unlisted = refl } }
-
-abbrev pub put_intersection_text : List ℕ
-put_intersection_text = PUT_INTERSECTION.now
-
-abbrev pub put_intersection_command : Command
-put_intersection_command = InsertOr 0 Replace (Values (col 0 0 ∷ lit Null ∷ col 0 1 ∷ col 0 2 ∷ col 0 3 ∷ col 0 4 ∷ col 0 5 ∷ []) 7) []
-
-pub put_intersection_is : IsWrite put_intersection_text put_intersection_command
-unfolding understood everything
-put_intersection_is = record { is = refl; plain = (refl, refl) }
-
 -- ---- what a look-up by key finds
 
 module _ (t : Layout) (paired : ArePaired t.keys t.places) (low : (trees : Trees) → overlay trees [] t.tree ≡ trees t.tree) (sql : List ℕ) (names : List (List ℕ))
@@ -124,10 +97,3 @@ module _ (t : Layout) (paired : ArePaired t.keys t.places) (low : (trees : Trees
 
 abbrev pub AreShaped : Trees → Layout → Type 0
 AreShaped trees t = IsShaped shape.Table (trees t.tree)
-
-pub find_intersection : (id : ℕ) (db : Database) → AreShaped db.trees intersection → (row : Option Row) → Reads find_intersection_text (Int (pos id) ∷ []) db (option_to_list row)
-    → option_map cells row ≡ get (rows_of intersection db.trees) (number (pos id) ∷ [])
-find_intersection id db shaped = gives intersection tt (λ trees. refl) find_intersection_text _ find_intersection_is (Int (pos id) ∷ []) db (sound_rowids intersection refl (db.trees 0) shaped) refl
-
-pub intersection_width : (id : ℕ) (db : Database) (row : Option Row) → Reads find_intersection_text (Int (pos id) ∷ []) db (option_to_list row) → IfSome row (λ r. length r ≡ 5)
-intersection_width id = has_width intersection tt (λ trees. refl) find_intersection_text _ find_intersection_is (Int (pos id) ∷ [])

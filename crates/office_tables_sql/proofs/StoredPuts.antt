@@ -1,9 +1,12 @@
--- The statements that put and remove a row of a table with a PRIMARY KEY of its own, and what they make of the tables.
+-- The statements that put and remove a row, and what they make of the tables.
 use Rattle.std.proofs.Common.{◌≡◌, ◌≢◌, ℕ, List, [], ◌∷◌, ◌++◌, map, filter, length, false, refl, sym, ap, subst, ◌∙◌}
 use Rattle.std.specs.FinMap.{insert, remove}
 use Rattle.std.specs.List.Sorted.{IsPermutation}
 use Rattle.sqlite.specs.declared.types.Value.TheVariants.{Null}
-use Rattle.sqlite.specs.Effect.{Database}
+use Rattle.sqlite.specs.Cast.{cast_row}
+use Rattle.sqlite.specs.Edit.{with_rowid}
+use Rattle.sqlite.specs.Kind.TheVariants as kind
+use Rattle.sqlite.specs.Rowids.TheVariants.{Chosen}
 use Rattle.sqlite.specs.Order.{Row}
 use Rattle.sqlite.specs.Program.{overlay}
 use Rattle.sqlite.specs.Rows.{Written}
@@ -11,7 +14,7 @@ use Rattle.sqlite.specs.State.{State}
 use Rattle.sqlite.specs.Term.{eval_all}
 use Rattle.sqlite.specs.Tree.{Trees}
 use Rattle.sqlite_rules.specs.Lists.{Has}
-use Rattle.office_tables_shelf.specs.Cells.{Cell}
+use Rattle.office_tables_shelf.specs.Cells.{Cell, null}
 use Rattle.office_tables_shelf.specs.Content.{Content}
 use Rattle.office_tables_shelf.specs.declared.rows.Table.{Table}
 use Rattle.office_tables_shelf.specs.declared.rows.Table.TheVariants as table
@@ -19,16 +22,16 @@ use Rattle.office_tables_sql.specs.Calls.{IsReady, Ran}
 use Rattle.office_tables_sql.specs.Layout.{has_key}
 use Rattle.office_tables_sql.specs.Schema.{office_schema}
 use Rattle.office_tables_sql.specs.Stored.{content_of, content_now, rows_in}
+use Rattle.office_tables_sql.proofs.Casts.{cast_one, cast_suited}
+use Rattle.office_tables_sql.proofs.ContentLemmas.{put_at}
 use Rattle.office_tables_sql.proofs.InsertLemmas.{Added, adds}
-use Rattle.office_tables_sql.proofs.PutLemmas.{still_ordered}
 use Rattle.office_tables_sql.proofs.QueryLemmas.{picked}
-use Rattle.office_tables_sql.proofs.RanLemmas.{wrote}
 use Rattle.office_tables_sql.proofs.RemoveLemmas.{remove_keyed}
 use Rattle.office_tables_sql.proofs.StoredLemmas.{has_cells}
 use Rattle.office_tables_sql.proofs.UpdateLemmas.{Renewed, renews}
-use Rattle.office_tables_sql.proofs.WriteLemmas.{went_on, same_value}
-use Rattle.office_tables_sql.specs.Tables.{rows_at, with_rows, layout_at, schema_at, place_at, renewed_at, put_in, remove_in, key_given, values_of, IsKeyOf, IsUpdateText, IsInsertText, IsRemoveText, Fits}
-use Rattle.office_tables_sql.proofs.TableLemmas.{is_placed, is_low, is_idle, facts, same_tree, rows_in_tree, only_in}
+use Rattle.office_tables_sql.proofs.WriteLemmas.{went_on, same_value, wrote}
+use Rattle.office_tables_sql.specs.Tables.{beside_rowid, id_given, row_given, source_at, rows_at, with_rows, layout_at, schema_at, place_at, renewed_at, put_in, remove_in, key_given, values_of, IsKeyOf, IsUpdateText, IsInsertText, IsRemoveText, Fits}
+use Rattle.office_tables_sql.proofs.TableLemmas.{is_placed, is_low, is_uncounted, is_idle, facts, same_tree, rows_in_tree, only_in}
 use Rattle.office_tables_sql.proofs.StoredLists.{shaped, own_keys, seen}
 
 -- the content with the rows that it has
@@ -70,16 +73,11 @@ module _ (t : Table) (key columns : List Cell) (fits : Fits t key columns) where
       let edited = went_on asked.2 in
       let hits = picked (layout_at t) (facts t).paired (renewed_at t) params (λ row. eval_all (renewed_at t) (params ∷ row ∷ [])) (λ row. refl) (overlay old.now.trees []) asked.0 (asked.1.answer Null) in
       let found = subst (λ rows. IsPermutation (map (λ row. eval_all (renewed_at t) (params ∷ row ∷ [])) (filter (has_key (layout_at t) params) rows)) asked.0) (seen t old.now ready.schema ready.sound ready.ordered) hits in
-      let next : new.now.trees ≡ edited.0 = ap (λ (d : Database). d.trees) did_write.now ∙ ap (λ (w : Written). w.trees) (same_value edited.2) in
+      let next : new.now.trees ≡ edited.0 = did_write.trees ∙ ap (λ (w : Written). w.trees) (same_value edited.2) in
       let told = did_write.counted ∙ ap (λ (w : Written). length w.rows) (same_value edited.2) in
       let it = subst (Renewed t key columns fits old.now ready.schema ready.sound ready.ordered count) (sym next) (renews t key columns fits old.now ready.schema ready.sound ready.ordered count edited.0 asked.0 found edited.1 told) in
       record {
-        ready = record {
-          inside = did.inside;
-          schema = ap (λ (d : Database). d.schema) did_write.now;
-          sound = did_write.sound;
-          ordered = still_ordered office_schema.tables tree old.now.trees new.now.trees ready.ordered it.others it.shapes;
-        };
+        ready = did_write.goes_on it.others it.shapes;
         none = λ none. (
           only_in old.now.trees new.now.trees t _ it.others (ap (rows_in (layout_at t)) (it.none none).0 ∙ sym (in_tree t old.now.trees)) ∙ with_same t (content_now old),
           subst (λ rows. (r : Row) → Has rows r → has_cells (layout_at t) key r ≡ false) (sym (it.none none).0) (it.none none).1,
@@ -89,16 +87,18 @@ module _ (t : Table) (key columns : List Cell) (fits : Fits t key columns) where
 
   pub inserts : (sql : List ℕ) → IsInsertText t sql → (old new : State) (count : ℕ) → IsReady old → IsFree old.now.trees → Ran sql params old new count → IsReady new × (content_now new ≡ put_in (content_now old) t key columns)
   inserts sql means old new count ready free did =
+      let rows = old.now.trees tree in
       let did_write = wrote sql _ (record { is = means.is; plain = means.plain }) (place_at t) (schema_at t) (is_placed t) params old new count (record { runs = λ w. w; does = λ db out d. d }) ready did in
-      let added = adds t key columns fits old.step_limit old.now.trees (shaped t old.now ready.schema ready.sound ready.ordered) free did_write.written did_write.rows in
-      let it = subst (Added t key columns fits old.step_limit old.now.trees (shaped t old.now ready.schema ready.sound ready.ordered) free) (sym (ap (λ (d : Database). d.trees) did_write.now)) added in (
-        record {
-          inside = did.inside;
-          schema = ap (λ (d : Database). d.schema) did_write.now;
-          sound = did_write.sound;
-          ordered = still_ordered office_schema.tables tree old.now.trees new.now.trees ready.ordered it.others it.shapes;
-        },
-        only_in old.now.trees new.now.trees t _ it.others (it.at ∙ ap (λ rows. insert rows key columns) (sym (in_tree t old.now.trees))),
+      let given = row_given t key columns in
+      let casts : cast_row (schema_at t) given ≡ given = λ i. cast_one kind.Integer (id_given t key) fits.numbered i ∷ cast_suited (schema_at t).columns (beside_rowid t null key ++ columns) fits.suits i in
+      let it = subst (Added (schema_at t) (is_uncounted t) (is_idle t) (source_at t) params given old.step_limit old.now.trees) (sym did_write.trees)
+      (adds (schema_at t) (is_uncounted t) (is_idle t) (source_at t) params given old.step_limit old.now.trees (fits.given old.step_limit (record { schema = office_schema; trees = old.now.trees })) casts
+      (shaped t old.now ready.schema ready.sound ready.ordered) did_write.written did_write.rows) in
+      let placed = fits.placed rows in
+      let at = put_at (layout_at t) rows [] (with_rowid Chosen rows given) (λ r id there among at_id. absurd among) (λ r there. subst (λ k. has_cells (layout_at t) k r ≡ false) (sym placed.0) (free r there)) it.fresh in
+      let put : rows_in (layout_at t) (new.now.trees tree) ≡ insert (rows_in (layout_at t) rows) key columns = ap (rows_in (layout_at t)) it.rows ∙ at ∙ (λ i. insert (rows_in (layout_at t) rows) (placed.0 i) (placed.1 i)) in (
+        did_write.goes_on it.others it.shapes,
+        only_in old.now.trees new.now.trees t _ it.others (put ∙ ap (λ rows. insert rows key columns) (sym (in_tree t old.now.trees))),
       )
 
   -- One statement put the row, or the two together.

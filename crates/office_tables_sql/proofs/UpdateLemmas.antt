@@ -34,14 +34,14 @@ use Rattle.office_tables_sql.specs.Layout.{has_key, values_at}
 use Rattle.office_tables_sql.specs.Schema.{office_schema}
 use Rattle.office_tables_sql.specs.Stored.{cell_of, cells_at, rows_in, is_sound, are_sound}
 use Rattle.office_tables_sql.specs.Tables.{layout_at, schema_at, is_keyed, beside_rowid, others_given, renewed_at, stored_beside, value_of, values_of, Fits}
-use Rattle.office_tables_sql.proofs.Casts.{cast_suited}
+use Rattle.office_tables_sql.proofs.Casts.{cast_int, cast_suited}
 use Rattle.office_tables_sql.proofs.ContentLemmas.{put_at, tie_self}
 use Rattle.office_tables_sql.proofs.ListedLemmas.{distinct_kept}
-use Rattle.office_tables_sql.proofs.PutLemmas.{cast_int, shaped_without}
 use Rattle.office_tables_sql.proofs.QueryLemmas.{cols, shown_values}
 use Rattle.office_tables_sql.proofs.RemoveLemmas.{gone, stays, permuted, has_map}
 use Rattle.office_tables_sql.proofs.StoredLemmas.{HaveKeys, agree_ties, has_cells}
 use Rattle.office_tables_sql.proofs.StoredLists.{shaped, own_keys, distinct}
+use Rattle.office_tables_sql.proofs.WriteLemmas.{shaped_without}
 use Rattle.office_tables_sql.proofs.TableLemmas.{is_idle}
 
 -- ---- values and their cells

@@ -2,8 +2,10 @@
 use Rattle.std.specs.Prelude.{[], ◌∷◌, codes, refl}
 use Rattle.sqlite.specs.Listing.{understood}
 use Rattle.sqlite_tied.specs.Compute.{everything}
+use Rattle.cabinet_core.specs.declared.record.Delivery.{Delivery as Found}
+use Rattle.office_tables_shelf.specs.CabinetRows.{delivery_key, delivery_columns}
 use Rattle.office_tables_shelf.specs.declared.rows.Table.TheVariants.{Delivery}
-use Rattle.office_tables_sql.specs.Tables.{IsListText, IsFindText, IsUpdateText, IsInsertText}
+use Rattle.office_tables_sql.specs.Tables.{IsListText, IsFindText, IsUpdateText, IsInsertText, Fits}
 use Rattle.office_tables_sql.specs.declared.delivery.TheConstants.{LIST, FIND, UPDATE, INSERT}
 
 pub lists : IsListText Delivery LIST.now
@@ -21,3 +23,16 @@ updates = record { is = refl; plain = (refl, refl) }
 pub inserts : IsInsertText Delivery INSERT.now
 unfolding understood everything
 inserts = record { is = refl; plain = (refl, refl) }
+
+pub fits : (found : Found) → Fits Delivery (delivery_key found.part found.number) (delivery_columns found)
+fits found = record {
+  whole = refl;
+  named = refl;
+  given = λ limit db rows h. h.1;
+  rest = λ row. refl;
+  numbered = refl;
+  suits = refl;
+  placed = λ rows. (refl, refl);
+  kept = λ n row has. refl;
+  shows = λ n. refl;
+}

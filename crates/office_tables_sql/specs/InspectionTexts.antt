@@ -1,9 +1,11 @@
 -- What the three statements on inspections mean over the schema.
-use Rattle.std.specs.Prelude.{[], ◌∷◌, codes, refl}
+use Rattle.std.specs.Prelude.{ℕ, [], ◌∷◌, codes, refl}
 use Rattle.sqlite.specs.Listing.{understood}
 use Rattle.sqlite_tied.specs.Compute.{everything}
+use Rattle.cabinet_core.specs.declared.record.Inspection.{Inspection as Found}
+use Rattle.office_tables_shelf.specs.CabinetRows.{inspection_key, inspection_columns}
 use Rattle.office_tables_shelf.specs.declared.rows.Table.TheVariants.{Inspection}
-use Rattle.office_tables_sql.specs.Tables.{IsListText, IsFindText, IsUpdateText, IsInsertText}
+use Rattle.office_tables_sql.specs.Tables.{IsListText, IsFindText, IsUpdateText, IsInsertText, Fits}
 use Rattle.office_tables_sql.specs.declared.inspection.TheConstants.{LIST, FIND, UPDATE, INSERT}
 
 pub lists : IsListText Inspection LIST.now
@@ -21,3 +23,16 @@ updates = record { is = refl; plain = (refl, refl) }
 pub inserts : IsInsertText Inspection INSERT.now
 unfolding understood everything
 inserts = record { is = refl; plain = (refl, refl) }
+
+pub fits : (id : ℕ) (found : Found) → Fits Inspection (inspection_key id found.number) (inspection_columns found)
+fits id found = record {
+  whole = refl;
+  named = refl;
+  given = λ limit db rows h. h.1;
+  rest = λ row. refl;
+  numbered = refl;
+  suits = refl;
+  placed = λ rows. (refl, refl);
+  kept = λ n row has. refl;
+  shows = λ n. refl;
+}

@@ -26,5 +26,25 @@ unfolding understood everything
 inserts = record { is = refl; plain = (refl, refl) }
 
 pub fits : (id n opened : ℕ) (clerk body : List ℕ) (closing : Option Closing) → Fits WorkOrder (order_key id n) (number (pos opened) ∷ text clerk ∷ text body ∷ closed_cell closing ∷ closer_cell closing ∷ [])
-fits id n opened clerk body None = record { whole = refl; named = refl; given = λ limit db rows h. h.1; rest = λ row. refl; numbered = refl; suits = refl; placed = λ rows. (refl, refl); kept = λ n row has. refl; shows = λ n. refl }
-fits id n opened clerk body (Some closing) = record { whole = refl; named = refl; given = λ limit db rows h. h.1; rest = λ row. refl; numbered = refl; suits = refl; placed = λ rows. (refl, refl); kept = λ n row has. refl; shows = λ n. refl }
+fits id n opened clerk body None = record {
+  whole = refl;
+  named = refl;
+  given = λ limit db rows h. h.1;
+  rest = λ row. refl;
+  numbered = refl;
+  suits = refl;
+  placed = λ rows. (refl, refl);
+  kept = λ n row has. refl;
+  shows = λ n. refl;
+}
+fits id n opened clerk body (Some closing) = record {
+  whole = refl;
+  named = refl;
+  given = λ limit db rows h. h.1;
+  rest = λ row. refl;
+  numbered = refl;
+  suits = refl;
+  placed = λ rows. (refl, refl);
+  kept = λ n row has. refl;
+  shows = λ n. refl;
+}

@@ -1,9 +1,10 @@
 -- What the statements on parts mean over the schema.
-use Rattle.std.specs.Prelude.{[], ◌∷◌, codes, refl}
+use Rattle.std.specs.Prelude.{ℕ, List, [], ◌∷◌, codes, refl}
 use Rattle.sqlite.specs.Listing.{understood}
 use Rattle.sqlite_tied.specs.Compute.{everything}
+use Rattle.office_tables_shelf.specs.CabinetRows.{part_key, part_columns}
 use Rattle.office_tables_shelf.specs.declared.rows.Table.TheVariants.{Part}
-use Rattle.office_tables_sql.specs.Tables.{IsListText, IsFindText, IsUpdateText, IsInsertText}
+use Rattle.office_tables_sql.specs.Tables.{IsListText, IsFindText, IsUpdateText, IsInsertText, Fits}
 use Rattle.office_tables_sql.specs.declared.part.TheConstants.{LIST, FIND, UPDATE, INSERT}
 
 pub lists : IsListText Part LIST.now
@@ -21,3 +22,16 @@ updates = record { is = refl; plain = (refl, refl) }
 pub inserts : IsInsertText Part INSERT.now
 unfolding understood everything
 inserts = record { is = refl; plain = (refl, refl) }
+
+pub fits : (code : List ℕ) (hand : ℕ) → Fits Part (part_key code) (part_columns hand)
+fits code hand = record {
+  whole = refl;
+  named = refl;
+  given = λ limit db rows h. h.1;
+  rest = λ row. refl;
+  numbered = refl;
+  suits = refl;
+  placed = λ rows. (refl, refl);
+  kept = λ n row has. refl;
+  shows = λ n. refl;
+}

@@ -6,7 +6,6 @@ use Rattle.sqlite.specs.declared.types.Value.TheVariants.{Null, Int, Real, Text,
 use Rattle.sqlite.specs.Order.{Row, column}
 use Rattle.sqlite.specs.State.{State}
 use Rattle.sqlite.specs.Tree.{Trees}
-use Rattle.draft_core.specs.declared.state.Holder.{Holder}
 use Rattle.office_tables_shelf.specs.Cells.{Cell, Rows, rows_by, null, number, text, odd}
 use Rattle.office_tables_shelf.specs.Content.{Content}
 use Rattle.office_tables_sql.specs.Layout as layout
@@ -22,11 +21,6 @@ cell_of (Blob b) = odd
 abbrev pub text_or_null : Option (List ℕ) → Cell
 text_or_null None = null
 text_or_null (Some t) = text t
-
--- what is stored for the owner of a draft
-abbrev pub owner_value : Option Holder → Value
-owner_value None = Null
-owner_value (Some holder) = Text holder.owner
 
 abbrev pub cells : Row → List Cell
 cells values = map cell_of values

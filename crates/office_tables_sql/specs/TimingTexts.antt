@@ -1,9 +1,12 @@
 -- What the statements on timing rows mean over the schema.
-use Rattle.std.specs.Prelude.{[], ◌∷◌, codes, refl}
+use Rattle.std.specs.Prelude.{ℕ, [], ◌∷◌, codes, refl}
 use Rattle.sqlite.specs.Listing.{understood}
 use Rattle.sqlite_tied.specs.Compute.{everything}
+use Rattle.signal_records.specs.Row.{key_of}
+use Rattle.signal_records.specs.declared.record.Row.{Row}
+use Rattle.office_tables_shelf.specs.Rows.{timing_key, timing_columns}
 use Rattle.office_tables_shelf.specs.declared.rows.Table.TheVariants.{Timing}
-use Rattle.office_tables_sql.specs.Tables.{IsListText, IsFindText, IsCountText, IsUpdateText, IsInsertText, IsRemoveText}
+use Rattle.office_tables_sql.specs.Tables.{IsListText, IsFindText, IsCountText, IsUpdateText, IsInsertText, IsRemoveText, Fits}
 use Rattle.office_tables_sql.specs.declared.timing.TheConstants.{LIST, FIND, COUNT, UPDATE, INSERT, REMOVE}
 
 pub lists : IsListText Timing LIST.now
@@ -29,3 +32,16 @@ inserts = record { is = refl; plain = (refl, refl) }
 pub removes : IsRemoveText Timing REMOVE.now
 unfolding understood everything
 removes = record { is = refl; plain = (refl, refl) }
+
+pub fits : (id : ℕ) (row : Row) → Fits Timing (timing_key id (key_of row)) (timing_columns row)
+fits id row = record {
+  whole = refl;
+  named = refl;
+  given = λ limit db rows h. h.1;
+  rest = λ row. refl;
+  numbered = refl;
+  suits = refl;
+  placed = λ rows. (refl, refl);
+  kept = λ n row has. refl;
+  shows = λ n. refl;
+}

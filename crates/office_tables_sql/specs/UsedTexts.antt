@@ -1,9 +1,11 @@
 -- What the three statements on used parts mean over the schema.
-use Rattle.std.specs.Prelude.{[], ◌∷◌, codes, refl}
+use Rattle.std.specs.Prelude.{ℕ, [], ◌∷◌, codes, refl}
 use Rattle.sqlite.specs.Listing.{understood}
 use Rattle.sqlite_tied.specs.Compute.{everything}
+use Rattle.cabinet_core.specs.declared.record.UsedLine.{UsedLine}
+use Rattle.office_tables_shelf.specs.CabinetRows.{used_key, used_columns}
 use Rattle.office_tables_shelf.specs.declared.rows.Table.TheVariants.{UsedPart}
-use Rattle.office_tables_sql.specs.Tables.{IsListText, IsFindText, IsUpdateText, IsInsertText}
+use Rattle.office_tables_sql.specs.Tables.{IsListText, IsFindText, IsUpdateText, IsInsertText, Fits}
 use Rattle.office_tables_sql.specs.declared.used.TheConstants.{LIST, FIND, UPDATE, INSERT}
 
 pub lists : IsListText UsedPart LIST.now
@@ -21,3 +23,16 @@ updates = record { is = refl; plain = (refl, refl) }
 pub inserts : IsInsertText UsedPart INSERT.now
 unfolding understood everything
 inserts = record { is = refl; plain = (refl, refl) }
+
+pub fits : (id : ℕ) (line : UsedLine) → Fits UsedPart (used_key id line.order line.line) (used_columns line)
+fits id line = record {
+  whole = refl;
+  named = refl;
+  given = λ limit db rows h. h.1;
+  rest = λ row. refl;
+  numbered = refl;
+  suits = refl;
+  placed = λ rows. (refl, refl);
+  kept = λ n row has. refl;
+  shows = λ n. refl;
+}

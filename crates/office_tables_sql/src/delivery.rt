@@ -18,7 +18,6 @@ const UPDATE: &str = "UPDATE delivery SET day = ?3, amount = ?4 WHERE part = ?1 
 const INSERT: &str = "INSERT INTO delivery (part, number, day, amount) VALUES (?1, ?2, ?3, ?4)";
 
 impl StoredRow for Delivery {
-    ghost use Rattle.std.specs.Prelude.{refl};
     ghost use Rattle.cabinet_core.specs.Within.{IsDeliveryWithin};
     ghost use Rattle.office_tables_shelf.specs.CabinetRows.{delivery_key, delivery_columns};
     ghost use Rattle.office_tables_shelf.specs.declared.rows.Table.TheVariants as table;
@@ -53,7 +52,7 @@ impl StoredRow for Delivery {
 
     ghost inserts = { texts.inserts };
 
-    ghost fits = { λ _ delivery. record { whole = refl; named = refl; given = λ limit db rows h. h.1; rest = λ row. refl; numbered = refl; suits = refl; placed = λ rows. (refl, refl); kept = λ n row has. refl; shows = λ n. refl } };
+    ghost fits = { λ _ delivery. texts.fits delivery };
 
     fn list_text() -> &'static str {
         LIST

@@ -25,7 +25,6 @@ const INSERT: &str =
     "INSERT INTO inspection (inter, number, day, clerk, body) VALUES (?1, ?2, ?3, ?4, ?5)";
 
 impl StoredRow for Inspection {
-    ghost use Rattle.std.specs.Prelude.{refl};
     ghost use Rattle.cabinet_core.specs.Within.{IsInspectionWithin};
     ghost use Rattle.office_tables_shelf.specs.declared.rows.Table.TheVariants as table;
     ghost use Rattle.office_tables_sql.specs.declared.inspection.TheConstants.{LIST, FIND, UPDATE, INSERT};
@@ -59,7 +58,7 @@ impl StoredRow for Inspection {
 
     ghost inserts = { texts.inserts };
 
-    ghost fits = { λ id inspection. record { whole = refl; named = refl; given = λ limit db rows h. h.1; rest = λ row. refl; numbered = refl; suits = refl; placed = λ rows. (refl, refl); kept = λ n row has. refl; shows = λ n. refl } };
+    ghost fits = { texts.fits };
 
     fn list_text() -> &'static str {
         LIST

@@ -1,14 +1,13 @@
-//! The table `intersection`.
+//! The table `intersection`, whose key is the rowid.
 
-ghost use Rattle.std.specs.Prelude.{◌≡◌, ◌≢◌, ◌≤◌, ◌+◌, ℕ, pos, [], ◌∷◌, length, Option, None, Some, IfOk, IfSome, OnOk};
-ghost use Rattle.std.specs.Option.{option_map};
-ghost use Rattle.std.specs.FinMap.{get, insert};
+ghost use Rattle.std.specs.Prelude.{◌≡◌, ◌≢◌, ◌≤◌, ◌+◌, ℕ, pos, [], ◌∷◌, length, Option, IfOk, IfSome, OnOk};
+ghost use Rattle.std.specs.FinMap.{insert};
 ghost use Rattle.sqlite.specs.Order.{column};
 ghost use Rattle.sqlite.specs.State.{HasCleanDisk, Survives};
 ghost use Rattle.sqlite.specs.Held.{state};
+ghost use Rattle.sqlite.specs.Values.{bound_value};
+ghost use Rattle.sqlite_value.specs.Value.{owned};
 ghost use Rattle.signal_records.specs.Words.{AreWords};
-ghost use Rattle.sqlite.specs.Values.{or_null};
-ghost use Rattle.sqlite.specs.declared.types.Value.TheVariants.{Text};
 ghost use Rattle.draft_core.specs.declared.state.Holder.{Holder};
 ghost use Rattle.draft_core.specs.declared.state.Stage.{Stage};
 ghost use Rattle.office_tables_shelf.specs.Cells.{number};
@@ -16,23 +15,116 @@ ghost use Rattle.office_tables_shelf.specs.Rows.{stage_number, state_number, own
 ghost use Rattle.office_tables_shelf.specs.Shelf.{ReadsIntersection};
 ghost use Rattle.office_tables_shelf.specs.Damage.{HasDamagedIntersection};
 ghost use Rattle.office_tables_shelf.specs.declared.rows.IntersectionRow.{IntersectionRow};
-ghost use Rattle.office_tables_sql.specs.Stored.{cell_of, cells, cells_at, content_now, owner_value};
-ghost use Rattle.office_tables_sql.specs.Listed.{record_places};
+ghost use Rattle.office_tables_sql.specs.Stored.{cell_of, cells_at, content_now};
 ghost use Rattle.office_tables_sql.specs.Calls.{IsHonest, IsOffice, IsReady, Keeps, StandsOn};
+ghost use Rattle.office_tables_sql.specs.Tables.{value_of};
 
-use crate::statement::{SqlFault, select_one, write};
+use crate::statement::SqlFault;
+use crate::stored_row::{self, StoredRow};
 use crate::value::{number_at, ranged_at, revision_at, words_at, words_or_null_at};
 use draft_core::state::{Holder, Stage};
 use office_tables_shelf::rows::IntersectionRow;
 use office_tables_shelf::shelf::ShelfFault;
-use signal_records::{InterId, Words};
+use signal_records::{InterId, NoMemory, Words};
+use sqlite::types::{ToSql, ValueRef};
 use sqlite::{Alter, Connection, Row, Transaction, params};
 use std::alloc::Global;
 
-const FIND: &str = "SELECT name, days, revision, state, owner FROM intersection WHERE id = ?1";
+const LIST: &str = "SELECT id, name, days, revision, state, owner FROM intersection ORDER BY id";
 
-const PUT: &str =
-    "INSERT OR REPLACE INTO intersection (id, name, days, revision, state, owner) VALUES (?1, ?2, ?3, ?4, ?5, ?6)";
+const FIND: &str = "SELECT id, name, days, revision, state, owner FROM intersection WHERE id = ?1";
+
+const UPDATE: &str =
+    "UPDATE intersection SET name = ?2, days = ?3, revision = ?4, state = ?5, owner = ?6 WHERE id = ?1";
+
+const INSERT: &str =
+    "INSERT INTO intersection (id, name, days, revision, state, owner) VALUES (?1, ?2, ?3, ?4, ?5, ?6)";
+
+impl StoredRow for (InterId, IntersectionRow) {
+    ghost use Rattle.std.specs.Int.{IsInRange};
+    ghost use Rattle.office_tables_shelf.specs.Rows.{intersection_key, intersection_columns, IsIntersectionRow};
+    ghost use Rattle.office_tables_shelf.specs.declared.rows.Table.TheVariants as table;
+    ghost use Rattle.office_tables_sql.specs.declared.intersection.TheConstants.{LIST, FIND, UPDATE, INSERT};
+    ghost use Rattle.office_tables_sql.specs.IntersectionTexts as texts;
+
+    type Of = ();
+
+    ghost number = { λ _. 0 };
+
+    ghost table = { table.Intersection };
+
+    ghost key = { λ _ found. intersection_key found.0 };
+
+    ghost columns = { λ found. intersection_columns found.1 };
+
+    ghost is_within = { λ found. IsInRange 1 9999 found.0 × IsIntersectionRow found.1 };
+
+    ghost list_text = { LIST.now };
+
+    ghost find_text = { FIND.now };
+
+    ghost update_text = { UPDATE.now };
+
+    ghost insert_text = { INSERT.now };
+
+    ghost lists = { texts.lists };
+
+    ghost finds = { texts.finds };
+
+    ghost updates = { texts.updates };
+
+    ghost inserts = { texts.inserts };
+
+    ghost fits = { λ _ found. texts.fits found.0 found.1.name found.1.interval found.1.revision found.1.holder };
+
+    fn list_text() -> &'static str {
+        LIST
+    }
+
+    fn find_text() -> &'static str {
+        FIND
+    }
+
+    fn update_text() -> &'static str {
+        UPDATE
+    }
+
+    fn insert_text() -> &'static str {
+        INSERT
+    }
+
+    fn read(alloc: Global, _of: (), row: &Row) -> Result<(InterId, IntersectionRow), ShelfFault> {
+        let id = ranged_at(row, 0)?;
+        let name = words_at(alloc, row, 1)?;
+        let interval = ranged_at(row, 2)?;
+        let revision = revision_at(row, 3)?;
+        let holder = holder_at(alloc, row)?;
+        Ok((
+            id,
+            IntersectionRow {
+                name,
+                interval,
+                revision,
+                holder,
+            },
+        ))
+    }
+
+    fn bind<'a>(
+        &'a self,
+        alloc: Global,
+        _of: (),
+        _text: &'a mut String,
+    ) -> Result<Vec<ValueRef<'a>>, NoMemory> {
+        let id = self.0.get().to_sql();
+        let name = self.1.name.as_str().to_sql();
+        let days = self.1.interval.get().to_sql();
+        let revision = self.1.revision.get().to_sql();
+        let state = state_of(&self.1.holder).to_sql();
+        let owner = owner_of(&self.1.holder);
+        Ok(vec![in alloc; id, name, days, revision, state, owner]?)
+    }
+}
 
 /// The row of an intersection, if there is one.
 pub fn read<S: Alter>(
@@ -46,47 +138,27 @@ pub fn read<S: Alter>(
     ensures kept { Keeps (state S.Store conn.old) (state S.Store conn.new) }
     ensures crash { Survives (state S.Store conn.old) (state S.Store conn.new) (λ _. ⊥) }
 {
-    match find(conn, id)? {
-        Some(row) => Ok(Some(record_at(alloc, &row, 0)?)),
+    let found: Option<(InterId, IntersectionRow)> = stored_row::find(
+        alloc,
+        conn,
+        (),
+        params![id.get()],
+    )?;
+    match found {
+        Some((_, row)) => Ok(Some(row)),
         None => Ok(None),
     }
 }
 
-/// What is stored for an intersection, whether or not it is a record.
-fn find<S: Alter>(conn: &mut Connection<S>, id: InterId) -> Result<Option<Row>, SqlFault>
-    requires { IsOffice (state S.Store conn.old) }
-    ensures found { IsHonest (state S.Store conn.new) → IfOk result (λ row. option_map cells row ≡ get (content_now (state S.Store conn.old)).intersection (intersection_key id)) }
-    ensures width { IsHonest (state S.Store conn.new) → IfOk result (λ row. IfSome row (λ r. length r ≡ 5)) }
-    ensures kept { Keeps (state S.Store conn.old) (state S.Store conn.new) }
-    ensures crash { Survives (state S.Store conn.old) (state S.Store conn.new) (λ _. ⊥) }
-{
-    select_one(conn, FIND, params![id.get()])
-}
-
-/// The record whose columns begin at this place, the first or the second.
-pub fn record_at(alloc: Global, row: &Row, from: usize) -> Result<IntersectionRow, ShelfFault>
-    requires { from ≤ 1 }
-    ensures ok { IfOk result (λ found. cells_at (record_places from) row.now ≡ intersection_columns found) }
-    ensures damaged { result ≡ Err ShelfFault.Damaged → from + 5 ≤ length row.now → (wanted : IntersectionRow) → IsIntersectionRow wanted → cells_at (record_places from) row.now ≢ intersection_columns wanted }
-{
-    Ok(IntersectionRow {
-        name: words_at(alloc, row, from)?,
-        interval: ranged_at(row, from + 1)?,
-        revision: revision_at(row, from + 2)?,
-        holder: holder_at(alloc, row, from + 3)?,
-    })
-}
-
 /// The state, and the owner in the next column: one stands beside each state but Normal, and beside that none.
-fn holder_at(alloc: Global, row: &Row, at: usize) -> Result<Option<Holder>, ShelfFault>
-    requires { at ≤ 4 }
-    ensures state { IfOk result (λ holder. cell_of (column row.now at) ≡ number (pos (state_number holder))) }
-    ensures owner { IfOk result (λ holder. cell_of (column row.now (at + 1)) ≡ owner_cell holder) }
-    ensures damaged { result ≡ Err ShelfFault.Damaged → at + 2 ≤ length row.now → (holder : Option Holder) → IfSome holder (λ h. AreWords 40 h.owner)
-        → cell_of (column row.now at) ≡ number (pos (state_number holder)) → cell_of (column row.now (at + 1)) ≢ owner_cell holder }
+fn holder_at(alloc: Global, row: &Row) -> Result<Option<Holder>, ShelfFault>
+    ensures state { IfOk result (λ holder. cell_of (column row.now 4) ≡ number (pos (state_number holder))) }
+    ensures owner { IfOk result (λ holder. cell_of (column row.now 5) ≡ owner_cell holder) }
+    ensures damaged { result ≡ Err ShelfFault.Damaged → length row.now ≡ 6 → (holder : Option Holder) → IfSome holder (λ h. AreWords 40 h.owner)
+        → cell_of (column row.now 4) ≡ number (pos (state_number holder)) → cell_of (column row.now 5) ≢ owner_cell holder }
 {
-    let state = number_at(row, at)?;
-    let owner: Option<Words<40>> = words_or_null_at(alloc, row, at + 1)?;
+    let state = number_at(row, 4)?;
+    let owner: Option<Words<40>> = words_or_null_at(alloc, row, 5)?;
     let Some(owner) = owner else {
         return if state == 0 {
             Ok(None)
@@ -113,8 +185,15 @@ fn stage_of(state: u32) -> Option<Stage>
     }
 }
 
+fn copy_of(row: &IntersectionRow) -> Result<IntersectionRow, NoMemory>
+    ensures { IfOk result (λ copy. copy ≡ row.now) }
+{
+    Ok(row.clone()?)
+}
+
 /// Puts the row of an intersection.
 pub fn put<S: Alter>(
+    alloc: Global,
     tx: &mut Transaction<'_, S>,
     id: InterId,
     row: &IntersectionRow,
@@ -128,19 +207,8 @@ pub fn put<S: Alter>(
     ensures stands { StandsOn (state S.Store tx.old.conn.now) (state S.Store tx.new.conn.now) }
     ensures crash { Survives (state S.Store tx.old.conn.now) (state S.Store tx.new.conn.now) (λ _. ⊥) }
 {
-    write(
-        tx,
-        PUT,
-        params![
-            id.get(),
-            row.name.as_str(),
-            row.interval.get(),
-            row.revision.get(),
-            state_of(&row.holder),
-            owner_of(&row.holder),
-        ],
-    )?;
-    Ok(())
+    let found = (id, copy_of(row)?);
+    stored_row::put(alloc, tx, (), &found)
 }
 
 /// The number that is stored for the state.
@@ -157,11 +225,12 @@ fn state_of(holder: &Option<Holder>) -> u32
     }
 }
 
-fn owner_of(holder: &Option<Holder>) -> Option<&str>
-    ensures { or_null (λ s. Text s.now) result ≡ owner_value holder.now }
+/// The clerk who is stored as the owner.
+fn owner_of(holder: &Option<Holder>) -> ValueRef<'_>
+    ensures { bound_value (owned result) ≡ value_of (owner_cell holder.now) }
 {
     match holder {
-        Some(holder) => Some(holder.owner.as_str()),
-        None => None,
+        Some(holder) => holder.owner.as_str().to_sql(),
+        None => ValueRef::Null,
     }
 }

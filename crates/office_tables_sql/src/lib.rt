@@ -8,7 +8,6 @@ pub mod draft;
 pub mod each_row;
 pub mod inspection;
 pub mod intersection;
-pub mod intersection_list;
 pub mod listed;
 pub mod order;
 pub mod part;

@@ -28,7 +28,6 @@ const UPDATE: &str = "UPDATE part SET hand = ?2 WHERE code = ?1";
 const INSERT: &str = "INSERT INTO part (code, hand) VALUES (?1, ?2)";
 
 impl StoredRow for (PartCode, Hand) {
-    ghost use Rattle.std.specs.Prelude.{refl};
     ghost use Rattle.cabinet_core.specs.Part.{IsPartCode};
     ghost use Rattle.office_tables_shelf.specs.CabinetReads.{IsHand};
     ghost use Rattle.office_tables_shelf.specs.CabinetRows.{part_key, part_columns};
@@ -64,7 +63,7 @@ impl StoredRow for (PartCode, Hand) {
 
     ghost inserts = { texts.inserts };
 
-    ghost fits = { λ _ part. record { whole = refl; named = refl; given = λ limit db rows h. h.1; rest = λ row. refl; numbered = refl; suits = refl; placed = λ rows. (refl, refl); kept = λ n row has. refl; shows = λ n. refl } };
+    ghost fits = { λ _ part. texts.fits part.0 part.1 };
 
     fn list_text() -> &'static str {
         LIST

@@ -3,14 +3,15 @@
 ghost use Rattle.std.specs.Prelude.{◌≡◌, IfOk};
 ghost use Rattle.sqlite.specs.State.{Survives};
 ghost use Rattle.sqlite.specs.Held.{state};
-ghost use Rattle.office_tables_shelf.specs.Shelf.{ListsTiming, ListsDraft};
-ghost use Rattle.office_tables_shelf.specs.Damage.{HasDamagedTiming, HasDamagedDraft};
+ghost use Rattle.office_tables_shelf.specs.Shelf.{ListsIntersections, ListsTiming, ListsDraft};
+ghost use Rattle.office_tables_shelf.specs.Damage.{HasAnyDamagedIntersection, HasDamagedTiming, HasDamagedDraft};
 ghost use Rattle.office_tables_shelf.specs.CabinetReads.{ListsInspections, HasDamagedInspection, ListsOrders, HasDamagedOrder, ListsUsed, HasDamagedUsed, ListsParts, HasDamagedPart, ReadsInspection, HasDamagedInspectionAt, ReadsOrder, HasDamagedOrderAt, ReadsUsed, HasDamagedUsedAt, ReadsDelivery, HasDamagedDelivery};
 ghost use Rattle.office_tables_sql.specs.Stored.{content_now};
 ghost use Rattle.office_tables_sql.specs.Calls.{IsHonest, IsOffice, Keeps};
 
 use crate::{each_row, stored_row};
 use cabinet_core::{Delivery, Hand, Inspection, Order, PartCode, UsedLine};
+use office_tables_shelf::rows::IntersectionRow;
 use office_tables_shelf::shelf::ShelfFault;
 use signal_records::{Change, InterId, LineNo, RecordNo, Row};
 use sqlite::{Alter, Connection, params};
@@ -164,6 +165,20 @@ pub fn parts<S: Alter>(
     requires { IsOffice (state S.Store conn.old) }
     ensures rows { IfOk result (λ found. IsHonest (state S.Store conn.new) → ListsParts (content_now (state S.Store conn.old)) found.items) }
     ensures damaged { result ≡ Err ShelfFault.Damaged → IsHonest (state S.Store conn.new) → HasDamagedPart (content_now (state S.Store conn.old)) }
+    ensures kept { Keeps (state S.Store conn.old) (state S.Store conn.new) }
+    ensures crash { Survives (state S.Store conn.old) (state S.Store conn.new) (λ _. ⊥) }
+{
+    each_row::list_all(alloc, conn)
+}
+
+/// The rows of all intersections, by their numbers.
+pub fn intersections<S: Alter>(
+    alloc: Global,
+    conn: &mut Connection<S>,
+) -> Result<Vec<(InterId, IntersectionRow)>, ShelfFault>
+    requires { IsOffice (state S.Store conn.old) }
+    ensures rows { IfOk result (λ rows. IsHonest (state S.Store conn.new) → ListsIntersections (content_now (state S.Store conn.old)) rows.items) }
+    ensures damaged { result ≡ Err ShelfFault.Damaged → IsHonest (state S.Store conn.new) → HasAnyDamagedIntersection (content_now (state S.Store conn.old)) }
     ensures kept { Keeps (state S.Store conn.old) (state S.Store conn.new) }
     ensures crash { Survives (state S.Store conn.old) (state S.Store conn.new) (λ _. ⊥) }
 {

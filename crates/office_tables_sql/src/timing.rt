@@ -50,7 +50,6 @@ pub fn count<S: Alter>(conn: &mut Connection<S>, id: InterId) -> Result<usize, S
 }
 
 impl StoredRow for Row {
-    ghost use Rattle.std.specs.Prelude.{refl};
     ghost use Rattle.signal_records.specs.Row.{key_of};
     ghost use Rattle.signal_records.specs.Within.{IsRowWithin, current_limits};
     ghost use Rattle.office_tables_shelf.specs.Rows.{timing_key, timing_columns};
@@ -86,7 +85,7 @@ impl StoredRow for Row {
 
     ghost inserts = { texts.inserts };
 
-    ghost fits = { λ id row. record { whole = refl; named = refl; given = λ limit db rows h. h.1; rest = λ row. refl; numbered = refl; suits = refl; placed = λ rows. (refl, refl); kept = λ n row has. refl; shows = λ n. refl } };
+    ghost fits = { texts.fits };
 
     fn list_text() -> &'static str {
         LIST

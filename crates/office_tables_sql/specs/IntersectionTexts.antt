@@ -1,0 +1,51 @@
+-- What the statements on intersections mean over the schema, and that the table takes one, with and without an owner.
+use Rattle.std.specs.Prelude.{ℕ, pos, List, [], ◌∷◌, Option, None, Some, codes, refl}
+use Rattle.sqlite.specs.Listing.{understood}
+use Rattle.sqlite_tied.specs.Compute.{everything}
+use Rattle.draft_core.specs.declared.state.Holder.{Holder}
+use Rattle.office_tables_shelf.specs.Cells.{number, text}
+use Rattle.office_tables_shelf.specs.Rows.{state_number, owner_cell, intersection_key}
+use Rattle.office_tables_shelf.specs.declared.rows.Table.TheVariants.{Intersection}
+use Rattle.office_tables_sql.specs.Tables.{IsListText, IsFindText, IsUpdateText, IsInsertText, Fits}
+use Rattle.office_tables_sql.specs.declared.intersection.TheConstants.{LIST, FIND, UPDATE, INSERT}
+
+pub lists : IsListText Intersection LIST.now
+unfolding understood everything
+lists = record { names = codes "id" ∷ codes "name" ∷ codes "days" ∷ codes "revision" ∷ codes "state" ∷ codes "owner" ∷ []; is = refl; query = record { plain = (refl, refl); unlisted = refl } }
+
+pub finds : IsFindText Intersection FIND.now
+unfolding understood everything
+finds = record { names = codes "id" ∷ codes "name" ∷ codes "days" ∷ codes "revision" ∷ codes "state" ∷ codes "owner" ∷ []; is = refl; query = record { plain = (refl, refl); unlisted = refl } }
+
+pub updates : IsUpdateText Intersection UPDATE.now
+unfolding understood everything
+updates = record { is = refl; plain = (refl, refl) }
+
+pub inserts : IsInsertText Intersection INSERT.now
+unfolding understood everything
+inserts = record { is = refl; plain = (refl, refl) }
+
+pub fits : (id : ℕ) (name : List ℕ) (days revision : ℕ) (holder : Option Holder)
+    → Fits Intersection (intersection_key id) (text name ∷ number (pos days) ∷ number (pos revision) ∷ number (pos (state_number holder)) ∷ owner_cell holder ∷ [])
+fits id name days revision None = record {
+  whole = refl;
+  named = refl;
+  given = λ limit db rows h. h.1;
+  rest = λ row. refl;
+  numbered = refl;
+  suits = refl;
+  placed = λ rows. (refl, refl);
+  kept = λ n row has. has;
+  shows = λ n. refl;
+}
+fits id name days revision (Some holder) = record {
+  whole = refl;
+  named = refl;
+  given = λ limit db rows h. h.1;
+  rest = λ row. refl;
+  numbered = refl;
+  suits = refl;
+  placed = λ rows. (refl, refl);
+  kept = λ n row has. has;
+  shows = λ n. refl;
+}
