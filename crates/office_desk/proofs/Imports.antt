@@ -1,23 +1,21 @@
 -- The records of an import, one after the other.
-use Rattle.std.proofs.Common.{◌≡◌, ◌+◌, ◌++◌, ◌≤◌, ◌<◌, ℕ, Bool, true, false, List, [], ◌∷◌, Option, Some, None, Result, Ok, Err, length, drop, get_or, zero, suc, refl, ap, sym, subst, ◌∙◌, inl, inr, arith}
+use Rattle.std.proofs.Common.{◌≡◌, ◌+◌, ◌++◌, ◌≤◌, ◌<◌, ℕ, Bool, true, false, List, [], ◌∷◌, Option, Some, None, Result, Ok, length, drop, get_or, zero, suc, refl, ap, sym, subst, ◌∙◌, inl, inr, arith}
 use Rattle.std.proofs.Math.Seq.{drop-cons}
 use Rattle.std.specs.Prelude.{◌⊎◌}
 use Rattle.cabinet_core.specs.Cabinet.{Line, added as added_line, same as same_line, refused as refused_line}
 use Rattle.cabinet_core.specs.declared.command.RecordCommand.{RecordCommand}
-use Rattle.cabinet_core.specs.declared.command.RecordCommand.TheVariants as register
 use Rattle.office_tables_shelf.specs.Change.{changed, changed_by}
 use Rattle.office_tables_shelf.specs.Content.{Content}
 use Rattle.office_tables_shelf.specs.Counts.{writes_in}
 use Rattle.office_tables_shelf.specs.declared.rows.RowChange.{RowChange}
 use Rattle.office_tables_shelf.specs.declared.rows.Table.{Table}
-use Rattle.office_tables_shelf.specs.declared.rows.Table.TheVariants as table
 use Rattle.office_desk_cabinet.specs.Register.{Register}
 use Rattle.office_desk_cabinet.specs.Registers.{RegistersFrom, line_told, most_record_writes, rows_told}
 use Rattle.office_desk_cabinet.specs.RegisterStands.{RegisterStandsSound}
 use Rattle.office_desk_cabinet.specs.RegisterStep.{after_line, after_record, line_at, with_record}
 use Rattle.office_desk_cabinet.specs.declared.registered.Registered.{Registered}
 use Rattle.office_desk.specs.Answers.{AnswersAny}
-use Rattle.office_desk.specs.Changes.{IsRefused, most_import_writes, most_writes}
+use Rattle.office_desk.specs.Changes.{IsRefused, most_import_writes}
 use Rattle.office_desk.specs.Damage.{MeetsCabinetDamage, MeetsImportDamage}
 use Rattle.office_desk.specs.Deciding.{IsDecision}
 use Rattle.office_desk.specs.Importing.{ImportsAny, LeavesAnyTiming, TakesFrom, TakesRecord, goes_on}
@@ -34,7 +32,7 @@ use Rattle.office_desk.specs.declared.refusal.Refusal.TheVariants as refusal
 use Rattle.office_desk.specs.declared.refusal.Refusal.TheVariants.{ImportRow}
 use Rattle.office_desk.specs.declared.reply.Reply.{Reply}
 use Rattle.office_desk.specs.declared.reply.Reply.TheVariants.{Imported, Refused}
-use Rattle.office_desk.proofs.Decisions.{told_decides}
+use Rattle.office_desk.proofs.Decisions.{refuses_so, told_decides}
 use Rattle.office_desk.proofs.Recorded.{register_of, stands_after}
 use Rattle.office_desk.proofs.Shown.{query_answers}
 use Rattle.office_desk.proofs.Writes.{import_writes}
@@ -225,6 +223,8 @@ import_decides is_honest stored all rest at added same pending decided none impo
   writes = λ honest. import_writes stored all decided.changes.items (λ table. subst (λ list. writes_in table list ≤ most_import_writes all table) (sym rows) (few table));
   refused = λ refused. absurd (subst IsRefused told refused);
   query = λ query. absurd query;
+  named = λ why e. absurd (let f : Imported added same ≡ Refused why = sym told ∙ e in cc);
+  whole = λ honest damaged. damaged;
   undamaged = λ e. absurd (let f : Imported added same ≡ Refused refusal.Damaged = sym told ∙ e in cc);
 }
 
@@ -233,5 +233,5 @@ pub refused_decides : (is_honest : Type 0) (stored : Content) (all rest : List R
     → rest ≡ c ∷ cs → (is_honest → ImportsAny stored all rest at added same before) → (is_honest → TakesRecord stored before c (taken.Refused why) after)
     → cause ≡ (line_of why).number → decided.reply ≡ Refused (ImportRow at cause) → decided.changes.items ≡ [] → IsDecision is_honest stored (command.Import all) decided
 refused_decides is_honest stored all rest c cs at added same cause before after why decided left imports takes number told none =
-    told_decides is_honest stored (command.Import all) (Refused (ImportRow at cause)) decided told (λ e. cc) none
+    told_decides is_honest stored (command.Import all) (Refused (ImportRow at cause)) decided told (λ e. cc) (refuses_so (30 ∷ []) (ImportRow at cause) (inl refl)) none (λ honest damaged. damaged)
     (λ honest. import_refused stored all rest c cs at added same cause before after why _ _ left (imports honest) (takes honest) number told none)

@@ -1,5 +1,6 @@
 pub mod Rows
 pub mod Decisions
+pub mod WholeRows
 pub mod EmptySet
 pub mod KeptRegister
 pub mod Stands

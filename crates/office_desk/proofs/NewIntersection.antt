@@ -1,5 +1,5 @@
 -- What AddIntersection answers, on the row that was read, is a step of the office.
-use Rattle.std.proofs.Common.{◌≡◌, ◌≢◌, ℕ, ◌≤◌, Bool, true, false, List, [], ◌∷◌, Option, Some, None, refl, ap, sym, subst, ◌∙◌, inr, lit≤, arith}
+use Rattle.std.proofs.Common.{◌≡◌, ◌≢◌, ℕ, ◌≤◌, Bool, true, false, List, [], ◌∷◌, Option, Some, None, refl, ap, sym, subst, ◌∙◌, inl, inr, lit≤, arith}
 use Rattle.std.specs.Prelude.{if◌then◌else◌, ◌==◌, ◌&&◌}
 use Rattle.std.specs.Str.{bytes_eq}
 use Rattle.std.specs.Option.{option_map}
@@ -9,6 +9,7 @@ use Rattle.draft_core.specs.Transaction.{TimingSide}
 use Rattle.office_tables_shelf.specs.Change.{changed, changed_by}
 use Rattle.office_tables_shelf.specs.Content.{Content}
 use Rattle.office_tables_shelf.specs.Counts.{writes_in}
+use Rattle.office_tables_shelf.specs.Damage.{HasDamagedIntersection}
 use Rattle.office_tables_shelf.specs.Rows.{timing_columns}
 use Rattle.office_tables_shelf.specs.Shelf.{ReadsIntersection}
 use Rattle.office_tables_shelf.specs.declared.rows.IntersectionRow.{IntersectionRow}
@@ -20,6 +21,7 @@ use Rattle.office_desk.specs.Adding.{AddsRow, AreLimited}
 use Rattle.office_desk.specs.Answers.{Answers}
 use Rattle.office_desk.specs.Changes.{IsRefused, most_writes}
 use Rattle.office_desk.specs.Deciding.{IsDecision}
+use Rattle.office_desk.specs.Named.{RefusesBy}
 use Rattle.office_desk.specs.Office.{Office, IsSoundIntersection, no_timing, side_of, side_at}
 use Rattle.office_desk.specs.StandFor.{StandFor, StandForSound, row_of}
 use Rattle.office_desk.specs.Step.{added, new_intersection, with_intersection}
@@ -28,7 +30,7 @@ use Rattle.office_desk.specs.declared.decided.Decided.{Decided}
 use Rattle.office_desk.specs.declared.refusal.Refusal.TheVariants as refusal
 use Rattle.office_desk.specs.declared.reply.Reply.{Reply}
 use Rattle.office_desk.specs.declared.reply.Reply.TheVariants as reply
-use Rattle.office_desk.proofs.Decisions.{told_decides}
+use Rattle.office_desk.proofs.Decisions.{refuses_so, told_decides}
 use Rattle.office_desk.proofs.EmptySet.{no_records, no_violations}
 use Rattle.office_desk.proofs.Stands.{row_read, stand_after, sound_with}
 
@@ -100,15 +102,21 @@ never_damaged : (is_equal : Bool) → (if is_equal then reply.Same else reply.Re
 never_damaged true e = cc
 never_damaged false e = cc
 
+differs_named : (is_equal : Bool) → RefusesBy (11 ∷ []) (if is_equal then reply.Same else reply.Refused refusal.IntersectionDiffers)
+differs_named true why e = absurd (let f : reply.Same ≡ reply.Refused why = e in cc)
+differs_named false why e = refuses_so (11 ∷ []) refusal.IntersectionDiffers (inl refl) why e
+
 pub add_decides : (is_honest : Type 0) (tables : Content) (id interval : ℕ) (name : List ℕ) (row : Option IntersectionRow) (decided : Decided)
-    → (is_honest → ReadsIntersection tables id row) → AddsRow id interval name row decided.reply decided.changes.items → IsDecision is_honest tables (AddIntersection id interval name) decided
-add_decides is_honest tables id interval name None decided reads adds = record {
+    → (is_honest → ReadsIntersection tables id row) → (is_honest → ¬ HasDamagedIntersection tables id) → AddsRow id interval name row decided.reply decided.changes.items → IsDecision is_honest tables (AddIntersection id interval name) decided
+add_decides is_honest tables id interval name None decided reads whole adds = record {
   step = λ honest office stands. add_answers tables office id interval name None decided.reply decided.changes.items stands (reads honest) adds;
   writes = λ honest written. subst (λ (list : List RowChange). writes_in written list ≤ most_writes tables (AddIntersection id interval name) written) (sym adds.1) (one_row tables id interval name (row_of (new_intersection interval name)) written);
   refused = λ refused. absurd (subst IsRefused adds.0 refused);
   query = λ query. absurd query;
+  named = λ why e. absurd (let f : reply.Added ≡ reply.Refused why = sym adds.0 ∙ e in cc);
+  whole = whole;
   undamaged = λ e. absurd (let f : reply.Added ≡ reply.Refused refusal.Damaged = sym adds.0 ∙ e in cc);
 }
-add_decides is_honest tables id interval name (Some row) decided reads adds =
-    told_decides is_honest tables (AddIntersection id interval name) _ decided adds.0 (never_damaged (bytes_eq row.name name && (row.interval == interval))) adds.1
+add_decides is_honest tables id interval name (Some row) decided reads whole adds =
+    told_decides is_honest tables (AddIntersection id interval name) _ decided adds.0 (never_damaged (bytes_eq row.name name && (row.interval == interval))) (differs_named (bytes_eq row.name name && (row.interval == interval))) adds.1 whole
     (λ honest office stands. add_answers tables office id interval name (Some row) decided.reply decided.changes.items stands (reads honest) adds)

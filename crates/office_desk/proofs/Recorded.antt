@@ -1,5 +1,6 @@
 -- What the commands and queries of the register answer is a step of the office.
-use Rattle.std.proofs.Common.{◌≡◌, ◌≢◌, ◌≤◌, ℕ, Bool, true, false, List, [], Option, Some, None, is_some, refl, ap, sym, subst, ◌∙◌, inr}
+use Rattle.std.proofs.Common.{◌≡◌, ◌≢◌, ◌≤◌, ℕ, Bool, true, false, List, [], ◌∷◌, map, Option, Some, None, is_some, refl, ap, sym, subst, ◌∙◌, inl, inr}
+use Rattle.std.specs.Prelude.{IsSome}
 use Rattle.std.specs.Option.{option_map}
 use Rattle.std.specs.FinMap.{get}
 use Rattle.cabinet_core.specs.declared.command.RecordCommand.{RecordCommand}
@@ -19,7 +20,7 @@ use Rattle.office_desk_cabinet.specs.Register.{Register, open_at, stock_of}
 use Rattle.office_desk_cabinet.specs.RegisterDamage.{MeetsRecordDamage}
 use Rattle.office_desk_cabinet.specs.RegisterStands.{RegisterStandsSound}
 use Rattle.office_desk_cabinet.specs.RegisterStep.{after_record}
-use Rattle.office_desk_cabinet.specs.Registers.{LeavesTiming, RegistersFrom, ShowsCabinet, line_told, most_record_writes, rows_told}
+use Rattle.office_desk_cabinet.specs.Registers.{IsNamed, IsOneOf, LeavesTiming, RegistersFrom, ShowsCabinet, line_told, most_record_writes, refusals_of, rows_told}
 use Rattle.office_desk_cabinet.specs.declared.registered.Registered.{Registered}
 use Rattle.office_desk_cabinet.specs.declared.registered.Registered.TheVariants.{Added, Same, Refused}
 use Rattle.office_desk.specs.Answers.{Answers}
@@ -27,7 +28,8 @@ use Rattle.office_desk.specs.Changes.{IsRefused}
 use Rattle.office_desk.specs.Damage.{MeetsCabinetDamage}
 use Rattle.office_desk.specs.Deciding.{IsDecision}
 use Rattle.office_desk.specs.Office.{Office, Intersection}
-use Rattle.office_desk.specs.Recording.{IsKnownIn}
+use Rattle.office_desk.specs.Named.{RefusesBy, number_of, numbers_about, numbers_of}
+use Rattle.office_desk.specs.Recording.{HasDamagedAbout, IsKnownIn}
 use Rattle.office_desk.specs.StandFor.{StandForSound, row_of}
 use Rattle.office_desk.specs.Step.{cabinet_of, cabinet_shown, is_known, known, recorded, recorded_at, refusal_of_record, shown, told}
 use Rattle.office_desk.specs.declared.command.Command.TheVariants as command
@@ -35,6 +37,7 @@ use Rattle.office_desk.specs.declared.decided.Decided.{Decided}
 use Rattle.office_desk.specs.declared.refusal.Refusal.TheVariants as refusal
 use Rattle.office_desk.specs.declared.reply.Reply.{Reply}
 use Rattle.office_desk.specs.declared.reply.Reply.TheVariants as reply
+use Rattle.office_desk.proofs.Decisions.{refuses_so}
 use Rattle.office_desk.proofs.Shown.{query_answers}
 use Rattle.office_desk.proofs.Stands.{row_read}
 use Rattle.office_desk.proofs.Writes.{record_writes}
@@ -144,17 +147,39 @@ refused_writes_none (Added rows) refused = absurd refused
 refused_writes_none Same refused = refl
 refused_writes_none (Refused why) refused = refl
 
+among_map : {X Y : Type 0} (f : X → Y) (xs : List X) (x : X) → IsOneOf xs x → IsOneOf (map f xs) (f x)
+among_map f [] x among = among
+among_map f (y ∷ ys) x (inl same) = inl (ap f same)
+among_map f (y ∷ ys) x (inr later) = inr (among_map f ys x later)
+
+about_more : (about : Option ℕ) (numbers : List ℕ) (n : ℕ) → IsOneOf numbers n → IsOneOf (numbers_about about numbers) n
+about_more None numbers n among = among
+about_more (Some id) numbers n among = inr among
+
+-- that the intersection is not there is told only of a command about one
+pub unknown_named : (about : Option ℕ) (numbers : List ℕ) → IsSome about → IsOneOf (numbers_about about numbers) 10
+unknown_named None numbers asked = absurd (let f : false ≡ true = asked in cc)
+unknown_named (Some id) numbers asked = inl refl
+
+told_named : (c : RecordCommand) (done : Registered) → IsNamed c (line_told done) → RefusesBy (numbers_of (command.Record c)) (told (line_told done))
+told_named c (Added rows) named = λ why e. absurd (let f : reply.Added ≡ reply.Refused why = e in cc)
+told_named c Same named = λ why e. absurd (let f : reply.Same ≡ reply.Refused why = e in cc)
+told_named c (Refused why) named = refuses_so (numbers_of (command.Record c)) (refusal_of_record why)
+    (about_more (cabinet_of c) _ _ (among_map (λ refused. number_of (refusal_of_record refused)) (refusals_of c) why named))
+
 -- of a command on an intersection that is there
 pub record_decides : (is_honest : Type 0) (tables : Content) (c : RecordCommand) (done : Registered) (decided : Decided)
     → (is_honest → (office : Office) → StandForSound tables office → Answers office (command.Record c) decided.reply (changed_by tables decided.changes.items))
-    → ((table : Table) → writes_in table (rows_told done) ≤ most_record_writes c table)
+    → ((table : Table) → writes_in table (rows_told done) ≤ most_record_writes c table) → IsNamed c (line_told done) → (is_honest → ¬ HasDamagedAbout tables (cabinet_of c))
     → decided.reply ≡ told (line_told done) → decided.changes.items ≡ rows_told done → IsDecision is_honest tables (command.Record c) decided
-record_decides is_honest tables c done decided step few is rows = record {
+record_decides is_honest tables c done decided step few named whole is rows = record {
   step = step;
   writes = λ honest. record_writes tables c decided.changes.items (λ table. subst (λ list. writes_in table list ≤ most_record_writes c table) (sym rows) (few table));
   refused = λ refused. rows ∙ refused_writes_none done (subst IsRefused is refused);
   query = λ query. absurd query;
+  named = λ why e. told_named c done named why (sym is ∙ e);
   undamaged = λ e. told_undamaged done (sym is ∙ e);
+  whole = whole;
 }
 
 -- ---- queries

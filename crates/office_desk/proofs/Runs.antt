@@ -1,5 +1,5 @@
 -- From a decision to a step that was made, and from steps to runs.
-use Rattle.std.proofs.Common.{◌≡◌, List, [], ◌∷◌, ◌++◌, ℕ, Option, Some, None, refl, sym, subst, ◌∙◌, inl, inr, Err, length, true, arith}
+use Rattle.std.proofs.Common.{◌≡◌, List, [], ◌∷◌, ◌++◌, ℕ, Option, Some, None, refl, sym, subst, ◌∙◌, inl, inr, length, true, arith}
 use Rattle.std.specs.Prelude.{◌==◌}
 use Rattle.std.proofs.lemmas.Bool.Decides.{nat_tests}
 use Rattle.office_tables_shelf.specs.Change.{changed_by}
@@ -10,16 +10,19 @@ use Rattle.office_tables_shelf.specs.declared.shelf.ShelfFault.TheVariants.{NoMe
 use Rattle.office_desk.specs.Answers.{AnswersAny, Answers, RunsAny, RunsTo}
 use Rattle.cabinet_core.specs.declared.command.RecordCommand.{RecordCommand}
 use Rattle.office_desk_cabinet.proofs.Undamaged.{no_damaged_inspection, no_damaged_order, no_damaged_used, no_damaged_part, undamaged_record}
-use Rattle.office_desk.specs.Damage.{MeetsCabinetDamage, MeetsImportDamage, MeetsDamage}
+use Rattle.office_desk.specs.Damage.{IsTurnedAway, MeetsCabinetDamage, MeetsImportDamage, MeetsDamage}
+use Rattle.office_desk.specs.Named.{AreNamedFor, IsNamedFor, RefusesBy, numbers_of}
 use Rattle.office_desk.specs.Decisions.{refusal_of}
 use Rattle.office_desk.specs.Office.{Office, IsSound}
 use Rattle.office_desk.specs.StandFor.{StandForSound}
-use Rattle.office_desk.specs.Step.{Step, Run, cabinet_of}
+use Rattle.office_desk.specs.Step.{AreSound, Step, Run, cabinet_of}
 use Rattle.office_desk.specs.declared.command.Command.{Command}
 use Rattle.office_desk.specs.declared.command.Command.TheVariants as command
+use Rattle.office_desk.specs.declared.refusal.Refusal.TheVariants as refusal
 use Rattle.office_desk.specs.declared.refusal.Refusal.TheVariants.{Unavailable}
 use Rattle.office_desk.specs.declared.reply.Reply.{Reply}
 use Rattle.office_desk.specs.declared.reply.Reply.TheVariants.{Refused}
+use Rattle.office_desk.proofs.Decisions.{refuses_so}
 use Rattle.office_desk.proofs.IntersectionTable.{no_damaged_intersection}
 use Rattle.office_desk.proofs.Recorded.{register_of}
 use Rattle.office_desk.proofs.Stands.{no_damage}
@@ -84,6 +87,30 @@ fault_answers tables command NoMemory reply changes meets r e = unavailable_answ
 fault_answers tables command Store reply changes meets r e = unavailable_answers tables command reply changes r e
 fault_answers tables command Damaged reply changes meets r e = λ office stands. absurd (damage_refuted tables command (meets refl) office stands)
 
+-- it refuses the command, and so a row that it could not read
+pub turned_away : (fault : ShelfFault) (reply : Reply) → reply ≡ Refused (refusal_of fault) → IsTurnedAway reply
+turned_away NoMemory reply e = inr e
+turned_away Store reply e = inr e
+turned_away Damaged reply e = inl e
+
+pub fault_named : (command : Command) (fault : ShelfFault) (reply : Reply) → reply ≡ Refused (refusal_of fault) → IsNamedFor command reply
+fault_named command NoMemory reply e = λ why told. refuses_so (90 ∷ 91 ∷ numbers_of command) Unavailable (inl refl) why (sym e ∙ told)
+fault_named command Store reply e = λ why told. refuses_so (90 ∷ 91 ∷ numbers_of command) Unavailable (inl refl) why (sym e ∙ told)
+fault_named command Damaged reply e = λ why told. refuses_so (90 ∷ 91 ∷ numbers_of command) refusal.Damaged (inr (inl refl)) why (sym e ∙ told)
+
+pub named_more : (command : Command) (reply : Reply) → RefusesBy (numbers_of command) reply → IsNamedFor command reply
+named_more command reply named = λ why told. inr (inr (named why told))
+
+pub unavailable_named : (command : Command) → IsNamedFor command (Refused Unavailable)
+unavailable_named command = refuses_so (90 ∷ 91 ∷ numbers_of command) Unavailable (inl refl)
+
+-- one more reply that is named for its command
+pub all_named : (commands : List Command) (replies : List Reply) (command : Command) (reply : Reply) → AreNamedFor commands replies → IsNamedFor command reply → AreNamedFor (commands ++ command ∷ []) (replies ++ reply ∷ [])
+all_named [] [] command reply all one = (one, tt)
+all_named [] (r ∷ rs) command reply all one = absurd all
+all_named (c ∷ cs) [] command reply all one = absurd all
+all_named (c ∷ cs) (r ∷ rs) command reply all one = (all.0, all_named cs rs command reply all.1 one)
+
 -- changes that were decided on the first tables, and applied to the same
 pub applied : (first mid new : Content) (given changes : List RowChange) → new ≡ changed_by mid given → mid ≡ first → given ≡ changes → new ≡ changed_by first changes
 applied first mid new given changes made same list = made ∙ (λ i. changed_by (same i) (list i))
@@ -101,11 +128,21 @@ run-more (c ∷ cs) (r ∷ rs) first mid last command reply run step = (run.0, r
 run-more [] (r ∷ rs) first mid last command reply run step = absurd run
 run-more (c ∷ cs) [] first mid last command reply run step = absurd run
 
+sound-more : (commands : List Command) (replies : List Reply) (first mid last : Office) (command : Command) (reply : Reply) (run : Run first commands replies mid) (step : Step mid command reply last)
+    → AreSound first commands replies mid run → IsSound last → AreSound first (commands ++ command ∷ []) (replies ++ reply ∷ []) last (run-more commands replies first mid last command reply run step)
+unfolding run-more
+sound-more [] [] first mid last command reply run step so_far now = (so_far, now)
+sound-more (c ∷ cs) (r ∷ rs) first mid last command reply run step so_far now = (so_far.0, sound-more cs rs run.0 mid last command reply run.2 step so_far.1 now)
+sound-more [] (r ∷ rs) first mid last command reply run step so_far now = absurd run
+sound-more (c ∷ cs) [] first mid last command reply run step so_far now = absurd run
+
 -- the replies of a run, and what runs after it
-runs_to : (office last : Office) (commands : List Command) (replies : List Reply) (tables : Content) → IsSound office → Run office commands replies last → StandForSound tables last → RunsTo office commands replies tables
-runs_to office last commands replies tables sound run stand = record {
+runs_to : (office last : Office) (commands : List Command) (replies : List Reply) (tables : Content) → IsSound office → (run : Run office commands replies last) → AreSound office commands replies last run
+    → StandForSound tables last → RunsTo office commands replies tables
+runs_to office last commands replies tables sound run between stand = record {
   last = last;
   run = run;
+  sound = between;
   stand = stand;
   running = λ id. runs_timing id _ commands replies office last run refl;
   register = runs_register commands replies office last run sound stand.sound;
@@ -113,10 +150,11 @@ runs_to office last commands replies tables sound run stand = record {
 }
 
 pub runs_nothing : (tables : Content) → RunsAny tables [] [] tables
-runs_nothing tables office stands = runs_to office office [] [] tables stands.sound refl stands
+runs_nothing tables office stands = runs_to office office [] [] tables stands.sound refl stands.sound stands
 
 pub runs_more : (first mid last : Content) (commands : List Command) (replies : List Reply) (command : Command) (reply : Reply) → RunsAny first commands replies mid → AnswersAny mid command reply last → RunsAny first (commands ++ command ∷ []) (replies ++ reply ∷ []) last
 runs_more first mid last commands replies command reply runs answers office stands =
     let so_far = runs office stands in
     let now = answers so_far.last so_far.stand in
-    runs_to office now.next _ _ last stands.sound (run-more commands replies office so_far.last now.next command reply so_far.run now.step) now.stand
+    runs_to office now.next _ _ last stands.sound (run-more commands replies office so_far.last now.next command reply so_far.run now.step)
+    (sound-more commands replies office so_far.last now.next command reply so_far.run now.step so_far.sound now.stand.sound) now.stand

@@ -1,38 +1,45 @@
 -- What a command of the transaction answers, on what was found, is a step of the office.
-use Rattle.std.proofs.Common.{◌≡◌, ◌≢◌, ◌+◌, ◌≤◌, ℕ, false, List, [], ◌∷◌, length, Option, Some, None, Result, Ok, Err, refl, ap, sym, subst, ◌∙◌, inl, inr, arith}
-use Rattle.std.specs.Prelude.{IfSome, IfOk, OnErr}
+use Rattle.std.proofs.Common.{◌≡◌, ◌≢◌, ◌+◌, ◌≤◌, ℕ, Bool, true, false, List, [], ◌∷◌, length, Option, Some, None, Result, Ok, Err, refl, ap, sym, subst, ◌∙◌, inl, inr, arith}
+use Rattle.std.specs.Prelude.{IfSome, IfOk, OnErr, if◌then◌else◌}
 use Rattle.std.specs.FinMap.{get}
 use Rattle.std.specs.Int.{IsInRange}
+use Rattle.std.specs.Str.{bytes_eq}
 use Rattle.std.proofs.lemmas.List.{length-map}
 use Rattle.signal_records.specs.Words.{AreWords}
 use Rattle.signal_records.specs.declared.record.Change.TheVariants.{Put, Remove}
-use Rattle.draft_core.specs.Moves.{Follows, FollowsSoundLine, Makes, timing_writes, draft_writes}
-use Rattle.draft_core.specs.Transaction.{TimingSide}
+use Rattle.draft_core.specs.Moves.{Follows, FollowsSoundLine, IsUnsettled, Makes, RefusesFirst, timing_writes, draft_writes}
+use Rattle.draft_core.specs.Transaction.{TimingSide, is_stage, refused_by}
 use Rattle.draft_core.specs.declared.refusal.DraftRefusal.{DraftRefusal}
 use Rattle.draft_core.specs.declared.refusal.DraftRefusal.TheVariants as draft
+use Rattle.draft_core.specs.declared.state.Holder.{Holder}
+use Rattle.draft_core.specs.declared.state.Stage.{Stage}
+use Rattle.draft_core.specs.declared.state.Stage.TheVariants as stages
 use Rattle.draft_core.specs.declared.timing.Move.{Move}
 use Rattle.draft_core.specs.declared.timing.TimingChange.{TimingChange}
 use Rattle.draft_core.specs.declared.timing.TimingChange.TheVariants.{Committed, Drafted, DraftGone}
 use Rattle.office_tables_shelf.specs.Change.{changed_by}
 use Rattle.office_tables_shelf.specs.Content.{Content}
+use Rattle.office_tables_shelf.specs.Damage.{HasDamagedIntersection}
 use Rattle.office_tables_shelf.specs.Shelf.{ListsDraft, rows_of}
 use Rattle.office_tables_shelf.specs.declared.rows.RowChange.{RowChange}
 use Rattle.office_tables_shelf.specs.declared.rows.RowChange.TheVariants.{PutIntersection}
 use Rattle.office_tables_shelf.specs.declared.rows.Table.{Table}
 use Rattle.office_tables_shelf.specs.declared.rows.Table.TheVariants as table
 use Rattle.office_tables_shelf.specs.declared.shelf.ShelfFault.{ShelfFault}
-use Rattle.office_tables_shelf.specs.declared.shelf.ShelfFault.TheVariants.{NoMemory, Damaged}
+use Rattle.office_tables_shelf.specs.declared.shelf.ShelfFault.TheVariants.{NoMemory}
+use Rattle.office_desk_cabinet.specs.Registers.{IsOneOf}
 use Rattle.office_desk.specs.Answers.{Answers, AnswersAny}
 use Rattle.office_desk.specs.Changes.{IsQuery, IsRefused, most_intersection_writes, most_writes}
 use Rattle.office_tables_shelf.specs.Counts.{is_same_table, writes_in}
-use Rattle.office_desk.specs.Damage.{HasDamage, MeetsDamage}
+use Rattle.office_desk.specs.Damage.{HasDamage, MeetsDamage, NamesDamaged}
 use Rattle.office_desk.specs.Deciding.{Decides, IsDecision}
 use Rattle.office_desk.specs.Moving.{WritesMove, WritesDecision, moved_row, row_changes_of}
+use Rattle.office_desk.specs.Named.{RefusesBy, number_of, numbers_of}
 use Rattle.office_desk.specs.Office.{Office, Intersection, IsSoundIntersection}
 use Rattle.office_desk.specs.Reading.{FoundStands, Finds, FindsAny}
 use Rattle.office_desk.specs.StandFor.{StandForSound}
 use Rattle.office_desk.specs.Step.{answered, transacted, moved, moved_to, refusal_of_draft, with_intersection}
-use Rattle.office_desk.specs.Transacting.{command_of, line_of, IsAskWithin, IsBounded, most_committed, most_drafted}
+use Rattle.office_desk.specs.Transacting.{command_of, first_refusal, line_of, IsAskWithin, IsBounded, IsLater, most_committed, most_drafted}
 use Rattle.office_desk.specs.declared.decided.Decided.{Decided}
 use Rattle.office_desk.specs.declared.reading.Found.{Found}
 use Rattle.office_desk.specs.declared.refusal.Refusal.TheVariants as refusal
@@ -40,7 +47,7 @@ use Rattle.office_desk.specs.declared.reply.Reply.{Reply}
 use Rattle.office_desk.specs.declared.reply.Reply.TheVariants.{Moved, Refused}
 use Rattle.office_desk.specs.declared.transacting.Ask.{Ask}
 use Rattle.office_desk.specs.declared.transacting.Ask.TheVariants.{Begin, Edit, Verify, Check, Commit, Reopen, Abandon}
-use Rattle.office_desk.proofs.Decisions.{unknown_decides}
+use Rattle.office_desk.proofs.Decisions.{refuses_so, unknown_decides}
 use Rattle.office_desk.proofs.Keeps.{line_keeps, side_sound, sound_intersection}
 use Rattle.office_desk.proofs.Moved.{move_stands, with_timing_side}
 use Rattle.office_desk.proofs.Stands.{sound_with}
@@ -220,6 +227,67 @@ transact_writes tables id clerk ask found (Ok move) reply changes writes bounds 
 transact_writes tables id clerk ask found (Err why) reply changes writes bounds lists other =
     subst (λ list. writes_in other list ≤ most_writes tables (command_of id clerk ask) other) (sym writes.2) (omega arith)
 
+-- ---- refusals
+
+-- the test of the owner refuses by the state, or by the owner
+state_or_owner : (holder : Option Holder) (stage : Stage) (wrong : DraftRefusal) (clerk : List ℕ) (first : DraftRefusal) (P : DraftRefusal → Type 0)
+    → refused_by holder stage wrong clerk ≡ Some first → P wrong → P draft.NotOwner → P first
+state_or_owner None stage wrong clerk first P e state owner = subst P (let f : Some wrong ≡ Some first = e in let g : wrong ≡ first = cc in g) state
+state_or_owner (Some holder) stage wrong clerk first P e state owner = go (is_stage holder.stage stage) (bytes_eq holder.owner clerk) e
+  where
+    go : (in_stage is_owner : Bool) → (if in_stage then (if is_owner then None else Some draft.NotOwner) else Some wrong) ≡ Some first → P first
+    go true true e = absurd (let f : None ≡ Some first = e in cc)
+    go true false e = subst P (let f : Some draft.NotOwner ≡ Some first = e in let g : draft.NotOwner ≡ first = cc in g) owner
+    go false is_owner e = subst P (let f : Some wrong ≡ Some first = e in let g : wrong ≡ first = cc in g) state
+
+-- the refusal is named for the command
+abbrev Names : ℕ → List ℕ → Ask → DraftRefusal → Type 0
+Names id clerk ask why = IsOneOf (numbers_of (command_of id clerk ask)) (number_of (refusal_of_draft why))
+
+first_named : (ask : Ask) (id : ℕ) (clerk : List ℕ) (holder : Option Holder) (first : DraftRefusal) → first_refusal ask holder clerk ≡ Some first → Names id clerk ask first
+first_named Begin id clerk None first e = absurd (let f : None ≡ Some first = e in cc)
+first_named Begin id clerk (Some holder) first e = subst (Names id clerk Begin) (let f : Some draft.NotNormal ≡ Some first = e in let g : draft.NotNormal ≡ first = cc in g) (inr (inl refl))
+first_named (Edit changes) id clerk holder first e = state_or_owner holder stages.Transaction draft.NotTransaction clerk first (Names id clerk (Edit changes)) e (inr (inl refl)) (inr (inr (inl refl)))
+first_named Verify id clerk holder first e = state_or_owner holder stages.Transaction draft.NotTransaction clerk first (Names id clerk Verify) e (inr (inl refl)) (inr (inr (inl refl)))
+first_named Check id clerk holder first e = state_or_owner holder stages.Verify draft.NotVerify clerk first (Names id clerk Check) e (inr (inl refl)) (inr (inr (inl refl)))
+first_named Commit id clerk holder first e = state_or_owner holder stages.Done draft.NotDone clerk first (Names id clerk Commit) e (inr (inl refl)) (inr (inr (inl refl)))
+first_named Reopen id clerk holder first e = state_or_owner holder stages.Done draft.NotDone clerk first (Names id clerk Reopen) e (inr (inl refl)) (inr (inr (inl refl)))
+first_named Abandon id clerk None first e = subst (Names id clerk Abandon) (let f : Some draft.NotTransaction ≡ Some first = e in let g : draft.NotTransaction ≡ first = cc in g) (inr (inl refl))
+first_named Abandon id clerk (Some holder) first e = absurd (let f : None ≡ Some first = e in cc)
+
+unsettled_named : (id : ℕ) (clerk : List ℕ) (why : DraftRefusal) → why ≢ draft.NoMemory → IsUnsettled why → Names id clerk Commit why
+unsettled_named id clerk (draft.VerifyFailed count) ne is = inr (inr (inr (inl refl)))
+unsettled_named id clerk draft.RevisionFull ne is = inr (inr (inr (inr (inl refl))))
+unsettled_named id clerk draft.NoMemory ne is = absurd (ne refl)
+unsettled_named id clerk draft.NotNormal ne is = absurd is
+unsettled_named id clerk draft.NotTransaction ne is = absurd is
+unsettled_named id clerk draft.NotOwner ne is = absurd is
+unsettled_named id clerk draft.NotVerify ne is = absurd is
+unsettled_named id clerk draft.NotDone ne is = absurd is
+
+later_named : (ask : Ask) (id : ℕ) (clerk : List ℕ) (why : DraftRefusal) → why ≢ draft.NoMemory → IsLater ask why → Names id clerk ask why
+later_named Begin id clerk why ne is = absurd is
+later_named (Edit changes) id clerk why ne is = absurd (ne is)
+later_named Verify id clerk why ne is = absurd is
+later_named Check id clerk why ne is = absurd (ne is)
+later_named Commit id clerk why ne is = unsettled_named id clerk why ne is
+later_named Reopen id clerk why ne is = absurd is
+later_named Abandon id clerk why ne is = absurd (ne is)
+
+refusal_named : (ask : Ask) (id : ℕ) (clerk : List ℕ) (holder : Option Holder) (why : DraftRefusal)
+    → RefusesFirst (first_refusal ask holder clerk) (IsLater ask) (Err why) → why ≢ draft.NoMemory → Names id clerk ask why
+refusal_named ask id clerk holder why refuses ne = go (first_refusal ask holder clerk) refl refuses
+  where
+    go : (o : Option DraftRefusal) → first_refusal ask holder clerk ≡ o → RefusesFirst o (IsLater ask) (Err why) → Names id clerk ask why
+    go None is later = later_named ask id clerk why ne later
+    go (Some first) is e = subst (Names id clerk ask) (let same : Err why ≡ Err first = e in let here : first ≡ why = cc in here) (first_named ask id clerk holder first is)
+
+reply_named : (ask : Ask) (id : ℕ) (clerk : List ℕ) (found : Found) (decision : Result Move DraftRefusal) (reply : Reply) (changes : List RowChange)
+    → RefusesFirst (first_refusal ask found.timing.holder clerk) (IsLater ask) decision → WritesDecision id clerk found decision reply changes → RefusesBy (numbers_of (command_of id clerk ask)) reply
+reply_named ask id clerk found (Ok move) reply changes refuses writes = λ why e. absurd (let f : Moved move.revision move.state move.verdict ≡ Refused why = sym writes.told ∙ e in cc)
+reply_named ask id clerk found (Err why) reply changes refuses writes = λ told e.
+    refuses_so (numbers_of (command_of id clerk ask)) (refusal_of_draft why) (refusal_named ask id clerk found.timing.holder why refuses writes.0) told (sym writes.1 ∙ e)
+
 -- ---- the decision
 
 never_query : (id : ℕ) (clerk : List ℕ) (ask : Ask) → IsQuery (command_of id clerk ask) → ⊥
@@ -231,27 +299,48 @@ never_query id clerk Commit query = query
 never_query id clerk Reopen query = query
 never_query id clerk Abandon query = query
 
+names_row : (tables : Content) (id : ℕ) (clerk : List ℕ) (ask : Ask) → NamesDamaged tables (command_of id clerk ask) → HasDamagedIntersection tables id
+names_row tables id clerk Begin damaged = damaged
+names_row tables id clerk (Edit changes) damaged = damaged
+names_row tables id clerk Verify damaged = damaged
+names_row tables id clerk Check damaged = damaged
+names_row tables id clerk Commit damaged = damaged
+names_row tables id clerk Reopen damaged = damaged
+names_row tables id clerk Abandon damaged = damaged
+
+unknown_named : (id : ℕ) (clerk : List ℕ) (ask : Ask) → IsOneOf (numbers_of (command_of id clerk ask)) 10
+unknown_named id clerk Begin = inl refl
+unknown_named id clerk (Edit changes) = inl refl
+unknown_named id clerk Verify = inl refl
+unknown_named id clerk Check = inl refl
+unknown_named id clerk Commit = inl refl
+unknown_named id clerk Reopen = inl refl
+unknown_named id clerk Abandon = inl refl
+
 -- on what was found
 pub transact_decides : (is_honest : Type 0) (tables : Content) (id : ℕ) (clerk : List ℕ) (ask : Ask) (found : Found) (decision : Result Move DraftRefusal) (result : Result Decided ShelfFault)
     → AreWords 40 clerk → IsAskWithin ask → (is_honest → FindsAny tables id (Some found)) → (is_honest → ListsDraft tables id found.timing.delta)
     → FollowsSoundLine found.timing clerk decision (λ side. line_of ask clerk side) → IfOk decision (λ move. IsBounded ask (length found.timing.delta) move.changes.items)
+    → RefusesFirst (first_refusal ask found.timing.holder clerk) (IsLater ask) decision → (is_honest → ¬ HasDamagedIntersection tables id)
     → IfOk result (λ decided. WritesDecision id clerk found decision decided.reply decided.changes.items) → OnErr result (result ≡ Err NoMemory)
     → Decides is_honest tables (command_of id clerk ask) result
-transact_decides is_honest tables id clerk ask found decision (Ok decided) words within finds lists follows bounds writes fault = record {
+transact_decides is_honest tables id clerk ask found decision (Ok decided) words within finds lists follows bounds refuses whole writes fault = record {
   step = λ honest. move_answers tables id clerk ask found decision decided.reply decided.changes.items words within (finds honest) follows writes;
   writes = λ honest. transact_writes tables id clerk ask found decision decided.reply decided.changes.items writes bounds (lists honest);
   refused = refused_unchanged id clerk found decision decided.reply decided.changes.items writes;
   query = λ query. absurd (never_query id clerk ask query);
+  named = reply_named ask id clerk found decision decided.reply decided.changes.items refuses writes;
   undamaged = reply_undamaged id clerk found decision decided.reply decided.changes.items writes;
+  whole = λ honest damaged. whole honest (names_row tables id clerk ask damaged);
 }
-transact_decides is_honest tables id clerk ask found decision (Err other) words within finds lists follows bounds writes fault =
+transact_decides is_honest tables id clerk ask found decision (Err other) words within finds lists follows bounds refuses whole writes fault =
     λ damaged. absurd (let f : Err other ≡ Err NoMemory = fault in cc)
 
 -- on an intersection that is not there
-pub absent_decides : (is_honest : Type 0) (tables : Content) (id : ℕ) (clerk : List ℕ) (ask : Ask) (decided : Decided) → (is_honest → FindsAny tables id None)
+pub absent_decides : (is_honest : Type 0) (tables : Content) (id : ℕ) (clerk : List ℕ) (ask : Ask) (decided : Decided) → (is_honest → FindsAny tables id None) → (is_honest → ¬ HasDamagedIntersection tables id)
     → decided.reply ≡ Refused refusal.UnknownIntersection → decided.changes.items ≡ [] → IsDecision is_honest tables (command_of id clerk ask) decided
-absent_decides is_honest tables id clerk ask decided finds told none =
-    unknown_decides is_honest tables (command_of id clerk ask) decided told none (λ honest. unknown_answers tables id clerk ask decided.reply decided.changes.items (finds honest) told none)
+absent_decides is_honest tables id clerk ask decided finds whole told none =
+    unknown_decides is_honest tables (command_of id clerk ask) decided told (unknown_named id clerk ask) none (λ honest damaged. whole honest (names_row tables id clerk ask damaged)) (λ honest. unknown_answers tables id clerk ask decided.reply decided.changes.items (finds honest) told none)
 
 -- where a row that is read is no record
 pub meets : (tables : Content) (id : ℕ) (clerk : List ℕ) (ask : Ask) → HasDamage tables id → MeetsDamage tables (command_of id clerk ask)

@@ -4,7 +4,7 @@ use Rattle.office_tables_shelf.specs.Content.{Content}
 use Rattle.office_desk.specs.declared.command.Command.{Command}
 use Rattle.office_desk.specs.declared.reply.Reply.{Reply}
 use Rattle.office_desk.specs.Office.{Office, side_at}
-use Rattle.office_desk.specs.Step.{Step, Run}
+use Rattle.office_desk.specs.Step.{AreSound, Step, Run}
 use Rattle.office_desk.specs.Timing.{running}
 use Rattle.office_desk.specs.RegisterRuns.{RegisterRuns}
 use Rattle.office_desk.specs.Repeats.{Repeats}
@@ -20,12 +20,13 @@ pub record Answers (office : Office) (command : Command) (reply : Reply) (tables
 abbrev pub AnswersAny : Content → Command → Reply → Content → Type 0
 AnswersAny old command reply new = (office : Office) → StandForSound old office → Answers office command reply new
 
--- From an office, the replies are those of a run, the tables stand for a sound office after it, and each committed set is the draft
+-- From an office, the replies are those of a run, each office of which is sound, the tables stand for the last, and each committed set is the draft
 -- as it stood just before its last accepted commit, or what it was at the start (empty where there was no intersection); and orders
 -- and stock are what the accepted commands of the register made of them. An import that was accepted and is sent again adds nothing.
 pub record RunsTo (office : Office) (commands : List Command) (replies : List Reply) (tables : Content) : Type 0 where
   pub last : Office
   pub run : Run office commands replies last
+  pub sound : AreSound office commands replies last run
   pub stand : StandForSound tables last
   pub running : (id : ℕ) → (side_at last id).committed ≡ running id (side_at office id).committed office commands replies last run
   pub register : RegisterRuns office commands replies last run

@@ -10,9 +10,41 @@ use Rattle.office_tables_shelf.specs.Damage.{HasDamagedIntersection, HasAnyDamag
 use Rattle.office_tables_shelf.specs.CabinetReads.{HasAnyDamagedInspection, HasDamagedInspection, HasDamagedOrder, HasDamagedUsed, HasDamagedPart}
 use Rattle.cabinet_core.specs.declared.command.RecordCommand.{RecordCommand}
 use Rattle.office_desk_cabinet.specs.RegisterDamage.{MeetsRecordDamage}
+use Rattle.office_desk.specs.Recording.{HasDamagedAbout}
 use Rattle.office_desk.specs.Step.{cabinet_of}
 use Rattle.office_desk.specs.declared.command.Command.{Command}
 use Rattle.office_desk.specs.declared.command.Command.TheVariants as command
+use Rattle.office_desk.specs.declared.refusal.Refusal.TheVariants as refusal
+use Rattle.office_desk.specs.declared.reply.Reply.{Reply}
+use Rattle.office_desk.specs.declared.reply.Reply.TheVariants.{Refused}
+
+-- the intersection that a command names
+abbrev pub intersection_of : Command → Option ℕ
+intersection_of (command.AddIntersection id interval name) = Some id
+intersection_of (command.Begin id clerk) = Some id
+intersection_of (command.Edit id clerk changes) = Some id
+intersection_of (command.Verify id clerk) = Some id
+intersection_of (command.Check id clerk) = Some id
+intersection_of (command.Commit id clerk) = Some id
+intersection_of (command.Reopen id clerk) = Some id
+intersection_of (command.Abandon id clerk) = Some id
+intersection_of (command.State id) = Some id
+intersection_of (command.Timing id) = Some id
+intersection_of (command.Draft id) = Some id
+intersection_of (command.Record c) = cabinet_of c
+intersection_of (command.Import records) = None
+intersection_of (command.Cabinet id) = Some id
+intersection_of (command.OpenOrders id) = Some id
+intersection_of command.Stock = None
+intersection_of (command.Overdue day) = None
+
+-- its row is no record
+abbrev pub NamesDamaged : Content → Command → Type 0
+NamesDamaged tables command = HasDamagedAbout tables (intersection_of command)
+
+-- the reply to a command that meets such a row: it says so, unless memory or the shelf refused before
+abbrev pub IsTurnedAway : Reply → Type 0
+IsTurnedAway reply = (reply ≡ Refused refusal.Damaged) ⊎ (reply ≡ Refused refusal.Unavailable)
 
 -- a row of the intersection, of its committed set or of its draft is no record
 abbrev pub HasDamage : Content → ℕ → Type 0

@@ -8,12 +8,13 @@ pub mod RegisterRuns
 pub mod Repeats
 pub mod Answers
 pub mod Changes
+pub mod Recording
 pub mod Damage
+pub mod Named
 pub mod Deciding
 pub mod Adding
 pub mod Reading
 pub mod Moving
 pub mod Transacting
 pub mod Decisions
-pub mod Recording
 pub mod Importing

@@ -46,6 +46,11 @@ pub record WritesMove (id : ℕ) (clerk : List ℕ) (found : Found) (move : Move
   pub rows : changes ≡ PutIntersection id (moved_row found clerk move) ∷ row_changes_of id move.changes.items
   pub within : AreDraftedWithin move.changes.items
 
+-- only a move wants memory, unless the decision itself found none
+abbrev pub WantsMemory : Result Move DraftRefusal → Type 0
+WantsMemory (Ok move) = Unit {0}
+WantsMemory (Err refusal) = refusal ≡ NoMemory
+
 -- a decision of the transaction as reply and rows: a refusal writes none
 abbrev pub WritesDecision : ℕ → List ℕ → Found → Result Move DraftRefusal → Reply → List RowChange → Type 0
 WritesDecision id clerk found (Ok move) reply changes = WritesMove id clerk found move reply changes

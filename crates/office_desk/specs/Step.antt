@@ -24,7 +24,7 @@ use Rattle.office_desk.specs.declared.reply.Reply.TheVariants.{Added, Same, Move
 use Rattle.office_desk.specs.declared.reply.IntersectionState.{IntersectionState}
 use Rattle.office_desk.specs.declared.refusal.Refusal.{Refusal}
 use Rattle.office_desk.specs.declared.refusal.Refusal.TheVariants as refusal
-use Rattle.office_desk.specs.Office.{Office, Intersection, no_timing}
+use Rattle.office_desk.specs.Office.{Office, Intersection, IsSound, no_timing}
 use Rattle.office_desk.specs.Refusal.{line_of}
 
 -- the office with an intersection more, or with another in its place
@@ -210,3 +210,10 @@ Run office [] [] last = last ≡ office
 Run office (command ∷ commands) (reply ∷ replies) last = (mid : Office) × Step office command reply mid × Run mid commands replies last
 Run office [] (reply ∷ replies) last = ⊥
 Run office (command ∷ commands) [] last = ⊥
+
+-- every office of a run is sound, the first, those between and the last
+abbrev pub AreSound : (first : Office) (commands : List Command) (replies : List Reply) (last : Office) → Run first commands replies last → Type 0
+AreSound first [] [] last run = IsSound first
+AreSound first (command ∷ commands) (reply ∷ replies) last run = IsSound first × AreSound run.0 commands replies last run.2
+AreSound first [] (reply ∷ replies) last run = Unit {0}
+AreSound first (command ∷ commands) [] last run = Unit {0}

@@ -6,6 +6,7 @@ ghost use Rattle.office_desk.specs.Deciding.{Decides};
 
 use crate::command::Command;
 use crate::decided::Decided;
+use crate::reading::intersection_row;
 use crate::refusal::Refusal;
 use crate::reply::Reply;
 use draft_core::revision::Revision;
@@ -57,7 +58,7 @@ pub(crate) fn decide_add<S: Shelf>(
     ensures decides { Decides (S.is_honest shelf.new) (S.content shelf.old) (Command.AddIntersection id interval name.now) result }
     ensures kept { IsKept S.is_honest S.content S.written S.may_leave shelf.old shelf.new }
 {
-    let row = shelf.intersection(alloc, id)?;
+    let row = intersection_row(shelf, alloc, id)?;
     let decided = added(alloc, id, interval, name, &row)?;
     Ok(decided)
 }

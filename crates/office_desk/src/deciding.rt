@@ -7,7 +7,8 @@ ghost use Rattle.office_desk.specs.Answers.{AnswersAny};
 ghost use Rattle.office_desk.specs.Deciding.{Decides};
 ghost use Rattle.office_desk.specs.Changes.{IsRefused, IsQuery, most_writes};
 ghost use Rattle.office_tables_shelf.specs.Counts.{writes_in};
-ghost use Rattle.office_desk.specs.Damage.{MeetsDamage};
+ghost use Rattle.office_desk.specs.Damage.{IsTurnedAway, MeetsDamage, NamesDamaged};
+ghost use Rattle.office_desk.specs.Named.{IsNamedFor};
 ghost use Rattle.office_desk.specs.Decisions.{refusal_of};
 
 use crate::adding::decide_add;
@@ -72,9 +73,11 @@ fn try_decide<S: Shelf>(
 pub(crate) fn decide_on<S: Shelf>(shelf: &mut S, alloc: Global, command: &Command) -> Decided
     ensures step { S.is_honest shelf.new → AnswersAny (S.content shelf.old) command.now result.reply (changed_by (S.content shelf.old) result.changes.items) }
     ensures writes { S.is_honest shelf.new → (table : Table) → writes_in table result.changes.items ≤ most_writes (S.content shelf.old) command.now table }
+    ensures named { IsNamedFor command.now result.reply }
     ensures refused { IsRefused result.reply → result.changes.items ≡ [] }
     ensures query { IsQuery command.now → result.changes.items ≡ [] }
     ensures damaged { result.reply ≡ Reply.Refused Refusal.Damaged → S.is_honest shelf.new → MeetsDamage (S.content shelf.old) command.now }
+    ensures turned_away { S.is_honest shelf.new → NamesDamaged (S.content shelf.old) command.now → IsTurnedAway result.reply }
     ensures kept { IsKept S.is_honest S.content S.written S.may_leave shelf.old shelf.new }
 {
     match try_decide(shelf, alloc, command) {

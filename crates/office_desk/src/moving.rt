@@ -1,7 +1,7 @@
 //! What a step of the transaction is answered, and the rows that it writes.
 ghost use Rattle.std.specs.Prelude.{◌≡◌, ◌≢◌, [], ◌∷◌, IfOk, OnErr};
 ghost use Rattle.office_desk.specs.Changes.{IsRefused};
-ghost use Rattle.office_desk.specs.Moving.{AreDraftedWithin, IsDraftedWithin, WritesDecision, WritesMove, row_change_of, row_changes_of};
+ghost use Rattle.office_desk.specs.Moving.{AreDraftedWithin, IsDraftedWithin, WantsMemory, WritesDecision, WritesMove, row_change_of, row_changes_of};
 ghost use Rattle.office_desk.specs.Step.{refusal_of_draft};
 
 use crate::decided::Decided;
@@ -116,6 +116,7 @@ pub(crate) fn answer(
 ) -> Result<Decided, ShelfFault>
     ensures writes { IfOk result (λ decided. WritesDecision id clerk.now found decision decided.reply decided.changes.items) }
     ensures fault { OnErr result (result ≡ Err ShelfFault.NoMemory) }
+    ensures wants { OnErr result (WantsMemory decision) }
 {
     match decision {
         Ok(step) => match moved(alloc, id, clerk, found, step) {

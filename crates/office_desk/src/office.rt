@@ -9,7 +9,8 @@ ghost use Rattle.office_tables_shelf.specs.declared.rows.Table.{Table};
 ghost use Rattle.office_desk.specs.Answers.{AnswersAny, RunsAny, IsAfterStep};
 ghost use Rattle.office_desk.specs.Changes.{IsRefused, IsQuery, RiseAtMost, most_writes};
 ghost use Rattle.office_tables_shelf.specs.Counts.{writes_in};
-ghost use Rattle.office_desk.specs.Damage.{MeetsDamage};
+ghost use Rattle.office_desk.specs.Damage.{IsTurnedAway, MeetsDamage, NamesDamaged};
+ghost use Rattle.office_desk.specs.Named.{AreNamedFor, IsNamedFor};
 ghost use Rattle.office_desk.specs.Office.{Office as OfficeState};
 ghost use Rattle.office_desk.specs.StandFor.{StandForSound};
 ghost use Rattle.office_desk.specs.Step.{overdue_on};
@@ -60,9 +61,13 @@ impl<S: Shelf> Office<S> {
         ensures step { S.is_honest self.new → AnswersAny (S.content self.old) command.now result.reply (changed_by (S.content self.old) result.changes.items) }
         ensures kept { IsKept S.is_honest S.content S.written S.may_leave self.old self.new }
         ensures writes { S.is_honest self.new → (table : Table) → writes_in table result.changes.items ≤ most_writes (S.content self.old) command.now table }
+        // A refusal is one of the command's table, or Unavailable, or Damaged, whatever the tables hold.
+        ensures named { IsNamedFor command.now result.reply }
         ensures refused { IsRefused result.reply → result.changes.items ≡ [] }
         ensures query { IsQuery command.now → result.changes.items ≡ [] }
         ensures damaged { result.reply ≡ Reply.Refused Refusal.Damaged → S.is_honest self.new → MeetsDamage (S.content self.old) command.now }
+        // Where the row of the intersection that it names is no record, it is answered Damaged or Unavailable.
+        ensures turned_away { S.is_honest self.new → NamesDamaged (S.content self.old) command.now → IsTurnedAway result.reply }
     {
         decide_on(&mut self.shelf, alloc, command)
     }
@@ -89,11 +94,13 @@ impl<S: Shelf> Office<S> {
     pub fn run(&mut self, alloc: Global, command: &Command) -> Reply
         ensures step { S.is_honest self.new → AnswersAny (S.content self.old) command.now result (S.content self.new) }
         ensures honest { S.is_honest self.new → S.is_honest self.old }
+        ensures named { IsNamedFor command.now result }
         ensures refused { IsRefused result → S.is_honest self.new → S.content self.new ≡ S.content self.old }
         // The rows that it writes are at most those of its kind of command.
         ensures writes { S.is_honest self.new → RiseAtMost (S.content self.old) command.now (S.written self.old) (S.written self.new) }
         ensures unwritten { IsRefused result → S.written self.new ≡ S.written self.old }
         ensures damaged { result ≡ Reply.Refused Refusal.Damaged → S.is_honest self.new → MeetsDamage (S.content self.old) command.now }
+        ensures turned_away { S.is_honest self.new → NamesDamaged (S.content self.old) command.now → IsTurnedAway result }
         // A crash leaves what it could before the call, or the tables after the command's step, also where a failure
         // has shut the database.
         ensures crash { (tables : Content) → S.may_leave self.new tables →
@@ -110,6 +117,7 @@ impl<S: Shelf> Office<S> {
     /// Runs commands in turn. Room for the replies is taken first: refused, nothing is run.
     pub fn run_all(&mut self, alloc: Global, commands: &[Command]) -> Result<Vec<Reply>, NoMemory>
         ensures run { IfOk result (λ replies. S.is_honest self.new → RunsAny (S.content self.old) commands.now replies.items (S.content self.new)) }
+        ensures named { IfOk result (λ replies. AreNamedFor commands.now replies.items) }
         ensures honest { S.is_honest self.new → S.is_honest self.old }
         ensures err { OnErr result (self.new ≡ self.old) }
     {

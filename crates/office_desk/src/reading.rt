@@ -1,8 +1,9 @@
 //! What is read of an intersection.
 ghost use Rattle.std.specs.Prelude.{◌≡◌, IfOk, OnErr, IfSome, map};
 ghost use Rattle.signal_records.specs.TimingSet.{after_changes};
-ghost use Rattle.office_tables_shelf.specs.Damage.{HasDamagedTiming};
-ghost use Rattle.office_tables_shelf.specs.Shelf.{IsKept, ListsDraft};
+ghost use Rattle.office_tables_shelf.specs.Damage.{HasDamagedIntersection, HasDamagedTiming};
+ghost use Rattle.office_tables_shelf.specs.Rows.{IsIntersectionRow};
+ghost use Rattle.office_tables_shelf.specs.Shelf.{IsKept, ListsDraft, ReadsIntersection};
 ghost use Rattle.office_desk.specs.Damage.{HasDamage};
 ghost use Rattle.office_desk.specs.Office.{Office, side_at};
 ghost use Rattle.office_desk.specs.Reading.{AreWithin, AreChangesWithin, IsMadeOf, FindsAny, set_of_rows};
@@ -112,6 +113,35 @@ fn made_of(
     })
 }
 
+/// The row of an intersection is within its limits, as its type says.
+fn intersection_is_within(row: &IntersectionRow)
+    ensures { IsIntersectionRow row.now }
+{
+    let _name = row.name.as_str();
+    let _numbers = (row.interval.get(), row.revision.get());
+    if let Some(holder) = &row.holder {
+        let _owner = holder.owner.as_str();
+    }
+}
+
+/// The row of an intersection, if there is one. A row that is no record is neither.
+pub(crate) fn intersection_row<S: Shelf>(
+    shelf: &mut S,
+    alloc: Global,
+    id: InterId,
+) -> Result<Option<IntersectionRow>, ShelfFault>
+    ensures row { IfOk result (λ row. S.is_honest shelf.new → ReadsIntersection (S.content shelf.old) id row) }
+    ensures whole { IfOk result (λ _. S.is_honest shelf.new → ¬ HasDamagedIntersection (S.content shelf.old) id) }
+    ensures damaged { result ≡ Err ShelfFault.Damaged → S.is_honest shelf.new → HasDamagedIntersection (S.content shelf.old) id }
+    ensures kept { IsKept S.is_honest S.content S.written S.may_leave shelf.old shelf.new }
+{
+    let Some(row) = shelf.intersection(alloc, id)? else {
+        return Ok(None);
+    };
+    intersection_is_within(&row);
+    Ok(Some(row))
+}
+
 /// Reads an intersection, its committed set and its draft rows.
 pub(crate) fn find<S: Shelf>(
     shelf: &mut S,
@@ -120,10 +150,11 @@ pub(crate) fn find<S: Shelf>(
 ) -> Result<Option<Found>, ShelfFault>
     ensures found { IfOk result (λ found. S.is_honest shelf.new → FindsAny (S.content shelf.old) id found) }
     ensures listed { IfOk result (λ found. S.is_honest shelf.new → IfSome found (λ found. ListsDraft (S.content shelf.old) id found.timing.delta)) }
+    ensures whole { IfOk result (λ _. S.is_honest shelf.new → ¬ HasDamagedIntersection (S.content shelf.old) id) }
     ensures damaged { result ≡ Err ShelfFault.Damaged → S.is_honest shelf.new → HasDamage (S.content shelf.old) id }
     ensures kept { IsKept S.is_honest S.content S.written S.may_leave shelf.old shelf.new }
 {
-    let Some(row) = shelf.intersection(alloc, id)? else {
+    let Some(row) = intersection_row(shelf, alloc, id)? else {
         return Ok(None);
     };
     let rows = shelf.timing_rows(alloc, id)?;

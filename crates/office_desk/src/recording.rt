@@ -1,5 +1,5 @@
 //! The commands of the register.
-ghost use Rattle.std.specs.Prelude.{◌≡◌, IfOk, Err};
+ghost use Rattle.std.specs.Prelude.{◌≡◌, false, IfOk, IsSome, Ok, Err};
 ghost use Rattle.office_tables_shelf.specs.Shelf.{IsKept};
 ghost use Rattle.office_desk_cabinet.specs.Registers.{line_told, rows_told};
 ghost use Rattle.office_desk.specs.Deciding.{Decides};
@@ -8,6 +8,7 @@ ghost use Rattle.office_desk.specs.Step.{cabinet_of as about_of, refusal_of_reco
 
 use crate::command::Command;
 use crate::decided::Decided;
+use crate::reading::intersection_row;
 use crate::refusal::Refusal;
 use crate::reply::Reply;
 use cabinet_core::{CabinetRefusal, RecordCommand};
@@ -36,13 +37,15 @@ pub(crate) fn is_known<S: Shelf>(
     about: Option<InterId>,
 ) -> Result<bool, ShelfFault>
     ensures known { IfOk result (λ known. S.is_honest shelf.new → IsKnownIn (S.content shelf.old) about known) }
+    ensures asked { result ≡ Ok false → IsSome about }
+    ensures whole { IfOk result (λ _. S.is_honest shelf.new → ¬ HasDamagedAbout (S.content shelf.old) about) }
     ensures damaged { result ≡ Err ShelfFault.Damaged → S.is_honest shelf.new → HasDamagedAbout (S.content shelf.old) about }
     ensures kept { IsKept S.is_honest S.content S.written S.may_leave shelf.old shelf.new }
 {
     let Some(id) = about else {
         return Ok(true);
     };
-    let row = shelf.intersection(alloc, id)?;
+    let row = intersection_row(shelf, alloc, id)?;
     Ok(row.is_some())
 }
 

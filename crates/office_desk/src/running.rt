@@ -3,7 +3,8 @@ ghost use Rattle.std.specs.Prelude.{◌≡◌, ◌≢◌, ◌⊎◌, ◌<◌, �
 ghost use Rattle.office_tables_shelf.specs.Content.{Content};
 ghost use Rattle.office_desk.specs.Answers.{AnswersAny, RunsAny, IsAfterStep};
 ghost use Rattle.office_desk.specs.Changes.{IsRefused, RiseAtMost};
-ghost use Rattle.office_desk.specs.Damage.{MeetsDamage};
+ghost use Rattle.office_desk.specs.Damage.{IsTurnedAway, MeetsDamage, NamesDamaged};
+ghost use Rattle.office_desk.specs.Named.{AreNamedFor, IsNamedFor};
 
 use crate::command::Command;
 use crate::deciding::decide_on;
@@ -17,10 +18,12 @@ use std::alloc::Global;
 pub(crate) fn run_on<S: Shelf>(shelf: &mut S, alloc: Global, command: &Command) -> Reply
     ensures step { S.is_honest shelf.new → AnswersAny (S.content shelf.old) command.now result (S.content shelf.new) }
     ensures honest { S.is_honest shelf.new → S.is_honest shelf.old }
+    ensures named { IsNamedFor command.now result }
     ensures refused { IsRefused result → S.is_honest shelf.new → S.content shelf.new ≡ S.content shelf.old }
     ensures writes { S.is_honest shelf.new → RiseAtMost (S.content shelf.old) command.now (S.written shelf.old) (S.written shelf.new) }
     ensures unwritten { IsRefused result → S.written shelf.new ≡ S.written shelf.old }
     ensures damaged { result ≡ Reply.Refused Refusal.Damaged → S.is_honest shelf.new → MeetsDamage (S.content shelf.old) command.now }
+    ensures turned_away { S.is_honest shelf.new → NamesDamaged (S.content shelf.old) command.now → IsTurnedAway result }
     // A crash leaves what it could before the call, or the tables after the command's step.
     ensures crash { (tables : Content) → S.may_leave shelf.new tables →
         S.may_leave shelf.old tables ⊎ (S.is_honest shelf.old × IsAfterStep (S.content shelf.old) command.now tables) }
@@ -58,6 +61,7 @@ pub(crate) fn run_all_on<S: Shelf>(
     commands: &[Command],
 ) -> Result<Vec<Reply>, NoMemory>
     ensures run { IfOk result (λ replies. S.is_honest shelf.new → RunsAny (S.content shelf.old) commands.now replies.items (S.content shelf.new)) }
+    ensures named { IfOk result (λ replies. AreNamedFor commands.now replies.items) }
     ensures honest { S.is_honest shelf.new → S.is_honest shelf.old }
     ensures err { OnErr result (shelf.new ≡ shelf.old) }
 {

@@ -1,5 +1,5 @@
 //! The queries State, Timing and Draft.
-ghost use Rattle.std.specs.Prelude.{◌≡◌, ◌≢◌, ℕ, length, map, Some, IfOk};
+ghost use Rattle.std.specs.Prelude.{◌≡◌, ◌≢◌, ◌∷◌, [], ℕ, length, map, Some, IfOk};
 ghost use Rattle.std.specs.FinMap.{get, empty};
 ghost use Rattle.signal_records.specs.TimingSet.{after_changes};
 ghost use Rattle.draft_core.specs.Transaction.{state_of_holder};
@@ -7,10 +7,11 @@ ghost use Rattle.office_tables_shelf.specs.Shelf.{IsKept};
 ghost use Rattle.office_desk.specs.Deciding.{Decides};
 ghost use Rattle.office_desk.specs.Damage.{HasDamage, IsDone};
 ghost use Rattle.office_desk.specs.Decisions.{row_shown, IsVerdictOf, ShowsDraft};
+ghost use Rattle.office_desk.specs.Named.{RefusesBy};
 
 use crate::command::Command;
 use crate::decided::Decided;
-use crate::reading::{Found, find, rows_are_within, set_of};
+use crate::reading::{Found, find, intersection_row, rows_are_within, set_of};
 use crate::refusal::Refusal;
 use crate::reply::{IntersectionState, OpenDraft, Reply, RunningTiming, Violations};
 use draft_core::state::{DbState, Holder, Stage, Verdict};
@@ -87,7 +88,7 @@ pub(crate) fn decide_state<S: Shelf>(
     ensures decides { Decides (S.is_honest shelf.new) (S.content shelf.old) (Command.State id) result }
     ensures kept { IsKept S.is_honest S.content S.written S.may_leave shelf.old shelf.new }
 {
-    let Some(row) = shelf.intersection(alloc, id)? else {
+    let Some(row) = intersection_row(shelf, alloc, id)? else {
         return Ok(Decided::refused(alloc, Refusal::UnknownIntersection));
     };
     let rows = shelf.committed_count(alloc, id)?;
@@ -104,7 +105,7 @@ pub(crate) fn decide_timing<S: Shelf>(
     ensures decides { Decides (S.is_honest shelf.new) (S.content shelf.old) (Command.Timing id) result }
     ensures kept { IsKept S.is_honest S.content S.written S.may_leave shelf.old shelf.new }
 {
-    let Some(row) = shelf.intersection(alloc, id)? else {
+    let Some(row) = intersection_row(shelf, alloc, id)? else {
         return Ok(Decided::refused(alloc, Refusal::UnknownIntersection));
     };
     let listed = shelf.timing_rows(alloc, id)?;
@@ -121,6 +122,7 @@ pub(crate) fn decide_timing<S: Shelf>(
 /// What Draft shows of an intersection that was found.
 fn draft_of(alloc: Global, found: Found) -> Result<Reply, NoMemory>
     ensures shows { IfOk result (λ reply. ShowsDraft found reply) }
+    ensures named { IfOk result (λ reply. RefusesBy (13 ∷ []) reply) }
     ensures undamaged { IfOk result (λ reply. reply ≢ Reply.Refused Refusal.Damaged) }
 {
     let Timing {

@@ -1,9 +1,9 @@
 //! The commands of the transaction.
 ghost use Rattle.std.specs.Prelude.{length, IfOk};
-ghost use Rattle.draft_core.specs.Moves.{FollowsSoundLine};
+ghost use Rattle.draft_core.specs.Moves.{FollowsSoundLine, RefusesFirst};
 ghost use Rattle.office_tables_shelf.specs.Shelf.{IsKept};
 ghost use Rattle.office_desk.specs.Deciding.{Decides};
-ghost use Rattle.office_desk.specs.Transacting.{IsAskWithin, IsBounded, command_of, line_of};
+ghost use Rattle.office_desk.specs.Transacting.{IsAskWithin, IsBounded, IsLater, command_of, first_refusal, line_of};
 
 use crate::decided::Decided;
 use crate::moving::answer;
@@ -46,6 +46,7 @@ fn decision(
     ask: Ask,
 ) -> Result<Move, DraftRefusal>
     ensures line { FollowsSoundLine timing.now clerk.now result (λ side. line_of ask.entry clerk.now side) }
+    ensures refuses { RefusesFirst (first_refusal ask.entry timing.now.holder clerk.now) (IsLater ask.entry) result }
     ensures bounds { IfOk result (λ move. IsBounded ask.entry (length timing.now.delta) move.changes.items) }
 {
     match ask {

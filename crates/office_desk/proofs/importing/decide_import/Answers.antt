@@ -2,9 +2,7 @@ use Rattle.std.proofs.Common.{◌≡◌, ◌+◌, ◌≤◌, ◌<◌, ◌∙◌,
 use Rattle.std.specs.Prelude.{◌⊎◌}
 use Rattle.std.proofs.lemmas.List.{drop_all}
 use Rattle.cabinet_core.specs.declared.command.RecordCommand.{RecordCommand}
-use Rattle.office_tables_shelf.specs.Counts.{writes_in}
 use Rattle.office_tables_shelf.specs.declared.shelf.ShelfFault.{ShelfFault}
-use Rattle.office_desk.specs.Changes.{most_import_writes}
 use Rattle.office_desk.specs.Damage.{MeetsCabinetDamage}
 use Rattle.office_desk.specs.Step.{cabinet_of}
 use Rattle.office_desk.specs.Importing.{ImportsAny, LeavesAnyTiming, TakesRecord}

@@ -7,7 +7,7 @@ use Rattle.office_desk.proofs.overdue.decide_overdue.Goals as goal
 
 pub returns-clause-decides : goal.returns-clause-decides
 returns-clause-decides g c =
-    told_decides _ _ _ _ _ c.unchanged.ensures.reply (λ e. cc) c.unchanged.ensures.no_changes (λ honest office stands.
+    told_decides _ _ _ _ _ c.unchanged.ensures.reply (λ e. cc) (λ why e. absurd cc) c.unchanged.ensures.no_changes (λ honest damaged. damaged) (λ honest office stands.
     overdue_answers (g.S.Shelf.content c.args.shelf.now) office c.args.day c.in_ok-late.late.items _ _ stands
     (c.in_ok-late.ensures.rows honest)
     (c.unchanged.ensures.reply ∙ ap (λ (list : List Listed). Overdue list) c.new-found.ensures) c.unchanged.ensures.no_changes)

@@ -12,12 +12,18 @@ returns-clause-found g c = λ honest office stands.
     let content = g.S.Shelf.content in
     let second = c.draft_rows.ensures.kept.honest_before honest in
     let first = c.timing_rows.ensures.kept.honest_before second in
-    let same_first = c.intersection.ensures.kept.same_content first in
+    let same_first = c.intersection_row.ensures.kept.same_content first in
     let same_second = c.timing_rows.ensures.kept.same_content second ∙ same_first in
     let list = c.as_slice-list.result.now in
-    let lists = subst (λ rows. ListsTiming (content c.intersection.new.self) c.args.id rows) (sym c.as_slice-list.ensures.value) (c.in_ok-rows.ensures.rows second) in
+    let lists = subst (λ rows. ListsTiming (content c.intersection_row.new.shelf) c.args.id rows) (sym c.as_slice-list.ensures.value) (c.in_ok-rows.ensures.rows second) in
     finds_some (content c.args.shelf.now) office c.args.id c.in-Some.row list c.in_ok-changes.changes.items c.in_ok-found.found stands
     (subst (ReadsIntersection (content c.args.shelf.now) c.args.id) c.in-Some.is (c.in_ok-row.ensures.row first))
     (subst (λ tables. ListsTiming tables c.args.id list) same_first lists)
     (subst (λ tables. ListsDraft tables c.args.id c.in_ok-changes.changes.items) same_second (c.in_ok-changes.ensures.rows honest))
     c.in_ok-found.ensures
+
+pub returns-in_default-clause-whole : goal.returns-in_default-clause-whole
+returns-in_default-clause-whole g c = c.in_ok-row.ensures.whole
+
+pub returns-clause-whole : goal.returns-clause-whole
+returns-clause-whole g c = λ honest. c.in_ok-row.ensures.whole (c.timing_rows.ensures.kept.honest_before (c.draft_rows.ensures.kept.honest_before honest))

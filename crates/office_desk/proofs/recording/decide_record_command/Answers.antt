@@ -1,19 +1,24 @@
-use Rattle.std.proofs.Common.{◌≡◌, ◌∙◌, true, false, ap, arith, subst, Err}
+use Rattle.std.proofs.Common.{◌≡◌, ◌∙◌, ℕ, Bool, true, false, Option, Ok, ap, arith, subst, Err}
 use Rattle.office_tables_shelf.specs.declared.shelf.ShelfFault.{ShelfFault}
+use Rattle.std.specs.Prelude.{IsSome}
 use Rattle.office_tables_shelf.specs.Change.{changed_by}
 use Rattle.office_desk_cabinet.specs.Register.{Register}
 use Rattle.office_desk_cabinet.specs.RegisterDamage.{MeetsRecordDamage}
 use Rattle.office_desk_cabinet.specs.RegisterStands.{RegisterStandsSound}
 use Rattle.office_desk_cabinet.specs.Registers.{Registers, RegistersFrom}
+use Rattle.office_desk.specs.Recording.{HasDamagedAbout}
+use Rattle.office_desk.specs.Step.{cabinet_of}
 use Rattle.office_desk.proofs.Decisions.{fault_decides, unknown_decides}
-use Rattle.office_desk.proofs.Recorded.{about_known, meets_record, record_answers, record_decides, record_unknown}
+use Rattle.office_desk.proofs.Recorded.{about_known, meets_record, record_answers, record_decides, record_unknown, unknown_named}
 use Rattle.office_desk.proofs.recording.decide_record_command.Goals as goal
 
 pub returns-then-not-branch-clause-decides : goal.returns-then-not-branch-clause-decides
 returns-then-not-branch-clause-decides g c =
     let test = c.if-not-branch.true in
     let gone : c.in_ok-is_known.field-0 ≡ false = first_of (cc, grind arith) in
-    unknown_decides _ _ _ _ c.refused.ensures.reply c.refused.ensures.no_changes (λ honest office stands.
+    unknown_decides _ _ _ _ c.refused.ensures.reply
+    (unknown_named (cabinet_of c.args.command.now) _ (subst (λ (about : Option ℕ). IsSome about) c.cabinet_of.ensures (c.is_known.ensures.asked (c.in_ok-is_known.was ∙ ap (λ (b : Bool). Ok b) gone)))) c.refused.ensures.no_changes
+    (λ honest. subst (λ about. ¬ HasDamagedAbout (g.S.Shelf.content c.args.shelf.now) about) c.cabinet_of.ensures (c.in_ok-is_known.ensures.whole honest)) (λ honest office stands.
     record_unknown _ office c.args.command.now _ _ stands
     (about_known _ _ _ _ _ c.cabinet_of.ensures gone (c.in_ok-is_known.ensures.known honest))
     c.refused.ensures.reply c.refused.ensures.no_changes)
@@ -30,7 +35,9 @@ returns-clause-decides g c =
     (about_known _ _ _ _ _ c.cabinet_of.ensures there (c.in_ok-is_known.ensures.known first))
     (subst (λ t. (r : Register) → RegisterStandsSound t r → RegistersFrom t c.args.command.now done r) (ap (changed_by (g.S.Shelf.content c.is_known.new.shelf)) c.new-pending.ensures ∙ same) (c.in_ok-told.ensures.step honest))
     (c.in_ok-told.ensures.leaves (g.S.Shelf.content c.args.shelf.now))
-    c.answer.ensures.reply c.answer.ensures.changes) c.in_ok-told.ensures.writes c.answer.ensures.reply c.answer.ensures.changes
+    c.answer.ensures.reply c.answer.ensures.changes) c.in_ok-told.ensures.writes c.in_ok-told.ensures.named
+    (λ honest. subst (λ about. ¬ HasDamagedAbout (g.S.Shelf.content c.args.shelf.now) about) c.cabinet_of.ensures (c.in_ok-is_known.ensures.whole (c.decide_record.ensures.kept.honest_before honest)))
+    c.answer.ensures.reply c.answer.ensures.changes
 
 pub returns-in_err-told-clause-decides : goal.returns-in_err-told-clause-decides
 returns-in_err-told-clause-decides g c =

@@ -1,4 +1,5 @@
 use Rattle.std.proofs.Common.{◌≡◌, ◌∙◌, subst, sym}
+use Rattle.office_desk.specs.Recording.{HasDamagedAbout}
 use Rattle.office_desk.specs.Step.{is_known}
 use Rattle.office_desk.proofs.Recorded.{known_read}
 use Rattle.office_desk.proofs.recording.is_known.Goals as goal
@@ -7,3 +8,9 @@ pub returns-clause-known : goal.returns-clause-known
 returns-clause-known g c = λ honest office stands.
     subst (λ about. c.is_some.result ≡ is_known office about) (sym c.in-Some.is)
     (c.is_some.ensures ∙ known_read _ c.in-Some.id c.in_ok-row.row (c.in_ok-row.ensures.row honest) office stands)
+
+pub returns-in_default-clause-whole : goal.returns-in_default-clause-whole
+returns-in_default-clause-whole g c = λ honest. subst (λ about. ¬ HasDamagedAbout (g.S.Shelf.content c.args.shelf.now) about) (sym c.in_default.is) (λ never. never)
+
+pub returns-clause-whole : goal.returns-clause-whole
+returns-clause-whole g c = λ honest. subst (λ about. ¬ HasDamagedAbout (g.S.Shelf.content c.args.shelf.now) about) (sym c.in-Some.is) (c.in_ok-row.ensures.whole honest)

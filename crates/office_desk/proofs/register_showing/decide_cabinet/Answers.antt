@@ -1,4 +1,4 @@
-use Rattle.std.proofs.Common.{◌≡◌, ◌∙◌, Some, true, false, ap, arith, refl, subst, Err, inr}
+use Rattle.std.proofs.Common.{◌≡◌, ◌∙◌, Some, true, false, ap, arith, inl, refl, subst, Err, inr}
 use Rattle.std.specs.Prelude.{◌⊎◌}
 use Rattle.office_tables_shelf.specs.CabinetReads.{HasDamagedInspection, HasDamagedOrder, HasDamagedUsed}
 use Rattle.office_tables_shelf.specs.declared.shelf.ShelfFault.{ShelfFault}
@@ -15,13 +15,13 @@ pub returns-then-not-branch-clause-decides : goal.returns-then-not-branch-clause
 returns-then-not-branch-clause-decides g c =
     let test = c.if-not-branch.true in
     let gone : c.in_ok-is_known.field-0 ≡ false = first_of (cc, grind arith) in
-    unknown_decides _ _ _ _ c.refused.ensures.reply c.refused.ensures.no_changes (λ honest office stands.
+    unknown_decides _ _ _ _ c.refused.ensures.reply (inl refl) c.refused.ensures.no_changes c.in_ok-is_known.ensures.whole (λ honest office stands.
     cabinet_unknown _ office c.args.id _ _ stands
     (about_known _ (Some c.args.id) (Some c.args.id) _ _ refl gone (c.in_ok-is_known.ensures.known honest)) c.refused.ensures.reply c.refused.ensures.no_changes)
 
 pub returns-clause-decides : goal.returns-clause-decides
 returns-clause-decides g c =
-    told_decides _ _ _ _ _ c.unchanged.ensures.reply (λ e. cc) c.unchanged.ensures.no_changes (λ honest office stands.
+    told_decides _ _ _ _ _ c.unchanged.ensures.reply (λ e. cc) (λ why e. absurd cc) c.unchanged.ensures.no_changes (λ honest. c.in_ok-is_known.ensures.whole (c.cabinet_view.ensures.kept.honest_before honest)) (λ honest office stands.
     let first = c.cabinet_view.ensures.kept.honest_before honest in
     let same = c.is_known.ensures.kept.same_content first in
     let test = c.if-not-branch.false in

@@ -1,4 +1,4 @@
-use Rattle.std.proofs.Common.{◌≡◌, ◌∙◌, Some, ℕ, List, true, false, ap, arith, refl, subst}
+use Rattle.std.proofs.Common.{◌≡◌, ◌∙◌, Some, ℕ, List, true, false, ap, arith, inl, refl, subst}
 use Rattle.office_desk_cabinet.specs.Register.{Register, open_at}
 use Rattle.office_desk_cabinet.specs.RegisterStands.{RegisterStandsSound}
 use Rattle.office_desk.specs.declared.reply.Reply.TheVariants.{OpenOrders}
@@ -10,13 +10,13 @@ pub returns-then-not-known-clause-decides : goal.returns-then-not-known-clause-d
 returns-then-not-known-clause-decides g c =
     let test = c.if-not-known.true in
     let gone : c.in_ok-known.known ≡ false = first_of (cc, grind arith) in
-    unknown_decides _ _ _ _ c.refused.ensures.reply c.refused.ensures.no_changes (λ honest office stands.
+    unknown_decides _ _ _ _ c.refused.ensures.reply (inl refl) c.refused.ensures.no_changes c.in_ok-known.ensures.whole (λ honest office stands.
     orders_unknown _ office c.args.id _ _ stands
     (about_known _ (Some c.args.id) (Some c.args.id) _ _ refl gone (c.in_ok-known.ensures.known honest)) c.refused.ensures.reply c.refused.ensures.no_changes)
 
 pub returns-clause-decides : goal.returns-clause-decides
 returns-clause-decides g c =
-    told_decides _ _ _ _ _ c.unchanged.ensures.reply (λ e. cc) c.unchanged.ensures.no_changes (λ honest office stands.
+    told_decides _ _ _ _ _ c.unchanged.ensures.reply (λ e. cc) (λ why e. absurd cc) c.unchanged.ensures.no_changes (λ honest. c.in_ok-known.ensures.whole (c.open_orders.ensures.kept.honest_before honest)) (λ honest office stands.
     let first = c.open_orders.ensures.kept.honest_before honest in
     let same = c.is_known.ensures.kept.same_content first in
     let test = c.if-not-known.false in

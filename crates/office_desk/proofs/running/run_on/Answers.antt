@@ -1,7 +1,7 @@
 use Rattle.std.proofs.Common.{ap, sym, ◌∙◌, refl, length, [], inl, inr, true≢false}
 use Rattle.std.specs.Prelude.{◌==◌}
 use Rattle.office_tables_shelf.specs.Change.{changed_by}
-use Rattle.office_desk.proofs.Runs.{same_answers, unavailable_answers, no_items, applied}
+use Rattle.office_desk.proofs.Runs.{same_answers, unavailable_answers, unavailable_named, no_items, applied}
 use Rattle.office_tables_shelf.specs.Counts.{counts_after}
 use Rattle.office_desk.proofs.Writes.{rise_at_most}
 use Rattle.office_desk.proofs.running.run_on.Goals as goal
@@ -63,3 +63,18 @@ returns-in-Ok-clause-writes g c = λ honest.
     let before = c.apply.ensures.honest honest in
     rise_at_most (g.S.Shelf.content c.args.shelf.now) c.args.command.now c.decide_on-decided.result.changes.items (g.S.Shelf.written c.args.shelf.now) (g.S.Shelf.written c.apply.new.self) (c.decide_on-decided.ensures.writes before)
     (c.in-Ok.ensures.written_ok ∙ (λ k. counts_after (c.decide_on-decided.ensures.kept.same_counts k) (c.as_slice-changes.ensures.value k)))
+
+pub returns-then-is_empty-clause-named : goal.returns-then-is_empty-clause-named
+returns-then-is_empty-clause-named g c = c.decide_on-decided.ensures.named
+
+pub returns-in-Ok-clause-named : goal.returns-in-Ok-clause-named
+returns-in-Ok-clause-named g c = c.decide_on-decided.ensures.named
+
+pub returns-in-Err-clause-named : goal.returns-in-Err-clause-named
+returns-in-Err-clause-named g c = unavailable_named c.args.command.now
+
+pub returns-in-Ok-clause-turned_away : goal.returns-in-Ok-clause-turned_away
+returns-in-Ok-clause-turned_away g c = λ honest damaged. c.decide_on-decided.ensures.turned_away (c.apply.ensures.honest honest) damaged
+
+pub returns-in-Err-clause-turned_away : goal.returns-in-Err-clause-turned_away
+returns-in-Err-clause-turned_away g c = λ honest damaged. inr refl

@@ -1,4 +1,4 @@
-use Rattle.std.proofs.Common.{◌∙◌, subst, Err, ap, inr}
+use Rattle.std.proofs.Common.{◌∙◌, subst, refl, inl, Err, ap, inr}
 use Rattle.office_tables_shelf.specs.declared.shelf.ShelfFault.{ShelfFault}
 use Rattle.office_tables_shelf.specs.Shelf.{ReadsIntersection, CountsTiming}
 use Rattle.office_desk.specs.Damage.{HasDamage}
@@ -9,15 +9,15 @@ use Rattle.office_desk.proofs.showing.decide_state.Goals as goal
 
 pub returns-in_default-clause-decides : goal.returns-in_default-clause-decides
 returns-in_default-clause-decides g c =
-    unknown_decides _ _ _ _ c.refused.ensures.reply c.refused.ensures.no_changes (λ honest office stands.
+    unknown_decides _ _ _ _ c.refused.ensures.reply (inl refl) c.refused.ensures.no_changes c.in_ok-row.ensures.whole (λ honest office stands.
     unknown_state _ office _ _ _ stands (subst (ReadsIntersection (g.S.Shelf.content c.args.shelf.now) c.args.id) c.in_default.is (c.in_ok-row.ensures.row honest)) c.refused.ensures.reply c.refused.ensures.no_changes)
 
 pub returns-clause-decides : goal.returns-clause-decides
 returns-clause-decides g c =
-    told_decides _ _ _ _ _ (c.unchanged.ensures.reply ∙ c.shown.ensures) (λ e. cc) c.unchanged.ensures.no_changes (λ honest office stands.
+    told_decides _ _ _ _ _ (c.unchanged.ensures.reply ∙ c.shown.ensures) (λ e. cc) (λ why e. absurd cc) c.unchanged.ensures.no_changes (λ honest. c.in_ok-row.ensures.whole (c.committed_count.ensures.kept.honest_before (c.verdict_at.ensures.kept.honest_before honest))) (λ honest office stands.
     let read = c.verdict_at.ensures.kept.honest_before honest in
     let first = c.committed_count.ensures.kept.honest_before read in
-    let same = c.intersection.ensures.kept.same_content first in
+    let same = c.intersection_row.ensures.kept.same_content first in
     let still = c.committed_count.ensures.kept.same_content read ∙ same in
     state_answers (g.S.Shelf.content c.args.shelf.now) office c.args.id c.in-Some.row c.in_ok-rows.rows c.in_ok-verify.verify _ _ stands
     (subst (ReadsIntersection (g.S.Shelf.content c.args.shelf.now) c.args.id) c.in-Some.is (c.in_ok-row.ensures.row first))
@@ -31,7 +31,7 @@ returns-in_err-verify-clause-decides g c =
     fault_decides _ _ _ c.in_err-verify.field-0.0 _ c.from_residual-in_err-verify.ensures.1 (λ damaged honest.
     let read = c.verdict_at.ensures.kept.honest_before honest in
     let first = c.committed_count.ensures.kept.honest_before read in
-    let still = c.committed_count.ensures.kept.same_content read ∙ c.intersection.ensures.kept.same_content first in
+    let still = c.committed_count.ensures.kept.same_content read ∙ c.intersection_row.ensures.kept.same_content first in
     let met = c.verdict_at.ensures.damaged (c.in_err-verify.was ∙ ap (λ (f : ShelfFault). Err f) damaged) honest in
     inr (record {
       row = c.in-Some.row;
