@@ -137,6 +137,7 @@ PYTHON
 
 # after WHAT LOW HIGH: after such a client the next one is answered, in so many seconds.
 after() {
+  rm -f "$folder/ready"
   python3 "$folder/client.py" "$port" "$1" >"$folder/ready" &
   client=$!
   for _ in $(seq 100); do

@@ -1,0 +1,217 @@
+#!/usr/bin/env python3
+"""Runs the program on what it must not be broken by, with real files: files that are none of its own, that another process
+holds, that can't be written, a full disk, outputs that are closed, and random bytes. Each run must end by itself within
+30 seconds with its status and its line on standard error, never by a signal, and what it refused must stay byte for byte.
+
+    tests/hostile.py PROGRAM
+
+Needs Python 3.8 or later; as root it also tries a file without leave to write and a full disk. Prints a line a case, and ok."""
+import os
+import random
+import resource
+import shutil
+import signal
+import sqlite3
+import subprocess
+import sys
+import tempfile
+
+PROGRAM = os.path.abspath(sys.argv[1])
+ADD = (
+    b"POST /intersections HTTP/1.1\r\nContent-Length: 41\r\n\r\n"
+    b'{"id":12,"interval":365,"name":"Main St"}'
+)
+STATE = b"GET /intersections/12 HTTP/1.1\r\n\r\n"
+failed = []
+
+
+def run(words, stdin=b"", **how):
+    """The status, what was printed, and what was told on standard error."""
+    how.setdefault("stdout", subprocess.PIPE)
+    ran = subprocess.run([PROGRAM, *words], input=stdin, stderr=subprocess.PIPE, timeout=30, **how)
+    return ran.returncode, ran.stdout or b"", ran.stderr
+
+
+def case(name, found, wanted):
+    if found == wanted:
+        print(f"{name}: as it must be")
+    else:
+        print(f"{name}: found {found}, wanted {wanted}")
+        failed.append(name)
+
+
+def held(path):
+    if not os.path.isfile(path):
+        return None
+    with open(path, "rb") as file:
+        return file.read()
+
+
+def refused(name, path, line=b"fault: store\n", **how):
+    """The three commands on a file refuse it with the same line, and leave it as it was."""
+    before = held(path)
+    for words in (["batch", "--db", path], ["sheet", "--db", path, "12"], ["overdue", "--db", path, "2027-03-02"]):
+        status, out, err = run(words, ADD, **how)
+        case(f"{name}, {words[0]}", (status, out, err), (1, b"", line))
+    case(f"{name}, the file", held(path), before)
+
+
+def office(folder, name):
+    """A file that holds one intersection."""
+    path = os.path.join(folder, name)
+    status, _, err = run(["batch", "--db", path], ADD)
+    case(f"{name} is made", (status, err), (0, b""))
+    return path
+
+
+def other_files(folder):
+    refused("a directory", folder)
+    refused("a file in a folder that is not there", os.path.join(folder, "none", "office.db"))
+    text = os.path.join(folder, "text.db")
+    with open(text, "wb") as file:
+        file.write(b"phase,2,1,8,20,40,40,15\n" * 400)
+    refused("a text", text)
+    noise = os.path.join(folder, "noise.db")
+    with open(noise, "wb") as file:
+        file.write(random.Random(1).randbytes(8192))
+    refused("random bytes as a file", noise)
+    others = os.path.join(folder, "others.db")
+    with sqlite3.connect(others) as db:
+        db.execute("CREATE TABLE t (a)")
+        db.execute("INSERT INTO t VALUES (1)")
+    db.close()
+    refused("another's database", others)
+    empty = os.path.join(folder, "empty.db")
+    open(empty, "wb").close()
+    status, out, err = run(["batch", "--db", empty], ADD + STATE)
+    case("an empty file", (status, out.count(b"200 OK"), err), (0, 2, b""))
+
+
+def versions(folder):
+    path = office(folder, "version.db")
+    with sqlite3.connect(path) as db:
+        db.execute("UPDATE office_version SET version = 9")
+    db.close()
+    refused("another version", path, b"fault: version\n")
+    with sqlite3.connect(path) as db:
+        db.execute("DELETE FROM office_version")
+    db.close()
+    refused("rows without a version", path, b"fault: damaged\n")
+
+
+def another_process(folder):
+    """While one run of the program holds the file, another is refused. The locks of SQLite's own tools are not seen."""
+    path = office(folder, "locked.db")
+    first = subprocess.Popen([PROGRAM, "batch", "--db", path], stdin=subprocess.PIPE, stdout=subprocess.PIPE, bufsize=0)
+    first.stdin.write(STATE)
+    first.stdout.read(1)
+    refused("a file that another process holds", path)
+    out, _ = first.communicate(STATE, timeout=30)
+    case("the process that holds it", (first.returncode, out.count(b'"id":12')), (0, 2))
+
+
+def without_leave(folder):
+    path = office(folder, "kept.db")
+    os.chmod(folder, 0o755)
+    os.chmod(path, 0o444)
+    refused("a file without leave to write", path, user=65534, group=65534, extra_groups=[])
+
+
+def full_disk(folder):
+    disk = os.path.join(folder, "disk")
+    os.mkdir(disk)
+    if subprocess.run(["mount", "-t", "tmpfs", "-o", "size=400k", "none", disk], stderr=subprocess.DEVNULL).returncode:
+        print("a full disk: not tried, since nothing can be mounted here")
+        return
+    try:
+        path = os.path.join(disk, "office.db")
+        asked = b"".join(
+            b'POST /intersections HTTP/1.1\r\nContent-Length: %d\r\n\r\n%s' % (len(body), body)
+            for body in (b'{"id":%d,"interval":365,"name":"%s"}' % (n, b"x" * 100) for n in range(1, 4000))
+        )
+        status, out, err = run(["batch", "--db", path], asked)
+        added = out.count(b'{"result":"added"}')
+        case("a full disk", (status in (0, 1), out.count(b"503 ") + added, err in (b"", b"fault: store\n")), (True, 3999, True))
+        copy = os.path.join(folder, "copy")
+        shutil.copytree(disk, copy)
+        status, out, _ = run(["batch", "--db", os.path.join(copy, "office.db")], b"GET /intersections/%d HTTP/1.1\r\n\r\n" % added)
+        case("what was answered on a full disk is there", (status, out.count(b'"id":')), (0, 1))
+    finally:
+        subprocess.run(["umount", disk], check=True)
+
+
+def largest_file(folder):
+    """A file may grow to 256 KiB. The signal that comes with this limit is ignored, as a shell's trap '' XFSZ does."""
+    def limit():
+        signal.signal(signal.SIGXFSZ, signal.SIG_IGN)
+        resource.setrlimit(resource.RLIMIT_FSIZE, (262144, 262144))
+
+    path = os.path.join(folder, "limited.db")
+    asked = b"".join(
+        b'POST /intersections HTTP/1.1\r\nContent-Length: %d\r\n\r\n%s' % (len(body), body)
+        for body in (b'{"id":%d,"interval":365,"name":"%s"}' % (n, b"x" * 100) for n in range(1, 4000))
+    )
+    status, out, err = run(["batch", "--db", path], asked, preexec_fn=limit)
+    answers = out.count(b"503 ") + out.count(b'{"result":"added"}')
+    case("a file at the limit of file sizes", (status in (0, 1), answers, err in (b"", b"fault: store\n")), (True, 3999, True))
+
+
+def outputs(folder):
+    for name, how in (("closed", {"preexec_fn": lambda: os.close(1)}), ("full", {})):
+        with open("/dev/full" if name == "full" else "/dev/null", "wb") as out:
+            status, _, err = run(["batch"], ADD, stdout=out, **how)
+        case(f"a {name} standard output", (status, err), (1, b"fault: write\n"))
+    reader = subprocess.Popen(["head", "-c", "10"], stdin=subprocess.PIPE, stdout=subprocess.DEVNULL)
+    status, _, err = run(["batch"], STATE * 20000, stdout=reader.stdin)
+    reader.stdin.close()
+    reader.wait()
+    case("a pipe whose reader is gone", (status, err), (1, b"fault: write\n"))
+
+
+def inputs(folder):
+    noise = random.Random(2).randbytes(1_000_000)
+    status, out, err = run(["batch"], noise)
+    case("a million random bytes", (status, out[:15], err), (0, b"HTTP/1.1 400 Ba", b""))
+    path = os.path.join(folder, "noise.csv")
+    with open(path, "wb") as file:
+        file.write(noise)
+    status, out, err = run(["verify-file", path])
+    case("random bytes as a plan", (status, out, err[:15]), (1, b"", b"fault: record 1"))
+    for path in (folder, os.path.join(folder, "none.csv")):
+        case("a plan that can't be read", run(["verify-file", path]), (1, b"", b"fault: file\n"))
+
+
+def little_memory(folder):
+    """Each command under a limit of memory that rises from where the program can't start: it ends done, or tells that memory was
+    refused, or that the database refused, which does not always say why."""
+    path = office(folder, "memory.db")
+    plan = os.path.join(folder, "plan.csv")
+    with open(plan, "wb") as file:
+        file.write(b"phase,2,1,8,20,40,40,15,\n" * 1000)
+    kept = held(path)
+    for words in (["batch"], ["batch", "--db", path], ["sheet", "--db", path, "12"], ["overdue", "--db", path, "2027-03-02"], ["verify-file", plan]):
+        told, done, other = 0, 0, []
+        for limit in range(1 << 20, 40 << 20, 1 << 17):
+            try:
+                status, out, err = run(words, STATE, preexec_fn=lambda: resource.setrlimit(resource.RLIMIT_AS, (limit, limit)))
+            except OSError:
+                continue
+            if status == 1 and err == b"fault: memory\n" or "--db" in words and status == 1 and err == b"fault: store\n":
+                told += 1
+            elif status in (0, 3) and not err:
+                done += 1
+            elif told or done:
+                other.append((limit, status, out[:40], err))
+        case(f"{words[0]} with little memory ({told} told, {done} done)", (other, told > 0, done > 0), ([], True, True))
+    case("the file after want of memory", held(path), kept)
+
+
+with tempfile.TemporaryDirectory() as folder:
+    for part in (little_memory, other_files, versions, another_process, outputs, inputs, largest_file):
+        part(folder)
+    if os.geteuid() == 0:
+        without_leave(folder)
+        full_disk(folder)
+if failed:
+    sys.exit(f"hostile.py: {len(failed)} cases failed: {', '.join(failed)}")
+print("ok")
