@@ -14,11 +14,11 @@ use Rattle.office_desk.specs.Step.{Step}
 use Rattle.office_desk.specs.declared.refusal.Refusal.TheVariants.{Unavailable}
 use Rattle.office_desk.specs.declared.reply.Reply.{Reply}
 use Rattle.office_desk.specs.declared.reply.Reply.TheVariants.{Refused}
-use Rattle.office_http_wire.specs.Answers.{answer_bytes}
-use Rattle.office_http_wire.specs.Faults.{ask_fault_text}
-use Rattle.office_http_wire.specs.declared.ask.Asked.{Asked}
-use Rattle.office_http_fields.specs.declared.ask.AskFault.{AskFault}
-use Rattle.office_http_fields.specs.declared.ask.AskFault.TheVariants.{NoMemory}
+use Rattle.office_http_responses.specs.Answers.{answer_bytes}
+use Rattle.office_http_responses.specs.Faults.{ask_fault_text}
+use Rattle.office_http_requests.specs.declared.asked.Asked.{Asked}
+use Rattle.office_http_requests.specs.declared.fault.AskFault.{AskFault}
+use Rattle.office_http_requests.specs.declared.fault.AskFault.TheVariants.{NoMemory}
 use Rattle.office_http.specs.Protocol.{AnswersAsked, AnswersRead, LeavesAsked, StandsAfterAsked, office_storage}
 use Rattle.office_http_framing.specs.Stops.{Settles}
 

@@ -12,11 +12,11 @@ use Rattle.office_desk.proofs.Repeats.{runs_repeat}
 use Rattle.office_desk.proofs.TimingLaw.{runs_timing}
 use Rattle.office_http.specs.Laws.{KeepsLaws, TellsRead, TellsReplies, asked_in, command_read, read_of}
 use Rattle.office_http.specs.Protocol.{AnswersRead, office_protocol}
-use Rattle.office_http_fields.specs.declared.ask.AskFault.{AskFault}
+use Rattle.office_http_requests.specs.declared.fault.AskFault.{AskFault}
 use Rattle.office_http_framing.specs.Front.{PlainRequest}
 use Rattle.office_http_framing.specs.Protocol.{Run as ProtocolRun}
-use Rattle.office_http_wire.specs.Answers.{unavailable_bytes}
-use Rattle.office_http_wire.specs.declared.ask.Asked.{Asked}
+use Rattle.office_http_responses.specs.Answers.{unavailable_bytes}
+use Rattle.office_http_requests.specs.declared.asked.Asked.{Asked}
 
 -- the replies of a run that the answers tell
 record Told (before : Office) (requests : List PlainRequest) (answers : List (List ℕ)) (after : Office) : Type 0 where

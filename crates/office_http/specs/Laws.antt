@@ -9,12 +9,12 @@ use Rattle.office_desk.specs.declared.command.Command.{Command}
 use Rattle.office_desk.specs.declared.refusal.Refusal.TheVariants.{Unavailable}
 use Rattle.office_desk.specs.declared.reply.Reply.{Reply}
 use Rattle.office_desk.specs.declared.reply.Reply.TheVariants.{Refused}
-use Rattle.office_http_fields.specs.declared.ask.AskFault.{AskFault}
+use Rattle.office_http_requests.specs.declared.fault.AskFault.{AskFault}
 use Rattle.office_http_framing.specs.Front.{PlainRequest}
-use Rattle.office_http_wire.specs.Answers.{answer_bytes, unavailable_bytes}
-use Rattle.office_http_wire.specs.Commands.{command_at}
-use Rattle.office_http_wire.specs.Faults.{ask_fault_text}
-use Rattle.office_http_wire.specs.declared.ask.Asked.{Asked}
+use Rattle.office_http_responses.specs.Answers.{answer_bytes, unavailable_bytes}
+use Rattle.office_http_requests.specs.Commands.{command_at}
+use Rattle.office_http_responses.specs.Faults.{ask_fault_text}
+use Rattle.office_http_requests.specs.declared.asked.Asked.{Asked}
 
 -- ---- the commands
 

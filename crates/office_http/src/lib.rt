@@ -1,7 +1,7 @@
 //! The office behind HTTP/1.1: bytes in, bytes out.
 //!
-//! The framing of requests and the engine stand in `office_http_framing`, requests as commands and
-//! replies as answers in `office_http_wire`; their public names are handed on here.
+//! The framing of requests and the engine stand in `office_http_framing`, requests as commands in
+//! `office_http_requests`, replies as answers in `office_http_responses`; their public names are handed on here.
 #![tactic(auto)]
 
 mod listening;
@@ -16,7 +16,6 @@ pub use office_http_framing::ends::{
 };
 pub use office_http_framing::engine::{ServeFault, Served};
 pub use office_http_framing::front::{Fault, Front, Request, next_request};
-pub use office_http_wire::{
-    AskFault, Asked, Field, Form, More, answer_of, command_of, fault_answer, unavailable,
-};
+pub use office_http_requests::{AskFault, Asked, Field, Form, command_of};
+pub use office_http_responses::{More, answer_of, fault_answer, unavailable};
 pub use service::serve;

@@ -1,7 +1,7 @@
 //! The office as the machine behind the engine.
 
 ghost use Rattle.std.specs.Prelude.{◌≡◌, ◌≢◌, ◌↔◌, List, ℕ, IsTrue, IfOk, OnOk, OnErr};
-ghost use Rattle.office_http_wire.specs.Faults.{ask_fault_text};
+ghost use Rattle.office_http_responses.specs.Faults.{ask_fault_text};
 ghost use Rattle.office_desk.specs.Office.{Office as OfficeState};
 ghost use Rattle.office_desk.specs.StandFor.{StandForSound};
 ghost use Rattle.office_http_framing.specs.Stops.{Settles};
@@ -13,9 +13,8 @@ use office_desk::refusal::Refusal;
 use office_desk::reply::Reply;
 use office_http_framing::front::{Fault, Request};
 use office_http_framing::machine::{Machine, Unavailable};
-use office_http_wire::{
-    AskFault, Asked, RouteCache, answer_of, ask_fault_answer, framing_fault_answer, unavailable,
-};
+use office_http_requests::{AskFault, Asked, RouteCache};
+use office_http_responses::{answer_of, ask_fault_answer, framing_fault_answer, unavailable};
 use office_tables_shelf::shelf::Shelf;
 use std::alloc::{AllocError, Global};
 

@@ -17,7 +17,7 @@ use office_desk::office::Office;
 use office_http_framing::ends::{Sink, Source};
 use office_http_framing::engine;
 use office_http_framing::engine::{ServeFault, Served};
-use office_http_wire::RouteCache;
+use office_http_requests::RouteCache;
 use office_tables_shelf::shelf::Shelf;
 use std::alloc::Global;
 

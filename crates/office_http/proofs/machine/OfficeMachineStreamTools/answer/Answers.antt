@@ -3,8 +3,8 @@ use Rattle.std.specs.Prelude.{IfOk, Result}
 use Rattle.office_tables_shelf.specs.Content.{Content}
 use Rattle.office_desk.specs.Office.{Office}
 use Rattle.office_desk.specs.StandFor.{StandForSound}
-use Rattle.office_http_wire.specs.declared.ask.Asked.{Asked}
-use Rattle.office_http_fields.specs.declared.ask.AskFault.{AskFault}
+use Rattle.office_http_requests.specs.declared.asked.Asked.{Asked}
+use Rattle.office_http_requests.specs.declared.fault.AskFault.{AskFault}
 use Rattle.office_http.specs.Protocol.{AnswersRead}
 use Rattle.office_http.proofs.MachineLemmas.{answers_fault, on_ok, settles_same}
 use Rattle.office_http.proofs.machine.OfficeMachineStreamTools.answer.Goals as goal

@@ -1,6 +1,0 @@
-use Rattle.std.proofs.Common.{◌≡◌, ◌-◌}
-use Rattle.office_http_fields.specs.Paths.{segment}
-use Rattle.office_http_fields.proofs.path.segment.Given as goal
-
-abbrev pub invariant-loop : goal.invariant-loop
-invariant-loop l = segment (l.index - l.counter) l.rest ≡ segment l.index l.path

@@ -1,6 +1,0 @@
-pub mod Asks
-pub mod Bodies
-pub mod Fields
-pub mod Json
-pub mod Paths
-pub mod Values

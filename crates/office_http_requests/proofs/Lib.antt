@@ -1,0 +1,6 @@
+pub mod BodyLemmas
+pub mod OpeningLemmas
+pub mod PathLemmas
+pub mod RouteTable
+pub mod RowLemmas
+pub mod ValueLemmas

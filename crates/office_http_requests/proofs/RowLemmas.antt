@@ -1,0 +1,126 @@
+-- A walk that takes the value of each element of a list in turn.
+use Rattle.std.proofs.Common.{◌≡◌, ℕ, ◌+◌, ◌<◌, List, [], ◌∷◌, ◌++◌, length, drop, get_or, suc, Option, Some, None, Result, Ok, Err, option_map, option_and_then, add-one, drop-cons, append_assoc, map, ap, sym, ◌∙◌, refl}
+use Rattle.serde_json.specs.Data.{Data}
+use Rattle.serde_json.specs.Find.{get, as_array, as_str}
+use Rattle.serde_json.specs.View.{view, items_of, items_view}
+use Rattle.serde_json.specs.declared.value.Value.{Value}
+use Rattle.std.proofs.Math.Seq.{drop-length}
+use Rattle.std.proofs.lemmas.List.{get_or-map, length-map, append-nil}
+use Rattle.signal_records.specs.Reading.{change_at, texts}
+use Rattle.signal_records.specs.Within.{current_limits}
+use Rattle.signal_records.specs.declared.fault.RowFault.{RowFault}
+use Rattle.signal_records.specs.declared.record.Change.{Change}
+use Rattle.office_http_requests.specs.declared.fault.AskFault.{AskFault}
+use Rattle.office_http_requests.specs.declared.fault.AskFault.TheVariants.{BadRow}
+use Rattle.office_http_requests.specs.declared.field.Field.TheVariants.{Rows as FieldRows}
+use Rattle.office_http_requests.specs.Fields.{field_name}
+use Rattle.office_http_requests.specs.Asks.{◌>>=◌}
+use Rattle.office_http_requests.specs.Rows.{RowRefs, rows_seen, list_of, list_in, each, texts_in, rows_in, changes_of}
+
+-- what is done, before what the rest gives
+abbrev pub onto : {B : Type 0} → List B → Option (List B) → Option (List B)
+onto done rest = option_map (λ ys. done ++ ys) rest
+
+onto-cons : {B : Type 0} (done : List B) (y : B) (rest : Option (List B)) → onto (done ++ y ∷ []) rest ≡ onto done (option_map (λ ys. y ∷ ys) rest)
+onto-cons done y None = refl
+onto-cons done y (Some ys) = rw append_assoc
+
+pub each-next : {A B : Type 0} (f : A → Option B) (xs : List A) (i : ℕ) (d : A) (y : B) (done : List B) → i < length xs → f (get_or xs i d) ≡ Some y → onto (done ++ y ∷ []) (each f (drop (i + 1) xs)) ≡ onto done (each f (drop i xs))
+each-next f xs i d y done within value = rw (add-one, drop-cons xs i d, value) (onto-cons done y (each f (drop (suc i) xs)))
+
+pub each-stop : {A B : Type 0} (f : A → Option B) (xs : List A) (i : ℕ) (d : A) (done : List B) → i < length xs → f (get_or xs i d) ≡ None → onto done (each f (drop i xs)) ≡ None
+each-stop f xs i d done within value = rw (drop-cons xs i d, value)
+
+-- changes so far, before those of the rest
+abbrev pub before : List Change → Result (List Change) AskFault → Result (List Change) AskFault
+before done rest = rest >>= (λ changes. Ok (done ++ changes))
+
+before-cons : (done : List Change) (change : Change) (rest : Result (List Change) AskFault) → before (done ++ change ∷ []) rest ≡ before done (rest >>= (λ changes. Ok (change ∷ changes)))
+before-cons done change (Err fault) = refl
+before-cons done change (Ok changes) = rw append_assoc
+
+pub before-nil : (rest : Result (List Change) AskFault) → before [] rest ≡ rest
+before-nil (Err fault) = refl
+before-nil (Ok changes) = refl
+
+row-at : (rows : List RowRefs) (i : ℕ) (row : RowRefs) → i < length rows → row ≡ get_or rows i row → get_or (rows_seen rows) i (texts row.items) ≡ texts row.items
+row-at rows i row within is = get_or-map (λ r. texts r.items) rows i row (texts row.items) within ∙ ap (λ (r : RowRefs). texts r.items) (sym is)
+
+-- the changes go on past a row
+pub changes_of-next : (rows : List RowRefs) (i : ℕ) (row : RowRefs) (change : Change) (done : List Change) → i < length rows → row ≡ get_or rows i row → change_at current_limits (texts row.items) ≡ Ok change → before (done ++ change ∷ []) (changes_of (i + 1 + 1) (drop (i + 1) (rows_seen rows))) ≡ before done (changes_of (i + 1) (drop i (rows_seen rows)))
+changes_of-next rows i row change done within is reads =
+    let at = row-at rows i row within is in
+    let more : i < length (rows_seen rows) = rw length-map within in
+    let here : drop i (rows_seen rows) ≡ texts row.items ∷ drop (suc i) (rows_seen rows) = drop-cons (rows_seen rows) i (texts row.items) more ∙ ap (λ r. r ∷ drop (suc i) (rows_seen rows)) at in
+    let next : drop (i + 1) (rows_seen rows) ≡ drop (suc i) (rows_seen rows) = rw add-one in
+    rw (next, here, reads) (before-cons done change (changes_of (i + 1 + 1) (drop (suc i) (rows_seen rows))))
+
+-- the changes stop at a row
+pub changes_of-stop : (rows : List RowRefs) (i : ℕ) (row : RowRefs) (fault : RowFault) (done : List Change) → i < length rows → row ≡ get_or rows i row → change_at current_limits (texts row.items) ≡ Err fault → before done (changes_of (i + 1) (drop i (rows_seen rows))) ≡ Err (BadRow (i + 1) fault)
+changes_of-stop rows i row fault done within is reads =
+    let at = row-at rows i row within is in
+    let more : i < length (rows_seen rows) = rw length-map within in
+    let here : drop i (rows_seen rows) ≡ texts row.items ∷ drop (suc i) (rows_seen rows) = drop-cons (rows_seen rows) i (texts row.items) more ∙ ap (λ r. r ∷ drop (suc i) (rows_seen rows)) at in
+    rw (here, reads)
+
+-- the changes end
+pub changes_of-end : (rows : List RowRefs) (done : List Change) → before done (changes_of (length rows + 1) (drop (length rows) (rows_seen rows))) ≡ Ok done
+changes_of-end rows done =
+    let nothing : drop (length rows) (rows_seen rows) ≡ [] = rw (← length-map rows (λ r. texts r.items)) (drop-length (rows_seen rows)) in
+    rw (nothing, append-nil)
+
+pub onto-nil : {B : Type 0} (rest : Option (List B)) → onto [] rest ≡ rest
+onto-nil None = refl
+onto-nil (Some ys) = refl
+
+list_of-items_of : (ds : List Data) → list_of (items_of ds) ≡ ds
+list_of-items_of [] = refl
+list_of-items_of (d ∷ ds) = ap (λ es. d ∷ es) (list_of-items_of ds)
+
+-- the items of an array that was read
+pub list_in-array : (d : Data) (values : List Value) → as_array d ≡ Some (items_view values) → list_in d ≡ Some (map view values)
+list_in-array d values h = rw (h, list_of-items_of (map view values))
+
+pub texts_in-array : (d : Data) (values : List Value) → as_array d ≡ Some (items_view values) → texts_in d ≡ each as_str (map view values)
+unfolding texts_in
+texts_in-array d values h = rw (list_in-array d values h)
+
+pub texts_in-other : (d : Data) → as_array d ≡ None → texts_in d ≡ None
+unfolding texts_in
+texts_in-other d h = rw h
+
+view-at : (values : List Value) (i : ℕ) (value : Value) → i < length values → value ≡ get_or values i value → get_or (map view values) i (view value) ≡ view value
+view-at values i value within is = get_or-map view values i value (view value) within ∙ ap view (sym is)
+
+-- the walk goes on past a value
+pub walk-next : {B : Type 0} (f : Data → Option B) (values : List Value) (i : ℕ) (value : Value) (y : B) (done : List B) → i < length values → value ≡ get_or values i value → f (view value) ≡ Some y → onto (done ++ y ∷ []) (each f (drop (i + 1) (map view values))) ≡ onto done (each f (drop i (map view values)))
+walk-next f values i value y done within is gives =
+    each-next f (map view values) i (view value) y done (rw length-map within) (ap f (view-at values i value within is) ∙ gives)
+
+-- the walk stops at a value
+pub walk-stop : {B : Type 0} (f : Data → Option B) (values : List Value) (i : ℕ) (value : Value) (done : List B) → i < length values → value ≡ get_or values i value → f (view value) ≡ None → onto done (each f (drop i (map view values))) ≡ None
+walk-stop f values i value done within is gives =
+    each-stop f (map view values) i (view value) done (rw length-map within) (ap f (view-at values i value within is) ∙ gives)
+
+-- the walk ends
+pub walk-end : {B : Type 0} (f : Data → Option B) (values : List Value) (done : List B) → onto done (each f (drop (length values) (map view values))) ≡ Some done
+walk-end f values done =
+    let nothing : drop (length values) (map view values) ≡ [] = rw (← length-map values view) (drop-length (map view values)) in
+    rw (nothing, append-nil)
+
+-- the rows of an array under their key
+pub rows_in-array : (body : Data) (values : List Value) → option_and_then as_array (get (field_name FieldRows) body) ≡ Some (items_view values) → rows_in body ≡ each texts_in (map view values)
+unfolding rows_in
+rows_in-array body values h = by_found (get (field_name FieldRows) body) h
+  where
+    by_found : (found : Option Data) → option_and_then as_array found ≡ Some (items_view values) → option_and_then (each texts_in) (option_and_then list_in found) ≡ each texts_in (map view values)
+    by_found None e = cc
+    by_found (Some d) e = rw (list_in-array d values e)
+
+pub rows_in-other : (body : Data) → option_and_then as_array (get (field_name FieldRows) body) ≡ None → rows_in body ≡ None
+unfolding rows_in
+rows_in-other body h = by_found (get (field_name FieldRows) body) h
+  where
+    by_found : (found : Option Data) → option_and_then as_array found ≡ None → option_and_then (each texts_in) (option_and_then list_in found) ≡ None
+    by_found None e = refl
+    by_found (Some d) e = rw e

@@ -1,0 +1,34 @@
+-- What a request asks, as a chain of steps of which each may find a fault.
+use Rattle.std.specs.Prelude.{◌≡◌, ◌≢◌, Option, Some, None, Result, Ok, Err, ⊤}
+use Rattle.office_http_requests.specs.declared.fault.AskFault.{AskFault}
+use Rattle.office_http_requests.specs.declared.fault.AskFault.TheVariants.{NoRoute, Field as FieldFault, NoMemory}
+use Rattle.office_http_requests.specs.declared.field.Field.{Field}
+
+-- the result is the wanted one, or says that there was no memory
+abbrev pub Gives : {A : Type 0} → Result A AskFault → Result A AskFault → Type 0
+Gives (Ok x) wanted = wanted ≡ Ok x
+Gives (Err fault) wanted = fault ≢ NoMemory → wanted ≡ Err fault
+
+-- want of memory is told only where the fact holds
+abbrev pub WantsMemoryOnlyIf : {A : Type 0} → Result A AskFault → Type 0 → Type 0
+WantsMemoryOnlyIf (Ok x) P = ⊤
+WantsMemoryOnlyIf (Err fault) P = fault ≡ NoMemory → P
+
+-- a step, and the next on what it gave
+infixl 10 ◌>>=◌
+abbrev pub ◌>>=◌ : {A B : Type 0} → Result A AskFault → (A → Result B AskFault) → Result B AskFault
+Ok x >>= next = next x
+Err fault >>= next = Err fault
+
+-- the value, or the fault where there is none
+abbrev pub or_fault : {A : Type 0} → AskFault → Option A → Result A AskFault
+or_fault fault None = Err fault
+or_fault fault (Some x) = Ok x
+
+-- a value that a path may lack
+abbrev pub or_no_route : {A : Type 0} → Option A → Result A AskFault
+or_no_route found = or_fault NoRoute found
+
+-- a value of a field
+abbrev pub or_field : {A : Type 0} → Field → Option A → Result A AskFault
+or_field field found = or_fault (FieldFault field) found

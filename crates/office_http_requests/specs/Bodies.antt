@@ -1,0 +1,76 @@
+-- The body of a request: one JSON object, and the values under its keys.
+use Rattle.std.specs.Prelude.{◌≡◌, ◌≢◌, ℕ, List, [], ◌∷◌, Bool, false, ◌==◌, IsTrue, IsUtf8, Option, Some, None, Result, Ok, Err, option_and_then, if◌then◌else◌}
+use Rattle.std.specs.Str.{is_utf8}
+use Rattle.json.specs.Word.{is_space}
+use Rattle.serde_json.specs.Data.{Data, object}
+use Rattle.serde_json.specs.Read.{read}
+use Rattle.serde_json.specs.Find.{get, as_number, as_str, as_u64}
+use Rattle.serde_json.specs.View.{view}
+use Rattle.serde_json.specs.declared.value.Value.{Value}
+use Rattle.office_files.specs.RecordReading.{day_of, part_of, words_of}
+use Rattle.office_http_requests.specs.declared.fault.AskFault.{AskFault}
+use Rattle.office_http_requests.specs.declared.fault.AskFault.TheVariants.{Json, NoMemory}
+use Rattle.office_http_requests.specs.declared.field.Field.{Field}
+use Rattle.office_http_requests.specs.declared.field.Field.TheVariants.{Day, Id, Interval, Part}
+use Rattle.office_http_requests.specs.Asks.{or_fault, or_field}
+use Rattle.office_http_requests.specs.Fields.{field_name}
+use Rattle.office_http_requests.specs.Values.{within}
+
+-- the data that the bytes are
+abbrev pub json_of : List ℕ → Option Data
+json_of bytes = if is_utf8 bytes then read bytes else None
+
+-- the first byte that is no space opens an object
+abbrev pub opens_object : List ℕ → Bool
+opens_object [] = false
+opens_object (b ∷ bytes) = if is_space b then opens_object bytes else b == 123
+
+-- UTF-8 that opens an object: no other bytes are one
+abbrev pub MayBeObject : List ℕ → Type 0
+MayBeObject bytes = IsUtf8 bytes × IsTrue (opens_object bytes)
+
+-- the data, if it is an object
+abbrev pub object_in : Data → Option Data
+object_in (object members) = Some (object members)
+object_in _ = None
+
+-- the object that a body is
+unfoldable pub body_of : List ℕ → Result Data AskFault
+body_of bytes = or_fault Json (option_and_then object_in (json_of bytes))
+
+-- the value is the object of the bytes, or the fault is theirs or one of memory
+abbrev pub GivesBody : Result Value AskFault → List ℕ → Type 0
+GivesBody (Ok value) bytes = body_of bytes ≡ Ok (view value)
+GivesBody (Err fault) bytes = fault ≢ NoMemory → body_of bytes ≡ Err fault
+
+-- the number under a key: digits alone, below 2 ^ 64
+abbrev pub number_in : Data → Field → Option ℕ
+number_in body field = option_and_then as_u64 (option_and_then as_number (get (field_name field) body))
+
+-- the text under a key
+abbrev pub text_in : Data → Field → Option (List ℕ)
+text_in body field = option_and_then as_str (get (field_name field) body)
+
+-- the number of a range under a key
+unfoldable pub ranged_in : ℕ → ℕ → Data → Field → Result ℕ AskFault
+ranged_in low high body field = or_field field (option_and_then (within low high) (number_in body field))
+
+-- the intersection under its key
+abbrev pub id_in : Data → Result ℕ AskFault
+id_in body = ranged_in 1 9999 body Id
+
+-- the days between two inspections under their key
+abbrev pub interval_in : Data → Result ℕ AskFault
+interval_in body = ranged_in 1 3650 body Interval
+
+-- words of at most so many bytes under a key
+unfoldable pub words_in : ℕ → Data → Field → Result (List ℕ) AskFault
+words_in max body field = or_field field (option_and_then (words_of max) (text_in body field))
+
+-- the day under its key
+unfoldable pub day_in : Data → Result ℕ AskFault
+day_in body = or_field Day (option_and_then day_of (text_in body Day))
+
+-- the code of a part under its key
+unfoldable pub part_in : Data → Result (List ℕ) AskFault
+part_in body = or_field Part (option_and_then part_of (text_in body Part))

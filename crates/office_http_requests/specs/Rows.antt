@@ -1,0 +1,74 @@
+-- The rows of a body, and the changes that they spell.
+use Rattle.std.specs.Prelude.{◌≡◌, ℕ, ◌+◌, List, [], ◌∷◌, map, Vec, Option, Some, None, option_map, option_and_then, Result, Ok, Err}
+use Rattle.std.specs.Borrow.{Bor}
+use Rattle.std.specs.declared.alloc.Global.{Global}
+use Rattle.serde_json.specs.Data.{Data, Items, no_items, item}
+use Rattle.serde_json.specs.Find.{get, as_array, as_str}
+use Rattle.signal_records.specs.Reading.{change_at, texts}
+use Rattle.signal_records.specs.Within.{current_limits}
+use Rattle.signal_records.specs.declared.fault.RowFault.{RowFault}
+use Rattle.signal_records.specs.declared.record.Change.{Change}
+use Rattle.office_http_requests.specs.declared.fault.AskFault.{AskFault}
+use Rattle.office_http_requests.specs.declared.fault.AskFault.TheVariants.{BadRow}
+use Rattle.office_http_requests.specs.declared.field.Field.TheVariants.{Rows}
+use Rattle.office_http_requests.specs.Asks.{◌>>=◌, or_field}
+use Rattle.office_http_requests.specs.Fields.{field_name}
+
+-- the items of an array, as a list
+abbrev pub list_of : Items → List Data
+list_of no_items = []
+list_of (item d ds) = d ∷ list_of ds
+
+-- the items of a value that is an array
+abbrev pub list_in : Data → Option (List Data)
+list_in d = option_map list_of (as_array d)
+
+-- the value of each element, where each has one
+abbrev pub each : {A B : Type 0} → (A → Option B) → List A → Option (List B)
+each f [] = Some []
+each f (x ∷ xs) = option_and_then (λ y. option_map (λ ys. y ∷ ys) (each f xs)) (f x)
+
+-- the texts of an array that has texts alone
+unfoldable pub texts_in : Data → Option (List (List ℕ))
+texts_in d = option_and_then (each as_str) (list_in d)
+
+-- the rows under their key
+unfoldable pub rows_in : Data → Option (List (List (List ℕ)))
+rows_in body = option_and_then (each texts_in) (option_and_then list_in (get (field_name Rows) body))
+
+-- a change, or the fault of the row at a place
+abbrev pub or_bad_row : ℕ → Result Change RowFault → Result Change AskFault
+or_bad_row at (Ok change) = Ok change
+or_bad_row at (Err fault) = Err (BadRow at fault)
+
+-- the changes that rows spell, or the first bad row, counted from a number
+abbrev pub changes_of : ℕ → List (List (List ℕ)) → Result (List Change) AskFault
+changes_of at [] = Ok []
+changes_of at (row ∷ rows) = do
+  change ← or_bad_row at (change_at current_limits row)
+  changes ← changes_of (at + 1) rows
+  Ok (change ∷ changes)
+
+-- the changes of a body
+unfoldable pub changes_in : Data → Result (List Change) AskFault
+changes_in body = do
+  rows ← or_field Rows (rows_in body)
+  changes_of 1 rows
+
+-- the fields of a row, as references to texts
+abbrev pub RowRefs : Type 0
+RowRefs = Vec (Bor (List ℕ)) Global
+
+-- what the fields of rows contain
+abbrev pub rows_seen : List RowRefs → List (List (List ℕ))
+rows_seen rows = map (λ row. texts row.items) rows
+
+-- the references are to the wanted texts
+abbrev pub ShowsTexts : Option RowRefs → Option (List (List ℕ)) → Type 0
+ShowsTexts None wanted = wanted ≡ None
+ShowsTexts (Some refs) wanted = wanted ≡ Some (texts refs.items)
+
+-- the rows have the wanted texts
+abbrev pub ShowsRows : Option (Vec RowRefs Global) → Option (List (List (List ℕ))) → Type 0
+ShowsRows None wanted = wanted ≡ None
+ShowsRows (Some rows) wanted = wanted ≡ Some (rows_seen rows.items)

@@ -1,0 +1,158 @@
+//! The body of a request: one JSON object, and the values under its keys.
+ghost use Rattle.std.specs.Prelude.{◌≡◌, Some, option_map, IfErr, IfOk, IsOk};
+ghost use Rattle.std.specs.Result.{result_map_both};
+ghost use Rattle.serde_json.specs.View.{view};
+ghost use Rattle.json.specs.Word.{is_space as space_byte};
+ghost use Rattle.office_http_requests.specs.Asks.{Gives, WantsMemoryOnlyIf};
+ghost use Rattle.office_http_requests.specs.Bodies.{number_in, text_in, ranged_in, words_in, day_in, part_in, opens_object as opens, GivesBody, MayBeObject};
+ghost use Rattle.office_files.specs.RecordReading.{words_of};
+
+use crate::fault::AskFault;
+use crate::field::Field;
+use crate::value::{day_spelled, is_part_code, is_words, number_within, part_from, words_from};
+use cabinet_core::{Day, PartCode};
+use serde_json::Value;
+use signal_records::{NoMemory, Number, Words};
+use std::alloc::Global;
+use std::str;
+
+fn is_space(byte: u8) -> bool
+    ensures { result ≡ space_byte byte }
+{
+    matches!(byte, b' ' | b'\t' | b'\n' | b'\r')
+}
+
+// Whether the first byte that is no space opens an object.
+fn opens_object(bytes: &[u8]) -> bool
+    ensures { result ≡ opens bytes.now }
+{
+    for byte in bytes {
+        if !is_space(*byte) {
+            return *byte == b'{';
+        }
+    }
+    false
+}
+
+/// The object that the bytes of a body are. Want of memory is told of no bytes that can't be an object:
+/// they are Json, however many they are.
+// Reading needs a large local: a request without a body is not to pay for it.
+#[inline(never)]
+pub(crate) fn read(alloc: Global, bytes: &[u8]) -> Result<Value, AskFault>
+    ensures gives { GivesBody result bytes.now }
+    ensures opened { IfOk result (λ _. MayBeObject bytes.now) }
+    ensures memory { WantsMemoryOnlyIf result (MayBeObject bytes.now) }
+{
+    let Ok(text) = str::from_utf8(bytes) else {
+        return Err(AskFault::Json);
+    };
+    match Value::from_str(alloc, text) {
+        Ok(value) => {
+            if value.is_object() {
+                Ok(value)
+            } else {
+                Err(AskFault::Json)
+            }
+        }
+        Err(fault) => {
+            // The reader may tell want of memory of any text: only of one that may be an object is it told on.
+            if fault.is_memory() && opens_object(bytes) {
+                Err(AskFault::NoMemory)
+            } else {
+                Err(AskFault::Json)
+            }
+        }
+    }
+}
+
+// The number under a key: digits alone, below 2 ^ 64.
+fn whole(body: &Value, field: Field) -> Option<u64>
+    ensures { result ≡ number_in (view body.now) field }
+{
+    body.get(field.name()).and_then(Value::as_u64)
+}
+
+/// The text under a key.
+pub(crate) fn text(body: &Value, field: Field) -> Option<&str>
+    ensures { option_map (λ text. text.now) result ≡ text_in (view body.now) field }
+{
+    body.get(field.name()).and_then(Value::as_str)
+}
+
+/// The number of a range under a key.
+#[tactic(auto, unfolding(crate::specs::Bodies::ranged_in))]
+pub(crate) fn number<Of, const LOW: u32, const HIGH: u32>(
+    body: &Value,
+    field: Field,
+) -> Result<Number<Of, LOW, HIGH>, AskFault>
+    ensures number { result ≡ ranged_in LOW HIGH (view body.now) field }
+    ensures fault { IfErr result (λ fault. fault ≡ AskFault.Field field) }
+{
+    let n = whole(body, field).ok_or(AskFault::Field(field))?;
+    number_within(n).ok_or(AskFault::Field(field))
+}
+
+/// The text under a key, where it is words of at most so many bytes. It takes no memory.
+#[tactic(auto, unfolding(crate::specs::Bodies::words_in, office_files::specs::RecordReading::words_of))]
+pub(crate) fn words_text(body: &Value, field: Field, max: usize) -> Result<&str, AskFault>
+    ensures text { result_map_both (λ text. text.now) (λ fault. fault) result ≡ words_in max (view body.now) field }
+    ensures words { IfOk result (λ text. words_of max text.now ≡ Some text.now) }
+    ensures fault { IfErr result (λ fault. fault ≡ AskFault.Field field) }
+{
+    let text = text(body, field).ok_or(AskFault::Field(field))?;
+    if is_words(max, text.as_bytes()) {
+        Ok(text)
+    } else {
+        Err(AskFault::Field(field))
+    }
+}
+
+/// The words that a text is, which was seen to be some.
+pub(crate) fn words_copied<const MAX: usize>(
+    alloc: Global,
+    text: &str,
+) -> Result<Words<MAX>, NoMemory>
+    requires { words_of MAX text.now ≡ Some text.now }
+    ensures { IfOk result (λ words. words ≡ text.now) }
+{
+    let Some(words) = words_from(alloc, text.as_bytes())? else {
+        unreachable!();
+    };
+    Ok(words)
+}
+
+/// The words under a key. Want of memory is told of words alone.
+pub(crate) fn words<const MAX: usize>(
+    alloc: Global,
+    body: &Value,
+    field: Field,
+) -> Result<Words<MAX>, AskFault>
+    ensures gives { Gives result (words_in MAX (view body.now) field) }
+    ensures memory { WantsMemoryOnlyIf result (IsOk (words_in MAX (view body.now) field)) }
+{
+    let text = words_text(body, field, MAX)?;
+    Ok(words_copied(alloc, text)?)
+}
+
+/// The day under its key.
+#[tactic(auto, unfolding(crate::specs::Bodies::day_in))]
+pub(crate) fn day(body: &Value) -> Result<Day, AskFault>
+    ensures day { result ≡ day_in (view body.now) }
+    ensures fault { IfErr result (λ fault. fault ≡ AskFault.Field Field.Day) }
+{
+    let text = text(body, Field::Day).ok_or(AskFault::Field(Field::Day))?;
+    day_spelled(text.as_bytes()).ok_or(AskFault::Field(Field::Day))
+}
+
+/// The code of a part under its key. Want of memory is told of a code alone.
+#[tactic(auto, unfolding(crate::specs::Bodies::part_in, office_files::specs::RecordReading::part_of))]
+pub(crate) fn part(alloc: Global, body: &Value) -> Result<PartCode, AskFault>
+    ensures gives { Gives result (part_in (view body.now)) }
+    ensures memory { WantsMemoryOnlyIf result (IsOk (part_in (view body.now))) }
+{
+    let text = text(body, Field::Part).ok_or(AskFault::Field(Field::Part))?;
+    if !is_part_code(text.as_bytes()) {
+        return Err(AskFault::Field(Field::Part));
+    }
+    part_from(alloc, text.as_bytes())?.ok_or(AskFault::Field(Field::Part))
+}

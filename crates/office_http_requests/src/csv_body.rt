@@ -1,0 +1,50 @@
+//! The CSV text of a body, and what its records spell.
+ghost use Rattle.std.specs.Prelude.{◌≡◌, IsOk};
+ghost use Rattle.std.specs.Result.{result_map_both};
+ghost use Rattle.serde_json.specs.View.{view};
+ghost use Rattle.office_http_requests.specs.Asks.{WantsMemoryOnlyIf};
+ghost use Rattle.office_http_requests.specs.CsvBodies.{csv_in, csv_changes_in, csv_records_in, ask_fault, GivesList};
+
+use crate::body;
+use crate::fault::AskFault;
+use crate::field::Field;
+use cabinet_core::RecordCommand;
+use office_files::{CsvFault, read_records_csv, read_timing_csv};
+use serde_json::Value;
+use signal_records::Change;
+use std::alloc::Global;
+
+// The fault of a CSV text as one of the request.
+fn of_file(fault: CsvFault) -> AskFault
+    ensures { result ≡ ask_fault fault }
+{
+    match fault {
+        CsvFault::Row { at, fault } => AskFault::BadRow { at, fault },
+        CsvFault::NoMemory => AskFault::NoMemory,
+    }
+}
+
+// The CSV text under its key.
+fn text(body: &Value) -> Result<&str, AskFault>
+    ensures { result_map_both (λ csv. csv.now) (λ fault. fault) result ≡ csv_in (view body.now) }
+{
+    body::text(body, Field::Csv).ok_or(AskFault::Field(Field::Csv))
+}
+
+/// The changes that the records of the CSV text under its key spell.
+#[tactic(auto, unfolding(crate::specs::CsvBodies::csv_changes_in))]
+pub(crate) fn changes(alloc: Global, body: &Value) -> Result<Vec<Change>, AskFault>
+    ensures gives { GivesList result (csv_changes_in (view body.now)) }
+    ensures memory { WantsMemoryOnlyIf result (IsOk (csv_in (view body.now))) }
+{
+    read_timing_csv(alloc, text(body)?.as_bytes()).map_err(of_file)
+}
+
+/// The commands of the register that the records of the CSV text under its key spell.
+#[tactic(auto, unfolding(crate::specs::CsvBodies::csv_records_in))]
+pub(crate) fn records(alloc: Global, body: &Value) -> Result<Vec<RecordCommand>, AskFault>
+    ensures gives { GivesList result (csv_records_in (view body.now)) }
+    ensures memory { WantsMemoryOnlyIf result (IsOk (csv_in (view body.now))) }
+{
+    read_records_csv(alloc, text(body)?.as_bytes()).map_err(of_file)
+}

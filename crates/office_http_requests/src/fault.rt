@@ -1,0 +1,51 @@
+//! Why a request asks nothing.
+ghost use Rattle.std.specs.Prelude.{◌≡◌};
+ghost use Rattle.office_http_requests.specs.declared.fault.AskFault.TheVariants.{NoMemory as OutOfMemory};
+
+use crate::field::Field;
+use signal_records::{NoMemory, RowFault};
+use std::alloc::{AllocError, AllocFailed};
+
+/// Why a request asks nothing of the office.
+#[derive(Clone, Copy, Debug, PartialEq, Eq)]
+pub enum AskFault {
+    /// No route has the path.
+    NoRoute,
+    /// The path has a route, and the method is not that of the route.
+    Method,
+    /// The body is no JSON object.
+    Json,
+    /// A field is missing, of another kind or out of its range.
+    Field(Field),
+    /// A row of the body, or a record of its CSV text, spells nothing that the request may have.
+    BadRow {
+        /// Which row, counted from 1.
+        at: usize,
+        fault: RowFault,
+    },
+    NoMemory,
+}
+
+impl From<NoMemory> for AskFault {
+    ghost from_gives = { λ _ fault. fault ≡ OutOfMemory };
+
+    fn from(_: NoMemory) -> AskFault {
+        AskFault::NoMemory
+    }
+}
+
+impl From<AllocError> for AskFault {
+    ghost from_gives = { λ _ fault. fault ≡ OutOfMemory };
+
+    fn from(_: AllocError) -> AskFault {
+        AskFault::NoMemory
+    }
+}
+
+impl<T: Drop> From<AllocFailed<T>> for AskFault {
+    ghost from_gives = { λ _ fault. fault ≡ OutOfMemory };
+
+    fn from(_: AllocFailed<T>) -> AskFault {
+        AskFault::NoMemory
+    }
+}

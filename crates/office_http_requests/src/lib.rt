@@ -1,0 +1,25 @@
+//! Requests read as commands: the routes, the fields of paths, and the JSON and CSV of bodies.
+#![tactic(auto)]
+
+mod asked;
+mod body;
+mod cache;
+mod command;
+mod csv_body;
+mod fault;
+mod field;
+mod kind;
+mod path;
+mod record;
+mod recording;
+mod route;
+mod rows;
+mod value;
+
+pub use asked::{Asked, Form};
+pub use cache::RouteCache;
+pub use command::command_of;
+pub use fault::AskFault;
+pub use field::Field;
+pub use kind::RecordKind;
+pub use route::{Endpoint, Routes};

@@ -1,0 +1,74 @@
+//! The segments of a path, and the fields that they spell.
+ghost use Rattle.std.specs.Prelude.{◌≡◌, ◌≤◌, length, position, IfErr};
+ghost use Rattle.std.specs.List.{position_or_len, after_first};
+ghost use Rattle.office_http_requests.specs.Paths.{is_slash, segment as segment_of, id_at, order_at, day_at};
+
+use crate::fault::AskFault;
+use crate::field::Field;
+use crate::value::{day_spelled, number_spelled};
+use cabinet_core::Day;
+use signal_records::{InterId, RecordNo};
+
+fn first_slash(path: &[u8]) -> Option<usize>
+    ensures { result ≡ position is_slash path.now }
+{
+    path.iter().position(|b| *b == b'/')
+}
+
+// Where the first slash is, or the length.
+fn slash_at(path: &[u8]) -> usize
+    ensures value { result ≡ position_or_len is_slash path.now }
+    ensures bound { result ≤ length path.now }
+{
+    first_slash(path).unwrap_or(path.len())
+}
+
+// What follows the first slash.
+fn after_slash(path: &[u8]) -> &[u8]
+    ensures { result.now ≡ after_first is_slash path.now }
+{
+    let slash = slash_at(path);
+    if slash < path.len() {
+        &path[slash + 1..]
+    } else {
+        &[]
+    }
+}
+
+/// What stands between two slashes of a path, counted from 0, which is what stands before the first.
+pub(crate) fn segment(path: &[u8], index: usize) -> &[u8]
+    ensures { result.now ≡ segment_of index path.now }
+{
+    let mut rest = path;
+    for _ in 0..index {
+        rest = after_slash(rest);
+    }
+    &rest[..slash_at(rest)]
+}
+
+/// The intersection of a path: its third segment.
+#[tactic(auto, unfolding(crate::specs::Paths::id_at))]
+pub(crate) fn id(path: &[u8]) -> Result<InterId, AskFault>
+    ensures id { result ≡ id_at path.now }
+    ensures fault { IfErr result (λ fault. fault ≡ AskFault.Field Field.Id) }
+{
+    number_spelled(segment(path, 2)).ok_or(AskFault::Field(Field::Id))
+}
+
+/// The order of a path: its fifth segment.
+#[tactic(auto, unfolding(crate::specs::Paths::order_at))]
+pub(crate) fn order(path: &[u8]) -> Result<RecordNo, AskFault>
+    ensures order { result ≡ order_at path.now }
+    ensures fault { IfErr result (λ fault. fault ≡ AskFault.Field Field.Order) }
+{
+    number_spelled(segment(path, 4)).ok_or(AskFault::Field(Field::Order))
+}
+
+/// The day of a path: its third segment.
+#[tactic(auto, unfolding(crate::specs::Paths::day_at))]
+pub(crate) fn day(path: &[u8]) -> Result<Day, AskFault>
+    ensures day { result ≡ day_at path.now }
+    ensures fault { IfErr result (λ fault. fault ≡ AskFault.Field Field.Day) }
+{
+    day_spelled(segment(path, 2)).ok_or(AskFault::Field(Field::Day))
+}

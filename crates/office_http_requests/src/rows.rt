@@ -1,0 +1,92 @@
+//! The rows of a body: an array of arrays of texts, each of which spells a change.
+ghost use Rattle.std.specs.Prelude.{◌≡◌, ◌≢◌, IfOk, option_map, option_and_then};
+ghost use Rattle.serde_json.specs.Find.{get, as_array};
+ghost use Rattle.serde_json.specs.View.{view, items_view};
+ghost use Rattle.office_http_requests.specs.Asks.{Gives};
+ghost use Rattle.office_http_requests.specs.Fields.{field_name};
+ghost use Rattle.office_http_requests.specs.Rows.{texts_in, rows_in, changes_of, changes_in, ShowsTexts, ShowsRows, rows_seen};
+
+use crate::fault::AskFault;
+use crate::field::Field;
+use draft_core::changes::Changes;
+use serde_json::Value;
+use signal_records::{RowFault, read_change};
+use std::alloc::{AllocError, Global};
+
+// The texts of an array that has texts alone.
+fn texts<'a>(alloc: Global, row: &'a Value) -> Result<Option<Vec<&'a [u8]>>, AllocError>
+    ensures { IfOk result (λ found. ShowsTexts found (texts_in (view row.now))) }
+{
+    let Some(list) = row.as_array() else {
+        return Ok(None);
+    };
+    let mut texts = Vec::with_capacity(alloc, list.len())?;
+    for value in list.as_slice() {
+        let Some(text) = value.as_str() else {
+            return Ok(None);
+        };
+        texts.push(text.as_bytes())?;
+    }
+    Ok(Some(texts))
+}
+
+// The array under a key.
+fn array(body: &Value, field: Field) -> Option<&Vec<Value>>
+    ensures { option_map (λ list. items_view list.now.items) result
+        ≡ option_and_then as_array (get (field_name field) (view body.now)) }
+{
+    body.get(field.name()).and_then(Value::as_array)
+}
+
+// The rows under their key, if they are an array of arrays of texts.
+fn rows<'a>(alloc: Global, body: &'a Value) -> Result<Option<Vec<Vec<&'a [u8]>>>, AllocError>
+    ensures { IfOk result (λ found. ShowsRows found (rows_in (view body.now))) }
+{
+    let Some(list) = array(body, Field::Rows) else {
+        return Ok(None);
+    };
+    let mut rows = Vec::with_capacity(alloc, list.len())?;
+    for row in list.as_slice() {
+        let Some(texts) = texts(alloc, row)? else {
+            return Ok(None);
+        };
+        rows.push(texts)?;
+    }
+    Ok(Some(rows))
+}
+
+// The fault of a row at a place, counted from 1. Want of memory is no fault of the row.
+fn bad_row(at: usize, fault: RowFault) -> AskFault
+    ensures memory { fault ≡ RowFault.NoMemory → result ≡ AskFault.NoMemory }
+    ensures row { fault ≢ RowFault.NoMemory → result ≡ AskFault.BadRow at fault }
+{
+    match fault {
+        RowFault::NoMemory => AskFault::NoMemory,
+        _ => AskFault::BadRow { at, fault },
+    }
+}
+
+// The changes that rows spell, counted from 1.
+fn changes(alloc: Global, rows: &[Vec<&[u8]>]) -> Result<Changes, AskFault>
+    ensures { Gives result (changes_of 1 (rows_seen rows.now)) }
+{
+    let mut changes = Vec::with_capacity(alloc, rows.len())?;
+    for (index, fields) in rows.iter().enumerate() {
+        match read_change(alloc, fields) {
+            Ok(change) => changes.push(change)?,
+            Err(fault) => return Err(bad_row(index + 1, fault)),
+        }
+    }
+    Ok(Changes::new(changes))
+}
+
+/// The changes under their key.
+#[tactic(auto, unfolding(crate::specs::Rows::changes_in))]
+pub(crate) fn of_body(alloc: Global, body: &Value) -> Result<Changes, AskFault>
+    ensures { Gives result (changes_in (view body.now)) }
+{
+    match rows(alloc, body)? {
+        Some(rows) => changes(alloc, &rows),
+        None => Err(AskFault::Field(Field::Rows)),
+    }
+}

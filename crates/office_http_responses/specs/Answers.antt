@@ -1,0 +1,40 @@
+-- The bytes of an answer.
+use Rattle.std.specs.Prelude.{◌≡◌, ℕ, List, length, ◌++◌, codes, decimal}
+use Rattle.http.specs.StatusCode.{status_text}
+use Rattle.serde_json.specs.Data.{Data}
+use Rattle.serde_json.specs.Written.{compact_text}
+use Rattle.office_desk.specs.Refusal.{line_of}
+use Rattle.office_desk.specs.declared.refusal.Refusal.TheVariants.{Unavailable}
+use Rattle.office_desk.specs.declared.reply.Reply.{Reply}
+use Rattle.office_desk.specs.declared.reply.Reply.TheVariants.{Refused}
+use Rattle.office_http_requests.specs.declared.asked.Form.{Form}
+use Rattle.office_http_requests.specs.declared.asked.Form.TheVariants.{Json}
+use Rattle.office_http_responses.specs.Trees.{tree_in}
+
+-- an answer with this status and this content
+unfoldable pub answer_with : ℕ → List ℕ → List ℕ
+answer_with status content =
+    codes "HTTP/1.1 " ++ status_text status
+    ++ codes "\r\nContent-Type: application/json\r\nContent-Length: " ++ decimal (length content)
+    ++ codes "\r\n\r\n" ++ content
+
+-- these bytes were put after those that stood there
+pub record Puts (old new bytes : List ℕ) : Type 0 where
+  pub items : new ≡ old ++ bytes
+
+-- an answer with this status, whose content is a tree in compact text
+abbrev pub answer_text : ℕ → Data → List ℕ
+answer_text status tree = answer_with status (compact_text tree)
+
+-- the status of a reply
+abbrev pub status_of : Reply → ℕ
+status_of (Refused refusal) = (line_of refusal).status
+status_of _ = 200
+
+-- the answer of a reply in a form
+unfoldable pub answer_bytes : Reply → Form → List ℕ
+answer_bytes reply form = answer_text (status_of reply) (tree_in form reply)
+
+-- the answer for want of memory
+unfoldable pub unavailable_bytes : List ℕ
+unavailable_bytes = answer_bytes (Refused Unavailable) Json

@@ -1,0 +1,6 @@
+pub mod Answers
+pub mod Faults
+pub mod Json
+pub mod RegisterTrees
+pub mod Trees
+pub mod Writing

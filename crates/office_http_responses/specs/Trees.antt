@@ -1,0 +1,137 @@
+-- The JSON trees of replies, each object's keys in ascending order.
+use Rattle.std.specs.Prelude.{ℕ, List, [], ◌∷◌, codes}
+use Rattle.std.specs.FinMap.{values}
+use Rattle.serde_json.specs.Data.{Data}
+use Rattle.draft_core.specs.declared.state.DbState.{DbState}
+use Rattle.draft_core.specs.declared.state.DbState.TheVariants.{Normal, Transaction, Verify, Done}
+use Rattle.draft_core.specs.declared.state.Verdict.{Verdict}
+use Rattle.draft_core.specs.declared.state.Verdict.TheVariants.{NotDone, DoneWithError, DoneWithNoError}
+use Rattle.office_desk.specs.Refusal.{Line, line_of}
+use Rattle.office_desk.specs.declared.refusal.Refusal.{Refusal}
+use Rattle.office_desk.specs.declared.refusal.Refusal.TheVariants.{VerifyFailed, ImportRow}
+use Rattle.office_desk.specs.declared.reply.IntersectionState.{IntersectionState}
+use Rattle.office_desk.specs.declared.reply.OpenDraft.{OpenDraft}
+use Rattle.office_desk.specs.declared.reply.Reply.{Reply}
+use Rattle.office_desk.specs.declared.reply.Reply.TheVariants.{Added, Same, Moved, Imported, State, Timing, Draft, Cabinet, OpenOrders, Stock, Overdue, Refused}
+use Rattle.office_desk.specs.declared.reply.RunningTiming.{RunningTiming}
+use Rattle.office_http_responses.specs.Json.{count, text, or_null, list, keys}
+use Rattle.office_http_requests.specs.declared.asked.Form.{Form}
+use Rattle.office_http_requests.specs.declared.asked.Form.TheVariants.{Json, Csv}
+use Rattle.office_files.specs.Records.{cabinet_csv_text}
+use Rattle.office_files.specs.Timing.{timing_csv_text}
+use Rattle.office_http_responses.specs.RegisterTrees.{cabinet_tree, open_tree, stock_tree, overdue_tree}
+use Rattle.signal_records.specs.Spelling.{spelling}
+use Rattle.signal_records.specs.TimingSet.{Rows}
+use Rattle.signal_records.specs.Within.{current_limits}
+use Rattle.signal_records.specs.declared.record.Row.{Row}
+use Rattle.signal_rules.specs.Texts.{rule_text, subject_text}
+use Rattle.signal_rules.specs.declared.violation.Violation.{Violation}
+
+-- the name of a state of the transaction
+abbrev pub state_name : DbState → List ℕ
+state_name Normal = codes "normal"
+state_name Transaction = codes "transaction"
+state_name Verify = codes "verify"
+state_name Done = codes "done"
+
+-- the name of the verify status
+abbrev pub verdict_name : Verdict → List ℕ
+verdict_name NotDone = codes "notDone"
+verdict_name DoneWithError = codes "doneWithError"
+verdict_name DoneWithNoError = codes "doneWithNoError"
+
+-- a refusal or a fault with no more keys
+abbrev pub error_tree : Line → Data
+error_tree line = keys ((codes "error", text line.name) ∷ (codes "number", count line.number) ∷ [])
+
+-- the tree of a refusal
+abbrev pub refusal_tree : Refusal → Data
+refusal_tree (VerifyFailed violations) =
+    keys (
+    (codes "count", count violations)
+    ∷ (codes "error", text (line_of (VerifyFailed violations)).name)
+    ∷ (codes "number", count (line_of (VerifyFailed violations)).number)
+    ∷ []
+    )
+refusal_tree (ImportRow at cause) =
+    keys (
+    (codes "cause", count cause)
+    ∷ (codes "error", text (line_of (ImportRow at cause)).name)
+    ∷ (codes "number", count (line_of (ImportRow at cause)).number)
+    ∷ (codes "record", count at)
+    ∷ []
+    )
+refusal_tree refusal = error_tree (line_of refusal)
+
+-- what State shows of an intersection
+abbrev pub state_tree : IntersectionState → Data
+state_tree shown =
+    keys (
+    (codes "id", count shown.id)
+    ∷ (codes "interval", count shown.interval)
+    ∷ (codes "name", text shown.name)
+    ∷ (codes "owner", or_null text shown.owner)
+    ∷ (codes "revision", count shown.revision)
+    ∷ (codes "rows", count shown.rows)
+    ∷ (codes "state", text (state_name shown.state))
+    ∷ (codes "verify", text (verdict_name shown.verify))
+    ∷ []
+    )
+
+-- a row, as the array of its fields
+abbrev pub row_tree : Row → Data
+row_tree row = list text (spelling current_limits row)
+
+-- the rows of a timing set, in the order of their keys
+abbrev pub rows_tree : Rows → Data
+rows_tree set = list row_tree (values set)
+
+-- a rule that a subject breaks
+abbrev pub violation_tree : Violation → Data
+violation_tree violation =
+    keys ((codes "rule", text (rule_text violation.rule)) ∷ (codes "subject", text (subject_text violation.subject)) ∷ [])
+
+-- what Timing shows of an intersection
+abbrev pub timing_tree : RunningTiming → Data
+timing_tree shown = keys ((codes "revision", count shown.revision) ∷ (codes "rows", rows_tree shown.rows) ∷ [])
+
+-- what Draft shows of an intersection
+abbrev pub draft_tree : OpenDraft → Data
+draft_tree shown =
+    keys (
+    (codes "owner", text shown.owner)
+    ∷ (codes "rows", rows_tree shown.rows)
+    ∷ (codes "violations", list violation_tree shown.violations)
+    ∷ []
+    )
+
+-- the tree of a reply
+abbrev pub tree_of : Reply → Data
+tree_of Added = keys ((codes "result", text (codes "added")) ∷ [])
+tree_of Same = keys ((codes "result", text (codes "same")) ∷ [])
+tree_of (Moved revision state verdict) =
+    keys ((codes "revision", count revision) ∷ (codes "state", text (state_name state)) ∷ (codes "verify", text (verdict_name verdict)) ∷ [])
+tree_of (Imported added same) = keys ((codes "added", count added) ∷ (codes "same", count same) ∷ [])
+tree_of (State shown) = state_tree shown
+tree_of (Timing shown) = timing_tree shown
+tree_of (Draft shown) = draft_tree shown
+tree_of (Cabinet shown) = cabinet_tree shown.inspections shown.orders shown.lines
+tree_of (OpenOrders numbers) = open_tree numbers
+tree_of (Stock parts) = stock_tree parts
+tree_of (Overdue rows) = overdue_tree rows
+tree_of (Refused refusal) = refusal_tree refusal
+
+-- a CSV text, as the one key of an object
+abbrev pub csv_tree : List ℕ → Data
+csv_tree csv = keys ((codes "csv", text csv) ∷ [])
+
+-- the tree of a reply in CSV, which a timing set and a cabinet have; any other is as in JSON
+abbrev pub csv_tree_of : Reply → Data
+csv_tree_of (Timing shown) = csv_tree (timing_csv_text shown.rows)
+csv_tree_of (Cabinet shown) = csv_tree (cabinet_csv_text shown.id shown.inspections shown.orders shown.lines)
+csv_tree_of reply = tree_of reply
+
+-- the tree of a reply in a form
+abbrev pub tree_in : Form → Reply → Data
+tree_in Json reply = tree_of reply
+tree_in Csv reply = csv_tree_of reply

@@ -1,0 +1,62 @@
+//! The bytes of an answer.
+ghost use Rattle.std.specs.Prelude.{◌≡◌, IfOk};
+ghost use Rattle.serde_json.specs.Written.{compact_text};
+ghost use Rattle.office_desk.specs.Refusal.{line_of};
+ghost use Rattle.office_http_responses.specs.Answers.{answer_bytes, status_of, unavailable_bytes};
+ghost use Rattle.office_http_responses.specs.Trees.{tree_in};
+
+use crate::head::with_head;
+use crate::reply::write_in_form;
+use http::StatusCode;
+use json::Writer;
+use office_desk::refusal::Refusal;
+use office_desk::reply::Reply;
+use office_http_requests::Form;
+use std::alloc::{AllocError, Global};
+
+const UNAVAILABLE: &[u8] =
+    b"HTTP/1.1 503 Service Unavailable\r\nContent-Type: application/json\r\nContent-Length: 35\r\n\r\n{\"error\":\"Unavailable\",\"number\":90}";
+
+/// The room that most contents need.
+pub(crate) const CONTENT_ROOM: usize = 240;
+
+/// The answer that stands for any other where there is no memory, or the database refused. It takes no memory.
+pub fn unavailable() -> &'static [u8]
+    ensures { result.now ≡ unavailable_bytes }
+{
+    UNAVAILABLE
+}
+
+/// The answer of a reply in a form, which is for replies that have two: any other is in JSON.
+pub fn answer_of(alloc: Global, reply: &Reply, form: Form) -> Result<Vec<u8>, AllocError>
+    ensures { IfOk result (λ answer. answer.items ≡ answer_bytes reply.now form) }
+{
+    let content = content_of(alloc, reply, form)?;
+    with_head(alloc, status(reply), content.as_slice())
+}
+
+// The text of a reply.
+fn content_of(alloc: Global, reply: &Reply, form: Form) -> Result<Vec<u8>, AllocError>
+    ensures { IfOk result (λ content. content.items ≡ compact_text (tree_in form reply.now)) }
+{
+    let mut to = Writer::new(Vec::with_capacity(alloc, CONTENT_ROOM)?);
+    write_in_form(alloc, &mut to, reply, form)?;
+    Ok(to.into_inner())
+}
+
+// The status of a reply.
+fn status(reply: &Reply) -> StatusCode
+    ensures { result ≡ status_of reply.now }
+{
+    match reply {
+        Reply::Refused(refusal) => refusal_status(*refusal),
+        _ => StatusCode::OK,
+    }
+}
+
+// The status of a refusal, which is a status code of HTTP for each.
+fn refusal_status(refusal: Refusal) -> StatusCode
+    ensures { result ≡ (line_of refusal).status }
+{
+    StatusCode::from_u16(refusal.status()).unwrap_or(StatusCode::INTERNAL_SERVER_ERROR)
+}

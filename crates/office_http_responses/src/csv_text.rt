@@ -1,0 +1,51 @@
+//! CSV texts, in JSON.
+ghost use Rattle.std.specs.Prelude.{IsUtf8};
+ghost use Rattle.office_files.specs.Records.{records_csv_text};
+ghost use Rattle.office_files.specs.Timing.{timing_csv_text};
+ghost use Rattle.office_http_responses.specs.Trees.{csv_tree};
+ghost use Rattle.office_http_responses.specs.Writing.{AddsTree};
+
+use crate::writing::Scalar::Text;
+use crate::writing::object;
+use cabinet_core::CabinetView;
+use json::Writer;
+use office_files::{records_csv, timing_csv};
+use signal_records::{InterId, TimingSet};
+use std::alloc::{AllocError, Global};
+use std::str;
+
+// A CSV text, as the one key of an object.
+fn write_csv(alloc: Global, to: &mut Writer, csv: &[u8]) -> Result<(), AllocError>
+    requires { IsUtf8 csv.now }
+    ensures { AddsTree result to.old to.new (csv_tree csv.now) }
+{
+    let Ok(csv) = str::from_utf8(csv) else {
+        unreachable!();
+    };
+    object(alloc, to, &[("csv", Text(csv))])
+}
+
+/// The rows of a timing set as a CSV text, in the order of their keys.
+pub(crate) fn write_timing_csv(
+    alloc: Global,
+    to: &mut Writer,
+    set: &TimingSet,
+) -> Result<(), AllocError>
+    ensures { AddsTree result to.old to.new (csv_tree (timing_csv_text set.now)) }
+{
+    let csv = timing_csv(alloc, set).map_err(|_| AllocError)?;
+    write_csv(alloc, to, csv.as_slice())
+}
+
+/// What made the cabinet of an intersection as it stands, as a CSV text.
+pub(crate) fn write_cabinet_csv(
+    alloc: Global,
+    to: &mut Writer,
+    id: InterId,
+    shown: &CabinetView,
+) -> Result<(), AllocError>
+    ensures { AddsTree result to.old to.new (csv_tree (records_csv_text id shown.now)) }
+{
+    let csv = records_csv(alloc, id, shown).map_err(|_| AllocError)?;
+    write_csv(alloc, to, csv.as_slice())
+}

@@ -1,0 +1,15 @@
+//! Replies and faults written as responses of HTTP, with their content in JSON.
+#![tactic(auto)]
+
+mod answer;
+mod cabinet;
+mod csv_text;
+mod day;
+mod fault;
+mod head;
+mod lists;
+mod reply;
+mod writing;
+
+pub use answer::{answer_of, unavailable};
+pub use fault::{More, ask_fault_answer, fault_answer, framing_fault_answer};

@@ -1,0 +1,160 @@
+//! JSON written a token at a time, in the order of the keys.
+ghost use Rattle.std.specs.Prelude.{◌≡◌, [], ◌∷◌, map, flat_map, option_map};
+ghost use Rattle.json.specs.Token.{key as key_token};
+ghost use Rattle.office_http_responses.specs.Json.{keys, list, or_null, text as text_tree};
+ghost use Rattle.jiff.specs.Words.{epoch_day};
+ghost use Rattle.office_http_responses.specs.RegisterTrees.{day_tree, due_tree};
+ghost use Rattle.office_http_responses.specs.Writing.{Adds, AddsTree, entry_of, member_tokens, scalar_tree, tokens_of};
+
+use crate::day::{day_in_json, due_in_json};
+use cabinet_core::Day;
+use jiff::civil::Date;
+use json::Writer;
+use signal_records::Words;
+use std::alloc::{AllocError, Global};
+
+/// A value without parts.
+#[derive(Drop)]
+pub(crate) enum Scalar<'a> {
+    Null,
+    Number(u64),
+    Text(&'a str),
+    /// A day, as it is spelt.
+    Day(Day),
+    /// A day on which an inspection falls due.
+    Due(Date),
+}
+
+/// A clerk, or null where there is none.
+pub(crate) fn clerk_or_null(clerk: Option<&Words<40>>) -> Scalar<'_>
+    ensures { scalar_tree result ≡ or_null text_tree (option_map (λ clerk. clerk.now) clerk.entry) }
+{
+    match clerk {
+        Some(clerk) => Scalar::Text(clerk.as_str()),
+        None => Scalar::Null,
+    }
+}
+
+/// A day, or null where there is none.
+pub(crate) fn day_or_null(day: Option<Day>) -> Scalar<'static>
+    ensures { scalar_tree result ≡ or_null day_tree day }
+{
+    match day {
+        Some(day) => Scalar::Day(day),
+        None => Scalar::Null,
+    }
+}
+
+/// The day on which an inspection falls due, or null where there is none.
+pub(crate) fn due_or_null(due: Option<Date>) -> Scalar<'static>
+    ensures { scalar_tree result ≡ or_null due_tree (option_map epoch_day due) }
+{
+    match due {
+        Some(due) => Scalar::Due(due),
+        None => Scalar::Null,
+    }
+}
+
+fn write_scalar(alloc: Global, to: &mut Writer, value: &Scalar<'_>) -> Result<(), AllocError>
+    ensures { AddsTree result to.old to.new (scalar_tree value.now) }
+{
+    match value {
+        Scalar::Null => to.null(),
+        Scalar::Number(n) => to.u64(*n),
+        Scalar::Text(text) => to.string(text),
+        Scalar::Day(day) => day_in_json(alloc, to, *day),
+        Scalar::Due(due) => due_in_json(alloc, to, *due),
+    }
+}
+
+fn write_member(
+    alloc: Global,
+    to: &mut Writer,
+    member: &(&str, Scalar<'_>),
+) -> Result<(), AllocError>
+    ensures { Adds result to.old to.new (member_tokens (entry_of member.now)) }
+{
+    to.key(member.0)?;
+    write_scalar(alloc, to, &member.1)
+}
+
+/// Members of an object, by key and value.
+pub(crate) fn write_members(
+    alloc: Global,
+    to: &mut Writer,
+    members: &[(&str, Scalar<'_>)],
+) -> Result<(), AllocError>
+    ensures { Adds result to.old to.new (flat_map member_tokens (map entry_of members.now)) }
+{
+    for member in members {
+        write_member(alloc, to, member)?;
+    }
+    Ok(())
+}
+
+/// An object of members without parts.
+pub(crate) fn object(
+    alloc: Global,
+    to: &mut Writer,
+    members: &[(&str, Scalar<'_>)],
+) -> Result<(), AllocError>
+    ensures { AddsTree result to.old to.new (keys (map entry_of members.now)) }
+{
+    to.begin_object()?;
+    write_members(alloc, to, members)?;
+    to.end_object()?;
+    Ok(())
+}
+
+/// What is written as JSON.
+pub(crate) trait WriteJson {
+    ghost use Rattle.serde_json.specs.Data.{Data};
+    ghost use Rattle.jiff.specs.Words.{epoch_day};
+    ghost use Rattle.office_http_responses.specs.RegisterTrees.{day_tree, due_tree};
+    ghost use Rattle.office_http_responses.specs.Writing.{AddsTree};
+
+    // What is written, as a tree.
+    ghost tree: { Self → Data };
+
+    fn write_json(&self, alloc: Global, to: &mut Writer) -> Result<(), AllocError>
+        ensures { AddsTree result to.old to.new (tree self.now) };
+}
+
+fn write_items<T: WriteJson>(alloc: Global, to: &mut Writer, items: &[T]) -> Result<(), AllocError>
+    ensures { Adds result to.old to.new (flat_map tokens_of (map T.tree items.now)) }
+{
+    for item in items {
+        item.write_json(alloc, to)?;
+    }
+    Ok(())
+}
+
+/// An array of the items.
+pub(crate) fn array<T: WriteJson>(
+    alloc: Global,
+    to: &mut Writer,
+    items: &[T],
+) -> Result<(), AllocError>
+    ensures { AddsTree result to.old to.new (list T.tree items.now) }
+{
+    to.begin_array()?;
+    write_items(alloc, to, items)?;
+    to.end_array()?;
+    Ok(())
+}
+
+/// An object of one key, under which the items stand as an array.
+pub(crate) fn object_of_array<T: WriteJson>(
+    alloc: Global,
+    to: &mut Writer,
+    key: &str,
+    items: &[T],
+) -> Result<(), AllocError>
+    ensures { AddsTree result to.old to.new (keys ((key.now, list T.tree items.now) ∷ [])) }
+{
+    to.begin_object()?;
+    to.key(key)?;
+    array(alloc, to, items)?;
+    to.end_object()?;
+    Ok(())
+}

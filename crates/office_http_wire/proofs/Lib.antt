@@ -1,3 +1,0 @@
-pub mod RouteTable
-pub mod RowLemmas
-pub mod TreeLemmas
