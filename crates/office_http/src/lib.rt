@@ -7,6 +7,7 @@
 mod listening;
 mod machine;
 mod service;
+mod waiting;
 
 pub use listening::{
     Connection, FromListener, Listen, ListenCounts, ServeStop, serve_each, serve_on,
@@ -19,3 +20,4 @@ pub use office_http_framing::front::{Fault, Front, Request, next_request};
 pub use office_http_requests::{AskFault, Asked, Field, Form, command_of};
 pub use office_http_responses::{More, answer_of, fault_answer, unavailable};
 pub use service::serve;
+pub use waiting::WaitsOnce;

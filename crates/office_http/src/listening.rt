@@ -17,6 +17,7 @@ ghost use Rattle.office_http.specs.Listening.{
 };
 
 use crate::service::serve;
+use crate::waiting::WaitsOnce;
 use office_desk::office::Office;
 use office_http_framing::ends::{FromRead, Sink, Source, ToWrite};
 use office_http_framing::engine::{ServeFault, Served};
@@ -111,14 +112,16 @@ impl<'a> FromListener<'a> {
 /// The two ends of a connection, of which no read and no write waits longer than `LONGEST_WAIT`. It
 /// sends each answer at once, however short it is; where the system refuses that, answers may be held
 /// back for a moment, and no more.
-fn opened(stream: TcpStream) -> io::Result<Connection<FromRead<TcpStream>, ToWrite<TcpStream>>>
+fn opened(
+    stream: TcpStream,
+) -> io::Result<Connection<FromRead<TcpStream>, ToWrite<WaitsOnce<TcpStream>>>>
     ensures { IfOk result (λ c. (c.reader.counts ≡ no_calls) × (c.writer.counts ≡ no_calls)) }
 {
     let wait = Duration::from_secs(LONGEST_WAIT);
     stream.set_read_timeout(Some(wait))?;
     stream.set_write_timeout(Some(wait))?;
     let _ = stream.set_nodelay(true);
-    let writer = ToWrite::new(stream.try_clone()?);
+    let writer = ToWrite::new(WaitsOnce::new(stream.try_clone()?));
     let reader = FromRead::new(stream);
     Ok(Connection { reader, writer })
 }
@@ -129,12 +132,14 @@ impl Listen for FromListener<'_> {
 
     type Reader = FromRead<TcpStream>;
 
-    type Writer = ToWrite<TcpStream>;
+    type Writer = ToWrite<WaitsOnce<TcpStream>>;
 
     // The system does not tell what a connection gives and takes.
     ghost told = { λ s. record { counts = s.counts; given = None; returned = None } };
 
-    fn accept(&mut self) -> io::Result<Connection<FromRead<TcpStream>, ToWrite<TcpStream>>> {
+    fn accept(
+        &mut self,
+    ) -> io::Result<Connection<FromRead<TcpStream>, ToWrite<WaitsOnce<TcpStream>>>> {
         let outcome = match self.listener.accept() {
             Ok((stream, _)) => opened(stream),
             Err(error) => Err(error),
@@ -143,7 +148,10 @@ impl Listen for FromListener<'_> {
         outcome
     }
 
-    fn take_back(&mut self, connection: Connection<FromRead<TcpStream>, ToWrite<TcpStream>>)
+    fn take_back(
+        &mut self,
+        connection: Connection<FromRead<TcpStream>, ToWrite<WaitsOnce<TcpStream>>>,
+    )
         ensures counts { self.new.counts ≡ self.old.counts }
         ensures given { Adds None None [] }
         ensures returned { Adds None None (ends_of
