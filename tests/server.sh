@@ -5,7 +5,7 @@
 # of which the server ends after 30 seconds, and clients that close in the middle: after each the next one is
 # answered. It waits for the server's end, and prints the timing sheet from the file. The program's path is
 # the first word, the port the second, if another than 8312 is wanted. Needs curl and Python 3, and takes
-# some 100 seconds. Prints ok.
+# some two minutes. Prints ok.
 set -eu
 top=$(cd "$(dirname "$0")/.." && pwd)
 program=${1:?usage: tests/server.sh PROGRAM [PORT]}
