@@ -1,4 +1,4 @@
-//! Ends of a stream for tests: they give little at a time, fail, or wait for one another.
+//! Ends of a stream for tests: they take little, wait for one another, or never stop.
 
 ghost use Rattle.std.specs.Prelude.{◌≤◌, length};
 
@@ -17,40 +17,6 @@ fn give(rest: &mut &[u8], buf: &mut [u8]) -> usize
     buf[..n].copy_from_slice(&all[..n]);
     *rest = &all[n..];
     n
-}
-
-/// Gives one byte at a time, and after the last fails or gives none.
-#[derive(Drop)]
-pub(crate) struct Drip<'a> {
-    rest: &'a [u8],
-    fails: bool,
-    pub counts: Counts,
-}
-
-impl<'a> Drip<'a> {
-    pub(crate) fn new(rest: &'a [u8], fails: bool) -> Drip<'a> {
-        Drip {
-            rest,
-            fails,
-            counts: Counts::default(),
-        }
-    }
-}
-
-impl<'a> Source for Drip<'a> {
-    ghost use Rattle.std.specs.Prelude.{None};
-
-    ghost told = { λ s. record { bytes = None; counts = s.counts } };
-
-    fn read(&mut self, buf: &mut [u8]) -> io::Result<usize> {
-        let outcome = if self.rest.is_empty() && self.fails {
-            Err(io::Error::from(ErrorKind::Other))
-        } else {
-            Ok(give(&mut self.rest, &mut buf[..1]))
-        };
-        self.counts.count(&outcome);
-        outcome
-    }
 }
 
 /// Gives the same bytes again and again.

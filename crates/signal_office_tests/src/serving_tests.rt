@@ -1,13 +1,14 @@
-//! The office at ends that fail, take little, wait for one another or never stop.
+//! The office at ends that take little, wait for one another or never stop.
 
-use crate::ends::{Drip, Endless, Narrow, Patient, Telling};
+use crate::ends::{Endless, Narrow, Patient, Telling};
 use office_desk::office::Office;
-use office_http::{FromRead, ServeFault, Served, Sink, Source, ToWrite, serve};
+use office_http::{FromRead, ServeFault, Served, Sink, Source, ToWrite, WaitsOnce, serve};
 use office_tables_shelf::map_shelf::MapShelf;
 use office_tables_shelf::rows::Table;
 use office_tables_shelf::shelf::Shelf;
 use std::alloc::Global;
 use std::cell::Cell;
+use std::io::Write;
 
 /// Adds intersection 12, asks for it, and begins a transaction: requests of 93, 34 and 76 bytes.
 pub(crate) const STREAM: &[u8; 203] =
@@ -30,37 +31,6 @@ fn served<R: Source, W: Sink>(
     let mut office = Office::new(MapShelf::new(alloc));
     let outcome = serve(alloc, &mut office, reader, writer, max_requests);
     (outcome, office.into_shelf().writes(Table::Intersection))
-}
-
-/// A stream that is cut off after any of its bytes is answered for its whole requests.
-#[test]
-fn whole_requests_of_a_cut_stream_are_answered(rt: HostRuntime) {
-    for (n, requests, written) in [
-        (0, 0, 0),
-        (92, 0, 0),
-        (93, 1, 89),
-        (126, 1, 89),
-        (127, 2, 273),
-        (202, 2, 273),
-        (203, 3, 399),
-    ] {
-        let mut reader = Drip::new(&STREAM[..n], false);
-        let mut writer = ToWrite::new(Vec::new(rt.alloc()));
-        let (outcome, _written) = served(rt.alloc(), &mut reader, &mut writer, 9);
-        assert!(rt; outcome == Ok(Served { requests }), "after {n} bytes");
-        assert_eq!(rt; writer.writer.as_slice(), &ANSWERS[..written]);
-        assert_eq!(rt; reader.counts.empties, 1);
-    }
-}
-
-#[test]
-fn a_reader_that_fails_is_told_after_the_answers(rt: HostRuntime) {
-    let mut reader = Drip::new(&STREAM[..93], true);
-    let mut writer = ToWrite::new(Vec::new(rt.alloc()));
-    let (outcome, written) = served(rt.alloc(), &mut reader, &mut writer, 9);
-    assert!(rt; outcome == Err(ServeFault::Read { requests: 1 }));
-    assert_eq!(rt; writer.writer.as_slice(), &ANSWERS[..89]);
-    assert_eq!(rt; written, 1);
 }
 
 #[test]
@@ -93,4 +63,14 @@ fn a_stream_without_end_is_served_to_the_limit(rt: HostRuntime) {
     assert!(rt; outcome == Ok(Served { requests: 3 }));
     assert_eq!(rt; writer.writer.len(), 3 * 121);
     assert_eq!(rt; written, 0);
+}
+
+/// Once a connection took a part, it is not waited for again.
+#[test]
+fn a_part_that_was_taken_is_the_last(rt: HostRuntime) {
+    let mut room = [0u8; 4];
+    let mut writer = WaitsOnce::new(room.as_mut_slice());
+    assert!(rt; matches!(writer.write(b"abc"), Ok(3)));
+    assert!(rt; matches!(writer.write(b"de"), Ok(1)));
+    assert!(rt; writer.write(b"e").is_err());
 }
