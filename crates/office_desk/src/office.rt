@@ -99,8 +99,8 @@ impl<S: Shelf> Office<S> {
         // The rows that it writes are at most those of its kind of command.
         ensures writes { S.is_honest self.new → RiseAtMost (S.content self.old) command.now (S.written self.old) (S.written self.new) }
         ensures unwritten { IsRefused result → S.written self.new ≡ S.written self.old }
-        ensures damaged { result ≡ Reply.Refused Refusal.Damaged → S.is_honest self.new → MeetsDamage (S.content self.old) command.now }
         ensures turned_away { S.is_honest self.new → NamesDamaged (S.content self.old) command.now → IsTurnedAway result }
+        ensures damaged { result ≡ Reply.Refused Refusal.Damaged → S.is_honest self.new → MeetsDamage (S.content self.old) command.now }
         // A crash leaves what it could before the call, or the tables after the command's step, also where a failure
         // has shut the database.
         ensures crash { (tables : Content) → S.may_leave self.new tables →

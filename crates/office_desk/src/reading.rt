@@ -27,15 +27,6 @@ pub struct Found {
     pub timing: Timing,
 }
 
-/// Every row is within its limits, as its type says.
-pub(crate) fn rows_are_within(rows: &[Row])
-    ensures { AreWithin rows.now }
-{
-    for row in rows {
-        row_is_within(row);
-    }
-}
-
 /// Every change is within its limits, as its type says.
 pub(crate) fn changes_are_within(changes: &[Change])
     ensures { AreChangesWithin changes.now }
@@ -45,20 +36,23 @@ pub(crate) fn changes_are_within(changes: &[Change])
     }
 }
 
-/// The changes that put rows.
-fn puts_of(alloc: Global, rows: &[Row]) -> Result<Vec<Change>, NoMemory>
-    ensures { IfOk result (λ changes. changes.items ≡ map (λ row. Change.Put row) rows.now) }
+/// The changes that put rows, each of which is within its limits, as its type says.
+fn puts_of(alloc: Global, rows: Vec<Row>) -> Result<Vec<Change>, NoMemory>
+    ensures puts { IfOk result (λ changes. changes.items ≡ map (λ row. Change.Put row) rows.items) }
+    ensures within { IfOk result (λ _. AreWithin rows.items) }
 {
     let mut changes = Vec::new(alloc);
     for row in rows {
-        changes.push(Change::Put(row.clone()?))?;
+        row_is_within(&row);
+        changes.push(Change::Put(row))?;
     }
     Ok(changes)
 }
 
 /// The set of rows.
-pub(crate) fn set_of(alloc: Global, rows: &[Row]) -> Result<TimingSet, NoMemory>
-    ensures { IfOk result (λ set. set ≡ set_of_rows rows.now) }
+pub(crate) fn set_of(alloc: Global, rows: Vec<Row>) -> Result<TimingSet, NoMemory>
+    ensures set { IfOk result (λ set. set ≡ set_of_rows rows.items) }
+    ensures within { IfOk result (λ _. AreWithin rows.items) }
 {
     let changes = puts_of(alloc, rows)?;
     let mut set = TimingSet::new(alloc);
@@ -77,9 +71,7 @@ pub(crate) fn committed_set<S: Shelf>(
     ensures kept { IsKept S.is_honest S.content S.written S.may_leave shelf.old shelf.new }
 {
     let rows = shelf.timing_rows(alloc, id)?;
-    let list = rows.as_slice();
-    rows_are_within(list);
-    let set = set_of(alloc, list)?;
+    let set = set_of(alloc, rows)?;
     Ok(set)
 }
 
@@ -87,12 +79,11 @@ pub(crate) fn committed_set<S: Shelf>(
 fn made_of(
     alloc: Global,
     row: IntersectionRow,
-    rows: &[Row],
+    rows: Vec<Row>,
     changes: Vec<Change>,
 ) -> Result<Found, NoMemory>
-    ensures { IfOk result (λ found. IsMadeOf row rows.now changes.items found) }
+    ensures { IfOk result (λ found. IsMadeOf row rows.items changes.items found) }
 {
-    rows_are_within(rows);
     changes_are_within(changes.as_slice());
     let committed = set_of(alloc, rows)?;
     let IntersectionRow {
@@ -159,7 +150,6 @@ pub(crate) fn find<S: Shelf>(
     };
     let rows = shelf.timing_rows(alloc, id)?;
     let changes = shelf.draft_rows(alloc, id)?;
-    let list = rows.as_slice();
-    let found = made_of(alloc, row, list, changes)?;
+    let found = made_of(alloc, row, rows, changes)?;
     Ok(Some(found))
 }

@@ -22,8 +22,8 @@ pub(crate) fn run_on<S: Shelf>(shelf: &mut S, alloc: Global, command: &Command) 
     ensures refused { IsRefused result → S.is_honest shelf.new → S.content shelf.new ≡ S.content shelf.old }
     ensures writes { S.is_honest shelf.new → RiseAtMost (S.content shelf.old) command.now (S.written shelf.old) (S.written shelf.new) }
     ensures unwritten { IsRefused result → S.written shelf.new ≡ S.written shelf.old }
-    ensures damaged { result ≡ Reply.Refused Refusal.Damaged → S.is_honest shelf.new → MeetsDamage (S.content shelf.old) command.now }
     ensures turned_away { S.is_honest shelf.new → NamesDamaged (S.content shelf.old) command.now → IsTurnedAway result }
+    ensures damaged { result ≡ Reply.Refused Refusal.Damaged → S.is_honest shelf.new → MeetsDamage (S.content shelf.old) command.now }
     // A crash leaves what it could before the call, or the tables after the command's step.
     ensures crash { (tables : Content) → S.may_leave shelf.new tables →
         S.may_leave shelf.old tables ⊎ (S.is_honest shelf.old × IsAfterStep (S.content shelf.old) command.now tables) }

@@ -11,7 +11,7 @@ ghost use Rattle.office_desk.specs.Named.{RefusesBy};
 
 use crate::command::Command;
 use crate::decided::Decided;
-use crate::reading::{Found, find, intersection_row, rows_are_within, set_of};
+use crate::reading::{Found, find, intersection_row, set_of};
 use crate::refusal::Refusal;
 use crate::reply::{IntersectionState, OpenDraft, Reply, RunningTiming, Violations};
 use draft_core::state::{DbState, Holder, Stage, Verdict};
@@ -108,9 +108,7 @@ pub(crate) fn decide_timing<S: Shelf>(
     let Some(row) = intersection_row(shelf, alloc, id)? else {
         return Ok(Decided::refused(alloc, Refusal::UnknownIntersection));
     };
-    let listed = shelf.timing_rows(alloc, id)?;
-    let rows = listed.as_slice();
-    rows_are_within(rows);
+    let rows = shelf.timing_rows(alloc, id)?;
     let set = set_of(alloc, rows)?;
     let timing = RunningTiming {
         revision: row.revision,

@@ -1,4 +1,4 @@
-use Rattle.std.proofs.Common.{◌∙◌, subst, sym}
+use Rattle.std.proofs.Common.{◌∙◌, subst}
 use Rattle.office_tables_shelf.specs.Shelf.{ReadsIntersection, ListsTiming, ListsDraft}
 use Rattle.office_desk.proofs.ReadBack.{finds_none, finds_some}
 use Rattle.office_desk.proofs.reading.find.Goals as goal
@@ -14,11 +14,10 @@ returns-clause-found g c = λ honest office stands.
     let first = c.timing_rows.ensures.kept.honest_before second in
     let same_first = c.intersection_row.ensures.kept.same_content first in
     let same_second = c.timing_rows.ensures.kept.same_content second ∙ same_first in
-    let list = c.as_slice-list.result.now in
-    let lists = subst (λ rows. ListsTiming (content c.intersection_row.new.shelf) c.args.id rows) (sym c.as_slice-list.ensures.value) (c.in_ok-rows.ensures.rows second) in
+    let list = c.in_ok-rows.rows.items in
     finds_some (content c.args.shelf.now) office c.args.id c.in-Some.row list c.in_ok-changes.changes.items c.in_ok-found.found stands
     (subst (ReadsIntersection (content c.args.shelf.now) c.args.id) c.in-Some.is (c.in_ok-row.ensures.row first))
-    (subst (λ tables. ListsTiming tables c.args.id list) same_first lists)
+    (subst (λ tables. ListsTiming tables c.args.id list) same_first (c.in_ok-rows.ensures.rows second))
     (subst (λ tables. ListsDraft tables c.args.id c.in_ok-changes.changes.items) same_second (c.in_ok-changes.ensures.rows honest))
     c.in_ok-found.ensures
 
