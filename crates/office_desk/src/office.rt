@@ -76,10 +76,10 @@ impl<S: Shelf> Office<S> {
         ensures undamaged { result ≢ Err ShelfFault.Damaged }
         ensures written_ok { OnOk result (S.written self.new ≡ counts_after (S.written self.old) changes.now) }
         ensures written_err { OnErr result (S.written self.new ≡ S.written self.old) }
-        // A crash leaves what it could before, or the whole result; and that alone once rows were changed.
-        ensures crash { S.is_honest self.new → (tables : Content) → S.may_leave self.new tables →
-            S.may_leave self.old tables ⊎ (tables ≡ changed_by (S.content self.old) changes.now) }
-        ensures settled { OnOk result (S.is_honest self.new → S.content self.new ≢ S.content self.old →
+        // A crash leaves what it could before, or the whole result; and that alone once changes were made.
+        ensures crash { (tables : Content) → S.may_leave self.new tables →
+            S.may_leave self.old tables ⊎ (S.is_honest self.old × (tables ≡ changed_by (S.content self.old) changes.now)) }
+        ensures settled { OnOk result (changes.now ≢ [] →
             (tables : Content) → S.may_leave self.new tables → tables ≡ S.content self.new) }
     {
         self.shelf.apply(alloc, changes)
@@ -95,11 +95,14 @@ impl<S: Shelf> Office<S> {
         ensures writes { S.is_honest self.new → RiseAtMost (S.content self.old) command.now (S.written self.old) (S.written self.new) }
         ensures unwritten { IsRefused result → S.written self.new ≡ S.written self.old }
         ensures damaged { result ≡ Reply.Refused Refusal.Damaged → S.is_honest self.new → MeetsDamage (S.content self.old) command.now }
-        // A crash leaves what it could before the call, or the tables after the command's step.
-        ensures crash { S.is_honest self.new → (tables : Content) → S.may_leave self.new tables →
-            S.may_leave self.old tables ⊎ IsAfterStep (S.content self.old) command.now tables }
-        // Where the command changed the tables, and was answered, it leaves those alone.
+        // A crash leaves what it could before the call, or the tables after the command's step, also where a failure
+        // has shut the database.
+        ensures crash { (tables : Content) → S.may_leave self.new tables →
+            S.may_leave self.old tables ⊎ (S.is_honest self.old × IsAfterStep (S.content self.old) command.now tables) }
+        // Where the command changed the tables, or wrote rows, and was answered, it leaves those alone.
         ensures settled { S.is_honest self.new → result ≢ Reply.Refused Refusal.Unavailable → S.content self.new ≢ S.content self.old →
+            (tables : Content) → S.may_leave self.new tables → tables ≡ S.content self.new }
+        ensures made { result ≢ Reply.Refused Refusal.Unavailable → S.written self.new ≢ S.written self.old →
             (tables : Content) → S.may_leave self.new tables → tables ≡ S.content self.new }
     {
         run_on(&mut self.shelf, alloc, command)

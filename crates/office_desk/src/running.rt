@@ -22,10 +22,12 @@ pub(crate) fn run_on<S: Shelf>(shelf: &mut S, alloc: Global, command: &Command) 
     ensures unwritten { IsRefused result → S.written shelf.new ≡ S.written shelf.old }
     ensures damaged { result ≡ Reply.Refused Refusal.Damaged → S.is_honest shelf.new → MeetsDamage (S.content shelf.old) command.now }
     // A crash leaves what it could before the call, or the tables after the command's step.
-    ensures crash { S.is_honest shelf.new → (tables : Content) → S.may_leave shelf.new tables →
-        S.may_leave shelf.old tables ⊎ IsAfterStep (S.content shelf.old) command.now tables }
-    // Where the command changed the tables, and was answered, it leaves those alone.
+    ensures crash { (tables : Content) → S.may_leave shelf.new tables →
+        S.may_leave shelf.old tables ⊎ (S.is_honest shelf.old × IsAfterStep (S.content shelf.old) command.now tables) }
+    // Where the command changed the tables, or wrote rows, and was answered, it leaves those alone.
     ensures settled { S.is_honest shelf.new → result ≢ Reply.Refused Refusal.Unavailable → S.content shelf.new ≢ S.content shelf.old →
+        (tables : Content) → S.may_leave shelf.new tables → tables ≡ S.content shelf.new }
+    ensures made { result ≢ Reply.Refused Refusal.Unavailable → S.written shelf.new ≢ S.written shelf.old →
         (tables : Content) → S.may_leave shelf.new tables → tables ≡ S.content shelf.new }
 {
     let decided = decide_on(shelf, alloc, command);

@@ -1,10 +1,12 @@
 -- How a decision and its answer make a step of the protocol.
 use Rattle.std.proofs.Common.{◌≡◌, ◌≢◌, ◌⊎◌, ◌∙◌, inl, inr, ℕ, true, List, [], ◌∷◌, length, refl, sym, subst, arith}
 use Rattle.std.proofs.lemmas.Bool.Decides.{nat_tests}
-use Rattle.std.specs.Prelude.{◌==◌, Result, Ok, Err, IfOk, OnOk, OnErr}
+use Rattle.std.specs.Prelude.{◌==◌, Result, Ok, Err, IfOk, OnOk}
 use Rattle.office_tables_shelf.specs.Content.{Content}
 use Rattle.office_tables_shelf.specs.Shelf.{IsKept}
+use Rattle.office_tables_shelf.specs.Change.{changed_by}
 use Rattle.office_tables_shelf.specs.declared.counts.WriteCounts.{WriteCounts}
+use Rattle.office_tables_shelf.specs.declared.rows.RowChange.{RowChange}
 use Rattle.office_desk.specs.Answers.{AnswersAny}
 use Rattle.office_desk.specs.Office.{Office}
 use Rattle.office_desk.specs.StandFor.{StandForSound}
@@ -17,7 +19,7 @@ use Rattle.office_http_wire.specs.Faults.{ask_fault_text}
 use Rattle.office_http_wire.specs.declared.ask.Asked.{Asked}
 use Rattle.office_http_fields.specs.declared.ask.AskFault.{AskFault}
 use Rattle.office_http_fields.specs.declared.ask.AskFault.TheVariants.{NoMemory}
-use Rattle.office_http.specs.Protocol.{AnswersAsked, AnswersRead, StandsAfterAsked, office_storage}
+use Rattle.office_http.specs.Protocol.{AnswersAsked, AnswersRead, LeavesAsked, StandsAfterAsked, office_storage}
 use Rattle.office_http_framing.specs.Stops.{Settles}
 
 -- a reply that is not unavailable is that of the command's own step
@@ -48,15 +50,11 @@ pub on_ok : {T E : Type 0} {P : Type 0} (r : Result T E) → P → OnOk r P
 on_ok (Ok x) p = p
 on_ok (Err e) p = tt
 
-pub on_err : {T E : Type 0} {P : Type 0} (r : Result T E) → P → OnErr r P
-on_err (Ok x) p = tt
-on_err (Err e) p = p
-
 -- a call that only reads settles: what a crash may leave stays, and so do the tables
 pub settles_kept : {Shelf : Type 0} (is_honest : Shelf → Type 0) (content : Shelf → Content) (written : Shelf → WriteCounts) (may_leave : Shelf → Content → Type 0) (old new : Shelf)
     → IsKept is_honest content written may_leave old new → is_honest new → Settles (office_storage content may_leave) old new
 settles_kept is_honest content written may_leave old new kept honest = record {
-  crash = λ left may. inl (kept.same_outcomes honest left may);
+  crash = λ left may. inl (kept.same_outcomes left may);
   settled = λ changed. absurd (changed (kept.same_content honest));
 }
 
@@ -70,15 +68,15 @@ settles_same content may_leave shelf = record {
 -- changes that were made, after a call that only read
 pub settles_made : {Shelf : Type 0} (is_honest : Shelf → Type 0) (content : Shelf → Content) (written : Shelf → WriteCounts) (may_leave : Shelf → Content → Type 0) (old read new : Shelf) (made : Content)
     → IsKept is_honest content written may_leave old read → is_honest read → content new ≡ made
-    → ((tables : Content) → may_leave new tables → may_leave read tables ⊎ (tables ≡ made))
-    → (content new ≢ content read → (tables : Content) → may_leave new tables → tables ≡ content new)
+    → ((tables : Content) → may_leave new tables → may_leave read tables ⊎ (is_honest read × (tables ≡ made)))
+    → ((tables : Content) → may_leave new tables → tables ≡ content new)
     → Settles (office_storage content may_leave) old new
 settles_made is_honest content written may_leave old read new made kept honest is crash settled = record {
   crash = λ left may. elim (crash left may) [
-    | inl earlier ↦ inl (kept.same_outcomes honest left earlier)
-    | inr now ↦ inr (now ∙ sym is)
+    | inl earlier ↦ inl (kept.same_outcomes left earlier)
+    | inr now ↦ inr (now.1 ∙ sym is)
   ];
-  settled = λ changed left may. settled (λ same. changed (same ∙ kept.same_content honest)) left may;
+  settled = λ changed. settled;
 }
 
 -- tables with the changes stand for the office after the command's step
@@ -87,6 +85,23 @@ pub stands_after : (old tables : Content) (asked : Asked) (reply : Reply) (answe
 stands_after old tables asked reply answer any other text before stands =
     let step = answers_asked old tables asked reply answer any other text before stands in
     (answer, step.0, step.2, step.1)
+
+-- changes that were decided, and then applied or refused: a crash leaves what it could before, or the command's step
+pub leaves_applied : {Shelf : Type 0} (is_honest : Shelf → Type 0) (content : Shelf → Content) (written : Shelf → WriteCounts) (may_leave : Shelf → Content → Type 0) (old read new : Shelf)
+    (asked : Asked) (reply : Reply) (answer : List ℕ) (changes given : List RowChange) → IsKept is_honest content written may_leave old read
+    → (is_honest read → AnswersAny (content old) asked.command reply (changed_by (content old) changes)) → given ≡ changes → reply ≢ Refused Unavailable
+    → answer ≡ answer_bytes reply asked.form
+    → ((tables : Content) → may_leave new tables → may_leave read tables ⊎ (is_honest read × (tables ≡ changed_by (content read) given)))
+    → LeavesAsked is_honest content may_leave old new asked
+leaves_applied is_honest content written may_leave old read new asked reply answer changes given kept step list other text crash tables may = elim (crash tables may) [
+  | inl earlier ↦ inl (kept.same_outcomes tables earlier)
+  | inr made ↦
+      let is : tables ≡ changed_by (content old) changes = made.1 ∙ (λ i. changed_by (kept.same_content made.0 i) (list i)) in
+      inr (
+        kept.honest_before made.0,
+        stands_after (content old) tables asked reply answer (subst (AnswersAny (content old) asked.command reply) (sym is) (step made.0)) other text,
+      )
+]
 
 -- a list that is found empty
 pub none_of : {X : Type 0} (xs : List X) → true ≡ (length xs == 0) → xs ≡ []

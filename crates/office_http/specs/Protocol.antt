@@ -1,5 +1,5 @@
 -- How the office answers requests.
-use Rattle.std.specs.Prelude.{◌≡◌, ℕ, List, Result, Ok, Err}
+use Rattle.std.specs.Prelude.{◌≡◌, ◌⊎◌, ℕ, List, Result, Ok, Err}
 use Rattle.office_desk.specs.Office.{Office}
 use Rattle.office_desk.specs.StandFor.{StandForSound}
 use Rattle.office_desk.specs.Step.{answered}
@@ -33,6 +33,12 @@ AnswersRequest before request answer after = AnswersRead (command_at request.met
 abbrev pub StandsAfterAsked : Office → Asked → Content → Type 0
 StandsAfterAsked before asked tables =
     (answer : List ℕ) × (after : Office) × AnswersAsked before asked answer after × StandForSound tables after
+
+-- a crash leaves what it could before the command or, where the shelf was honest before it, the command's step
+abbrev pub LeavesAsked : {Shelf : Type 0} → (Shelf → Type 0) → (Shelf → Content) → (Shelf → Content → Type 0) → Shelf → Shelf → Asked → Type 0
+LeavesAsked is_honest content may_leave old new asked =
+    (tables : Content) → may_leave new tables → may_leave old tables
+    ⊎ (is_honest old × ((before : Office) → StandForSound (content old) before → StandsAfterAsked before asked tables))
 
 -- how the office is stored in tables
 abbrev pub office_storage : {Shelf : Type 0} → (Shelf → Content) → (Shelf → Content → Type 0) → Storage Shelf Office Content

@@ -1,12 +1,12 @@
 //! The office as the machine behind the engine.
 
-ghost use Rattle.std.specs.Prelude.{◌≡◌, ◌≢◌, ◌⊎◌, ◌↔◌, List, ℕ, IsTrue, IfOk, OnOk, OnErr};
+ghost use Rattle.std.specs.Prelude.{◌≡◌, ◌≢◌, ◌↔◌, List, ℕ, IsTrue, IfOk, OnOk, OnErr};
 ghost use Rattle.office_http_wire.specs.Faults.{ask_fault_text};
 ghost use Rattle.office_desk.specs.Office.{Office as OfficeState};
 ghost use Rattle.office_desk.specs.StandFor.{StandForSound};
 ghost use Rattle.office_http_framing.specs.Stops.{Settles};
 ghost use Rattle.office_tables_shelf.specs.Content.{Content};
-ghost use Rattle.office_http.specs.Protocol.{AnswersAsked, StandsAfterAsked, office_storage};
+ghost use Rattle.office_http.specs.Protocol.{AnswersAsked, LeavesAsked, office_storage};
 
 use office_desk::office::Office;
 use office_desk::refusal::Refusal;
@@ -55,10 +55,8 @@ fn answer_asked<S: Shelf>(
         OnErr result (StandForSound (S.content office.new) before) }
     // A crash leaves what it could before, or the tables as they are now; and those alone once rows were changed.
     ensures settles { S.is_honest office.new → OnOk result (Settles (office_storage S.content S.may_leave) office.old office.new) }
-    // Where it was refused, a crash leaves what it could before, or the command's step all the same.
-    ensures crash { S.is_honest office.new → (before : OfficeState) → StandForSound (S.content office.old) before →
-        OnErr result ((tables : Content) → S.may_leave office.new tables →
-        S.may_leave office.old tables ⊎ StandsAfterAsked before asked.now tables) }
+    // However it was answered, a crash leaves what it could before, or the command's step.
+    ensures crash { LeavesAsked S.is_honest S.content S.may_leave office.old office.new asked.now }
 {
     let decided = office.decide(alloc, &asked.command);
     if is_unavailable(&decided.reply) {

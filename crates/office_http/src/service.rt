@@ -8,7 +8,7 @@ ghost use Rattle.office_http_framing.specs.Front.{PlainRequest};
 ghost use Rattle.office_http_framing.specs.Limits.{longest_request};
 ghost use Rattle.office_http_framing.specs.Protocol.{Run as ProtocolRun};
 ghost use Rattle.office_http_framing.specs.Serve.{Did, TellsFault, Untouched};
-ghost use Rattle.office_http_framing.specs.Stops.{Leaves};
+ghost use Rattle.office_http_framing.specs.Stops.{Leaves, LeavesRead};
 ghost use Rattle.office_http.specs.Laws.{KeepsLaws};
 ghost use Rattle.office_http.specs.Protocol.{office_protocol, office_storage};
 
@@ -42,6 +42,10 @@ pub fn serve<S: Shelf, R: Source, W: Sink>(
         (after : OfficeState) × StandForSound (S.content office.new) after × Did office_protocol
         (Leaves office_protocol (office_storage S.content S.may_leave) office.old office.new before after) max_requests
         (R.told reader.old) (R.told reader.new) (W.told writer.old) (W.told writer.new) before after result }
+    // Also where a failure has shut the database of the tables, a crash leaves what it could before, or the office
+    // after one of the requests that were read.
+    ensures crash { LeavesRead office_protocol (office_storage S.content S.may_leave) max_requests
+        (R.told reader.old).bytes (R.told reader.new).bytes office.old office.new }
     // Over the whole stream, the run that `did` tells keeps the laws of the office: committed sets come from
     // accepted commits, open orders and stock from accepted records, and an import that is sent again adds nothing.
     ensures laws { (before : OfficeState) (requests : List PlainRequest) (answers : List (List ℕ)) (after : OfficeState) →

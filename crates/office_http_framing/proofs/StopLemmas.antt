@@ -1,8 +1,15 @@
 -- How a machine that answers one request more keeps what a stop may leave.
-use Rattle.std.proofs.Common.{◌≡◌, ◌⊎◌, ℕ, suc, List, [], ◌∷◌, ◌++◌, inl, inr, refl, sym, ap, subst, ◌∙◌, append_assoc}
-use Rattle.office_http_framing.specs.Front.{PlainRequest}
+use Rattle.std.proofs.Common.{◌⊎◌, ℕ, suc, ◌<◌, List, [], ◌∷◌, ◌++◌, Option, drop, inl, inr, refl, sym, ap, subst, ◌∙◌, append_assoc}
+use Rattle.std.proofs.lemmas.List.{append-nil}
+use Rattle.std.proofs.KnownBytes.{Consumes-trans}
+use Rattle.std.specs.Io.KnownBytes.{Consumes}
+use Rattle.office_http_framing.specs.Front.{PlainRequest, BeginsWithRequest}
 use Rattle.office_http_framing.specs.Protocol.{Protocol, Run}
-use Rattle.office_http_framing.specs.Stops.{Storage, Means, Settles, Deals, IsAfterOne, IsAfterStep, Leaves}
+use Rattle.office_http_framing.specs.Serve.{StopLeaves}
+use Rattle.office_http_framing.specs.Stops.{Storage, Means, Settles, Deals, IsAfterOne, IsAfterStep, Leaves, LeavesRead, LeavesStep}
+use Rattle.office_http_framing.specs.Stream.{left_after}
+use Rattle.office_http_framing.proofs.ServeLemmas.{Progress}
+use Rattle.office_http_framing.proofs.StreamLemmas.{BeginsWith-next}
 
 module _ {Machine State Stored : Type 0} (protocol : Protocol State) (storage : Storage Machine State Stored) where
   -- a step that was answered, and settled
@@ -91,3 +98,59 @@ module _ {Machine State Stored : Type 0} (protocol : Protocol State) (storage : 
           ]
         ];
   }
+
+  -- ---- what a stop leaves of the requests that were read
+
+  module _ (limit : ℕ) (source source' : Option (List ℕ)) where
+    -- nothing was asked yet
+    pub leaves_read-start : (first : Machine) → LeavesRead protocol storage limit source source' first first
+    leaves_read-start first before means left may = inl may
+
+    -- more bytes were read
+    pub leaves_read-more : (source'' : Option (List ℕ)) (piece : List ℕ) (first last : Machine) → Consumes source' source'' piece
+        → LeavesRead protocol storage limit source source' first last → LeavesRead protocol storage limit source source'' first last
+    leaves_read-more source'' piece first last more so_far before means left may = elim (so_far before means left may) [
+      | inl earlier ↦ inl earlier
+      | inr one ↦ inr (record {
+        given = one.given;
+        more = one.more ++ piece;
+        done = one.done;
+        request = one.request;
+        rest = one.rest;
+        left = one.left;
+        told = one.told;
+        middle = one.middle;
+        reads = subst (Consumes source source'') (append_assoc one.given one.more piece) (Consumes-trans source source' source'' (one.given ++ one.more) piece one.reads more);
+        begins = one.begins;
+        run = one.run;
+        step = one.step;
+      })
+    ]
+
+    -- one request more was dealt with
+    pub leaves_read-next : (is_honest : Machine → Type 0) (first old new : Machine) (count left : ℕ) (held : List ℕ) (sink sink' : Option (List ℕ))
+        (leaves : State → State → StopLeaves) (request : PlainRequest) (len : ℕ) → 0 < left → BeginsWithRequest held request len
+        → LeavesStep protocol storage is_honest old new request
+        → (is_honest old → (before : State) → Means storage first before → (middle : State) × Means storage old middle
+        × Progress protocol (leaves before middle) limit count left held source source' sink sink' before middle)
+        → LeavesRead protocol storage limit source source' first old → LeavesRead protocol storage limit source source' first new
+    leaves_read-next is_honest first old new count left held sink sink' leaves request len some whole step progress so_far before means stored may =
+        elim (step stored may) [
+          | inl earlier ↦ so_far before means stored earlier
+          | inr made ↦
+              let far = progress made.0 before means in
+              inr (record {
+                given = far.2.given;
+                more = [];
+                done = far.2.requests;
+                request = request;
+                rest = drop len held;
+                left = left_after left request;
+                told = far.2.answers;
+                middle = far.0;
+                reads = subst (Consumes source source') (sym (append-nil far.2.given)) far.2.reads;
+                begins = BeginsWith-next limit far.2.given far.2.requests held left request len far.2.begins some whole;
+                run = far.2.runs.run;
+                step = made.1 far.0 far.1;
+              })
+        ]

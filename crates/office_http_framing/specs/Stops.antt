@@ -1,9 +1,12 @@
 -- What a stop may leave of the state of a machine, while it deals with requests one after another.
-use Rattle.std.specs.Prelude.{◌≡◌, ◌≢◌, ℕ, zero, suc, ◌⊎◌, List, [], ◌∷◌, ◌++◌}
+use Rattle.std.specs.Prelude.{◌≡◌, ◌≢◌, ℕ, zero, suc, ◌⊎◌, List, [], ◌∷◌, ◌++◌, Option}
+use Rattle.std.specs.Io.KnownBytes.{Consumes}
 use Rattle.office_http_framing.specs.Front.{PlainRequest}
 use Rattle.office_http_framing.specs.Protocol.{Protocol, MayAnswer, Run}
+use Rattle.office_http_framing.specs.Stream.{BeginsWith}
 
--- How a machine stores its state: what it holds, what a crash at this moment may leave of that, and the states for which either stands.
+-- How a machine stores its state: what it holds, what a crash at this moment may leave of that (while what was written has come back,
+-- whether or not a failure shut it), and the states for which either stands.
 pub record Storage (Machine State Stored : Type 0) : Type 1 where
   pub holds : Machine → Stored
   pub may_leave : Machine → Stored → Type 0
@@ -17,6 +20,12 @@ Means storage machine state = storage.stands (storage.holds machine) state
 abbrev pub IsAfterStep : {Machine State Stored : Type 0} → Protocol State → Storage Machine State Stored → State → PlainRequest → Stored → Type 0
 IsAfterStep {Machine} {State} protocol storage before request stored =
     (answer : List ℕ) × (after : State) × protocol.step before request answer after × storage.stands stored after
+
+-- A crash leaves what it could before the request or, where the machine was honest before it, the request's step.
+abbrev pub LeavesStep : {Machine State Stored : Type 0} → Protocol State → Storage Machine State Stored → (Machine → Type 0) → Machine → Machine → PlainRequest → Type 0
+LeavesStep {Machine} {State} {Stored} protocol storage is_honest old new request =
+    (left : Stored) → storage.may_leave new left → storage.may_leave old left
+    ⊎ (is_honest old × ((before : State) → Means storage old before → IsAfterStep protocol storage before request left))
 
 -- A crash leaves what it could before, or what the machine holds now; and that alone where it held something else before.
 pub record Settles {Machine State Stored : Type 0} (storage : Storage Machine State Stored) (old new : Machine) : Type 0 where
@@ -80,3 +89,26 @@ pub record Leaves
       storage.may_leave first left ⊎ IsAfterOne protocol storage before requests answers left
   pub settled : ChangedAndAnswered protocol storage first before count requests answers last after course →
       (left : Stored) → storage.may_leave last left → left ≡ storage.holds last
+
+-- What is stored stands for the state after the step of one of the requests of the bytes that were given, which followed those before it.
+pub record IsAfterRead
+    {Machine State Stored : Type 0} (protocol : Protocol State) (storage : Storage Machine State Stored) (limit : ℕ)
+    (source source' : Option (List ℕ)) (before : State) (stored : Stored) : Type 0 where
+  pub given : List ℕ
+  pub more : List ℕ
+  pub done : List PlainRequest
+  pub request : PlainRequest
+  pub rest : List ℕ
+  pub left : ℕ
+  pub told : List (List ℕ)
+  pub middle : State
+  pub reads : Consumes source source' (given ++ more)
+  pub begins : BeginsWith limit given (done ++ request ∷ []) rest left
+  pub run : Run protocol before done told middle
+  pub step : IsAfterStep protocol storage middle request stored
+
+-- A crash leaves what it could before the bytes, or the state after one of their requests.
+abbrev pub LeavesRead : {Machine State Stored : Type 0} → Protocol State → Storage Machine State Stored → ℕ → Option (List ℕ) → Option (List ℕ) → Machine → Machine → Type 0
+LeavesRead {Machine} {State} {Stored} protocol storage limit source source' first last =
+    (before : State) → Means storage first before → (left : Stored) → storage.may_leave last left
+    → storage.may_leave first left ⊎ IsAfterRead protocol storage limit source source' before left

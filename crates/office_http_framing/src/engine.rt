@@ -7,7 +7,7 @@ ghost use Rattle.office_http_framing.specs.Front.{plain};
 ghost use Rattle.office_http_framing.specs.Limits.{longest_request};
 ghost use Rattle.office_http_framing.specs.Protocol.{AnswersFault};
 ghost use Rattle.office_http_framing.specs.Serve.{Did, TellsFault, Untouched};
-ghost use Rattle.office_http_framing.specs.Stops.{Deals, Leaves, Means};
+ghost use Rattle.office_http_framing.specs.Stops.{Deals, Leaves, LeavesRead, LeavesStep, Means};
 
 use crate::buffer::Buffer;
 use crate::ends::{Sink, Source, WriteFailed, write_all};
@@ -46,6 +46,7 @@ fn serve_request<Tools, M: Machine<Tools>, W: Sink>(
         (answer : List ℕ) × (after : M.State)
         × Deals M.protocol M.storage machine.old machine.new before (plain request.now) answer after
         × WritesOrBreaksOff result (W.told writer.old) (W.told writer.new) answer }
+    ensures crash { LeavesStep M.protocol M.storage M.is_honest machine.old machine.new (plain request.now) }
     ensures counts { Grows (W.told writer.old).counts (W.told writer.new).counts }
     ensures fault { OnErr result
         (FailsOrGivesNone (W.told writer.old).counts (W.told writer.new).counts) }
@@ -92,6 +93,9 @@ pub fn serve<Tools, M: Machine<Tools>, R: Source, W: Sink>(
         × Did M.protocol (Leaves M.protocol M.storage machine.old machine.new before after)
         max_requests (R.told reader.old) (R.told reader.new)
         (W.told writer.old) (W.told writer.new) before after result }
+    // Also where a failure shut what the machine keeps its state on, a crash leaves what it could before, or the state
+    // after one of the requests that were read.
+    ensures crash { LeavesRead M.protocol M.storage max_requests (R.told reader.old).bytes (R.told reader.new).bytes machine.old machine.new }
     // Read and Write are answered only where that end told a failure, or a write of no byte.
     ensures fault { TellsFault (R.told reader.old) (R.told reader.new)
         (W.told writer.old) (W.told writer.new) result }

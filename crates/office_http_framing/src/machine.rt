@@ -14,7 +14,7 @@ pub struct Unavailable;
 pub trait Machine<Tools> {
     ghost use Rattle.office_http_framing.specs.Front.{PlainRequest, plain};
     ghost use Rattle.office_http_framing.specs.Protocol.{Protocol};
-    ghost use Rattle.office_http_framing.specs.Stops.{Storage, Means, IsAfterStep, Settles};
+    ghost use Rattle.office_http_framing.specs.Stops.{Storage, Means, LeavesStep, Settles};
 
     // What a machine means.
     ghost State: { Type 0 };
@@ -25,7 +25,7 @@ pub trait Machine<Tools> {
     // What it holds now, what a crash may leave of that, and the states for which either stands.
     ghost storage: { Storage Self State Stored };
 
-    // What the machine keeps its state on has returned what was written, so far.
+    // What the machine keeps its state on has returned what was written, so far, and no failure has shut it.
     ghost is_honest: { Self → Type 0 };
 
     // The answers that it may give, and the states that they leave.
@@ -46,10 +46,9 @@ pub trait Machine<Tools> {
             OnErr result (Means storage self.new before) }
         // A crash leaves what it could before, or what is held now; and that alone once that has changed.
         ensures settles { is_honest self.new → OnOk result (Settles storage self.old self.new) }
-        // Where it was refused, a crash leaves what it could before, or the step all the same.
-        ensures crash { is_honest self.new → (before : State) → Means storage self.old before → OnErr result (
-            (left : Stored) → storage.may_leave self.new left →
-            storage.may_leave self.old left ⊎ IsAfterStep protocol storage before (plain request.now) left) };
+        // However it was answered, a crash leaves what it could before, or the step; also where a failure shut what
+        // the state is kept on.
+        ensures crash { LeavesStep protocol storage is_honest self.old self.new (plain request.now) };
 
     /// The whole answer to a fault of the framing, or memory was refused.
     fn fault_answer(alloc: Global, fault: Fault) -> Result<Vec<u8>, AllocError>

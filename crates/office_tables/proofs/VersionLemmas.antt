@@ -100,7 +100,7 @@ module _ (sql : List ℕ) (tree : ℕ) (it : ListsRows sql tree) where
       let many = length_permutation _ rows same in
       many ∙ length-map _ (layout.values_at (it.shown ∷ [])) ∙ ap length (kept_all (overlay db.trees [] tree) ∙ it.low db.trees)
 
-pub none_left : (rows : List Row) → length rows ≡ 0 → rows ≡ []
+pub none_left : {X : Type 0} (rows : List X) → length rows ≡ 0 → rows ≡ []
 none_left [] h = refl
 none_left (r ∷ rows) h = absurd (omega (arith, h))
 

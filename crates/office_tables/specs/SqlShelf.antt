@@ -2,7 +2,7 @@
 use Rattle.std.specs.Prelude.{◌≡◌, refl}
 use Rattle.std.specs.Coded.{Coded, code_by, coded×}
 use Rattle.sqlite.specs.Held.{Held, held_code}
-use Rattle.sqlite.specs.State.{State}
+use Rattle.sqlite.specs.State.{State, HasCleanDisk}
 use Rattle.sqlite.specs.Tree.{Trees}
 use Rattle.office_tables_shelf.specs.Content.{Content}
 use Rattle.office_tables_shelf.specs.Counts.{counts_code}
@@ -14,9 +14,9 @@ pub record SqlView (S : Type 0) : Type 0 where
   pub conn : Held S
   pub counts : WriteCounts
 
--- a crash may leave trees with this content
+-- the disk has returned what was written, and a crash may leave trees with this content
 abbrev pub MayLeave : State → Content → Type 0
-MayLeave s tables = (trees : Trees) × s.may_leave trees × (content_of trees ≡ tables)
+MayLeave s tables = HasCleanDisk s × (trees : Trees) × s.may_leave trees × (content_of trees ≡ tables)
 
 -- ---- how the logic stores it
 

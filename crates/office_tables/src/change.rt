@@ -1,6 +1,6 @@
 //! Changes of rows in one transaction.
 
-ghost use Rattle.std.specs.Prelude.{◌≡◌, OnOk, OnErr};
+ghost use Rattle.std.specs.Prelude.{◌≡◌, ◌≢◌, [], OnOk, OnErr};
 ghost use Rattle.sqlite.specs.State.{HasCleanDisk, Survives};
 ghost use Rattle.sqlite.specs.Held.{state};
 ghost use Rattle.office_tables_shelf.specs.Change.{changed, changed_by};
@@ -23,6 +23,7 @@ fn change_row<S: Alter>(
     ensures same_reference { tx.new.conn.ghost_name ≡ tx.old.conn.ghost_name }
     ensures ready { HasCleanDisk (state S.Store tx.new.conn.now) → OnOk result (IsReady (state S.Store tx.old.conn.now) → IsReady (state S.Store tx.new.conn.now)) }
     ensures changed { HasCleanDisk (state S.Store tx.new.conn.now) → OnOk result (IsReady (state S.Store tx.old.conn.now) → content_now (state S.Store tx.new.conn.now) ≡ changed (content_now (state S.Store tx.old.conn.now)) change.now) }
+    ensures honest { HasCleanDisk (state S.Store tx.new.conn.now) → OnOk result (IsHonest (state S.Store tx.old.conn.now)) }
     ensures stands { StandsOn (state S.Store tx.old.conn.now) (state S.Store tx.new.conn.now) }
     ensures crash { Survives (state S.Store tx.old.conn.now) (state S.Store tx.new.conn.now) (λ _. ⊥) }
 {
@@ -49,6 +50,7 @@ fn change_rows<S: Alter>(
     ensures same_reference { tx.new.conn.ghost_name ≡ tx.old.conn.ghost_name }
     ensures ready { HasCleanDisk (state S.Store tx.new.conn.now) → OnOk result (IsReady (state S.Store tx.old.conn.now) → IsReady (state S.Store tx.new.conn.now)) }
     ensures changed { HasCleanDisk (state S.Store tx.new.conn.now) → OnOk result (IsReady (state S.Store tx.old.conn.now) → content_now (state S.Store tx.new.conn.now) ≡ changed_by (content_now (state S.Store tx.old.conn.now)) changes.now) }
+    ensures honest { HasCleanDisk (state S.Store tx.new.conn.now) → OnOk result (changes.now ≢ [] → IsHonest (state S.Store tx.old.conn.now)) }
     ensures stands { StandsOn (state S.Store tx.old.conn.now) (state S.Store tx.new.conn.now) }
     ensures crash { Survives (state S.Store tx.old.conn.now) (state S.Store tx.new.conn.now) (λ _. ⊥) }
 {
@@ -69,8 +71,12 @@ pub(crate) fn apply<S: Alter>(
     ensures honest { IsHonest (state S.Store conn.new) → IsHonest (state S.Store conn.old) }
     ensures applied { IsHonest (state S.Store conn.new) → OnOk result (content_now (state S.Store conn.new) ≡ changed_by (content_now (state S.Store conn.old)) changes.now) }
     ensures unchanged { IsHonest (state S.Store conn.new) → OnErr result (content_now (state S.Store conn.new) ≡ content_now (state S.Store conn.old)) }
-    ensures crash { Survives (state S.Store conn.old) (state S.Store conn.new) (λ trees. IsHonest (state S.Store conn.old) → content_of trees ≡ changed_by (content_now (state S.Store conn.old)) changes.now) }
+    ensures open { HasCleanDisk (state S.Store conn.new) → OnOk result (changes.now ≢ [] → IsHonest (state S.Store conn.new)) }
+    ensures crash { Survives (state S.Store conn.old) (state S.Store conn.new) (λ trees. IsHonest (state S.Store conn.old) × (content_of trees ≡ changed_by (content_now (state S.Store conn.old)) changes.now)) }
 {
+    if changes.is_empty() {
+        return Ok(());
+    }
     let mut tx = conn.transaction();
     change_rows(alloc, &mut tx, changes)?;
     tx.commit()?;

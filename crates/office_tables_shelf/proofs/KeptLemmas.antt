@@ -11,5 +11,5 @@ kept_on is_honest content written may_leave old mid new first rest = record {
   honest_before = λ honest. first.honest_before (rest.honest_before honest);
   same_content = λ honest. rest.same_content honest ∙ first.same_content (rest.honest_before honest);
   same_counts = rest.same_counts ∙ first.same_counts;
-  same_outcomes = λ honest tables left. first.same_outcomes (rest.honest_before honest) tables (rest.same_outcomes honest tables left);
+  same_outcomes = λ tables left. first.same_outcomes tables (rest.same_outcomes tables left);
 }

@@ -14,11 +14,12 @@ use Rattle.office_tables_shelf.specs.declared.rows.IntersectionRow.{Intersection
 use Rattle.office_tables_shelf.specs.declared.counts.WriteCounts.{WriteCounts}
 
 -- A call that only reads: the disk is no more honest than it was, and the tables, the counts and what a crash may leave stay.
+-- What a crash may leave stays also where a failure shut the database.
 pub record IsKept {S : Type 0} (is_honest : S → Type 0) (content : S → Content) (written : S → WriteCounts) (may_leave : S → Content → Type 0) (old new : S) : Type 0 where
   pub honest_before : is_honest new → is_honest old
   pub same_content : is_honest new → content new ≡ content old
   pub same_counts : written new ≡ written old
-  pub same_outcomes : is_honest new → (tables : Content) → may_leave new tables → may_leave old tables
+  pub same_outcomes : (tables : Content) → may_leave new tables → may_leave old tables
 
 -- the cells that stand under a number are those of the row
 abbrev pub ReadsIntersection : Content → ℕ → Option IntersectionRow → Type 0

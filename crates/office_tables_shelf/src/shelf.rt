@@ -1,5 +1,5 @@
 //! The tables of the office as a trait.
-ghost use Rattle.std.specs.Prelude.{◌≡◌, ◌≢◌, ◌⊎◌, IfOk, OnOk, OnErr};
+ghost use Rattle.std.specs.Prelude.{◌≡◌, ◌≢◌, ◌⊎◌, [], IfOk, OnOk, OnErr};
 ghost use Rattle.office_tables_shelf.specs.Content.{Content};
 ghost use Rattle.office_tables_shelf.specs.Change.{changed_by};
 ghost use Rattle.office_tables_shelf.specs.Counts.{count_of, counts_after};
@@ -40,13 +40,14 @@ impl From<NoMemory> for ShelfFault {
 /// The tables of an office, as they are stored.
 ///
 /// Every clause on what the tables hold rests on an honest disk after the call, and every call hands
-/// that back to before: so one premise on the last state serves a whole run.
+/// that back to before: so one premise on the last state serves a whole run. What a crash may leave
+/// rests on the disk alone: the clauses on it hold also where a failure has shut the database.
 pub trait Shelf {
     /// What is stored, whether or not it is a record.
     ghost content: { Self → Content };
     /// The disk has returned what was written, so far, and no failure of it has shut the database.
     ghost is_honest: { Self → Type 0 };
-    /// What a crash at this moment may leave.
+    /// The disk has returned what was written, so far, and a crash at this moment may leave this.
     ghost may_leave: { Self → Content → Type 0 };
     /// The row writes so far.
     ghost written: { Self → WriteCounts };
@@ -206,10 +207,10 @@ pub trait Shelf {
         ensures written_ok { OnOk result (written self.new ≡ counts_after (written self.old) changes.now) }
         ensures written_err { OnErr result (written self.new ≡ written self.old) }
 
-        // A crash leaves what it could before, or the whole result; and that alone once rows were changed.
-        ensures crash { is_honest self.new → (tables : Content) → may_leave self.new tables →
-            may_leave self.old tables ⊎ (tables ≡ changed_by (content self.old) changes.now) }
-        ensures settled { OnOk result (is_honest self.new → content self.new ≢ content self.old →
+        // A crash leaves what it could before, or the whole result; and that alone once changes were made.
+        ensures crash { (tables : Content) → may_leave self.new tables →
+            may_leave self.old tables ⊎ (is_honest self.old × (tables ≡ changed_by (content self.old) changes.now)) }
+        ensures settled { OnOk result (changes.now ≢ [] →
             (tables : Content) → may_leave self.new tables → tables ≡ content self.new) };
 
     /// The row writes of a table so far; the count stays at `u64::MAX` once it is there.

@@ -124,6 +124,7 @@ pub fn put<S: Alter>(
     ensures put { HasCleanDisk (state S.Store tx.new.conn.now) → OnOk result (IsReady (state S.Store tx.old.conn.now) → content_now (state S.Store tx.new.conn.now) ≡ record (content_now (state S.Store tx.old.conn.now)) {
       intersection = insert (content_now (state S.Store tx.old.conn.now)).intersection (intersection_key id) (intersection_columns row.now);
     }) }
+    ensures honest { HasCleanDisk (state S.Store tx.new.conn.now) → OnOk result (IsHonest (state S.Store tx.old.conn.now)) }
     ensures stands { StandsOn (state S.Store tx.old.conn.now) (state S.Store tx.new.conn.now) }
     ensures crash { Survives (state S.Store tx.old.conn.now) (state S.Store tx.new.conn.now) (λ _. ⊥) }
 {

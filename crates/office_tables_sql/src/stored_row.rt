@@ -130,6 +130,7 @@ pub fn put<T: StoredRow, S: Alter>(
     ensures same_reference { tx.new.conn.ghost_name ≡ tx.old.conn.ghost_name }
     ensures ready { HasCleanDisk (state S.Store tx.new.conn.now) → OnOk result (IsReady (state S.Store tx.old.conn.now) → IsReady (state S.Store tx.new.conn.now)) }
     ensures put { HasCleanDisk (state S.Store tx.new.conn.now) → OnOk result (IsReady (state S.Store tx.old.conn.now) → content_now (state S.Store tx.new.conn.now) ≡ put_in (content_now (state S.Store tx.old.conn.now)) T.table (T.key (T.number of) row.now) (T.columns row.now)) }
+    ensures honest { HasCleanDisk (state S.Store tx.new.conn.now) → OnOk result (IsHonest (state S.Store tx.old.conn.now)) }
     ensures stands { StandsOn (state S.Store tx.old.conn.now) (state S.Store tx.new.conn.now) }
     ensures crash { Survives (state S.Store tx.old.conn.now) (state S.Store tx.new.conn.now) (λ _. ⊥) }
 {
@@ -150,6 +151,7 @@ pub fn remove<T: TimingKeyed, S: Alter>(
     ensures same_reference { tx.new.conn.ghost_name ≡ tx.old.conn.ghost_name }
     ensures ready { HasCleanDisk (state S.Store tx.new.conn.now) → OnOk result (IsReady (state S.Store tx.old.conn.now) → IsReady (state S.Store tx.new.conn.now)) }
     ensures removed { HasCleanDisk (state S.Store tx.new.conn.now) → OnOk result (IsReady (state S.Store tx.old.conn.now) → content_now (state S.Store tx.new.conn.now) ≡ remove_in (content_now (state S.Store tx.old.conn.now)) T.table (timing_key id key.now)) }
+    ensures honest { HasCleanDisk (state S.Store tx.new.conn.now) → OnOk result (IsHonest (state S.Store tx.old.conn.now)) }
     ensures stands { StandsOn (state S.Store tx.old.conn.now) (state S.Store tx.new.conn.now) }
     ensures crash { Survives (state S.Store tx.old.conn.now) (state S.Store tx.new.conn.now) (λ _. ⊥) }
 {

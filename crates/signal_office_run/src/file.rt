@@ -18,7 +18,7 @@ ghost use Rattle.office_http_framing.specs.Front.{PlainRequest};
 ghost use Rattle.office_http_framing.specs.Limits.{longest_request};
 ghost use Rattle.office_http_framing.specs.Protocol.{Run as ProtocolRun};
 ghost use Rattle.office_http_framing.specs.Serve.{Did, TellsFault};
-ghost use Rattle.office_http_framing.specs.Stops.{Leaves};
+ghost use Rattle.office_http_framing.specs.Stops.{Leaves, LeavesRead};
 ghost use Rattle.signal_office_run.specs.File.{AreOpenedFor, StandInFiles, sql_storage};
 
 use crate::fault::Fault;
@@ -107,6 +107,10 @@ pub fn serve_file<S: Start, R: Source, W: Sink>(
         × StandForSound (content_now (file_state served.0.conn)) after
         × Did office_protocol (Leaves office_protocol (sql_storage file_state) opened served.0 before after) max_requests
         (R.told reader.old) (R.told reader.new) (W.told writer.old) (W.told writer.new) before after served.1) }
+    // Also where a failure has shut the database, a crash leaves the office before the requests, or after one of those read.
+    ensures crash { IfOk result (λ served. (opened : SqlView _)
+        × (IsHonest (file_state opened.conn) → (before : OfficeState) → StandInFiles (image_at S.Start) before → AreOpenedFor file_state opened before)
+        × LeavesRead office_protocol (sql_storage file_state) max_requests (R.told reader.old).bytes (R.told reader.new).bytes opened served.0) }
     // Over the whole stream, the run that `did` tells keeps the laws of the office.
     ensures laws { (before : OfficeState) (requests : List PlainRequest) (answers : List (List ℕ)) (after : OfficeState) →
         ProtocolRun office_protocol before requests answers after → IsSound before → IsSound after →

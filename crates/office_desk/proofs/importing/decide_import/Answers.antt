@@ -22,7 +22,7 @@ loop-index-init g c =
       imports = λ honest. subst (ImportsAny (g.S.Shelf.content c.args.shelf.now) c.args.records.now c.args.records.now 1 0 0) (sym none) (imports_start (g.S.Shelf.content c.args.shelf.now) c.args.records.now);
       leaves = subst LeavesAnyTiming (sym none) nothing_leaves;
       writes = λ table. nothing_written table c.new-pending.result c.args.records.now none;
-      kept = record { honest_before = λ honest. honest; same_content = λ honest. refl; same_counts = refl; same_outcomes = λ honest tables left. left };
+      kept = record { honest_before = λ honest. honest; same_content = λ honest. refl; same_counts = refl; same_outcomes = λ tables left. left };
     }
 
 pub returns-in_err-taken-clause-step : goal.returns-in_err-taken-clause-step

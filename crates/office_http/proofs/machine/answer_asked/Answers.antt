@@ -2,7 +2,7 @@ use Rattle.std.proofs.Common.{◌≡◌, ◌∙◌, inl, inr, ap, sym, subst, le
 use Rattle.std.specs.Prelude.{◌==◌}
 use Rattle.office_tables_shelf.specs.Change.{changed_by}
 use Rattle.office_desk.specs.Answers.{AnswersAny}
-use Rattle.office_http.proofs.MachineLemmas.{answers_asked, none_of, settles_kept, settles_made, stands_after}
+use Rattle.office_http.proofs.MachineLemmas.{answers_asked, leaves_applied, none_of, settles_kept, settles_made}
 use Rattle.office_http.proofs.machine.answer_asked.Goals as goal
 
 pub returns-in-Ok-apply-clause-ok : goal.returns-in-Ok-apply-clause-ok
@@ -28,22 +28,22 @@ returns-then-is_empty-clause-ok g c = λ honest before stands.
 pub returns-in-Ok-apply-clause-settles : goal.returns-in-Ok-apply-clause-settles
 returns-in-Ok-apply-clause-settles g c = λ honest.
     settles_made g.S.Shelf.is_honest g.S.Shelf.content g.S.Shelf.written g.S.Shelf.may_leave c.args.office.now c.decide-decided.new.self c.apply.new.self _ c.decide-decided.ensures.kept (c.apply.ensures.honest honest)
-    (c.in-Ok-apply.ensures.ok honest) (c.apply.ensures.crash honest) (c.in-Ok-apply.ensures.settled honest)
+    (c.in-Ok-apply.ensures.ok honest) c.apply.ensures.crash
+    (c.in-Ok-apply.ensures.settled (λ none. true≢false (sym (c.is_empty.ensures ∙ ap (λ xs. length xs == 0) none) ∙ c.if-is_empty.false)))
 
 pub returns-then-is_empty-clause-settles : goal.returns-then-is_empty-clause-settles
 returns-then-is_empty-clause-settles g c = λ honest.
     settles_kept g.S.Shelf.is_honest g.S.Shelf.content g.S.Shelf.written g.S.Shelf.may_leave c.args.office.now c.decide-decided.new.self c.decide-decided.ensures.kept honest
 
+pub returns-in-Ok-apply-clause-crash : goal.returns-in-Ok-apply-clause-crash
+returns-in-Ok-apply-clause-crash g c =
+    leaves_applied g.S.Shelf.is_honest g.S.Shelf.content g.S.Shelf.written g.S.Shelf.may_leave c.args.office.now c.decide-decided.new.self c.apply.new.self c.args.asked.now c.decide-decided.result.reply c.in-Ok.answer.items
+    c.decide-decided.result.changes.items _ c.decide-decided.ensures.kept c.decide-decided.ensures.step c.as_slice-changes.ensures.value
+    (λ refused. absurd (true≢false (sym (c.is_unavailable.ensures.1 refused) ∙ c.if-is_unavailable.false))) c.in-Ok.ensures c.apply.ensures.crash
+
 -- refused, the changes may stand all the same after a crash
 pub returns-clause-crash : goal.returns-clause-crash
-returns-clause-crash g c = λ honest before stands tables may.
-    let honest_before = c.apply.ensures.honest honest in
-    elim (c.apply.ensures.crash honest tables may) [
-      | inl earlier ↦ inl (c.decide-decided.ensures.kept.same_outcomes honest_before tables earlier)
-      | inr made ↦
-          let is : tables ≡ changed_by (g.S.Shelf.content c.args.office.now) c.decide-decided.result.changes.items =
-          made ∙ (λ i. changed_by (c.decide-decided.ensures.kept.same_content honest_before i) (c.as_slice-changes.ensures.value i)) in
-          inr (stands_after (g.S.Shelf.content c.args.office.now) tables c.args.asked.now c.decide-decided.result.reply c.in-Ok.answer.items
-          (subst (AnswersAny (g.S.Shelf.content c.args.office.now) c.args.asked.now.command c.decide-decided.result.reply) (sym is) (c.decide-decided.ensures.step honest_before))
-          (λ refused. absurd (true≢false (sym (c.is_unavailable.ensures.1 refused) ∙ c.if-is_unavailable.false))) c.in-Ok.ensures before stands)
-    ]
+returns-clause-crash g c =
+    leaves_applied g.S.Shelf.is_honest g.S.Shelf.content g.S.Shelf.written g.S.Shelf.may_leave c.args.office.now c.decide-decided.new.self c.apply.new.self c.args.asked.now c.decide-decided.result.reply c.in-Ok.answer.items
+    c.decide-decided.result.changes.items _ c.decide-decided.ensures.kept c.decide-decided.ensures.step c.as_slice-changes.ensures.value
+    (λ refused. absurd (true≢false (sym (c.is_unavailable.ensures.1 refused) ∙ c.if-is_unavailable.false))) c.in-Ok.ensures c.apply.ensures.crash

@@ -6,7 +6,7 @@ use Rattle.office_http_framing.specs.Stream.{unfinished, faulty}
 use Rattle.office_http_framing.specs.Stops.{Leaves}
 use Rattle.office_http_framing.proofs.AskLemmas.{AsksSoFar, asks-start, asks-next, asks-more, only_asks}
 use Rattle.office_http_framing.proofs.EndLemmas.{Grows-refl, Grows-trans, Rose-after, Rose-empty}
-use Rattle.office_http_framing.proofs.StopLemmas.{leaves-start, leaves-next}
+use Rattle.office_http_framing.proofs.StopLemmas.{leaves-start, leaves-next, leaves_read-start, leaves_read-more, leaves_read-next}
 use Rattle.office_http_framing.proofs.StreamLemmas.{request-bound, incomplete-bound}
 use Rattle.office_http_framing.proofs.ServeLemmas.{Progress, Progress-start, Progress-more, Progress-next, written_whole, written_in_part, Serves-faulty, Serves-unfinished, BreaksOffAtFault-now, BreaksOffAtAnswer-now, Consumes-none, Consumes-from_Keeps, Progress-as, left_after-last, left_after-other}
 use Rattle.office_http_framing.proofs.engine.serve.Goals as goal
@@ -20,6 +20,7 @@ loop-left-init g c = record {
     subst (λ held. Progress g.M.Machine.protocol (Leaves g.M.Machine.protocol g.M.Machine.storage c.args.machine.now c.args.machine.now before before) c.args.max_requests 0 c.args.max_requests held (g.R.Source.told c.args.reader.now).bytes (g.R.Source.told c.args.reader.now).bytes (g.W.Sink.told c.args.writer.now).bytes (g.W.Sink.told c.args.writer.now).bytes before before)
         (sym c.in-Ok.ensures) (Progress-start g.M.Machine.protocol (Leaves g.M.Machine.protocol g.M.Machine.storage c.args.machine.now c.args.machine.now before before) c.args.max_requests (g.R.Source.told c.args.reader.now).bytes (g.W.Sink.told c.args.writer.now).bytes before (leaves-start _ _ _ _)),
   );
+  crash = leaves_read-start g.M.Machine.protocol g.M.Machine.storage c.args.max_requests (g.R.Source.told c.args.reader.now).bytes (g.R.Source.told c.args.reader.now).bytes c.args.machine.now;
   asks = subst (λ held. AsksSoFar g.R.Source.told c.args.max_requests c.args.max_requests held c.args.reader.now c.args.reader.now) (sym c.in-Ok.ensures) (asks-start _ _ _);
   room = omega arith;
   held = omega (arith, ap length c.in-Ok.ensures);
@@ -38,6 +39,11 @@ returns-then-is_err-clause-did g c honest before stands =
       inl (BreaksOffAtAnswer-now g.M.Machine.protocol (Leaves g.M.Machine.protocol g.M.Machine.storage c.args.machine.now c.loop-left.machine before so_far.0) c.args.max_requests c.loop-left.requests c.loop-left.left c.loop-left.buffer (g.R.Source.told c.args.reader.now) (g.R.Source.told c.loop-left.reader) (g.W.Sink.told c.args.writer.now) (g.W.Sink.told c.loop-left.writer) before so_far.0 so_far.2 (Leaves g.M.Machine.protocol g.M.Machine.storage c.args.machine.now c.serve_request.new.machine before step.1) (plain c.in-Whole.request) c.in-Whole.length step.0 step.1 (g.W.Sink.told c.serve_request.new.writer) c.loop-left-test.true whole step.2.answers (leaves-next g.M.Machine.protocol g.M.Machine.storage c.args.machine.now c.loop-left.machine c.serve_request.new.machine before so_far.0 step.1 (plain c.in-Whole.request) step.0 step.2)
           (written_in_part c.serve_request.result _ _ step.0 (sym c.if-is_err.ensures.value) step.3)),
     )
+
+pub returns-then-is_err-clause-crash : goal.returns-then-is_err-clause-crash
+returns-then-is_err-clause-crash g c =
+    let whole : BeginsWithRequest c.loop-left.buffer (plain c.in-Whole.request) c.in-Whole.length = subst (λ b. BeginsWithRequest b (plain c.in-Whole.request) c.in-Whole.length) c.held.ensures.bytes c.in-Whole.ensures in
+    leaves_read-next g.M.Machine.protocol g.M.Machine.storage c.args.max_requests (g.R.Source.told c.args.reader.now).bytes (g.R.Source.told c.loop-left.reader).bytes g.M.Machine.is_honest c.args.machine.now c.loop-left.machine c.serve_request.new.machine c.loop-left.requests c.loop-left.left c.loop-left.buffer (g.W.Sink.told c.args.writer.now).bytes (g.W.Sink.told c.loop-left.writer).bytes (λ before middle. Leaves g.M.Machine.protocol g.M.Machine.storage c.args.machine.now c.loop-left.machine before middle) (plain c.in-Whole.request) c.in-Whole.length c.loop-left-test.true whole c.serve_request.ensures.crash c.loop-left.invariant.progress c.loop-left.invariant.crash
 
 omega_length : (held : List ℕ) (len : ℕ) (rest : List ℕ) → rest ≡ drop len held → length rest ≡ length held - len
 omega_length held len rest is = ap length is ∙ length-drop len held
@@ -60,6 +66,7 @@ loop-left-preserved-then-last g c =
                 (Progress-next g.M.Machine.protocol (Leaves g.M.Machine.protocol g.M.Machine.storage c.args.machine.now c.loop-left.machine before so_far.0) c.args.max_requests c.loop-left.requests c.loop-left.left held (g.R.Source.told c.args.reader.now).bytes (g.R.Source.told c.loop-left.reader).bytes (g.W.Sink.told c.args.writer.now).bytes (g.W.Sink.told c.loop-left.writer).bytes before so_far.0 so_far.2 (Leaves g.M.Machine.protocol g.M.Machine.storage c.args.machine.now c.serve_request.new.machine before step.1) request len step.0 step.1 (g.W.Sink.told c.serve_request.new.writer).bytes c.loop-left-test.true whole step.2.answers (leaves-next g.M.Machine.protocol g.M.Machine.storage c.args.machine.now c.loop-left.machine c.serve_request.new.machine before so_far.0 step.1 request step.0 step.2)
                 (written_whole c.serve_request.result _ _ step.0 (sym c.if-is_err.ensures.value) step.3)),
           );
+      crash = leaves_read-next g.M.Machine.protocol g.M.Machine.storage c.args.max_requests (g.R.Source.told c.args.reader.now).bytes (g.R.Source.told c.loop-left.reader).bytes g.M.Machine.is_honest c.args.machine.now c.loop-left.machine c.serve_request.new.machine c.loop-left.requests c.loop-left.left c.loop-left.buffer (g.W.Sink.told c.args.writer.now).bytes (g.W.Sink.told c.loop-left.writer).bytes (λ before middle. Leaves g.M.Machine.protocol g.M.Machine.storage c.args.machine.now c.loop-left.machine before middle) request len c.loop-left-test.true whole c.serve_request.ensures.crash c.loop-left.invariant.progress c.loop-left.invariant.crash;
       asks = asks-next _ _ _ held _ _ c.loop-left.invariant.asks request len _ _ c.loop-left-test.true whole (left_after-last c.loop-left.left request c.if-last.true) (sym c.consume.ensures);
       room = omega (arith, c.loop-left.invariant.room);
       held = omega (arith, c.loop-left.invariant.held, shorter);
@@ -86,6 +93,7 @@ loop-left-preserved-else-last g c =
                 (Progress-next g.M.Machine.protocol (Leaves g.M.Machine.protocol g.M.Machine.storage c.args.machine.now c.loop-left.machine before so_far.0) c.args.max_requests c.loop-left.requests c.loop-left.left held (g.R.Source.told c.args.reader.now).bytes (g.R.Source.told c.loop-left.reader).bytes (g.W.Sink.told c.args.writer.now).bytes (g.W.Sink.told c.loop-left.writer).bytes before so_far.0 so_far.2 (Leaves g.M.Machine.protocol g.M.Machine.storage c.args.machine.now c.serve_request.new.machine before step.1) request len step.0 step.1 (g.W.Sink.told c.serve_request.new.writer).bytes c.loop-left-test.true whole step.2.answers (leaves-next g.M.Machine.protocol g.M.Machine.storage c.args.machine.now c.loop-left.machine c.serve_request.new.machine before so_far.0 step.1 request step.0 step.2)
                 (written_whole c.serve_request.result _ _ step.0 (sym c.if-is_err.ensures.value) step.3)),
           );
+      crash = leaves_read-next g.M.Machine.protocol g.M.Machine.storage c.args.max_requests (g.R.Source.told c.args.reader.now).bytes (g.R.Source.told c.loop-left.reader).bytes g.M.Machine.is_honest c.args.machine.now c.loop-left.machine c.serve_request.new.machine c.loop-left.requests c.loop-left.left c.loop-left.buffer (g.W.Sink.told c.args.writer.now).bytes (g.W.Sink.told c.loop-left.writer).bytes (λ before middle. Leaves g.M.Machine.protocol g.M.Machine.storage c.args.machine.now c.loop-left.machine before middle) request len c.loop-left-test.true whole c.serve_request.ensures.crash c.loop-left.invariant.progress c.loop-left.invariant.crash;
       asks = asks-next _ _ _ held _ _ c.loop-left.invariant.asks request len _ _ c.loop-left-test.true whole (left_after-other c.loop-left.left request c.if-last.false) (sym c.consume.ensures);
       room = omega (arith, c.loop-left.invariant.room);
       held = omega (arith, c.loop-left.invariant.held, shorter);
@@ -156,6 +164,7 @@ loop-left-preserved g c =
             Progress-as g.M.Machine.protocol (Leaves g.M.Machine.protocol g.M.Machine.storage c.args.machine.now c.loop-left.machine before so_far.0) c.args.max_requests c.loop-left.requests _ _ _ _ _ _ before so_far.0 _ _ refl (sym bytes.2)
                 (Progress-more g.M.Machine.protocol (Leaves g.M.Machine.protocol g.M.Machine.storage c.args.machine.now c.loop-left.machine before so_far.0) c.args.max_requests c.loop-left.requests c.loop-left.left c.loop-left.buffer (g.R.Source.told c.args.reader.now).bytes (g.R.Source.told c.loop-left.reader).bytes (g.W.Sink.told c.args.writer.now).bytes (g.W.Sink.told c.loop-left.writer).bytes before so_far.0 so_far.2 bytes.0 (g.R.Source.told c.fill.new.source).bytes bytes.3),
           );
+      crash = leaves_read-more g.M.Machine.protocol g.M.Machine.storage c.args.max_requests (g.R.Source.told c.args.reader.now).bytes (g.R.Source.told c.loop-left.reader).bytes (g.R.Source.told c.fill.new.source).bytes bytes.0 c.args.machine.now c.loop-left.machine bytes.3 c.loop-left.invariant.crash;
       asks = asks-more _ _ _ c.loop-left.buffer _ _ c.loop-left.invariant.asks c.fill.new.source bytes.0 c.fill.new.self c.loop-left-test.true incomplete bytes.3 (ap (λ k. k.calls) c.in-Ok-fill.ensures.counts) bytes.2;
       room = c.loop-left.invariant.room;
       held = c.in-Ok-fill.ensures.bound;
@@ -188,3 +197,12 @@ returns-in-Err-clause-did g c honest before stands =
       Serves-unfinished g.M.Machine.protocol (Leaves g.M.Machine.protocol g.M.Machine.storage c.args.machine.now c.loop-left.machine before so_far.0) c.args.max_requests c.loop-left.requests c.loop-left.left c.loop-left.buffer (g.R.Source.told c.args.reader.now) (g.R.Source.told c.loop-left.reader) (g.W.Sink.told c.args.writer.now) (g.W.Sink.told c.loop-left.writer) before so_far.0 so_far.2 (g.R.Source.told c.fill.new.source)
           (Consumes-from_Keeps _ _ c.in-Err.ensures.bytes.1) c.loop-left-test.true incomplete,
     )
+
+pub returns-in-Ok-eq0-clause-crash : goal.returns-in-Ok-eq0-clause-crash
+returns-in-Ok-eq0-clause-crash g c =
+    let bytes = c.in-Ok-eq0.ensures.bytes in
+    leaves_read-more g.M.Machine.protocol g.M.Machine.storage c.args.max_requests (g.R.Source.told c.args.reader.now).bytes (g.R.Source.told c.loop-left.reader).bytes (g.R.Source.told c.fill.new.source).bytes bytes.0 c.args.machine.now c.loop-left.machine bytes.3 c.loop-left.invariant.crash
+
+pub returns-in-Err-clause-crash : goal.returns-in-Err-clause-crash
+returns-in-Err-clause-crash g c =
+    leaves_read-more g.M.Machine.protocol g.M.Machine.storage c.args.max_requests (g.R.Source.told c.args.reader.now).bytes (g.R.Source.told c.loop-left.reader).bytes (g.R.Source.told c.fill.new.source).bytes [] c.args.machine.now c.loop-left.machine (Consumes-from_Keeps _ _ c.in-Err.ensures.bytes.1) c.loop-left.invariant.crash

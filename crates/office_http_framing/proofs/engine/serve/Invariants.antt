@@ -1,7 +1,7 @@
 use Rattle.std.proofs.Common.{◌+◌, ◌-◌, ◌*◌, ◌≤◌, length}
 use Rattle.office_http_framing.specs.Ends.{Grows}
 use Rattle.office_http_framing.proofs.ServeLemmas.{Progress}
-use Rattle.office_http_framing.specs.Stops.{Leaves, Means}
+use Rattle.office_http_framing.specs.Stops.{Leaves, LeavesRead, Means}
 use Rattle.office_http_framing.proofs.AskLemmas.{AsksSoFar}
 use Rattle.office_http_framing.proofs.engine.serve.Given as goal
 
@@ -13,6 +13,7 @@ invariant-loop-left g l = record {
       × Progress g.M.Machine.protocol (Leaves g.M.Machine.protocol g.M.Machine.storage l.fn.machine l.machine before after) l.fn.max_requests l.requests l.left l.buffer
       (g.R.Source.told l.fn.reader).bytes (g.R.Source.told l.reader).bytes
       (g.W.Sink.told l.fn.writer).bytes (g.W.Sink.told l.writer).bytes before after;
+  crash : LeavesRead g.M.Machine.protocol g.M.Machine.storage l.fn.max_requests (g.R.Source.told l.fn.reader).bytes (g.R.Source.told l.reader).bytes l.fn.machine l.machine;
   asks : AsksSoFar g.R.Source.told l.fn.max_requests l.left l.buffer l.fn.reader l.reader;
   room : l.requests + l.left ≤ l.fn.max_requests;
   held : length l.buffer ≤ 270336;

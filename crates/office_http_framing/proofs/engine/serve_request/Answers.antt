@@ -1,4 +1,4 @@
-use Rattle.std.proofs.Common.{refl}
+use Rattle.std.proofs.Common.{inl, inr}
 use Rattle.office_http_framing.specs.Front.{plain}
 use Rattle.office_http_framing.proofs.StopLemmas.{deals-answered, deals-refused}
 use Rattle.office_http_framing.proofs.engine.serve_request.Goals as goal
@@ -17,6 +17,6 @@ pub returns-in-Err-clause-step : goal.returns-in-Err-clause-step
 returns-in-Err-clause-step g c honest before means = (
   g.M.Machine.protocol.unavailable_text,
   before,
-  deals-refused g.M.Machine.protocol g.M.Machine.storage c.args.machine.now c.answer.new.self before (plain c.args.request.now) (c.in-Err.ensures.err honest before means) (c.in-Err.ensures.crash honest before means),
+  deals-refused g.M.Machine.protocol g.M.Machine.storage c.args.machine.now c.answer.new.self before (plain c.args.request.now) (c.in-Err.ensures.err honest before means) (λ left may. elim (c.answer.ensures.crash left may) [ inl earlier ↦ inl earlier | inr made ↦ inr (made.1 before means) ]),
   rw c.unavailable.ensures at c.write_all-in-Err.ensures.bytes,
 )

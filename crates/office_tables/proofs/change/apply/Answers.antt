@@ -1,4 +1,5 @@
-use Rattle.std.proofs.Common.{◌≡◌, true, refl, ap, subst, ◌∙◌, rules, arith}
+use Rattle.std.specs.Prelude.{◌==◌}
+use Rattle.std.proofs.Common.{◌≡◌, ◌≢◌, [], length, true, true≢false, refl, sym, ap, subst, ◌∙◌, rules, arith}
 use Rattle.sqlite.specs.Tree.{Trees}
 use Rattle.sqlite.specs.Held.{state}
 use Rattle.sqlite.proofs.StateLemmas.{survives_then}
@@ -30,10 +31,13 @@ returns-in_err-commit-clause-crash g c =
     let mid = c.change_rows.new.tx.conn.now in
     let begun = c.transaction-tx.ensures.begun in
     let it = c.in_ok-change_rows.ensures in
-    let P = λ (trees : Trees). IsHonest (state g.S.Store old) → content_of trees ≡ changed_by (content_now (state g.S.Store old)) c.args.changes.now in
-    let whole = survives_then (state g.S.Store old) (state g.S.Store mid) (state g.S.Store c.commit.new.self.0) _ _ P (λ _ db none. absurd none) (λ clean db is honest.
+    let P = λ (trees : Trees). IsHonest (state g.S.Store old) × (content_of trees ≡ changed_by (content_now (state g.S.Store old)) c.args.changes.now) in
+    let some : c.args.changes.now ≢ [] = λ none. true≢false (sym (c.is_empty.ensures ∙ ap (λ changes. length changes == 0) none) ∙ c.if-is_empty.false) in
+    let whole = survives_then (state g.S.Store old) (state g.S.Store mid) (state g.S.Store c.commit.new.self.0) _ _ P (λ _ db none. absurd none) (λ clean db is.
+    let early : HasCleanDisk (state g.S.Store mid) = omega (arith, clean, c.commit.ensures.survives.clean) in
+    let honest : IsHonest (state g.S.Store old) = (rw begun at (it.honest early)) some in
     let ready : IsReady (state g.S.Store (record old { in_transaction = true })) = record { inside = refl; schema = c.requires.schema honest; ordered = c.requires.ordered honest; sound = c.requires.sound honest } in
-    ap content_of is ∙ (rw begun at (it.changed (omega (arith, clean, c.commit.ensures.survives.clean)))) ready)
+    (honest, ap content_of is ∙ (rw begun at (it.changed early)) ready))
     (survives_begin g.S.Store old (state g.S.Store mid) _ (rw begun at it.crash)) c.commit.ensures.survives in
     let same : c.commit.new.self.0 ≡ c.conn-2-1.given.0 = search rules in
     subst (λ h. Survives (state g.S.Store old) (state g.S.Store h) P) same whole

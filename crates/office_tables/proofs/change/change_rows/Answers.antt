@@ -1,10 +1,11 @@
-use Rattle.std.proofs.Common.{arith, ◌+◌, drop, sym, ap, ◌∙◌}
+use Rattle.std.proofs.Common.{◌≡◌, [], List, length, arith, ◌+◌, drop, inl, inr, sym, ap, ◌∙◌}
 use Rattle.std.proofs.lemmas.List.{drop_more}
 use Rattle.office_tables_shelf.specs.Change.{changed, changed_by}
 use Rattle.office_tables_sql.specs.Stored.{content_now}
 use Rattle.sqlite.specs.Held.{state}
 use Rattle.sqlite.proofs.StateLemmas.{survives_then}
 use Rattle.office_tables_sql.proofs.CallLemmas.{stands_then}
+use Rattle.office_tables.proofs.VersionLemmas.{none_left}
 use Rattle.office_tables.proofs.change.change_rows.Goals as goal
 
 pub loop-change-preserved : goal.loop-change-preserved
@@ -17,8 +18,9 @@ loop-change-preserved g c =
       it.same_reference ∙ was.0,
       stands_then old mid new was.1 it.stands,
       survives_then old mid new (λ _. ⊥) (λ _. ⊥) (λ _. ⊥) (λ _ db none. none) (λ _ db none. none) was.2 it.crash,
+      λ clean. inr (was.1.honest (c.in_ok-change_row.ensures.honest clean)),
       λ clean ready.
-          let before = was.3 (omega (arith, clean, it.crash.clean)) ready in
+          let before = was.4 (omega (arith, clean, it.crash.clean)) ready in
           let rest = drop (c.loop-change.change-index + 1) c.args.changes.now in
           let tables = content_now mid in (
             it.ready clean before.0,
@@ -26,3 +28,10 @@ loop-change-preserved g c =
                 ∙ sym (ap (changed_by tables) (drop_more c.args.changes.now c.loop-change.change-index c.change-item.result c.loop-change-test.true)) ∙ before.1,
           ),
     )
+
+pub returns-clause-honest : goal.returns-clause-honest
+returns-clause-honest g c = λ clean some.
+    elim (c.loop-change.invariant.3 clean) [
+      | inl none ↦ absurd (some (none_left c.args.changes.now (omega (arith, none, c.loop-change-test.false))))
+      | inr honest ↦ honest
+    ]

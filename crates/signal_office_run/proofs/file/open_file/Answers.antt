@@ -11,5 +11,5 @@ returns-in-Ok g c =
     let stand = subst (λ tables. StandForSound tables before) (sym (it.kept honest)) (stands (file_state c.in-Ok.conn).committed.trees (record { holds = found.holds; reads = found.reads })) in
     record {
       stand = stand;
-      crash = λ tables left. subst (λ t. StandForSound t before) (sym (it.crash honest left.0 left.1) ∙ left.2) stand;
+      crash = λ tables left. subst (λ t. StandForSound t before) (sym (it.crash honest left.1 left.2) ∙ left.3) stand;
     }) c.office_over.ensures.opened

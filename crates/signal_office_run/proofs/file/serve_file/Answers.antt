@@ -8,5 +8,8 @@ returns-clause-did g c honest before stand =
     let served = it.did honest before opened.stand in
     (c.in_ok-office.office, served.0, opened, served.1, served.2)
 
+pub returns-clause-crash : goal.returns-clause-crash
+returns-clause-crash g c = (c.in_ok-office.office, c.in_ok-office.ensures, c.serve-outcome.ensures.crash)
+
 pub returns-in_err-office-clause-laws : goal.returns-in_err-office-clause-laws
 returns-in_err-office-clause-laws g c = keeps_laws
