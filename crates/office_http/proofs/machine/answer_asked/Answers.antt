@@ -1,4 +1,4 @@
-use Rattle.std.proofs.Common.{◌≡◌, ◌∙◌, inl, inr, ap, sym, subst, length, true≢false}
+use Rattle.std.proofs.Common.{◌≡◌, ◌∙◌, ap, sym, subst, length, true≢false}
 use Rattle.std.specs.Prelude.{◌==◌}
 use Rattle.office_tables_shelf.specs.Change.{changed_by}
 use Rattle.office_desk.specs.Answers.{AnswersAny}

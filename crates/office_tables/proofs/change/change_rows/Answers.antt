@@ -1,4 +1,4 @@
-use Rattle.std.proofs.Common.{◌≡◌, [], List, length, arith, ◌+◌, drop, inl, inr, sym, ap, ◌∙◌}
+use Rattle.std.proofs.Common.{arith, ◌+◌, drop, inl, inr, sym, ap, ◌∙◌}
 use Rattle.std.proofs.lemmas.List.{drop_more}
 use Rattle.office_tables_shelf.specs.Change.{changed, changed_by}
 use Rattle.office_tables_sql.specs.Stored.{content_now}

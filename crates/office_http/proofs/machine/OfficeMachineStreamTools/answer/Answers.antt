@@ -1,6 +1,5 @@
 use Rattle.std.proofs.Common.{inl, inr, sym, subst, ℕ, List, Vec, Global}
 use Rattle.std.specs.Prelude.{IfOk, Result}
-use Rattle.office_tables_shelf.specs.Content.{Content}
 use Rattle.office_desk.specs.Office.{Office}
 use Rattle.office_desk.specs.StandFor.{StandForSound}
 use Rattle.office_http_requests.specs.declared.asked.Asked.{Asked}
