@@ -5,7 +5,6 @@ ghost use Rattle.office_http_wire.specs.Faults.{ask_fault_text};
 ghost use Rattle.office_desk.specs.Office.{Office as OfficeState};
 ghost use Rattle.office_desk.specs.StandFor.{StandForSound};
 ghost use Rattle.office_http_framing.specs.Stops.{Settles};
-ghost use Rattle.office_tables_shelf.specs.Content.{Content};
 ghost use Rattle.office_http.specs.Protocol.{AnswersAsked, LeavesAsked, office_storage};
 
 use office_desk::office::Office;
