@@ -1,6 +1,5 @@
 //! What a step of the transaction is answered, and the rows that it writes.
-ghost use Rattle.std.specs.Prelude.{◌≡◌, ◌≢◌, [], ◌∷◌, IfOk, OnErr};
-ghost use Rattle.office_desk.specs.Changes.{IsRefused};
+ghost use Rattle.std.specs.Prelude.{◌≡◌, ◌∷◌, IfOk, OnErr};
 ghost use Rattle.office_desk.specs.Moving.{AreDraftedWithin, IsDraftedWithin, WantsMemory, WritesDecision, WritesMove, row_change_of, row_changes_of};
 ghost use Rattle.office_desk.specs.Step.{refusal_of_draft};
 

@@ -1,6 +1,5 @@
 //! What is read of an intersection.
-ghost use Rattle.std.specs.Prelude.{◌≡◌, IfOk, OnErr, IfSome, map};
-ghost use Rattle.signal_records.specs.TimingSet.{after_changes};
+ghost use Rattle.std.specs.Prelude.{◌≡◌, IfOk, IfSome, map};
 ghost use Rattle.office_tables_shelf.specs.Damage.{HasDamagedIntersection, HasDamagedTiming};
 ghost use Rattle.office_tables_shelf.specs.Rows.{IsIntersectionRow};
 ghost use Rattle.office_tables_shelf.specs.Shelf.{IsKept, ListsDraft, ReadsIntersection};

@@ -1,7 +1,5 @@
 //! The queries State, Timing and Draft.
-ghost use Rattle.std.specs.Prelude.{◌≡◌, ◌≢◌, ◌∷◌, [], ℕ, length, map, Some, IfOk};
-ghost use Rattle.std.specs.FinMap.{get, empty};
-ghost use Rattle.signal_records.specs.TimingSet.{after_changes};
+ghost use Rattle.std.specs.Prelude.{◌≡◌, ◌≢◌, ◌∷◌, [], map, Some, IfOk};
 ghost use Rattle.draft_core.specs.Transaction.{state_of_holder};
 ghost use Rattle.office_tables_shelf.specs.Shelf.{IsKept};
 ghost use Rattle.office_desk.specs.Deciding.{Decides};
