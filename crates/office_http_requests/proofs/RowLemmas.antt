@@ -1,5 +1,6 @@
 -- A walk that takes the value of each element of a list in turn.
-use Rattle.std.proofs.Common.{◌≡◌, ℕ, ◌+◌, ◌<◌, List, [], ◌∷◌, ◌++◌, length, drop, get_or, suc, Option, Some, None, Result, Ok, Err, option_map, option_and_then, add-one, drop-cons, append_assoc, map, ap, sym, ◌∙◌, refl}
+use Rattle.std.proofs.Common.{◌≡◌, ℕ, ◌+◌, ◌<◌, Bool, ◌&&◌, is_some, List, [], ◌∷◌, ◌++◌, length, drop, get_or, suc, Option, Some, None, Result, Ok, Err, option_map, option_and_then, add-one, drop-cons, append_assoc, map, ap, sym, ◌∙◌, refl}
+use Rattle.std.specs.List.{list_all}
 use Rattle.serde_json.specs.Data.{Data}
 use Rattle.serde_json.specs.Find.{get, as_array, as_str}
 use Rattle.serde_json.specs.View.{view, items_of, items_view}
@@ -124,3 +125,14 @@ rows_in-other body h = by_found (get (field_name FieldRows) body) h
     by_found : (found : Option Data) → option_and_then as_array found ≡ None → option_and_then (each texts_in) (option_and_then list_in found) ≡ None
     by_found None e = refl
     by_found (Some d) e = rw e
+
+-- ---- each element has a value exactly where all of them pass
+
+one_is_some : {B : Type 0} (y : Option B) (rest : Option (List B)) (b : Bool) → is_some rest ≡ b → is_some (option_and_then (λ v. option_map (λ ys. v ∷ ys) rest) y) ≡ is_some y && b
+one_is_some None rest b e = refl
+one_is_some (Some v) None b e = e
+one_is_some (Some v) (Some ys) b e = e
+
+pub each_passes : {A B C : Type 0} (f : B → Option C) (shown : A → B) (xs : List A) → list_all (λ x. is_some (f (shown x))) xs ≡ is_some (each f (map shown xs))
+each_passes f shown [] = refl
+each_passes f shown (x ∷ xs) = sym (one_is_some (f (shown x)) (each f (map shown xs)) (list_all (λ y. is_some (f (shown y))) xs) (sym (each_passes f shown xs)))

@@ -1,5 +1,7 @@
 -- The command that a request asks.
 use Rattle.std.specs.Prelude.{ℕ, List, Result, Ok, Err, IsOk, IsTrue, bytes_eq, if◌then◌else◌}
+use Rattle.serde_json.specs.Data.{Data}
+use Rattle.signal_records.specs.declared.record.Change.{Change}
 use Rattle.office_desk.specs.declared.command.Command.{Command}
 use Rattle.office_desk.specs.declared.command.Command.TheVariants as command
 use Rattle.office_http_requests.specs.declared.asked.Asked.{Asked}
@@ -43,22 +45,32 @@ id_and_clerk_in path bytes = do
   Ok (id, clerk)
 
 -- the body's keys by name, then the rows
+unfoldable pub clerk_and_rows_in : Data → Result (List ℕ × List Change) AskFault
+clerk_and_rows_in body = do
+  clerk ← words_in 40 body Clerk
+  changes ← changes_in body
+  Ok (clerk, changes)
+
 unfoldable pub edited_in : List ℕ → List ℕ → Result Asked AskFault
 edited_in path bytes = do
   id ← id_at path
   body ← body_of bytes
-  clerk ← words_in 40 body Clerk
-  changes ← changes_in body
-  Ok (asked_in_json (command.Edit id clerk changes))
+  found ← clerk_and_rows_in body
+  Ok (asked_in_json (command.Edit id found.0 found.1))
 
 -- the body's keys by name, then the records of the CSV text
+unfoldable pub clerk_and_csv_in : Data → Result (List ℕ × List Change) AskFault
+clerk_and_csv_in body = do
+  clerk ← words_in 40 body Clerk
+  changes ← csv_changes_in body
+  Ok (clerk, changes)
+
 unfoldable pub edited_by_csv : List ℕ → List ℕ → Result Asked AskFault
 edited_by_csv path bytes = do
   id ← id_at path
   body ← body_of bytes
-  clerk ← words_in 40 body Clerk
-  changes ← csv_changes_in body
-  Ok (asked_in_json (command.Edit id clerk changes))
+  found ← clerk_and_csv_in body
+  Ok (asked_in_json (command.Edit id found.0 found.1))
 
 -- an import is of no path
 unfoldable pub imported_in : List ℕ → Result Asked AskFault

@@ -1,9 +1,13 @@
 //! From a request to a command.
-ghost use Rattle.std.specs.Prelude.{◌≡◌, IsOk};
+ghost use Rattle.std.specs.Prelude.{◌≡◌, IsOk, IsSome};
+ghost use Rattle.serde_json.specs.View.{view};
 ghost use Rattle.office_http_requests.specs.Asks.{Gives, WantsMemoryOnlyIf};
-ghost use Rattle.office_http_requests.specs.Bodies.{MayBeObject};
+ghost use Rattle.office_http_requests.specs.Bodies.{MayBeObject, words_in};
+ghost use Rattle.office_http_requests.specs.CsvBodies.{csv_in};
+ghost use Rattle.office_http_requests.specs.Rows.{rows_in};
+ghost use Rattle.office_http_requests.specs.declared.field.Field.TheVariants.{Clerk};
 ghost use Rattle.office_http_requests.specs.Paths.{id_at};
-ghost use Rattle.office_http_requests.specs.Commands.{ReadsBody, ReadsRequest, added_intersection, asked_at, asked_in_csv, asked_in_json, command_at, edited_by_csv, edited_in, id_and_clerk_in, imported_in};
+ghost use Rattle.office_http_requests.specs.Commands.{ReadsBody, ReadsRequest, added_intersection, asked_at, clerk_and_csv_in, clerk_and_rows_in, asked_in_csv, asked_in_json, command_at, edited_by_csv, edited_in, id_and_clerk_in, imported_in};
 
 use crate::asked::{Asked, Form};
 use crate::fault::AskFault;
@@ -14,6 +18,7 @@ use draft_core::changes::Changes;
 use office_desk::command::Command;
 use office_desk::records::Records;
 use office_http_framing::front::Request;
+use serde_json::Value;
 use signal_records::{InterId, Words};
 use std::alloc::Global;
 
@@ -145,9 +150,19 @@ fn edit(alloc: Global, path: &[u8], body: &[u8]) -> Result<Asked, AskFault>
 {
     let id = path::id(path)?;
     let body = body::read(alloc, body)?;
-    let clerk = body::words(alloc, &body, Field::Clerk)?;
-    let changes = rows::of_body(alloc, &body)?;
+    let (clerk, changes) = clerk_and_rows(alloc, &body)?;
     Ok(in_json(Command::Edit { id, clerk, changes }))
+}
+
+// The clerk and the changes of the rows. Every key is judged before memory is taken.
+#[tactic(auto, unfolding(crate::specs::Commands::clerk_and_rows_in))]
+fn clerk_and_rows(alloc: Global, body: &Value) -> Result<(Words<40>, Changes), AskFault>
+    ensures gives { Gives result (clerk_and_rows_in (view body.now)) }
+    ensures memory { WantsMemoryOnlyIf result (IsOk (words_in 40 (view body.now) Clerk) × IsSome (rows_in (view body.now))) }
+{
+    let clerk = body::words_text(body, Field::Clerk, 40)?;
+    let changes = rows::of_body(alloc, body)?;
+    Ok((body::words_copied(alloc, clerk)?, changes))
 }
 
 #[tactic(auto, unfolding(crate::specs::Commands::edited_by_csv))]
@@ -157,9 +172,19 @@ fn edit_csv(alloc: Global, path: &[u8], body: &[u8]) -> Result<Asked, AskFault>
 {
     let id = path::id(path)?;
     let body = body::read(alloc, body)?;
-    let clerk = body::words(alloc, &body, Field::Clerk)?;
-    let changes = Changes::new(csv_body::changes(alloc, &body)?);
+    let (clerk, changes) = clerk_and_csv(alloc, &body)?;
     Ok(in_json(Command::Edit { id, clerk, changes }))
+}
+
+// The clerk and the changes of the CSV text. Every key is judged before memory is taken.
+#[tactic(auto, unfolding(crate::specs::Commands::clerk_and_csv_in))]
+fn clerk_and_csv(alloc: Global, body: &Value) -> Result<(Words<40>, Changes), AskFault>
+    ensures gives { Gives result (clerk_and_csv_in (view body.now)) }
+    ensures memory { WantsMemoryOnlyIf result (IsOk (words_in 40 (view body.now) Clerk) × IsOk (csv_in (view body.now))) }
+{
+    let clerk = body::words_text(body, Field::Clerk, 40)?;
+    let changes = Changes::new(csv_body::changes(alloc, body)?);
+    Ok((body::words_copied(alloc, clerk)?, changes))
 }
 
 #[tactic(auto, unfolding(crate::specs::Commands::imported_in))]

@@ -1,5 +1,5 @@
 //! The CSV text of a body, and what its records spell.
-ghost use Rattle.std.specs.Prelude.{◌≡◌, IsOk};
+ghost use Rattle.std.specs.Prelude.{◌≡◌, IfOk, IsOk};
 ghost use Rattle.std.specs.Result.{result_map_both};
 ghost use Rattle.serde_json.specs.View.{view};
 ghost use Rattle.office_http_requests.specs.Asks.{WantsMemoryOnlyIf};
@@ -35,6 +35,7 @@ fn text(body: &Value) -> Result<&str, AskFault>
 #[tactic(auto, unfolding(crate::specs::CsvBodies::csv_changes_in))]
 pub(crate) fn changes(alloc: Global, body: &Value) -> Result<Vec<Change>, AskFault>
     ensures gives { GivesList result (csv_changes_in (view body.now)) }
+    ensures found { IfOk result (λ _. IsOk (csv_in (view body.now))) }
     ensures memory { WantsMemoryOnlyIf result (IsOk (csv_in (view body.now))) }
 {
     read_timing_csv(alloc, text(body)?.as_bytes()).map_err(of_file)

@@ -1,8 +1,9 @@
 //! The rows of a body: an array of arrays of texts, each of which spells a change.
-ghost use Rattle.std.specs.Prelude.{◌≡◌, ◌≢◌, IfOk, option_map, option_and_then};
-ghost use Rattle.serde_json.specs.Find.{get, as_array};
+ghost use Rattle.std.specs.Prelude.{◌≡◌, ◌≢◌, IfOk, IsSome, is_some, option_map, option_and_then};
+ghost use Rattle.std.specs.List.{list_all};
+ghost use Rattle.serde_json.specs.Find.{get, as_array, as_str};
 ghost use Rattle.serde_json.specs.View.{view, items_view};
-ghost use Rattle.office_http_requests.specs.Asks.{Gives};
+ghost use Rattle.office_http_requests.specs.Asks.{Gives, WantsMemoryOnlyIf};
 ghost use Rattle.office_http_requests.specs.Fields.{field_name};
 ghost use Rattle.office_http_requests.specs.Rows.{texts_in, rows_in, changes_of, changes_in, ShowsTexts, ShowsRows, rows_seen};
 
@@ -80,11 +81,48 @@ fn changes(alloc: Global, rows: &[Vec<&[u8]>]) -> Result<Changes, AskFault>
     Ok(Changes::new(changes))
 }
 
-/// The changes under their key.
+fn all_texts(values: &[Value]) -> bool
+    ensures { result ≡ list_all (λ value. is_some (as_str (view value))) values.now }
+{
+    values.iter().all(|value| value.is_string())
+}
+
+// Whether a value is an array of texts alone. It takes no memory.
+fn is_row(row: &Value) -> bool
+    ensures { result ≡ is_some (texts_in (view row.now)) }
+{
+    match row.as_array() {
+        Some(list) => all_texts(list.as_slice()),
+        None => false,
+    }
+}
+
+fn all_rows(values: &[Value]) -> bool
+    ensures { result ≡ list_all (λ value. is_some (texts_in (view value))) values.now }
+{
+    values.iter().all(|value| is_row(value))
+}
+
+// Whether the rows stand under their key. It takes no memory.
+fn has_rows(body: &Value) -> bool
+    ensures { result ≡ is_some (rows_in (view body.now)) }
+{
+    match array(body, Field::Rows) {
+        Some(list) => all_rows(list.as_slice()),
+        None => false,
+    }
+}
+
+/// The changes under their key. What is no array of arrays of texts is judged before memory is taken.
 #[tactic(auto, unfolding(crate::specs::Rows::changes_in))]
 pub(crate) fn of_body(alloc: Global, body: &Value) -> Result<Changes, AskFault>
-    ensures { Gives result (changes_in (view body.now)) }
+    ensures gives { Gives result (changes_in (view body.now)) }
+    ensures found { IfOk result (λ _. IsSome (rows_in (view body.now))) }
+    ensures memory { WantsMemoryOnlyIf result (IsSome (rows_in (view body.now))) }
 {
+    if !has_rows(body) {
+        return Err(AskFault::Field(Field::Rows));
+    }
     match rows(alloc, body)? {
         Some(rows) => changes(alloc, &rows),
         None => Err(AskFault::Field(Field::Rows)),

@@ -1,0 +1,14 @@
+use Rattle.std.proofs.Common.{◌∙◌, sym, ap, is_some}
+use Rattle.std.specs.List.{list_all}
+use Rattle.serde_json.specs.View.{view}
+use Rattle.office_http_requests.specs.Rows.{texts_in}
+use Rattle.office_http_requests.proofs.RowLemmas.{each_passes, rows_in-array, rows_in-other}
+use Rattle.office_http_requests.proofs.rows.has_rows.Goals as goal
+
+pub returns-in-Some : goal.returns-in-Some
+returns-in-Some c =
+    c.all_rows.ensures ∙ ap (list_all (λ value. is_some (texts_in (view value)))) c.as_slice.ensures.value
+    ∙ each_passes texts_in view c.in-Some.list.now.items ∙ sym (ap is_some (rows_in-array _ c.in-Some.list.now.items (sym c.in-Some.ensures)))
+
+pub returns-in-None : goal.returns-in-None
+returns-in-None c = sym (ap is_some (rows_in-other _ (sym c.in-None.ensures)))
