@@ -75,6 +75,7 @@ fn answer_asked<S: Shelf>(
 
 impl<S: Shelf> Machine<StreamTools> for Office<S> {
     ghost use Rattle.office_desk.specs.Office.{Office as OfficeState};
+    ghost use Rattle.office_tables_shelf.specs.Content.{Content};
     ghost use Rattle.office_http.specs.Protocol.{office_protocol, office_storage};
 
     ghost State = { OfficeState };
