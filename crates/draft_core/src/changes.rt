@@ -35,4 +35,12 @@ impl Changes {
     {
         self.list.as_slice()
     }
+
+    /// The list of them, without memory.
+    pub fn into_vec(self) -> Vec<Change>
+        ensures { result.items ≡ self }
+    {
+        let Changes { list } = self;
+        list
+    }
 }

@@ -34,4 +34,12 @@ impl Records {
     {
         self.list.as_slice()
     }
+
+    /// The list of them, without memory.
+    pub fn into_vec(self) -> Vec<RecordCommand>
+        ensures { result.items ≡ self }
+    {
+        let Records { list } = self;
+        list
+    }
 }

@@ -64,6 +64,14 @@ impl Violations {
     {
         self.list.as_slice()
     }
+
+    /// The list of them, without memory.
+    pub fn into_vec(self) -> Vec<Violation>
+        ensures { result.items ≡ self }
+    {
+        let Violations { list } = self;
+        list
+    }
 }
 
 /// A draft as the query Draft shows it.
@@ -149,6 +157,14 @@ impl OrderNumbers {
     {
         self.list.as_slice()
     }
+
+    /// The list of them, without memory.
+    pub fn into_vec(self) -> Vec<RecordNo>
+        ensures { result.items ≡ self }
+    {
+        let OrderNumbers { list } = self;
+        list
+    }
 }
 
 /// Parts by their codes, each with how many are on hand. They are seen as a list.
@@ -180,6 +196,14 @@ impl Stock {
         ensures { result.now ≡ self.now }
     {
         self.list.as_slice()
+    }
+
+    /// The list of them, without memory.
+    pub fn into_vec(self) -> Vec<(PartCode, Hand)>
+        ensures { result.items ≡ self }
+    {
+        let Stock { list } = self;
+        list
     }
 }
 
@@ -214,6 +238,14 @@ impl OverdueList {
         ensures { map listed result.now ≡ self.now }
     {
         self.rows.as_slice()
+    }
+
+    /// The list of them, without memory.
+    pub fn into_vec(self) -> Vec<OverdueRow>
+        ensures { map listed result.items ≡ self }
+    {
+        let OverdueList { rows } = self;
+        rows
     }
 }
 

@@ -1,3 +1,1 @@
-pub mod FaultLemmas
 pub mod MemoryLemmas
-pub mod SheetLemmas

@@ -1,6 +1,6 @@
 -- The office served on a port.
 use Rattle.std.specs.Prelude.{◌≡◌, ◌≤◌, ℕ, Result, Ok, Err, ⊤}
-use Rattle.signal_office_run.specs.declared.fault.Fault.{Fault}
+use Rattle.signal_office_reports.specs.declared.fault.Fault.{Fault}
 
 -- all connections were served, or no more than that before a fault
 abbrev pub ServedAll : ℕ → ℕ → Result ⊤ Fault → Type 0

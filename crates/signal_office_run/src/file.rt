@@ -21,10 +21,10 @@ ghost use Rattle.office_http_framing.specs.Serve.{Did, TellsFault};
 ghost use Rattle.office_http_framing.specs.Stops.{Leaves, LeavesRead};
 ghost use Rattle.signal_office_run.specs.File.{AreOpenedFor, StandInFiles, sql_storage};
 
-use crate::fault::Fault;
 use office_desk::office::Office;
 use office_http::{ServeFault, Served, Sink, Source, serve};
 use office_tables::sql_shelf::SqlShelf;
+use signal_office_reports::Fault;
 use sqlite::{Connection, Error, FileFrom, FileStore, Start};
 use sqlite_disk::Disk;
 use std::alloc::Global;

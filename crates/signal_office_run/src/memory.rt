@@ -11,10 +11,10 @@ ghost use Rattle.office_http_framing.specs.Protocol.{Run as ProtocolRun};
 ghost use Rattle.office_http_framing.specs.Serve.{Did, TellsFault, no_stop};
 ghost use Rattle.signal_office_run.specs.Memory.{StandsInMemory, new_office};
 
-use crate::fault::Fault;
 use office_desk::office::Office;
 use office_http::{ServeFault, Served, Sink, Source, serve};
 use office_tables::sql_shelf::SqlShelf;
+use signal_office_reports::Fault;
 use sqlite::{Connection, MemStore};
 use std::alloc::Global;
 

@@ -1,10 +1,6 @@
 //! What the program's words ask for, from a source of bytes to its two outputs.
 
-ghost use Rattle.std.specs.Prelude.{◌≤◌};
-
-use crate::fault::Fault;
 use crate::memory::{open_in_memory, serve_new_office};
-use crate::plan::violations_in;
 use crate::serving::serve_port;
 use crate::task::{Task, batch_in_file, do_in_file};
 use cabinet_core::read_day;
@@ -13,6 +9,7 @@ use office_files::violation_text;
 use office_http::{Sink, Source, write_all};
 use office_tables_shelf::shelf::Shelf;
 use signal_office_line::{Job, JobFault, job_of};
+use signal_office_reports::{Fault, report, violations_in};
 use std::alloc::Global;
 use std::fs;
 use std::io::ErrorKind;
@@ -155,17 +152,6 @@ fn show<W: Sink, E: Sink>(
     }
     write_all(out, text.as_bytes())?;
     Ok(0)
-}
-
-/// Says a fault on standard error, as far as that takes it, and gives the status.
-pub fn report<W: Sink>(alloc: Global, err: &mut W, fault: Fault) -> u8
-    ensures { 1 ≤ result }
-{
-    let _ = match format!(in alloc; "{fault}\n") {
-        Ok(line) => write_all(err, line.as_bytes()),
-        Err(_) => write_all(err, b"fault: memory\n"),
-    };
-    fault.status()
 }
 
 /// Does what the words ask for, and gives the status: 0 done, 1 a fault, 2 the words were refused,

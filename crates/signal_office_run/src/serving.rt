@@ -7,10 +7,10 @@ ghost use Rattle.office_http.specs.Listening.{Ends, ServesEach};
 ghost use Rattle.office_http.specs.Protocol.{office_storage};
 ghost use Rattle.signal_office_run.specs.Serving.{ServedAll};
 
-use crate::fault::Fault;
 use office_desk::office::Office;
 use office_http::{ServeStop, Sink, serve_on, write_all};
 use office_tables_shelf::shelf::Shelf;
+use signal_office_reports::Fault;
 use std::alloc::Global;
 use std::net::{Ipv4Addr, SocketAddr, TcpListener};
 

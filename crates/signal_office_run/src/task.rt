@@ -1,14 +1,12 @@
 //! What is done over the tables of a file.
 
-use crate::fault::Fault;
 use crate::file::{close_after, open_file, serve_file};
-use crate::overdue::overdue_of;
 use crate::serving::serve_port;
-use crate::sheet::sheet_of;
 use cabinet_core::Day;
 use office_desk::office::Office;
 use office_http::{Served, Sink, Source};
 use office_tables_shelf::shelf::Shelf;
+use signal_office_reports::{Fault, overdue_of, sheet_of};
 use signal_records::InterId;
 use sqlite::Wary;
 use std::alloc::Global;

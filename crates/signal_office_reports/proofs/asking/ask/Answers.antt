@@ -1,5 +1,5 @@
-use Rattle.signal_office_run.proofs.SheetLemmas.{unchanged}
-use Rattle.signal_office_run.proofs.asking.ask.Goals as goal
+use Rattle.signal_office_reports.proofs.SheetLemmas.{unchanged}
+use Rattle.signal_office_reports.proofs.asking.ask.Goals as goal
 
 -- a query decides on no changes
 pub returns-clause-step : goal.returns-clause-step

@@ -1,7 +1,7 @@
 use Rattle.std.proofs.Common.{subst, sym}
 use Rattle.office_desk.specs.StandFor.{StandForSound}
-use Rattle.signal_office_run.proofs.SheetLemmas.{sheet_is}
-use Rattle.signal_office_run.proofs.sheet.sheet_of.Goals as goal
+use Rattle.signal_office_reports.proofs.SheetLemmas.{sheet_is}
+use Rattle.signal_office_reports.proofs.sheet.sheet_of.Goals as goal
 
 -- both queries are of one office
 pub returns-clause-sheet : goal.returns-clause-sheet

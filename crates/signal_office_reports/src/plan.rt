@@ -2,7 +2,7 @@
 
 ghost use Rattle.std.specs.Prelude.{◌≡◌, ◌≢◌, List, Ok, Err, IfOk, IfErr};
 ghost use Rattle.office_files.specs.Changes.{changes_of};
-ghost use Rattle.signal_office_run.specs.Plan.{AreOfPlan};
+ghost use Rattle.signal_office_reports.specs.Plan.{AreOfPlan};
 
 use office_files::{CsvFault, read_timing_csv};
 use signal_records::TimingSet;

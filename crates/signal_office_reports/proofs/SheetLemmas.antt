@@ -16,7 +16,7 @@ use Rattle.office_desk.specs.declared.reply.Reply.{Reply}
 use Rattle.office_desk.specs.declared.reply.Reply.TheVariants.{State as Shown, Timing as Running, Refused}
 use Rattle.office_desk.specs.declared.reply.RunningTiming.{RunningTiming}
 use Rattle.office_files.specs.Sheet.{sheet_text}
-use Rattle.signal_office_run.specs.Sheet.{IsNameOf, IsSheetOf, IsTimingOf}
+use Rattle.signal_office_reports.specs.Sheet.{IsNameOf, IsSheetOf, IsTimingOf}
 
 -- a reply without changes is a step that leaves the tables
 pub unchanged : (tables : Content) (asked : Command) (reply : Reply) (changes : List RowChange) → changes ≡ [] → AnswersAny tables asked reply (changed_by tables changes) → AnswersAny tables asked reply tables

@@ -1,9 +1,9 @@
 use Rattle.std.proofs.Common.{refl, subst, sym}
 use Rattle.office_desk.specs.declared.command.Command.TheVariants as command
-use Rattle.signal_office_run.proofs.FaultLemmas.{refused_tells, store_tells}
-use Rattle.signal_office_run.proofs.SheetLemmas.{timed}
-use Rattle.signal_office_run.specs.Fault.{TellsUnknown}
-use Rattle.signal_office_run.proofs.sheet.timing_in.Goals as goal
+use Rattle.signal_office_reports.proofs.FaultLemmas.{refused_tells, store_tells}
+use Rattle.signal_office_reports.proofs.SheetLemmas.{timed}
+use Rattle.signal_office_reports.specs.Fault.{TellsUnknown}
+use Rattle.signal_office_reports.proofs.sheet.timing_in.Goals as goal
 
 pub returns-in-Timing-clause-timing : goal.returns-in-Timing-clause-timing
 returns-in-Timing-clause-timing g c = λ honest before stands.

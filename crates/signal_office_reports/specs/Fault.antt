@@ -4,8 +4,8 @@ use Rattle.std.specs.FinMap.{get}
 use Rattle.office_desk.specs.Office.{Office}
 use Rattle.office_desk.specs.declared.refusal.Refusal.{Refusal}
 use Rattle.office_desk.specs.declared.refusal.Refusal.TheVariants as refusal
-use Rattle.signal_office_run.specs.declared.fault.Fault.{Fault}
-use Rattle.signal_office_run.specs.declared.fault.Fault.TheVariants as told
+use Rattle.signal_office_reports.specs.declared.fault.Fault.{Fault}
+use Rattle.signal_office_reports.specs.declared.fault.Fault.TheVariants as told
 
 -- the fault that is told of a refused query
 abbrev pub fault_of : Refusal → Fault

@@ -80,7 +80,7 @@ impl From<AllocError> for Fault {
 
 impl From<NoMemory> for Fault {
     ghost use Rattle.std.specs.Prelude.{◌≡◌};
-    ghost use Rattle.signal_office_run.specs.declared.fault.Fault.TheVariants as told;
+    ghost use Rattle.signal_office_reports.specs.declared.fault.Fault.TheVariants as told;
 
     ghost from_gives = { λ _ fault. fault ≡ told.Memory };
 
@@ -122,7 +122,7 @@ impl From<Error> for Fault {
 
 impl From<Refusal> for Fault {
     ghost use Rattle.std.specs.Prelude.{◌≡◌};
-    ghost use Rattle.signal_office_run.specs.Fault.{fault_of};
+    ghost use Rattle.signal_office_reports.specs.Fault.{fault_of};
 
     ghost from_gives = { λ refusal fault. fault ≡ fault_of refusal };
 
@@ -138,7 +138,7 @@ impl From<Refusal> for Fault {
 impl From<OpenFault> for Fault {
     ghost use Rattle.std.specs.Prelude.{◌≡◌, ◌↔◌};
     ghost use Rattle.office_tables.specs.declared.open.OpenFault.TheVariants as opened;
-    ghost use Rattle.signal_office_run.specs.declared.fault.Fault.TheVariants as told;
+    ghost use Rattle.signal_office_reports.specs.declared.fault.Fault.TheVariants as told;
 
     ghost from_gives = { λ cause fault. ((fault ≡ told.Version) ↔ (cause ≡ opened.Version)) × ((fault ≡ told.Damaged) ↔ (cause ≡ opened.Damaged)) };
 

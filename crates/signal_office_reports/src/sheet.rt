@@ -6,8 +6,8 @@ ghost use Rattle.office_desk.specs.Damage.{MeetsDamage};
 ghost use Rattle.office_desk.specs.Office.{Office as OfficeState};
 ghost use Rattle.office_desk.specs.StandFor.{StandForSound};
 ghost use Rattle.office_desk.specs.declared.command.Command.TheVariants as command;
-ghost use Rattle.signal_office_run.specs.Fault.{IsFaultOfQuery, TellsUnknown};
-ghost use Rattle.signal_office_run.specs.Sheet.{IsNameOf, IsSheetOf, IsTimingOf};
+ghost use Rattle.signal_office_reports.specs.Fault.{IsFaultOfQuery, TellsUnknown};
+ghost use Rattle.signal_office_reports.specs.Sheet.{IsNameOf, IsSheetOf, IsTimingOf};
 
 use crate::asking::ask;
 use crate::fault::Fault;

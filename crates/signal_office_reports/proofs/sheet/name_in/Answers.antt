@@ -1,9 +1,9 @@
 use Rattle.std.proofs.Common.{refl, subst, sym}
 use Rattle.office_desk.specs.declared.command.Command.TheVariants as command
-use Rattle.signal_office_run.proofs.FaultLemmas.{refused_tells, store_tells}
-use Rattle.signal_office_run.proofs.SheetLemmas.{named}
-use Rattle.signal_office_run.specs.Fault.{TellsUnknown}
-use Rattle.signal_office_run.proofs.sheet.name_in.Goals as goal
+use Rattle.signal_office_reports.proofs.FaultLemmas.{refused_tells, store_tells}
+use Rattle.signal_office_reports.proofs.SheetLemmas.{named}
+use Rattle.signal_office_reports.specs.Fault.{TellsUnknown}
+use Rattle.signal_office_reports.proofs.sheet.name_in.Goals as goal
 
 pub returns-in-State-clause-name : goal.returns-in-State-clause-name
 returns-in-State-clause-name g c = λ honest before stands.

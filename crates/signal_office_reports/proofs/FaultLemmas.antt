@@ -12,9 +12,9 @@ use Rattle.office_desk.specs.declared.refusal.Refusal.{Refusal}
 use Rattle.office_desk.specs.declared.refusal.Refusal.TheVariants as refusal
 use Rattle.office_desk.specs.declared.reply.Reply.{Reply}
 use Rattle.office_desk.specs.declared.reply.Reply.TheVariants.{Refused}
-use Rattle.signal_office_run.specs.Fault.{TellsUnknown, fault_of}
-use Rattle.signal_office_run.specs.declared.fault.Fault.{Fault}
-use Rattle.signal_office_run.specs.declared.fault.Fault.TheVariants as told
+use Rattle.signal_office_reports.specs.Fault.{TellsUnknown, fault_of}
+use Rattle.signal_office_reports.specs.declared.fault.Fault.{Fault}
+use Rattle.signal_office_reports.specs.declared.fault.Fault.TheVariants as told
 
 -- what holds of want of memory holds of a fault that is that
 pub on_memory : {A : Type 0} (r : Result A Fault) (P : Fault → Type 0) → IsErrAnd r (λ fault. fault ≡ told.Memory) → P told.Memory → IfErr r P

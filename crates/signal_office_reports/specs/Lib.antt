@@ -1,0 +1,4 @@
+pub mod Fault
+pub mod Overdue
+pub mod Plan
+pub mod Sheet

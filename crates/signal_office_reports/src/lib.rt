@@ -1,0 +1,15 @@
+//! What the program prints from an office or a plan, and why it fails.
+#![tactic(auto)]
+
+mod asking;
+mod fault;
+mod overdue;
+mod plan;
+mod report;
+mod sheet;
+
+pub use fault::Fault;
+pub use overdue::overdue_of;
+pub use plan::violations_in;
+pub use report::report;
+pub use sheet::sheet_of;
