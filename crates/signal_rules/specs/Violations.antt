@@ -11,7 +11,7 @@ use Rattle.signal_rules.specs.declared.violation.Subject.{Subject}
 use Rattle.signal_rules.specs.declared.violation.Subject.TheVariants as subject
 use Rattle.signal_rules.specs.declared.violation.Violation.{Violation}
 use Rattle.signal_rules.specs.Lookup.{phase_at, split_at, pattern_at, phases, phase_numbers, sequence_numbers, split_numbers, pattern_numbers, has_sequence}
-use Rattle.signal_rules.specs.PhaseRules.{yellow_is_right, red_is_right, walk_is_long, clears_crossing, clears_setback, where_walked, mates_agree}
+use Rattle.signal_rules.specs.PhaseRules.{yellow_is_right, red_is_right, walk_is_long, clears_crossing, clears_setback, lead_is_right, where_walked, mates_agree}
 use Rattle.signal_rules.specs.SequenceRule.{rows_are_right}
 use Rattle.signal_rules.specs.SplitRule.{split_is_right}
 use Rattle.signal_rules.specs.PatternRules.{has_rows, offset_is_right, has_coordinated, lanes_fill_cycle, lanes_agree}
@@ -28,6 +28,7 @@ phase_findings set p phase =
     ∷ (rule.V4, where_walked phase.ped (clears_crossing phase))
     ∷ (rule.V5, where_walked phase.ped (clears_setback phase))
     ∷ (rule.V6, mates_agree set p phase)
+    ∷ (rule.V14, where_walked phase.ped lead_is_right)
     ∷ []
 
 -- V13 is evaluated only where V12 holds

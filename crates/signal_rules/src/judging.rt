@@ -81,39 +81,19 @@ fn judge_phase(
 ) -> Result<(), NoMemory>
     ensures { OnOk result (found.new.items ≡ found.old.items ++ broken (Subject.Phase p) (phase_findings set.now p phase.now)) }
 {
-    report(
-        phase::yellow_is_right(phase),
-        Subject::Phase(p),
-        Rule::V1,
-        found,
-    )?;
-    report(
-        phase::red_is_right(phase),
-        Subject::Phase(p),
-        Rule::V2,
-        found,
-    )?;
+    let subject = Subject::Phase(p);
+    report(phase::yellow_is_right(phase), subject, Rule::V1, found)?;
+    report(phase::red_is_right(phase), subject, Rule::V2, found)?;
     if let Some(ped) = &phase.ped {
-        report(phase::walk_is_long(ped), Subject::Phase(p), Rule::V3, found)?;
-        report(
-            phase::clears_crossing(phase, ped),
-            Subject::Phase(p),
-            Rule::V4,
-            found,
-        )?;
-        report(
-            phase::clears_setback(phase, ped),
-            Subject::Phase(p),
-            Rule::V5,
-            found,
-        )?;
+        report(phase::walk_is_long(ped), subject, Rule::V3, found)?;
+        report(phase::clears_crossing(phase, ped), subject, Rule::V4, found)?;
+        report(phase::clears_setback(phase, ped), subject, Rule::V5, found)?;
     }
-    report(
-        phase::mates_agree(set, p, phase),
-        Subject::Phase(p),
-        Rule::V6,
-        found,
-    )
+    report(phase::mates_agree(set, p, phase), subject, Rule::V6, found)?;
+    if let Some(ped) = &phase.ped {
+        report(phase::lead_is_right(ped), subject, Rule::V14, found)?;
+    }
+    Ok(())
 }
 
 fn judge_sequence(set: &TimingSet, n: SeqNo, found: &mut Vec<Violation>) -> Result<(), NoMemory>
