@@ -1,6 +1,7 @@
 -- The violations of a timing set: which subjects there are, and which rules each of them breaks.
 use Rattle.std.specs.Prelude.{ℕ, Bool, true, false, if◌then◌else◌, not, List, [], ◌∷◌, ◌++◌, map, filter, Option, Some, None, is_some}
 use Rattle.std.specs.List.{flat_map}
+use Rattle.signal_records.specs.declared.record.Ped.{Ped}
 use Rattle.signal_records.specs.declared.record.Phase.{Phase}
 use Rattle.signal_records.specs.declared.record.Pattern.{Pattern}
 use Rattle.signal_records.specs.declared.record.Split.{Split}
@@ -19,6 +20,11 @@ use Rattle.signal_rules.specs.PatternRules.{has_rows, offset_is_right, has_coord
 -- the rules on a subject with whether they hold, ascending
 abbrev pub Findings : Type 0
 Findings = List (Rule × Bool)
+
+-- those on the crossing of a phase with a pedestrian part
+abbrev pub crossing_findings : Phase → Ped → Findings
+crossing_findings phase ped =
+    (rule.V3, walk_is_long ped) ∷ (rule.V4, clears_crossing phase ped) ∷ (rule.V5, clears_setback phase ped) ∷ []
 
 abbrev pub phase_findings : Rows → ℕ → Phase → Findings
 phase_findings set p phase =
