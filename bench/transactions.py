@@ -19,7 +19,7 @@ import time
 from program import PROGRAM, wants_program
 
 KINDS = {"phase": 1, "seq": 2, "split": 3, "pattern": 4}
-PHASES = (("2", "1", "6", ("7", "12", "490", "60", "0")), ("4", "1", "8", ()), ("6", "2", "2", ()), ("8", "2", "4", ()))
+PHASES = (("2", "1", "6", ("7", "12", "490", "60", "0", "0")), ("4", "1", "8", ()), ("6", "2", "2", ()), ("8", "2", "4", ()))
 
 
 def plan(turn):
@@ -117,7 +117,7 @@ def fill(path, schema, count):
     db.execute("BEGIN")
     for text in schema:
         db.execute(text)
-    db.execute("INSERT INTO office_version VALUES (1, 1)")
+    db.execute("INSERT INTO office_version VALUES (1, 2)")
     rows = [key_and_body(row) for row in plan(0)]
     for number in range(1, count + 1):
         db.execute("INSERT INTO intersection VALUES (?, ?, 365, 1, 0, NULL)", (number, f"Main St and {number} Ave"))

@@ -52,7 +52,7 @@ same "the tables" \
   "delivery draft inspection intersection office_version part timing used_part work_order "
 same "the row of the intersection" \
   "$(query "SELECT id, name, days, revision, state, owner FROM intersection")" "12|Main St|365|0|0|"
-same "the stored version" "$(query "SELECT one, version FROM office_version")" "1|1"
+same "the stored version" "$(query "SELECT one, version FROM office_version")" "1|2"
 same "the check of the file" "$(query "PRAGMA integrity_check")" "ok"
 
 printf 'GET /intersections/12 HTTP/1.1\r\n\r\n' | batch

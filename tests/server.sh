@@ -177,11 +177,11 @@ cmp -s "$folder/sheet" - <<'SHEET' || fail "the sheet: $(cat "$folder/sheet")"
 Intersection 12: Main St
 Revision 1
 Phases
-    No  Ring   Min  Pass   Max   Yel   Red  Walk Clear Width Setbk Short Mates
-     2     1     8   2.0    40   4.0   1.5     7    12  49.0   6.0     0 6
-     4     1     8   2.0    40   4.0   1.5     -     -     -     -     - 8
-     6     2     8   2.0    40   4.0   1.5     -     -     -     -     - 2
-     8     2     8   2.0    40   4.0   1.5     -     -     -     -     - 4
+    No  Ring   Min  Pass   Max   Yel   Red  Walk Clear Width Setbk Short  Lead Mates
+     2     1     8   2.0    40   4.0   1.5     7    12  49.0   6.0     0     0 6
+     4     1     8   2.0    40   4.0   1.5     -     -     -     -     -     - 8
+     6     2     8   2.0    40   4.0   1.5     -     -     -     -     -     - 2
+     8     2     8   2.0    40   4.0   1.5     -     -     -     -     -     - 4
 Sequences
     No  Ring Phases
      1     1 2 4

@@ -25,7 +25,7 @@ phase_texts p phase =
 ped_texts : (ped : Option Ped) → AreTexts (ped_fields current_limits ped)
 ped_texts None = tt
 ped_texts (Some ped) =
-    (IsUtf8-decimal ped.walk, (IsUtf8-decimal ped.clear, (IsUtf8-decimal ped.width, (IsUtf8-decimal ped.setback, (IsUtf8-decimal (if ped.short then 1 else 0), tt)))))
+    (IsUtf8-decimal ped.walk, (IsUtf8-decimal ped.clear, (IsUtf8-decimal ped.width, (IsUtf8-decimal ped.setback, (IsUtf8-decimal (if ped.short then 1 else 0), (IsUtf8-decimal ped.lead, tt))))))
 
 pub row_texts : (r : Row) → IsRowWithin current_limits r → AreTexts (spelling current_limits r)
 row_texts (row.Phase p phase) within =

@@ -7,11 +7,12 @@ use Rattle.signal_records.specs.declared.record.Row.TheVariants as row
 use Rattle.signal_records.specs.SplitMode.{mode_code}
 use Rattle.office_files.specs.Cells.{number_column, tenths_column, flag_column, numbers_text}
 
--- the five columns of a pedestrian part, or a dash in each
+-- the six columns of a pedestrian part, or a dash in each
 abbrev pub ped_columns : Option Ped → List ℕ
-ped_columns None = codes "     -     -     -     -     -"
+ped_columns None = codes "     -     -     -     -     -     -"
 ped_columns (Some ped) =
     number_column ped.walk ++ number_column ped.clear ++ tenths_column ped.width ++ tenths_column ped.setback ++ flag_column ped.short
+    ++ number_column ped.lead
 
 -- the columns of a phase before those of its pedestrian part
 abbrev pub interval_columns : ℕ → Phase → List ℕ
@@ -41,7 +42,7 @@ pattern_line other = []
 -- the four sections, each with its heading
 abbrev pub phases_section : List Row → List ℕ
 phases_section rows =
-    codes "Phases\n    No  Ring   Min  Pass   Max   Yel   Red  Walk Clear Width Setbk Short Mates\n" ++ flat_map phase_line rows
+    codes "Phases\n    No  Ring   Min  Pass   Max   Yel   Red  Walk Clear Width Setbk Short  Lead Mates\n" ++ flat_map phase_line rows
 
 abbrev pub sequences_section : List Row → List ℕ
 sequences_section rows = codes "Sequences\n    No  Ring Phases\n" ++ flat_map sequence_line rows

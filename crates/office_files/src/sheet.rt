@@ -25,18 +25,19 @@ fn mode_code(mode: SplitMode) -> u32
     }
 }
 
-/// Appends the five columns of a pedestrian part.
+/// Appends the six columns of a pedestrian part.
 fn push_ped(text: &mut String, ped: &Option<Ped>) -> Result<(), AllocError>
     ensures { OnOk result (string_bytes text.new ≡ string_bytes text.old ++ ped_columns ped.now) }
 {
     let Some(ped) = ped else {
-        return text.push_str("     -     -     -     -     -");
+        return text.push_str("     -     -     -     -     -     -");
     };
     push_number(text, u32::from(ped.walk))?;
     push_number(text, u32::from(ped.clear))?;
     push_tenths(text, ped.width.get())?;
     push_tenths(text, ped.setback.get())?;
-    push_flag(text, ped.short)
+    push_flag(text, ped.short)?;
+    push_number(text, ped.lead.get())
 }
 
 /// Appends the columns of a phase up to its pedestrian part.
@@ -112,7 +113,7 @@ fn push_phases(text: &mut String, rows: &[Row]) -> Result<(), AllocError>
     ensures { OnOk result (string_bytes text.new ≡ string_bytes text.old ++ phases_section rows.now) }
 {
     text.push_str(
-        "Phases\n    No  Ring   Min  Pass   Max   Yel   Red  Walk Clear Width Setbk Short Mates\n",
+        "Phases\n    No  Ring   Min  Pass   Max   Yel   Red  Walk Clear Width Setbk Short  Lead Mates\n",
     )?;
     for row in rows {
         push_phase(text, row)?;
@@ -178,7 +179,7 @@ fn push_title(
 /// The timing sheet of an intersection: its number, name and revision, and then its phases,
 /// sequences, splits and patterns, a line for each row in key order. Numbers stand right in six
 /// places, tenths with a point, and a list after one space. A phase without a pedestrian part has
-/// a dash in each of its five columns, and an empty list is a dash.
+/// a dash in each of its six columns, and an empty list is a dash.
 pub fn timing_sheet(
     alloc: Global,
     id: InterId,

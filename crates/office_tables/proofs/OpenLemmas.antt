@@ -14,7 +14,7 @@ use Rattle.office_tables_sql.specs.Stored.{content_now, content_of}
 use Rattle.office_tables.specs.Arranged.{IsArranged}
 use Rattle.office_tables.specs.Opening.{AreMade, AreRun, IsAsFound, IsOpened, IsRefused, MayBeTaken, HasOtherVersion, HasRowsAlone, OnlyReads}
 use Rattle.office_tables.specs.SqlShelf.{SqlView}
-use Rattle.office_tables.specs.Version.{AreEmpty, version_in, first_version}
+use Rattle.office_tables.specs.Version.{AreEmpty, version_in, current_version}
 use Rattle.office_tables.specs.declared.open.OpenFault.{OpenFault}
 use Rattle.office_tables.proofs.ArrangedLemmas.{tables_rise}
 use Rattle.office_tables.proofs.VersionLemmas.{empty_content}
@@ -65,7 +65,7 @@ module _ {S : Type 0} (g : Ghosts S) (conn : Held S) where
     kept_content h = same h ∙ ap (λ (d : Database). content_of d.trees) (settled (honest h))
 
     pub opened_looked : (shelf : SqlView S) → shelf.conn ≡ new → shelf.counts ≡ no_writes → ((state g conn).now.schema ≡ no_schema → ⊥)
-        → (IsHonest (state g new) → MayBeTaken (state g conn).now.trees) → (IsHonest (state g new) → version_in (state g new).now.trees ≡ Some first_version)
+        → (IsHonest (state g new) → MayBeTaken (state g conn).now.trees) → (IsHonest (state g new) → version_in (state g new).now.trees ≡ Some current_version)
         → (IsHonest (state g new) → (trees : Trees) → (state g new).may_leave trees → content_of trees ≡ content_now (state g new)) → IsOpened g conn shelf
     opened_looked shelf is none foreign taken stored crash =
         subst (λ (s : SqlView S). IsOpened g conn s) shown (record {
@@ -90,7 +90,7 @@ module _ {S : Type 0} (g : Ghosts S) (conn : Held S) where
     none_kept h = same h ∙ empty_content (state g mid).now.trees (empty h) ∙ sym (empty_content (state g conn).committed.trees (was (honest h).0).1)
 
     pub opened_made : (shelf : SqlView S) → shelf.conn ≡ new → shelf.counts ≡ no_writes
-        → (IsHonest (state g new) → version_in (state g new).now.trees ≡ Some first_version)
+        → (IsHonest (state g new) → version_in (state g new).now.trees ≡ Some current_version)
         → (IsHonest (state g new) → (trees : Trees) → (state g new).may_leave trees → content_of trees ≡ content_now (state g new)) → IsOpened g conn shelf
     opened_made shelf is none stored crash =
         subst (λ (s : SqlView S). IsOpened g conn s) shown (record {

@@ -30,7 +30,7 @@ use Rattle.office_tables_sql.proofs.ContentLemmas.{tie_self, put_at, free_rowid}
 use Rattle.office_tables_sql.proofs.InsertLemmas.{Added, adds}
 use Rattle.office_tables_sql.proofs.WriteLemmas.{IsIdle, wrote}
 use Rattle.office_tables.specs.declared.version.TheConstants.{FIND as FIND_VERSION, PUT as PUT_VERSION}
-use Rattle.office_tables.specs.Version.{version_in, first_version}
+use Rattle.office_tables.specs.Version.{version_in, current_version}
 
 abbrev pub find_version_text : List ℕ
 find_version_text = FIND_VERSION.now
@@ -58,25 +58,25 @@ version_idle : IsIdle office_schema version_table
 version_idle = record { on_change = λ olds new. refl; on_delete = λ olds. refl }
 
 abbrev stored_version : Row
-stored_version = Int (pos 1) ∷ Null ∷ Int (pos 1) ∷ []
+stored_version = Int (pos 1) ∷ Null ∷ Int (pos 2) ∷ []
 
 abbrev version_source : Source
 version_source = Values (col 0 0 ∷ lit Null ∷ col 0 1 ∷ []) 3
 
 cast_version : cast_row version_table stored_version ≡ stored_version
-cast_version = λ i. cast_int (pos 1) i ∷ cast_null i ∷ cast_int (pos 1) i ∷ []
+cast_version = λ i. cast_int (pos 1) i ∷ cast_null i ∷ cast_int (pos 2) i ∷ []
 
-pub put_version : (old new : State) (count : ℕ) → IsReady old → Ran put_version_text (Int (pos 1) ∷ Int (pos 1) ∷ []) old new count
-    → IsReady new × ((content_now new ≡ content_now old) × (version_in new.now.trees ≡ Some first_version))
+pub put_version : (old new : State) (count : ℕ) → IsReady old → Ran put_version_text (Int (pos 1) ∷ Int (pos 2) ∷ []) old new count
+    → IsReady new × ((content_now new ≡ content_now old) × (version_in new.now.trees ≡ Some current_version))
 put_version old new count ready did =
-    let params = Int (pos 1) ∷ Int (pos 1) ∷ [] in
+    let params = Int (pos 1) ∷ Int (pos 2) ∷ [] in
     let rows = old.now.trees 15 in
     let was : IsShaped shape.Table rows = ready.ordered.1.1.1.1.1.1.1.1.0 in
     let wrote_it = wrote put_version_text _ put_version_is 8 version_table refl params old new count (record { runs = λ w. w; does = λ db out d. d }) ready did in
     let it = subst (Added version_table refl version_idle version_source params stored_version old.step_limit old.now.trees) (sym wrote_it.trees)
     (adds version_table refl version_idle version_source params stored_version old.step_limit old.now.trees (λ rows h. h.1) cast_version was wrote_it.written wrote_it.rows) in
-    let at : rows_in layout.office_version (new.now.trees 15) ≡ insert (rows_of layout.office_version old.now.trees) (number (pos 1) ∷ []) first_version =
-    ap (rows_in layout.office_version) it.rows ∙ put_at layout.office_version rows [] stored_version (λ r id there among at_id. absurd among) (free_rowid rows (pos 1) (Null ∷ Int (pos 1) ∷ []) was it.fresh layout.office_version refl) it.fresh in
+    let at : rows_in layout.office_version (new.now.trees 15) ≡ insert (rows_of layout.office_version old.now.trees) (number (pos 1) ∷ []) current_version =
+    ap (rows_in layout.office_version) it.rows ∙ put_at layout.office_version rows [] stored_version (λ r id there among at_id. absurd among) (free_rowid rows (pos 1) (Null ∷ Int (pos 2) ∷ []) was it.fresh layout.office_version refl) it.fresh in
     let key = number (pos 1) ∷ [] in (
       wrote_it.goes_on it.others it.shapes,
       (
@@ -90,6 +90,6 @@ put_version old new count ready did =
           delivery = rows_in layout.delivery (it.others.1.1.1.1.1.1.0 (λ e. cc) i);
           used_part = rows_in layout.used_part (it.others.1.1.1.1.1.1.1.0 (λ e. cc) i);
         }),
-        ap (λ rows. get rows key) at ∙ get-insert cells_total (rows_of layout.office_version old.now.trees) key first_version key ∙ ap (λ b. cond b (Some first_version) (version_in old.now.trees)) (tie_self key),
+        ap (λ rows. get rows key) at ∙ get-insert cells_total (rows_of layout.office_version old.now.trees) key current_version key ∙ ap (λ b. cond b (Some current_version) (version_in old.now.trees)) (tie_self key),
       ),
     )

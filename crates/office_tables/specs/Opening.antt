@@ -11,17 +11,17 @@ use Rattle.office_tables_sql.specs.Calls.{IsHonest, Keeps}
 use Rattle.office_tables_sql.specs.Schema.{no_schema}
 use Rattle.office_tables_sql.specs.Stored.{content_now, content_of}
 use Rattle.office_tables.specs.SqlShelf.{SqlView}
-use Rattle.office_tables.specs.Version.{AreEmpty, HasRow, version_in, first_version}
+use Rattle.office_tables.specs.Version.{AreEmpty, HasRow, version_in, current_version}
 use Rattle.office_tables.specs.declared.open.TheConstants.{DROPS}
 use Rattle.office_tables.specs.declared.open.OpenFault.{OpenFault}
 use Rattle.office_tables.specs.declared.open.OpenFault.TheVariants as fault
 
--- version 1 is stored, or none is and no table has a row
+-- version 2 is stored, or none is and no table has a row
 abbrev pub MayBeTaken : Trees → Type 0
-MayBeTaken trees = (version_in trees ≡ Some first_version) ⊎ ((version_in trees ≡ None) × AreEmpty trees)
+MayBeTaken trees = (version_in trees ≡ Some current_version) ⊎ ((version_in trees ≡ None) × AreEmpty trees)
 
 abbrev pub HasOtherVersion : Trees → Type 0
-HasOtherVersion trees = (version_in trees ≢ None) × (version_in trees ≢ Some first_version)
+HasOtherVersion trees = (version_in trees ≢ None) × (version_in trees ≢ Some current_version)
 
 abbrev pub HasRowsAlone : Trees → Type 0
 HasRowsAlone trees = (version_in trees ≡ None) × HasRow trees
@@ -65,7 +65,7 @@ module _ {S : Type 0} (g : Ghosts S) where
     pub taken : IsHonest (state g shelf.conn) → MayBeTaken (state g conn).committed.trees
     pub kept : IsHonest (state g shelf.conn) → content_now (state g shelf.conn) ≡ content_of (state g conn).committed.trees
     pub made : IsHonest (state g shelf.conn) → (state g conn).now.schema ≡ no_schema → content_now (state g shelf.conn) ≡ no_content
-    pub stored : IsHonest (state g shelf.conn) → version_in (state g shelf.conn).now.trees ≡ Some first_version
+    pub stored : IsHonest (state g shelf.conn) → version_in (state g shelf.conn).now.trees ≡ Some current_version
     pub crash : IsHonest (state g shelf.conn) → (trees : Trees) → (state g shelf.conn).may_leave trees → content_of trees ≡ content_now (state g shelf.conn)
     pub unwritten : shelf.counts ≡ no_writes
 

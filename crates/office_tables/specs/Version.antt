@@ -19,9 +19,9 @@ use Rattle.office_tables_sql.specs.Calls.{IsQuery, command_of}
 abbrev pub version_in : Trees → Option (List Cell)
 version_in trees = get (rows_of layout.office_version trees) (number (pos 1) ∷ [])
 
--- version 1
-abbrev pub first_version : List Cell
-first_version = number (pos 1) ∷ []
+-- version 2
+abbrev pub current_version : List Cell
+current_version = number (pos 2) ∷ []
 
 -- the trees of the eight tables
 abbrev pub stored_trees : List ℕ

@@ -8,13 +8,13 @@ ghost use Rattle.sqlite_trees.specs.View.{doubt};
 ghost use Rattle.office_tables_sql.specs.Schema.{no_schema};
 ghost use Rattle.office_tables_sql.specs.Stored.{content_now, content_of};
 ghost use Rattle.office_tables_sql.specs.Calls.{IsHonest, IsOffice};
-ghost use Rattle.office_tables.specs.Version.{AreEmpty, HasRow, version_in, first_version};
+ghost use Rattle.office_tables.specs.Version.{AreEmpty, HasRow, version_in, current_version};
 ghost use Rattle.office_tables.specs.Arranged.{IsArranged};
 ghost use Rattle.office_tables.specs.declared.open.TheConstants.{NAMES};
 ghost use Rattle.office_tables.specs.Opening.{AreMade, AreMadeAnew, AreRun, HasOtherVersion, HasRowsAlone, IsOneOf, MayBeTaken, OnlyReads};
 
 use crate::vacant::vacant;
-use crate::version::{are_empty, is_first, store_version, stored_version};
+use crate::version::{are_empty, is_current, store_version, stored_version};
 use office_tables_sql::schema::{CREATES, is_blank, is_office};
 use office_tables_sql::statement::SqlFault;
 use sqlite::{Alter, Connection, Transaction};
@@ -158,13 +158,13 @@ fn run_all<S: Alter>(tx: &mut Transaction<'_, S>, texts: &[&str]) -> Result<(), 
     Ok(())
 }
 
-/// Stores version 1 where no table has a row, and otherwise refuses with this fault.
+/// Stores today's version where no table has a row, and otherwise refuses with this fault.
 fn claim_empty<S: Alter>(conn: &mut Connection<S>, fault: OpenFault) -> Result<(), OpenFault>
     requires { IsOffice (state S.Store conn.old) }
     ensures office { IsOffice (state S.Store conn.new) }
     ensures honest { IsHonest (state S.Store conn.new) → IsHonest (state S.Store conn.old) }
     ensures same { IsHonest (state S.Store conn.new) → content_now (state S.Store conn.new) ≡ content_now (state S.Store conn.old) }
-    ensures stored { IsHonest (state S.Store conn.new) → OnOk result (version_in (state S.Store conn.new).now.trees ≡ Some first_version) }
+    ensures stored { IsHonest (state S.Store conn.new) → OnOk result (version_in (state S.Store conn.new).now.trees ≡ Some current_version) }
     ensures empty { IsHonest (state S.Store conn.new) → OnOk result (AreEmpty (state S.Store conn.old).now.trees) }
     ensures version { result ≡ Err OpenFault.Version → fault ≡ OpenFault.Version }
     ensures damaged { result ≡ Err OpenFault.Damaged → fault ≡ OpenFault.Damaged }
@@ -179,13 +179,13 @@ fn claim_empty<S: Alter>(conn: &mut Connection<S>, fault: OpenFault) -> Result<(
     Ok(())
 }
 
-/// Sees that version 1 is stored, or stores it where no table has a row. New tables have none.
+/// Sees that today's version is stored, or stores it where no table has a row. New tables have none.
 pub(crate) fn claim<S: Alter>(conn: &mut Connection<S>, is_new: bool) -> Result<(), OpenFault>
     requires { IsOffice (state S.Store conn.old) }
     ensures office { IsOffice (state S.Store conn.new) }
     ensures honest { IsHonest (state S.Store conn.new) → IsHonest (state S.Store conn.old) }
     ensures same { IsHonest (state S.Store conn.new) → content_now (state S.Store conn.new) ≡ content_now (state S.Store conn.old) }
-    ensures stored { IsHonest (state S.Store conn.new) → OnOk result (version_in (state S.Store conn.new).now.trees ≡ Some first_version) }
+    ensures stored { IsHonest (state S.Store conn.new) → OnOk result (version_in (state S.Store conn.new).now.trees ≡ Some current_version) }
     ensures empty { IsHonest (state S.Store conn.new) → OnOk result (is_new ≡ true → AreEmpty (state S.Store conn.old).now.trees) }
     ensures taken { IsHonest (state S.Store conn.new) → OnOk result (is_new ≡ false → MayBeTaken (state S.Store conn.old).now.trees) }
     ensures found { is_new ≡ true → (result ≢ Err OpenFault.Version) × (result ≢ Err OpenFault.Damaged) }
@@ -200,7 +200,7 @@ pub(crate) fn claim<S: Alter>(conn: &mut Connection<S>, is_new: bool) -> Result<
     let Some(row) = stored_version(conn)? else {
         return claim_empty(conn, OpenFault::Damaged);
     };
-    if is_first(&row)? {
+    if is_current(&row)? {
         Ok(())
     } else {
         Err(OpenFault::Version)

@@ -7,10 +7,13 @@ ghost use Rattle.sqlite.specs.State.{HasCleanDisk, Survives};
 ghost use Rattle.sqlite.specs.Held.{state};
 ghost use Rattle.office_tables_sql.specs.Stored.{cells, content_now, content_of};
 ghost use Rattle.office_tables_sql.specs.Calls.{IsHonest, IsOffice, IsQuery, IsReady, Keeps, StandsOn};
-ghost use Rattle.office_tables.specs.Version.{AreEmpty, HasRow, IsListing, ListsRows, version_in, first_version};
+ghost use Rattle.office_tables.specs.Version.{AreEmpty, HasRow, IsListing, ListsRows, version_in, current_version};
 
 use office_tables_sql::statement::{SqlFault, select, select_one, write};
 use sqlite::{Alter, Connection, Row, Transaction, params};
+
+/// The version of the tables, whose rows are those of today's grammar.
+const VERSION: u32 = 2;
 
 const FIND: &str = "SELECT version FROM office_version WHERE one = ?1";
 
@@ -39,36 +42,36 @@ pub(crate) fn stored_version<S: Alter>(conn: &mut Connection<S>) -> Result<Optio
     select_one(conn, FIND, params![1u32])
 }
 
-/// Whether this is the row of version 1.
-pub(crate) fn is_first(row: &Row) -> Result<bool, SqlFault>
-    ensures first { length row.now ≡ 1 → IfOk result (λ first. IsTrue first → cells row.now ≡ first_version) }
-    ensures other { IfOk result (λ first. ¬ IsTrue first → cells row.now ≢ first_version) }
+/// Whether this is the row of today's version.
+pub(crate) fn is_current(row: &Row) -> Result<bool, SqlFault>
+    ensures current { length row.now ≡ 1 → IfOk result (λ current. IsTrue current → cells row.now ≡ current_version) }
+    ensures other { IfOk result (λ current. ¬ IsTrue current → cells row.now ≢ current_version) }
 {
     let number: Result<i64, _> = row.get(0);
-    Ok(number? == 1)
+    Ok(number? == i64::from(VERSION))
 }
 
-/// Stores version 1.
+/// Stores today's version.
 fn put_version<S: Alter>(tx: &mut Transaction<'_, S>) -> Result<(), SqlFault>
     ensures same_reference { tx.new.conn.ghost_name ≡ tx.old.conn.ghost_name }
     ensures honest { HasCleanDisk (state S.Store tx.new.conn.now) → OnOk result (IsHonest (state S.Store tx.old.conn.now)) }
     ensures ready { HasCleanDisk (state S.Store tx.new.conn.now) → OnOk result (IsReady (state S.Store tx.old.conn.now) → IsReady (state S.Store tx.new.conn.now)) }
     ensures same { HasCleanDisk (state S.Store tx.new.conn.now) → OnOk result (IsReady (state S.Store tx.old.conn.now) → content_now (state S.Store tx.new.conn.now) ≡ content_now (state S.Store tx.old.conn.now)) }
-    ensures stored { HasCleanDisk (state S.Store tx.new.conn.now) → OnOk result (IsReady (state S.Store tx.old.conn.now) → version_in (state S.Store tx.new.conn.now).now.trees ≡ Some first_version) }
+    ensures stored { HasCleanDisk (state S.Store tx.new.conn.now) → OnOk result (IsReady (state S.Store tx.old.conn.now) → version_in (state S.Store tx.new.conn.now).now.trees ≡ Some current_version) }
     ensures stands { StandsOn (state S.Store tx.old.conn.now) (state S.Store tx.new.conn.now) }
     ensures crash { Survives (state S.Store tx.old.conn.now) (state S.Store tx.new.conn.now) (λ _. ⊥) }
 {
-    write(tx, PUT, params![1u32, 1u32])?;
+    write(tx, PUT, params![1u32, VERSION])?;
     Ok(())
 }
 
-/// Stores version 1 and keeps the rows of the eight tables.
+/// Stores today's version and keeps the rows of the eight tables.
 pub(crate) fn store_version<S: Alter>(conn: &mut Connection<S>) -> Result<(), SqlFault>
     requires { IsOffice (state S.Store conn.old) }
     ensures office { IsOffice (state S.Store conn.new) }
     ensures honest { IsHonest (state S.Store conn.new) → IsHonest (state S.Store conn.old) }
     ensures same { IsHonest (state S.Store conn.new) → content_now (state S.Store conn.new) ≡ content_now (state S.Store conn.old) }
-    ensures stored { IsHonest (state S.Store conn.new) → OnOk result (version_in (state S.Store conn.new).now.trees ≡ Some first_version) }
+    ensures stored { IsHonest (state S.Store conn.new) → OnOk result (version_in (state S.Store conn.new).now.trees ≡ Some current_version) }
     ensures crash { Survives (state S.Store conn.old) (state S.Store conn.new) (λ trees. IsHonest (state S.Store conn.old) × (content_of trees ≡ content_now (state S.Store conn.old))) }
 {
     let mut tx = conn.transaction();

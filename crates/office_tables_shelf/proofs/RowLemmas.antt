@@ -85,7 +85,7 @@ ArePlain = AllByRecursion (λ field. is_plain field ≡ true)
 ped_plain : (ped : Option Ped) → IsAnyPedWithin ped → ArePlain (ped_fields current_limits ped)
 ped_plain None within = tt
 ped_plain (Some ped) within =
-    (number_plain ped.walk (omega arith), (number_plain ped.clear (omega arith), (number_plain ped.width (omega arith), (number_plain ped.setback (omega arith), (flag_plain ped.short, tt)))))
+    (number_plain ped.walk (omega arith), (number_plain ped.clear (omega arith), (number_plain ped.width (omega arith), (number_plain ped.setback (omega arith), (flag_plain ped.short, (number_plain ped.lead (omega arith), tt))))))
 
 row_plain : (r : Row) → IsRowWithin current_limits r → ArePlain (spelling current_limits r)
 row_plain (row.Phase p phase) within = (

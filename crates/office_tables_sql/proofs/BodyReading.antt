@@ -138,7 +138,8 @@ ped_whole (Some ped) within =
     let clear = within.clear in
     let width = within.width in
     let setback = within.setback in
-    rw (decimal_whole ped.walk (omega arith), decimal_whole ped.clear (omega arith), decimal_whole ped.width (omega arith), decimal_whole ped.setback (omega arith), flag_whole ped.short) refl
+    let lead = within.lead in
+    rw (decimal_whole ped.walk (omega arith), decimal_whole ped.clear (omega arith), decimal_whole ped.width (omega arith), decimal_whole ped.setback (omega arith), flag_whole ped.short, decimal_whole ped.lead (omega arith)) refl
 
 phase_whole : (p : ℕ) (phase : Phase) → IsPhaseWithin current_limits p phase → are_whole (codes "phase" ∷ phase_fields current_limits p phase) ≡ true
 phase_whole p phase within =

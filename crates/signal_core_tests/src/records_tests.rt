@@ -51,7 +51,7 @@ fn rows_have_one_first_fault(rt: HostRuntime) -> Result<(), Fail> {
 fn rows_are_read_and_written(rt: HostRuntime) -> Result<(), Fail> {
     let alloc = rt.alloc();
     for text in [
-        "phase,16,4,0,255,0,255,0,6 16 1,255,0,9999,999,1",
+        "phase,16,4,0,255,0,255,0,6 16 1,255,0,9999,999,1,10",
         "phase,2,1,0,0,0,0,0,",
         "seq,20,4,4 2",
         "seq,1,1,",
@@ -109,7 +109,7 @@ fn sets_are_changed_and_copied(rt: HostRuntime) -> Result<(), Fail> {
 #[test]
 fn a_phase_needs_its_intervals(rt: HostRuntime) -> Result<(), Fail> {
     let alloc = rt.alloc();
-    let walked = "phase,2,1,8,20,40,40,15,6,7,12,490,60,0";
+    let walked = "phase,2,1,8,20,40,40,15,6,7,12,490,60,0,0";
     for (text, mode, tenths) in [
         (walked, SplitMode::NoRecall, 135),
         (walked, SplitMode::PedestrianRecall, 245),

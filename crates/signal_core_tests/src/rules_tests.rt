@@ -23,7 +23,11 @@ const CASES: [(&str, &str, u64); 8] = [
         "pattern 1 V10;",
         4,
     ),
-    ("phase,2,1,8,20,40,29,15,6,7,12,490,60,0", "phase 2 V1;", 4),
+    (
+        "phase,2,1,8,20,40,29,15,6,7,12,490,60,0,0",
+        "phase 2 V1;",
+        4,
+    ),
 ];
 
 fn keys(alloc: Global, changed: &[Change]) -> Result<Vec<Key>, Fail> {

@@ -5,7 +5,7 @@ use std::alloc::Global;
 use std::test::Fail;
 
 /// A clean plan: four phases in two rings, each pair across the barrier listing each other.
-pub(crate) const PLAN: &str = "phase,2,1,8,20,40,40,15,6,7,12,490,60,0;phase,4,1,8,20,40,40,15,8;\
+pub(crate) const PLAN: &str = "phase,2,1,8,20,40,40,15,6,7,12,490,60,0,0;phase,4,1,8,20,40,40,15,8;\
     phase,6,2,8,20,40,40,15,2;phase,8,2,8,20,40,40,15,4;seq,1,1,2 4;seq,1,2,6 8;\
     split,1,2,35,2,1;split,1,4,25,2,0;split,1,6,35,2,1;split,1,8,25,2,0;pattern,1,60,0,1,1";
 

@@ -118,7 +118,7 @@ fn verify_file_command<'a>(alloc: Global) -> Result<Command<'a>, AllocError>
 {
     Command::new(alloc, "verify-file")
         .about(
-            "Checks the timing plan in a CSV file against the thirteen rules; ends with status 3 where one is broken",
+            "Checks the timing plan in a CSV file against the fourteen rules; ends with status 3 where one is broken",
         )
         .arg(word(
             alloc,

@@ -18,7 +18,7 @@ const FIELD_BOOK: &str =
 
 /// The committed plan.
 const PLAN: &str =
-    r#"{"csv":"phase,2,1,8,20,40,40,15,6,7,12,490,60,0\nphase,4,1,8,20,40,40,15,8\nphase,6,2,8,20,40,40,15,2\nphase,8,2,8,20,40,40,15,4\nseq,1,1,2 4\nseq,1,2,6 8\nsplit,1,2,35,2,1\nsplit,1,4,25,2,0\nsplit,1,6,35,2,1\nsplit,1,8,25,2,0\npattern,1,60,0,1,1\n"}"#;
+    r#"{"csv":"phase,2,1,8,20,40,40,15,6,7,12,490,60,0,0\nphase,4,1,8,20,40,40,15,8\nphase,6,2,8,20,40,40,15,2\nphase,8,2,8,20,40,40,15,4\nseq,1,1,2 4\nseq,1,2,6 8\nsplit,1,2,35,2,1\nsplit,1,4,25,2,0\nsplit,1,6,35,2,1\nsplit,1,8,25,2,0\npattern,1,60,0,1,1\n"}"#;
 
 /// After the first plan: a broken draft of it dropped; records that come once, twice, and again after a
 /// closing; records past the bound of stock and past what is on hand; another intersection; and a draft

@@ -123,7 +123,7 @@ fn count_writes<S: Shelf + Drop>(
         office = step(rt, alloc, office, taken)?;
     }
     let left =
-        r#"{"csv":"phase,2,1,8,20,40,40,15,6,7,12,490,60,0\nphase,4,1,8,20,40,40,15,8\nphase,6,2,8,20,40,40,15,2\nphase,8,2,8,20,40,40,15,4\nseq,1,1,2 4\nseq,1,2,6 8\nsplit,1,2,46,2,1\nsplit,1,4,14,2,0\nsplit,1,6,46,2,1\nsplit,1,8,14,2,0\n"}"#;
+        r#"{"csv":"phase,2,1,8,20,40,40,15,6,7,12,490,60,0,0\nphase,4,1,8,20,40,40,15,8\nphase,6,2,8,20,40,40,15,2\nphase,8,2,8,20,40,40,15,4\nseq,1,1,2 4\nseq,1,2,6 8\nsplit,1,2,46,2,1\nsplit,1,4,14,2,0\nsplit,1,6,46,2,1\nsplit,1,8,14,2,0\n"}"#;
     let asked = ("GET", "/intersections/12/timing-csv", "", left);
     follow(rt, alloc, &mut office, &[asked])
 }

@@ -77,7 +77,8 @@ ped_timing fields =
     number_then 0 255 11 fields _ (λ clear.
     number_then 0 9999 12 fields _ (λ width.
     number_then 0 999 13 fields _ (λ setback.
-    flag_then 14 fields _ (λ short. ok_timing _)))))
+    flag_then 14 fields _ (λ short.
+    number_then 0 10 15 fields _ (λ lead. ok_timing _))))))
 
 some_timing : (r : Result Ped RowFault) → IsTiming r → IsTiming (some_ped r)
 some_timing (Ok ped) h = ok_timing (Some ped)

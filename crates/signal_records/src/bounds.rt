@@ -63,6 +63,7 @@ fn ped_is_within(ped: &Option<Ped>)
             byte(ped.clear),
             ped.width.get(),
             ped.setback.get(),
+            ped.lead.get(),
         );
     }
 }

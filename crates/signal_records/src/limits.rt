@@ -16,5 +16,5 @@ pub(crate) struct Limits {
 pub(crate) const CURRENT_LIMITS: Limits = Limits {
     phases: PHASES,
     rings: RINGS,
-    ped_columns: 5,
+    ped_columns: 6,
 };

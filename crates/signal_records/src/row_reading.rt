@@ -12,7 +12,7 @@ use std::alloc::Global;
 
 #[tactic(auto, unfolding(crate::specs::Reading::ped_record))]
 fn ped_record(fields: &[&[u8]]) -> Result<Ped, RowFault>
-    requires { length fields.now ≡ 14 }
+    requires { length fields.now ≡ 15 }
     ensures { Gives result (ped_record (texts fields.now)) }
 {
     let walk = byte(fields, 10)?;
@@ -20,18 +20,20 @@ fn ped_record(fields: &[&[u8]]) -> Result<Ped, RowFault>
     let width = number(fields, 12)?;
     let setback = number(fields, 13)?;
     let short = flag(fields, 14)?;
+    let lead = number(fields, 15)?;
     Ok(Ped {
         walk,
         clear,
         width,
         setback,
         short,
+        lead,
     })
 }
 
 #[tactic(auto, unfolding(crate::specs::Reading::ped_at))]
 fn ped(limits: Limits, fields: &[&[u8]]) -> Result<Option<Ped>, RowFault>
-    requires { limits.ped_columns ≡ 5 }
+    requires { limits.ped_columns ≡ 6 }
     ensures { Gives result (ped_at limits (texts fields.now)) }
 {
     if fields.len() == 9 + limits.ped_columns {
@@ -46,7 +48,7 @@ fn ped(limits: Limits, fields: &[&[u8]]) -> Result<Option<Ped>, RowFault>
 fn phase_record(alloc: Global, limits: Limits, fields: &[&[u8]]) -> Result<Row, RowFault>
     requires phases { limits.phases ≤ PHASES }
     requires rings { limits.rings ≤ RINGS }
-    requires ped_columns { limits.ped_columns ≡ 5 }
+    requires ped_columns { limits.ped_columns ≡ 6 }
     requires count { 9 ≤ length fields.now }
     ensures { Gives result (phase_record limits (texts fields.now)) }
 {
@@ -127,7 +129,7 @@ fn pattern_record(fields: &[&[u8]]) -> Result<Row, RowFault>
 pub(crate) fn row_within(alloc: Global, limits: Limits, fields: &[&[u8]]) -> Result<Row, RowFault>
     requires phases { limits.phases ≤ PHASES }
     requires rings { limits.rings ≤ RINGS }
-    requires ped_columns { limits.ped_columns ≡ 5 }
+    requires ped_columns { limits.ped_columns ≡ 6 }
     ensures { Gives result (row_at limits (texts fields.now)) }
 {
     let Some(kind) = fields.first() else {

@@ -1,5 +1,5 @@
--- V1 to V6, the rules of a phase. The kinds of interval limits are after MUTCD 2009, sections 4D.26 and 4E.06; the numbers are this project's.
-use Rattle.std.specs.Prelude.{◌==◌, ℕ, ◌+◌, ◌*◌, nat_le, Bool, true, false, not, ◌&&◌, if◌then◌else◌, Option, Some, None}
+-- V1 to V6 and V14, the rules of a phase. The kinds of interval limits are after MUTCD 2009, sections 4D.26 and 4E.06; the numbers are this project's.
+use Rattle.std.specs.Prelude.{◌==◌, ℕ, ◌+◌, ◌*◌, nat_le, Bool, true, false, not, ◌&&◌, ◌||◌, if◌then◌else◌, Option, Some, None}
 use Rattle.std.specs.List.{list_all}
 use Rattle.signal_records.specs.declared.record.Ped.{Ped}
 use Rattle.signal_records.specs.declared.record.Phase.{Phase}
@@ -30,7 +30,11 @@ clears_crossing phase ped = nat_le (2 * ped.width) (7 * clearance phase ped)
 abbrev pub clears_setback : Phase → Ped → Bool
 clears_setback phase ped = nat_le (ped.width + ped.setback) (3 * (10 * ped.walk + clearance phase ped))
 
--- V3 to V5 hold of a phase without a pedestrian part
+-- V14 (4E.06, leading pedestrian interval): there is none, or it is at least 3 seconds and at most phaseWalk
+abbrev pub lead_is_right : Ped → Bool
+lead_is_right ped = ped.lead == 0 || (nat_le 3 ped.lead && nat_le ped.lead ped.walk)
+
+-- V3 to V5 and V14 hold of a phase without a pedestrian part
 abbrev pub where_walked : Option Ped → (Ped → Bool) → Bool
 where_walked None holds = true
 where_walked (Some ped) holds = holds ped

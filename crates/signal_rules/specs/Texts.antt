@@ -7,7 +7,7 @@ use Rattle.signal_rules.specs.declared.violation.Subject.{Subject}
 use Rattle.signal_rules.specs.declared.violation.Subject.TheVariants as subject
 use Rattle.signal_rules.specs.declared.violation.Violation.{Violation}
 
--- 1 to 13
+-- 1 to 14
 abbrev pub number_of : Rule → ℕ
 number_of rule.V1 = 1
 number_of rule.V2 = 2
@@ -22,6 +22,7 @@ number_of rule.V10 = 10
 number_of rule.V11 = 11
 number_of rule.V12 = 12
 number_of rule.V13 = 13
+number_of rule.V14 = 14
 
 -- `V13`
 abbrev pub rule_text : Rule → List ℕ

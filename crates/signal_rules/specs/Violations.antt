@@ -1,6 +1,7 @@
 -- The violations of a timing set: which subjects there are, and which rules each of them breaks.
 use Rattle.std.specs.Prelude.{ℕ, Bool, true, false, if◌then◌else◌, not, List, [], ◌∷◌, ◌++◌, map, filter, Option, Some, None, is_some}
 use Rattle.std.specs.List.{flat_map}
+use Rattle.signal_records.specs.declared.record.Ped.{Ped}
 use Rattle.signal_records.specs.declared.record.Phase.{Phase}
 use Rattle.signal_records.specs.declared.record.Pattern.{Pattern}
 use Rattle.signal_records.specs.declared.record.Split.{Split}
@@ -11,7 +12,7 @@ use Rattle.signal_rules.specs.declared.violation.Subject.{Subject}
 use Rattle.signal_rules.specs.declared.violation.Subject.TheVariants as subject
 use Rattle.signal_rules.specs.declared.violation.Violation.{Violation}
 use Rattle.signal_rules.specs.Lookup.{phase_at, split_at, pattern_at, phases, phase_numbers, sequence_numbers, split_numbers, pattern_numbers, has_sequence}
-use Rattle.signal_rules.specs.PhaseRules.{yellow_is_right, red_is_right, walk_is_long, clears_crossing, clears_setback, where_walked, mates_agree}
+use Rattle.signal_rules.specs.PhaseRules.{yellow_is_right, red_is_right, walk_is_long, clears_crossing, clears_setback, lead_is_right, where_walked, mates_agree}
 use Rattle.signal_rules.specs.SequenceRule.{rows_are_right}
 use Rattle.signal_rules.specs.SplitRule.{split_is_right}
 use Rattle.signal_rules.specs.PatternRules.{has_rows, offset_is_right, has_coordinated, lanes_fill_cycle, lanes_agree}
@@ -19,6 +20,11 @@ use Rattle.signal_rules.specs.PatternRules.{has_rows, offset_is_right, has_coord
 -- the rules on a subject with whether they hold, ascending
 abbrev pub Findings : Type 0
 Findings = List (Rule × Bool)
+
+-- those on the crossing of a phase with a pedestrian part
+abbrev pub crossing_findings : Phase → Ped → Findings
+crossing_findings phase ped =
+    (rule.V3, walk_is_long ped) ∷ (rule.V4, clears_crossing phase ped) ∷ (rule.V5, clears_setback phase ped) ∷ []
 
 abbrev pub phase_findings : Rows → ℕ → Phase → Findings
 phase_findings set p phase =
@@ -28,6 +34,7 @@ phase_findings set p phase =
     ∷ (rule.V4, where_walked phase.ped (clears_crossing phase))
     ∷ (rule.V5, where_walked phase.ped (clears_setback phase))
     ∷ (rule.V6, mates_agree set p phase)
+    ∷ (rule.V14, where_walked phase.ped lead_is_right)
     ∷ []
 
 -- V13 is evaluated only where V12 holds

@@ -1,7 +1,7 @@
 //! The violations of a timing set, subject by subject.
 
 ghost use Rattle.std.specs.Prelude.{◌≡◌, [], ◌∷◌, ◌++◌, OnOk, IfOk};
-ghost use Rattle.signal_rules.specs.Violations.{violations_of, violations_at, broken, phase_findings, lane_findings, pattern_findings};
+ghost use Rattle.signal_rules.specs.Violations.{violations_of, violations_at, broken, crossing_findings, phase_findings, lane_findings, pattern_findings};
 ghost use Rattle.signal_rules.specs.Counts.{RisesAtMost, sequence_entries, most_seconds};
 
 use crate::lookup::{pattern_at, phase_at, split_at};
@@ -10,7 +10,7 @@ use crate::split::split_is_right;
 use crate::subjects::subjects;
 use crate::violation::{Rule, Subject, Violation};
 use crate::{lanes, pattern, phase};
-use signal_records::{NoMemory, Pattern, PatternNo, Phase, PhaseNo, SeqNo, TimingSet};
+use signal_records::{NoMemory, Pattern, PatternNo, Ped, Phase, PhaseNo, SeqNo, TimingSet};
 use std::alloc::Global;
 
 /// The violations of a set: phases, sequences, split rows and patterns, each by ascending number,
@@ -73,6 +73,7 @@ fn report(
     Ok(())
 }
 
+/// The rules of a phase: those of its own intervals, of its crossing, of its mates, of its lead.
 fn judge_phase(
     set: &TimingSet,
     p: PhaseNo,
@@ -94,24 +95,42 @@ fn judge_phase(
         found,
     )?;
     if let Some(ped) = &phase.ped {
-        report(phase::walk_is_long(ped), Subject::Phase(p), Rule::V3, found)?;
-        report(
-            phase::clears_crossing(phase, ped),
-            Subject::Phase(p),
-            Rule::V4,
-            found,
-        )?;
-        report(
-            phase::clears_setback(phase, ped),
-            Subject::Phase(p),
-            Rule::V5,
-            found,
-        )?;
+        judge_crossing(p, phase, ped, found)?;
     }
     report(
         phase::mates_agree(set, p, phase),
         Subject::Phase(p),
         Rule::V6,
+        found,
+    )?;
+    report(
+        phase::lead_is_right(phase),
+        Subject::Phase(p),
+        Rule::V14,
+        found,
+    )
+}
+
+/// The rules of a phase's crossing.
+fn judge_crossing(
+    p: PhaseNo,
+    phase: &Phase,
+    ped: &Ped,
+    found: &mut Vec<Violation>,
+) -> Result<(), NoMemory>
+    ensures { OnOk result (found.new.items ≡ found.old.items ++ broken (Subject.Phase p) (crossing_findings phase.now ped.now)) }
+{
+    report(phase::walk_is_long(ped), Subject::Phase(p), Rule::V3, found)?;
+    report(
+        phase::clears_crossing(phase, ped),
+        Subject::Phase(p),
+        Rule::V4,
+        found,
+    )?;
+    report(
+        phase::clears_setback(phase, ped),
+        Subject::Phase(p),
+        Rule::V5,
         found,
     )
 }

@@ -1,7 +1,7 @@
-//! V1 to V6, the rules of a phase.
+//! V1 to V6 and V14, the rules of a phase.
 
 ghost use Rattle.std.specs.Prelude.{◌≡◌, ◌≤◌};
-ghost use Rattle.signal_rules.specs.PhaseRules.{yellow_is_right, red_is_right, walk_is_long, clearance, clears_crossing, clears_setback, is_mate, mates_agree};
+ghost use Rattle.signal_rules.specs.PhaseRules.{yellow_is_right, red_is_right, walk_is_long, clearance, clears_crossing, clears_setback, lead_is_right, where_walked, is_mate, mates_agree};
 ghost use Rattle.signal_rules.specs.Lookup.{phase_at};
 
 use crate::lookup::phase_at;
@@ -51,6 +51,19 @@ pub(crate) fn clears_setback(phase: &Phase, ped: &Ped) -> bool
 {
     let time = 10 * u32::from(ped.walk) + clearance(phase, ped);
     ped.width.get() + ped.setback.get() <= 3 * time
+}
+
+/// V14, of the leading pedestrian interval, which is no longer than `phaseWalk`.
+pub(crate) fn lead_is_right(phase: &Phase) -> bool
+    ensures { result ≡ where_walked phase.now.ped lead_is_right }
+{
+    match &phase.ped {
+        Some(Ped { lead, walk, .. }) => {
+            let lead = lead.get();
+            lead == 0 || (3 <= lead && lead <= u32::from(*walk))
+        }
+        None => true,
+    }
 }
 
 /// V6, of `phaseConcurrency`.

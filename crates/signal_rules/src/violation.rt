@@ -35,6 +35,8 @@ pub enum Rule {
     V12,
     /// Phases that time together list each other, at each second of the cycle.
     V13,
+    /// The walk of a phase leads its green by no time, or by 3 seconds or more, at most the walk.
+    V14,
 }
 
 /// What a rule is about.
@@ -56,7 +58,7 @@ pub struct Violation {
 }
 
 impl Rule {
-    /// 1 to 13.
+    /// 1 to 14.
     pub fn number(self) -> u32
         ensures { result ≡ number_of self }
     {
@@ -74,6 +76,7 @@ impl Rule {
             Rule::V11 => 11,
             Rule::V12 => 12,
             Rule::V13 => 13,
+            Rule::V14 => 14,
         }
     }
 }
