@@ -5,11 +5,11 @@ mod asking;
 mod fault;
 mod overdue;
 mod plan;
-mod report;
 mod sheet;
+mod telling;
 
 pub use fault::Fault;
 pub use overdue::overdue_of;
 pub use plan::violations_in;
-pub use report::report;
 pub use sheet::sheet_of;
+pub use telling::report;
