@@ -93,17 +93,19 @@ const DAMAGES: [Damage; 18] = [
     ("UPDATE used_part SET amount = 0", "GET", CABINET, ""),
 ];
 
-/// The tables whose writes are counted.
-pub(crate) const TABLES: [Table; 8] = [
-    Table::Intersection,
-    Table::Timing,
-    Table::Draft,
-    Table::Inspection,
-    Table::WorkOrder,
-    Table::Part,
-    Table::Delivery,
-    Table::UsedPart,
-];
+/// How often the rows of each table were written.
+pub(crate) fn counts<S: Shelf>(shelf: &S) -> [u64; 8] {
+    [
+        shelf.writes(Table::Intersection),
+        shelf.writes(Table::Timing),
+        shelf.writes(Table::Draft),
+        shelf.writes(Table::Inspection),
+        shelf.writes(Table::WorkOrder),
+        shelf.writes(Table::Part),
+        shelf.writes(Table::Delivery),
+        shelf.writes(Table::UsedPart),
+    ]
+}
 
 /// An office in which all commands were run.
 fn full_office(alloc: Global) -> Result<Stored, Trouble> {
@@ -136,8 +138,7 @@ fn meet(alloc: Global, damage: &Damage) -> Result<(), Trouble> {
     compare(alloc, sql, DAMAGED, &came)?;
     let after = shown(alloc, &mut office)?;
     compare(alloc, sql, &before, &after)?;
-    let shelf = office.into_shelf();
-    if TABLES.iter().any(|table| shelf.writes(*table) > 0) {
+    if counts(&office.into_shelf()) != [0; 8] {
         return Err(Trouble::Unprepared(sql));
     }
     Ok(())

@@ -158,7 +158,10 @@ impl Dice {
             0 => self.add(),
             1..10 => self.step(),
             10..14 => Ask::Record(self.record()),
-            14 => Ask::Import([self.record(), self.record()]),
+            14 => {
+                let first = self.record();
+                Ask::Import(first, self.record())
+            }
             _ => self.query(),
         }
     }

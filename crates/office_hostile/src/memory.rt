@@ -61,26 +61,30 @@ fn are_allowed(answers: &[u8]) -> bool {
         || are(answers, first, UNAVAILABLE)
 }
 
-/// Serves two requests to a place that takes no memory.
-fn serve_two(alloc: Global, office: &mut Stored) -> Result<(), Trouble> {
-    let mut room = [0; 512];
-    let mut writer = ToWrite::new(room.as_mut_slice());
+/// Serves two requests into a place that takes no memory, and tells how many bytes are left of it.
+fn serve_into(
+    alloc: Global,
+    office: &mut Stored,
+    room: &mut [u8],
+) -> (Result<Served, ServeFault>, usize) {
+    let mut writer = ToWrite::new(room);
     let mut reader = FromRead::new(&STREAM[..TWO]);
     let served = serve(alloc, office, &mut reader, &mut writer, 9);
-    let left = writer.writer.len();
-    let (answers, _) = room.split_at(512_usize.saturating_sub(left));
-    match served {
-        Ok(Served { requests: 2 }) if are_allowed(answers) => Ok(()),
-        Err(ServeFault::NoMemory) if answers.is_empty() => {
-            let came = run_line(alloc, office, &COMMANDS[1])?;
-            compare(alloc, "an office without memory to serve", UNKNOWN, &came)
-        }
-        _ => Err(Trouble::wrong(alloc, "two requests", ANSWERS, answers)),
-    }
+    (served, writer.writer.len())
 }
 
 /// Opens new files and serves two requests. An opening may be refused for memory, or by the database.
 pub(crate) fn serve_new(alloc: Global) -> Result<(), Trouble> {
     let mut office = new_office(alloc)?;
-    serve_two(alloc, &mut office)
+    let mut room = [0; 512];
+    let (served, left) = serve_into(alloc, &mut office, &mut room);
+    let answers = &room[..512_usize.saturating_sub(left)];
+    match served {
+        Ok(Served { requests: 2 }) if are_allowed(answers) => Ok(()),
+        Err(ServeFault::NoMemory) if answers.is_empty() => {
+            let came = run_line(alloc, &mut office, &COMMANDS[1])?;
+            compare(alloc, "an office without memory to serve", UNKNOWN, &came)
+        }
+        _ => Err(Trouble::wrong(alloc, "two requests", ANSWERS, answers)),
+    }
 }

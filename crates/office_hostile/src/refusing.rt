@@ -2,7 +2,7 @@
 
 ghost use Rattle.std.specs.Prelude.{◌≡◌, ⊥, OnErr};
 
-use crate::damaged::TABLES;
+use crate::damaged::counts;
 use crate::script::{COMMANDS, Line, UNAVAILABLE};
 use crate::talking::{compare_answer, run_line, shown};
 use crate::trouble::{Trouble, compare};
@@ -159,11 +159,6 @@ impl Shelf for Refusing {
     fn writes(&self, table: Table) -> u64 {
         self.inner.writes(table)
     }
-}
-
-/// How often the rows of each table were written.
-fn counts(shelf: &Refusing) -> [u64; 8] {
-    TABLES.map(|table| shelf.writes(table))
 }
 
 /// What an office shows with no call refused, the counts of its writes, and the office.

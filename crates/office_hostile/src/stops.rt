@@ -71,11 +71,15 @@ fn commands_answered(alloc: Global, office: &mut Stored) -> Result<usize, Troubl
 /// The answers to the first requests of the stream end after these bytes.
 const ANSWERED: [usize; 4] = [0, 89, 273, 399];
 
-/// The bytes are so many answers that tell of a refusal.
+/// The bytes are at most three answers that tell of a refusal.
 fn are_refusals(bytes: &[u8]) -> bool {
-    bytes
-        .chunks(UNAVAILABLE.len())
-        .all(|chunk| chunk == UNAVAILABLE)
+    let mut rest = bytes;
+    for _ in 0..3 {
+        if let Some(more) = rest.strip_prefix(UNAVAILABLE) {
+            rest = more;
+        }
+    }
+    rest.is_empty()
 }
 
 /// How many requests of the stream are answered before one is refused, as all after it are.
@@ -102,14 +106,21 @@ fn answered(alloc: Global, office: &mut Stored, work: Work) -> Result<usize, Tro
     }
 }
 
+/// What is seen is the state at a place.
+fn is_state(states: &[Vec<u8>], at: usize, seen: &[u8]) -> bool {
+    match states.get(at) {
+        Some(state) => state.as_slice() == seen,
+        None => false,
+    }
+}
+
 /// The office over these files shows what it did before the command that was stopped, or after it.
 fn reopens(alloc: Global, files: Pair, states: &[Vec<u8>], answered: usize) -> Result<(), Trouble> {
     let Some(mut office) = open(alloc, files) else {
         return Err(Trouble::Unprepared("the opening after a stop"));
     };
     let seen = shown(alloc, &mut office)?;
-    let mut allowed = states.iter().skip(answered).take(2);
-    if allowed.any(|state| *state == seen) {
+    if is_state(states, answered, &seen) || is_state(states, answered.saturating_add(1), &seen) {
         return Ok(());
     }
     Err(Trouble::wrong(
@@ -131,11 +142,11 @@ fn stop_after(
     let Some(mut office) = open(alloc, stopping(alloc, db, side, calls)?) else {
         return Ok(Ending::Unopened);
     };
-    let answered = answered(alloc, &mut office, work)?;
-    let left = left(office);
-    reopens(alloc, found(alloc, &left)?, states, answered)?;
-    reopens(alloc, crashed(left), states, answered)?;
-    if answered.saturating_add(1) < states.len() {
+    let done = answered(alloc, &mut office, work)?;
+    let kept = left(office);
+    reopens(alloc, found(alloc, &kept)?, states, done)?;
+    reopens(alloc, crashed(kept), states, done)?;
+    if done.saturating_add(1) < states.len() {
         Ok(Ending::Stopped)
     } else {
         Ok(Ending::Done)
@@ -145,11 +156,11 @@ fn stop_after(
 /// Stops a file at each of its calls in turn, until the work is done before it. Tells at how many
 /// calls after the opening it was stopped.
 pub(crate) fn stop_everywhere(alloc: Global, work: Work, side: Side) -> Result<usize, Trouble> {
-    let states = states(alloc, work)?;
+    let all = states(alloc, work)?;
     let db = new_database(alloc)?;
     let mut stopped: usize = 0;
     for calls in 0..100_000 {
-        match stop_after(alloc, &db, &states, (work, side, calls))? {
+        match stop_after(alloc, &db, &all, (work, side, calls))? {
             Ending::Unopened => {}
             Ending::Stopped => stopped = stopped.saturating_add(1),
             Ending::Done => return Ok(stopped),

@@ -57,7 +57,8 @@ pub(crate) enum Ask {
     /// The changes of the first plan, or the drawn change with a number.
     Edit(u32, &'static str, Option<usize>),
     Record(Record),
-    Import([Record; 2]),
+    /// An import of two records.
+    Import(Record, Record),
     View(u32, View),
     Stock,
     Overdue(&'static str),
@@ -101,7 +102,7 @@ impl Ask {
             Ask::Step(_, _, Step::Abandon) => 6,
             Ask::Edit(..) => 7,
             Ask::Record(record) => record.place(),
-            Ask::Import(_) => 13,
+            Ask::Import(..) => 13,
             Ask::View(_, View::State) => 14,
             Ask::View(_, View::Timing) => 15,
             Ask::View(_, View::Draft) => 16,
@@ -282,7 +283,7 @@ impl Ask {
                 ))
             }
             Ask::Record(record) => Ok(post(record.path(alloc)?, record.body(alloc)?)),
-            Ask::Import(records) => import(alloc, records),
+            Ask::Import(first, second) => import(alloc, &[*first, *second]),
             Ask::View(id, view) => {
                 let word = view_word(*view);
                 Ok(get(alloc, format!(in alloc; "/intersections/{id}{word}")?))

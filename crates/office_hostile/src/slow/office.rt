@@ -361,7 +361,7 @@ impl Slow {
                 let outcome = self.record(&record)?;
                 recorded(alloc, outcome)?
             }
-            Ask::Import(records) => return self.import(alloc, &records),
+            Ask::Import(first, second) => return self.import(alloc, &[first, second]),
             Ask::Step(id, clerk, step) => self.step(alloc, id, clerk, step)?,
             Ask::Edit(id, clerk, edit) => self.edit(alloc, id, clerk, edit)?,
             Ask::View(id, view) => self.view(alloc, id, view)?,
