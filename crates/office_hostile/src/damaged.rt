@@ -1,6 +1,6 @@
 //! Stored rows that are no records, each met by the command that reads it.
 
-use crate::files::{Stored, new_office};
+use crate::files::{Pair, Stored, found, left, new_office, open};
 use crate::script::{COMMANDS, DAMAGED};
 use crate::talking::{compare_answer, run, run_line, shown};
 use crate::trouble::{Trouble, compare};
@@ -117,8 +117,11 @@ fn full_office(alloc: Global) -> Result<Stored, Trouble> {
     Ok(office)
 }
 
-/// The office after another hand has changed its tables.
-fn altered(alloc: Global, office: Stored, sql: &'static str) -> Result<Stored, Trouble> {
+/// The office over these files after another hand has changed its tables.
+fn altered(alloc: Global, kept: &Pair, sql: &'static str) -> Result<Stored, Trouble> {
+    let Some(office) = open(alloc, found(alloc, kept)?) else {
+        return Err(Trouble::Unprepared(sql));
+    };
     let mut conn = office.into_shelf().into_conn();
     if conn.execute_batch(sql).is_err() {
         return Err(Trouble::Unprepared(sql));
@@ -130,9 +133,9 @@ fn altered(alloc: Global, office: Stored, sql: &'static str) -> Result<Stored, T
 }
 
 /// A row that is no record is told of, and all is left as it was.
-fn meet(alloc: Global, damage: &Damage) -> Result<(), Trouble> {
+fn meet(alloc: Global, kept: &Pair, damage: &Damage) -> Result<(), Trouble> {
     let (sql, method, path, body) = *damage;
-    let mut office = altered(alloc, full_office(alloc)?, sql)?;
+    let mut office = altered(alloc, kept, sql)?;
     let before = shown(alloc, &mut office)?;
     let came = run(alloc, &mut office, (method, path, body))?;
     compare(alloc, sql, DAMAGED, &came)?;
@@ -146,8 +149,9 @@ fn meet(alloc: Global, damage: &Damage) -> Result<(), Trouble> {
 
 /// Meets each row, and tells how many they are.
 pub(crate) fn meet_all(alloc: Global) -> Result<usize, Trouble> {
+    let kept = left(full_office(alloc)?);
     for damage in &DAMAGES {
-        meet(alloc, damage)?;
+        meet(alloc, &kept, damage)?;
     }
     Ok(DAMAGES.len())
 }

@@ -40,17 +40,20 @@ fn try_refusals(rt: &HostRuntime) -> Result<(), Trouble> {
     Ok(())
 }
 
-/// Tries files that stop.
+/// Tries files that stop. The log is called by all that changes rows; the database need not be.
 fn try_stops(rt: &HostRuntime) -> Result<(), Trouble> {
-    let alloc = rt.alloc();
-    let log = stop_everywhere(alloc, Work::Stream, Side::Log)?;
-    println!(rt; "3 requests, stopped at {log} calls of the log: done or not")?;
-    let db = stop_everywhere(alloc, Work::Stream, Side::Database)?;
-    println!(rt; "3 requests, stopped at {db} calls of the database: done or not")?;
-    let log = stop_everywhere(alloc, Work::Commands, Side::Log)?;
-    println!(rt; "11 commands, stopped at {log} calls of the log: done or not")?;
-    let db = stop_everywhere(alloc, Work::Commands, Side::Database)?;
-    println!(rt; "11 commands, stopped at {db} calls of the database: done or not")?;
+    for (work, name) in [
+        (Work::Stream, "3 requests"),
+        (Work::Commands, "11 commands"),
+    ] {
+        let log = stop_everywhere(rt.alloc(), work, Side::Log)?;
+        if log == 0 {
+            return Err(Trouble::Unprepared("a stop of the log"));
+        }
+        println!(rt; "{name}, stopped at each call of the log: done or not")?;
+        stop_everywhere(rt.alloc(), work, Side::Database)?;
+        println!(rt; "{name}, stopped at each call of the database: done or not")?;
+    }
     Ok(())
 }
 

@@ -1,6 +1,6 @@
 //! A shelf in memory that answers Store at one of its calls.
 
-ghost use Rattle.std.specs.Prelude.{◌≡◌, ⊥, OnErr};
+ghost use Rattle.std.specs.Prelude.{◌≡◌, OnErr};
 
 use crate::damaged::counts;
 use crate::script::{COMMANDS, Line, UNAVAILABLE};
@@ -43,8 +43,6 @@ impl Refusing {
 
 // Nothing is promised of its tables but the counts of writes.
 impl Shelf for Refusing {
-    ghost use Rattle.std.specs.Prelude.{⊥};
-
     ghost content = { λ s. s.inner.tables };
 
     ghost is_honest = { λ _. ⊥ };

@@ -122,9 +122,11 @@ pub(crate) fn tally_text(alloc: Global, tally: &Tally) -> Result<String, AllocEr
         let one = format!(in alloc; " {name} {n}")?;
         text.push_str(one.as_str())?;
     }
-    for (number, n) in tally.refusals.iter().enumerate().skip(10) {
-        let one = format!(in alloc; " {number}: {n}")?;
-        text.push_str(one.as_str())?;
+    for (number, n) in tally.refusals.iter().enumerate() {
+        if *n > 0 {
+            let one = format!(in alloc; " {number}: {n}")?;
+            text.push_str(one.as_str())?;
+        }
     }
     Ok(text)
 }
