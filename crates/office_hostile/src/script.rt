@@ -18,7 +18,7 @@ const ANA: &str = r#"{"clerk":"Ana"}"#;
 
 /// The edit that brings in the plan.
 const PLAN: &str =
-    r#"{"clerk":"Ana","csv":"phase,2,1,8,20,40,40,15,6,7,12,490,60,0\nphase,4,1,8,20,40,40,15,8\nphase,6,2,8,20,40,40,15,2\nphase,8,2,8,20,40,40,15,4\nseq,1,1,2 4\nseq,1,2,6 8\nsplit,1,2,35,2,1\nsplit,1,4,25,2,0\nsplit,1,6,35,2,1\nsplit,1,8,25,2,0\npattern,1,60,0,1,1\n"}"#;
+    r#"{"clerk":"Ana","csv":"phase,2,1,8,20,40,40,15,6,7,12,490,60,0,0\nphase,4,1,8,20,40,40,15,8\nphase,6,2,8,20,40,40,15,2\nphase,8,2,8,20,40,40,15,4\nseq,1,1,2 4\nseq,1,2,6 8\nsplit,1,2,35,2,1\nsplit,1,4,25,2,0\nsplit,1,6,35,2,1\nsplit,1,8,25,2,0\npattern,1,60,0,1,1\n"}"#;
 
 /// A phase whose walk and clearance are too short for its crossing.
 pub(crate) const BAD_CROSSING: &str = "phase,2,1,8,20,40,40,15,6,3,2,900,60,0";
