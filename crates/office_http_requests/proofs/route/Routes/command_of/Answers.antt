@@ -11,4 +11,4 @@ returns-clause-gives c =
     let allows : bytes_eq c.args.request.now.method.now (method_of c.in_ok-endpoint.endpoint) ≡ true = cc in
     rw (command_with-at c.args.request.now.method.now c.args.request.now.path.now c.in_ok-endpoint.endpoint _ (sym c.in_ok-endpoint.ensures.endpoint) allows)
     (gives-trans c.asked.result _ _ c.asked.ensures.gives
-        (gives-read (asked_at c.in_ok-endpoint.endpoint c.args.request.now.path.now) c.given.result _ (asked-unread c.in_ok-endpoint.endpoint c.args.request.now.path.now _) c.given.ensures.gives))
+    (gives-read (asked_at c.in_ok-endpoint.endpoint c.args.request.now.path.now) c.given.result _ (asked-unread c.in_ok-endpoint.endpoint c.args.request.now.path.now _) c.given.ensures.gives))
