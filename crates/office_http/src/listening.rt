@@ -165,7 +165,7 @@ impl Listen for FromListener<'_> {
 }
 
 /// Why a listener was not served to the last connection.
-#[derive(Clone, Copy, Debug)]
+#[derive(Clone, Copy)]
 pub enum ServeStop {
     /// The listener failed.
     Accept,

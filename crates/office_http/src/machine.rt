@@ -1,19 +1,23 @@
 //! The office as the machine behind the engine.
 
-ghost use Rattle.std.specs.Prelude.{◌≡◌, ◌≢◌, ◌↔◌, List, ℕ, IsTrue, IfOk, OnOk, OnErr};
+ghost use Rattle.std.specs.Prelude.{◌≡◌, ◌≢◌, IsOk, IfOk, OnOk, OnErr};
 ghost use Rattle.office_http_responses.specs.Faults.{ask_fault_text};
 ghost use Rattle.office_desk.specs.Office.{Office as OfficeState};
 ghost use Rattle.office_desk.specs.StandFor.{StandForSound};
+ghost use Rattle.office_http_framing.specs.Protocol.{bytes_of};
 ghost use Rattle.office_http_framing.specs.Stops.{Settles};
+ghost use Rattle.office_http_responses.specs.Answers.{answer_bytes};
 ghost use Rattle.office_http.specs.Protocol.{AnswersAsked, LeavesAsked, office_storage};
 
 use office_desk::office::Office;
 use office_desk::refusal::Refusal;
 use office_desk::reply::Reply;
 use office_http_framing::front::{Fault, Request};
-use office_http_framing::machine::{Machine, Unavailable};
-use office_http_requests::{AskFault, Asked, RouteCache};
-use office_http_responses::{answer_of, ask_fault_answer, framing_fault_answer, unavailable};
+use office_http_framing::machine::{Answer, Machine, Unavailable};
+use office_http_requests::{AskFault, Asked, Form, RouteCache};
+use office_http_responses::{
+    answer_of, ask_fault_answer, damaged, framing_fault_answer, unavailable,
+};
 use office_tables_shelf::shelf::Shelf;
 use std::alloc::{AllocError, Global};
 
@@ -23,19 +27,29 @@ pub(crate) struct StreamTools {
     pub(crate) routes: RouteCache,
 }
 
-/// Whether memory or the tables were refused.
-fn is_unavailable(reply: &Reply) -> bool
-    ensures { IsTrue result ↔ (reply.now ≡ Reply.Refused Refusal.Unavailable) }
+/// The whole answer to a reply. That a stored row is no record is always told: its text takes no memory.
+fn answer_to(alloc: Global, reply: &Reply, form: Form) -> Result<Answer, Unavailable>
+    ensures told { IfOk result (λ _. reply.now ≢ Reply.Refused Refusal.Unavailable) }
+    ensures text { IfOk result (λ answer. bytes_of answer ≡ answer_bytes reply.now form) }
+    // Damaged is never answered with 503.
+    ensures damaged { reply.now ≡ Reply.Refused Refusal.Damaged → IsOk result }
 {
-    matches!(reply, Reply::Refused(Refusal::Unavailable))
+    match reply {
+        Reply::Refused(Refusal::Unavailable) => Err(Unavailable),
+        Reply::Refused(Refusal::Damaged) => Ok(Answer::Fixed(damaged())),
+        _ => match answer_of(alloc, reply, form) {
+            Ok(answer) => Ok(Answer::Written(answer)),
+            Err(_) => Err(Unavailable),
+        },
+    }
 }
 
 /// The whole answer to a request that asks nothing.
-fn answer_fault(alloc: Global, fault: AskFault) -> Result<Vec<u8>, Unavailable>
-    ensures { IfOk result (λ answer. (fault ≢ AskFault.NoMemory) × (answer.items ≡ ask_fault_text fault)) }
+fn answer_fault(alloc: Global, fault: AskFault) -> Result<Answer, Unavailable>
+    ensures { IfOk result (λ answer. (fault ≢ AskFault.NoMemory) × (bytes_of answer ≡ ask_fault_text fault)) }
 {
     match ask_fault_answer(alloc, fault) {
-        Ok(answer) => Ok(answer),
+        Ok(answer) => Ok(Answer::Written(answer)),
         Err(_) => Err(Unavailable),
     }
 }
@@ -45,10 +59,10 @@ fn answer_asked<S: Shelf>(
     office: &mut Office<S>,
     alloc: Global,
     asked: &Asked,
-) -> Result<Vec<u8>, Unavailable>
+) -> Result<Answer, Unavailable>
     ensures honest { S.is_honest office.new → S.is_honest office.old }
     ensures ok { S.is_honest office.new → (before : OfficeState) → StandForSound (S.content office.old) before → IfOk result (λ answer.
-        (after : OfficeState) × StandForSound (S.content office.new) after × AnswersAsked before asked.now answer.items after) }
+        (after : OfficeState) × StandForSound (S.content office.new) after × AnswersAsked before asked.now (bytes_of answer) after) }
     ensures err { S.is_honest office.new → (before : OfficeState) → StandForSound (S.content office.old) before →
         OnErr result (StandForSound (S.content office.new) before) }
     // A crash leaves what it could before, or the tables as they are now; and those alone once rows were changed.
@@ -57,10 +71,7 @@ fn answer_asked<S: Shelf>(
     ensures crash { LeavesAsked S.is_honest S.content S.may_leave office.old office.new asked.now }
 {
     let decided = office.decide(alloc, &asked.command);
-    if is_unavailable(&decided.reply) {
-        return Err(Unavailable);
-    }
-    let Ok(answer) = answer_of(alloc, &decided.reply, asked.form) else {
+    let Ok(answer) = answer_to(alloc, &decided.reply, asked.form) else {
         return Err(Unavailable);
     };
     let changes = decided.changes.as_slice();
@@ -93,7 +104,7 @@ impl<S: Shelf> Machine<StreamTools> for Office<S> {
         alloc: Global,
         tools: &mut StreamTools,
         request: &Request<'_>,
-    ) -> Result<Vec<u8>, Unavailable> {
+    ) -> Result<Answer, Unavailable> {
         match tools.routes.command_of(alloc, request) {
             Ok(asked) => answer_asked(self, alloc, &asked),
             Err(fault) => answer_fault(alloc, fault),

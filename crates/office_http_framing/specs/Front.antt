@@ -98,14 +98,6 @@ IsFaulty bytes fault.Length = HasFaultyFields bytes fault.Length
 IsFaulty bytes fault.BodyTooLarge = HasFaultyFields bytes fault.BodyTooLarge
 IsFaulty bytes fault.Coded = HasFaultyFields bytes fault.Coded
 
--- the number by which an answer names the fault
-abbrev pub fault_number : Fault → ℕ
-fault_number fault.Head = 1
-fault_number fault.HeadTooLarge = 2
-fault_number fault.Length = 3
-fault_number fault.BodyTooLarge = 4
-fault_number fault.Coded = 5
-
 -- the request that a borrowed one shows
 abbrev pub plain : Request → PlainRequest
 plain r = record { method = r.method.now; path = r.path.now; body = r.body.now; last = r.last }

@@ -1,7 +1,14 @@
 -- What a machine may answer, and its run over a list of requests.
 use Rattle.std.specs.Prelude.{◌≡◌, ℕ, ◌⊎◌, List, [], ◌∷◌}
 use Rattle.office_http_framing.specs.declared.front.Fault.{Fault}
+use Rattle.office_http_framing.specs.declared.machine.Answer.{Answer}
+use Rattle.office_http_framing.specs.declared.machine.Answer.TheVariants.{Written, Fixed}
 use Rattle.office_http_framing.specs.Front.{PlainRequest}
+
+-- the bytes of an answer
+abbrev pub bytes_of : Answer → List ℕ
+bytes_of (Written bytes) = bytes.items
+bytes_of (Fixed bytes) = bytes.now
 
 -- The answers of a machine that means a state. By `step`, a request may get the answer and leave
 -- the second state; `fault_text` answers a fault of the framing; `unavailable_text` says that

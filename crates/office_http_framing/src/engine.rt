@@ -16,14 +16,14 @@ use crate::machine::Machine;
 use std::alloc::Global;
 
 /// How a stream was served to its end.
-#[derive(Clone, Copy, PartialEq, Eq)]
+#[derive(Clone, Copy, PartialEq)]
 pub struct Served {
     /// The whole requests that were dealt with.
     pub requests: u32,
 }
 
 /// Why a stream was not served to its end.
-#[derive(Clone, Copy, PartialEq, Eq)]
+#[derive(Clone, Copy, PartialEq)]
 pub enum ServeFault {
     /// The source failed after these requests.
     Read { requests: u32 },
@@ -52,7 +52,7 @@ fn serve_request<Tools, M: Machine<Tools>, W: Sink>(
         (FailsOrGivesNone (W.told writer.old).counts (W.told writer.new).counts) }
 {
     match machine.answer(alloc, tools, request) {
-        Ok(answer) => write_all(writer, &answer),
+        Ok(answer) => write_all(writer, answer.as_bytes()),
         Err(_) => write_all(writer, M::unavailable()),
     }
 }

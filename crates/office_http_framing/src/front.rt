@@ -32,23 +32,6 @@ pub enum Fault {
     Coded,
 }
 
-impl Fault {
-    ghost use Rattle.office_http_framing.specs.Front.{fault_number};
-
-    /// The number by which an answer names the fault: 1 to 5, in the order above.
-    pub fn number(self) -> u8
-        ensures { result ≡ fault_number self }
-    {
-        match self {
-            Fault::Head => 1,
-            Fault::HeadTooLarge => 2,
-            Fault::Length => 3,
-            Fault::BodyTooLarge => 4,
-            Fault::Coded => 5,
-        }
-    }
-}
-
 /// A whole request, which borrows the bytes of the stream.
 #[derive(Clone, Copy)]
 pub struct Request<'b> {

@@ -5,6 +5,29 @@ ghost use Rattle.std.specs.Prelude.{◌≡◌, ◌⊎◌, ℕ, List, IfOk, OnOk,
 use crate::front::{Fault, Request};
 use std::alloc::{AllocError, Global};
 
+/// The answer to a request.
+#[derive(Drop)]
+pub enum Answer {
+    /// Bytes that were written for this request.
+    Written(Vec<u8>),
+    /// A text that stands in the program. It takes no memory.
+    Fixed(&'static [u8]),
+}
+
+impl Answer {
+    ghost use Rattle.office_http_framing.specs.Protocol.{bytes_of};
+
+    /// The bytes of the answer.
+    pub fn as_bytes(&self) -> &[u8]
+        ensures { result.now ≡ bytes_of self.now }
+    {
+        match self {
+            Answer::Written(bytes) => bytes,
+            Answer::Fixed(bytes) => bytes,
+        }
+    }
+}
+
 /// Memory or the store was refused, and nothing was changed.
 #[derive(Clone, Copy)]
 pub struct Unavailable;
@@ -13,7 +36,7 @@ pub struct Unavailable;
 /// `Tools` are what it makes once for a stream and uses for each request, as a table of routes.
 pub trait Machine<Tools> {
     ghost use Rattle.office_http_framing.specs.Front.{PlainRequest, plain};
-    ghost use Rattle.office_http_framing.specs.Protocol.{Protocol};
+    ghost use Rattle.office_http_framing.specs.Protocol.{Protocol, bytes_of};
     ghost use Rattle.office_http_framing.specs.Stops.{Storage, Means, LeavesStep, Settles};
 
     // What a machine means.
@@ -37,11 +60,11 @@ pub trait Machine<Tools> {
         alloc: Global,
         tools: &mut Tools,
         request: &Request<'_>,
-    ) -> Result<Vec<u8>, Unavailable>
+    ) -> Result<Answer, Unavailable>
         ensures honest { is_honest self.new → is_honest self.old }
         ensures ok { is_honest self.new → (before : State) → Means storage self.old before → IfOk result (λ answer.
             (after : State) × Means storage self.new after
-            × protocol.step before (plain request.now) answer.items after) }
+            × protocol.step before (plain request.now) (bytes_of answer) after) }
         ensures err { is_honest self.new → (before : State) → Means storage self.old before →
             OnErr result (Means storage self.new before) }
         // A crash leaves what it could before, or what is held now; and that alone once that has changed.

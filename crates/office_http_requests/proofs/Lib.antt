@@ -1,4 +1,5 @@
 pub mod BodyLemmas
+pub mod CommandLemmas
 pub mod OpeningLemmas
 pub mod PathLemmas
 pub mod RouteTable

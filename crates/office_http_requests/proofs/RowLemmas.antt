@@ -1,5 +1,5 @@
 -- A walk that takes the value of each element of a list in turn.
-use Rattle.std.proofs.Common.{◌≡◌, ℕ, ◌+◌, ◌<◌, Bool, ◌&&◌, is_some, List, [], ◌∷◌, ◌++◌, length, drop, get_or, suc, Option, Some, None, Result, Ok, Err, option_map, option_and_then, add-one, drop-cons, append_assoc, map, ap, sym, ◌∙◌, refl}
+use Rattle.std.proofs.Common.{◌≡◌, ◌≢◌, ℕ, ◌+◌, ◌<◌, Bool, true, ◌&&◌, is_some, List, [], ◌∷◌, ◌++◌, length, drop, get_or, suc, Option, Some, None, Result, Ok, Err, option_map, option_and_then, add-one, drop-cons, append_assoc, map, ap, sym, ◌∙◌, refl}
 use Rattle.std.specs.List.{list_all}
 use Rattle.serde_json.specs.Data.{Data}
 use Rattle.serde_json.specs.Find.{get, as_array, as_str}
@@ -7,16 +7,22 @@ use Rattle.serde_json.specs.View.{view, items_of, items_view}
 use Rattle.serde_json.specs.declared.value.Value.{Value}
 use Rattle.std.proofs.Math.Seq.{drop-length}
 use Rattle.std.proofs.lemmas.List.{get_or-map, length-map, append-nil}
-use Rattle.signal_records.specs.Reading.{change_at, texts}
+use Rattle.signal_records.specs.Reading.{change_at, texts, Gives as RowGives}
 use Rattle.signal_records.specs.Within.{current_limits}
 use Rattle.signal_records.specs.declared.fault.RowFault.{RowFault}
+use Rattle.signal_records.specs.declared.fault.RowFault.TheVariants as row
 use Rattle.signal_records.specs.declared.record.Change.{Change}
 use Rattle.office_http_requests.specs.declared.fault.AskFault.{AskFault}
-use Rattle.office_http_requests.specs.declared.fault.AskFault.TheVariants.{BadRow}
+use Rattle.office_http_requests.specs.declared.fault.AskFault.TheVariants.{BadRow, NoMemory}
 use Rattle.office_http_requests.specs.declared.field.Field.TheVariants.{Rows as FieldRows}
+use Rattle.office_files.specs.Changes.{changes_of as csv_changes_of}
+use Rattle.office_files.specs.Records.{commands_of}
+use Rattle.office_files.specs.declared.fault.CsvFault.{CsvFault}
+use Rattle.office_files.specs.declared.fault.CsvFault.TheVariants as file
 use Rattle.office_http_requests.specs.Fields.{field_name}
-use Rattle.office_http_requests.specs.Asks.{◌>>=◌}
-use Rattle.office_http_requests.specs.Rows.{RowRefs, rows_seen, list_of, list_in, each, texts_in, rows_in, changes_of}
+use Rattle.office_http_requests.specs.Asks.{◌>>=◌, or_field, MayWant, WantsMemoryOnlyIf}
+use Rattle.office_http_requests.specs.CsvBodies.{csv_in, csv_changes_in, csv_records_in, or_bad_row as or_bad_record}
+use Rattle.office_http_requests.specs.Rows.{RowRefs, rows_seen, list_of, list_in, each, texts_in, rows_in, or_bad_row, changes_of, changes_in, IsRowFault}
 
 -- what is done, before what the rest gives
 abbrev pub onto : {B : Type 0} → List B → Option (List B) → Option (List B)
@@ -136,3 +142,57 @@ one_is_some (Some v) (Some ys) b e = e
 pub each_passes : {A B C : Type 0} (f : B → Option C) (shown : A → B) (xs : List A) → list_all (λ x. is_some (f (shown x))) xs ≡ is_some (each f (map shown xs))
 each_passes f shown [] = refl
 each_passes f shown (x ∷ xs) = sym (one_is_some (f (shown x)) (each f (map shown xs)) (list_all (λ y. is_some (f (shown y))) xs) (sym (each_passes f shown xs)))
+
+-- ---- what may be told of rows and of CSV texts
+
+-- rows give changes, or a bad row
+rows_want : (at : ℕ) (rows : List (List (List ℕ))) → MayWant (changes_of at rows)
+rows_want at [] = tt
+rows_want at (row ∷ rows) = one (change_at current_limits row) (changes_of (at + 1) rows) (rows_want (at + 1) rows)
+  where
+    one : (read : Result Change RowFault) (rest : Result (List Change) AskFault) → MayWant rest
+        → MayWant (or_bad_row at read >>= (λ change. rest >>= (λ changes. Ok (change ∷ changes))))
+    one (Err fault) rest wants = tt
+    one (Ok change) (Ok changes) wants = tt
+    one (Ok change) (Err fault) wants = wants
+
+-- rows that are such give changes, or a bad row
+pub changes_want : (body : Data) → is_some (rows_in body) ≡ true → MayWant (changes_in body)
+unfolding changes_in
+changes_want body found = by_rows (rows_in body) found
+  where
+    by_rows : (rows : Option (List (List (List ℕ)))) → is_some rows ≡ true → MayWant (or_field FieldRows rows >>= (λ rows. changes_of 1 rows))
+    by_rows None found = cc
+    by_rows (Some rows) found = rows_want 1 rows
+
+csv_want : {A : Type 0} (read : Result A CsvFault) → MayWant (or_bad_record read)
+csv_want (Ok x) = tt
+csv_want (Err (file.Row at fault)) = tt
+csv_want (Err file.NoMemory) = tt
+
+-- a CSV text gives changes, or a bad record
+pub csv_changes_want : (body : Data) (csv : List ℕ) → csv_in body ≡ Ok csv → MayWant (csv_changes_in body)
+unfolding csv_changes_in
+csv_changes_want body csv is = rw is (csv_want (csv_changes_of csv))
+
+pub csv_records_want : (body : Data) (csv : List ℕ) → csv_in body ≡ Ok csv → MayWant (csv_records_in body)
+unfolding csv_records_in
+csv_records_want body csv is = rw is (csv_want (commands_of csv))
+
+-- a row that was not kept is bad, where no want of memory was told
+pub bad_row : (at : ℕ) (read wanted : Result Change RowFault) (told : AskFault) → RowGives read wanted → IsRowFault at read told → told ≢ NoMemory
+    → (fault : RowFault) × (wanted ≡ Err fault) × (told ≡ BadRow at fault)
+bad_row at (Ok change) wanted told gives is other = absurd (other is)
+bad_row at (Err row.NoMemory) wanted told gives is other = absurd (other is)
+bad_row at (Err row.Kind) wanted told gives is other = (row.Kind, gives (λ e. cc), is)
+bad_row at (Err row.Count) wanted told gives is other = (row.Count, gives (λ e. cc), is)
+bad_row at (Err (row.Number field)) wanted told gives is other = (row.Number field, gives (λ e. cc), is)
+bad_row at (Err (row.Range field)) wanted told gives is other = (row.Range field, gives (λ e. cc), is)
+bad_row at (Err (row.List field)) wanted told gives is other = (row.List field, gives (λ e. cc), is)
+bad_row at (Err row.Mode) wanted told gives is other = (row.Mode, gives (λ e. cc), is)
+bad_row at (Err (row.Day field)) wanted told gives is other = (row.Day field, gives (λ e. cc), is)
+bad_row at (Err (row.Text field)) wanted told gives is other = (row.Text field, gives (λ e. cc), is)
+
+pub only_if : {A : Type 0} {P : Type 0} (r : Result A AskFault) → P → WantsMemoryOnlyIf r P
+only_if (Ok x) p = tt
+only_if (Err fault) p = λ _. p

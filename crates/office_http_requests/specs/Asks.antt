@@ -1,7 +1,7 @@
 -- What a request asks, as a chain of steps of which each may find a fault.
 use Rattle.std.specs.Prelude.{◌≡◌, ◌≢◌, Option, Some, None, Result, Ok, Err, ⊤}
 use Rattle.office_http_requests.specs.declared.fault.AskFault.{AskFault}
-use Rattle.office_http_requests.specs.declared.fault.AskFault.TheVariants.{NoRoute, Field as FieldFault, NoMemory}
+use Rattle.office_http_requests.specs.declared.fault.AskFault.TheVariants.{NoRoute, Method, Json, Field as FieldFault, BadRow, NoMemory}
 use Rattle.office_http_requests.specs.declared.field.Field.{Field}
 
 -- the result is the wanted one, or says that there was no memory
@@ -13,6 +13,17 @@ Gives (Err fault) wanted = fault ≢ NoMemory → wanted ≡ Err fault
 abbrev pub WantsMemoryOnlyIf : {A : Type 0} → Result A AskFault → Type 0 → Type 0
 WantsMemoryOnlyIf (Ok x) P = ⊤
 WantsMemoryOnlyIf (Err fault) P = fault ≡ NoMemory → P
+
+-- Want of memory may be told in place of this: of a value, which takes memory; of a row, whose reader may tell it of any;
+-- and of itself, as it was told below. No other fault is told so.
+abbrev pub MayWant : {A : Type 0} → Result A AskFault → Type 0
+MayWant (Ok x) = Unit {0}
+MayWant (Err NoMemory) = Unit {0}
+MayWant (Err (BadRow at fault)) = Unit {0}
+MayWant (Err NoRoute) = ⊥
+MayWant (Err Method) = ⊥
+MayWant (Err Json) = ⊥
+MayWant (Err (FieldFault field)) = ⊥
 
 -- a step, and the next on what it gave
 infixl 10 ◌>>=◌

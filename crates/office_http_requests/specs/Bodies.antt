@@ -1,11 +1,13 @@
 -- The body of a request: one JSON object, and the values under its keys.
-use Rattle.std.specs.Prelude.{◌≡◌, ◌≢◌, ℕ, List, [], ◌∷◌, Bool, false, ◌==◌, IsTrue, IsUtf8, Option, Some, None, Result, Ok, Err, option_and_then, if◌then◌else◌}
+use Rattle.std.specs.Prelude.{◌≡◌, ◌⊎◌, ℕ, List, [], ◌∷◌, Bool, false, ◌==◌, IsTrue, IsUtf8, Option, Some, None, is_some, Result, Ok, Err, option_and_then, if◌then◌else◌}
 use Rattle.std.specs.Str.{is_utf8}
 use Rattle.json.specs.Word.{is_space}
 use Rattle.serde_json.specs.Data.{Data, object}
 use Rattle.serde_json.specs.Read.{read}
-use Rattle.serde_json.specs.Find.{get, as_number, as_str, as_u64}
+use Rattle.serde_json.specs.Errors.{IsMemory}
+use Rattle.serde_json.specs.Find.{get, as_number, as_object, as_str, as_u64}
 use Rattle.serde_json.specs.View.{view}
+use Rattle.serde_json.specs.declared.error.Error.{Error}
 use Rattle.serde_json.specs.declared.value.Value.{Value}
 use Rattle.office_files.specs.RecordReading.{day_of, part_of, words_of}
 use Rattle.office_http_requests.specs.declared.fault.AskFault.{AskFault}
@@ -38,10 +40,17 @@ object_in _ = None
 unfoldable pub body_of : List ℕ → Result Data AskFault
 body_of bytes = or_fault Json (option_and_then object_in (json_of bytes))
 
--- the value is the object of the bytes, or the fault is theirs or one of memory
-abbrev pub GivesBody : Result Value AskFault → List ℕ → Type 0
-GivesBody (Ok value) bytes = body_of bytes ≡ Ok (view value)
-GivesBody (Err fault) bytes = fault ≢ NoMemory → body_of bytes ≡ Err fault
+-- What is told of a body, by what the reader of JSON answered for its bytes: an object; want of memory exactly where the reader
+-- told it, of bytes that open an object; else that it is no JSON object, however long it is.
+abbrev pub IsTold : Result Value Error → Bool → Result Value AskFault → Type 0
+IsTold (Ok value) opens told = told ≡ (if is_some (as_object (view value)) then Ok value else Err Json)
+IsTold (Err fault) opens told =
+    ((told ≡ Err NoMemory) × IsMemory fault × IsTrue opens) ⊎ ((told ≡ Err Json) × ¬ (IsMemory fault × IsTrue opens))
+
+-- a body that was read, as data, or its fault
+abbrev pub data_of : Result Value AskFault → Result Data AskFault
+data_of (Ok value) = Ok (view value)
+data_of (Err fault) = Err fault
 
 -- the number under a key: digits alone, below 2 ^ 64
 abbrev pub number_in : Data → Field → Option ℕ

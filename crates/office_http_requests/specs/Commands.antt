@@ -1,21 +1,21 @@
 -- The command that a request asks.
-use Rattle.std.specs.Prelude.{ℕ, List, Result, Ok, Err, IsOk, IsTrue, bytes_eq, if◌then◌else◌}
+use Rattle.std.specs.Prelude.{◌⊎◌, ℕ, List, Result, Ok, Err, IsTrue, bytes_eq, codes, if◌then◌else◌}
 use Rattle.serde_json.specs.Data.{Data}
 use Rattle.signal_records.specs.declared.record.Change.{Change}
 use Rattle.office_desk.specs.declared.command.Command.{Command}
 use Rattle.office_desk.specs.declared.command.Command.TheVariants as command
 use Rattle.office_http_requests.specs.declared.asked.Asked.{Asked}
 use Rattle.office_http_requests.specs.declared.fault.AskFault.{AskFault}
-use Rattle.office_http_requests.specs.declared.fault.AskFault.TheVariants.{Method}
+use Rattle.office_http_requests.specs.declared.fault.AskFault.TheVariants.{Method, NoMemory}
 use Rattle.office_http_requests.specs.declared.field.Field.TheVariants.{Clerk, Name}
 use Rattle.office_http_requests.specs.declared.asked.Form.TheVariants.{Json, Csv}
 use Rattle.office_http_requests.specs.declared.route.Endpoint.{Endpoint}
 use Rattle.office_http_requests.specs.declared.route.Endpoint.TheVariants.{AddIntersection, State, Timing, TimingCsv, Draft, Begin, Edit, EditCsv, Verify, Check, Commit, Reopen, Abandon, Record, Import, Cabinet, CabinetCsv, OpenOrders, Stock, Overdue}
-use Rattle.office_http_requests.specs.Asks.{◌>>=◌, or_no_route}
+use Rattle.office_http_requests.specs.Asks.{◌>>=◌, or_no_route, MayWant}
 use Rattle.office_http_requests.specs.Bodies.{MayBeObject, body_of, id_in, interval_in, words_in}
 use Rattle.office_http_requests.specs.Paths.{day_at, id_at}
 use Rattle.office_http_requests.specs.CsvBodies.{csv_changes_in, csv_records_in}
-use Rattle.office_http_requests.specs.Recording.{ReadsRecord, recorded_at}
+use Rattle.office_http_requests.specs.Recording.{recorded_at}
 use Rattle.office_http_requests.specs.Routes.{endpoint_of, method_of}
 use Rattle.office_http_requests.specs.Rows.{changes_in}
 
@@ -28,19 +28,19 @@ abbrev pub asked_in_csv : Command → Asked
 asked_in_csv command = record { command = command; form = Csv }
 
 -- the body's keys by name
-unfoldable pub added_intersection : List ℕ → Result Asked AskFault
-added_intersection bytes = do
-  body ← body_of bytes
+unfoldable pub added_intersection : Result Data AskFault → Result Asked AskFault
+added_intersection read = do
+  body ← read
   id ← id_in body
   interval ← interval_in body
   name ← words_in 120 body Name
   Ok (asked_in_json (command.AddIntersection id interval name))
 
 -- the intersection of the path, and the clerk of the body
-unfoldable pub id_and_clerk_in : List ℕ → List ℕ → Result (ℕ × List ℕ) AskFault
-id_and_clerk_in path bytes = do
+unfoldable pub id_and_clerk_in : List ℕ → Result Data AskFault → Result (ℕ × List ℕ) AskFault
+id_and_clerk_in path read = do
   id ← id_at path
-  body ← body_of bytes
+  body ← read
   clerk ← words_in 40 body Clerk
   Ok (id, clerk)
 
@@ -51,10 +51,10 @@ clerk_and_rows_in body = do
   changes ← changes_in body
   Ok (clerk, changes)
 
-unfoldable pub edited_in : List ℕ → List ℕ → Result Asked AskFault
-edited_in path bytes = do
+unfoldable pub edited_in : List ℕ → Result Data AskFault → Result Asked AskFault
+edited_in path read = do
   id ← id_at path
-  body ← body_of bytes
+  body ← read
   found ← clerk_and_rows_in body
   Ok (asked_in_json (command.Edit id found.0 found.1))
 
@@ -65,106 +65,85 @@ clerk_and_csv_in body = do
   changes ← csv_changes_in body
   Ok (clerk, changes)
 
-unfoldable pub edited_by_csv : List ℕ → List ℕ → Result Asked AskFault
-edited_by_csv path bytes = do
+unfoldable pub edited_by_csv : List ℕ → Result Data AskFault → Result Asked AskFault
+edited_by_csv path read = do
   id ← id_at path
-  body ← body_of bytes
+  body ← read
   found ← clerk_and_csv_in body
   Ok (asked_in_json (command.Edit id found.0 found.1))
 
 -- an import is of no path
-unfoldable pub imported_in : List ℕ → Result Asked AskFault
-imported_in bytes = do
-  body ← body_of bytes
+unfoldable pub imported_in : Result Data AskFault → Result Asked AskFault
+imported_in read = do
+  body ← read
   records ← csv_records_in body
   Ok (asked_in_json (command.Import records))
 
--- the command of an endpoint, of the path and the body
-unfoldable pub asked_at : Endpoint → List ℕ → List ℕ → Result Asked AskFault
-asked_at AddIntersection path bytes = added_intersection bytes
-asked_at State path bytes = do
+-- the command of an endpoint, of the path and the body as it was read
+unfoldable pub asked_at : Endpoint → List ℕ → Result Data AskFault → Result Asked AskFault
+asked_at AddIntersection path read = added_intersection read
+asked_at State path read = do
   id ← id_at path
   Ok (asked_in_json (command.State id))
-asked_at Timing path bytes = do
+asked_at Timing path read = do
   id ← id_at path
   Ok (asked_in_json (command.Timing id))
-asked_at TimingCsv path bytes = do
+asked_at TimingCsv path read = do
   id ← id_at path
   Ok (asked_in_csv (command.Timing id))
-asked_at Draft path bytes = do
+asked_at Draft path read = do
   id ← id_at path
   Ok (asked_in_json (command.Draft id))
-asked_at Begin path bytes = do
-  found ← id_and_clerk_in path bytes
+asked_at Begin path read = do
+  found ← id_and_clerk_in path read
   Ok (asked_in_json (command.Begin found.0 found.1))
-asked_at Edit path bytes = edited_in path bytes
-asked_at EditCsv path bytes = edited_by_csv path bytes
-asked_at Verify path bytes = do
-  found ← id_and_clerk_in path bytes
+asked_at Edit path read = edited_in path read
+asked_at EditCsv path read = edited_by_csv path read
+asked_at Verify path read = do
+  found ← id_and_clerk_in path read
   Ok (asked_in_json (command.Verify found.0 found.1))
-asked_at Check path bytes = do
-  found ← id_and_clerk_in path bytes
+asked_at Check path read = do
+  found ← id_and_clerk_in path read
   Ok (asked_in_json (command.Check found.0 found.1))
-asked_at Commit path bytes = do
-  found ← id_and_clerk_in path bytes
+asked_at Commit path read = do
+  found ← id_and_clerk_in path read
   Ok (asked_in_json (command.Commit found.0 found.1))
-asked_at Reopen path bytes = do
-  found ← id_and_clerk_in path bytes
+asked_at Reopen path read = do
+  found ← id_and_clerk_in path read
   Ok (asked_in_json (command.Reopen found.0 found.1))
-asked_at Abandon path bytes = do
-  found ← id_and_clerk_in path bytes
+asked_at Abandon path read = do
+  found ← id_and_clerk_in path read
   Ok (asked_in_json (command.Abandon found.0 found.1))
-asked_at (Record kind) path bytes = do
-  record_command ← recorded_at kind path bytes
+asked_at (Record kind) path read = do
+  record_command ← recorded_at kind path read
   Ok (asked_in_json (command.Record record_command))
-asked_at Import path bytes = imported_in bytes
-asked_at Cabinet path bytes = do
+asked_at Import path read = imported_in read
+asked_at Cabinet path read = do
   id ← id_at path
   Ok (asked_in_json (command.Cabinet id))
-asked_at CabinetCsv path bytes = do
+asked_at CabinetCsv path read = do
   id ← id_at path
   Ok (asked_in_csv (command.Cabinet id))
-asked_at OpenOrders path bytes = do
+asked_at OpenOrders path read = do
   id ← id_at path
   Ok (asked_in_json (command.OpenOrders id))
-asked_at Stock path bytes = Ok (asked_in_json command.Stock)
-asked_at Overdue path bytes = do
+asked_at Stock path read = Ok (asked_in_json command.Stock)
+asked_at Overdue path read = do
   day ← day_at path
   Ok (asked_in_json (command.Overdue day))
 
--- the command of a request: its route, then the method, then the fields
-unfoldable pub command_at : List ℕ → List ℕ → List ℕ → Result Asked AskFault
-command_at method path bytes = do
+-- the command of a request whose body was read so: its route, then the method, then the fields
+unfoldable pub command_with : List ℕ → List ℕ → Result Data AskFault → Result Asked AskFault
+command_with method path read = do
   endpoint ← or_no_route (endpoint_of path)
-  if bytes_eq method (method_of endpoint) then asked_at endpoint path bytes else Err Method
+  if bytes_eq method (method_of endpoint) then asked_at endpoint path read else Err Method
 
--- the path has the fields of an endpoint, and the body that its requests have may be an object
-abbrev pub ReadsBody : Endpoint → List ℕ → List ℕ → Type 0
-ReadsBody AddIntersection path bytes = MayBeObject bytes
-ReadsBody State path bytes = ⊥
-ReadsBody Timing path bytes = ⊥
-ReadsBody TimingCsv path bytes = ⊥
-ReadsBody Draft path bytes = ⊥
-ReadsBody Begin path bytes = IsOk (id_at path) × MayBeObject bytes
-ReadsBody Edit path bytes = IsOk (id_at path) × MayBeObject bytes
-ReadsBody EditCsv path bytes = IsOk (id_at path) × MayBeObject bytes
-ReadsBody Verify path bytes = IsOk (id_at path) × MayBeObject bytes
-ReadsBody Check path bytes = IsOk (id_at path) × MayBeObject bytes
-ReadsBody Commit path bytes = IsOk (id_at path) × MayBeObject bytes
-ReadsBody Reopen path bytes = IsOk (id_at path) × MayBeObject bytes
-ReadsBody Abandon path bytes = IsOk (id_at path) × MayBeObject bytes
-ReadsBody (Record kind) path bytes = ReadsRecord kind path bytes
-ReadsBody Import path bytes = MayBeObject bytes
-ReadsBody Cabinet path bytes = ⊥
-ReadsBody CabinetCsv path bytes = ⊥
-ReadsBody OpenOrders path bytes = ⊥
-ReadsBody Stock path bytes = ⊥
-ReadsBody Overdue path bytes = ⊥
+-- the command of a request
+unfoldable pub command_at : List ℕ → List ℕ → List ℕ → Result Asked AskFault
+command_at method path bytes = command_with method path (body_of bytes)
 
-abbrev pub ReadsAt : Result Endpoint AskFault → List ℕ → List ℕ → List ℕ → Type 0
-ReadsAt (Ok endpoint) method path bytes = IsTrue (bytes_eq method (method_of endpoint)) × ReadsBody endpoint path bytes
-ReadsAt (Err fault) method path bytes = ⊥
-
--- a request whose route, method and path are right, and whose body may be an object: for no other is memory needed
-abbrev pub ReadsRequest : List ℕ → List ℕ → List ℕ → Type 0
-ReadsRequest method path bytes = ReadsAt (or_no_route (endpoint_of path)) method path bytes
+-- Want of memory may be told of a request: by POST, and in place of a command or a bad row, or of its body, which may be an object.
+abbrev pub MayWantFor : List ℕ → List ℕ → List ℕ → Type 0
+MayWantFor method path bytes =
+    IsTrue (bytes_eq method (codes "POST"))
+    × (MayWant (command_at method path bytes) ⊎ (MayBeObject bytes × MayWant (command_with method path (Err NoMemory))))

@@ -1,5 +1,5 @@
 -- The commands of the register that requests ask: fields of the path from the left, then keys of the body by name.
-use Rattle.std.specs.Prelude.{ℕ, List, Result, Ok, IsOk}
+use Rattle.std.specs.Prelude.{ℕ, List, Result, Ok}
 use Rattle.serde_json.specs.Data.{Data}
 use Rattle.cabinet_core.specs.declared.command.RecordCommand.{RecordCommand}
 use Rattle.cabinet_core.specs.declared.command.RecordCommand.TheVariants as command
@@ -11,7 +11,7 @@ use Rattle.cabinet_core.specs.declared.record.UsedLine.{UsedLine}
 use Rattle.office_http_requests.specs.declared.fault.AskFault.{AskFault}
 use Rattle.office_http_requests.specs.declared.field.Field.TheVariants.{Clerk, Count, Line, Number, Text}
 use Rattle.office_http_requests.specs.Asks.{◌>>=◌}
-use Rattle.office_http_requests.specs.Bodies.{MayBeObject, body_of, day_in, part_in, ranged_in, words_in}
+use Rattle.office_http_requests.specs.Bodies.{day_in, part_in, ranged_in, words_in}
 use Rattle.office_http_requests.specs.Paths.{id_at, order_at}
 use Rattle.office_http_requests.specs.declared.kind.RecordKind.{RecordKind}
 use Rattle.office_http_requests.specs.declared.kind.RecordKind.TheVariants.{Inspect, OpenOrder, UsePart, CloseOrder, Receive}
@@ -59,42 +59,34 @@ delivery_in body = do
   Ok (record { part = part; number = number; day = day; count = count })
 
 -- a delivery is of no path
-unfoldable pub received_in : List ℕ → Result RecordCommand AskFault
-received_in bytes = do
-  body ← body_of bytes
+unfoldable pub received_in : Result Data AskFault → Result RecordCommand AskFault
+received_in read = do
+  body ← read
   delivery ← delivery_in body
   Ok (command.Receive delivery)
 
--- the command of a kind, of the path and the body
-unfoldable pub recorded_at : RecordKind → List ℕ → List ℕ → Result RecordCommand AskFault
-recorded_at Inspect path bytes = do
+-- the command of a kind, of the path and the body as it was read
+unfoldable pub recorded_at : RecordKind → List ℕ → Result Data AskFault → Result RecordCommand AskFault
+recorded_at Inspect path read = do
   id ← id_at path
-  body ← body_of bytes
+  body ← read
   inspection ← inspection_in body
   Ok (command.Inspect id inspection)
-recorded_at OpenOrder path bytes = do
+recorded_at OpenOrder path read = do
   id ← id_at path
-  body ← body_of bytes
+  body ← read
   opening ← opening_in body
   Ok (command.OpenOrder id opening)
-recorded_at UsePart path bytes = do
+recorded_at UsePart path read = do
   id ← id_at path
   order ← order_at path
-  body ← body_of bytes
+  body ← read
   line ← used_in order body
   Ok (command.UsePart id line)
-recorded_at CloseOrder path bytes = do
+recorded_at CloseOrder path read = do
   id ← id_at path
   order ← order_at path
-  body ← body_of bytes
+  body ← read
   closing ← closing_in body
   Ok (command.CloseOrder id order closing)
-recorded_at Receive path bytes = received_in bytes
-
--- the path has the fields of a kind, and the body may be an object
-abbrev pub ReadsRecord : RecordKind → List ℕ → List ℕ → Type 0
-ReadsRecord Inspect path bytes = IsOk (id_at path) × MayBeObject bytes
-ReadsRecord OpenOrder path bytes = IsOk (id_at path) × MayBeObject bytes
-ReadsRecord UsePart path bytes = IsOk (id_at path) × IsOk (order_at path) × MayBeObject bytes
-ReadsRecord CloseOrder path bytes = IsOk (id_at path) × IsOk (order_at path) × MayBeObject bytes
-ReadsRecord Receive path bytes = MayBeObject bytes
+recorded_at Receive path read = received_in read

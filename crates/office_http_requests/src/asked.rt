@@ -3,7 +3,7 @@
 use office_desk::command::Command;
 
 /// The form of an answer's content.
-#[derive(Clone, Copy, Debug, PartialEq, Eq)]
+#[derive(Clone, Copy)]
 pub enum Form {
     Json,
     /// A text of comma-separated values, as the one key of a JSON object.

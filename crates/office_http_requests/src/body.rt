@@ -4,14 +4,14 @@ ghost use Rattle.std.specs.Result.{result_map_both};
 ghost use Rattle.serde_json.specs.View.{view};
 ghost use Rattle.json.specs.Word.{is_space as space_byte};
 ghost use Rattle.office_http_requests.specs.Asks.{Gives, WantsMemoryOnlyIf};
-ghost use Rattle.office_http_requests.specs.Bodies.{number_in, text_in, ranged_in, words_in, day_in, part_in, opens_object as opens, GivesBody, MayBeObject};
+ghost use Rattle.office_http_requests.specs.Bodies.{number_in, text_in, ranged_in, words_in, day_in, part_in, body_of, data_of, opens_object as opens, IsTold, MayBeObject};
 ghost use Rattle.office_files.specs.RecordReading.{words_of};
 
 use crate::fault::AskFault;
 use crate::field::Field;
 use crate::value::{day_spelled, is_part_code, is_words, number_within, part_from, words_from};
 use cabinet_core::{Day, PartCode};
-use serde_json::Value;
+use serde_json::{Error, Value};
 use signal_records::{NoMemory, Number, Words};
 use std::alloc::Global;
 use std::str;
@@ -34,35 +34,41 @@ fn opens_object(bytes: &[u8]) -> bool
     false
 }
 
-/// The object that the bytes of a body are. Want of memory is told of no bytes that can't be an object:
-/// they are Json, however many they are.
+// What is told of a body by what the reader of JSON answered for its bytes. The reader may tell want of memory of
+// any text: it is told on only where it was told, and only of bytes that open an object.
+fn object_of(read: Result<Value, Error>, bytes: &[u8]) -> Result<Value, AskFault>
+    ensures { IsTold read (opens bytes.now) result }
+{
+    match read {
+        Ok(value) if value.is_object() => Ok(value),
+        Err(fault) if fault.is_memory() && opens_object(bytes) => Err(AskFault::NoMemory),
+        _ => Err(AskFault::Json),
+    }
+}
+
+/// What is told of a body of a request: none is no object.
+pub(crate) fn given(alloc: Global, bytes: &[u8]) -> Result<Value, AskFault>
+    ensures gives { Gives (data_of result) (body_of bytes.now) }
+    ensures memory { WantsMemoryOnlyIf result (MayBeObject bytes.now) }
+{
+    if bytes.is_empty() {
+        return Err(AskFault::Json);
+    }
+    read(alloc, bytes)
+}
+
+// The object that the bytes of a body are. Want of memory is told of no bytes that can't be an object:
+// they are Json, however many they are.
 // Reading needs a large local: a request without a body is not to pay for it.
 #[inline(never)]
-pub(crate) fn read(alloc: Global, bytes: &[u8]) -> Result<Value, AskFault>
-    ensures gives { GivesBody result bytes.now }
-    ensures opened { IfOk result (λ _. MayBeObject bytes.now) }
+fn read(alloc: Global, bytes: &[u8]) -> Result<Value, AskFault>
+    ensures gives { Gives (data_of result) (body_of bytes.now) }
     ensures memory { WantsMemoryOnlyIf result (MayBeObject bytes.now) }
 {
     let Ok(text) = str::from_utf8(bytes) else {
         return Err(AskFault::Json);
     };
-    match Value::from_str(alloc, text) {
-        Ok(value) => {
-            if value.is_object() {
-                Ok(value)
-            } else {
-                Err(AskFault::Json)
-            }
-        }
-        Err(fault) => {
-            // The reader may tell want of memory of any text: only of one that may be an object is it told on.
-            if fault.is_memory() && opens_object(bytes) {
-                Err(AskFault::NoMemory)
-            } else {
-                Err(AskFault::Json)
-            }
-        }
-    }
+    object_of(Value::from_str(alloc, text), bytes)
 }
 
 // The number under a key: digits alone, below 2 ^ 64.

@@ -1,13 +1,10 @@
 //! From a request to a command.
-ghost use Rattle.std.specs.Prelude.{◌≡◌, IsOk, IsSome};
+ghost use Rattle.std.specs.Prelude.{◌≡◌, codes};
 ghost use Rattle.serde_json.specs.View.{view};
-ghost use Rattle.office_http_requests.specs.Asks.{Gives, WantsMemoryOnlyIf};
-ghost use Rattle.office_http_requests.specs.Bodies.{MayBeObject, words_in};
-ghost use Rattle.office_http_requests.specs.CsvBodies.{csv_in};
-ghost use Rattle.office_http_requests.specs.Rows.{rows_in};
-ghost use Rattle.office_http_requests.specs.declared.field.Field.TheVariants.{Clerk};
-ghost use Rattle.office_http_requests.specs.Paths.{id_at};
-ghost use Rattle.office_http_requests.specs.Commands.{ReadsBody, ReadsRequest, added_intersection, asked_at, clerk_and_csv_in, clerk_and_rows_in, asked_in_csv, asked_in_json, command_at, edited_by_csv, edited_in, id_and_clerk_in, imported_in};
+ghost use Rattle.office_http_requests.specs.Asks.{Gives, MayWant, WantsMemoryOnlyIf};
+ghost use Rattle.office_http_requests.specs.Bodies.{data_of};
+ghost use Rattle.office_http_requests.specs.Routes.{method_of};
+ghost use Rattle.office_http_requests.specs.Commands.{MayWantFor, added_intersection, asked_at, clerk_and_csv_in, clerk_and_rows_in, asked_in_csv, asked_in_json, command_at, edited_by_csv, edited_in, id_and_clerk_in, imported_in};
 
 use crate::asked::{Asked, Form};
 use crate::fault::AskFault;
@@ -25,18 +22,23 @@ use std::alloc::Global;
 impl Routes {
     /// What a request asks, or the first fault: no route, another method, a path field from the left,
     /// no JSON object, a key of the body by name, a row or a record of a CSV text that spells nothing.
-    #[tactic(auto, unfolding(crate::specs::Commands::command_at))]
+    #[tactic(auto, unfolding(crate::specs::Commands::command_with, crate::specs::Commands::command_at))]
     pub fn command_of(&self, alloc: Global, request: &Request) -> Result<Asked, AskFault>
         ensures gives { Gives result (command_at request.now.method.now request.now.path.now request.now.body.now) }
         // A fault of the route, the method or the path is told, and so is a body that can't be an object,
-        // however long it is: want of memory is told of none of them.
-        ensures memory { WantsMemoryOnlyIf result (ReadsRequest request.now.method.now request.now.path.now request.now.body.now) }
+        // however long it is: want of memory is told of none of them, and of no GET.
+        ensures memory { WantsMemoryOnlyIf result (MayWantFor request.now.method.now request.now.path.now request.now.body.now) }
     {
         let endpoint = self.endpoint_at(request.path)?;
         if !endpoint.allows(request.method) {
             return Err(AskFault::Method);
         }
-        asked(alloc, endpoint, request.path, request.body)
+        asked(
+            alloc,
+            endpoint,
+            request.path,
+            body::given(alloc, request.body),
+        )
     }
 }
 
@@ -48,11 +50,19 @@ pub fn command_of(alloc: Global, request: &Request) -> Result<Asked, AskFault>
     routes.command_of(alloc, request)
 }
 
-// The command of an endpoint.
+// The command of an endpoint, by what was told of the body.
 #[tactic(auto, unfolding(crate::specs::Commands::asked_at))]
-fn asked(alloc: Global, endpoint: Endpoint, path: &[u8], body: &[u8]) -> Result<Asked, AskFault>
-    ensures gives { Gives result (asked_at endpoint path.now body.now) }
-    ensures memory { WantsMemoryOnlyIf result (ReadsBody endpoint path.now body.now) }
+fn asked(
+    alloc: Global,
+    endpoint: Endpoint,
+    path: &[u8],
+    body: Result<Value, AskFault>,
+) -> Result<Asked, AskFault>
+    ensures gives { Gives result (asked_at endpoint path.now (data_of body)) }
+    // No key of the body is told as want of memory: it is told only where it was told of the body, or where a command,
+    // or a bad row, takes memory.
+    ensures memory { WantsMemoryOnlyIf result (
+        (method_of endpoint ≡ codes "POST") × MayWant (asked_at endpoint path.now (data_of body))) }
 {
     match endpoint {
         Endpoint::AddIntersection => add_intersection(alloc, body),
@@ -120,11 +130,11 @@ fn in_csv(command: Command) -> Asked
 }
 
 #[tactic(auto, unfolding(crate::specs::Commands::added_intersection))]
-fn add_intersection(alloc: Global, body: &[u8]) -> Result<Asked, AskFault>
-    ensures gives { Gives result (added_intersection body.now) }
-    ensures memory { WantsMemoryOnlyIf result (MayBeObject body.now) }
+fn add_intersection(alloc: Global, body: Result<Value, AskFault>) -> Result<Asked, AskFault>
+    ensures gives { Gives result (added_intersection (data_of body)) }
+    ensures memory { WantsMemoryOnlyIf result (MayWant (added_intersection (data_of body))) }
 {
-    let body = body::read(alloc, body)?;
+    let body = body?;
     let id = body::number(&body, Field::Id)?;
     let interval = body::number(&body, Field::Interval)?;
     let name = body::words(alloc, &body, Field::Name)?;
@@ -133,23 +143,27 @@ fn add_intersection(alloc: Global, body: &[u8]) -> Result<Asked, AskFault>
 
 // The intersection of the path, and the clerk of the body.
 #[tactic(auto, unfolding(crate::specs::Commands::id_and_clerk_in))]
-fn id_and_clerk(alloc: Global, path: &[u8], body: &[u8]) -> Result<(InterId, Words<40>), AskFault>
-    ensures gives { Gives result (id_and_clerk_in path.now body.now) }
-    ensures memory { WantsMemoryOnlyIf result (IsOk (id_at path.now) × MayBeObject body.now) }
+fn id_and_clerk(
+    alloc: Global,
+    path: &[u8],
+    body: Result<Value, AskFault>,
+) -> Result<(InterId, Words<40>), AskFault>
+    ensures gives { Gives result (id_and_clerk_in path.now (data_of body)) }
+    ensures memory { WantsMemoryOnlyIf result (MayWant (id_and_clerk_in path.now (data_of body))) }
 {
     let id = path::id(path)?;
-    let body = body::read(alloc, body)?;
+    let body = body?;
     let clerk = body::words(alloc, &body, Field::Clerk)?;
     Ok((id, clerk))
 }
 
 #[tactic(auto, unfolding(crate::specs::Commands::edited_in))]
-fn edit(alloc: Global, path: &[u8], body: &[u8]) -> Result<Asked, AskFault>
-    ensures gives { Gives result (edited_in path.now body.now) }
-    ensures memory { WantsMemoryOnlyIf result (IsOk (id_at path.now) × MayBeObject body.now) }
+fn edit(alloc: Global, path: &[u8], body: Result<Value, AskFault>) -> Result<Asked, AskFault>
+    ensures gives { Gives result (edited_in path.now (data_of body)) }
+    ensures memory { WantsMemoryOnlyIf result (MayWant (edited_in path.now (data_of body))) }
 {
     let id = path::id(path)?;
-    let body = body::read(alloc, body)?;
+    let body = body?;
     let (clerk, changes) = clerk_and_rows(alloc, &body)?;
     Ok(in_json(Command::Edit { id, clerk, changes }))
 }
@@ -158,7 +172,7 @@ fn edit(alloc: Global, path: &[u8], body: &[u8]) -> Result<Asked, AskFault>
 #[tactic(auto, unfolding(crate::specs::Commands::clerk_and_rows_in))]
 fn clerk_and_rows(alloc: Global, body: &Value) -> Result<(Words<40>, Changes), AskFault>
     ensures gives { Gives result (clerk_and_rows_in (view body.now)) }
-    ensures memory { WantsMemoryOnlyIf result (IsOk (words_in 40 (view body.now) Clerk) × IsSome (rows_in (view body.now))) }
+    ensures memory { WantsMemoryOnlyIf result (MayWant (clerk_and_rows_in (view body.now))) }
 {
     let clerk = body::words_text(body, Field::Clerk, 40)?;
     let changes = rows::of_body(alloc, body)?;
@@ -166,12 +180,12 @@ fn clerk_and_rows(alloc: Global, body: &Value) -> Result<(Words<40>, Changes), A
 }
 
 #[tactic(auto, unfolding(crate::specs::Commands::edited_by_csv))]
-fn edit_csv(alloc: Global, path: &[u8], body: &[u8]) -> Result<Asked, AskFault>
-    ensures gives { Gives result (edited_by_csv path.now body.now) }
-    ensures memory { WantsMemoryOnlyIf result (IsOk (id_at path.now) × MayBeObject body.now) }
+fn edit_csv(alloc: Global, path: &[u8], body: Result<Value, AskFault>) -> Result<Asked, AskFault>
+    ensures gives { Gives result (edited_by_csv path.now (data_of body)) }
+    ensures memory { WantsMemoryOnlyIf result (MayWant (edited_by_csv path.now (data_of body))) }
 {
     let id = path::id(path)?;
-    let body = body::read(alloc, body)?;
+    let body = body?;
     let (clerk, changes) = clerk_and_csv(alloc, &body)?;
     Ok(in_json(Command::Edit { id, clerk, changes }))
 }
@@ -180,7 +194,7 @@ fn edit_csv(alloc: Global, path: &[u8], body: &[u8]) -> Result<Asked, AskFault>
 #[tactic(auto, unfolding(crate::specs::Commands::clerk_and_csv_in))]
 fn clerk_and_csv(alloc: Global, body: &Value) -> Result<(Words<40>, Changes), AskFault>
     ensures gives { Gives result (clerk_and_csv_in (view body.now)) }
-    ensures memory { WantsMemoryOnlyIf result (IsOk (words_in 40 (view body.now) Clerk) × IsOk (csv_in (view body.now))) }
+    ensures memory { WantsMemoryOnlyIf result (MayWant (clerk_and_csv_in (view body.now))) }
 {
     let clerk = body::words_text(body, Field::Clerk, 40)?;
     let changes = Changes::new(csv_body::changes(alloc, body)?);
@@ -188,11 +202,11 @@ fn clerk_and_csv(alloc: Global, body: &Value) -> Result<(Words<40>, Changes), As
 }
 
 #[tactic(auto, unfolding(crate::specs::Commands::imported_in))]
-fn import(alloc: Global, body: &[u8]) -> Result<Asked, AskFault>
-    ensures gives { Gives result (imported_in body.now) }
-    ensures memory { WantsMemoryOnlyIf result (MayBeObject body.now) }
+fn import(alloc: Global, body: Result<Value, AskFault>) -> Result<Asked, AskFault>
+    ensures gives { Gives result (imported_in (data_of body)) }
+    ensures memory { WantsMemoryOnlyIf result (MayWant (imported_in (data_of body))) }
 {
-    let body = body::read(alloc, body)?;
+    let body = body?;
     let records = Records::new(csv_body::records(alloc, &body)?);
     Ok(in_json(Command::Import { records }))
 }

@@ -1,8 +1,8 @@
 //! The CSV text of a body, and what its records spell.
-ghost use Rattle.std.specs.Prelude.{◌≡◌, IfOk, IsOk};
+ghost use Rattle.std.specs.Prelude.{◌≡◌};
 ghost use Rattle.std.specs.Result.{result_map_both};
 ghost use Rattle.serde_json.specs.View.{view};
-ghost use Rattle.office_http_requests.specs.Asks.{WantsMemoryOnlyIf};
+ghost use Rattle.office_http_requests.specs.Asks.{MayWant, WantsMemoryOnlyIf};
 ghost use Rattle.office_http_requests.specs.CsvBodies.{csv_in, csv_changes_in, csv_records_in, ask_fault, GivesList};
 
 use crate::body;
@@ -35,8 +35,7 @@ fn text(body: &Value) -> Result<&str, AskFault>
 #[tactic(auto, unfolding(crate::specs::CsvBodies::csv_changes_in))]
 pub(crate) fn changes(alloc: Global, body: &Value) -> Result<Vec<Change>, AskFault>
     ensures gives { GivesList result (csv_changes_in (view body.now)) }
-    ensures found { IfOk result (λ _. IsOk (csv_in (view body.now))) }
-    ensures memory { WantsMemoryOnlyIf result (IsOk (csv_in (view body.now))) }
+    ensures memory { WantsMemoryOnlyIf result (MayWant (csv_changes_in (view body.now))) }
 {
     read_timing_csv(alloc, text(body)?.as_bytes()).map_err(of_file)
 }
@@ -45,7 +44,7 @@ pub(crate) fn changes(alloc: Global, body: &Value) -> Result<Vec<Change>, AskFau
 #[tactic(auto, unfolding(crate::specs::CsvBodies::csv_records_in))]
 pub(crate) fn records(alloc: Global, body: &Value) -> Result<Vec<RecordCommand>, AskFault>
     ensures gives { GivesList result (csv_records_in (view body.now)) }
-    ensures memory { WantsMemoryOnlyIf result (IsOk (csv_in (view body.now))) }
+    ensures memory { WantsMemoryOnlyIf result (MayWant (csv_records_in (view body.now))) }
 {
     read_records_csv(alloc, text(body)?.as_bytes()).map_err(of_file)
 }

@@ -7,7 +7,7 @@ use signal_records::{NoMemory, RowFault};
 use std::alloc::{AllocError, AllocFailed};
 
 /// Why a request asks nothing of the office.
-#[derive(Clone, Copy, Debug, PartialEq, Eq)]
+#[derive(Clone, Copy)]
 pub enum AskFault {
     /// No route has the path.
     NoRoute,

@@ -1,7 +1,7 @@
 //! What a request asks the register to record.
 
 /// What a request asks the register to record.
-#[derive(Clone, Copy, Debug, PartialEq, Eq)]
+#[derive(Clone, Copy)]
 pub enum RecordKind {
     /// An inspection of a cabinet.
     Inspect,

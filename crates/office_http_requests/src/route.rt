@@ -14,7 +14,7 @@ use std::marker::Model;
 use std::str;
 
 /// What a route leads to. Each route has one endpoint, and each endpoint one method.
-#[derive(Clone, Copy, Debug, PartialEq, Eq)]
+#[derive(Clone, Copy)]
 pub enum Endpoint {
     AddIntersection,
     State,

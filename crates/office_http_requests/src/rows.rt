@@ -1,17 +1,17 @@
 //! The rows of a body: an array of arrays of texts, each of which spells a change.
-ghost use Rattle.std.specs.Prelude.{◌≡◌, ◌≢◌, IfOk, IsSome, is_some, option_map, option_and_then};
+ghost use Rattle.std.specs.Prelude.{◌≡◌, ◌++◌, [], ◌∷◌, IfOk, IfErr, is_some, option_map, option_and_then};
 ghost use Rattle.std.specs.List.{list_all};
 ghost use Rattle.serde_json.specs.Find.{get, as_array, as_str};
 ghost use Rattle.serde_json.specs.View.{view, items_view};
-ghost use Rattle.office_http_requests.specs.Asks.{Gives, WantsMemoryOnlyIf};
+ghost use Rattle.office_http_requests.specs.Asks.{Gives, MayWant, WantsMemoryOnlyIf};
 ghost use Rattle.office_http_requests.specs.Fields.{field_name};
-ghost use Rattle.office_http_requests.specs.Rows.{texts_in, rows_in, changes_of, changes_in, ShowsTexts, ShowsRows, rows_seen};
+ghost use Rattle.office_http_requests.specs.Rows.{texts_in, rows_in, changes_of, changes_in, IsRowFault, ShowsTexts, ShowsRows, rows_seen};
 
 use crate::fault::AskFault;
 use crate::field::Field;
 use draft_core::changes::Changes;
 use serde_json::Value;
-use signal_records::{RowFault, read_change};
+use signal_records::{Change, RowFault, read_change};
 use std::alloc::{AllocError, Global};
 
 // The texts of an array that has texts alone.
@@ -56,15 +56,23 @@ fn rows<'a>(alloc: Global, body: &'a Value) -> Result<Option<Vec<Vec<&'a [u8]>>>
     Ok(Some(rows))
 }
 
-// The fault of a row at a place, counted from 1. Want of memory is no fault of the row.
-fn bad_row(at: usize, fault: RowFault) -> AskFault
-    ensures memory { fault ≡ RowFault.NoMemory → result ≡ AskFault.NoMemory }
-    ensures row { fault ≢ RowFault.NoMemory → result ≡ AskFault.BadRow at fault }
+// Keeps the change that was read from the row at a place, counted from 1, or tells that row's fault. Want of memory is
+// told only where the reader of the row told it, or where a good row found no room.
+fn keep(
+    changes: &mut Vec<Change>,
+    at: usize,
+    read: Result<Change, RowFault>,
+) -> Result<(), AskFault>
+    ensures kept { IfOk result (λ _. (change : Change)
+        × (read ≡ Ok change) × (changes.new.items ≡ changes.old.items ++ change ∷ [])) }
+    ensures fault { IfErr result (λ fault. IsRowFault at read fault) }
 {
-    match fault {
-        RowFault::NoMemory => AskFault::NoMemory,
-        _ => AskFault::BadRow { at, fault },
+    match read {
+        Ok(change) => changes.push(change)?,
+        Err(RowFault::NoMemory) => return Err(AskFault::NoMemory),
+        Err(fault) => return Err(AskFault::BadRow { at, fault }),
     }
+    Ok(())
 }
 
 // The changes that rows spell, counted from 1.
@@ -73,10 +81,7 @@ fn changes(alloc: Global, rows: &[Vec<&[u8]>]) -> Result<Changes, AskFault>
 {
     let mut changes = Vec::with_capacity(alloc, rows.len())?;
     for (index, fields) in rows.iter().enumerate() {
-        match read_change(alloc, fields) {
-            Ok(change) => changes.push(change)?,
-            Err(fault) => return Err(bad_row(index + 1, fault)),
-        }
+        keep(&mut changes, index + 1, read_change(alloc, fields))?;
     }
     Ok(Changes::new(changes))
 }
@@ -117,8 +122,7 @@ fn has_rows(body: &Value) -> bool
 #[tactic(auto, unfolding(crate::specs::Rows::changes_in))]
 pub(crate) fn of_body(alloc: Global, body: &Value) -> Result<Changes, AskFault>
     ensures gives { Gives result (changes_in (view body.now)) }
-    ensures found { IfOk result (λ _. IsSome (rows_in (view body.now))) }
-    ensures memory { WantsMemoryOnlyIf result (IsSome (rows_in (view body.now))) }
+    ensures memory { WantsMemoryOnlyIf result (MayWant (changes_in (view body.now))) }
 {
     if !has_rows(body) {
         return Err(AskFault::Field(Field::Rows));

@@ -2,10 +2,12 @@
 use Rattle.std.specs.Prelude.{◌≡◌, ℕ, ◌≤◌, List, [], ◌∷◌, codes, ◌==◌, if◌then◌else◌, unwrap_or}
 use Rattle.serde_json.specs.Data.{Data}
 use Rattle.office_desk.specs.Refusal.{Line}
-use Rattle.office_http_framing.specs.Front.{fault_number}
 use Rattle.office_http_framing.specs.declared.front.Fault.{Fault}
+use Rattle.office_http_framing.specs.declared.front.Fault.TheVariants as framing
 use Rattle.office_http_requests.specs.declared.fault.AskFault.{AskFault}
 use Rattle.office_http_requests.specs.declared.fault.AskFault.TheVariants as ask
+use Rattle.office_http_responses.specs.declared.fault.FaultKind.{FaultKind}
+use Rattle.office_http_responses.specs.declared.fault.FaultKind.TheVariants as kind
 use Rattle.office_http_responses.specs.declared.fault.More.{More}
 use Rattle.office_http_responses.specs.declared.fault.More.TheVariants.{Nothing, Field as FieldMore, Row as RowMore}
 use Rattle.office_http_responses.specs.Answers.{answer_text, unavailable_bytes}
@@ -18,17 +20,28 @@ abbrev pub line : ℕ → List ℕ → ℕ → Line
 line number name status = record { number = number; name = name; status = status }
 
 -- the table of faults: number, name, and status code of an HTTP answer
-abbrev pub fault_line : ℕ → Line
-fault_line n =
-    if n == 1 then line n (codes "Head") 400 else (
-    if n == 2 then line n (codes "HeadTooLarge") 400 else (
-    if n == 3 then line n (codes "Length") 400 else (
-    if n == 4 then line n (codes "BodyTooLarge") 413 else (
-    if n == 5 then line n (codes "Coded") 501 else (
-    if n == 6 then line n (codes "NoRoute") 404 else (
-    if n == 7 then line n (codes "Method") 405 else (
-    if n == 8 then line n (codes "Json") 400 else (
-    if n == 9 then line n (codes "Field") 400 else line n (codes "BadRow") 400))))))))
+abbrev pub line_of : FaultKind → Line
+line_of kind.Head = line 1 (codes "Head") 400
+line_of kind.HeadTooLarge = line 2 (codes "HeadTooLarge") 400
+line_of kind.Length = line 3 (codes "Length") 400
+line_of kind.BodyTooLarge = line 4 (codes "BodyTooLarge") 413
+line_of kind.Coded = line 5 (codes "Coded") 501
+line_of kind.NoRoute = line 6 (codes "NoRoute") 404
+line_of kind.Method = line 7 (codes "Method") 405
+line_of kind.Json = line 8 (codes "Json") 400
+line_of kind.Field = line 9 (codes "Field") 400
+line_of kind.BadRow = line 31 (codes "BadRow") 400
+
+-- the first of these with a number, or BadRow
+abbrev pub first_numbered : ℕ → List FaultKind → FaultKind
+first_numbered n [] = kind.BadRow
+first_numbered n (k ∷ rest) = if n == (line_of k).number then k else first_numbered n rest
+
+-- the fault with a number
+abbrev pub kind_numbered : ℕ → FaultKind
+kind_numbered n = first_numbered n (
+    kind.Head ∷ kind.HeadTooLarge ∷ kind.Length ∷ kind.BodyTooLarge ∷ kind.Coded
+    ∷ kind.NoRoute ∷ kind.Method ∷ kind.Json ∷ kind.Field ∷ [])
 
 -- a fault's number, and what its answer shows more
 abbrev pub IsFault : ℕ → More → Type 0
@@ -37,33 +50,46 @@ IsFault n (FieldMore field) = n ≡ 9
 IsFault n (RowMore at fault) = n ≡ 31
 
 -- the tree of a fault
-abbrev pub fault_tree : ℕ → More → Data
-fault_tree n Nothing = keys ((codes "error", text (fault_line n).name) ∷ (codes "number", count n) ∷ [])
-fault_tree n (FieldMore field) =
-    keys ((codes "error", text (fault_line n).name) ∷ (codes "field", text (field_name field)) ∷ (codes "number", count n) ∷ [])
-fault_tree n (RowMore at fault) =
+abbrev pub fault_tree : FaultKind → More → Data
+fault_tree k Nothing = keys ((codes "error", text (line_of k).name) ∷ (codes "number", count (line_of k).number) ∷ [])
+fault_tree k (FieldMore field) =
     keys (
-    (codes "error", text (fault_line n).name)
+    (codes "error", text (line_of k).name)
+    ∷ (codes "field", text (field_name field))
+    ∷ (codes "number", count (line_of k).number)
+    ∷ []
+    )
+fault_tree k (RowMore at fault) =
+    keys (
+    (codes "error", text (line_of k).name)
     ∷ (codes "fault", text (fault_name fault))
     ∷ (codes "field", count (unwrap_or (fault_field fault) 0))
-    ∷ (codes "number", count n)
+    ∷ (codes "number", count (line_of k).number)
     ∷ (codes "record", count at)
     ∷ []
     )
 
 -- the answer of a fault
-unfoldable pub fault_bytes : ℕ → More → List ℕ
-fault_bytes n more = answer_text (fault_line n).status (fault_tree n more)
+unfoldable pub fault_bytes : FaultKind → More → List ℕ
+fault_bytes k more = answer_text (line_of k).status (fault_tree k more)
+
+-- a fault of a request's framing, among them
+abbrev pub framing_kind : Fault → FaultKind
+framing_kind framing.Head = kind.Head
+framing_kind framing.HeadTooLarge = kind.HeadTooLarge
+framing_kind framing.Length = kind.Length
+framing_kind framing.BodyTooLarge = kind.BodyTooLarge
+framing_kind framing.Coded = kind.Coded
 
 -- the answer of a fault of a request's framing
 abbrev pub framing_fault_text : Fault → List ℕ
-framing_fault_text fault = fault_bytes (fault_number fault) Nothing
+framing_fault_text fault = fault_bytes (framing_kind fault) Nothing
 
 -- the answer of a request that asks nothing
 abbrev pub ask_fault_text : AskFault → List ℕ
-ask_fault_text ask.NoRoute = fault_bytes 6 Nothing
-ask_fault_text ask.Method = fault_bytes 7 Nothing
-ask_fault_text ask.Json = fault_bytes 8 Nothing
-ask_fault_text (ask.Field field) = fault_bytes 9 (FieldMore field)
-ask_fault_text (ask.BadRow at fault) = fault_bytes 31 (RowMore at fault)
+ask_fault_text ask.NoRoute = fault_bytes kind.NoRoute Nothing
+ask_fault_text ask.Method = fault_bytes kind.Method Nothing
+ask_fault_text ask.Json = fault_bytes kind.Json Nothing
+ask_fault_text (ask.Field field) = fault_bytes kind.Field (FieldMore field)
+ask_fault_text (ask.BadRow at fault) = fault_bytes kind.BadRow (RowMore at fault)
 ask_fault_text ask.NoMemory = unavailable_bytes

@@ -2,6 +2,9 @@
 ghost use Rattle.std.specs.Prelude.{◌≡◌, IfOk};
 ghost use Rattle.serde_json.specs.Written.{compact_text};
 ghost use Rattle.office_desk.specs.Refusal.{line_of};
+ghost use Rattle.office_desk.specs.declared.refusal.Refusal.TheVariants.{Damaged};
+ghost use Rattle.office_desk.specs.declared.reply.Reply.TheVariants.{Refused};
+ghost use Rattle.office_http_requests.specs.declared.asked.Form.{Form};
 ghost use Rattle.office_http_responses.specs.Answers.{answer_bytes, status_of, unavailable_bytes};
 ghost use Rattle.office_http_responses.specs.Trees.{tree_in};
 
@@ -17,6 +20,9 @@ use std::alloc::{AllocError, Global};
 const UNAVAILABLE: &[u8] =
     b"HTTP/1.1 503 Service Unavailable\r\nContent-Type: application/json\r\nContent-Length: 35\r\n\r\n{\"error\":\"Unavailable\",\"number\":90}";
 
+const DAMAGED: &[u8] =
+    b"HTTP/1.1 500 Internal Server Error\r\nContent-Type: application/json\r\nContent-Length: 31\r\n\r\n{\"error\":\"Damaged\",\"number\":91}";
+
 /// The room that most contents need.
 pub(crate) const CONTENT_ROOM: usize = 240;
 
@@ -25,6 +31,13 @@ pub fn unavailable() -> &'static [u8]
     ensures { result.now ≡ unavailable_bytes }
 {
     UNAVAILABLE
+}
+
+/// The answer where a stored row is no record, in whichever form. It takes no memory.
+pub fn damaged() -> &'static [u8]
+    ensures { (form : Form) → result.now ≡ answer_bytes (Refused Damaged) form }
+{
+    DAMAGED
 }
 
 /// The answer of a reply in a form, which is for replies that have two: any other is in JSON.

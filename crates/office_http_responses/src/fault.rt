@@ -2,7 +2,7 @@
 ghost use Rattle.std.specs.Prelude.{◌≡◌, ◌≢◌, IfOk};
 ghost use Rattle.serde_json.specs.Written.{compact_text};
 ghost use Rattle.office_http_requests.specs.declared.fault.AskFault.TheVariants.{NoMemory};
-ghost use Rattle.office_http_responses.specs.Faults.{fault_line, fault_tree, fault_bytes, ask_fault_text, framing_fault_text, IsFault};
+ghost use Rattle.office_http_responses.specs.Faults.{line_of, kind_numbered, framing_kind, fault_tree, fault_bytes, ask_fault_text, framing_fault_text, IsFault};
 ghost use Rattle.office_http_responses.specs.Writing.{AddsTree};
 
 use crate::answer::CONTENT_ROOM;
@@ -17,7 +17,7 @@ use signal_records::RowFault;
 use std::alloc::{AllocError, Global};
 
 /// What the answer of a fault shows beside its name and number.
-#[derive(Clone, Copy, Debug, PartialEq, Eq)]
+#[derive(Clone, Copy)]
 pub enum More {
     Nothing,
     Field(Field),
@@ -29,38 +29,98 @@ pub enum More {
     },
 }
 
+/// A fault of a request: of its framing, or of what it asks.
+#[derive(Clone, Copy)]
+pub(crate) enum FaultKind {
+    Head,
+    HeadTooLarge,
+    Length,
+    BodyTooLarge,
+    Coded,
+    NoRoute,
+    Method,
+    Json,
+    Field,
+    BadRow,
+}
+
 // A line of the table of faults.
 #[derive(Clone, Copy)]
 struct FaultLine {
+    number: u32,
     name: &'static str,
     status: StatusCode,
 }
 
-// The line of a number, of which there are ten.
-fn line(number: u32) -> FaultLine
-    ensures name { result.name.now ≡ (fault_line number).name }
-    ensures status { result.status ≡ (fault_line number).status }
-{
-    let (name, status) = match number {
-        1 => ("Head", StatusCode::BAD_REQUEST),
-        2 => ("HeadTooLarge", StatusCode::BAD_REQUEST),
-        3 => ("Length", StatusCode::BAD_REQUEST),
-        4 => ("BodyTooLarge", StatusCode::PAYLOAD_TOO_LARGE),
-        5 => ("Coded", StatusCode::NOT_IMPLEMENTED),
-        6 => ("NoRoute", StatusCode::NOT_FOUND),
-        7 => ("Method", StatusCode::METHOD_NOT_ALLOWED),
-        8 => ("Json", StatusCode::BAD_REQUEST),
-        9 => ("Field", StatusCode::BAD_REQUEST),
-        _ => ("BadRow", StatusCode::BAD_REQUEST),
-    };
-    FaultLine { name, status }
+impl FaultKind {
+    /// Its line of the table: the number and the name by which clients know it, and the status.
+    fn line(self) -> FaultLine
+        ensures number { result.number ≡ (line_of self).number }
+        ensures name { result.name.now ≡ (line_of self).name }
+        ensures status { result.status ≡ (line_of self).status }
+    {
+        let (number, name, status) = match self {
+            FaultKind::Head => (1, "Head", StatusCode::BAD_REQUEST),
+            FaultKind::HeadTooLarge => (2, "HeadTooLarge", StatusCode::BAD_REQUEST),
+            FaultKind::Length => (3, "Length", StatusCode::BAD_REQUEST),
+            FaultKind::BodyTooLarge => (4, "BodyTooLarge", StatusCode::PAYLOAD_TOO_LARGE),
+            FaultKind::Coded => (5, "Coded", StatusCode::NOT_IMPLEMENTED),
+            FaultKind::NoRoute => (6, "NoRoute", StatusCode::NOT_FOUND),
+            FaultKind::Method => (7, "Method", StatusCode::METHOD_NOT_ALLOWED),
+            FaultKind::Json => (8, "Json", StatusCode::BAD_REQUEST),
+            FaultKind::Field => (9, "Field", StatusCode::BAD_REQUEST),
+            FaultKind::BadRow => (31, "BadRow", StatusCode::BAD_REQUEST),
+        };
+        FaultLine {
+            number,
+            name,
+            status,
+        }
+    }
+
+    /// The one with this number in the table, or BadRow.
+    fn numbered(number: u32) -> FaultKind
+        ensures { result ≡ kind_numbered number }
+    {
+        match number {
+            1 => FaultKind::Head,
+            2 => FaultKind::HeadTooLarge,
+            3 => FaultKind::Length,
+            4 => FaultKind::BodyTooLarge,
+            5 => FaultKind::Coded,
+            6 => FaultKind::NoRoute,
+            7 => FaultKind::Method,
+            8 => FaultKind::Json,
+            9 => FaultKind::Field,
+            _ => FaultKind::BadRow,
+        }
+    }
+
+    /// That of a fault of a request's framing.
+    fn of_framing(fault: Fault) -> FaultKind
+        ensures { result ≡ framing_kind fault }
+    {
+        match fault {
+            Fault::Head => FaultKind::Head,
+            Fault::HeadTooLarge => FaultKind::HeadTooLarge,
+            Fault::Length => FaultKind::Length,
+            Fault::BodyTooLarge => FaultKind::BodyTooLarge,
+            Fault::Coded => FaultKind::Coded,
+        }
+    }
 }
 
-fn write_fault(alloc: Global, to: &mut Writer, number: u32, more: More) -> Result<(), AllocError>
-    ensures { AddsTree result to.old to.new (fault_tree number more) }
+fn write_fault(
+    alloc: Global,
+    to: &mut Writer,
+    kind: FaultKind,
+    more: More,
+) -> Result<(), AllocError>
+    ensures { AddsTree result to.old to.new (fault_tree kind more) }
 {
-    let error = Text(line(number).name);
-    let shown = Number(u64::from(number));
+    let line = kind.line();
+    let error = Text(line.name);
+    let shown = Number(u64::from(line.number));
     match more {
         More::Nothing => object(alloc, to, &[("error", error), ("number", shown)]),
         More::Field(field) => object(
@@ -87,21 +147,28 @@ fn write_fault(alloc: Global, to: &mut Writer, number: u32, more: More) -> Resul
 }
 
 // The text of a fault.
-fn content_of_fault(alloc: Global, number: u32, more: More) -> Result<Vec<u8>, AllocError>
-    ensures { IfOk result (λ content. content.items ≡ compact_text (fault_tree number more)) }
+fn content_of_fault(alloc: Global, kind: FaultKind, more: More) -> Result<Vec<u8>, AllocError>
+    ensures { IfOk result (λ content. content.items ≡ compact_text (fault_tree kind more)) }
 {
     let mut to = Writer::new(Vec::with_capacity(alloc, CONTENT_ROOM)?);
-    write_fault(alloc, &mut to, number, more)?;
+    write_fault(alloc, &mut to, kind, more)?;
     Ok(to.into_inner())
 }
 
-/// The answer of a fault, of a request's framing (1 to 5) or of what it asks (6 to 9, and 31).
+// The answer of a fault.
+fn kind_answer(alloc: Global, kind: FaultKind, more: More) -> Result<Vec<u8>, AllocError>
+    ensures { IfOk result (λ answer. answer.items ≡ fault_bytes kind more) }
+{
+    let content = content_of_fault(alloc, kind, more)?;
+    with_head(alloc, kind.line().status, content.as_slice())
+}
+
+/// The answer of a fault by its number: of a request's framing (1 to 5) or of what it asks (6 to 9, and 31).
 pub fn fault_answer(alloc: Global, number: u32, more: More) -> Result<Vec<u8>, AllocError>
     requires { IsFault number more }
-    ensures { IfOk result (λ answer. answer.items ≡ fault_bytes number more) }
+    ensures { IfOk result (λ answer. answer.items ≡ fault_bytes (kind_numbered number) more) }
 {
-    let content = content_of_fault(alloc, number, more)?;
-    with_head(alloc, line(number).status, content.as_slice())
+    kind_answer(alloc, FaultKind::numbered(number), more)
 }
 
 /// The answer of a request that asks nothing. Want of memory has none of its own: that is an error here too.
@@ -109,11 +176,13 @@ pub fn ask_fault_answer(alloc: Global, fault: AskFault) -> Result<Vec<u8>, Alloc
     ensures { IfOk result (λ answer. (fault ≢ NoMemory) × (answer.items ≡ ask_fault_text fault)) }
 {
     match fault {
-        AskFault::NoRoute => fault_answer(alloc, 6, More::Nothing),
-        AskFault::Method => fault_answer(alloc, 7, More::Nothing),
-        AskFault::Json => fault_answer(alloc, 8, More::Nothing),
-        AskFault::Field(field) => fault_answer(alloc, 9, More::Field(field)),
-        AskFault::BadRow { at, fault } => fault_answer(alloc, 31, More::Row { at, fault }),
+        AskFault::NoRoute => kind_answer(alloc, FaultKind::NoRoute, More::Nothing),
+        AskFault::Method => kind_answer(alloc, FaultKind::Method, More::Nothing),
+        AskFault::Json => kind_answer(alloc, FaultKind::Json, More::Nothing),
+        AskFault::Field(field) => kind_answer(alloc, FaultKind::Field, More::Field(field)),
+        AskFault::BadRow { at, fault } => {
+            kind_answer(alloc, FaultKind::BadRow, More::Row { at, fault })
+        }
         AskFault::NoMemory => Err(AllocError),
     }
 }
@@ -122,5 +191,5 @@ pub fn ask_fault_answer(alloc: Global, fault: AskFault) -> Result<Vec<u8>, Alloc
 pub fn framing_fault_answer(alloc: Global, fault: Fault) -> Result<Vec<u8>, AllocError>
     ensures { IfOk result (λ answer. answer.items ≡ framing_fault_text fault) }
 {
-    fault_answer(alloc, u32::from(fault.number()), More::Nothing)
+    kind_answer(alloc, FaultKind::of_framing(fault), More::Nothing)
 }

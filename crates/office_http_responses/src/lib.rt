@@ -11,5 +11,5 @@ mod lists;
 mod reply;
 mod writing;
 
-pub use answer::{answer_of, unavailable};
+pub use answer::{answer_of, damaged, unavailable};
 pub use fault::{More, ask_fault_answer, fault_answer, framing_fault_answer};

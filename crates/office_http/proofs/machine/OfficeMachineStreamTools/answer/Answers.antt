@@ -1,21 +1,22 @@
-use Rattle.std.proofs.Common.{inl, inr, sym, subst, ℕ, List, Vec, Global}
+use Rattle.std.proofs.Common.{inl, inr, sym, subst, ℕ, List}
 use Rattle.std.specs.Prelude.{IfOk, Result}
 use Rattle.office_desk.specs.Office.{Office}
 use Rattle.office_desk.specs.StandFor.{StandForSound}
 use Rattle.office_http_requests.specs.declared.asked.Asked.{Asked}
 use Rattle.office_http_requests.specs.declared.fault.AskFault.{AskFault}
+use Rattle.office_http_framing.specs.Protocol.{bytes_of}
 use Rattle.office_http.specs.Protocol.{AnswersRead}
 use Rattle.office_http.proofs.MachineLemmas.{answers_fault, on_ok, settles_same}
 use Rattle.office_http.proofs.machine.OfficeMachineStreamTools.answer.Goals as goal
 
 pub returns-in-Ok-clause-ok : goal.returns-in-Ok-clause-ok
 returns-in-Ok-clause-ok g c = λ honest before stands.
-    subst (λ (read : Result Asked AskFault). IfOk c.answer_asked.result (λ answer. (x : Office) × StandForSound (g.S.Shelf.content c.answer_asked.new.office) x × AnswersRead read before answer.items x))
+    subst (λ (read : Result Asked AskFault). IfOk c.answer_asked.result (λ answer. (x : Office) × StandForSound (g.S.Shelf.content c.answer_asked.new.office) x × AnswersRead read before (bytes_of answer) x))
     (sym c.in-Ok.ensures.gives) (c.answer_asked.ensures.ok honest before stands)
 
 pub returns-in-Err-clause-ok : goal.returns-in-Err-clause-ok
 returns-in-Err-clause-ok g c = λ honest before stands.
-    answers_fault (λ (answer : Vec ℕ Global). answer.items) c.answer_fault.result _ c.in-Err.fault (g.S.Shelf.content c.args.self.now) before stands c.in-Err.ensures.gives c.answer_fault.ensures
+    answers_fault bytes_of c.answer_fault.result _ c.in-Err.fault (g.S.Shelf.content c.args.self.now) before stands c.in-Err.ensures.gives c.answer_fault.ensures
 
 pub returns-in-Ok-clause-crash : goal.returns-in-Ok-clause-crash
 returns-in-Ok-clause-crash g c = λ tables may.

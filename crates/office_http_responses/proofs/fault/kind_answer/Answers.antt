@@ -1,5 +1,5 @@
 use Rattle.office_http_responses.specs.Faults.{fault_bytes}
-use Rattle.office_http_responses.proofs.fault.fault_answer.Goals as goal
+use Rattle.office_http_responses.proofs.fault.kind_answer.Goals as goal
 
 pub returns : goal.returns
 unfolding fault_bytes

@@ -1,0 +1,102 @@
+-- A request's command, by what was told of its body.
+use Rattle.std.proofs.Common.{◌≡◌, ◌≢◌, ◌⊎◌, ℕ, List, Bool, true, Result, Ok, Err, inl, inr, refl, sym, ap, subst, bytes_eq}
+use Rattle.serde_json.specs.Data.{Data}
+use Rattle.serde_json.specs.View.{view}
+use Rattle.serde_json.specs.declared.value.Value.{Value}
+use Rattle.office_http_requests.specs.Asks.{◌>>=◌, or_no_route, Gives, MayWant, WantsMemoryOnlyIf}
+use Rattle.office_http_requests.specs.Bodies.{data_of}
+use Rattle.office_http_requests.specs.Commands.{asked_at, added_intersection, command_with, edited_by_csv, edited_in, id_and_clerk_in, imported_in}
+use Rattle.office_http_requests.specs.Paths.{id_at, order_at}
+use Rattle.office_http_requests.specs.Recording.{received_in, recorded_at}
+use Rattle.office_http_requests.specs.Routes.{endpoint_of, method_of}
+use Rattle.office_http_requests.specs.declared.asked.Asked.{Asked}
+use Rattle.office_http_requests.specs.declared.fault.AskFault.{AskFault}
+use Rattle.office_http_requests.specs.declared.fault.AskFault.TheVariants.{NoRoute, Method, Json, Field, BadRow, NoMemory}
+use Rattle.office_http_requests.specs.declared.kind.RecordKind.{RecordKind}
+use Rattle.office_http_requests.specs.declared.kind.RecordKind.TheVariants.{Inspect, OpenOrder, UsePart, CloseOrder, Receive}
+use Rattle.office_http_requests.specs.declared.route.Endpoint.{Endpoint}
+use Rattle.office_http_requests.specs.declared.route.Endpoint.TheVariants.{AddIntersection, State, Timing, TimingCsv, Draft, Begin, Edit, EditCsv, Verify, Check, Commit, Reopen, Abandon, Record, Import, Cabinet, CabinetCsv, OpenOrders, Stock, Overdue}
+
+gives-refl : {A : Type 0} (r : Result A AskFault) → Gives r r
+gives-refl (Ok x) = refl
+gives-refl (Err fault) = λ _. refl
+
+pub gives-trans : {A : Type 0} (r m w : Result A AskFault) → Gives r m → Gives m w → Gives r w
+gives-trans (Ok x) m w first second = subst (λ k. Gives k w) first second
+gives-trans (Err fault) m w first second = λ other. subst (λ k. Gives k w) (first other) second other
+
+gives-bind : {A B : Type 0} (r w : Result A AskFault) (next : A → Result B AskFault) → Gives r w → Gives (r >>= next) (w >>= next)
+gives-bind (Ok x) w next gives = subst (λ k. Gives (next x) (k >>= next)) (sym gives) (gives-refl (next x))
+gives-bind (Err fault) w next gives = λ other. ap (λ k. k >>= next) (gives other)
+
+after : {A B : Type 0} (first : Result A AskFault) (r w : A → Result B AskFault) → ((x : A) → Gives (r x) (w x)) → Gives (first >>= r) (first >>= w)
+after (Ok x) r w each = each x
+after (Err fault) r w each = λ _. refl
+
+-- want of memory is in place of anything
+unread : {A : Type 0} (w : Result A AskFault) → Gives (Err NoMemory) w
+unread w = λ other. absurd (other refl)
+
+recorded-unread : (kind : RecordKind) (path : List ℕ) (w : Result Data AskFault) → Gives (recorded_at kind path (Err NoMemory)) (recorded_at kind path w)
+unfolding recorded_at received_in
+recorded-unread Inspect path w = after (id_at path) _ _ (λ id. unread _)
+recorded-unread OpenOrder path w = after (id_at path) _ _ (λ id. unread _)
+recorded-unread UsePart path w = after (id_at path) _ _ (λ id. after (order_at path) _ _ (λ order. unread _))
+recorded-unread CloseOrder path w = after (id_at path) _ _ (λ id. after (order_at path) _ _ (λ order. unread _))
+recorded-unread Receive path w = unread _
+
+clerk-unread : (path : List ℕ) (w : Result Data AskFault) → Gives (id_and_clerk_in path (Err NoMemory)) (id_and_clerk_in path w)
+unfolding id_and_clerk_in
+clerk-unread path w = after (id_at path) _ _ (λ id. unread _)
+
+-- where want of memory was told of a body, that is told of its request; or the body is not asked for
+pub asked-unread : (endpoint : Endpoint) (path : List ℕ) (w : Result Data AskFault) → Gives (asked_at endpoint path (Err NoMemory)) (asked_at endpoint path w)
+unfolding asked_at added_intersection edited_in edited_by_csv imported_in
+asked-unread AddIntersection path w = unread _
+asked-unread State path w = gives-refl _
+asked-unread Timing path w = gives-refl _
+asked-unread TimingCsv path w = gives-refl _
+asked-unread Draft path w = gives-refl _
+asked-unread Begin path w = gives-bind _ _ _ (clerk-unread path w)
+asked-unread Edit path w = after (id_at path) _ _ (λ id. unread _)
+asked-unread EditCsv path w = after (id_at path) _ _ (λ id. unread _)
+asked-unread Verify path w = gives-bind _ _ _ (clerk-unread path w)
+asked-unread Check path w = gives-bind _ _ _ (clerk-unread path w)
+asked-unread Commit path w = gives-bind _ _ _ (clerk-unread path w)
+asked-unread Reopen path w = gives-bind _ _ _ (clerk-unread path w)
+asked-unread Abandon path w = gives-bind _ _ _ (clerk-unread path w)
+asked-unread (Record kind) path w = gives-bind _ _ _ (recorded-unread kind path w)
+asked-unread Import path w = unread _
+asked-unread Cabinet path w = gives-refl _
+asked-unread CabinetCsv path w = gives-refl _
+asked-unread OpenOrders path w = gives-refl _
+asked-unread Stock path w = refl
+asked-unread Overdue path w = gives-refl _
+
+module _ (ask : Result Data AskFault → Result Asked AskFault) where
+  -- what is asked by what was told of a body is what is asked by the body
+  pub gives-read : (told : Result Value AskFault) (w : Result Data AskFault) → Gives (ask (Err NoMemory)) (ask w) → Gives (data_of told) w → Gives (ask (data_of told)) (ask w)
+  gives-read (Ok value) w unread gives = subst (λ k. Gives (ask (Ok (view value))) (ask k)) (sym gives) (gives-refl _)
+  gives-read (Err NoMemory) w unread gives = unread
+  gives-read (Err NoRoute) w unread gives = subst (λ k. Gives (ask (Err NoRoute)) (ask k)) (sym (gives (λ e. cc))) (gives-refl _)
+  gives-read (Err Method) w unread gives = subst (λ k. Gives (ask (Err Method)) (ask k)) (sym (gives (λ e. cc))) (gives-refl _)
+  gives-read (Err Json) w unread gives = subst (λ k. Gives (ask (Err Json)) (ask k)) (sym (gives (λ e. cc))) (gives-refl _)
+  gives-read (Err (Field field)) w unread gives = subst (λ k. Gives (ask (Err (Field field))) (ask k)) (sym (gives (λ e. cc))) (gives-refl _)
+  gives-read (Err (BadRow at fault)) w unread gives = subst (λ k. Gives (ask (Err (BadRow at fault))) (ask k)) (sym (gives (λ e. cc))) (gives-refl _)
+
+  -- want of memory is told in place of what is asked by the body, or it was told of the body
+  pub wants-read : (told : Result Value AskFault) (w : Result Data AskFault) (P : Type 0) → Gives (data_of told) w → WantsMemoryOnlyIf told P → MayWant (ask (data_of told))
+      → MayWant (ask w) ⊎ (P × MayWant (ask (Err NoMemory)))
+  wants-read (Ok value) w P gives only wants = inl (subst (λ k. MayWant (ask k)) (sym gives) wants)
+  wants-read (Err NoMemory) w P gives only wants = inr (only refl, wants)
+  wants-read (Err NoRoute) w P gives only wants = inl (subst (λ k. MayWant (ask k)) (sym (gives (λ e. cc))) wants)
+  wants-read (Err Method) w P gives only wants = inl (subst (λ k. MayWant (ask k)) (sym (gives (λ e. cc))) wants)
+  wants-read (Err Json) w P gives only wants = inl (subst (λ k. MayWant (ask k)) (sym (gives (λ e. cc))) wants)
+  wants-read (Err (Field field)) w P gives only wants = inl (subst (λ k. MayWant (ask k)) (sym (gives (λ e. cc))) wants)
+  wants-read (Err (BadRow at fault)) w P gives only wants = inl (subst (λ k. MayWant (ask k)) (sym (gives (λ e. cc))) wants)
+
+-- a request with a route and its method asks what its endpoint does
+pub command_with-at : (method path : List ℕ) (endpoint : Endpoint) (read : Result Data AskFault) → or_no_route (endpoint_of path) ≡ Ok endpoint → bytes_eq method (method_of endpoint) ≡ true
+    → command_with method path read ≡ asked_at endpoint path read
+unfolding command_with
+command_with-at method path endpoint read found allows = rw (found, allows) refl
