@@ -89,10 +89,11 @@ def other_files(folder):
 
 def versions(folder):
     path = office(folder, "version.db")
-    with sqlite3.connect(path) as db:
-        db.execute("UPDATE office_version SET version = 9")
-    db.close()
-    refused("another version", path, b"fault: version\n")
+    for version in (1, 9):
+        with sqlite3.connect(path) as db:
+            db.execute("UPDATE office_version SET version = ?", (version,))
+        db.close()
+        refused(f"tables of version {version}", path, b"fault: version\n")
     with sqlite3.connect(path) as db:
         db.execute("DELETE FROM office_version")
     db.close()
