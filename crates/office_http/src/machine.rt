@@ -27,7 +27,8 @@ pub(crate) struct StreamTools {
     pub(crate) routes: RouteCache,
 }
 
-/// The whole answer to a reply. That a stored row is no record is always told: its text takes no memory.
+/// The whole answer to a reply. That a stored row is no record is always told: its text takes no
+/// memory.
 fn answer_to(alloc: Global, reply: &Reply, form: Form) -> Result<Answer, Unavailable>
     ensures told { IfOk result (λ _. reply.now ≢ Reply.Refused Refusal.Unavailable) }
     ensures text { IfOk result (λ answer. bytes_of answer ≡ answer_bytes reply.now form) }

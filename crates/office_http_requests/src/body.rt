@@ -34,8 +34,8 @@ fn opens_object(bytes: &[u8]) -> bool
     false
 }
 
-// What is told of a body by what the reader of JSON answered for its bytes. The reader may tell want of memory of
-// any text: it is told on only where it was told, and only of bytes that open an object.
+// What is told of a body by what the reader of JSON answered for its bytes. The reader may tell want
+// of memory of any text: it is told on only where it was told, and only of bytes that open an object.
 fn object_of(read: Result<Value, Error>, bytes: &[u8]) -> Result<Value, AskFault>
     ensures { IsTold read (opens bytes.now) result }
 {
@@ -57,8 +57,8 @@ pub(crate) fn given(alloc: Global, bytes: &[u8]) -> Result<Value, AskFault>
     read(alloc, bytes)
 }
 
-// The object that the bytes of a body are. Want of memory is told of no bytes that can't be an object:
-// they are Json, however many they are.
+// The object that the bytes of a body are. Want of memory is told of no bytes that can't be an
+// object: they are Json, however many they are.
 // Reading needs a large local: a request without a body is not to pay for it.
 #[inline(never)]
 fn read(alloc: Global, bytes: &[u8]) -> Result<Value, AskFault>

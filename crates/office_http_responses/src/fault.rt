@@ -163,7 +163,8 @@ fn kind_answer(alloc: Global, kind: FaultKind, more: More) -> Result<Vec<u8>, Al
     with_head(alloc, kind.line().status, content.as_slice())
 }
 
-/// The answer of a fault by its number: of a request's framing (1 to 5) or of what it asks (6 to 9, and 31).
+/// The answer of a fault by its number: of a request's framing (1 to 5) or of what it asks (6 to 9,
+/// and 31).
 pub fn fault_answer(alloc: Global, number: u32, more: More) -> Result<Vec<u8>, AllocError>
     requires { IsFault number more }
     ensures { IfOk result (λ answer. answer.items ≡ fault_bytes (kind_numbered number) more) }

@@ -179,7 +179,8 @@ fn claim_empty<S: Alter>(conn: &mut Connection<S>, fault: OpenFault) -> Result<(
     Ok(())
 }
 
-/// Sees that today's version is stored, or stores it where no table has a row. New tables have none.
+/// Sees that today's version is stored, or stores it where no table has a row. New tables have no
+/// row.
 pub(crate) fn claim<S: Alter>(conn: &mut Connection<S>, is_new: bool) -> Result<(), OpenFault>
     requires { IsOffice (state S.Store conn.old) }
     ensures office { IsOffice (state S.Store conn.new) }

@@ -1,4 +1,5 @@
-//! The rules V1 to V14 of a timing set: which of them a set breaks, and which subjects a change touches.
+//! The rules V1 to V14 of a timing set: which of them a set breaks, and which subjects a change
+//! touches.
 //!
 //! The objects are those of NTCIP 1202 v03, and the kinds of interval limits are after MUTCD 2009,
 //! part 4, sections 4D.26 and 4E.06; the numbers are this project's. `specs/` has the definitions,
