@@ -34,8 +34,9 @@ fn opens_object(bytes: &[u8]) -> bool
     false
 }
 
-// What is told of a body by what the reader of JSON answered for its bytes. The reader may tell want
-// of memory of any text: it is told on only where it was told, and only of bytes that open an object.
+// What is told of a body by what the reader of JSON answered for its bytes. The reader may tell
+// want of memory of any text: it is told on only where it was told, and only of bytes that open an
+// object.
 fn object_of(read: Result<Value, Error>, bytes: &[u8]) -> Result<Value, AskFault>
     ensures { IsTold read (opens bytes.now) result }
 {

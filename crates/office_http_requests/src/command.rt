@@ -59,8 +59,8 @@ fn asked(
     body: Result<Value, AskFault>,
 ) -> Result<Asked, AskFault>
     ensures gives { Gives result (asked_at endpoint path.now (data_of body)) }
-    // No key of the body is told as want of memory: it is told only where it was told of the body, or
-    // where a command, or a bad row, takes memory.
+    // No key of the body is told as want of memory: it is told only where it was told of the body,
+    // or where a command, or a bad row, takes memory.
     ensures memory { WantsMemoryOnlyIf result (
         (method_of endpoint ≡ codes "POST") × MayWant (asked_at endpoint path.now (data_of body))) }
 {

@@ -12,8 +12,8 @@ use cabinet_core::RecordCommand;
 use serde_json::Value;
 use std::alloc::Global;
 
-/// The command of a kind, or the first fault: a field of the path from the left, that of the body as
-/// it was read, a key of the body by name.
+/// The command of a kind, or the first fault: a field of the path from the left, that of the body
+/// as it was read, a key of the body by name.
 #[tactic(auto, unfolding(crate::specs::Recording::recorded_at))]
 pub(crate) fn command_of(
     alloc: Global,

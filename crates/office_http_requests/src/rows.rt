@@ -56,8 +56,9 @@ fn rows<'a>(alloc: Global, body: &'a Value) -> Result<Option<Vec<Vec<&'a [u8]>>>
     Ok(Some(rows))
 }
 
-// Keeps the change that was read from the row at a place, counted from 1, or tells that row's fault.
-// Want of memory is told only where the reader of the row told it, or where a good row found no room.
+// Keeps the change that was read from the row at a place, counted from 1, or tells that row's
+// fault. Want of memory is told only where the reader of the row told it, or where a good row found
+// no room.
 fn keep(
     changes: &mut Vec<Change>,
     at: usize,
