@@ -1,8 +1,8 @@
 pub mod Refusal
 pub mod Lists
-pub mod Office
+pub use Rattle.office_tables_shelf.specs.Office
 pub mod Step
-pub mod StandFor
+pub use Rattle.office_tables_shelf.specs.StandFor
 pub mod Timing
 pub mod RegisterRuns
 pub mod Repeats

@@ -1,6 +1,6 @@
-pub mod Register
+pub use Rattle.office_tables_shelf.specs.Register
 pub mod RegisterStep
-pub mod RegisterStands
+pub use Rattle.office_tables_shelf.specs.RegisterStands
 pub mod RegisterDamage
 pub mod Puts
 pub mod Registers

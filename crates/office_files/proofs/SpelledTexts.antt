@@ -22,14 +22,14 @@ phase_texts : (p : ℕ) (phase : Phase) → AreTexts (phase_front p phase)
 phase_texts p phase =
     (IsUtf8-decimal p, (IsUtf8-decimal phase.ring, (IsUtf8-decimal phase.min_green, (IsUtf8-decimal phase.passage, (IsUtf8-decimal phase.max1, (IsUtf8-decimal phase.yellow, (IsUtf8-decimal phase.red, (IsUtf8-list phase.mates, tt))))))))
 
-ped_texts : (ped : Option Ped) → AreTexts (ped_fields current_limits ped)
+ped_texts : (ped : Option Ped) → AreTexts (ped_fields true ped)
 ped_texts None = tt
 ped_texts (Some ped) =
     (IsUtf8-decimal ped.walk, (IsUtf8-decimal ped.clear, (IsUtf8-decimal ped.width, (IsUtf8-decimal ped.setback, (IsUtf8-decimal (if ped.short then 1 else 0), (IsUtf8-decimal ped.lead, tt))))))
 
 pub row_texts : (r : Row) → IsRowWithin current_limits r → AreTexts (spelling current_limits r)
 row_texts (row.Phase p phase) within =
-    (IsUtf8-low (codes "phase") refl, AreTexts-append (phase_front p phase) (ped_fields current_limits phase.ped) (phase_texts p phase) (ped_texts phase.ped))
+    (IsUtf8-low (codes "phase") refl, AreTexts-append (phase_front p phase) (ped_fields true phase.ped) (phase_texts p phase) (ped_texts phase.ped))
 row_texts (row.Seq n ring r) within =
     (IsUtf8-low (codes "seq") refl, (IsUtf8-decimal n, (IsUtf8-decimal ring, (IsUtf8-list r.list, tt))))
 row_texts (row.Split n p split) within =

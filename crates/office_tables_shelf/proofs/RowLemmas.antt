@@ -82,7 +82,7 @@ list_plain last ns small h = phases_plain last ns small (and_parts (list_all (is
 abbrev ArePlain : List (List ℕ) → Type 0
 ArePlain = AllByRecursion (λ field. is_plain field ≡ true)
 
-ped_plain : (ped : Option Ped) → IsAnyPedWithin ped → ArePlain (ped_fields current_limits ped)
+ped_plain : (ped : Option Ped) → IsAnyPedWithin true ped → ArePlain (ped_fields true ped)
 ped_plain None within = tt
 ped_plain (Some ped) within =
     (number_plain ped.walk (omega arith), (number_plain ped.clear (omega arith), (number_plain ped.width (omega arith), (number_plain ped.setback (omega arith), (flag_plain ped.short, (number_plain ped.lead (omega arith), tt))))))
@@ -98,13 +98,13 @@ row_plain (row.Phase p phase) within = (
         number_plain phase.min_green (omega arith),
         (
           number_plain phase.passage (omega arith),
-          (number_plain phase.max1 (omega arith), (number_plain phase.yellow (omega arith), (number_plain phase.red (omega arith), (list_plain 16 phase.mates (omega arith) within.mates, ped_plain phase.ped within.ped)))),
+          (number_plain phase.max1 (omega arith), (number_plain phase.yellow (omega arith), (number_plain phase.red (omega arith), (list_plain current_limits.phases phase.mates (omega arith) within.mates, ped_plain phase.ped within.ped)))),
         ),
       ),
     ),
   ),
 )
-row_plain (row.Seq n ring r) within = (refl, (number_plain n (omega arith), (number_plain ring (omega arith), (list_plain 16 r.list (omega arith) within.1.1, tt))))
+row_plain (row.Seq n ring r) within = (refl, (number_plain n (omega arith), (number_plain ring (omega arith), (list_plain current_limits.phases r.list (omega arith) within.1.1, tt))))
 row_plain (row.Split n p split) within =
     (refl, (number_plain n (omega arith), (number_plain p (omega arith), (number_plain split.time (omega arith), (mode_plain split.mode, (flag_plain split.coord, tt))))))
 row_plain (row.Pattern n pattern) within =
@@ -127,7 +127,7 @@ cut_again x [] h = slice_split_none is_comma x (no_commas x h.0)
 cut_again x (y ∷ ys) h = slice_split_at is_comma x 44 (join_with_byte 44 (y ∷ ys)) (no_commas x h.0) refl ∙ ap (λ rest. x ∷ rest) (cut_again y ys h.1)
 
 row_cut : (r : Row) → IsRowWithin current_limits r → slice_split is_comma (body_of r) ≡ spelling current_limits r
-unfolding body_of
+unfolding body_in
 row_cut (row.Phase p phase) within = cut_again _ _ (row_plain (row.Phase p phase) within)
 row_cut (row.Seq n ring r) within = cut_again _ _ (row_plain (row.Seq n ring r) within)
 row_cut (row.Split n p split) within = cut_again _ _ (row_plain (row.Split n p split) within)

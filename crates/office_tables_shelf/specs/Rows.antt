@@ -6,6 +6,7 @@ use Rattle.signal_records.specs.Spelling.{spelling}
 use Rattle.signal_records.specs.Within.{current_limits}
 use Rattle.signal_records.specs.Words.{AreWords}
 use Rattle.signal_records.specs.declared.key.Key.{Key}
+use Rattle.signal_records.specs.declared.limits.Limits.{Limits}
 use Rattle.signal_records.specs.declared.record.Row.{Row}
 use Rattle.signal_records.specs.declared.record.Change.{Change}
 use Rattle.draft_core.specs.declared.state.Stage.{Stage}
@@ -44,17 +45,27 @@ intersection_columns row =
 abbrev pub timing_key : ℕ → Key → List Cell
 timing_key id key = number (pos id) ∷ number (pos (kind_of key)) ∷ number (pos (first_of key)) ∷ number (pos (second_of key)) ∷ []
 
--- the fields of a row with a comma between
-unfoldable pub body_of : Row → List ℕ
-body_of row = join_with_byte 44 (spelling current_limits row)
+-- the fields of a row, as the version with these limits spells them, with a comma between
+unfoldable pub body_in : Limits → Row → List ℕ
+body_in limits row = join_with_byte 44 (spelling limits row)
+
+-- the same in today's version
+abbrev pub body_of : Row → List ℕ
+body_of row = body_in current_limits row
+
+abbrev pub timing_columns_in : Limits → Row → List Cell
+timing_columns_in limits row = text (body_in limits row) ∷ []
 
 abbrev pub timing_columns : Row → List Cell
-timing_columns row = text (body_of row) ∷ []
+timing_columns = timing_columns_in current_limits
 
 -- what a draft row leaves at its key; null is a removal
+abbrev pub left_columns_in : Limits → Option Row → List Cell
+left_columns_in limits None = null ∷ []
+left_columns_in limits (Some row) = timing_columns_in limits row
+
 abbrev pub left_columns : Option Row → List Cell
-left_columns None = null ∷ []
-left_columns (Some row) = timing_columns row
+left_columns = left_columns_in current_limits
 
 abbrev pub draft_key : ℕ → Change → List Cell
 draft_key id change = timing_key id (changed_key change)

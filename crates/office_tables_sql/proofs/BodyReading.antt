@@ -131,7 +131,7 @@ joined_ascii (x ∷ y ∷ xs) h =
 abbrev are_whole : List (List ℕ) → Bool
 are_whole = list_all is_whole
 
-ped_whole : (ped : Option Ped) → IsAnyPedWithin ped → are_whole (ped_fields current_limits ped) ≡ true
+ped_whole : (ped : Option Ped) → IsAnyPedWithin true ped → are_whole (ped_fields true ped) ≡ true
 ped_whole None within = refl
 ped_whole (Some ped) within =
     let walk = within.walk in
@@ -161,7 +161,7 @@ phase_whole p phase within =
       decimal_whole phase.red (omega arith),
       list_whole phase.mates within.mates,
     ) refl in
-    list_all-append is_whole (codes "phase" ∷ phase_front p phase) (ped_fields current_limits phase.ped) ∙ and_from _ _ front (ped_whole phase.ped within.ped)
+    list_all-append is_whole (codes "phase" ∷ phase_front p phase) (ped_fields true phase.ped) ∙ and_from _ _ front (ped_whole phase.ped within.ped)
 
 row_whole : (r : Row) → IsRowWithin current_limits r → are_whole (spelling current_limits r) ≡ true
 row_whole (row.Phase p phase) within = phase_whole p phase within
@@ -190,17 +190,17 @@ cut_spelling (row.Pattern n pattern) h = cut_joined (codes "pattern") _ h
 
 -- a row's text, cut at the commas, gives its fields
 pub fields_back : (r : Row) → IsRowWithin current_limits r → slice_split is_comma (body_of r) ≡ spelling current_limits r
-unfolding body_of
+unfolding body_in
 fields_back r within = cut_spelling r (row_whole r within)
 
 -- fields that were cut at the commas are those of a text
 pub body_back : (r : Row) (bytes : List ℕ) → slice_split is_comma bytes ≡ spelling current_limits r → body_of r ≡ bytes
-unfolding body_of
+unfolding body_in
 body_back r bytes same = ap (join_with_byte 44) (sym same) ∙ join_with_byte-slice_split 44 bytes
 
 -- a row's text is ASCII
 pub body_ascii : (r : Row) → IsRowWithin current_limits r → list_all is_ascii (body_of r) ≡ true
-unfolding body_of
+unfolding body_in
 body_ascii r within = joined_ascii (spelling current_limits r) (row_whole r within)
 
 all_below : (bs : List ℕ) → list_all is_ascii bs ≡ true → (i : ℕ) → slice_index bs i < 128

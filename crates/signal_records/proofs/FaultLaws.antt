@@ -11,7 +11,7 @@ use Rattle.signal_records.specs.declared.record.Row.{Row}
 use Rattle.signal_records.specs.declared.record.Change.{Change}
 use Rattle.signal_records.specs.declared.record.Change.TheVariants as change
 use Rattle.signal_records.specs.RowFault.{is_timing_fault}
-use Rattle.signal_records.specs.Reading.{◌>>=◌, text_at, number_of, number_at, flag_of, flag_at, mode_in, mode_at, parts, phases_in, or_no_list, list_of, list_at, some_ped, ped_record, ped_at, phase_record, seq_record, split_record, pattern_record, counted, row_at, phase_key, seq_key, split_key, pattern_key, key_at, removal_at, put_at, change_at, Gives}
+use Rattle.signal_records.specs.Reading.{◌>>=◌, text_at, number_of, number_at, flag_of, flag_at, mode_in, mode_at, parts, phases_in, or_no_list, list_of, list_at, some_ped, ped_width, lead_in, ped_record, ped_at, phase_record, seq_record, split_record, pattern_record, counted, row_at, phase_key, seq_key, split_key, pattern_key, key_at, removal_at, put_at, change_at, Gives}
 
 -- no answer, or one of the faults of timing rows
 unfoldable pub IsTiming : {X : Type 0} → Result X RowFault → Type 0
@@ -70,15 +70,20 @@ list_then last place fields f next = bind_timing (list_of last place (text_at pl
 
 -- rows
 
-ped_timing : (fields : List (List ℕ)) → IsTiming (ped_record fields)
+lead_timing : (has_lead : Bool) (fields : List (List ℕ)) → IsTiming (lead_in has_lead fields)
+unfolding lead_in number_at
+lead_timing true fields = number_timing 0 10 15 (text_at 15 fields)
+lead_timing false fields = ok_timing 0
+
+ped_timing : (has_lead : Bool) (fields : List (List ℕ)) → IsTiming (ped_record has_lead fields)
 unfolding ped_record number_at flag_at
-ped_timing fields =
+ped_timing has_lead fields =
     number_then 0 255 10 fields _ (λ walk.
     number_then 0 255 11 fields _ (λ clear.
     number_then 0 9999 12 fields _ (λ width.
     number_then 0 999 13 fields _ (λ setback.
     flag_then 14 fields _ (λ short.
-    number_then 0 10 15 fields _ (λ lead. ok_timing _))))))
+    bind_timing (lead_in has_lead fields) _ (lead_timing has_lead fields) (λ lead. ok_timing _))))))
 
 some_timing : (r : Result Ped RowFault) → IsTiming r → IsTiming (some_ped r)
 some_timing (Ok ped) h = ok_timing (Some ped)
@@ -86,7 +91,7 @@ some_timing (Err e) h = fault_timing _ e (fault_is _ e h)
 
 any_ped_timing : (limits : Limits) (fields : List (List ℕ)) → IsTiming (ped_at limits fields)
 unfolding ped_at
-any_ped_timing limits fields = if_timing (eqb (length fields) (9 + limits.ped_columns)) (some_ped (ped_record fields)) (Ok None) (some_timing (ped_record fields) (ped_timing fields)) (ok_timing None)
+any_ped_timing limits fields = if_timing (eqb (length fields) (9 + ped_width limits.has_lead)) (some_ped (ped_record limits.has_lead fields)) (Ok None) (some_timing (ped_record limits.has_lead fields) (ped_timing limits.has_lead fields)) (ok_timing None)
 
 phase_timing : (limits : Limits) (fields : List (List ℕ)) → IsTiming (phase_record limits fields)
 unfolding phase_record number_at list_at
@@ -131,7 +136,7 @@ unfolding row_at
 row_timing limits [] = fault_timing _ fault.Kind refl
 row_timing limits (kind ∷ rest) =
     let fields = kind ∷ rest in
-    if_timing (bytes_eq kind (codes "phase")) _ _ (counted_timing (eqb (length fields) 9 || eqb (length fields) (9 + limits.ped_columns)) (phase_record limits fields) (phase_timing limits fields)) (
+    if_timing (bytes_eq kind (codes "phase")) _ _ (counted_timing (eqb (length fields) 9 || eqb (length fields) (9 + ped_width limits.has_lead)) (phase_record limits fields) (phase_timing limits fields)) (
     if_timing (bytes_eq kind (codes "seq")) _ _ (counted_timing (eqb (length fields) 4) (seq_record limits fields) (seq_timing limits fields)) (
     if_timing (bytes_eq kind (codes "split")) _ _ (counted_timing (eqb (length fields) 6) (split_record limits fields) (split_timing limits fields)) (
     if_timing (bytes_eq kind (codes "pattern")) _ _ (counted_timing (eqb (length fields) 6) (pattern_record fields) (pattern_timing fields)) (fault_timing _ fault.Kind refl))))

@@ -55,7 +55,7 @@ fn byte(n: u8) -> u8
 }
 
 fn ped_is_within(ped: &Option<Ped>)
-    ensures { IsAnyPedWithin ped.now }
+    ensures { IsAnyPedWithin current_limits.has_lead ped.now }
 {
     if let Some(ped) = ped {
         let _crossing = (

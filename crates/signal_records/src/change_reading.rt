@@ -102,7 +102,6 @@ fn removal_within(limits: Limits, fields: &[&[u8]]) -> Result<Change, RowFault>
 fn put_within(alloc: Global, limits: Limits, fields: &[&[u8]]) -> Result<Change, RowFault>
     requires phases { limits.phases ≤ PHASES }
     requires rings { limits.rings ≤ RINGS }
-    requires ped_columns { limits.ped_columns ≡ 6 }
     ensures { Gives result (put_at limits (texts fields.now)) }
 {
     let row = row_within(alloc, limits, fields)?;
@@ -118,7 +117,6 @@ pub(crate) fn change_within(
 ) -> Result<Change, RowFault>
     requires phases { limits.phases ≤ PHASES }
     requires rings { limits.rings ≤ RINGS }
-    requires ped_columns { limits.ped_columns ≡ 6 }
     ensures { Gives result (change_at limits (texts fields.now)) }
 {
     if fields.is_empty() || fields[0] != b"remove".as_slice() {

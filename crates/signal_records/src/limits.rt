@@ -1,5 +1,8 @@
 //! What the versions of the row grammar differ in.
 
+ghost use Rattle.std.specs.Prelude.{◌≡◌};
+ghost use Rattle.signal_records.specs.Reading.{ped_width};
+
 use crate::number::{PHASES, RINGS};
 
 /// The limits of a version of the rows.
@@ -9,12 +12,29 @@ pub(crate) struct Limits {
     pub phases: u32,
     /// The last ring.
     pub rings: u32,
-    /// How many fields a pedestrian part has.
-    pub ped_columns: usize,
+    /// Whether a pedestrian part has a lead.
+    pub has_lead: bool,
 }
 
+impl Limits {
+    /// How many fields a pedestrian part has.
+    pub(crate) fn ped_width(self) -> usize
+        ensures { result ≡ ped_width self.has_lead }
+    {
+        if self.has_lead { 6 } else { 5 }
+    }
+}
+
+/// The limits of today's version.
 pub(crate) const CURRENT_LIMITS: Limits = Limits {
     phases: PHASES,
     rings: RINGS,
-    ped_columns: 6,
+    has_lead: true,
+};
+
+/// The limits of version 1, which knew no leading pedestrian interval.
+pub(crate) const VERSION_1_LIMITS: Limits = Limits {
+    phases: 16,
+    rings: 4,
+    has_lead: false,
 };

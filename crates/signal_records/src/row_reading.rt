@@ -1,26 +1,40 @@
 //! Rows from their fields.
 
-ghost use Rattle.std.specs.Prelude.{◌≡◌, ◌≤◌, length};
+ghost use Rattle.std.specs.Prelude.{◌≡◌, ◌≤◌, ◌+◌, length};
 ghost use Rattle.signal_records.specs.declared.number.TheConstants.{PHASES, RINGS};
-ghost use Rattle.signal_records.specs.Reading.{Gives, texts, ped_record, ped_at, phase_record, seq_record, split_record, pattern_record, row_at};
+ghost use Rattle.signal_records.specs.Reading.{Gives, texts, ped_width, lead_in, ped_record, ped_at, phase_record, seq_record, split_record, pattern_record, row_at};
 
 use crate::fault::RowFault;
 use crate::field_reading::{byte, flag, list, mode, number, number_up_to};
 use crate::limits::Limits;
+use crate::number::{Lead, no_lead};
 use crate::record::{Pattern, Ped, Phase, Row, SeqRow, Split};
 use std::alloc::Global;
 
+/// The lead at its place; without a field for it, it is 0.
+#[tactic(auto, unfolding(crate::specs::Reading::lead_in))]
+fn lead(limits: Limits, fields: &[&[u8]]) -> Result<Lead, RowFault>
+    requires { length fields.now ≡ 9 + ped_width limits.has_lead }
+    ensures { Gives result (lead_in limits.has_lead (texts fields.now)) }
+{
+    if limits.has_lead {
+        number(fields, 15)
+    } else {
+        Ok(no_lead())
+    }
+}
+
 #[tactic(auto, unfolding(crate::specs::Reading::ped_record))]
-fn ped_record(fields: &[&[u8]]) -> Result<Ped, RowFault>
-    requires { length fields.now ≡ 15 }
-    ensures { Gives result (ped_record (texts fields.now)) }
+fn ped_record(limits: Limits, fields: &[&[u8]]) -> Result<Ped, RowFault>
+    requires { length fields.now ≡ 9 + ped_width limits.has_lead }
+    ensures { Gives result (ped_record limits.has_lead (texts fields.now)) }
 {
     let walk = byte(fields, 10)?;
     let clear = byte(fields, 11)?;
     let width = number(fields, 12)?;
     let setback = number(fields, 13)?;
     let short = flag(fields, 14)?;
-    let lead = number(fields, 15)?;
+    let lead = lead(limits, fields)?;
     Ok(Ped {
         walk,
         clear,
@@ -33,11 +47,10 @@ fn ped_record(fields: &[&[u8]]) -> Result<Ped, RowFault>
 
 #[tactic(auto, unfolding(crate::specs::Reading::ped_at))]
 fn ped(limits: Limits, fields: &[&[u8]]) -> Result<Option<Ped>, RowFault>
-    requires { limits.ped_columns ≡ 6 }
     ensures { Gives result (ped_at limits (texts fields.now)) }
 {
-    if fields.len() == 9 + limits.ped_columns {
-        let ped = ped_record(fields)?;
+    if fields.len() == 9 + limits.ped_width() {
+        let ped = ped_record(limits, fields)?;
         Ok(Some(ped))
     } else {
         Ok(None)
@@ -48,7 +61,6 @@ fn ped(limits: Limits, fields: &[&[u8]]) -> Result<Option<Ped>, RowFault>
 fn phase_record(alloc: Global, limits: Limits, fields: &[&[u8]]) -> Result<Row, RowFault>
     requires phases { limits.phases ≤ PHASES }
     requires rings { limits.rings ≤ RINGS }
-    requires ped_columns { limits.ped_columns ≡ 6 }
     requires count { 9 ≤ length fields.now }
     ensures { Gives result (phase_record limits (texts fields.now)) }
 {
@@ -129,14 +141,13 @@ fn pattern_record(fields: &[&[u8]]) -> Result<Row, RowFault>
 pub(crate) fn row_within(alloc: Global, limits: Limits, fields: &[&[u8]]) -> Result<Row, RowFault>
     requires phases { limits.phases ≤ PHASES }
     requires rings { limits.rings ≤ RINGS }
-    requires ped_columns { limits.ped_columns ≡ 6 }
     ensures { Gives result (row_at limits (texts fields.now)) }
 {
     let Some(kind) = fields.first() else {
         return Err(RowFault::Kind);
     };
     if *kind == b"phase".as_slice() {
-        if fields.len() != 9 && fields.len() != 9 + limits.ped_columns {
+        if fields.len() != 9 && fields.len() != 9 + limits.ped_width() {
             return Err(RowFault::Count);
         }
         phase_record(alloc, limits, fields)

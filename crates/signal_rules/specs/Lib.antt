@@ -10,3 +10,4 @@ pub mod Starts
 pub mod Counts
 pub mod Difference
 pub mod Texts
+pub mod BeforeLead

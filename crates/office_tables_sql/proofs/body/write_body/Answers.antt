@@ -4,5 +4,5 @@ use Rattle.office_tables_shelf.specs.Rows.{body_of}
 use Rattle.office_tables_sql.proofs.body.write_body.Goals as goal
 
 pub returns : goal.returns
-unfolding body_of
+unfolding body_in
 returns c = c.in_ok-joined.ensures ∙ ap (join_with_byte 44) (c.as_slice.ensures ∙ c.in_ok-fields.ensures.spelled)

@@ -3,17 +3,17 @@ use Rattle.std.specs.Prelude.{◌≡◌, ℕ, List, Option, Some, None, IfSome}
 use Rattle.std.specs.Option.{option_map}
 use Rattle.std.specs.FinMap.{entries, get}
 use Rattle.signal_records.specs.Row.{key_of}
-use Rattle.signal_records.specs.Within.{IsRowWithin, IsKeyWithin, current_limits}
+use Rattle.signal_records.specs.Within.{IsRowWithin, IsKeyWithin}
 use Rattle.signal_records.specs.declared.key.Key.{Key}
 use Rattle.signal_records.specs.declared.record.Row.{Row}
 use Rattle.draft_core.specs.Transaction.{holder_of}
 use Rattle.draft_core.specs.DraftRows.{RowStands}
 use Rattle.office_tables_shelf.specs.Cells.{Cell, Rows, tree_rows}
 use Rattle.office_tables_shelf.specs.Content.{Content}
-use Rattle.office_tables_shelf.specs.Rows.{intersection_key, intersection_columns, timing_key, timing_columns, left_columns}
+use Rattle.office_tables_shelf.specs.Rows.{intersection_key, intersection_columns, timing_key, timing_columns_in, left_columns_in}
 use Rattle.office_tables_shelf.specs.declared.rows.IntersectionRow.{IntersectionRow}
-use Rattle.office_desk_cabinet.specs.RegisterStands.{RegisterStands}
-use Rattle.office_desk.specs.Office.{Office, Intersection, IsSound, side_at}
+use Rattle.office_tables_shelf.specs.RegisterStands.{RegisterStands}
+use Rattle.office_tables_shelf.specs.Office.{Office, Intersection, Version, IsSoundIn, side_at, today}
 
 -- the row of an intersection
 abbrev pub row_of : Intersection → IntersectionRow
@@ -35,27 +35,39 @@ abbrev pub HasTimingKeys : Rows → Type 0
 HasTimingKeys rows = (cells columns : List Cell) → get rows cells ≡ Some columns → IsTimingKey cells
 
 -- a draft row keeps a row within its limits, under its own key, or the removal of a key
+abbrev pub IsLeftIn : Version → Key → Option Row → Type 0
+IsLeftIn v key None = IsKeyWithin v.limits key
+IsLeftIn v key (Some row) = IsRowWithin v.limits row × (key_of row ≡ key)
+
 abbrev pub IsLeft : Key → Option Row → Type 0
-IsLeft key None = IsKeyWithin current_limits key
-IsLeft key (Some row) = IsRowWithin current_limits row × (key_of row ≡ key)
+IsLeft = IsLeftIn today
 
 -- the draft row that stands at a key, in the form of a draft
-pub record DraftRowStands (tables : Content) (office : Office) (id : ℕ) (key : Key) : Type 0 where
+pub record DraftRowStandsIn (v : Version) (tables : Content) (office : Office) (id : ℕ) (key : Key) : Type 0 where
   pub row : Option (Option Row)
-  pub stored : get tables.draft (timing_key id key) ≡ option_map left_columns row
+  pub stored : get tables.draft (timing_key id key) ≡ option_map (left_columns_in v.limits) row
   pub stands : RowStands (get (side_at office id).committed key) row (side_at office id).draft key
-  pub within : IfSome row (IsLeft key)
+  pub within : IfSome row (IsLeftIn v key)
 
--- the tables hold the rows of the office, and no others
-pub record StandFor (tables : Content) (office : Office) : Type 0 where
+abbrev pub DraftRowStands : Content → Office → ℕ → Key → Type 0
+DraftRowStands = DraftRowStandsIn today
+
+-- the tables hold the rows of the office as a version writes them, and no others
+pub record StandForIn (v : Version) (tables : Content) (office : Office) : Type 0 where
   pub intersection : tables.intersection ≡ intersection_rows office
-  pub timing : (id : ℕ) (key : Key) → get tables.timing (timing_key id key) ≡ option_map timing_columns (get (side_at office id).committed key)
+  pub timing : (id : ℕ) (key : Key) → get tables.timing (timing_key id key) ≡ option_map (timing_columns_in v.limits) (get (side_at office id).committed key)
   pub timing_keys : HasTimingKeys tables.timing
-  pub draft : (id : ℕ) (key : Key) → DraftRowStands tables office id key
+  pub draft : (id : ℕ) (key : Key) → DraftRowStandsIn v tables office id key
   pub draft_keys : HasTimingKeys tables.draft
   pub register : RegisterStands tables office.register
 
--- the tables stand for a sound office
-pub record StandForSound (tables : Content) (office : Office) : Type 0 where
-  pub stand : StandFor tables office
-  pub sound : IsSound office
+abbrev pub StandFor : Content → Office → Type 0
+StandFor = StandForIn today
+
+-- the tables of a version stand for an office that is sound in it
+pub record StandForSoundIn (v : Version) (tables : Content) (office : Office) : Type 0 where
+  pub stand : StandForIn v tables office
+  pub sound : IsSoundIn v office
+
+abbrev pub StandForSound : Content → Office → Type 0
+StandForSound = StandForSoundIn today

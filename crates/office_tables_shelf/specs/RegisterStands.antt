@@ -5,7 +5,7 @@ use Rattle.std.specs.FinMap.{get}
 use Rattle.office_tables_shelf.specs.Cells.{Cell}
 use Rattle.office_tables_shelf.specs.Content.{Content}
 use Rattle.office_tables_shelf.specs.CabinetRows.{inspection_columns, order_columns, used_columns, delivery_columns, part_key, part_columns}
-use Rattle.office_desk_cabinet.specs.Register.{Register, IsSoundRegister, hand_of}
+use Rattle.office_tables_shelf.specs.Register.{Register, IsSoundRegister, hand_of}
 
 -- the cells are the key of a part's row
 abbrev pub IsPartKey : List Cell → Type 0
