@@ -1,5 +1,5 @@
 -- No field of a row has a comma, so its text, cut at the commas, gives the fields back.
-use Rattle.std.proofs.Common.{◌≡◌, Result, Ok, ℕ, zero, suc, subst, ◌^◌, ◌<◌, Bool, true, false, eqb, List, [], ◌∷◌, ◌++◌, map, Option, Some, None, refl, sym, ap, ◌∙◌, arith}
+use Rattle.std.proofs.Common.{◌≡◌, Result, Ok, ℕ, zero, suc, subst, ◌^◌, ◌<◌, ◌≤◌, Bool, true, false, eqb, List, [], ◌∷◌, ◌++◌, map, Option, Some, None, refl, sym, ap, ◌∙◌, arith}
 use Rattle.std.specs.Prelude.{codes, slice_index, nat_le, not, ◌&&◌, IsTrue}
 use Rattle.std.specs.Char.{is_ascii, is_ascii_digit}
 use Rattle.std.specs.Fmt.{decimal}
@@ -19,15 +19,17 @@ use Rattle.signal_records.specs.declared.record.Row.TheVariants as row
 use Rattle.signal_records.specs.PhaseList.{is_phase, is_phase_list, is_distinct}
 use Rattle.signal_records.specs.Reading.{is_numeral, row_at}
 use Rattle.signal_records.specs.declared.fault.RowFault.{RowFault}
-use Rattle.signal_records.specs.Spelling.{list, flag, ped_fields, phase_front, phase_fields, spelling}
+use Rattle.signal_records.specs.Spelling.{list, flag, lead_field, ped_fields, phase_front, phase_fields, spelling}
 use Rattle.signal_records.specs.SplitMode.{mode_code}
-use Rattle.signal_records.specs.Within.{current_limits, IsAnyPedWithin, IsPhaseWithin, IsRowWithin}
+use Rattle.signal_records.specs.declared.limits.Limits.{Limits}
+use Rattle.signal_records.specs.declared.number.TheConstants.{PHASES}
+use Rattle.signal_records.specs.Within.{AreLimits, current_limits, most_lead, IsAnyPedWithin, IsPhaseWithin, IsRowWithin}
 use Rattle.signal_records.proofs.FieldLaws.{numeral_decimal, in_range}
 use Rattle.signal_records.proofs.RowLaws.{row_only, are_current}
 use Rattle.sqlite.specs.declared.types.Value.{Value}
 use Rattle.sqlite.specs.declared.types.Value.TheVariants.{Null, Int, Real, Text, Blob}
 use Rattle.office_tables_shelf.specs.Cells.{Cell, text}
-use Rattle.office_tables_shelf.specs.Rows.{body_of, timing_columns}
+use Rattle.office_tables_shelf.specs.Rows.{body_in, body_of, timing_columns}
 use Rattle.office_tables_sql.specs.Stored.{cell_of}
 
 abbrev pub is_comma : ℕ → Bool
@@ -103,15 +105,15 @@ spaced_whole (x ∷ y ∷ xs) h =
     let p = and_parts (is_whole x) (list_all is_whole (y ∷ xs)) h in
     list_all-append is_plain x (32 ∷ join_with_byte 32 (y ∷ xs)) ∙ and_from _ _ p.0 (spaced_whole (y ∷ xs) p.1)
 
-phases_whole : (ns : List ℕ) → list_all (is_phase current_limits.phases) ns ≡ true → list_all is_whole (map decimal ns) ≡ true
-phases_whole [] h = refl
-phases_whole (n ∷ ns) h =
-    let p = and_parts (is_phase current_limits.phases n) (list_all (is_phase current_limits.phases) ns) h in
-    let top = (in_range 1 current_limits.phases n p.0).1 in
-    and_from _ _ (decimal_whole n (omega arith)) (phases_whole ns p.1)
+phases_whole : (last : ℕ) (ns : List ℕ) → last ≤ PHASES → list_all (is_phase last) ns ≡ true → list_all is_whole (map decimal ns) ≡ true
+phases_whole last [] small h = refl
+phases_whole last (n ∷ ns) small h =
+    let p = and_parts (is_phase last n) (list_all (is_phase last) ns) h in
+    let top = (in_range 1 last n p.0).1 in
+    and_from _ _ (decimal_whole n (omega arith)) (phases_whole last ns small p.1)
 
-list_whole : (ns : List ℕ) → IsTrue (is_phase_list current_limits.phases ns) → is_whole (list ns) ≡ true
-list_whole ns h = spaced_whole (map decimal ns) (phases_whole ns (and_parts (list_all (is_phase current_limits.phases) ns) (is_distinct ns) h).0)
+list_whole : (last : ℕ) (ns : List ℕ) → last ≤ PHASES → IsTrue (is_phase_list last ns) → is_whole (list ns) ≡ true
+list_whole last ns small h = spaced_whole (map decimal ns) (phases_whole last ns small (and_parts (list_all (is_phase last) ns) (is_distinct ns) h).0)
 
 whole_ascii : (bs : List ℕ) → is_whole bs ≡ true → list_all is_ascii bs ≡ true
 whole_ascii [] h = refl
@@ -131,18 +133,23 @@ joined_ascii (x ∷ y ∷ xs) h =
 abbrev are_whole : List (List ℕ) → Bool
 are_whole = list_all is_whole
 
-ped_whole : (ped : Option Ped) → IsAnyPedWithin true ped → are_whole (ped_fields true ped) ≡ true
-ped_whole None within = refl
-ped_whole (Some ped) within =
+lead_whole : (has_lead : Bool) (lead : ℕ) → lead ≤ most_lead has_lead → are_whole (lead_field has_lead lead) ≡ true
+lead_whole true lead most = and_from _ _ (decimal_whole lead (omega arith)) refl
+lead_whole false lead most = refl
+
+ped_whole : (has_lead : Bool) (ped : Option Ped) → IsAnyPedWithin has_lead ped → are_whole (ped_fields has_lead ped) ≡ true
+ped_whole has_lead None within = refl
+ped_whole has_lead (Some ped) within =
     let walk = within.walk in
     let clear = within.clear in
     let width = within.width in
     let setback = within.setback in
-    let lead = within.lead in
-    rw (decimal_whole ped.walk (omega arith), decimal_whole ped.clear (omega arith), decimal_whole ped.width (omega arith), decimal_whole ped.setback (omega arith), flag_whole ped.short, decimal_whole ped.lead (omega arith)) refl
+    rw (decimal_whole ped.walk (omega arith), decimal_whole ped.clear (omega arith), decimal_whole ped.width (omega arith), decimal_whole ped.setback (omega arith), flag_whole ped.short, lead_whole has_lead ped.lead within.lead) refl
 
-phase_whole : (p : ℕ) (phase : Phase) → IsPhaseWithin current_limits p phase → are_whole (codes "phase" ∷ phase_fields current_limits p phase) ≡ true
-phase_whole p phase within =
+phase_whole : (limits : Limits) (p : ℕ) (phase : Phase) → AreLimits limits → IsPhaseWithin limits p phase → are_whole (codes "phase" ∷ phase_fields limits p phase) ≡ true
+phase_whole limits p phase are within =
+    let phases = are.phases in
+    let rings = are.rings in
     let number = within.number.1 in
     let ring = within.ring.1 in
     let min_green = within.min_green in
@@ -159,22 +166,24 @@ phase_whole p phase within =
       decimal_whole phase.max1 (omega arith),
       decimal_whole phase.yellow (omega arith),
       decimal_whole phase.red (omega arith),
-      list_whole phase.mates within.mates,
+      list_whole limits.phases phase.mates are.phases within.mates,
     ) refl in
-    list_all-append is_whole (codes "phase" ∷ phase_front p phase) (ped_fields true phase.ped) ∙ and_from _ _ front (ped_whole phase.ped within.ped)
+    list_all-append is_whole (codes "phase" ∷ phase_front p phase) (ped_fields limits.has_lead phase.ped) ∙ and_from _ _ front (ped_whole limits.has_lead phase.ped within.ped)
 
-row_whole : (r : Row) → IsRowWithin current_limits r → are_whole (spelling current_limits r) ≡ true
-row_whole (row.Phase p phase) within = phase_whole p phase within
-row_whole (row.Seq n ring r) within =
+row_whole : (limits : Limits) (r : Row) → AreLimits limits → IsRowWithin limits r → are_whole (spelling limits r) ≡ true
+row_whole limits (row.Phase p phase) are within = phase_whole limits p phase are within
+row_whole limits (row.Seq n ring r) are within =
+    let rings = are.rings in
     let n_top = within.0.1 in
     let ring_top = within.1.0.1 in
-    rw (decimal_whole n (omega arith), decimal_whole ring (omega arith), list_whole r.list within.1.1) refl
-row_whole (row.Split n p split) within =
+    rw (decimal_whole n (omega arith), decimal_whole ring (omega arith), list_whole limits.phases r.list are.phases within.1.1) refl
+row_whole limits (row.Split n p split) are within =
+    let phases = are.phases in
     let n_top = within.number.1 in
     let p_top = within.phase.1 in
     let time = within.time in
     rw (decimal_whole n (omega arith), decimal_whole p (omega arith), decimal_whole split.time (omega arith), mode_whole split.mode, flag_whole split.coord) refl
-row_whole (row.Pattern n pattern) within =
+row_whole limits (row.Pattern n pattern) are within =
     let n_top = within.number.1 in
     let cycle = within.cycle.1 in
     let offset = within.offset in
@@ -182,26 +191,26 @@ row_whole (row.Pattern n pattern) within =
     let seq = within.seq.1 in
     rw (decimal_whole n (omega arith), decimal_whole pattern.cycle (omega arith), decimal_whole pattern.offset (omega arith), decimal_whole pattern.split (omega arith), decimal_whole pattern.seq (omega arith)) refl
 
-cut_spelling : (r : Row) → are_whole (spelling current_limits r) ≡ true → slice_split is_comma (join_with_byte 44 (spelling current_limits r)) ≡ spelling current_limits r
-cut_spelling (row.Phase p phase) h = cut_joined (codes "phase") _ h
-cut_spelling (row.Seq n ring r) h = cut_joined (codes "seq") _ h
-cut_spelling (row.Split n p split) h = cut_joined (codes "split") _ h
-cut_spelling (row.Pattern n pattern) h = cut_joined (codes "pattern") _ h
+cut_spelling : (limits : Limits) (r : Row) → are_whole (spelling limits r) ≡ true → slice_split is_comma (join_with_byte 44 (spelling limits r)) ≡ spelling limits r
+cut_spelling limits (row.Phase p phase) h = cut_joined (codes "phase") _ h
+cut_spelling limits (row.Seq n ring r) h = cut_joined (codes "seq") _ h
+cut_spelling limits (row.Split n p split) h = cut_joined (codes "split") _ h
+cut_spelling limits (row.Pattern n pattern) h = cut_joined (codes "pattern") _ h
 
 -- a row's text, cut at the commas, gives its fields
-pub fields_back : (r : Row) → IsRowWithin current_limits r → slice_split is_comma (body_of r) ≡ spelling current_limits r
+pub fields_back : (limits : Limits) (r : Row) → AreLimits limits → IsRowWithin limits r → slice_split is_comma (body_in limits r) ≡ spelling limits r
 unfolding body_in
-fields_back r within = cut_spelling r (row_whole r within)
+fields_back limits r are within = cut_spelling limits r (row_whole limits r are within)
 
 -- fields that were cut at the commas are those of a text
-pub body_back : (r : Row) (bytes : List ℕ) → slice_split is_comma bytes ≡ spelling current_limits r → body_of r ≡ bytes
+pub body_back : (limits : Limits) (r : Row) (bytes : List ℕ) → slice_split is_comma bytes ≡ spelling limits r → body_in limits r ≡ bytes
 unfolding body_in
-body_back r bytes same = ap (join_with_byte 44) (sym same) ∙ join_with_byte-slice_split 44 bytes
+body_back limits r bytes same = ap (join_with_byte 44) (sym same) ∙ join_with_byte-slice_split 44 bytes
 
 -- a row's text is ASCII
-pub body_ascii : (r : Row) → IsRowWithin current_limits r → list_all is_ascii (body_of r) ≡ true
+pub body_ascii : (limits : Limits) (r : Row) → AreLimits limits → IsRowWithin limits r → list_all is_ascii (body_in limits r) ≡ true
 unfolding body_in
-body_ascii r within = joined_ascii (spelling current_limits r) (row_whole r within)
+body_ascii limits r are within = joined_ascii (spelling limits r) (row_whole limits r are within)
 
 all_below : (bs : List ℕ) → list_all is_ascii bs ≡ true → (i : ℕ) → slice_index bs i < 128
 all_below [] h i = omega arith
@@ -209,24 +218,24 @@ all_below (b ∷ bs) h zero = let first : is_ascii b ≡ true = (and_parts (is_a
 all_below (b ∷ bs) h (suc i) = all_below bs (and_parts (is_ascii b) _ h).1 i
 
 -- a value that has the cell of a row's text reads as a text
-pub body_readable : (r : Row) → IsRowWithin current_limits r → (v : Value) → cell_of v ≡ text (body_of r) → (t : List ℕ) × (v ≡ Text t) × IsUtf8 t
-body_readable r within Null e = absurd cc
-body_readable r within (Int n) e = absurd cc
-body_readable r within (Real x) e = absurd cc
-body_readable r within (Blob b) e = absurd cc
-body_readable r within (Text t) e =
-    let same : t ≡ body_of r = cc in
-    (t, refl, subst IsUtf8 (sym same) (IsUtf8-from_ascii (body_of r) (all_below (body_of r) (body_ascii r within))))
+pub body_readable : (limits : Limits) (r : Row) → AreLimits limits → IsRowWithin limits r → (v : Value) → cell_of v ≡ text (body_in limits r) → (t : List ℕ) × (v ≡ Text t) × IsUtf8 t
+body_readable limits r are within Null e = absurd cc
+body_readable limits r are within (Int n) e = absurd cc
+body_readable limits r are within (Real x) e = absurd cc
+body_readable limits r are within (Blob b) e = absurd cc
+body_readable limits r are within (Text t) e =
+    let same : t ≡ body_in limits r = cc in
+    (t, refl, subst IsUtf8 (sym same) (IsUtf8-from_ascii (body_in limits r) (all_below (body_in limits r) (body_ascii limits r are within))))
 
 abbrev read_as : Row → Result Row RowFault
 read_as r = Ok r
 
 -- a text is that of one row
-same_row : (a b : Row) → IsRowWithin current_limits a → IsRowWithin current_limits b → body_of a ≡ body_of b → a ≡ b
-same_row a b one two same =
-    let spelled : spelling current_limits a ≡ spelling current_limits b = sym (fields_back a one) ∙ ap (slice_split is_comma) same ∙ fields_back b two in
-    let read : read_as a ≡ read_as b = sym (row_only current_limits a are_current one) ∙ ap (row_at current_limits) spelled ∙ row_only current_limits b are_current two in
+pub same_row : (limits : Limits) (a b : Row) → AreLimits limits → IsRowWithin limits a → IsRowWithin limits b → body_in limits a ≡ body_in limits b → a ≡ b
+same_row limits a b are one two same =
+    let spelled : spelling limits a ≡ spelling limits b = sym (fields_back limits a are one) ∙ ap (slice_split is_comma) same ∙ fields_back limits b are two in
+    let read : read_as a ≡ read_as b = sym (row_only limits a are one) ∙ ap (row_at limits) spelled ∙ row_only limits b are two in
     cc
 
 pub same_stored : (cell : Cell) (a b : Row) → IsRowWithin current_limits a → IsRowWithin current_limits b → cell ∷ [] ≡ timing_columns a → cell ≡ text (body_of b) → a ≡ b
-same_stored cell a b one two first second = let same : body_of a ≡ body_of b = cc in same_row a b one two same
+same_stored cell a b one two first second = let same : body_of a ≡ body_of b = cc in same_row current_limits a b are_current one two same

@@ -7,20 +7,20 @@ pub mod WriteLemmas
 pub mod ContentLemmas
 pub mod RemoveLemmas
 mod BodyLemmas
-mod BodyReading
-mod KeyReading
+pub mod BodyReading
+pub mod KeyReading
 pub mod ListLemmas
 pub mod ListedLemmas
 mod FirstColumn
-mod TableLemmas
+pub mod TableLemmas
 pub mod Casts
 mod UpdateLemmas
 pub mod InsertLemmas
-mod StoredLists
+pub mod StoredLists
 mod StoredFinds
 mod StoredCounts
 mod StoredPuts
 mod EachLemmas
 mod CodeReading
 mod CheckLemmas
-mod KeyReads
+pub mod KeyReads

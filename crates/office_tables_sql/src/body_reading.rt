@@ -26,7 +26,7 @@ pub fn row_of_body(alloc: Global, body: &[u8]) -> Result<Option<Row>, NoMemory>
 }
 
 /// The fields between commas; there is one at least.
-fn fields_of(alloc: Global, body: &[u8]) -> Result<Vec<&[u8]>, AllocError>
+pub fn fields_of(alloc: Global, body: &[u8]) -> Result<Vec<&[u8]>, AllocError>
     ensures { IfOk result (λ fields. texts fields.items ≡ slice_split (λ b. b == 44) body.now) }
 {
     body.split(|b| *b == 44).collect(alloc)

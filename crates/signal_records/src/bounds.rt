@@ -1,12 +1,13 @@
 //! What the types of the records keep, told to callers: every row and change is within today's
 //! limits, so that what is written of it is read back.
 
-ghost use Rattle.std.specs.Prelude.{◌≡◌, ◌≤◌, IsTrue};
+ghost use Rattle.std.specs.Prelude.{◌≡◌, ◌≤◌, ◌↔◌, IsTrue};
 ghost use Rattle.std.specs.Int.{IsInRange};
 ghost use Rattle.signal_records.specs.PhaseList.{is_phase_list};
-ghost use Rattle.signal_records.specs.Within.{current_limits, IsAnyPedWithin, IsPhaseWithin, IsSplitWithin, IsPatternWithin, IsRowWithin, IsKeyWithin, IsChangeWithin};
+ghost use Rattle.signal_records.specs.Within.{current_limits, version_1_limits, IsAnyPedWithin, IsPhaseWithin, IsSplitWithin, IsPatternWithin, IsRowWithin, IsKeyWithin, IsChangeWithin};
 
 use crate::key::Key;
+use crate::limits::VERSION_1_LIMITS;
 use crate::number::{PatternNo, PhaseNo, RingNo, SeqNo, SplitNo};
 use crate::record::{Change, Pattern, Ped, Phase, Row, SeqRow, Split};
 
@@ -26,6 +27,18 @@ pub fn row_is_within(row: &Row)
 pub fn key_is_within(_key: Key)
     ensures { IsKeyWithin current_limits _key }
 {}
+
+/// Whether version 1 had the key: phases go to 16 there, and rings to 4.
+pub fn is_key_v1(key: Key) -> bool
+    ensures { IsTrue result ↔ IsKeyWithin version_1_limits key }
+{
+    match key {
+        Key::Phase(p) => p.get() <= VERSION_1_LIMITS.phases,
+        Key::Seq(_, ring) => ring.get() <= VERSION_1_LIMITS.rings,
+        Key::Split(_, p) => p.get() <= VERSION_1_LIMITS.phases,
+        Key::Pattern(_) => true,
+    }
+}
 
 /// Every change is within today's limits.
 pub fn change_is_within(change: &Change)

@@ -7,7 +7,7 @@ use crate::number::{PHASES, RINGS};
 
 /// The limits of a version of the rows.
 #[derive(Clone, Copy)]
-pub(crate) struct Limits {
+pub struct Limits {
     /// The last phase.
     pub phases: u32,
     /// The last ring.

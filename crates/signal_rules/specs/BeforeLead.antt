@@ -1,5 +1,5 @@
 -- The rules of version 1 of the tables, before the leading pedestrian interval: V1 to V13, with the need of a phase as it was. No lead is looked at.
-use Rattle.std.specs.Prelude.{ℕ, ◌+◌, ◌*◌, ◌==◌, max, nat_le, Bool, true, false, ◌&&◌, ◌||◌, List, [], ◌∷◌, Option, Some, None}
+use Rattle.std.specs.Prelude.{◌≡◌, ℕ, ◌+◌, ◌*◌, ◌==◌, max, nat_le, Bool, false, ◌&&◌, ◌||◌, List, [], ◌∷◌, Option, Some, None, IfSome}
 use Rattle.std.specs.List.{flat_map}
 use Rattle.signal_records.specs.declared.record.Ped.{Ped}
 use Rattle.signal_records.specs.declared.record.Phase.{Phase}
@@ -16,6 +16,10 @@ use Rattle.signal_rules.specs.Lookup.{phase_at, split_at, pattern_at, has_sequen
 use Rattle.signal_rules.specs.PhaseRules.{yellow_is_right, red_is_right, walk_is_long, clears_crossing, clears_setback, where_walked, mates_agree}
 use Rattle.signal_rules.specs.SplitRule.{time_fits_mode, coordination_is_right}
 use Rattle.signal_rules.specs.Violations.{Findings, for_sequence, for_pattern, broken, subjects}
+
+-- a phase, if there is one, has no lead
+abbrev pub HasNoLead : Option Phase → Type 0
+HasNoLead phase = IfSome phase (λ (p : Phase). IfSome p.ped (λ ped. ped.lead ≡ 0))
 
 -- the walk that a split mode calls for, in seconds: both pedestrian recalls do
 abbrev pub walk_called : Option Ped → SplitMode → ℕ

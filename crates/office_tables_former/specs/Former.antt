@@ -1,0 +1,74 @@
+-- The rows of version 1 in the cells of `timing` and `draft`, and what is put in their place.
+use Rattle.std.specs.Prelude.{◌≡◌, ◌≢◌, ℕ, Bool, true, false, if◌then◌else◌, List, [], ◌∷◌, map, Option, Some, is_some}
+use Rattle.std.specs.Int.{IsInRange}
+use Rattle.std.specs.List.{AllByRecursion}
+use Rattle.std.specs.FinMap.{get, entries}
+use Rattle.sqlite.specs.Order.{Row as SqlRow}
+use Rattle.signal_records.specs.Row.{key_of}
+use Rattle.signal_records.specs.Within.{IsRowWithin, IsChangeWithin, version_1_limits}
+use Rattle.signal_records.specs.declared.record.Row.{Row}
+use Rattle.signal_records.specs.declared.record.Row.TheVariants as row
+use Rattle.signal_records.specs.declared.record.Change.{Change}
+use Rattle.signal_records.specs.declared.record.Change.TheVariants.{Put, Remove}
+use Rattle.draft_core.specs.DraftRows.{left_by}
+use Rattle.office_tables_shelf.specs.Cells.{Cell, Rows}
+use Rattle.office_tables_shelf.specs.Rows.{timing_key, timing_columns_in, draft_key, left_columns_in}
+use Rattle.office_tables_shelf.specs.declared.rows.RowChange.{RowChange}
+use Rattle.office_tables_shelf.specs.declared.rows.RowChange.TheVariants.{PutTiming, PutDraft}
+use Rattle.office_tables_sql.specs.Listed.{shown_key, shown_body}
+
+-- the cells in which version 1 kept a row or a removal under an intersection
+abbrev pub former_cells : ℕ × Change → List Cell × List Cell
+former_cells kept = (draft_key kept.0 kept.1, left_columns_in version_1_limits (left_by kept.1))
+
+-- the cells of a row that a query shows
+abbrev pub shown_cells : SqlRow → List Cell × List Cell
+shown_cells row = (shown_key row, shown_body row)
+
+-- the table kept these rows and removals, and no others
+pub record AreKept (rows : Rows) (kept : List (ℕ × Change)) : Type 0 where
+  pub cells : map former_cells kept ≡ entries rows
+  pub within : AllByRecursion (λ k. IsChangeWithin version_1_limits k.1) kept
+
+-- version 1 kept no row and no removal in these cells
+abbrev pub IsNoFormer : List Cell → List Cell → Type 0
+IsNoFormer key columns = (id : ℕ) → IsInRange 1 9999 id → (change : Change) → IsChangeWithin version_1_limits change → key ≡ draft_key id change → columns ≢ left_columns_in version_1_limits (left_by change)
+
+-- cells stand in the table in which version 1 kept no row and no removal
+pub record HasNoFormer (rows : Rows) : Type 0 where
+  pub key : List Cell
+  pub columns : List Cell
+  pub stored : get rows key ≡ Some columns
+  pub no_former : IsNoFormer key columns
+
+-- cells stand in the table in which version 1 kept no row
+pub record HasNoFormerRow (rows : Rows) : Type 0 where
+  pub key : List Cell
+  pub columns : List Cell
+  pub stored : get rows key ≡ Some columns
+  pub no_former : (id : ℕ) → IsInRange 1 9999 id → (r : Row) → IsRowWithin version_1_limits r → key ≡ timing_key id (key_of r) → columns ≢ timing_columns_in version_1_limits r
+
+-- a row, and no removal
+abbrev pub is_row : Change → Bool
+is_row (Put r) = true
+is_row (Remove key) = false
+
+-- the row of a phase with a pedestrian part, which alone is spelled otherwise today
+abbrev pub has_ped : Change → Bool
+has_ped (Put (row.Phase p phase)) = is_some phase.ped
+has_ped _ = false
+
+-- a row that is put
+abbrev pub timing_put : ℕ × Change → List RowChange → List RowChange
+timing_put (id, Put r) changes = if has_ped (Put r) then PutTiming id r ∷ changes else changes
+timing_put (id, Remove key) changes = changes
+
+-- the rows of `timing` that are put
+abbrev pub timing_puts : List (ℕ × Change) → List RowChange
+timing_puts [] = []
+timing_puts (k ∷ ks) = timing_put k (timing_puts ks)
+
+-- the rows of `draft` that are put
+abbrev pub draft_puts : List (ℕ × Change) → List RowChange
+draft_puts [] = []
+draft_puts (k ∷ ks) = if has_ped k.1 then PutDraft k.0 k.1 ∷ draft_puts ks else draft_puts ks

@@ -1,0 +1,2 @@
+pub mod Former
+pub mod Listing

@@ -1,0 +1,88 @@
+//! All rows of `timing` and of `draft`, as version 1 kept them.
+
+ghost use Rattle.std.specs.Prelude.{◌≡◌, ℕ, map, length, IfOk};
+ghost use Rattle.std.specs.List.{AllByRecursion};
+ghost use Rattle.sqlite.specs.State.{Survives};
+ghost use Rattle.sqlite.specs.Held.{state};
+ghost use Rattle.sqlite.specs.Order.{Row};
+ghost use Rattle.sqlite_rules.specs.Lists.{Has};
+ghost use Rattle.signal_records.specs.Within.{IsChangeWithin, version_1_limits};
+ghost use Rattle.office_tables_shelf.specs.declared.rows.Table.{Table};
+ghost use Rattle.office_tables_sql.specs.Calls.{IsHonest, IsOffice, IsQuery, Keeps};
+ghost use Rattle.office_tables_sql.specs.Listed.{shown_key, shown_body};
+ghost use Rattle.office_tables_sql.specs.Stored.{content_now};
+ghost use Rattle.office_tables_sql.specs.Tables.{rows_at};
+ghost use Rattle.office_tables_former.specs.Former.{former_cells, shown_cells, AreKept, HasNoFormer, IsNoFormer};
+ghost use Rattle.office_tables_former.specs.Listing.{ListsAll};
+
+use crate::kept::read;
+use office_tables_shelf::shelf::ShelfFault;
+use office_tables_sql::statement::select;
+use signal_records::{Change, InterId};
+use sqlite::{Alter, Connection, Row as SqlRow};
+use std::alloc::Global;
+
+const TIMING: &str = "SELECT inter, kind, a, b, body FROM timing ORDER BY inter, kind, a, b";
+
+const DRAFT: &str = "SELECT inter, kind, a, b, body FROM draft ORDER BY inter, kind, a, b";
+
+/// What each of the shown rows stood for.
+fn read_all(alloc: Global, rows: Vec<SqlRow>) -> Result<Vec<(InterId, Change)>, ShelfFault>
+    ensures cells { IfOk result (λ kept. map former_cells kept.items ≡ map shown_cells rows.items) }
+    ensures within { IfOk result (λ kept. AllByRecursion (λ k. IsChangeWithin version_1_limits k.1) kept.items) }
+    ensures damaged { result ≡ Err ShelfFault.Damaged → AllByRecursion (λ row. length row ≡ 5) rows.items → (row : Row) × Has rows.items row × IsNoFormer (shown_key row) (shown_body row) }
+{
+    let mut kept = Vec::new(alloc);
+    for row in rows {
+        let found = read(alloc, &row)?;
+        if kept.push(found).is_err() {
+            return Err(ShelfFault::NoMemory);
+        }
+    }
+    Ok(kept)
+}
+
+/// What the rows stood for that the query of a whole table shows, in the order of their keys.
+fn list<S: Alter>(
+    alloc: Global,
+    conn: &mut Connection<S>,
+    sql: &str,
+) -> Result<Vec<(InterId, Change)>, ShelfFault>
+    requires office { IsOffice (state S.Store conn.old) }
+    requires query { IsQuery sql.now }
+    ensures rows { IfOk result (λ kept. IsHonest (state S.Store conn.new) → (t : Table) → ListsAll t sql.now → AreKept (rows_at (content_now (state S.Store conn.old)) t) kept.items) }
+    ensures damaged { result ≡ Err ShelfFault.Damaged → IsHonest (state S.Store conn.new) → (t : Table) → ListsAll t sql.now → HasNoFormer (rows_at (content_now (state S.Store conn.old)) t) }
+    ensures kept { Keeps (state S.Store conn.old) (state S.Store conn.new) }
+    ensures crash { Survives (state S.Store conn.old) (state S.Store conn.new) (λ _. ⊥) }
+{
+    let rows = select(conn, sql, &[])?;
+    read_all(alloc, rows)
+}
+
+/// What all rows of `timing` stood for.
+pub fn timing_rows<S: Alter>(
+    alloc: Global,
+    conn: &mut Connection<S>,
+) -> Result<Vec<(InterId, Change)>, ShelfFault>
+    requires { IsOffice (state S.Store conn.old) }
+    ensures rows { IfOk result (λ kept. IsHonest (state S.Store conn.new) → AreKept (content_now (state S.Store conn.old)).timing kept.items) }
+    ensures damaged { result ≡ Err ShelfFault.Damaged → IsHonest (state S.Store conn.new) → HasNoFormer (content_now (state S.Store conn.old)).timing }
+    ensures kept { Keeps (state S.Store conn.old) (state S.Store conn.new) }
+    ensures crash { Survives (state S.Store conn.old) (state S.Store conn.new) (λ _. ⊥) }
+{
+    list(alloc, conn, TIMING)
+}
+
+/// What all rows of `draft` stood for.
+pub fn draft_rows<S: Alter>(
+    alloc: Global,
+    conn: &mut Connection<S>,
+) -> Result<Vec<(InterId, Change)>, ShelfFault>
+    requires { IsOffice (state S.Store conn.old) }
+    ensures rows { IfOk result (λ kept. IsHonest (state S.Store conn.new) → AreKept (content_now (state S.Store conn.old)).draft kept.items) }
+    ensures damaged { result ≡ Err ShelfFault.Damaged → IsHonest (state S.Store conn.new) → HasNoFormer (content_now (state S.Store conn.old)).draft }
+    ensures kept { Keeps (state S.Store conn.old) (state S.Store conn.new) }
+    ensures crash { Survives (state S.Store conn.old) (state S.Store conn.new) (λ _. ⊥) }
+{
+    list(alloc, conn, DRAFT)
+}

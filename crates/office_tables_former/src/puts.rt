@@ -1,0 +1,58 @@
+//! What is put in the place of the rows that are spelled otherwise today.
+
+ghost use Rattle.std.specs.Prelude.{◌≡◌, ◌≢◌, ℕ, true, false, length, IfOk, OnOk};
+ghost use Rattle.std.specs.List.{list_all, list_any};
+ghost use Rattle.office_tables_former.specs.Former.{has_ped, is_row, timing_puts, draft_puts};
+
+use office_tables_shelf::rows::RowChange;
+use office_tables_shelf::shelf::ShelfFault;
+use signal_records::{Change, InterId, NoMemory, Row};
+use std::alloc::Global;
+
+/// Whether this is the row of a phase with a pedestrian part, the one row that is spelled otherwise.
+fn has_pedestrian_part(change: &Change) -> bool
+    ensures { result ≡ has_ped change.now }
+{
+    match change {
+        Change::Put(Row::Phase(_, phase)) => phase.ped.is_some(),
+        _ => false,
+    }
+}
+
+/// The rows of `timing` with a pedestrian part, to be put in their place. A removal there is no row.
+pub fn timing_changes(
+    alloc: Global,
+    kept: Vec<(InterId, Change)>,
+) -> Result<Vec<RowChange>, ShelfFault>
+    ensures puts { IfOk result (λ changes. changes.items ≡ timing_puts kept.items) }
+    ensures rows { OnOk result (list_all (λ k. is_row k.1) kept.items ≡ true) }
+    ensures damaged { result ≡ Err ShelfFault.Damaged → list_all (λ k. is_row k.1) kept.items ≡ false }
+{
+    let mut changes = Vec::new(alloc);
+    for (id, change) in kept {
+        let is_rewritten = has_pedestrian_part(&change);
+        let Change::Put(row) = change else {
+            return Err(ShelfFault::Damaged);
+        };
+        if is_rewritten && changes.push(RowChange::PutTiming(id, row)).is_err() {
+            return Err(ShelfFault::NoMemory);
+        }
+    }
+    Ok(changes)
+}
+
+/// The drafted rows with a pedestrian part, to be put in their place.
+pub fn draft_changes(
+    alloc: Global,
+    kept: Vec<(InterId, Change)>,
+) -> Result<Vec<RowChange>, NoMemory>
+    ensures { IfOk result (λ changes. changes.items ≡ draft_puts kept.items) }
+{
+    let mut changes = Vec::new(alloc);
+    for (id, change) in kept {
+        if has_pedestrian_part(&change) {
+            changes.push(RowChange::PutDraft(id, change))?;
+        }
+    }
+    Ok(changes)
+}
