@@ -1,5 +1,5 @@
 -- What rows and records are spelled with are texts.
-use Rattle.std.proofs.Common.{ℕ, ◌+◌, ◌<◌, ◌/◌, ◌%◌, List, [], ◌∷◌, Option, Some, None, refl, arith}
+use Rattle.std.proofs.Common.{true, ℕ, ◌+◌, ◌<◌, ◌/◌, ◌%◌, List, [], ◌∷◌, Option, Some, None, refl, arith}
 use Rattle.std.specs.Prelude.{IsUtf8, codes, if◌then◌else◌}
 use Rattle.std.proofs.lemmas.Str.{IsUtf8-nil}
 use Rattle.signal_records.specs.declared.record.Ped.{Ped}

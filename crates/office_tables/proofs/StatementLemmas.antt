@@ -4,7 +4,7 @@ use Rattle.std.specs.Option.{option_to_list}
 use Rattle.std.specs.FinMap.{get, insert, get-insert}
 use Rattle.sqlite.specs.declared.types.Value.TheVariants.{Null, Int}
 use Rattle.sqlite.specs.Cast.{cast_row}
-use Rattle.sqlite.specs.Command.TheVariants.{Insert, Select}
+use Rattle.sqlite.specs.Command.TheVariants.{Insert, Delete, Select}
 use Rattle.sqlite.specs.Effect.{Database}
 use Rattle.sqlite.specs.Listing.{understood}
 use Rattle.sqlite.specs.Order.{Row}
@@ -28,8 +28,9 @@ use Rattle.office_tables_sql.proofs.SchemaLemmas.{IsRead, IsWrite, AreShaped, gi
 use Rattle.office_tables_sql.proofs.Casts.{cast_int, cast_null}
 use Rattle.office_tables_sql.proofs.ContentLemmas.{tie_self, put_at, free_rowid}
 use Rattle.office_tables_sql.proofs.InsertLemmas.{Added, adds}
+use Rattle.office_tables_sql.proofs.RemoveLemmas.{remove_keyed}
 use Rattle.office_tables_sql.proofs.WriteLemmas.{IsIdle, wrote}
-use Rattle.office_tables.specs.declared.version.TheConstants.{FIND as FIND_VERSION, PUT as PUT_VERSION}
+use Rattle.office_tables.specs.declared.version.TheConstants.{FIND as FIND_VERSION, DROP as DROP_VERSION, PUT as PUT_VERSION}
 use Rattle.office_tables.specs.Version.{version_in, current_version}
 
 abbrev pub find_version_text : List ℕ
@@ -45,6 +46,13 @@ put_version_text = PUT_VERSION.now
 pub put_version_is : IsWrite put_version_text (Insert 8 (Values (col 0 0 ∷ lit Null ∷ col 0 1 ∷ []) 3))
 unfolding understood everything
 put_version_is = record { is = refl; plain = (refl, refl) }
+
+abbrev pub drop_version_text : List ℕ
+drop_version_text = DROP_VERSION.now
+
+pub drop_version_is : IsWrite drop_version_text (Delete 8 (record { lets = []; body = find_query office_version (0 ∷ []) }))
+unfolding understood everything
+drop_version_is = record { is = refl; plain = (refl, refl) }
 
 pub find_version : (db : Database) → AreShaped db.trees office_version → (row : Option Row) → Reads find_version_text (Int (pos 1) ∷ []) db (option_to_list row) → option_map cells row ≡ version_in db.trees
 find_version db shaped = gives office_version tt (λ trees. refl) find_version_text _ find_version_is (Int (pos 1) ∷ []) db (sound_rowids office_version refl (db.trees 15) shaped) refl
@@ -92,4 +100,22 @@ put_version old new count ready did =
         }),
         ap (λ rows. get rows key) at ∙ get-insert cells_total (rows_of layout.office_version old.now.trees) key current_version key ∙ ap (λ b. cond b (Some current_version) (version_in old.now.trees)) (tie_self key),
       ),
+    )
+
+pub drop_version : (old new : State) (count : ℕ) → IsReady old → Ran drop_version_text (Int (pos 1) ∷ []) old new count → IsReady new × (content_now new ≡ content_now old)
+drop_version old new count ready did =
+    let was : IsShaped shape.Table (old.now.trees 15) = ready.ordered.1.1.1.1.1.1.1.1.0 in
+    let it = remove_keyed office_version tt version_table 8 refl (λ trees. refl) version_idle drop_version_text drop_version_is (Int (pos 1) ∷ []) refl
+    old new count was (sound_rowids office_version refl (old.now.trees 15) was) ready did in (
+      it.0,
+      λ i. record {
+        intersection = rows_in layout.intersection (it.1.others.0 (λ e. cc) i);
+        timing = rows_in layout.timing (it.1.others.1.0 (λ e. cc) i);
+        draft = rows_in layout.draft (it.1.others.1.1.0 (λ e. cc) i);
+        inspection = rows_in layout.inspection (it.1.others.1.1.1.0 (λ e. cc) i);
+        work_order = rows_in layout.work_order (it.1.others.1.1.1.1.0 (λ e. cc) i);
+        part = rows_in layout.part (it.1.others.1.1.1.1.1.0 (λ e. cc) i);
+        delivery = rows_in layout.delivery (it.1.others.1.1.1.1.1.1.0 (λ e. cc) i);
+        used_part = rows_in layout.used_part (it.1.others.1.1.1.1.1.1.1.0 (λ e. cc) i);
+      },
     )

@@ -2,6 +2,7 @@ pub mod Version
 pub mod SqlShelf
 pub mod Arranged
 pub mod Opening
+pub mod Migrate
 pub use Rattle.office_tables_shelf.specs.Cells
 pub use Rattle.office_tables_shelf.specs.Content
 pub use Rattle.office_tables_shelf.specs.Rows

@@ -23,6 +23,10 @@ version_in trees = get (rows_of layout.office_version trees) (number (pos 1) ∷
 abbrev pub current_version : List Cell
 current_version = number (pos 2) ∷ []
 
+-- version 1, whose rows are those of the grammar without a lead
+abbrev pub first_version : List Cell
+first_version = number (pos 1) ∷ []
+
 -- the trees of the eight tables
 abbrev pub stored_trees : List ℕ
 stored_trees = map (λ (t : layout.Layout). t.tree) (layout.intersection ∷ layout.timing ∷ layout.draft ∷ layout.inspection ∷ layout.work_order ∷ layout.part ∷ layout.delivery ∷ layout.used_part ∷ [])

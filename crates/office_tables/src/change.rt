@@ -42,7 +42,7 @@ fn change_row<S: Alter>(
 }
 
 /// Makes the changes one after another.
-fn change_rows<S: Alter>(
+pub(crate) fn change_rows<S: Alter>(
     alloc: Global,
     tx: &mut Transaction<'_, S>,
     changes: &[RowChange],

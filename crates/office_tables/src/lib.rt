@@ -2,9 +2,11 @@
 #![tactic(auto)]
 
 mod change;
+mod migrate;
 pub mod open;
 pub mod sql_shelf;
 mod vacant;
 mod version;
 
+pub use office_tables_former::puts::Migrated;
 pub use office_tables_shelf::{counts, map_shelf, rows, shelf};

@@ -14,9 +14,11 @@ ghost use Rattle.office_tables.specs.declared.open.TheConstants.{NAMES};
 ghost use Rattle.office_tables.specs.Opening.{AreMade, AreMadeAnew, AreRun, HasOtherVersion, HasRowsAlone, IsOneOf, MayBeTaken, OnlyReads};
 
 use crate::vacant::vacant;
-use crate::version::{are_empty, is_current, store_version, stored_version};
+use crate::version::{VERSION, are_empty, is_version, store_version, stored_version};
+use office_tables_shelf::shelf::ShelfFault;
 use office_tables_sql::schema::{CREATES, is_blank, is_office};
 use office_tables_sql::statement::SqlFault;
+use signal_records::NoMemory;
 use sqlite::{Alter, Connection, Transaction};
 use sqlite_schema::schema::{Schema, Table};
 use sqlite_trees::store::Store;
@@ -47,6 +49,33 @@ impl From<SqlFault> for OpenFault {
             SqlFault::NoMemory => OpenFault::NoMemory,
             SqlFault::Store => OpenFault::Store,
         }
+    }
+}
+
+impl From<ShelfFault> for OpenFault {
+    ghost use Rattle.std.specs.Prelude.{◌≡◌, ◌≢◌};
+    ghost use Rattle.office_tables.specs.declared.open.OpenFault.TheVariants.{Version, Damaged};
+    ghost use Rattle.office_tables_shelf.specs.declared.shelf.ShelfFault.TheVariants as shelf;
+
+    ghost from_gives = { λ why fault. (fault ≢ Version) × (fault ≡ Damaged → why ≡ shelf.Damaged) };
+
+    fn from(fault: ShelfFault) -> OpenFault {
+        match fault {
+            ShelfFault::NoMemory => OpenFault::NoMemory,
+            ShelfFault::Store => OpenFault::Store,
+            ShelfFault::Damaged => OpenFault::Damaged,
+        }
+    }
+}
+
+impl From<NoMemory> for OpenFault {
+    ghost use Rattle.std.specs.Prelude.{◌≡◌};
+    ghost use Rattle.office_tables.specs.declared.open.OpenFault.TheVariants as open;
+
+    ghost from_gives = { λ _ fault. fault ≡ open.NoMemory };
+
+    fn from(_refused: NoMemory) -> OpenFault {
+        OpenFault::NoMemory
     }
 }
 
@@ -201,7 +230,7 @@ pub(crate) fn claim<S: Alter>(conn: &mut Connection<S>, is_new: bool) -> Result<
     let Some(row) = stored_version(conn)? else {
         return claim_empty(conn, OpenFault::Damaged);
     };
-    if is_current(&row)? {
+    if is_version(&row, VERSION)? {
         Ok(())
     } else {
         Err(OpenFault::Version)

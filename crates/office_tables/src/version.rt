@@ -5,6 +5,7 @@ ghost use Rattle.std.specs.Option.{option_map};
 ghost use Rattle.std.specs.List.{AllByRecursion};
 ghost use Rattle.sqlite.specs.State.{HasCleanDisk, Survives};
 ghost use Rattle.sqlite.specs.Held.{state};
+ghost use Rattle.office_tables_shelf.specs.Cells.{number};
 ghost use Rattle.office_tables_sql.specs.Stored.{cells, content_now, content_of};
 ghost use Rattle.office_tables_sql.specs.Calls.{IsHonest, IsOffice, IsQuery, IsReady, Keeps, StandsOn};
 ghost use Rattle.office_tables.specs.Version.{AreEmpty, HasRow, IsListing, ListsRows, version_in, current_version};
@@ -13,9 +14,14 @@ use office_tables_sql::statement::{SqlFault, select, select_one, write};
 use sqlite::{Alter, Connection, Row, Transaction, params};
 
 /// The version of the tables, whose rows are those of today's grammar.
-const VERSION: u32 = 2;
+pub(crate) const VERSION: u32 = 2;
+
+/// The first version, whose rows are those of the grammar without a lead.
+pub(crate) const FIRST_VERSION: u32 = 1;
 
 const FIND: &str = "SELECT version FROM office_version WHERE one = ?1";
+
+const DROP: &str = "DELETE FROM office_version WHERE one = ?1";
 
 const PUT: &str = "INSERT INTO office_version (one, version) VALUES (?1, ?2)";
 
@@ -42,17 +48,30 @@ pub(crate) fn stored_version<S: Alter>(conn: &mut Connection<S>) -> Result<Optio
     select_one(conn, FIND, params![1u32])
 }
 
-/// Whether this is the row of today's version.
-pub(crate) fn is_current(row: &Row) -> Result<bool, SqlFault>
-    ensures current { length row.now ≡ 1 → IfOk result (λ current. IsTrue current → cells row.now ≡ current_version) }
-    ensures other { IfOk result (λ current. ¬ IsTrue current → cells row.now ≢ current_version) }
+/// Whether this is the row of a version.
+pub(crate) fn is_version(row: &Row, version: u32) -> Result<bool, SqlFault>
+    ensures same { length row.now ≡ 1 → IfOk result (λ same. IsTrue same → cells row.now ≡ number (pos version) ∷ []) }
+    ensures other { IfOk result (λ same. ¬ IsTrue same → cells row.now ≢ number (pos version) ∷ []) }
 {
     let number: Result<i64, _> = row.get(0);
-    Ok(number? == i64::from(VERSION))
+    Ok(number? == i64::from(version))
+}
+
+/// Stores no version any more.
+pub(crate) fn drop_version<S: Alter>(tx: &mut Transaction<'_, S>) -> Result<(), SqlFault>
+    ensures same_reference { tx.new.conn.ghost_name ≡ tx.old.conn.ghost_name }
+    ensures honest { HasCleanDisk (state S.Store tx.new.conn.now) → OnOk result (IsHonest (state S.Store tx.old.conn.now)) }
+    ensures ready { HasCleanDisk (state S.Store tx.new.conn.now) → OnOk result (IsReady (state S.Store tx.old.conn.now) → IsReady (state S.Store tx.new.conn.now)) }
+    ensures same { HasCleanDisk (state S.Store tx.new.conn.now) → OnOk result (IsReady (state S.Store tx.old.conn.now) → content_now (state S.Store tx.new.conn.now) ≡ content_now (state S.Store tx.old.conn.now)) }
+    ensures stands { StandsOn (state S.Store tx.old.conn.now) (state S.Store tx.new.conn.now) }
+    ensures crash { Survives (state S.Store tx.old.conn.now) (state S.Store tx.new.conn.now) (λ _. ⊥) }
+{
+    write(tx, DROP, params![1u32])?;
+    Ok(())
 }
 
 /// Stores today's version.
-fn put_version<S: Alter>(tx: &mut Transaction<'_, S>) -> Result<(), SqlFault>
+pub(crate) fn put_version<S: Alter>(tx: &mut Transaction<'_, S>) -> Result<(), SqlFault>
     ensures same_reference { tx.new.conn.ghost_name ≡ tx.old.conn.ghost_name }
     ensures honest { HasCleanDisk (state S.Store tx.new.conn.now) → OnOk result (IsHonest (state S.Store tx.old.conn.now)) }
     ensures ready { HasCleanDisk (state S.Store tx.new.conn.now) → OnOk result (IsReady (state S.Store tx.old.conn.now) → IsReady (state S.Store tx.new.conn.now)) }

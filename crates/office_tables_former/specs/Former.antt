@@ -1,5 +1,5 @@
 -- The rows of version 1 in the cells of `timing` and `draft`, and what is put in their place.
-use Rattle.std.specs.Prelude.{◌≡◌, ◌≢◌, ℕ, Bool, true, false, if◌then◌else◌, List, [], ◌∷◌, map, Option, Some, is_some}
+use Rattle.std.specs.Prelude.{◌≡◌, ◌≢◌, ℕ, Bool, true, false, if◌then◌else◌, List, [], ◌∷◌, ◌++◌, map, Option, Some, is_some}
 use Rattle.std.specs.Int.{IsInRange}
 use Rattle.std.specs.List.{AllByRecursion}
 use Rattle.std.specs.FinMap.{get, entries}
@@ -58,17 +58,20 @@ abbrev pub has_ped : Change → Bool
 has_ped (Put (row.Phase p phase)) = is_some phase.ped
 has_ped _ = false
 
--- a row that is put
-abbrev pub timing_put : ℕ × Change → List RowChange → List RowChange
-timing_put (id, Put r) changes = if has_ped (Put r) then PutTiming id r ∷ changes else changes
-timing_put (id, Remove key) changes = changes
+-- the row of `timing` that is put in the place of one
+abbrev pub timing_put : ℕ → Change → List RowChange
+timing_put id (Put r) = if has_ped (Put r) then PutTiming id r ∷ [] else []
+timing_put id (Remove key) = []
 
--- the rows of `timing` that are put
+-- those of a list
 abbrev pub timing_puts : List (ℕ × Change) → List RowChange
 timing_puts [] = []
-timing_puts (k ∷ ks) = timing_put k (timing_puts ks)
+timing_puts (k ∷ ks) = timing_put k.0 k.1 ++ timing_puts ks
 
--- the rows of `draft` that are put
+-- the row of `draft` that is put in the place of one
+abbrev pub draft_put : ℕ → Change → List RowChange
+draft_put id change = if has_ped change then PutDraft id change ∷ [] else []
+
 abbrev pub draft_puts : List (ℕ × Change) → List RowChange
 draft_puts [] = []
-draft_puts (k ∷ ks) = if has_ped k.1 then PutDraft k.0 k.1 ∷ draft_puts ks else draft_puts ks
+draft_puts (k ∷ ks) = draft_put k.0 k.1 ++ draft_puts ks

@@ -1,13 +1,23 @@
 //! What is put in the place of the rows that are spelled otherwise today.
 
-ghost use Rattle.std.specs.Prelude.{◌≡◌, ◌≢◌, ℕ, true, false, length, IfOk, OnOk};
-ghost use Rattle.std.specs.List.{list_all, list_any};
+ghost use Rattle.std.specs.Prelude.{◌≡◌, ◌++◌, ◌∷◌, [], true, false, IfOk, OnOk};
+ghost use Rattle.std.specs.List.{list_all};
 ghost use Rattle.office_tables_former.specs.Former.{has_ped, is_row, timing_puts, draft_puts};
 
 use office_tables_shelf::rows::RowChange;
 use office_tables_shelf::shelf::ShelfFault;
 use signal_records::{Change, InterId, NoMemory, Row};
 use std::alloc::Global;
+
+/// How many rows were written anew when tables of version 1 were brought to today's version: those
+/// of phases with a pedestrian part.
+#[derive(Clone, Copy, Debug, PartialEq, Eq)]
+pub struct Migrated {
+    /// Rows of committed sets.
+    pub timing: usize,
+    /// Drafted rows.
+    pub draft: usize,
+}
 
 /// Whether this is the row of a phase with a pedestrian part, the one row that is spelled otherwise.
 fn has_pedestrian_part(change: &Change) -> bool
@@ -34,11 +44,18 @@ pub fn timing_changes(
         let Change::Put(row) = change else {
             return Err(ShelfFault::Damaged);
         };
-        if is_rewritten && changes.push(RowChange::PutTiming(id, row)).is_err() {
-            return Err(ShelfFault::NoMemory);
+        if is_rewritten {
+            push(&mut changes, RowChange::PutTiming(id, row))?;
         }
     }
     Ok(changes)
+}
+
+fn push(changes: &mut Vec<RowChange>, change: RowChange) -> Result<(), NoMemory>
+    ensures { OnOk result (changes.new.items ≡ changes.old.items ++ change ∷ []) }
+{
+    changes.push(change)?;
+    Ok(())
 }
 
 /// The drafted rows with a pedestrian part, to be put in their place.

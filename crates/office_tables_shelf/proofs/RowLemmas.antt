@@ -26,7 +26,7 @@ use Rattle.signal_records.specs.declared.record.SplitMode.TheVariants.{NoRecall,
 use Rattle.signal_records.proofs.FieldLaws.{same_ok}
 use Rattle.signal_records.proofs.Lists.{and_parts}
 use Rattle.signal_records.proofs.RowLaws.{row_only, are_current}
-use Rattle.office_tables_shelf.specs.Rows.{body_of, timing_columns, left_columns, draft_key, draft_columns}
+use Rattle.office_tables_shelf.specs.Rows.{body_in, body_of, timing_columns, left_columns, draft_key, draft_columns}
 use Rattle.office_tables_shelf.proofs.KeyLemmas.{timing_key_tells}
 
 -- ---- fields without a comma

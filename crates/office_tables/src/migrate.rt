@@ -1,0 +1,120 @@
+//! Version 1 of the tables brought to today's version.
+
+ghost use Rattle.std.specs.Prelude.{◌≡◌, ◌≢◌, IsTrue, IfOk, OnOk, OnErr, Some, Err};
+ghost use Rattle.sqlite.specs.State.{HasCleanDisk, Survives};
+ghost use Rattle.sqlite.specs.Held.{state};
+ghost use Rattle.office_tables_shelf.specs.Change.{changed_by};
+ghost use Rattle.office_tables_sql.specs.Stored.{content_now};
+ghost use Rattle.office_tables_sql.specs.Calls.{IsHonest, IsOffice};
+ghost use Rattle.office_tables_former.specs.Migration.{IsMigrated};
+ghost use Rattle.office_tables.specs.Arranged.{IsArranged};
+ghost use Rattle.office_tables.specs.Migrate.{HoldsToday, IsSpelledToday, MayBecome, IsBrought, KeepNoVersion, HasUnknownVersion, HasFormerDamage, HasDamagedFormer};
+ghost use Rattle.office_tables.specs.Version.{version_in, current_version};
+
+use crate::change::change_rows;
+use crate::open::OpenFault;
+use crate::version::{FIRST_VERSION, VERSION, drop_version, is_version, put_version, stored_version};
+use office_tables_former::listing::{draft_rows, timing_rows};
+use office_tables_former::puts::{Migrated, draft_changes, timing_changes};
+use office_tables_shelf::rows::RowChange;
+use office_tables_sql::schema::is_office;
+use office_tables_sql::statement::SqlFault;
+use sqlite::{Alter, Connection};
+use sqlite_schema::schema::Table;
+use std::alloc::Global;
+
+/// Whether one of the tables keeps the version.
+fn keep_version(tables: &[Table]) -> bool
+    ensures { ¬ IsTrue result → KeepNoVersion tables.now }
+{
+    let Some((table, tables)) = tables.split_first() else {
+        return false;
+    };
+    table.name.as_slice() == b"office_version".as_slice() || keep_version(tables)
+}
+
+/// Makes the changes and stores today's version in the place of the one that is stored, all or none.
+fn write_anew<S: Alter>(
+    alloc: Global,
+    conn: &mut Connection<S>,
+    timing: &[RowChange],
+    draft: &[RowChange],
+) -> Result<(), SqlFault>
+    requires { IsOffice (state S.Store conn.old) }
+    ensures office { IsOffice (state S.Store conn.new) }
+    ensures honest { IsHonest (state S.Store conn.new) → IsHonest (state S.Store conn.old) }
+    ensures written { IsHonest (state S.Store conn.new) → OnOk result (HoldsToday (changed_by (changed_by (content_now (state S.Store conn.old)) timing.now) draft.now) (state S.Store conn.new).now.trees) }
+    ensures unchanged { IsHonest (state S.Store conn.new) → OnErr result ((state S.Store conn.new).now.trees ≡ (state S.Store conn.old).now.trees) }
+    ensures crash { Survives (state S.Store conn.old) (state S.Store conn.new) (λ trees. IsHonest (state S.Store conn.old) × HoldsToday (changed_by (changed_by (content_now (state S.Store conn.old)) timing.now) draft.now) trees) }
+{
+    let mut tx = conn.transaction();
+    change_rows(alloc, &mut tx, timing)?;
+    change_rows(alloc, &mut tx, draft)?;
+    drop_version(&mut tx)?;
+    put_version(&mut tx)?;
+    tx.commit()?;
+    Ok(())
+}
+
+/// Writes each row of version 1 as it is spelled today, where it is spelled otherwise.
+fn spell_anew<S: Alter>(
+    alloc: Global,
+    conn: &mut Connection<S>,
+) -> Result<Migrated, OpenFault>
+    requires { IsOffice (state S.Store conn.old) }
+    ensures office { IsOffice (state S.Store conn.new) }
+    ensures honest { IsHonest (state S.Store conn.new) → IsHonest (state S.Store conn.old) }
+    ensures migrated { IsHonest (state S.Store conn.new) → IfOk result (λ count. IsMigrated (content_now (state S.Store conn.old)) (content_now (state S.Store conn.new)) count) }
+    ensures stored { IsHonest (state S.Store conn.new) → OnOk result (version_in (state S.Store conn.new).now.trees ≡ Some current_version) }
+    ensures version { result ≢ Err OpenFault.Version }
+    ensures damaged { result ≡ Err OpenFault.Damaged → IsHonest (state S.Store conn.new) → HasFormerDamage (content_now (state S.Store conn.old)) }
+    ensures unchanged { IsHonest (state S.Store conn.new) → OnErr result ((state S.Store conn.new).now.trees ≡ (state S.Store conn.old).now.trees) }
+    ensures crash { Survives (state S.Store conn.old) (state S.Store conn.new) (λ trees. IsHonest (state S.Store conn.old) × IsSpelledToday (content_now (state S.Store conn.old)) trees) }
+{
+    let kept = timing_rows(alloc, conn)?;
+    let timing = timing_changes(alloc, kept)?;
+    let kept = draft_rows(alloc, conn)?;
+    let draft = draft_changes(alloc, kept)?;
+    write_anew(alloc, conn, timing.as_slice(), draft.as_slice())?;
+    Ok(Migrated {
+        timing: timing.len(),
+        draft: draft.len(),
+    })
+}
+
+/// Brings tables of version 1 to today's version, all or none.
+pub(crate) fn migrate<S: Alter>(
+    alloc: Global,
+    conn: &mut Connection<S>,
+) -> Result<Migrated, OpenFault>
+    requires { HasCleanDisk (state S.Store conn.old) → IsArranged (state S.Store conn.old).committed.trees }
+    ensures brought { IsHonest (state S.Store conn.new) → IfOk result (IsBrought (state S.Store conn.old) (state S.Store conn.new)) }
+    ensures version { result ≡ Err OpenFault.Version → IsHonest (state S.Store conn.new) → HasUnknownVersion (state S.Store conn.old) }
+    ensures damaged { result ≡ Err OpenFault.Damaged → IsHonest (state S.Store conn.new) → HasDamagedFormer (state S.Store conn.old).committed.trees }
+    ensures unchanged { IsHonest (state S.Store conn.new) → OnErr result ((state S.Store conn.new).committed.trees ≡ (state S.Store conn.old).committed.trees) }
+    ensures committed { IsHonest (state S.Store conn.new) → OnOk result ((state S.Store conn.new).committed.trees ≡ (state S.Store conn.new).now.trees) }
+    ensures crash { Survives (state S.Store conn.old) (state S.Store conn.new) (MayBecome (state S.Store conn.old).committed.trees) }
+{
+    if !conn.is_autocommit() {
+        return Err(OpenFault::Store);
+    }
+    if !is_office(conn.schema()) {
+        if keep_version(conn.schema().tables.as_slice()) {
+            return Err(OpenFault::Store);
+        }
+        return Err(OpenFault::Version);
+    }
+    let Some(row) = stored_version(conn)? else {
+        return Err(OpenFault::Version);
+    };
+    if is_version(&row, VERSION)? {
+        return Ok(Migrated {
+            timing: 0,
+            draft: 0,
+        });
+    }
+    if !is_version(&row, FIRST_VERSION)? {
+        return Err(OpenFault::Version);
+    }
+    spell_anew(alloc, conn)
+}

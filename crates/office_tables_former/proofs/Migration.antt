@@ -1,0 +1,362 @@
+-- The tables after the rows were put in their place, and the office that they stand for.
+use Rattle.std.proofs.Common.{◌≡◌, ◌⊎◌, inl, inr, ℕ, ◌≤◌, Bool, true, false, ◌&&◌, T, List, [], ◌∷◌, ◌++◌, map, find, filter, length, cond, if◌then◌else◌, Option, Some, None, option_map, refl, sym, ap, subst, ◌∙◌, arith, true≢false}
+use Rattle.std.proofs.lemmas.Bool.{cases_Bool, and_parts, and_from}
+use Rattle.std.proofs.lemmas.Bool.Decides.{nat_tests}
+use Rattle.std.specs.FinMap as finite
+use Rattle.std.specs.FinMap.{get, insert, entries, entries_sorted, get-entries, get-insert, get-empty, same_map, is_sorted}
+use Rattle.std.specs.Int.{IsInRange}
+use Rattle.std.specs.List.{AllByRecursion, list_all}
+use Rattle.std.specs.Ordering.{is_eq, is_lt}
+use Rattle.std.specs.FinMap.Entries.{below_all}
+use Rattle.std.specs.declared.cmp.Ordering.{Ordering}
+use Rattle.std.specs.declared.cmp.Ordering.TheVariants.{Less, Equal, Greater}
+use Rattle.std.specs.Prelude.{IfSome, IsTrue}
+use Rattle.sqlite_rules.specs.Lists.{Has}
+use Rattle.sqlite_rules.proofs.ListLemmas.{all_has}
+use Rattle.signal_records.specs.PhaseList.{is_phase, is_distinct, is_phase_list}
+use Rattle.signal_records.specs.Row.{key_of}
+use Rattle.signal_records.specs.TimingSet.{Rows as Set}
+use Rattle.signal_records.specs.Within.{AreLimits, current_limits, version_1_limits, IsAnyPedWithin, IsRowWithin, IsKeyWithin, IsChangeWithin}
+use Rattle.signal_records.specs.Key.{key_cmp}
+use Rattle.signal_records.specs.declared.key.Key.{Key}
+use Rattle.signal_records.specs.declared.limits.Limits.{Limits}
+use Rattle.signal_records.specs.declared.key.Key.TheVariants as key
+use Rattle.signal_records.specs.declared.record.Change.{Change}
+use Rattle.signal_records.specs.declared.record.Change.TheVariants.{Put, Remove}
+use Rattle.signal_records.specs.declared.record.Ped.{Ped}
+use Rattle.signal_records.specs.declared.record.Phase.{Phase}
+use Rattle.signal_records.specs.declared.record.Row.{Row}
+use Rattle.signal_records.specs.declared.record.Row.TheVariants as row
+use Rattle.signal_records.proofs.RowLaws.{are_version_1}
+use Rattle.signal_rules.specs.BeforeLead.{HasNoLead, violations_before_lead}
+use Rattle.signal_rules.specs.Lookup.{phase_at, the_phase}
+use Rattle.signal_rules.specs.Violations.{violations_of}
+use Rattle.signal_rules.proofs.BeforeLead.{same_violations}
+use Rattle.draft_core.specs.DraftRows.{left_by, changed_key}
+use Rattle.draft_core.specs.Transaction.{Draft}
+use Rattle.office_tables_shelf.specs.Cells.{Cell, text, Rows, cells_cmp, rows_by}
+use Rattle.office_tables_shelf.specs.Change.{changed_by}
+use Rattle.office_tables_shelf.specs.Content.{Content}
+use Rattle.office_tables_shelf.specs.Office.{Office, Intersection, side_at, side_of, AreRecordsIn, IsSoundIn, IsSoundIntersectionIn, IsSoundDraftIn, today, version_1}
+use Rattle.office_tables_shelf.specs.Rows.{timing_key, timing_columns_in, left_columns_in, body_in}
+use Rattle.office_tables_shelf.specs.StandFor.{IsTimingKey, HasTimingKeys, IsLeftIn, DraftRowStandsIn, StandForIn, StandForSoundIn}
+use Rattle.office_tables_shelf.specs.RegisterStands.{RegisterStands}
+use Rattle.office_tables_shelf.proofs.CellLemmas.{cells_total, cells_exact, is_under, find_entry, get_by, tied}
+use Rattle.office_tables_sql.proofs.BodyReading.{same_row}
+use Rattle.office_tables_sql.proofs.ListLemmas.{found_has}
+use Rattle.office_tables_former.specs.Former.{former_cells, AreKept, has_ped, is_row, timing_put, timing_puts, draft_put, draft_puts}
+use Rattle.office_tables_former.specs.Migration.{kept_key, kept_columns, IsSpelledAnew, IsMigrated, IsJudgedAlike, StandAnew}
+use Rattle.office_tables_former.specs.declared.puts.Migrated.{Migrated}
+
+abbrev Kept : Type 0
+Kept = ℕ × Change
+
+-- the other cells in version 1
+abbrev former : Kept → List Cell
+former k = left_columns_in version_1_limits (left_by k.1)
+
+-- ---- the rows that are put
+
+-- the table with the rows put that are spelled otherwise
+abbrev puts_in : Rows → List Kept → Rows
+puts_in rows [] = rows
+puts_in rows (k ∷ ks) = puts_in (if has_ped k.1 then insert rows (kept_key k) (kept_columns k) else rows) ks
+
+pub timing_changed : (tables : Content) (ks : List Kept) → changed_by tables (timing_puts ks) ≡ record tables { timing = puts_in tables.timing ks }
+timing_changed tables [] = refl
+timing_changed tables ((id, Put r) ∷ ks) = go (cases_Bool (has_ped (Put r)))
+  where
+    go : (has_ped (Put r) ≡ true) ⊎ (has_ped (Put r) ≡ false) → changed_by tables (timing_puts ((id, Put r) ∷ ks)) ≡ record tables { timing = puts_in tables.timing ((id, Put r) ∷ ks) }
+    go (inl some) = rw some (timing_changed (record tables { timing = insert tables.timing (kept_key (id, Put r)) (kept_columns (id, Put r)) }) ks)
+    go (inr none) = rw none (timing_changed tables ks)
+timing_changed tables ((id, Remove k) ∷ ks) = timing_changed tables ks
+
+pub draft_changed : (tables : Content) (ks : List Kept) → changed_by tables (draft_puts ks) ≡ record tables { draft = puts_in tables.draft ks }
+draft_changed tables [] = refl
+draft_changed tables (k ∷ ks) = go (cases_Bool (has_ped k.1))
+  where
+    go : (has_ped k.1 ≡ true) ⊎ (has_ped k.1 ≡ false) → changed_by tables (draft_puts (k ∷ ks)) ≡ record tables { draft = puts_in tables.draft (k ∷ ks) }
+    go (inl some) = rw some (draft_changed (record tables { draft = insert tables.draft (kept_key k) (kept_columns k) }) ks)
+    go (inr none) = rw none (draft_changed tables ks)
+
+pub timing_many : (ks : List Kept) → length (timing_puts ks) ≡ length (filter (λ (k : Kept). has_ped k.1) ks)
+timing_many [] = refl
+timing_many ((id, Put r) ∷ ks) = go (cases_Bool (has_ped (Put r)))
+  where
+    go : (has_ped (Put r) ≡ true) ⊎ (has_ped (Put r) ≡ false) → length (timing_puts ((id, Put r) ∷ ks)) ≡ length (filter (λ (k : Kept). has_ped k.1) ((id, Put r) ∷ ks))
+    go (inl some) = rw (some, timing_many ks) refl
+    go (inr none) = rw (none, timing_many ks) refl
+timing_many ((id, Remove k) ∷ ks) = timing_many ks
+
+pub draft_many : (ks : List Kept) → length (draft_puts ks) ≡ length (filter (λ (k : Kept). has_ped k.1) ks)
+draft_many [] = refl
+draft_many (k ∷ ks) = go (cases_Bool (has_ped k.1))
+  where
+    go : (has_ped k.1 ≡ true) ⊎ (has_ped k.1 ≡ false) → length (draft_puts (k ∷ ks)) ≡ length (filter (λ (k : Kept). has_ped k.1) (k ∷ ks))
+    go (inl some) = rw (some, draft_many ks) refl
+    go (inr none) = rw (none, draft_many ks) refl
+
+-- ---- what then stands under a key
+
+-- what stands under a key after the puts, by what stood there
+abbrev after : List Cell → List Kept → Option (List Cell) → Option (List Cell)
+after q [] o = o
+after q (k ∷ ks) o = after q ks (if has_ped k.1 then cond (is_under kept_key kept_columns q k) (Some (kept_columns k)) o else o)
+
+get_puts : (q : List Cell) (rows : Rows) (ks : List Kept) → get (puts_in rows ks) q ≡ after q ks (get rows q)
+get_puts q rows [] = refl
+get_puts q rows (k ∷ ks) = go (cases_Bool (has_ped k.1))
+  where
+    go : (has_ped k.1 ≡ true) ⊎ (has_ped k.1 ≡ false) → get (puts_in rows (k ∷ ks)) q ≡ after q (k ∷ ks) (get rows q)
+    go (inl some) = rw some (get_puts q (insert rows (kept_key k) (kept_columns k)) ks ∙ ap (after q ks) (get-insert cells_total rows (kept_key k) (kept_columns k) q))
+    go (inr none) = rw none (get_puts q rows ks)
+
+-- what is spelled alike in both versions
+phase_alike : (p : ℕ) (phase : Phase) (ped : Option Ped) → phase.ped ≡ ped → has_ped (Put (row.Phase p phase)) ≡ false → body_in version_1_limits (row.Phase p phase) ≡ body_in current_limits (row.Phase p phase)
+unfolding body_in
+phase_alike p phase None is none = rw is refl
+phase_alike p phase (Some ped) is none = absurd (true≢false (rw is at none))
+
+alike : (change : Change) → has_ped change ≡ false → left_columns_in version_1_limits (left_by change) ≡ left_columns_in current_limits (left_by change)
+unfolding body_in
+alike (Put (row.Phase p phase)) none = ap (λ (bytes : List ℕ). text bytes ∷ []) (phase_alike p phase phase.ped refl none)
+alike (Put (row.Seq n ring r)) none = refl
+alike (Put (row.Split n p split)) none = refl
+alike (Put (row.Pattern n pattern)) none = refl
+alike (Remove k) none = refl
+
+-- no later row of a list in order has the key of the first
+first_parts : (a b : Bool) → T (a && b) → T a × T b
+first_parts true b h = (tt, h)
+first_parts false b h = absurd h
+
+less : (o : Ordering) → T (is_lt o) → is_eq o ≡ false
+less Less h = refl
+less Equal h = absurd h
+less Greater h = absurd h
+
+none_after : (q : List Cell) (ks : List Kept) (o : Option (List Cell)) → AllByRecursion (λ k. is_under kept_key kept_columns q k ≡ false) ks → after q ks o ≡ o
+none_after q [] o none = refl
+none_after q (k ∷ ks) o none = go (cases_Bool (has_ped k.1))
+  where
+    go : (has_ped k.1 ≡ true) ⊎ (has_ped k.1 ≡ false) → after q (k ∷ ks) o ≡ o
+    go (inl some) = rw (some, none.0) (none_after q ks o none.1)
+    go (inr unlike) = rw unlike (none_after q ks o none.1)
+
+apart_after : (q : List Cell) (k : Kept) (ks : List Kept) → T (below_all cells_cmp (kept_key k) (map former_cells ks)) → is_under kept_key kept_columns q k ≡ true → AllByRecursion (λ x. is_under kept_key kept_columns q x ≡ false) ks
+apart_after q k [] below hit = tt
+apart_after q k (x ∷ ks) below hit =
+    let p = first_parts _ _ below in
+    (ap (λ (c : List Cell). is_eq (cells_cmp c (kept_key x))) (cells_exact q (kept_key k) (tied _ hit)) ∙ less _ p.0, apart_after q k ks p.1 hit)
+
+spelled : (q : List Cell) (ks : List Kept) → T (is_sorted cells_cmp (map former_cells ks)) → after q ks (option_map former (find (is_under kept_key kept_columns q) ks)) ≡ option_map kept_columns (find (is_under kept_key kept_columns q) ks)
+spelled q [] sorted = refl
+spelled q (k ∷ ks) sorted = go (cases_Bool (is_under kept_key kept_columns q k)) (cases_Bool (has_ped k.1)) (spelled q ks (first_parts _ _ sorted).1)
+  where
+    go : (is_under kept_key kept_columns q k ≡ true) ⊎ (is_under kept_key kept_columns q k ≡ false) → (has_ped k.1 ≡ true) ⊎ (has_ped k.1 ≡ false)
+        → after q ks (option_map former (find (is_under kept_key kept_columns q) ks)) ≡ option_map kept_columns (find (is_under kept_key kept_columns q) ks)
+        → after q (k ∷ ks) (option_map former (find (is_under kept_key kept_columns q) (k ∷ ks))) ≡ option_map kept_columns (find (is_under kept_key kept_columns q) (k ∷ ks))
+    go (inl hit) (inl some) later = rw (hit, some) (none_after q ks _ (apart_after q k ks (first_parts _ _ sorted).0 hit))
+    go (inl hit) (inr none) later = rw (hit, none) (none_after q ks _ (apart_after q k ks (first_parts _ _ sorted).0 hit) ∙ ap Some (alike k.1 none))
+    go (inr miss) (inl some) later = rw (miss, some) later
+    go (inr miss) (inr none) later = rw (miss, none) later
+
+was : (rows : Rows) (ks : List Kept) → AreKept rows ks → (q : List Cell) → get rows q ≡ option_map former (find (is_under kept_key kept_columns q) ks)
+was rows ks kept q = get-entries rows q ∙ ap (finite.find cells_cmp q) (sym kept.cells) ∙ find_entry kept_key former ks q
+
+-- the rows of version 1, each as it is spelled today
+pub anew : (rows : Rows) (ks : List Kept) → AreKept rows ks → puts_in rows ks ≡ rows_by kept_key kept_columns ks
+anew rows ks kept =
+    let sorted : T (is_sorted cells_cmp (map former_cells ks)) = subst (λ es. T (is_sorted cells_cmp es)) (sym kept.cells) (entries_sorted rows) in
+    same_map cells_total cells_exact _ _ (λ q. get_puts q rows ks ∙ ap (after q ks) (was rows ks kept q) ∙ spelled q ks sorted ∙ sym (get_by kept_key kept_columns ks q))
+
+-- the tables after the puts
+pub migrated : (old : Content) (count : Migrated) (timing drafts : List Kept) → AreKept old.timing timing → AreKept old.draft drafts → list_all (λ (k : Kept). is_row k.1) timing ≡ true
+    → count.timing ≡ length (timing_puts timing) → count.draft ≡ length (draft_puts drafts) → IsMigrated old (changed_by (changed_by old (timing_puts timing)) (draft_puts drafts)) count
+migrated old count timing drafts timing_kept drafts_kept are_rows many few =
+    let first = timing_changed old timing in
+    let whole : changed_by (changed_by old (timing_puts timing)) (draft_puts drafts) ≡ record old { timing = puts_in old.timing timing; draft = puts_in old.draft drafts } =
+    ap (λ (t : Content). changed_by t (draft_puts drafts)) first ∙ draft_changed (record old { timing = puts_in old.timing timing }) drafts in
+    subst (λ (new : Content). IsMigrated old new count) (sym whole) (record {
+      timing = timing;
+      draft = drafts;
+      timing_rows = record { before = timing_kept; after = anew old.timing timing timing_kept };
+      timing_puts = are_rows;
+      draft_rows = record { before = drafts_kept; after = anew old.draft drafts drafts_kept };
+      others = refl;
+      timing_count = many ∙ timing_many timing;
+      draft_count = few ∙ draft_many drafts;
+    })
+
+-- ---- the limits of version 1 are within today's
+
+phases_more : (ns : List ℕ) → list_all (is_phase version_1_limits.phases) ns ≡ true → list_all (is_phase current_limits.phases) ns ≡ true
+phases_more [] h = refl
+phases_more (n ∷ ns) h =
+    let p = and_parts (is_phase version_1_limits.phases n) (list_all (is_phase version_1_limits.phases) ns) h in
+    let few : is_phase version_1_limits.phases n ≡ true = p.0 in
+    let more : is_phase current_limits.phases n ≡ true = grind (arith, nat_tests) in
+    and_from _ _ more (phases_more ns p.1)
+
+list_more : (ns : List ℕ) → IsTrue (is_phase_list version_1_limits.phases ns) → IsTrue (is_phase_list current_limits.phases ns)
+list_more ns h =
+    let p = and_parts (list_all (is_phase version_1_limits.phases) ns) (is_distinct ns) h in
+    and_from _ _ (phases_more ns p.0) p.1
+
+ped_more : (ped : Option Ped) → IsAnyPedWithin false ped → IsAnyPedWithin true ped
+ped_more None within = tt
+ped_more (Some ped) within = let lead = within.lead in record { walk = within.walk; clear = within.clear; width = within.width; setback = within.setback; lead = omega arith }
+
+row_more : (r : Row) → IsRowWithin version_1_limits r → IsRowWithin current_limits r
+row_more (row.Phase p phase) within =
+    let number = within.number.1 in
+    let ring = within.ring.1 in
+    record { number = (within.number.0, omega arith); ring = (within.ring.0, omega arith); min_green = within.min_green; passage = within.passage; max1 = within.max1; yellow = within.yellow; red = within.red; mates = list_more phase.mates within.mates; ped = ped_more phase.ped within.ped }
+row_more (row.Seq n ring r) within = let top = within.1.0.1 in (within.0, ((within.1.0.0, omega arith), list_more r.list within.1.1))
+row_more (row.Split n p split) within = let top = within.phase.1 in record { number = within.number; phase = (within.phase.0, omega arith); time = within.time }
+row_more (row.Pattern n pattern) within = within
+
+key_more : (k : Key) → IsKeyWithin version_1_limits k → IsKeyWithin current_limits k
+key_more (key.Phase p) within = let top = within.1 in (within.0, omega arith)
+key_more (key.Seq n ring) within = let top = within.1.1 in (within.0, (within.1.0, omega arith))
+key_more (key.Split n p) within = let top = within.1.1 in (within.0, (within.1.0, omega arith))
+key_more (key.Pattern n) within = within
+
+left_more : (k : Key) (left : Option Row) → IsLeftIn version_1 k left → IsLeftIn today k left
+left_more k None within = key_more k within
+left_more k (Some r) within = (row_more r within.0, within.1)
+
+any_left_more : (k : Key) (row : Option (Option Row)) → IfSome row (IsLeftIn version_1 k) → IfSome row (IsLeftIn today k)
+any_left_more k None within = tt
+any_left_more k (Some left) within = left_more k left within
+
+record_more : (k : Key) (o : Option Row) → IfSome o (λ r. IsRowWithin version_1_limits r × (key_of r ≡ k)) → IfSome o (λ r. IsRowWithin current_limits r × (key_of r ≡ k))
+record_more k None h = tt
+record_more k (Some r) h = (row_more r h.0, h.1)
+
+records_more : (set : Set) → AreRecordsIn version_1 set → AreRecordsIn today set
+records_more set are k = record_more k (get set k) (are k)
+
+-- ---- and its rows have no lead
+
+no_lead : (ped : Option Ped) → IsAnyPedWithin false ped → IfSome ped (λ (p : Ped). p.lead ≡ 0)
+no_lead None within = tt
+no_lead (Some ped) within = let lead = within.lead in omega arith
+
+phase_no_lead : (p : ℕ) (o : Option Row) → IfSome o (λ r. IsRowWithin version_1_limits r × (key_of r ≡ key.Phase p)) → HasNoLead (the_phase o)
+phase_no_lead p None h = tt
+phase_no_lead p (Some (row.Phase q phase)) h = no_lead phase.ped h.0.ped
+phase_no_lead p (Some (row.Seq n ring r)) h = tt
+phase_no_lead p (Some (row.Split n q split)) h = tt
+phase_no_lead p (Some (row.Pattern n pattern)) h = tt
+
+judged_alike : (set : Set) → AreRecordsIn version_1 set → violations_of set ≡ violations_before_lead set
+judged_alike set are = same_violations set (λ p. phase_no_lead p (get set (key.Phase p)) (are (key.Phase p)))
+
+-- ---- the office that the tables stand for
+
+same_left : (a b : Option Row) → IfSome a (IsRowWithin version_1_limits) → IfSome b (IsRowWithin version_1_limits) → left_columns_in version_1_limits a ≡ left_columns_in version_1_limits b → a ≡ b
+same_left None None x y e = refl
+same_left None (Some b) x y e = cc
+same_left (Some a) None x y e = cc
+same_left (Some a) (Some b) x y e =
+    let same : body_in version_1_limits a ≡ body_in version_1_limits b = cc in
+    ap (λ (r : Row). Some r) (same_row version_1_limits a b are_version_1 x y same)
+
+left_within : (change : Change) → IsChangeWithin version_1_limits change → IfSome (left_by change) (IsRowWithin version_1_limits)
+left_within (Put r) within = within
+left_within (Remove k) within = tt
+
+is_left_within : (k : Key) (left : Option Row) → IsLeftIn version_1 k left → IfSome left (IsRowWithin version_1_limits)
+is_left_within k None within = tt
+is_left_within k (Some r) within = within.0
+
+any_left_within : (k : Key) (row : Option (Option Row)) → IfSome row (IsLeftIn version_1 k) → IfSome row (λ left. IfSome left (IsRowWithin version_1_limits))
+any_left_within k None within = tt
+any_left_within k (Some left) within = is_left_within k left within
+
+module _ (old new : Rows) (ks : List Kept) (anew : IsSpelledAnew old new ks) where
+  left_anew : (q : List Cell) (left : Option (Option Row)) → IfSome left (λ l. IfSome l (IsRowWithin version_1_limits)) → get old q ≡ option_map (left_columns_in version_1_limits) left → get new q ≡ option_map (left_columns_in current_limits) left
+  left_anew q left within is =
+      ap (λ (rows : Rows). get rows q) anew.after ∙ get_by kept_key kept_columns ks q
+      ∙ go (find (is_under kept_key kept_columns q) ks) refl left within (sym (was old ks anew.before q) ∙ is)
+    where
+      go : (o : Option Kept) → find (is_under kept_key kept_columns q) ks ≡ o → (left : Option (Option Row)) → IfSome left (λ l. IfSome l (IsRowWithin version_1_limits))
+          → option_map former o ≡ option_map (left_columns_in version_1_limits) left → option_map kept_columns o ≡ option_map (left_columns_in current_limits) left
+      go None at None within e = refl
+      go None at (Some l) within e = cc
+      go (Some k) at None within e = cc
+      go (Some k) at (Some l) within e =
+          let cells : left_columns_in version_1_limits (left_by k.1) ≡ left_columns_in version_1_limits l = cc in
+          let in_k = all_has (λ (k : Kept). IsChangeWithin version_1_limits k.1) ks k anew.before.within (found_has (is_under kept_key kept_columns q) ks k at).0 in
+          ap (λ (l : Option Row). Some (left_columns_in current_limits l)) (same_left (left_by k.1) l (left_within k.1 in_k) within cells)
+
+  keys_anew : HasTimingKeys new
+  keys_anew q columns is = go (find (is_under kept_key kept_columns q) ks) refl (sym (get_by kept_key kept_columns ks q) ∙ sym (ap (λ (rows : Rows). get rows q) anew.after) ∙ is)
+    where
+      go : (o : Option Kept) → find (is_under kept_key kept_columns q) ks ≡ o → option_map kept_columns o ≡ Some columns → IsTimingKey q
+      go None at e = absurd (let none = e in cc)
+      go (Some k) at e = (k.0, (changed_key k.1, cells_exact q (kept_key k) (tied _ (found_has (is_under kept_key kept_columns q) ks k at).1)))
+
+committed_left : (limits : Limits) (o : Option Row) → option_map (timing_columns_in limits) o ≡ option_map (left_columns_in limits) (option_map (λ r. Some r) o)
+committed_left limits None = refl
+committed_left limits (Some r) = refl
+
+committed_within : (k : Key) (o : Option Row) → IfSome o (λ r. IsRowWithin version_1_limits r × (key_of r ≡ k)) → IfSome (option_map (λ (r : Row). Some r) o) (λ l. IfSome l (IsRowWithin version_1_limits))
+committed_within k None h = tt
+committed_within k (Some r) h = h.0
+
+-- the committed set of an intersection, or of none
+side_records : (o : Option Intersection) → IfSome o (IsSoundIntersectionIn version_1) → AreRecordsIn version_1 (side_of o).committed
+side_records None sound = λ k. subst (λ o. IfSome o (λ r. IsRowWithin version_1_limits r × (key_of r ≡ k))) (sym (get-empty key_cmp k)) tt
+side_records (Some i) sound = sound.rows
+
+side_draft : (o : Option Intersection) → IfSome o (IsSoundIntersectionIn version_1) → IfSome (side_of o).draft (IsSoundDraftIn version_1)
+side_draft None sound = tt
+side_draft (Some i) sound = sound.draft
+
+draft_more : (o : Option Draft) → IfSome o (IsSoundDraftIn version_1) → IfSome o (IsSoundDraftIn today)
+draft_more None sound = tt
+draft_more (Some d) sound = record { owner = sound.owner; rows = records_more d.set sound.rows }
+
+draft_alike : (o : Option Draft) → IfSome o (IsSoundDraftIn version_1) → IfSome o (λ d. IsJudgedAlike d.set)
+draft_alike None sound = tt
+draft_alike (Some d) sound = judged_alike d.set sound.rows
+
+intersection_more : (o : Option Intersection) → IfSome o (IsSoundIntersectionIn version_1) → IfSome o (IsSoundIntersectionIn today)
+intersection_more None sound = tt
+intersection_more (Some i) sound = record {
+  name = sound.name;
+  interval_low = sound.interval_low;
+  interval_high = sound.interval_high;
+  revision = sound.revision;
+  rows = records_more i.timing.committed sound.rows;
+  no_violations = judged_alike i.timing.committed sound.rows ∙ sound.no_violations;
+  draft = draft_more i.timing.draft sound.draft;
+}
+
+-- tables of version 1 that stood for an office that was sound by its rules stand for it as they are spelled today
+pub stand_anew : (old new : Content) (count : Migrated) (office : Office) → IsMigrated old new count → StandForSoundIn version_1 old office → StandAnew new office
+stand_anew old new count office it before =
+    let stand = before.stand in
+    let sound = before.sound in
+    let in_timing = λ (id : ℕ). side_records (get office.intersections id) (sound.intersections id) in record {
+      stand = record {
+        stand = record {
+          intersection = ap (λ (t : Content). t.intersection) it.others ∙ stand.intersection;
+          timing = λ id k.
+          let o = get (side_at office id).committed k in
+          left_anew old.timing new.timing it.timing it.timing_rows (timing_key id k) (option_map (λ (r : Row). Some r) o) (committed_within k o (in_timing id k)) (stand.timing id k ∙ committed_left version_1_limits o) ∙ sym (committed_left current_limits o);
+          timing_keys = keys_anew old.timing new.timing it.timing it.timing_rows;
+          draft = λ id k.
+          let d = stand.draft id k in
+          record { row = d.row; stored = left_anew old.draft new.draft it.draft it.draft_rows (timing_key id k) d.row (any_left_within k d.row d.within) d.stored; stands = d.stands; within = any_left_more k d.row d.within };
+          draft_keys = keys_anew old.draft new.draft it.draft it.draft_rows;
+          register = subst (λ (t : Content). RegisterStands t office.register) (sym it.others)
+          (record { inspection = stand.register.inspection; work_order = stand.register.work_order; used_part = stand.register.used_part; delivery = stand.register.delivery; part = stand.register.part; part_keys = stand.register.part_keys });
+        };
+        sound = record { numbers = sound.numbers; intersections = λ id. intersection_more (get office.intersections id) (sound.intersections id); register = sound.register };
+      };
+      committed = λ id. judged_alike (side_at office id).committed (in_timing id);
+      drafted = λ id. draft_alike (side_at office id).draft (side_draft (get office.intersections id) (sound.intersections id));
+    }
