@@ -4,3 +4,4 @@ mod BlankLemmas
 mod ArrangedLemmas
 mod OpenLemmas
 mod VacantLemmas
+mod MigrateLemmas
