@@ -8,6 +8,7 @@ mod ends;
 mod files;
 mod long;
 mod memory;
+mod migrating;
 mod refusing;
 mod script;
 mod slow;
@@ -20,6 +21,7 @@ use crate::damaged::meet_all;
 use crate::ends::{cut_everywhere, fail_everywhere};
 use crate::long::serve_long;
 use crate::memory::{office_in_memory, run_all, serve_two};
+use crate::migrating::stop_migration;
 use crate::refusing::refuse_everywhere;
 use crate::stops::stop_everywhere;
 use crate::sweep::draw_all;
@@ -53,6 +55,12 @@ fn try_stops(rt: &HostRuntime) -> Result<(), Trouble> {
         stop_everywhere(rt.alloc(), is_stream, false)?;
         println!(rt; "{name}, stopped at each call of the database: done or not")?;
     }
+    if stop_migration(rt.alloc(), true)? == 0 {
+        return Err(Trouble::Unprepared("a stop of the log"));
+    }
+    println!(rt; "a migration, stopped at each call of the log: done or not")?;
+    stop_migration(rt.alloc(), false)?;
+    println!(rt; "a migration, stopped at each call of the database: done or not")?;
     Ok(())
 }
 

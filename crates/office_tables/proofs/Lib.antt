@@ -1,7 +1,7 @@
 mod VersionLemmas
 mod StatementLemmas
 mod BlankLemmas
-mod ArrangedLemmas
+pub mod ArrangedLemmas
 mod OpenLemmas
 mod VacantLemmas
 mod MigrateLemmas
