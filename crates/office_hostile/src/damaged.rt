@@ -95,6 +95,19 @@ fn altered(alloc: Global, kept: &Pair, sql: &'static str) -> Result<Stored, Trou
     }
 }
 
+/// A query was told of damage, or as ever.
+fn compare_told(
+    alloc: Global,
+    (sql, is_damaged): (&'static str, bool),
+    told: &[u8],
+    came: &[u8],
+) -> Result<(), Trouble> {
+    if is_damaged {
+        return compare(alloc, sql, DAMAGED, came);
+    }
+    compare(alloc, sql, told, came)
+}
+
 /// Asks a query by a command and by a stream.
 fn ask(
     alloc: Global,
@@ -103,11 +116,10 @@ fn ask(
     (sql, is_damaged): (&'static str, bool),
 ) -> Result<(), Trouble> {
     let (came, told) = run_line(alloc, office, query)?;
-    let wanted = if is_damaged { DAMAGED } else { told.as_bytes() };
-    compare(alloc, sql, wanted, &came)?;
+    compare_told(alloc, (sql, is_damaged), told.as_bytes(), &came)?;
     let request = request_bytes(alloc, words(query))?;
     let (came, _) = serve_all(alloc, office, request.as_bytes())?;
-    compare(alloc, sql, wanted, &came)
+    compare_told(alloc, (sql, is_damaged), told.as_bytes(), &came)
 }
 
 /// A row that is no record is told of by each query that reads it, all others are answered as
