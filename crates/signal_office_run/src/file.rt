@@ -65,7 +65,7 @@ fn office_over<S: Start>(
 }
 
 /// Why a file was not opened. What is left of it is dropped.
-fn unopened<L: Drop>(refused: (Error, L)) -> Fault {
+pub(crate) fn unopened<L: Drop>(refused: (Error, L)) -> Fault {
     let (error, _) = refused;
     Fault::from(error)
 }
@@ -128,17 +128,17 @@ pub fn serve_file<S: Start, R: Source, W: Sink>(
     Ok((office, outcome))
 }
 
-/// Closes the tables of a file, so that their log is copied into it, and gives what was made of them.
-/// A fault from before comes first.
+/// Closes a file, so that its log is copied into it, and gives what was made of its tables. A fault
+/// from before comes first.
 pub(crate) fn close_after<D: Disk + Drop, T: Drop, E>(
-    office: Office<SqlShelf<FileStore<D>>>,
+    conn: Connection<FileStore<D>>,
     outcome: Result<T, E>,
 ) -> Result<T, Fault>
 where
     Fault: From<E>,
     ensures { IfOk result (λ done. outcome ≡ Ok done) }
 {
-    let closed = office.into_shelf().into_conn().close();
+    let closed = conn.close();
     let done = outcome?;
     closed?;
     Ok(done)

@@ -2,7 +2,7 @@
 
 use crate::memory::{open_in_memory, serve_new_office};
 use crate::serving::serve_port;
-use crate::task::{Task, batch_in_file, do_in_file};
+use crate::task::{Task, batch_in_file, do_in_file, migrate_in_file};
 use cabinet_core::read_day;
 use office_desk::office::Office;
 use office_files::violation_text;
@@ -105,6 +105,15 @@ fn overdue<W: Sink>(
     in_file(rt, alloc, path, Task::Overdue { day, most }, out)
 }
 
+/// Brings the tables of a file to today's version, and prints how many rows were written anew.
+fn migrate<W: Sink>(rt: &HostRuntime, alloc: Global, path: &str, out: &mut W) -> Result<u8, Fault> {
+    let migrated = migrate_in_file(rt, alloc, path)?;
+    let rows = migrated.timing as u128 + migrated.draft as u128;
+    let line = format!(in alloc; "migrated {rows} rows\n")?;
+    write_all(out, line.as_bytes())?;
+    Ok(0)
+}
+
 /// Does a job, and gives the status.
 fn run_job<R: Source, W: Sink>(
     rt: &HostRuntime,
@@ -135,6 +144,7 @@ fn run_job<R: Source, W: Sink>(
         Job::Sheet { db, id } => in_file(rt, alloc, db, Task::Sheet { id: *id }, out),
         Job::Overdue { db, first, day } => overdue(rt, alloc, db, *first, day, out),
         Job::VerifyFile { csv } => verify_file(rt, alloc, csv, out),
+        Job::Migrate { db } => migrate(rt, alloc, db, out),
     }
 }
 
