@@ -1,6 +1,6 @@
 mod VersionLemmas
 mod StatementLemmas
 mod BlankLemmas
-mod ArrangedLemmas
+pub mod ArrangedLemmas
 mod OpenLemmas
 mod VacantLemmas

@@ -1,12 +1,10 @@
 //! What is done over the tables of a file.
 
 use crate::file::{close_after, open_file, serve_file};
-use crate::migrating::migrate_file;
 use crate::serving::serve_port;
 use cabinet_core::Day;
 use office_desk::office::Office;
 use office_http::{Served, Sink, Source};
-use office_tables::Migrated;
 use office_tables_shelf::shelf::Shelf;
 use signal_office_reports::{Fault, overdue_of, sheet_of};
 use signal_records::InterId;
@@ -52,7 +50,8 @@ pub(crate) fn do_in_file<W: Sink>(
 ) -> Result<Vec<u8>, Fault> {
     let mut office = open_file(rt, alloc, path, Wary)?;
     let outcome = done_by(rt, alloc, &mut office, task, out);
-    close_after(office.into_shelf().into_conn(), outcome)
+    let (_, text) = close_after(office.into_shelf().into_conn(), outcome)?;
+    Ok(text)
 }
 
 /// Answers the requests of the source over the tables of a file, and closes it, so that its log is
@@ -66,15 +65,6 @@ pub(crate) fn batch_in_file<R: Source, W: Sink>(
     max_requests: u32,
 ) -> Result<Served, Fault> {
     let (office, outcome) = serve_file(rt, alloc, path, Wary, source, out, max_requests)?;
-    close_after(office.into_shelf().into_conn(), outcome)
-}
-
-/// Brings the tables of a file to today's version, and closes it, so that its log is copied into it.
-pub(crate) fn migrate_in_file(
-    rt: &HostRuntime,
-    alloc: Global,
-    path: &str,
-) -> Result<Migrated, Fault> {
-    let (conn, outcome) = migrate_file(rt, alloc, path, Wary)?;
-    close_after(conn, outcome)
+    let (_, served) = close_after(office.into_shelf().into_conn(), outcome)?;
+    Ok(served)
 }
