@@ -1,2 +1,3 @@
 pub mod ListsAll
+pub mod KeptLemmas
 pub mod Migration

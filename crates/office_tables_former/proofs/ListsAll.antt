@@ -1,6 +1,6 @@
 -- The query of all rows of a table that is keyed as `timing` is, and what it shows.
-use Rattle.std.proofs.Common.{◌≡◌, ℕ, List, [], ◌∷◌, ◌++◌, true, map, length, refl, sym, subst, ap, ◌∙◌}
-use Rattle.std.specs.FinMap.{entries}
+use Rattle.std.proofs.Common.{◌≡◌, ℕ, List, [], ◌∷◌, ◌++◌, true, map, length, Some, refl, sym, subst, ap, ◌∙◌}
+use Rattle.std.specs.FinMap.{entries, get}
 use Rattle.std.specs.List.{IsDistinct, AllByRecursion}
 use Rattle.std.specs.Ordering.{eq_by_cmp}
 use Rattle.sqlite.specs.declared.types.Value.TheVariants.{Null}
@@ -20,7 +20,7 @@ use Rattle.office_tables_sql.specs.Schema.{office_schema}
 use Rattle.office_tables_sql.specs.Stored.{cells_at, rows_in, content_of}
 use Rattle.office_tables_sql.specs.Tables.{rows_at, layout_at, schema_at, key_shown, columns_shown, row_shown, listed_by, places_from}
 use Rattle.office_tables_sql.proofs.KeyReads.{where_all}
-use Rattle.office_tables_sql.proofs.ListedLemmas.{IsListing, listing, shown_width}
+use Rattle.office_tables_sql.proofs.ListedLemmas.{IsListing, listing, shown_width, stands}
 use Rattle.office_tables_sql.proofs.StoredLemmas.{HaveKeys}
 use Rattle.office_tables_sql.proofs.StoredLists.{own_keys, distinct, seen}
 use Rattle.office_tables_sql.proofs.TableLemmas.{is_low, rows_in_tree}
@@ -64,3 +64,7 @@ module _ (t : Table) (db : Database) (is : db.schema ≡ office_schema) (sound :
   pub five_wide : AllByRecursion (λ row. length row ≡ 5) shown
   five_wide = all_from (λ (row : Row). length row ≡ 5) shown (λ row there. shown_width (layout_at t) [] (key_shown t) (columns_shown t) (listing_all t) [] (λ _. true) (overlay db.trees []) keys apart (λ row there. refl) shown answer row there
       ∙ (λ i. length (means.keys i ++ means.columns i)))
+
+  -- what a shown row has stands in the table
+  pub stored_at : (row : Row) → Has shown row → get (rows_at (content_of db.trees) t) (shown_key row) ≡ Some (shown_body row)
+  stored_at row there = (stands shown_key shown_body (λ _. true) (rows_at (content_of db.trees) t) shown (all_shown ∙ sym (where_all (entries (rows_at (content_of db.trees) t)))) row there).1

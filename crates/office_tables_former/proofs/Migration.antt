@@ -1,5 +1,5 @@
 -- The tables after the rows were put in their place, and the office that they stand for.
-use Rattle.std.proofs.Common.{◌≡◌, ◌⊎◌, inl, inr, ℕ, ◌≤◌, Bool, true, false, ◌&&◌, T, List, [], ◌∷◌, ◌++◌, map, find, filter, length, cond, if◌then◌else◌, Option, Some, None, option_map, refl, sym, ap, subst, ◌∙◌, arith, true≢false}
+use Rattle.std.proofs.Common.{◌≡◌, ◌⊎◌, inl, inr, ℕ, suc, ◌≤◌, Bool, true, false, ◌&&◌, T, List, [], ◌∷◌, ◌++◌, map, find, filter, length, cond, if◌then◌else◌, Option, Some, None, option_map, refl, sym, ap, subst, ◌∙◌, arith, true≢false}
 use Rattle.std.proofs.lemmas.Bool.{cases_Bool, and_parts, and_from}
 use Rattle.std.proofs.lemmas.Bool.Decides.{nat_tests}
 use Rattle.std.specs.FinMap as finite
@@ -64,37 +64,41 @@ puts_in rows (k ∷ ks) = puts_in (if has_ped k.1 then insert rows (kept_key k) 
 
 pub timing_changed : (tables : Content) (ks : List Kept) → changed_by tables (timing_puts ks) ≡ record tables { timing = puts_in tables.timing ks }
 timing_changed tables [] = refl
-timing_changed tables ((id, Put r) ∷ ks) = go (cases_Bool (has_ped (Put r)))
+timing_changed tables ((id, Put r) ∷ ks) = go (cases_Bool (has_ped (Put r))) (λ t. timing_changed t ks)
   where
-    go : (has_ped (Put r) ≡ true) ⊎ (has_ped (Put r) ≡ false) → changed_by tables (timing_puts ((id, Put r) ∷ ks)) ≡ record tables { timing = puts_in tables.timing ((id, Put r) ∷ ks) }
-    go (inl some) = rw some (timing_changed (record tables { timing = insert tables.timing (kept_key (id, Put r)) (kept_columns (id, Put r)) }) ks)
-    go (inr none) = rw none (timing_changed tables ks)
+    go : (has_ped (Put r) ≡ true) ⊎ (has_ped (Put r) ≡ false) → ((t : Content) → changed_by t (timing_puts ks) ≡ record t { timing = puts_in t.timing ks })
+        → changed_by tables (timing_puts ((id, Put r) ∷ ks)) ≡ record tables { timing = puts_in tables.timing ((id, Put r) ∷ ks) }
+    go (inl some) later = rw some (later (record tables { timing = insert tables.timing (kept_key (id, Put r)) (kept_columns (id, Put r)) }))
+    go (inr none) later = rw none (later tables)
 timing_changed tables ((id, Remove k) ∷ ks) = timing_changed tables ks
 
 pub draft_changed : (tables : Content) (ks : List Kept) → changed_by tables (draft_puts ks) ≡ record tables { draft = puts_in tables.draft ks }
 draft_changed tables [] = refl
-draft_changed tables (k ∷ ks) = go (cases_Bool (has_ped k.1))
+draft_changed tables (k ∷ ks) = go (cases_Bool (has_ped k.1)) (λ t. draft_changed t ks)
   where
-    go : (has_ped k.1 ≡ true) ⊎ (has_ped k.1 ≡ false) → changed_by tables (draft_puts (k ∷ ks)) ≡ record tables { draft = puts_in tables.draft (k ∷ ks) }
-    go (inl some) = rw some (draft_changed (record tables { draft = insert tables.draft (kept_key k) (kept_columns k) }) ks)
-    go (inr none) = rw none (draft_changed tables ks)
+    go : (has_ped k.1 ≡ true) ⊎ (has_ped k.1 ≡ false) → ((t : Content) → changed_by t (draft_puts ks) ≡ record t { draft = puts_in t.draft ks })
+        → changed_by tables (draft_puts (k ∷ ks)) ≡ record tables { draft = puts_in tables.draft (k ∷ ks) }
+    go (inl some) later = rw some (later (record tables { draft = insert tables.draft (kept_key k) (kept_columns k) }))
+    go (inr none) later = rw none (later tables)
 
 pub timing_many : (ks : List Kept) → length (timing_puts ks) ≡ length (filter (λ (k : Kept). has_ped k.1) ks)
 timing_many [] = refl
-timing_many ((id, Put r) ∷ ks) = go (cases_Bool (has_ped (Put r)))
+timing_many ((id, Put r) ∷ ks) = go (cases_Bool (has_ped (Put r))) (timing_many ks)
   where
-    go : (has_ped (Put r) ≡ true) ⊎ (has_ped (Put r) ≡ false) → length (timing_puts ((id, Put r) ∷ ks)) ≡ length (filter (λ (k : Kept). has_ped k.1) ((id, Put r) ∷ ks))
-    go (inl some) = rw (some, timing_many ks) refl
-    go (inr none) = rw (none, timing_many ks) refl
+    go : (has_ped (Put r) ≡ true) ⊎ (has_ped (Put r) ≡ false) → length (timing_puts ks) ≡ length (filter (λ (k : Kept). has_ped k.1) ks)
+        → length (timing_puts ((id, Put r) ∷ ks)) ≡ length (filter (λ (k : Kept). has_ped k.1) ((id, Put r) ∷ ks))
+    go (inl some) later = rw some (ap suc later)
+    go (inr none) later = rw none later
 timing_many ((id, Remove k) ∷ ks) = timing_many ks
 
 pub draft_many : (ks : List Kept) → length (draft_puts ks) ≡ length (filter (λ (k : Kept). has_ped k.1) ks)
 draft_many [] = refl
-draft_many (k ∷ ks) = go (cases_Bool (has_ped k.1))
+draft_many (k ∷ ks) = go (cases_Bool (has_ped k.1)) (draft_many ks)
   where
-    go : (has_ped k.1 ≡ true) ⊎ (has_ped k.1 ≡ false) → length (draft_puts (k ∷ ks)) ≡ length (filter (λ (k : Kept). has_ped k.1) (k ∷ ks))
-    go (inl some) = rw (some, draft_many ks) refl
-    go (inr none) = rw (none, draft_many ks) refl
+    go : (has_ped k.1 ≡ true) ⊎ (has_ped k.1 ≡ false) → length (draft_puts ks) ≡ length (filter (λ (k : Kept). has_ped k.1) ks)
+        → length (draft_puts (k ∷ ks)) ≡ length (filter (λ (k : Kept). has_ped k.1) (k ∷ ks))
+    go (inl some) later = rw some (ap suc later)
+    go (inr none) later = rw none later
 
 -- ---- what then stands under a key
 
@@ -105,11 +109,11 @@ after q (k ∷ ks) o = after q ks (if has_ped k.1 then cond (is_under kept_key k
 
 get_puts : (q : List Cell) (rows : Rows) (ks : List Kept) → get (puts_in rows ks) q ≡ after q ks (get rows q)
 get_puts q rows [] = refl
-get_puts q rows (k ∷ ks) = go (cases_Bool (has_ped k.1))
+get_puts q rows (k ∷ ks) = go (cases_Bool (has_ped k.1)) (λ more. get_puts q more ks)
   where
-    go : (has_ped k.1 ≡ true) ⊎ (has_ped k.1 ≡ false) → get (puts_in rows (k ∷ ks)) q ≡ after q (k ∷ ks) (get rows q)
-    go (inl some) = rw some (get_puts q (insert rows (kept_key k) (kept_columns k)) ks ∙ ap (after q ks) (get-insert cells_total rows (kept_key k) (kept_columns k) q))
-    go (inr none) = rw none (get_puts q rows ks)
+    go : (has_ped k.1 ≡ true) ⊎ (has_ped k.1 ≡ false) → ((more : Rows) → get (puts_in more ks) q ≡ after q ks (get more q)) → get (puts_in rows (k ∷ ks)) q ≡ after q (k ∷ ks) (get rows q)
+    go (inl some) later = rw some (later (insert rows (kept_key k) (kept_columns k)) ∙ ap (after q ks) (get-insert cells_total rows (kept_key k) (kept_columns k) q))
+    go (inr none) later = rw none (later rows)
 
 -- what is spelled alike in both versions
 phase_alike : (p : ℕ) (phase : Phase) (ped : Option Ped) → phase.ped ≡ ped → has_ped (Put (row.Phase p phase)) ≡ false → body_in version_1_limits (row.Phase p phase) ≡ body_in current_limits (row.Phase p phase)
@@ -137,11 +141,11 @@ less Greater h = absurd h
 
 none_after : (q : List Cell) (ks : List Kept) (o : Option (List Cell)) → AllByRecursion (λ k. is_under kept_key kept_columns q k ≡ false) ks → after q ks o ≡ o
 none_after q [] o none = refl
-none_after q (k ∷ ks) o none = go (cases_Bool (has_ped k.1))
+none_after q (k ∷ ks) o none = go (cases_Bool (has_ped k.1)) (none_after q ks o none.1)
   where
-    go : (has_ped k.1 ≡ true) ⊎ (has_ped k.1 ≡ false) → after q (k ∷ ks) o ≡ o
-    go (inl some) = rw (some, none.0) (none_after q ks o none.1)
-    go (inr unlike) = rw unlike (none_after q ks o none.1)
+    go : (has_ped k.1 ≡ true) ⊎ (has_ped k.1 ≡ false) → after q ks o ≡ o → after q (k ∷ ks) o ≡ o
+    go (inl some) later = rw (some, none.0) later
+    go (inr unlike) later = rw unlike later
 
 apart_after : (q : List Cell) (k : Kept) (ks : List Kept) → T (below_all cells_cmp (kept_key k) (map former_cells ks)) → is_under kept_key kept_columns q k ≡ true → AllByRecursion (λ x. is_under kept_key kept_columns q x ≡ false) ks
 apart_after q k [] below hit = tt
@@ -296,7 +300,7 @@ module _ (old new : Rows) (ks : List Kept) (anew : IsSpelledAnew old new ks) whe
     where
       go : (o : Option Kept) → find (is_under kept_key kept_columns q) ks ≡ o → option_map kept_columns o ≡ Some columns → IsTimingKey q
       go None at e = absurd (let none = e in cc)
-      go (Some k) at e = (k.0, (changed_key k.1, cells_exact q (kept_key k) (tied _ (found_has (is_under kept_key kept_columns q) ks k at).1)))
+      go (Some k) at e = (k.0, changed_key k.1, cells_exact q (kept_key k) (tied _ (found_has (is_under kept_key kept_columns q) ks k at).1))
 
 committed_left : (limits : Limits) (o : Option Row) → option_map (timing_columns_in limits) o ≡ option_map (left_columns_in limits) (option_map (λ r. Some r) o)
 committed_left limits None = refl

@@ -59,11 +59,13 @@ pub(crate) fn read(alloc: Global, row: &SqlRow) -> Result<(InterId, Change), She
     let id = ranged_at(row, 0)?;
     let Some(found) = body_at(alloc, row)? else {
         let key = read_key(row, id)?;
-        if !is_key_v1(key) {
+        if !is_key_v1(&key) {
             return Err(ShelfFault::Damaged);
         }
-        return Ok((id, Change::Remove(key)));
+        let removal = Change::Remove(key);
+        return Ok((id, removal));
     };
     check_key(row, id, &found.key())?;
-    Ok((id, Change::Put(found)))
+    let change = Change::Put(found);
+    Ok((id, change))
 }

@@ -1,6 +1,7 @@
 //! The rows of version 1 of the tables, read to be written anew.
 #![tactic(auto)]
 
+mod growing;
 mod kept;
 pub mod listing;
 pub mod puts;

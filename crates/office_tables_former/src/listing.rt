@@ -15,6 +15,7 @@ ghost use Rattle.office_tables_sql.specs.Tables.{rows_at};
 ghost use Rattle.office_tables_former.specs.Former.{former_cells, shown_cells, AreKept, HasNoFormer, IsNoFormer};
 ghost use Rattle.office_tables_former.specs.Listing.{ListsAll};
 
+use crate::growing::push;
 use crate::kept::read;
 use office_tables_shelf::shelf::ShelfFault;
 use office_tables_sql::statement::select;
@@ -35,9 +36,7 @@ fn read_all(alloc: Global, rows: Vec<SqlRow>) -> Result<Vec<(InterId, Change)>, 
     let mut kept = Vec::new(alloc);
     for row in rows {
         let found = read(alloc, &row)?;
-        if kept.push(found).is_err() {
-            return Err(ShelfFault::NoMemory);
-        }
+        push(&mut kept, found)?;
     }
     Ok(kept)
 }

@@ -1,9 +1,10 @@
 //! What is put in the place of the rows that are spelled otherwise today.
 
-ghost use Rattle.std.specs.Prelude.{◌≡◌, ◌++◌, ◌∷◌, [], true, false, IfOk, OnOk};
+ghost use Rattle.std.specs.Prelude.{◌≡◌, true, false, IfOk, OnOk};
 ghost use Rattle.std.specs.List.{list_all};
 ghost use Rattle.office_tables_former.specs.Former.{has_ped, is_row, timing_puts, draft_puts};
 
+use crate::growing::push;
 use office_tables_shelf::rows::RowChange;
 use office_tables_shelf::shelf::ShelfFault;
 use signal_records::{Change, InterId, NoMemory, Row};
@@ -51,13 +52,6 @@ pub fn timing_changes(
     Ok(changes)
 }
 
-fn push(changes: &mut Vec<RowChange>, change: RowChange) -> Result<(), NoMemory>
-    ensures { OnOk result (changes.new.items ≡ changes.old.items ++ change ∷ []) }
-{
-    changes.push(change)?;
-    Ok(())
-}
-
 /// The drafted rows with a pedestrian part, to be put in their place.
 pub fn draft_changes(
     alloc: Global,
@@ -68,7 +62,7 @@ pub fn draft_changes(
     let mut changes = Vec::new(alloc);
     for (id, change) in kept {
         if has_pedestrian_part(&change) {
-            changes.push(RowChange::PutDraft(id, change))?;
+            push(&mut changes, RowChange::PutDraft(id, change))?;
         }
     }
     Ok(changes)

@@ -29,14 +29,18 @@ pub fn key_is_within(_key: Key)
 {}
 
 /// Whether version 1 had the key: phases go to 16 there, and rings to 4.
-pub fn is_key_v1(key: Key) -> bool
-    ensures { IsTrue result ↔ IsKeyWithin version_1_limits key }
+pub fn is_key_v1(key: &Key) -> bool
+    ensures { IsTrue result ↔ IsKeyWithin version_1_limits key.now }
 {
+    let key = *key;
     match key {
         Key::Phase(p) => p.get() <= VERSION_1_LIMITS.phases,
         Key::Seq(_, ring) => ring.get() <= VERSION_1_LIMITS.rings,
         Key::Split(_, p) => p.get() <= VERSION_1_LIMITS.phases,
-        Key::Pattern(_) => true,
+        Key::Pattern(n) => {
+            let _number = n.get();
+            true
+        }
     }
 }
 

@@ -1,6 +1,6 @@
 use Rattle.std.proofs.Common.{ap, ◌∙◌}
 use Rattle.std.specs.List.{join_with_byte}
-use Rattle.office_tables_shelf.specs.Rows.{body_of}
+use Rattle.office_tables_shelf.specs.Rows.{body_in}
 use Rattle.office_tables_sql.proofs.body.write_body.Goals as goal
 
 pub returns : goal.returns
