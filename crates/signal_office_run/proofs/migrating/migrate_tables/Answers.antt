@@ -1,7 +1,6 @@
-use Rattle.std.proofs.Common.{◌≡◌, inl, inr, sym, subst, arith}
+use Rattle.std.proofs.Common.{inl, inr, sym, subst, arith}
 use Rattle.sqlite.specs.Held.{state}
 use Rattle.sqlite.specs.Tree.{Trees}
-use Rattle.sqlite.specs.State.{HasCleanDisk}
 use Rattle.signal_office_run.specs.Migrating.{StandFormerly}
 use Rattle.signal_office_run.proofs.MigratingLemmas.{stands_today, is_committed, become_today}
 use Rattle.signal_office_run.proofs.migrating.migrate_tables.Goals as goal

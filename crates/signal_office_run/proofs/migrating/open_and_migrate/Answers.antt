@@ -1,4 +1,3 @@
-use Rattle.sqlite.specs.State.{HasCleanDisk}
 use Rattle.sqlite.specs.Files.{file_state}
 use Rattle.office_tables.proofs.ArrangedLemmas.{found_arranged}
 use Rattle.signal_office_run.proofs.MigratingLemmas.{on_ok, on_err, found_formerly, found_those}
