@@ -4,3 +4,4 @@ mod BlankLemmas
 pub mod ArrangedLemmas
 mod OpenLemmas
 mod VacantLemmas
+mod MigrateLemmas

@@ -1,11 +1,11 @@
 //! Version 1 of the tables brought to today's version.
 
-ghost use Rattle.std.specs.Prelude.{◌≡◌, ◌≢◌, IsTrue, IfOk, OnOk, OnErr, Some, Err};
+ghost use Rattle.std.specs.Prelude.{◌≡◌, ◌≢◌, ◌++◌, IsTrue, IfOk, OnOk, OnErr, Some, Err};
 ghost use Rattle.sqlite.specs.State.{HasCleanDisk, Survives};
 ghost use Rattle.sqlite.specs.Held.{state};
 ghost use Rattle.office_tables_shelf.specs.Change.{changed_by};
 ghost use Rattle.office_tables_sql.specs.Stored.{content_now};
-ghost use Rattle.office_tables_sql.specs.Calls.{IsHonest, IsOffice};
+ghost use Rattle.office_tables_sql.specs.Calls.{IsHonest, IsOffice, IsReady, StandsOn};
 ghost use Rattle.office_tables_former.specs.Migration.{IsMigrated};
 ghost use Rattle.office_tables.specs.Arranged.{IsArranged};
 ghost use Rattle.office_tables.specs.Migrate.{HoldsToday, IsSpelledToday, MayBecome, IsBrought, KeepNoVersion, HasUnknownVersion, HasFormerDamage, HasDamagedFormer};
@@ -13,13 +13,14 @@ ghost use Rattle.office_tables.specs.Version.{version_in, current_version};
 
 use crate::change::change_rows;
 use crate::open::OpenFault;
-use crate::version::{FIRST_VERSION, VERSION, drop_version, is_version, put_version, stored_version};
+use crate::version::{FIRST_VERSION, VERSION, is_version, renew_version, stored_version};
 use office_tables_former::listing::{draft_rows, timing_rows};
 use office_tables_former::puts::{Migrated, draft_changes, timing_changes};
 use office_tables_shelf::rows::RowChange;
 use office_tables_sql::schema::is_office;
 use office_tables_sql::statement::SqlFault;
-use sqlite::{Alter, Connection};
+use signal_records::NoMemory;
+use sqlite::{Alter, Connection, Transaction};
 use sqlite_schema::schema::Table;
 use std::alloc::Global;
 
@@ -33,25 +34,50 @@ fn keep_version(tables: &[Table]) -> bool
     table.name.as_slice() == b"office_version".as_slice() || keep_version(tables)
 }
 
+/// The changes of both lists.
+fn joined(
+    mut first: Vec<RowChange>,
+    mut second: Vec<RowChange>,
+) -> Result<Vec<RowChange>, NoMemory>
+    ensures { IfOk result (λ all. all.items ≡ first.items ++ second.items) }
+{
+    first.append(&mut second)?;
+    Ok(first)
+}
+
+/// Makes the changes, and stores today's version in the place of the one that is stored.
+fn write_in<S: Alter>(
+    alloc: Global,
+    tx: &mut Transaction<'_, S>,
+    changes: &[RowChange],
+) -> Result<(), SqlFault>
+    ensures same_reference { tx.new.conn.ghost_name ≡ tx.old.conn.ghost_name }
+    ensures honest { HasCleanDisk (state S.Store tx.new.conn.now) → OnOk result (IsHonest (state S.Store tx.old.conn.now)) }
+    ensures ready { HasCleanDisk (state S.Store tx.new.conn.now) → OnOk result (IsReady (state S.Store tx.old.conn.now) → IsReady (state S.Store tx.new.conn.now)) }
+    ensures written { HasCleanDisk (state S.Store tx.new.conn.now) → OnOk result (IsReady (state S.Store tx.old.conn.now) → HoldsToday (changed_by (content_now (state S.Store tx.old.conn.now)) changes.now) (state S.Store tx.new.conn.now).now.trees) }
+    ensures stands { StandsOn (state S.Store tx.old.conn.now) (state S.Store tx.new.conn.now) }
+    ensures crash { Survives (state S.Store tx.old.conn.now) (state S.Store tx.new.conn.now) (λ _. ⊥) }
+{
+    change_rows(alloc, tx, changes)?;
+    renew_version(tx)?;
+    Ok(())
+}
+
 /// Makes the changes and stores today's version in the place of the one that is stored, all or none.
 fn write_anew<S: Alter>(
     alloc: Global,
     conn: &mut Connection<S>,
-    timing: &[RowChange],
-    draft: &[RowChange],
+    changes: &[RowChange],
 ) -> Result<(), SqlFault>
     requires { IsOffice (state S.Store conn.old) }
     ensures office { IsOffice (state S.Store conn.new) }
     ensures honest { IsHonest (state S.Store conn.new) → IsHonest (state S.Store conn.old) }
-    ensures written { IsHonest (state S.Store conn.new) → OnOk result (HoldsToday (changed_by (changed_by (content_now (state S.Store conn.old)) timing.now) draft.now) (state S.Store conn.new).now.trees) }
+    ensures written { IsHonest (state S.Store conn.new) → OnOk result (HoldsToday (changed_by (content_now (state S.Store conn.old)) changes.now) (state S.Store conn.new).now.trees) }
     ensures unchanged { IsHonest (state S.Store conn.new) → OnErr result ((state S.Store conn.new).now.trees ≡ (state S.Store conn.old).now.trees) }
-    ensures crash { Survives (state S.Store conn.old) (state S.Store conn.new) (λ trees. IsHonest (state S.Store conn.old) × HoldsToday (changed_by (changed_by (content_now (state S.Store conn.old)) timing.now) draft.now) trees) }
+    ensures crash { Survives (state S.Store conn.old) (state S.Store conn.new) (λ trees. IsHonest (state S.Store conn.old) × HoldsToday (changed_by (content_now (state S.Store conn.old)) changes.now) trees) }
 {
     let mut tx = conn.transaction();
-    change_rows(alloc, &mut tx, timing)?;
-    change_rows(alloc, &mut tx, draft)?;
-    drop_version(&mut tx)?;
-    put_version(&mut tx)?;
+    write_in(alloc, &mut tx, changes)?;
     tx.commit()?;
     Ok(())
 }
@@ -72,14 +98,14 @@ fn spell_anew<S: Alter>(
     ensures crash { Survives (state S.Store conn.old) (state S.Store conn.new) (λ trees. IsHonest (state S.Store conn.old) × IsSpelledToday (content_now (state S.Store conn.old)) trees) }
 {
     let kept = timing_rows(alloc, conn)?;
-    let timing = timing_changes(alloc, kept)?;
+    let committed = timing_changes(alloc, kept)?;
+    let timing = committed.len();
     let kept = draft_rows(alloc, conn)?;
-    let draft = draft_changes(alloc, kept)?;
-    write_anew(alloc, conn, timing.as_slice(), draft.as_slice())?;
-    Ok(Migrated {
-        timing: timing.len(),
-        draft: draft.len(),
-    })
+    let drafted = draft_changes(alloc, kept)?;
+    let draft = drafted.len();
+    let changes = joined(committed, drafted)?;
+    write_anew(alloc, conn, changes.as_slice())?;
+    Ok(Migrated { timing, draft })
 }
 
 /// Brings tables of version 1 to today's version, all or none.

@@ -70,9 +70,9 @@ impl From<ShelfFault> for OpenFault {
 
 impl From<NoMemory> for OpenFault {
     ghost use Rattle.std.specs.Prelude.{◌≡◌};
-    ghost use Rattle.office_tables.specs.declared.open.OpenFault.TheVariants as open;
+    ghost use Rattle.office_tables.specs.declared.open.OpenFault.TheVariants as told;
 
-    ghost from_gives = { λ _ fault. fault ≡ open.NoMemory };
+    ghost from_gives = { λ _ fault. fault ≡ told.NoMemory };
 
     fn from(_refused: NoMemory) -> OpenFault {
         OpenFault::NoMemory

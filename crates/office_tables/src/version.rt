@@ -58,7 +58,7 @@ pub(crate) fn is_version(row: &Row, version: u32) -> Result<bool, SqlFault>
 }
 
 /// Stores no version any more.
-pub(crate) fn drop_version<S: Alter>(tx: &mut Transaction<'_, S>) -> Result<(), SqlFault>
+fn drop_version<S: Alter>(tx: &mut Transaction<'_, S>) -> Result<(), SqlFault>
     ensures same_reference { tx.new.conn.ghost_name ≡ tx.old.conn.ghost_name }
     ensures honest { HasCleanDisk (state S.Store tx.new.conn.now) → OnOk result (IsHonest (state S.Store tx.old.conn.now)) }
     ensures ready { HasCleanDisk (state S.Store tx.new.conn.now) → OnOk result (IsReady (state S.Store tx.old.conn.now) → IsReady (state S.Store tx.new.conn.now)) }
@@ -71,7 +71,7 @@ pub(crate) fn drop_version<S: Alter>(tx: &mut Transaction<'_, S>) -> Result<(), 
 }
 
 /// Stores today's version.
-pub(crate) fn put_version<S: Alter>(tx: &mut Transaction<'_, S>) -> Result<(), SqlFault>
+fn put_version<S: Alter>(tx: &mut Transaction<'_, S>) -> Result<(), SqlFault>
     ensures same_reference { tx.new.conn.ghost_name ≡ tx.old.conn.ghost_name }
     ensures honest { HasCleanDisk (state S.Store tx.new.conn.now) → OnOk result (IsHonest (state S.Store tx.old.conn.now)) }
     ensures ready { HasCleanDisk (state S.Store tx.new.conn.now) → OnOk result (IsReady (state S.Store tx.old.conn.now) → IsReady (state S.Store tx.new.conn.now)) }
@@ -81,6 +81,21 @@ pub(crate) fn put_version<S: Alter>(tx: &mut Transaction<'_, S>) -> Result<(), S
     ensures crash { Survives (state S.Store tx.old.conn.now) (state S.Store tx.new.conn.now) (λ _. ⊥) }
 {
     write(tx, PUT, params![1u32, VERSION])?;
+    Ok(())
+}
+
+/// Stores today's version in the place of another one.
+pub(crate) fn renew_version<S: Alter>(tx: &mut Transaction<'_, S>) -> Result<(), SqlFault>
+    ensures same_reference { tx.new.conn.ghost_name ≡ tx.old.conn.ghost_name }
+    ensures honest { HasCleanDisk (state S.Store tx.new.conn.now) → OnOk result (IsHonest (state S.Store tx.old.conn.now)) }
+    ensures ready { HasCleanDisk (state S.Store tx.new.conn.now) → OnOk result (IsReady (state S.Store tx.old.conn.now) → IsReady (state S.Store tx.new.conn.now)) }
+    ensures same { HasCleanDisk (state S.Store tx.new.conn.now) → OnOk result (IsReady (state S.Store tx.old.conn.now) → content_now (state S.Store tx.new.conn.now) ≡ content_now (state S.Store tx.old.conn.now)) }
+    ensures stored { HasCleanDisk (state S.Store tx.new.conn.now) → OnOk result (IsReady (state S.Store tx.old.conn.now) → version_in (state S.Store tx.new.conn.now).now.trees ≡ Some current_version) }
+    ensures stands { StandsOn (state S.Store tx.old.conn.now) (state S.Store tx.new.conn.now) }
+    ensures crash { Survives (state S.Store tx.old.conn.now) (state S.Store tx.new.conn.now) (λ _. ⊥) }
+{
+    drop_version(tx)?;
+    put_version(tx)?;
     Ok(())
 }
 
