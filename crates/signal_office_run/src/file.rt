@@ -130,8 +130,8 @@ pub fn serve_file<S: Start, R: Source, W: Sink>(
     Ok((office, outcome))
 }
 
-/// Closes a file, so that its log is copied into it, and gives what was made of its tables, with the
-/// files, which hold the last commit. A fault from before comes first.
+/// Closes a file, so that its log is copied into it, and gives the files, which hold the last commit,
+/// with what was made of its tables. A fault from before comes first.
 pub(crate) fn close_after<D: Disk + Drop, T: Drop, E>(
     conn: Connection<FileStore<D>>,
     outcome: Result<T, E>,

@@ -52,10 +52,12 @@ pub fn open_and_migrate<S: Start>(
     path: &str,
     start: S,
 ) -> Result<(FileConnection<S>, Result<Migrated, OpenFault>), Fault>
-    // Where the files held version 1 of the tables of a sound office, they are those of that office today.
+    // Where the files held version 1 of the tables of a sound office, the tables are those of that
+    // office today.
     ensures stand { IfOk result (λ done. IsHonest (file_state done.0) → OnOk done.1 ((before : Office) → StandFormerlyInFiles (image_at S.Start) before → StandToday (file_state done.0).committed.trees before)) }
     ensures unchanged { IfOk result (λ done. IsHonest (file_state done.0) → OnErr done.1 (AreThoseOf (image_at S.Start) (file_state done.0).committed.trees)) }
-    // A stop leaves the tables as they were, or migrated, also where a failure has shut the database.
+    // A stop leaves the tables as they were, or migrated, also where a failure has shut the
+    // database.
     ensures crash { IfOk result (λ done. HasCleanDisk (file_state done.0) → (before : Office) → StandFormerlyInFiles (image_at S.Start) before → (trees : Trees) → (file_state done.0).may_leave trees → StandFormerly trees before ⊎ StandToday trees before) }
 {
     if is_missing(rt, path) {
@@ -76,8 +78,8 @@ pub fn migrate_file<S: Start>(
     path: &str,
     start: S,
 ) -> Result<(Files<FileFrom<S>>, Migrated), Fault>
-    // Where the files held version 1 of the tables of a sound office, its tables stand in them today, as the files
-    // read now and after a stop: so the headline of `serve_file` holds of a run over them.
+    // Where the files held version 1 of the tables of a sound office, its tables stand in them today,
+    // as the files read now and after a stop: so the headline of `serve_file` holds of a run over them.
     ensures stand { IfOk result (λ done. AreClean ⟦<FileFrom<S> as Disk>⟧ done.0.log done.0.db → (before : Office) → StandFormerlyInFiles (image_at S.Start) before →
         (image : Image) → IsImageOf ⟦<FileFrom<S> as Disk>⟧ done.0 image → StandTodayInFiles image before × StandInFiles image before) }
 {
