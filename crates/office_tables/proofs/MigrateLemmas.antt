@@ -1,5 +1,23 @@
 -- What a migration makes of the tables, and which office they then stand for.
-use Rattle.std.proofs.Common.{◌≡◌, ◌⊎◌, inl, inr, Some, List, [], ◌∷◌, ◌++◌, refl, sym, ap, subst, ◌∙◌}
+use Rattle.std.proofs.Common.{◌≡◌, ◌⊎◌, inl, inr, ℕ, Bool, true, false, T, Some, Result, Ok, Err, option_map, map, List, [], ◌∷◌, ◌++◌, length, refl, sym, ap, subst, ◌∙◌, true≢false}
+use Rattle.std.proofs.lemmas.Bool.{cases_Bool}
+use Rattle.std.specs.FinMap as finite
+use Rattle.std.specs.FinMap.{get, entries, entries_sorted, get-entries, is_sorted}
+use Rattle.std.specs.List.{list_all}
+use Rattle.std.specs.Prelude.{IfOk, OnOk}
+use Rattle.sqlite_rules.specs.Lists.{Has}
+use Rattle.sqlite.specs.Tree.{Trees}
+use Rattle.signal_records.specs.Within.{version_1_limits}
+use Rattle.signal_records.specs.declared.record.Change.{Change}
+use Rattle.signal_records.specs.declared.record.Change.TheVariants.{Put, Remove}
+use Rattle.draft_core.specs.DraftRows.{left_by}
+use Rattle.office_tables_shelf.specs.Cells.{Cell, Rows, cells_cmp, null}
+use Rattle.office_tables_shelf.specs.Rows.{left_columns_in}
+use Rattle.office_tables_sql.specs.Calls.{IsHonest, Keeps}
+use Rattle.office_tables_shelf.proofs.CellLemmas.{find_entry}
+use Rattle.office_tables_sql.proofs.ContentLemmas.{tie_self}
+use Rattle.office_tables_sql.proofs.ListLemmas.{sorted_found}
+use Rattle.office_tables_former.specs.Former.{former_cells, AreKept, HasNoFormer, HasNoFormerRow, is_row, timing_puts, draft_puts}
 use Rattle.sqlite.specs.Effect.{Database}
 use Rattle.sqlite.specs.State.{State}
 use Rattle.office_tables_shelf.specs.Change.{changed_by, changed}
@@ -8,10 +26,10 @@ use Rattle.office_tables_shelf.specs.Office.{Office, version_1}
 use Rattle.office_tables_shelf.specs.StandFor.{StandForSoundIn}
 use Rattle.office_tables_shelf.specs.declared.rows.RowChange.{RowChange}
 use Rattle.office_tables_sql.specs.Stored.{content_of, content_now}
-use Rattle.office_tables_former.specs.Migration.{StandAnew}
+use Rattle.office_tables_former.specs.Migration.{IsMigrated, StandAnew, kept_key}
 use Rattle.office_tables_former.specs.declared.puts.Migrated.{Migrated}
-use Rattle.office_tables_former.proofs.Migration.{stand_anew}
-use Rattle.office_tables.specs.Migrate.{IsBrought, IsToday, IsAnew}
+use Rattle.office_tables_former.proofs.Migration.{migrated, stand_anew}
+use Rattle.office_tables.specs.Migrate.{HoldsToday, IsBrought, IsToday, IsAnew}
 use Rattle.office_tables.specs.Version.{version_in, current_version, first_version}
 
 -- changes after changes
@@ -23,3 +41,61 @@ changed_after tables (c ∷ first) second = changed_after (changed tables c) fir
 pub brought_stands : (old new : State) (count : Migrated) → IsBrought old new count → (office : Office) → version_in old.committed.trees ≡ Some first_version → StandForSoundIn version_1 (content_of old.committed.trees) office → StandAnew (content_now new) office
 brought_stands old new count (inl is) office was before = absurd (let e : Some first_version ≡ Some current_version = sym was ∙ is.was in cc)
 brought_stands old new count (inr it) office was before = stand_anew (content_of old.committed.trees) (content_now new) count office it.migrated before
+
+-- ---- what the rows of version 1 tell
+
+pub no_row : (rows : Rows) → HasNoFormer rows → HasNoFormerRow rows
+no_row rows d = record { key = d.key; columns = d.columns; stored = d.stored; no_former = λ id number r within. d.no_former id number (Put r) within }
+
+removal_in : (ks : List (ℕ × Change)) → list_all (λ (k : ℕ × Change). is_row k.1) ks ≡ false → (k : ℕ × Change) × Has ks k × (is_row k.1 ≡ false)
+removal_in [] h = absurd (true≢false h)
+removal_in (k ∷ ks) h = go (cases_Bool (is_row k.1)) (removal_in ks)
+  where
+    go : (is_row k.1 ≡ true) ⊎ (is_row k.1 ≡ false) → (list_all (λ (k : ℕ × Change). is_row k.1) ks ≡ false → (x : ℕ × Change) × Has ks x × (is_row x.1 ≡ false)) → (x : ℕ × Change) × Has (k ∷ ks) x × (is_row x.1 ≡ false)
+    go (inl row) later = let found = later (rw row at h) in (found.0, inr found.1, found.2)
+    go (inr none) later = (k, inl refl, none)
+
+pub no_row_kept : (rows : Rows) (ks : List (ℕ × Change)) → AreKept rows ks → list_all (λ (k : ℕ × Change). is_row k.1) ks ≡ false → HasNoFormerRow rows
+no_row_kept rows ks kept h = go (removal_in ks h)
+  where
+    stored : (k : ℕ × Change) → Has ks k → get rows (kept_key k) ≡ Some (left_columns_in version_1_limits (left_by k.1))
+    stored k there =
+        let columns = λ (x : ℕ × Change). left_columns_in version_1_limits (left_by x.1) in
+        let sorted : T (is_sorted cells_cmp (map former_cells ks)) = subst (λ es. T (is_sorted cells_cmp es)) (sym kept.cells) (entries_sorted rows) in
+        get-entries rows (kept_key k) ∙ ap (finite.find cells_cmp (kept_key k)) (sym kept.cells) ∙ find_entry kept_key columns ks (kept_key k)
+        ∙ ap (option_map columns) (sorted_found kept_key columns ks k (kept_key k) sorted there (tie_self (kept_key k)))
+
+    go : (k : ℕ × Change) × Has ks k × (is_row k.1 ≡ false) → HasNoFormerRow rows
+    go ((id, Put r), there, none) = absurd (true≢false none)
+    go ((id, Remove k), there, none) = record { key = kept_key (id, Remove k); columns = null ∷ []; stored = stored (id, Remove k) there; no_former = λ n number r within key columns. cc }
+
+-- ---- the steps of a migration
+
+module _ (old mid late : State) (first_keeps : Keeps old mid) (second_keeps : Keeps mid late) (timing drafts : List (ℕ × Change))
+    (timing_kept : IsHonest mid → AreKept (content_now old).timing timing) (drafts_kept : IsHonest late → AreKept (content_now mid).draft drafts) (are_rows : list_all (λ (k : ℕ × Change). is_row k.1) timing ≡ true)
+    (committed drafted changes : List RowChange) (first : committed ≡ timing_puts timing) (second : drafted ≡ draft_puts drafts) (all : changes ≡ committed ++ drafted) where
+  was_mid : IsHonest late → IsHonest mid
+  was_mid = second_keeps.honest
+
+  pub was_honest : IsHonest late → IsHonest old
+  was_honest honest = first_keeps.honest (was_mid honest)
+
+  same_mid : IsHonest late → content_now mid ≡ content_now old
+  same_mid honest = ap (λ (d : Database). content_of d.trees) (first_keeps.same (was_mid honest))
+
+  same_late : IsHonest late → content_now late ≡ content_now old
+  same_late honest = ap (λ (d : Database). content_of d.trees) (second_keeps.same honest) ∙ same_mid honest
+
+  pub spelled : (trees : Trees) (count : Migrated) → count.timing ≡ length committed → count.draft ≡ length drafted → IsHonest late → HoldsToday (changed_by (content_now late) changes) trees → IsMigrated (content_now old) (content_of trees) count
+  spelled trees count many few honest holds =
+      let here = same_late honest in
+      let drafts_here = subst (λ (t : Content). AreKept t.draft drafts) (same_mid honest) (drafts_kept honest) in
+      let whole : content_of trees ≡ changed_by (changed_by (content_now old) (timing_puts timing)) (draft_puts drafts) =
+      holds.0 ∙ (λ i. changed_by (here i) (all i)) ∙ changed_after (content_now old) committed drafted ∙ (λ i. changed_by (changed_by (content_now old) (first i)) (second i)) in
+      subst (λ (t : Content). IsMigrated (content_now old) t count) (sym whole)
+      (migrated (content_now old) count timing drafts (timing_kept (was_mid honest)) drafts_here are_rows (many ∙ ap length first) (few ∙ ap length second))
+
+-- what follows from what was answered
+pub if_on : {X E : Type 0} (r : Result X E) (P : X → Type 0) (Q : Type 0) → ((x : X) → P x → Q) → IfOk r P → OnOk r Q
+if_on (Ok x) P Q f p = f x p
+if_on (Err e) P Q f p = tt

@@ -99,10 +99,10 @@ fn spell_anew<S: Alter>(
 {
     let kept = timing_rows(alloc, conn)?;
     let committed = timing_changes(alloc, kept)?;
-    let timing = committed.len();
+    let timing = committed.as_slice().len();
     let kept = draft_rows(alloc, conn)?;
     let drafted = draft_changes(alloc, kept)?;
-    let draft = drafted.len();
+    let draft = drafted.as_slice().len();
     let changes = joined(committed, drafted)?;
     write_anew(alloc, conn, changes.as_slice())?;
     Ok(Migrated { timing, draft })

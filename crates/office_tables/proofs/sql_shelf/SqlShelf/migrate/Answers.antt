@@ -1,0 +1,8 @@
+use Rattle.std.proofs.Common.{Result, Ok, Err}
+use Rattle.std.specs.Prelude.{IfOk, OnOk}
+use Rattle.sqlite.specs.Held.{state}
+use Rattle.office_tables.proofs.MigrateLemmas.{brought_stands, if_on}
+use Rattle.office_tables.proofs.sql_shelf.SqlShelf.migrate.Goals as goal
+
+pub returns-clause-stands : goal.returns-clause-stands
+returns-clause-stands g c honest = if_on c.migrate.result _ _ (λ count brought. brought_stands (state g.S.Store c.args.conn.now) (state g.S.Store c.migrate.new.conn) count brought) (c.migrate.ensures.brought honest)
