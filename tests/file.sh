@@ -71,6 +71,50 @@ status=0
 same "the status over another version" "$status" 1
 same "the fault over another version" "$(cat "$folder/errors")" "fault: version"
 
+# A file of version 1, made by another tool alone, is brought to today's version; no other command takes it before.
+file=$folder/old.db
+query "CREATE TABLE intersection (id INTEGER PRIMARY KEY, name TEXT NOT NULL, days INTEGER NOT NULL,
+  revision INTEGER NOT NULL, state INTEGER NOT NULL, owner TEXT) STRICT"
+query "CREATE TABLE timing (inter INTEGER NOT NULL REFERENCES intersection, kind INTEGER NOT NULL,
+  a INTEGER NOT NULL, b INTEGER NOT NULL, body TEXT NOT NULL, PRIMARY KEY (inter, kind, a, b)) STRICT"
+query "CREATE TABLE draft (inter INTEGER NOT NULL REFERENCES intersection, kind INTEGER NOT NULL,
+  a INTEGER NOT NULL, b INTEGER NOT NULL, body TEXT, PRIMARY KEY (inter, kind, a, b)) STRICT"
+query "CREATE TABLE inspection (inter INTEGER NOT NULL REFERENCES intersection, number INTEGER NOT NULL,
+  day INTEGER NOT NULL, clerk TEXT NOT NULL, body TEXT NOT NULL, PRIMARY KEY (inter, number)) STRICT"
+query "CREATE TABLE work_order (inter INTEGER NOT NULL REFERENCES intersection, number INTEGER NOT NULL,
+  opened INTEGER NOT NULL, clerk TEXT NOT NULL, body TEXT NOT NULL, closed INTEGER, closer TEXT,
+  PRIMARY KEY (inter, number)) STRICT"
+query "CREATE TABLE part (code TEXT NOT NULL PRIMARY KEY, hand INTEGER NOT NULL CHECK (hand >= 0)) STRICT"
+query "CREATE TABLE delivery (part TEXT NOT NULL REFERENCES part, number INTEGER NOT NULL,
+  day INTEGER NOT NULL, amount INTEGER NOT NULL, PRIMARY KEY (part, number)) STRICT"
+query "CREATE TABLE used_part (inter INTEGER NOT NULL REFERENCES intersection, ord INTEGER NOT NULL,
+  line INTEGER NOT NULL, part TEXT NOT NULL REFERENCES part, amount INTEGER NOT NULL,
+  PRIMARY KEY (inter, ord, line), FOREIGN KEY (inter, ord) REFERENCES work_order) STRICT"
+query "CREATE TABLE office_version (one INTEGER PRIMARY KEY CHECK (one = 1), version INTEGER NOT NULL) STRICT"
+query "INSERT INTO office_version VALUES (1, 1)"
+query "INSERT INTO intersection VALUES (12, 'Main St', 365, 1, 1, 'Ana')"
+query "INSERT INTO timing VALUES
+  (12, 1, 2, 0, 'phase,2,1,8,20,40,40,15,,7,12,490,60,0'), (12, 2, 1, 1, 'seq,1,1,2')"
+query "INSERT INTO draft VALUES
+  (12, 1, 2, 0, 'phase,2,1,8,20,40,40,15,,7,12,480,60,0'), (12, 2, 1, 1, NULL)"
+
+status=0
+"$program" batch --db "$file" </dev/null >"$folder/answers" 2>"$folder/errors" || status=$?
+same "the status over version 1" "$status" 1
+same "the fault over version 1" "$(cat "$folder/errors")" "fault: version"
+
+same "the migration" "$("$program" migrate --db "$file")" "migrated 2 rows"
+same "the migrated version" "$(query "SELECT one, version FROM office_version")" "1|2"
+same "the migrated plan" "$(query "SELECT kind, a, b, body FROM timing ORDER BY kind" | tr '\n' ' ')" \
+  "1|2|0|phase,2,1,8,20,40,40,15,,7,12,490,60,0,0 2|1|1|seq,1,1,2 "
+same "the migrated draft" "$(query "SELECT kind, a, b, body FROM draft ORDER BY kind" | tr '\n' ' ')" \
+  "1|2|0|phase,2,1,8,20,40,40,15,,7,12,480,60,0,0 2|1|1| "
+same "the check of the migrated file" "$(query "PRAGMA integrity_check")" "ok"
+same "the second migration" "$("$program" migrate --db "$file")" "migrated 0 rows"
+printf 'GET /intersections/12 HTTP/1.1\r\n\r\n' | batch
+same "the answer after the migration" "$(tail -n 1 "$folder/answers")" \
+  '{"id":12,"interval":365,"name":"Main St","owner":"Ana","revision":1,"rows":2,"state":"transaction","verify":"notDone"}'
+
 # A file that is not there is made, and has no intersection; a folder and a file of another kind are refused.
 faulty() {
   status=0
@@ -80,6 +124,9 @@ faulty() {
 }
 faulty "no file" sheet --db "$folder/new.db" 12
 same "the fault over no file" "$(cat "$folder/errors")" "fault: unknown intersection"
+faulty "a file that is not there" migrate --db "$folder/none.db"
+same "what a migration says of no file" "$(cat "$folder/errors")" "fault: version"
+same "what a migration makes" "$(find "$folder" -name 'none.db*')" ""
 faulty "a folder" overdue --db "$folder" 2027-03-02
 same "the fault over a folder" "$(cat "$folder/errors")" "fault: store"
 { echo "this is no database"; head -c 8192 /dev/zero; } >"$folder/text.db"

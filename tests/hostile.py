@@ -47,12 +47,13 @@ def held(path):
         return file.read()
 
 
-def refused(name, path, line=b"fault: store\n", **how):
-    """The three commands on a file refuse it with the same line, and leave it as it was."""
+def refused(name, path, line=b"fault: store\n", migrate=None, **how):
+    """The commands on a file refuse it with the same line, `migrate` perhaps with its own, and leave it as it was."""
     before = held(path)
-    for words in (["batch", "--db", path], ["sheet", "--db", path, "12"], ["overdue", "--db", path, "2027-03-02"]):
-        status, out, err = run(words, ADD, **how)
-        case(f"{name}, {words[0]}", (status, out, err), (1, b"", line))
+    for words in (["batch"], ["sheet", "12"], ["overdue", "2027-03-02"], ["migrate"]):
+        status, out, err = run([words[0], "--db", path, *words[1:]], ADD, **how)
+        wanted = migrate or line if words == ["migrate"] else line
+        case(f"{name}, {words[0]}", (status, out, err), (1, b"", wanted))
     case(f"{name}, the file", held(path), before)
 
 
@@ -64,9 +65,37 @@ def office(folder, name):
     return path
 
 
+OLD_ROW = "phase,2,1,8,20,40,40,15,,7,12,490,60,0"
+OLD = (1, [(OLD_ROW,)])
+TODAY = (2, [(OLD_ROW + ",0",)])
+
+
+def old_office(folder, name, intersections):
+    """A file of version 1, in which each intersection has one phase with a pedestrian part."""
+    path = office(folder, name)
+    with sqlite3.connect(path) as db:
+        db.execute("UPDATE office_version SET version = 1")
+        for number in range(12, 12 + intersections):
+            db.execute("INSERT OR IGNORE INTO intersection VALUES (?, 'Main St', 365, 1, 0, NULL)", (number,))
+            db.execute("INSERT INTO timing VALUES (?, 1, 2, 0, ?)", (number, OLD_ROW))
+    db.close()
+    return path
+
+
+def stored(path):
+    """The version of a file, and the different texts of its committed rows."""
+    db = sqlite3.connect(path)
+    found = (
+        db.execute("SELECT version FROM office_version").fetchone()[0],
+        db.execute("SELECT DISTINCT body FROM timing").fetchall(),
+    )
+    db.close()
+    return found
+
+
 def other_files(folder):
     refused("a directory", folder)
-    refused("a file in a folder that is not there", os.path.join(folder, "none", "office.db"))
+    refused("a file in a folder that is not there", os.path.join(folder, "none", "office.db"), migrate=b"fault: version\n")
     text = os.path.join(folder, "text.db")
     with open(text, "wb") as file:
         file.write(b"phase,2,1,8,20,40,40,15\n" * 400)
@@ -80,7 +109,7 @@ def other_files(folder):
         db.execute("CREATE TABLE t (a)")
         db.execute("INSERT INTO t VALUES (1)")
     db.close()
-    refused("another's database", others)
+    refused("another's database", others, migrate=b"fault: version\n")
     empty = os.path.join(folder, "empty.db")
     open(empty, "wb").close()
     status, out, err = run(["batch", "--db", empty], ADD + STATE)
@@ -89,15 +118,19 @@ def other_files(folder):
 
 def versions(folder):
     path = office(folder, "version.db")
-    for version in (1, 9):
-        with sqlite3.connect(path) as db:
-            db.execute("UPDATE office_version SET version = ?", (version,))
-        db.close()
-        refused(f"tables of version {version}", path, b"fault: version\n")
+    with sqlite3.connect(path) as db:
+        db.execute("UPDATE office_version SET version = 9")
+    db.close()
+    refused("tables of version 9", path, b"fault: version\n")
     with sqlite3.connect(path) as db:
         db.execute("DELETE FROM office_version")
     db.close()
-    refused("rows without a version", path, b"fault: damaged\n")
+    refused("rows without a version", path, b"fault: damaged\n", migrate=b"fault: version\n")
+    old = old_office(folder, "old.db", 1)
+    status, out, err = run(["batch", "--db", old], ADD)
+    case("tables of version 1, batch", (status, out, err), (1, b"", b"fault: version\n"))
+    case("tables of version 1, migrate", run(["migrate", "--db", old]), (0, b"migrated 1 rows\n", b""))
+    case("tables of version 1, afterwards", stored(old), TODAY)
 
 
 def another_process(folder):
@@ -207,8 +240,33 @@ def little_memory(folder):
     case("the file after want of memory", held(path), kept)
 
 
+def little_memory_to_migrate(folder):
+    """A migration under a rising limit of memory: the file is as it was, or migrated where it is told to be."""
+    old = old_office(folder, "old_memory.db", 500)
+    path = os.path.join(folder, "copy_memory.db")
+    told, done, other = 0, 0, []
+    for limit in range(1 << 20, 40 << 20, 1 << 18):
+        shutil.copyfile(old, path)
+        try:
+            status, out, err = run(
+                ["migrate", "--db", path], preexec_fn=lambda: resource.setrlimit(resource.RLIMIT_AS, (limit, limit))
+            )
+        except OSError:
+            continue
+        if (status, out) == (0, b"migrated 500 rows\n") and stored(path) == TODAY:
+            done += 1
+        elif status == 1 and err in (b"fault: memory\n", b"fault: store\n") and stored(path) in (OLD, TODAY):
+            told += 1
+        elif told or done:
+            other.append((limit, status, out[:40], err))
+        for left in (path, path + "-wal"):
+            if os.path.exists(left):
+                os.remove(left)
+    case(f"migrate with little memory ({told} told, {done} done)", (other, told > 0, done > 0), ([], True, True))
+
+
 with tempfile.TemporaryDirectory() as folder:
-    for part in (little_memory, other_files, versions, another_process, outputs, inputs, largest_file):
+    for part in (little_memory, little_memory_to_migrate, other_files, versions, another_process, outputs, inputs, largest_file):
         part(folder)
     if os.geteuid() == 0:
         without_leave(folder)

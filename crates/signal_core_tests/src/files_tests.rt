@@ -88,13 +88,13 @@ const SHEET: &str = "Intersection 12: Main St
 Revision 999999
 Phases
     No  Ring   Min  Pass   Max   Yel   Red  Walk Clear Width Setbk Short  Lead Mates
-    16     4   255  25.5   255  25.5  25.5   255   255 999.9  99.9     1    10 -
+    32     8   255  25.5   255  25.5  25.5   255   255 999.9  99.9     1    10 -
 Sequences
     No  Ring Phases
-    20     4 -
+    20     8 -
 Splits
     No Phase  Time  Mode Coord
-    20    16   255     7     1
+    20    32   255     7     1
 Patterns
     No Cycle  Offs Split   Seq
     48   255   255    20    20
@@ -106,7 +106,7 @@ fn a_sheet_is_printed(rt: HostRuntime) -> Result<(), Fail> {
     let id = InterId::new(12).ok_or("an intersection")?;
     let revision = Revision::new(999_999).ok_or("a revision")?;
     let file =
-        b"phase,16,4,255,255,255,255,255,,255,255,9999,999,1,10\nseq,20,4,\nsplit,20,16,255,7,1\npattern,48,255,255,20,20\n";
+        b"phase,32,8,255,255,255,255,255,,255,255,9999,999,1,10\nseq,20,8,\nsplit,20,32,255,7,1\npattern,48,255,255,20,20\n";
     let mut set = TimingSet::new(alloc);
     set.apply(alloc, &read_timing_csv(alloc, file)?)?;
     let sheet = timing_sheet(alloc, id, &words(alloc, "Main St")?, revision, &set)?;

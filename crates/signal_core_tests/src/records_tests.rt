@@ -28,11 +28,11 @@ fn rows_have_one_first_fault(rt: HostRuntime) -> Result<(), Fail> {
             "Number",
             Some(3),
         ),
-        ("split,1,17,35,2,1", RowFault::Range(3), 4, "Range", Some(3)),
+        ("split,1,33,35,2,1", RowFault::Range(3), 4, "Range", Some(3)),
         ("seq,1,1,2  4", RowFault::List(4), 5, "List", Some(4)),
         ("seq,1,1,2 2", RowFault::List(4), 5, "List", Some(4)),
         ("split,1,2,35,8,1", RowFault::Mode, 6, "Mode", None),
-        ("seq,1,5,2 4", RowFault::Range(3), 4, "Range", Some(3)),
+        ("seq,1,9,2 4", RowFault::Range(3), 4, "Range", Some(3)),
         ("remove,pattern,1", RowFault::Kind, 1, "Kind", None),
     ];
     for (text, fault, number, name, field) in cases {
@@ -51,11 +51,12 @@ fn rows_have_one_first_fault(rt: HostRuntime) -> Result<(), Fail> {
 fn rows_are_read_and_written(rt: HostRuntime) -> Result<(), Fail> {
     let alloc = rt.alloc();
     for text in [
-        "phase,16,4,0,255,0,255,0,6 16 1,255,0,9999,999,1,10",
+        "phase,32,8,0,255,0,255,0,6 32 1,255,0,9999,999,1,10",
         "phase,2,1,0,0,0,0,0,",
-        "seq,20,4,4 2",
+        "seq,20,8,4 2",
         "seq,1,1,",
-        "split,20,16,255,7,1",
+        "split,20,32,255,7,1",
+        "split,1,17,35,2,1",
         "pattern,48,255,0,1,20",
     ] {
         let row = read_row(alloc, &fields(alloc, text.as_bytes())?);
@@ -66,17 +67,51 @@ fn rows_are_read_and_written(rt: HostRuntime) -> Result<(), Fail> {
 }
 
 #[test]
+fn rows_of_version_1_have_lead_0(rt: HostRuntime) -> Result<(), Fail> {
+    let alloc = rt.alloc();
+    for (old, today) in [
+        (
+            "phase,2,1,8,20,40,40,15,6,7,12,490,60,0",
+            "phase,2,1,8,20,40,40,15,6,7,12,490,60,0,0",
+        ),
+        ("phase,16,4,8,20,40,40,15,8", "phase,16,4,8,20,40,40,15,8"),
+        ("seq,20,4,16 2", "seq,20,4,16 2"),
+        ("split,20,16,255,7,1", "split,20,16,255,7,1"),
+        ("pattern,48,255,0,1,20", "pattern,48,255,0,1,20"),
+    ] {
+        let row = read_row_v1(alloc, &fields(alloc, old.as_bytes())?).ok();
+        let row = row.ok_or("a row of version 1")?;
+        assert_eq!(rt; text_of(alloc, &row)?.as_str(), today);
+    }
+    for (text, fault) in [
+        ("phase,2,1,8,20,40,40,15,6,7,12,490,60,0,0", RowFault::Count),
+        ("split,1,17,35,2,1", RowFault::Range(3)),
+        ("phase,17,1,8,20,40,40,15,8", RowFault::Range(2)),
+        ("phase,2,5,8,20,40,40,15,8", RowFault::Range(3)),
+        ("phase,2,1,8,20,40,40,15,17", RowFault::List(9)),
+        ("seq,1,5,2 4", RowFault::Range(3)),
+        ("seq,1,1,2 17", RowFault::List(4)),
+        ("detector,1", RowFault::Kind),
+    ] {
+        let read = read_row_v1(alloc, &fields(alloc, text.as_bytes())?);
+        assert_eq!(rt; read.err(), Some(fault), "{text}");
+    }
+    assert_eq!(rt; read_row_v1(alloc, &[]).err(), Some(RowFault::Kind));
+    Ok(())
+}
+
+#[test]
 fn numbers_and_lists_keep_their_ranges(rt: HostRuntime) -> Result<(), Fail> {
-    assert_eq!(rt; PhaseNo::new(16).map(|n| n.get()), Some(16));
-    assert!(rt; PhaseNo::new(0).is_none() && PhaseNo::new(17).is_none());
-    assert!(rt; RingNo::new(4).is_some() && RingNo::new(5).is_none());
+    assert_eq!(rt; PhaseNo::new(32).map(|n| n.get()), Some(32));
+    assert!(rt; PhaseNo::new(0).is_none() && PhaseNo::new(33).is_none());
+    assert!(rt; RingNo::new(8).is_some() && RingNo::new(9).is_none());
     assert!(rt; SeqNo::new(20).is_some() && SplitNo::new(20).is_some());
     assert!(rt; PatternNo::new(48).is_some() && PatternNo::new(49).is_none());
     assert!(rt; InterId::new(9999).is_some() && Interval::new(3650).is_some());
     assert!(rt; RecordNo::new(999_999).is_some() && LineNo::new(99).is_some());
     assert!(rt; Amount::new(999_999_999).is_some());
-    assert_eq!(rt; RingNo::all().count(), 4);
-    let list = PhaseList::new(rt.alloc(), &[2, 16, 1])?.ok_or("a list")?;
+    assert_eq!(rt; RingNo::all().count(), 8);
+    let list = PhaseList::new(rt.alloc(), &[2, 32, 1])?.ok_or("a list")?;
     assert_eq!(rt; list.as_slice().len(), 3);
     assert!(rt; list.clone()? == list);
     assert!(rt; PhaseList::new(rt.alloc(), &[2, 2])?.is_none());

@@ -6,7 +6,7 @@ use Rattle.std.specs.Str.Parse.{IsNumeral, digits_value, without_leading_plus}
 use Rattle.clap.specs.Walk.{Row, Text, first_of}
 use Rattle.signal_office_line.specs.Job.{IsNumberOf, IsChosenOf, IsJob}
 use Rattle.signal_office_line.specs.declared.job.Job.{Job}
-use Rattle.signal_office_line.specs.declared.job.Job.TheVariants.{Batch, Serve, Sheet, Overdue, VerifyFile}
+use Rattle.signal_office_line.specs.declared.job.Job.TheVariants.{Batch, Serve, Sheet, Overdue, VerifyFile, Migrate}
 
 -- the value of a result that is known both by its `ok` and by when it is one
 pub ok_value : {E : Type 0} (r : Result ℕ E) (P : Type 0) (v n : ℕ) → Some n ≡ result_ok r → OkIff r P v → P × (v ≡ n)
@@ -47,6 +47,7 @@ serve_of rows (Serve port count db) is refuted = refuted port count is.1 is.2
 serve_of rows (Sheet db id) is refuted = let bad : ◌≡◌ {A = ℕ} 101 104 = ap (λ (w : Text). slice_index w 1) is.0 in absurd (omega arith)
 serve_of rows (Overdue db first day) is refuted = let bad : ◌≡◌ {A = ℕ} 115 111 = ap (λ (w : Text). slice_index w 0) is.0 in absurd (omega arith)
 serve_of rows (VerifyFile csv) is refuted = let bad : ◌≡◌ {A = ℕ} 115 118 = ap (λ (w : Text). slice_index w 0) is.0 in absurd (omega arith)
+serve_of rows (Migrate db) is refuted = let bad : ◌≡◌ {A = ℕ} 115 109 = ap (λ (w : Text). slice_index w 0) is.0 in absurd (omega arith)
 
 -- a job of `sheet` has a file and a number
 pub sheet_of : (rows : List Row) (job : Job) → IsJob (codes "sheet") rows job
@@ -56,6 +57,7 @@ sheet_of rows (Serve port count db) is refuted = let bad : ◌≡◌ {A = ℕ} 1
 sheet_of rows (Sheet db id) is refuted = refuted db.now id is.1 is.2
 sheet_of rows (Overdue db first day) is refuted = let bad : ◌≡◌ {A = ℕ} 115 111 = ap (λ (w : Text). slice_index w 0) is.0 in absurd (omega arith)
 sheet_of rows (VerifyFile csv) is refuted = let bad : ◌≡◌ {A = ℕ} 115 118 = ap (λ (w : Text). slice_index w 0) is.0 in absurd (omega arith)
+sheet_of rows (Migrate db) is refuted = let bad : ◌≡◌ {A = ℕ} 115 109 = ap (λ (w : Text). slice_index w 0) is.0 in absurd (omega arith)
 
 -- a job of `overdue` has a file, and the word of a day
 pub overdue_of : (rows : List Row) (job : Job) → IsJob (codes "overdue") rows job
@@ -66,6 +68,7 @@ overdue_of rows (Serve port count db) is refuted = let bad : ◌≡◌ {A = ℕ}
 overdue_of rows (Sheet db id) is refuted = let bad : ◌≡◌ {A = ℕ} 111 115 = ap (λ (w : Text). slice_index w 0) is.0 in absurd (omega arith)
 overdue_of rows (Overdue db first day) is refuted = refuted db.now day.now first is.1 is.2 is.3
 overdue_of rows (VerifyFile csv) is refuted = let bad : ◌≡◌ {A = ℕ} 111 118 = ap (λ (w : Text). slice_index w 0) is.0 in absurd (omega arith)
+overdue_of rows (Migrate db) is refuted = let bad : ◌≡◌ {A = ℕ} 111 109 = ap (λ (w : Text). slice_index w 0) is.0 in absurd (omega arith)
 
 -- a job of `verify-file` has a file
 pub verify_file_of : (name : Text) (rows : List Row) (job : Job) → name ≡ codes "verify-file" → IsJob name rows job
@@ -75,3 +78,14 @@ verify_file_of name rows (Serve port count db) e is refuted = let bad : ◌≡�
 verify_file_of name rows (Sheet db id) e is refuted = let bad : ◌≡◌ {A = ℕ} 118 115 = ap (λ (w : Text). slice_index w 0) (sym e ∙ is.0) in absurd (omega arith)
 verify_file_of name rows (Overdue db first day) e is refuted = let bad : ◌≡◌ {A = ℕ} 118 111 = ap (λ (w : Text). slice_index w 0) (sym e ∙ is.0) in absurd (omega arith)
 verify_file_of name rows (VerifyFile csv) e is refuted = refuted csv.now is.1
+verify_file_of name rows (Migrate db) e is refuted = let bad : ◌≡◌ {A = ℕ} 118 109 = ap (λ (w : Text). slice_index w 0) (sym e ∙ is.0) in absurd (omega arith)
+
+-- a job of `migrate` has a file
+pub migrate_of : (name : Text) (rows : List Row) (job : Job) → name ≡ codes "migrate" → IsJob name rows job
+    → ((db : Text) → Some db ≡ first_of (codes "db") rows → ⊥) → ⊥
+migrate_of name rows (Batch db) e is refuted = let bad : ◌≡◌ {A = ℕ} 109 98 = ap (λ (w : Text). slice_index w 0) (sym e ∙ is.0) in absurd (omega arith)
+migrate_of name rows (Serve port count db) e is refuted = let bad : ◌≡◌ {A = ℕ} 109 115 = ap (λ (w : Text). slice_index w 0) (sym e ∙ is.0) in absurd (omega arith)
+migrate_of name rows (Sheet db id) e is refuted = let bad : ◌≡◌ {A = ℕ} 109 115 = ap (λ (w : Text). slice_index w 0) (sym e ∙ is.0) in absurd (omega arith)
+migrate_of name rows (Overdue db first day) e is refuted = let bad : ◌≡◌ {A = ℕ} 109 111 = ap (λ (w : Text). slice_index w 0) (sym e ∙ is.0) in absurd (omega arith)
+migrate_of name rows (VerifyFile csv) e is refuted = let bad : ◌≡◌ {A = ℕ} 109 118 = ap (λ (w : Text). slice_index w 0) (sym e ∙ is.0) in absurd (omega arith)
+migrate_of name rows (Migrate db) e is refuted = refuted db.now is.1

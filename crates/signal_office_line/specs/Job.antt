@@ -4,7 +4,7 @@ use Rattle.std.specs.Borrow.{Bor}
 use Rattle.std.specs.Str.Parse.{IsNumeral, digits_value, without_leading_plus}
 use Rattle.clap.specs.Walk.{Row, Text, first_of}
 use Rattle.signal_office_line.specs.declared.job.Job.{Job}
-use Rattle.signal_office_line.specs.declared.job.Job.TheVariants.{Batch, Serve, Sheet, Overdue, VerifyFile}
+use Rattle.signal_office_line.specs.declared.job.Job.TheVariants.{Batch, Serve, Sheet, Overdue, VerifyFile, Migrate}
 
 -- the argument's word spells this number, which is from 1 to most
 pub record IsNumberOf (rows : List Row) (id : Text) (most n : ℕ) : Type 0 where
@@ -33,6 +33,7 @@ IsJob name rows (Overdue db first day) =
     (name ≡ codes "overdue") × (Some db.now ≡ first_of (codes "db") rows) × IsChosenOf rows (codes "first") 9_999 first
     × (Some day.now ≡ first_of (codes "DAY") rows)
 IsJob name rows (VerifyFile csv) = (name ≡ codes "verify-file") × (Some csv.now ≡ first_of (codes "CSV") rows)
+IsJob name rows (Migrate db) = (name ≡ codes "migrate") × (Some db.now ≡ first_of (codes "db") rows)
 
 -- the job that the found command states
 abbrev pub IsJobOf : Option (Text × List Row) → Job → Type 0

@@ -2,10 +2,13 @@
 
 ghost use Rattle.std.specs.Prelude.{◌≡◌, IfOk, false};
 ghost use Rattle.clap.specs.Walk.{rule_of};
-ghost use Rattle.signal_office_line.specs.CommandLine.{Reads, db_rule, required_db_rule, positional_rule, number_rule, first_rule, batch_app, serve_app, sheet_app, overdue_app, verify_file_app, signal_app};
+ghost use Rattle.signal_office_line.specs.CommandLine.{Reads, db_rule, required_db_rule, positional_rule, number_rule, first_rule, batch_app, serve_app, sheet_app, overdue_app, verify_file_app, migrate_app, signal_app};
 
 use clap::{Arg, Command};
 use std::alloc::{AllocError, Global};
+
+/// What the help says of `--db FILE` where the file is made.
+const MADE_FILE: &str = "The SQLite file that keeps the tables; made where there is none";
 
 /// `--db FILE`.
 fn db_option<'a>(alloc: Global) -> Arg<'a>
@@ -18,7 +21,7 @@ fn db_option<'a>(alloc: Global) -> Arg<'a>
 }
 
 /// `--db FILE`, which has to be given.
-fn required_db_option<'a>(alloc: Global) -> Arg<'a>
+fn required_db_option<'a>(alloc: Global, help: &'a str) -> Arg<'a>
     ensures rule { rule_of result ≡ required_db_rule }
     ensures local { result.global ≡ false }
 {
@@ -26,7 +29,7 @@ fn required_db_option<'a>(alloc: Global) -> Arg<'a>
         .long("db")
         .value_name("FILE")
         .required(true)
-        .help("The SQLite file that keeps the tables; made where there is none")
+        .help(help)
 }
 
 /// `--NAME N`, which has to be given.
@@ -91,7 +94,7 @@ fn sheet_command<'a>(alloc: Global) -> Result<Command<'a>, AllocError>
         .about(
             "Prints the timing sheet of an intersection: the committed plan, times in seconds, distances in feet",
         )
-        .arg(required_db_option(alloc))?
+        .arg(required_db_option(alloc, MADE_FILE))?
         .arg(word(alloc, "ID", "The intersection's number, 1 to 9999"))
 }
 
@@ -103,7 +106,7 @@ fn overdue_command<'a>(alloc: Global) -> Result<Command<'a>, AllocError>
         .about(
             "Prints the intersections that were never inspected or whose inspection fell due before a day, and how many are listed",
         )
-        .arg(required_db_option(alloc))?
+        .arg(required_db_option(alloc, MADE_FILE))?
         .arg(first_option(alloc))?
         .arg(word(
             alloc,
@@ -127,6 +130,20 @@ fn verify_file_command<'a>(alloc: Global) -> Result<Command<'a>, AllocError>
         ))
 }
 
+/// `migrate`.
+fn migrate_command<'a>(alloc: Global) -> Result<Command<'a>, AllocError>
+    ensures { IfOk result (λ c. Reads c migrate_app) }
+{
+    Command::new(alloc, "migrate")
+        .about(
+            "Brings a file of an older version to today's version, and says how many rows were written anew",
+        )
+        .arg(required_db_option(
+            alloc,
+            "The SQLite file that keeps the tables; it has to be there, and none is made",
+        ))
+}
+
 /// The command line of the program.
 pub(crate) fn command_line<'a>(alloc: Global) -> Result<Command<'a>, AllocError>
     ensures { IfOk result (λ c. Reads c signal_app) }
@@ -138,5 +155,6 @@ pub(crate) fn command_line<'a>(alloc: Global) -> Result<Command<'a>, AllocError>
         .subcommand(serve_command(alloc)?)?
         .subcommand(sheet_command(alloc)?)?
         .subcommand(overdue_command(alloc)?)?
-        .subcommand(verify_file_command(alloc)?)
+        .subcommand(verify_file_command(alloc)?)?
+        .subcommand(migrate_command(alloc)?)
 }

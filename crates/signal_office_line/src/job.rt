@@ -43,6 +43,10 @@ pub enum Job<'a> {
     VerifyFile {
         csv: &'a str,
     },
+    /// Bring the tables of a file to today's version.
+    Migrate {
+        db: &'a str,
+    },
 }
 
 /// Why there is nothing to do.
@@ -160,6 +164,10 @@ fn job_in<'a>(name: &'a str, matches: &ArgMatches<'a>) -> Option<Job<'a>>
     if name == "verify-file" {
         let csv = matches.get_str("CSV")?;
         return Some(Job::VerifyFile { csv });
+    }
+    if name == "migrate" {
+        let db = matches.get_str("db")?;
+        return Some(Job::Migrate { db });
     }
     None
 }

@@ -1,10 +1,12 @@
 //! The office over the tables of a database in a file.
 
 ghost use Rattle.std.specs.Prelude.{◌≡◌, ◌≢◌, ◌≤◌, ◌+◌, ◌*◌, ℕ, List, None, Ok, IfOk, IfErr, IfSome};
+ghost use Rattle.sqlite.specs.Closing.{IsCopied};
 ghost use Rattle.sqlite.specs.Files.{file_state, over_files};
 ghost use Rattle.sqlite.specs.Start.{FindsIn};
 ghost use Rattle.sqlite.specs.State.{HasCleanDisk};
 ghost use Rattle.sqlite.specs.WalFiles.{image_at};
+ghost use Rattle.sqlite.specs.WalReads.{AreClean};
 ghost use Rattle.office_tables.specs.Calls.{IsHonest};
 ghost use Rattle.office_tables.specs.Stored.{content_now, content_of};
 ghost use Rattle.office_tables.specs.SqlShelf.{SqlView};
@@ -26,7 +28,7 @@ use office_http::{ServeFault, Served, Sink, Source, serve};
 use office_tables::sql_shelf::SqlShelf;
 use signal_office_reports::Fault;
 use sqlite::{Connection, Error, FileFrom, FileStore, Start};
-use sqlite_disk::Disk;
+use sqlite_disk::{Disk, Files};
 use std::alloc::Global;
 
 /// An office over tables in files, of which `S` says what they held.
@@ -65,7 +67,7 @@ fn office_over<S: Start>(
 }
 
 /// Why a file was not opened. What is left of it is dropped.
-fn unopened<L: Drop>(refused: (Error, L)) -> Fault {
+pub(crate) fn unopened<L: Drop>(refused: (Error, L)) -> Fault {
     let (error, _) = refused;
     Fault::from(error)
 }
@@ -128,18 +130,32 @@ pub fn serve_file<S: Start, R: Source, W: Sink>(
     Ok((office, outcome))
 }
 
-/// Closes the tables of a file, so that their log is copied into it, and gives what was made of them.
-/// A fault from before comes first.
+/// Closes a file, so that its log is copied into it, and gives the files, which hold the last commit,
+/// with what was made of its tables. A fault from before comes first.
 pub(crate) fn close_after<D: Disk + Drop, T: Drop, E>(
-    office: Office<SqlShelf<FileStore<D>>>,
+    conn: Connection<FileStore<D>>,
     outcome: Result<T, E>,
-) -> Result<T, Fault>
+) -> Result<(Files<D>, T), Fault>
 where
     Fault: From<E>,
-    ensures { IfOk result (λ done. outcome ≡ Ok done) }
+    ensures made { IfOk result (λ done. outcome ≡ Ok done.1) }
+    ensures copied { IfOk result (λ done. AreClean D.Disk done.0.log done.0.db → IsCopied conn done.0) }
 {
-    let closed = office.into_shelf().into_conn().close();
+    let closed = close_files(conn);
     let done = outcome?;
-    closed?;
-    Ok(done)
+    let files = closed?;
+    Ok((files, done))
+}
+
+/// Closes a file, so that its log is copied into it, and gives the files.
+fn close_files<D: Disk + Drop>(conn: Connection<FileStore<D>>) -> Result<Files<D>, Error>
+    ensures { IfOk result (λ files. AreClean D.Disk files.log files.db → IsCopied conn files) }
+{
+    match conn.close_files() {
+        Ok(files) => Ok(files),
+        Err((error, store)) => {
+            drop(store.close());
+            Err(error)
+        }
+    }
 }

@@ -3,12 +3,14 @@
 
 mod file;
 mod memory;
+mod migrating;
 mod program;
 mod serving;
 mod task;
 
 pub use file::{FileOffice, serve_file};
 pub use memory::serve_new_office;
+pub use migrating::{FileConnection, migrate_file, open_and_migrate};
 pub use program::run_words;
 pub use serving::serve_port;
 pub use signal_office_reports::{Fault, overdue_of, report, sheet_of, violations_in};

@@ -1,6 +1,7 @@
 //! What the program's words ask for, from a source of bytes to its two outputs.
 
 use crate::memory::{open_in_memory, serve_new_office};
+use crate::migrating::migrate_file;
 use crate::serving::serve_port;
 use crate::task::{Task, batch_in_file, do_in_file};
 use cabinet_core::read_day;
@@ -10,6 +11,7 @@ use office_http::{Sink, Source, write_all};
 use office_tables_shelf::shelf::Shelf;
 use signal_office_line::{Job, JobFault, job_of};
 use signal_office_reports::{Fault, report, violations_in};
+use sqlite::Wary;
 use std::alloc::Global;
 use std::fs;
 use std::io::ErrorKind;
@@ -105,6 +107,15 @@ fn overdue<W: Sink>(
     in_file(rt, alloc, path, Task::Overdue { day, most }, out)
 }
 
+/// Brings the tables of a file to today's version, and prints how many rows were written anew.
+fn migrate<W: Sink>(rt: &HostRuntime, alloc: Global, path: &str, out: &mut W) -> Result<u8, Fault> {
+    let (_, migrated) = migrate_file(rt, alloc, path, Wary)?;
+    let rows = migrated.timing as u128 + migrated.draft as u128;
+    let line = format!(in alloc; "migrated {rows} rows\n")?;
+    write_all(out, line.as_bytes())?;
+    Ok(0)
+}
+
 /// Does a job, and gives the status.
 fn run_job<R: Source, W: Sink>(
     rt: &HostRuntime,
@@ -135,6 +146,7 @@ fn run_job<R: Source, W: Sink>(
         Job::Sheet { db, id } => in_file(rt, alloc, db, Task::Sheet { id: *id }, out),
         Job::Overdue { db, first, day } => overdue(rt, alloc, db, *first, day, out),
         Job::VerifyFile { csv } => verify_file(rt, alloc, csv, out),
+        Job::Migrate { db } => migrate(rt, alloc, db, out),
     }
 }
 

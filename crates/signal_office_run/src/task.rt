@@ -50,7 +50,8 @@ pub(crate) fn do_in_file<W: Sink>(
 ) -> Result<Vec<u8>, Fault> {
     let mut office = open_file(rt, alloc, path, Wary)?;
     let outcome = done_by(rt, alloc, &mut office, task, out);
-    close_after(office, outcome)
+    let (_, text) = close_after(office.into_shelf().into_conn(), outcome)?;
+    Ok(text)
 }
 
 /// Answers the requests of the source over the tables of a file, and closes it, so that its log is
@@ -64,5 +65,6 @@ pub(crate) fn batch_in_file<R: Source, W: Sink>(
     max_requests: u32,
 ) -> Result<Served, Fault> {
     let (office, outcome) = serve_file(rt, alloc, path, Wary, source, out, max_requests)?;
-    close_after(office, outcome)
+    let (_, served) = close_after(office.into_shelf().into_conn(), outcome)?;
+    Ok(served)
 }

@@ -26,6 +26,10 @@ fn a_line_is_a_job(rt: HostRuntime) -> Result<(), Fail> {
     else {
         return Err(Fail::from("overdue"));
     };
+    let words = [name, "migrate", "--db", "x"];
+    let Job::Migrate { db: "x" } = job_of(alloc, words.as_slice())? else {
+        return Err(Fail::from("migrate"));
+    };
     Ok(())
 }
 

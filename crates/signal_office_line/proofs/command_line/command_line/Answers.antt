@@ -17,4 +17,5 @@ returns c =
     let serve = Reads-subcommand _ _ _ _ _ batch c.in_ok-serve_command.ensures c.in_ok-subcommand-2.ensures in
     let sheet = Reads-subcommand _ _ _ _ _ serve c.in_ok-sheet_command.ensures c.in_ok-subcommand-3.ensures in
     let overdue = Reads-subcommand _ _ _ _ _ sheet c.in_ok-overdue_command.ensures c.in_ok-subcommand-4.ensures in
-    IfOk-weaker c.subcommand-5.result _ _ (λ r a. Reads-subcommand _ _ r _ _ overdue c.in_ok-verify_file_command.ensures a) c.subcommand-5.ensures
+    let verify_file = Reads-subcommand _ _ _ _ _ overdue c.in_ok-verify_file_command.ensures c.in_ok-subcommand-5.ensures in
+    IfOk-weaker c.subcommand-6.result _ _ (λ r a. Reads-subcommand _ _ r _ _ verify_file c.in_ok-migrate_command.ensures a) c.subcommand-6.ensures

@@ -1,0 +1,26 @@
+use Rattle.sqlite.specs.Files.{file_state}
+use Rattle.office_tables.proofs.ArrangedLemmas.{found_arranged}
+use Rattle.signal_office_run.proofs.MigratingLemmas.{on_ok, on_err, found_formerly, found_those}
+use Rattle.signal_office_run.proofs.migrating.open_and_migrate.Goals as goal
+
+pub migrate_tables-outcome-requires : goal.migrate_tables-outcome-requires
+migrate_tables-outcome-requires g c clean = found_arranged _ _ (c.in-Ok.ensures.found clean).reads
+
+pub returns-clause-stand : goal.returns-clause-stand
+returns-clause-stand g c honest =
+    let it = c.migrate_tables-outcome.ensures in
+    let found = c.in-Ok.ensures.found (it.clean honest.0) in
+    on_ok c.migrate_tables-outcome.result _ _ (λ stand before formerly. stand before (found_formerly _ (file_state c.in-Ok.conn) before found formerly)) (it.stand honest)
+
+pub returns-clause-unchanged : goal.returns-clause-unchanged
+returns-clause-unchanged g c honest =
+    let it = c.migrate_tables-outcome.ensures in
+    let found = c.in-Ok.ensures.found (it.clean honest.0) in
+    on_err c.migrate_tables-outcome.result _ _ (λ same. found_those _ (file_state c.in-Ok.conn) _ found same) (it.unchanged honest)
+
+pub returns-clause-crash : goal.returns-clause-crash
+returns-clause-crash g c clean before formerly =
+    let it = c.migrate_tables-outcome.ensures in
+    let was_clean = it.clean clean in
+    let found = c.in-Ok.ensures.found was_clean in
+    it.crash clean (c.in-Ok.ensures.opened was_clean).0.is_open before (found_formerly _ (file_state c.in-Ok.conn) before found formerly)

@@ -1,0 +1,88 @@
+//! The tables of a file of an older version, brought to today's version.
+
+ghost use Rattle.std.specs.Prelude.{◌≡◌, ◌⊎◌, IsTrue, IfOk, OnOk, OnErr};
+ghost use Rattle.sqlite.specs.Files.{file_state};
+ghost use Rattle.sqlite.specs.Held.{state};
+ghost use Rattle.sqlite.specs.Recovery.{Image};
+ghost use Rattle.sqlite.specs.State.{HasCleanDisk};
+ghost use Rattle.sqlite.specs.Tree.{Trees};
+ghost use Rattle.sqlite.specs.WalFiles.{image_at};
+ghost use Rattle.sqlite.specs.WalReads.{AreClean};
+ghost use Rattle.office_tables.specs.Arranged.{IsArranged};
+ghost use Rattle.office_tables.specs.Calls.{IsHonest};
+ghost use Rattle.office_tables_shelf.specs.Office.{Office};
+ghost use Rattle.signal_office_run.specs.File.{AreThoseOf, StandInFiles};
+ghost use Rattle.signal_office_run.specs.Migrating.{StandFormerly, StandToday, StandFormerlyInFiles, StandTodayInFiles, IsImageOf};
+
+use crate::file::{close_after, unopened};
+use office_tables::Migrated;
+use office_tables::open::OpenFault;
+use office_tables::sql_shelf::SqlShelf;
+use signal_office_reports::Fault;
+use sqlite::{Alter, Connection, FileFrom, FileStore, Start};
+use sqlite_disk::{Disk, Files};
+use std::alloc::Global;
+use std::fs;
+
+/// The database in files, of which `S` says what they held.
+pub type FileConnection<S> = Connection<FileStore<FileFrom<S>>>;
+
+/// Whether there is no such file. Where the system does not tell, opening it does.
+fn is_missing(rt: &HostRuntime, path: &str) -> bool {
+    matches!(fs::exists(rt, path), Ok(false))
+}
+
+/// Brings the tables of a database to today's version, with what is told of its last commit.
+fn migrate_tables<S: Alter>(alloc: Global, conn: &mut Connection<S>) -> Result<Migrated, OpenFault>
+    requires { HasCleanDisk (state S.Store conn.old) → IsArranged (state S.Store conn.old).committed.trees }
+    ensures clean { HasCleanDisk (state S.Store conn.new) → HasCleanDisk (state S.Store conn.old) }
+    ensures stand { IsHonest (state S.Store conn.new) → OnOk result ((office : Office) → StandFormerly (state S.Store conn.old).committed.trees office → StandToday (state S.Store conn.new).committed.trees office) }
+    ensures unchanged { IsHonest (state S.Store conn.new) → OnErr result ((state S.Store conn.new).committed.trees ≡ (state S.Store conn.old).committed.trees) }
+    ensures crash { HasCleanDisk (state S.Store conn.new) → IsTrue (state S.Store conn.old).is_open → (office : Office) → StandFormerly (state S.Store conn.old).committed.trees office → (trees : Trees) → (state S.Store conn.new).may_leave trees → StandFormerly trees office ⊎ StandToday trees office }
+{
+    SqlShelf::migrate(alloc, conn)
+}
+
+/// Opens a file and brings its tables to today's version, which may be refused, and gives the
+/// database back. A file that is not there is not made: it has no version. No clause ties the files
+/// to the path.
+pub fn open_and_migrate<S: Start>(
+    rt: &HostRuntime,
+    alloc: Global,
+    path: &str,
+    start: S,
+) -> Result<(FileConnection<S>, Result<Migrated, OpenFault>), Fault>
+    // Where the files held version 1 of the tables of a sound office, the tables are those of that
+    // office today.
+    ensures stand { IfOk result (λ done. IsHonest (file_state done.0) → OnOk done.1 ((before : Office) → StandFormerlyInFiles (image_at S.Start) before → StandToday (file_state done.0).committed.trees before)) }
+    ensures unchanged { IfOk result (λ done. IsHonest (file_state done.0) → OnErr done.1 (AreThoseOf (image_at S.Start) (file_state done.0).committed.trees)) }
+    // A stop leaves the tables as they were, or migrated, also where a failure has shut the
+    // database.
+    ensures crash { IfOk result (λ done. HasCleanDisk (file_state done.0) → (before : Office) → StandFormerlyInFiles (image_at S.Start) before → (trees : Trees) → (file_state done.0).may_leave trees → StandFormerly trees before ⊎ StandToday trees before) }
+{
+    if is_missing(rt, path) {
+        return Err(Fault::Version);
+    }
+    let mut conn = match Connection::open_from(rt, path, false, start) {
+        Ok(conn) => conn,
+        Err(refused) => return Err(unopened(refused)),
+    };
+    let outcome = migrate_tables(alloc, &mut conn);
+    Ok((conn, outcome))
+}
+
+/// Brings the tables of a file to today's version and closes it, so that its log is copied into it.
+pub fn migrate_file<S: Start>(
+    rt: &HostRuntime,
+    alloc: Global,
+    path: &str,
+    start: S,
+) -> Result<(Files<FileFrom<S>>, Migrated), Fault>
+    // Where the files held version 1 of the tables of a sound office, its tables stand in them today,
+    // as the files read now and after a stop: so the headline of `serve_file` holds of a run over them.
+    ensures stand { IfOk result (λ done. AreClean ⟦<FileFrom<S> as Disk>⟧ done.0.log done.0.db → (before : Office) → StandFormerlyInFiles (image_at S.Start) before →
+        (image : Image) → IsImageOf ⟦<FileFrom<S> as Disk>⟧ done.0 image → StandTodayInFiles image before × StandInFiles image before) }
+{
+    let (conn, outcome) = open_and_migrate(rt, alloc, path, start)?;
+    close_after(conn, outcome)
+}
