@@ -35,10 +35,7 @@ fn keep_version(tables: &[Table]) -> bool
 }
 
 /// The changes of both lists.
-fn joined(
-    mut first: Vec<RowChange>,
-    mut second: Vec<RowChange>,
-) -> Result<Vec<RowChange>, NoMemory>
+fn joined(mut first: Vec<RowChange>, mut second: Vec<RowChange>) -> Result<Vec<RowChange>, NoMemory>
     ensures { IfOk result (λ all. all.items ≡ first.items ++ second.items) }
 {
     first.append(&mut second)?;
@@ -83,10 +80,7 @@ fn write_anew<S: Alter>(
 }
 
 /// Writes each row of version 1 as it is spelled today, where it is spelled otherwise.
-fn spell_anew<S: Alter>(
-    alloc: Global,
-    conn: &mut Connection<S>,
-) -> Result<Migrated, OpenFault>
+fn spell_anew<S: Alter>(alloc: Global, conn: &mut Connection<S>) -> Result<Migrated, OpenFault>
     requires { IsOffice (state S.Store conn.old) }
     ensures office { IsOffice (state S.Store conn.new) }
     ensures honest { IsHonest (state S.Store conn.new) → IsHonest (state S.Store conn.old) }

@@ -349,15 +349,15 @@ stand_anew old new count office it before =
         stand = record {
           intersection = ap (λ (t : Content). t.intersection) it.others ∙ stand.intersection;
           timing = λ id k.
-          let o = get (side_at office id).committed k in
-          left_anew old.timing new.timing it.timing it.timing_rows (timing_key id k) (option_map (λ (r : Row). Some r) o) (committed_within k o (in_timing id k)) (stand.timing id k ∙ committed_left version_1_limits o) ∙ sym (committed_left current_limits o);
+              let o = get (side_at office id).committed k in
+              left_anew old.timing new.timing it.timing it.timing_rows (timing_key id k) (option_map (λ (r : Row). Some r) o) (committed_within k o (in_timing id k)) (stand.timing id k ∙ committed_left version_1_limits o) ∙ sym (committed_left current_limits o);
           timing_keys = keys_anew old.timing new.timing it.timing it.timing_rows;
           draft = λ id k.
-          let d = stand.draft id k in
-          record { row = d.row; stored = left_anew old.draft new.draft it.draft it.draft_rows (timing_key id k) d.row (any_left_within k d.row d.within) d.stored; stands = d.stands; within = any_left_more k d.row d.within };
+              let d = stand.draft id k in
+              record { row = d.row; stored = left_anew old.draft new.draft it.draft it.draft_rows (timing_key id k) d.row (any_left_within k d.row d.within) d.stored; stands = d.stands; within = any_left_more k d.row d.within };
           draft_keys = keys_anew old.draft new.draft it.draft it.draft_rows;
           register = subst (λ (t : Content). RegisterStands t office.register) (sym it.others)
-          (record { inspection = stand.register.inspection; work_order = stand.register.work_order; used_part = stand.register.used_part; delivery = stand.register.delivery; part = stand.register.part; part_keys = stand.register.part_keys });
+              (record { inspection = stand.register.inspection; work_order = stand.register.work_order; used_part = stand.register.used_part; delivery = stand.register.delivery; part = stand.register.part; part_keys = stand.register.part_keys });
         };
         sound = record { numbers = sound.numbers; intersections = λ id. intersection_more (get office.intersections id) (sound.intersections id); register = sound.register };
       };

@@ -34,15 +34,15 @@ returns-in_err-write_anew-clause-crash g c =
     (λ _ db none. absurd none)
     (λ clean db became. (
       was_honest old mid late c.timing_rows.ensures.kept c.draft_rows.ensures.kept
-      c.in_ok-kept.kept.items c.in_ok-kept-2.kept.items c.in_ok-kept.ensures.rows c.in_ok-kept-2.ensures.rows c.in_ok-committed.ensures.rows
-      c.in_ok-committed.committed.items c.in_ok-drafted.drafted.items c.as_slice.result.now c.in_ok-committed.ensures.puts c.in_ok-drafted.ensures (c.as_slice.ensures.value ∙ c.in_ok-changes.ensures) became.0,
+          c.in_ok-kept.kept.items c.in_ok-kept-2.kept.items c.in_ok-kept.ensures.rows c.in_ok-kept-2.ensures.rows c.in_ok-committed.ensures.rows
+          c.in_ok-committed.committed.items c.in_ok-drafted.drafted.items c.as_slice.result.now c.in_ok-committed.ensures.puts c.in_ok-drafted.ensures (c.as_slice.ensures.value ∙ c.in_ok-changes.ensures) became.0,
       (
-      record { timing = length c.as_slice-timing.result.now; draft = length c.as_slice-draft.result.now },
-      spelled old mid late c.timing_rows.ensures.kept c.draft_rows.ensures.kept
-      c.in_ok-kept.kept.items c.in_ok-kept-2.kept.items c.in_ok-kept.ensures.rows c.in_ok-kept-2.ensures.rows c.in_ok-committed.ensures.rows
-      c.in_ok-committed.committed.items c.in_ok-drafted.drafted.items c.as_slice.result.now c.in_ok-committed.ensures.puts c.in_ok-drafted.ensures (c.as_slice.ensures.value ∙ c.in_ok-changes.ensures)
-      db (record { timing = length c.as_slice-timing.result.now; draft = length c.as_slice-draft.result.now }) (ap length c.as_slice-timing.ensures.value) (ap length c.as_slice-draft.ensures.value) became.0 became.1,
-      became.1.1,
+        record { timing = length c.as_slice-timing.result.now; draft = length c.as_slice-draft.result.now },
+        spelled old mid late c.timing_rows.ensures.kept c.draft_rows.ensures.kept
+            c.in_ok-kept.kept.items c.in_ok-kept-2.kept.items c.in_ok-kept.ensures.rows c.in_ok-kept-2.ensures.rows c.in_ok-committed.ensures.rows
+            c.in_ok-committed.committed.items c.in_ok-drafted.drafted.items c.as_slice.result.now c.in_ok-committed.ensures.puts c.in_ok-drafted.ensures (c.as_slice.ensures.value ∙ c.in_ok-changes.ensures)
+            db (record { timing = length c.as_slice-timing.result.now; draft = length c.as_slice-draft.result.now }) (ap length c.as_slice-timing.ensures.value) (ap length c.as_slice-draft.ensures.value) became.0 became.1,
+        became.1.1,
       ),
     ))
     read c.write_anew.ensures.crash
@@ -58,15 +58,15 @@ returns-clause-crash g c =
     (λ _ db none. absurd none)
     (λ clean db became. (
       was_honest old mid late c.timing_rows.ensures.kept c.draft_rows.ensures.kept
-      c.in_ok-kept.kept.items c.in_ok-kept-2.kept.items c.in_ok-kept.ensures.rows c.in_ok-kept-2.ensures.rows c.in_ok-committed.ensures.rows
-      c.in_ok-committed.committed.items c.in_ok-drafted.drafted.items c.as_slice.result.now c.in_ok-committed.ensures.puts c.in_ok-drafted.ensures (c.as_slice.ensures.value ∙ c.in_ok-changes.ensures) became.0,
+          c.in_ok-kept.kept.items c.in_ok-kept-2.kept.items c.in_ok-kept.ensures.rows c.in_ok-kept-2.ensures.rows c.in_ok-committed.ensures.rows
+          c.in_ok-committed.committed.items c.in_ok-drafted.drafted.items c.as_slice.result.now c.in_ok-committed.ensures.puts c.in_ok-drafted.ensures (c.as_slice.ensures.value ∙ c.in_ok-changes.ensures) became.0,
       (
-      record { timing = length c.as_slice-timing.result.now; draft = length c.as_slice-draft.result.now },
-      spelled old mid late c.timing_rows.ensures.kept c.draft_rows.ensures.kept
-      c.in_ok-kept.kept.items c.in_ok-kept-2.kept.items c.in_ok-kept.ensures.rows c.in_ok-kept-2.ensures.rows c.in_ok-committed.ensures.rows
-      c.in_ok-committed.committed.items c.in_ok-drafted.drafted.items c.as_slice.result.now c.in_ok-committed.ensures.puts c.in_ok-drafted.ensures (c.as_slice.ensures.value ∙ c.in_ok-changes.ensures)
-      db (record { timing = length c.as_slice-timing.result.now; draft = length c.as_slice-draft.result.now }) (ap length c.as_slice-timing.ensures.value) (ap length c.as_slice-draft.ensures.value) became.0 became.1,
-      became.1.1,
+        record { timing = length c.as_slice-timing.result.now; draft = length c.as_slice-draft.result.now },
+        spelled old mid late c.timing_rows.ensures.kept c.draft_rows.ensures.kept
+            c.in_ok-kept.kept.items c.in_ok-kept-2.kept.items c.in_ok-kept.ensures.rows c.in_ok-kept-2.ensures.rows c.in_ok-committed.ensures.rows
+            c.in_ok-committed.committed.items c.in_ok-drafted.drafted.items c.as_slice.result.now c.in_ok-committed.ensures.puts c.in_ok-drafted.ensures (c.as_slice.ensures.value ∙ c.in_ok-changes.ensures)
+            db (record { timing = length c.as_slice-timing.result.now; draft = length c.as_slice-draft.result.now }) (ap length c.as_slice-timing.ensures.value) (ap length c.as_slice-draft.ensures.value) became.0 became.1,
+        became.1.1,
       ),
     ))
     read c.write_anew.ensures.crash
