@@ -100,13 +100,20 @@ Patterns
     48   255   255    20    20
 ";
 
+/// The rows with the greatest numbers.
+const FULL_PLAN: &str = "\
+phase,32,8,255,255,255,255,255,,255,255,9999,999,1,10
+seq,20,8,
+split,20,32,255,7,1
+pattern,48,255,255,20,20
+";
+
 #[test]
 fn a_sheet_is_printed(rt: HostRuntime) -> Result<(), Fail> {
     let alloc = rt.alloc();
     let id = InterId::new(12).ok_or("an intersection")?;
     let revision = Revision::new(999_999).ok_or("a revision")?;
-    let file =
-        b"phase,32,8,255,255,255,255,255,,255,255,9999,999,1,10\nseq,20,8,\nsplit,20,32,255,7,1\npattern,48,255,255,20,20\n";
+    let file = FULL_PLAN.as_bytes();
     let mut set = TimingSet::new(alloc);
     set.apply(alloc, &read_timing_csv(alloc, file)?)?;
     let sheet = timing_sheet(alloc, id, &words(alloc, "Main St")?, revision, &set)?;

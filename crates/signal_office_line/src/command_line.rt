@@ -2,7 +2,11 @@
 
 ghost use Rattle.std.specs.Prelude.{◌≡◌, IfOk, false};
 ghost use Rattle.clap.specs.Walk.{rule_of};
-ghost use Rattle.signal_office_line.specs.CommandLine.{Reads, db_rule, required_db_rule, positional_rule, number_rule, first_rule, batch_app, serve_app, sheet_app, overdue_app, verify_file_app, migrate_app, signal_app};
+ghost use Rattle.signal_office_line.specs.CommandLine.{Reads, db_rule, required_db_rule};
+ghost use Rattle.signal_office_line.specs.CommandLine.{positional_rule, number_rule, first_rule};
+ghost use Rattle.signal_office_line.specs.CommandLine.{batch_app, serve_app, sheet_app};
+ghost use Rattle.signal_office_line.specs.CommandLine.{overdue_app, verify_file_app, migrate_app};
+ghost use Rattle.signal_office_line.specs.CommandLine.{signal_app};
 
 use clap::{Arg, Command};
 use std::alloc::{AllocError, Global};
@@ -136,7 +140,7 @@ fn migrate_command<'a>(alloc: Global) -> Result<Command<'a>, AllocError>
 {
     Command::new(alloc, "migrate")
         .about(
-            "Brings a file of an older version to today's version, and says how many rows were written anew",
+            "Brings a file of an older version to today's, and says how many rows were written anew",
         )
         .arg(required_db_option(
             alloc,
