@@ -139,9 +139,7 @@ fn migrate_command<'a>(alloc: Global) -> Result<Command<'a>, AllocError>
     ensures { IfOk result (λ c. Reads c migrate_app) }
 {
     Command::new(alloc, "migrate")
-        .about(
-            "Brings a file of an older version to today's, and says how many rows were written anew",
-        )
+        .about("Brings a file of an older version to today's; says how many rows were written anew")
         .arg(required_db_option(
             alloc,
             "The SQLite file that keeps the tables; it has to be there, and none is made",

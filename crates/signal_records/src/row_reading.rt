@@ -2,7 +2,8 @@
 
 ghost use Rattle.std.specs.Prelude.{◌≡◌, ◌≤◌, ◌+◌, length};
 ghost use Rattle.signal_records.specs.declared.number.TheConstants.{PHASES, RINGS};
-ghost use Rattle.signal_records.specs.Reading.{Gives, texts, ped_width, lead_in, ped_record, ped_at};
+ghost use Rattle.signal_records.specs.Reading.{Gives, texts};
+ghost use Rattle.signal_records.specs.Reading.{ped_width, lead_in, ped_record, ped_at};
 ghost use Rattle.signal_records.specs.Reading.{phase_record, seq_record, split_record};
 ghost use Rattle.signal_records.specs.Reading.{pattern_record, row_at};
 
