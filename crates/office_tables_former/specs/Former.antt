@@ -1,9 +1,10 @@
 -- The rows of version 1 in the cells of `timing` and `draft`, and what is put in their place.
-use Rattle.std.specs.Prelude.{◌≡◌, ◌≢◌, ℕ, Bool, true, false, if◌then◌else◌, List, [], ◌∷◌, ◌++◌, map, Option, Some, is_some}
+use Rattle.std.specs.Prelude.{◌≡◌, ◌≢◌, ℕ, Bool, true, false, if◌then◌else◌, List, [], ◌∷◌, ◌++◌, map, length, Option, Some, is_some, Result, Err}
 use Rattle.std.specs.Int.{IsInRange}
-use Rattle.std.specs.List.{AllByRecursion}
+use Rattle.std.specs.List.{AllByRecursion, list_all}
 use Rattle.std.specs.FinMap.{get, entries}
 use Rattle.sqlite.specs.Order.{Row as SqlRow}
+use Rattle.sqlite_rules.specs.Lists.{Has}
 use Rattle.signal_records.specs.Row.{key_of}
 use Rattle.signal_records.specs.Within.{IsRowWithin, IsChangeWithin, version_1_limits}
 use Rattle.signal_records.specs.declared.record.Row.{Row}
@@ -11,11 +12,31 @@ use Rattle.signal_records.specs.declared.record.Row.TheVariants as row
 use Rattle.signal_records.specs.declared.record.Change.{Change}
 use Rattle.signal_records.specs.declared.record.Change.TheVariants.{Put, Remove}
 use Rattle.draft_core.specs.DraftRows.{left_by}
-use Rattle.office_tables_shelf.specs.Cells.{Cell, Rows}
-use Rattle.office_tables_shelf.specs.Rows.{timing_key, timing_columns_in, draft_key, left_columns_in}
+use Rattle.office_tables_shelf.specs.Cells.{Cell, Rows, text}
+use Rattle.office_tables_shelf.specs.Rows.{body_in, timing_key, timing_columns_in, draft_key, left_columns_in}
 use Rattle.office_tables_shelf.specs.declared.rows.RowChange.{RowChange}
 use Rattle.office_tables_shelf.specs.declared.rows.RowChange.TheVariants.{PutTiming, PutDraft}
+use Rattle.office_tables_shelf.specs.declared.shelf.ShelfFault.{ShelfFault}
+use Rattle.office_tables_shelf.specs.declared.shelf.ShelfFault.TheVariants as fault
 use Rattle.office_tables_sql.specs.Listed.{shown_key, shown_body}
+
+-- the row that version 1 spelled in these bytes, or in this cell
+abbrev pub IsFormerBody : List ℕ → Row → Type 0
+IsFormerBody body r = (body_in version_1_limits r ≡ body) × IsRowWithin version_1_limits r
+
+abbrev pub IsFormerCell : Cell → Row → Type 0
+IsFormerCell cell r = (cell ≡ text (body_in version_1_limits r)) × IsRowWithin version_1_limits r
+
+-- version 1 spelled no row so
+abbrev pub IsNoFormerBody : List ℕ → Type 0
+IsNoFormerBody body = (r : Row) → IsRowWithin version_1_limits r → body_in version_1_limits r ≢ body
+
+abbrev pub IsNoFormerCell : Cell → Type 0
+IsNoFormerCell cell = (r : Row) → IsRowWithin version_1_limits r → cell ≢ text (body_in version_1_limits r)
+
+-- where a row of five columns is told to be damaged, this holds of it
+abbrev pub OnDamage : {A : Type 0} → Result A ShelfFault → SqlRow → Type 0 → Type 0
+OnDamage result row holds = result ≡ Err fault.Damaged → length row ≡ 5 → holds
 
 -- the cells in which version 1 kept a row or a removal under an intersection
 abbrev pub former_cells : ℕ × Change → List Cell × List Cell
@@ -25,14 +46,26 @@ former_cells kept = (draft_key kept.0 kept.1, left_columns_in version_1_limits (
 abbrev pub shown_cells : SqlRow → List Cell × List Cell
 shown_cells row = (shown_key row, shown_body row)
 
+-- rows and removals that version 1 could keep
+abbrev pub AreFormer : List (ℕ × Change) → Type 0
+AreFormer kept = AllByRecursion (λ k. IsChangeWithin version_1_limits k.1) kept
+
 -- the table kept these rows and removals, and no others
 pub record AreKept (rows : Rows) (kept : List (ℕ × Change)) : Type 0 where
   pub cells : map former_cells kept ≡ entries rows
-  pub within : AllByRecursion (λ k. IsChangeWithin version_1_limits k.1) kept
+  pub within : AreFormer kept
 
 -- version 1 kept no row and no removal in these cells
 abbrev pub IsNoFormer : List Cell → List Cell → Type 0
 IsNoFormer key columns = (id : ℕ) → IsInRange 1 9999 id → (change : Change) → IsChangeWithin version_1_limits change → key ≡ draft_key id change → columns ≢ left_columns_in version_1_limits (left_by change)
+
+-- one of the shown rows has cells in which version 1 kept no row and no removal
+abbrev pub ShowNoFormer : List SqlRow → Type 0
+ShowNoFormer rows = (row : SqlRow) × Has rows row × IsNoFormer (shown_key row) (shown_body row)
+
+-- rows of five columns
+abbrev pub HaveFive : List SqlRow → Type 0
+HaveFive rows = AllByRecursion (λ row. length row ≡ 5) rows
 
 -- cells stand in the table in which version 1 kept no row and no removal
 pub record HasNoFormer (rows : Rows) : Type 0 where
@@ -52,6 +85,9 @@ pub record HasNoFormerRow (rows : Rows) : Type 0 where
 abbrev pub is_row : Change → Bool
 is_row (Put r) = true
 is_row (Remove key) = false
+
+abbrev pub are_rows : List (ℕ × Change) → Bool
+are_rows kept = list_all (λ k. is_row k.1) kept
 
 -- the row of a phase with a pedestrian part, which alone is spelled otherwise today
 abbrev pub has_ped : Change → Bool

@@ -1,14 +1,15 @@
 //! What one row of `timing` or `draft` stood for in version 1.
 
-ghost use Rattle.std.specs.Prelude.{◌≡◌, ◌≢◌, ℕ, ◌∷◌, [], length, IfOk, IfSome, Ok, None};
+ghost use Rattle.std.specs.Prelude.{◌≡◌, ◌≢◌, IfOk, IfSome, Ok, None};
 ghost use Rattle.sqlite.specs.Order.{column};
-ghost use Rattle.signal_records.specs.Within.{IsRowWithin, IsChangeWithin, version_1_limits};
-ghost use Rattle.signal_records.specs.declared.record.Row.{Row};
-ghost use Rattle.office_tables_shelf.specs.Cells.{null, text};
-ghost use Rattle.office_tables_shelf.specs.Rows.{body_in};
+ghost use Rattle.signal_records.specs.Within.{IsChangeWithin, version_1_limits};
+ghost use Rattle.office_tables_shelf.specs.Cells.{null};
 ghost use Rattle.office_tables_sql.specs.Stored.{cell_of};
 ghost use Rattle.office_tables_sql.specs.Listed.{shown_key, shown_body};
-ghost use Rattle.office_tables_former.specs.Former.{former_cells, IsNoFormer};
+ghost use Rattle.office_tables_former.specs.Former.{former_cells, shown_cells};
+ghost use Rattle.office_tables_former.specs.Former.{OnDamage, IsNoFormer};
+ghost use Rattle.office_tables_former.specs.Former.{IsFormerBody, IsNoFormerBody};
+ghost use Rattle.office_tables_former.specs.Former.{IsFormerCell, IsNoFormerCell};
 
 use office_tables_shelf::shelf::ShelfFault;
 use office_tables_sql::body_reading::fields_of;
@@ -20,8 +21,8 @@ use std::alloc::Global;
 
 /// The row of version 1 whose fields, with a comma between, are these bytes, if there is one.
 fn row_of_body(alloc: Global, body: &[u8]) -> Result<Option<Row>, NoMemory>
-    ensures ok { IfOk result (λ found. IfSome found (λ row. (body_in version_1_limits row ≡ body.now) × IsRowWithin version_1_limits row)) }
-    ensures none { result ≡ Ok None → (row : Row) → IsRowWithin version_1_limits row → body_in version_1_limits row ≢ body.now }
+    ensures ok { IfOk result (λ found. IfSome found (IsFormerBody body.now)) }
+    ensures none { result ≡ Ok None → IsNoFormerBody body.now }
 {
     let fields = fields_of(alloc, body)?;
     match read_row_v1(alloc, &fields) {
@@ -35,10 +36,10 @@ fn row_of_body(alloc: Global, body: &[u8]) -> Result<Option<Row>, NoMemory>
 
 /// The row in the column of the bodies, where it is not NULL.
 fn body_at(alloc: Global, row: &SqlRow) -> Result<Option<Row>, ShelfFault>
-    ensures row { IfOk result (λ found. IfSome found (λ r. (cell_of (column row.now 4) ≡ text (body_in version_1_limits r)) × IsRowWithin version_1_limits r)) }
+    ensures row { IfOk result (λ found. IfSome found (IsFormerCell (cell_of (column row.now 4)))) }
     ensures null { result ≡ Ok None → cell_of (column row.now 4) ≡ null }
-    ensures damaged { result ≡ Err ShelfFault.Damaged → length row.now ≡ 5 → (r : Row) → IsRowWithin version_1_limits r → cell_of (column row.now 4) ≢ text (body_in version_1_limits r) }
-    ensures damaged_null { result ≡ Err ShelfFault.Damaged → length row.now ≡ 5 → cell_of (column row.now 4) ≢ null }
+    ensures damaged { OnDamage result row.now (IsNoFormerCell (cell_of (column row.now 4))) }
+    ensures damaged_null { OnDamage result row.now (cell_of (column row.now 4) ≢ null) }
 {
     let body: Option<String> = value_at(row, 4)?;
     let Some(body) = body else {
@@ -52,9 +53,10 @@ fn body_at(alloc: Global, row: &SqlRow) -> Result<Option<Row>, ShelfFault>
 
 /// The intersection, and the row that is kept of it, or without a body the removal of a key.
 pub(crate) fn read(alloc: Global, row: &SqlRow) -> Result<(InterId, Change), ShelfFault>
-    ensures cells { IfOk result (λ kept. former_cells kept ≡ (shown_key row.now, shown_body row.now)) }
+    ensures cells { IfOk result (λ kept. former_cells kept ≡ shown_cells row.now) }
     ensures within { IfOk result (λ kept. IsChangeWithin version_1_limits kept.1) }
-    ensures damaged { result ≡ Err ShelfFault.Damaged → length row.now ≡ 5 → IsNoFormer (shown_key row.now) (shown_body row.now) }
+    ensures damaged { OnDamage result row.now
+        (IsNoFormer (shown_key row.now) (shown_body row.now)) }
 {
     let id = ranged_at(row, 0)?;
     let Some(found) = body_at(alloc, row)? else {

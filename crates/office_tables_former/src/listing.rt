@@ -1,19 +1,15 @@
 //! All rows of `timing` and of `draft`, as version 1 kept them.
 
-ghost use Rattle.std.specs.Prelude.{◌≡◌, ℕ, map, length, IfOk};
-ghost use Rattle.std.specs.List.{AllByRecursion};
+ghost use Rattle.std.specs.Prelude.{◌≡◌, map, IfOk};
 ghost use Rattle.sqlite.specs.State.{Survives};
 ghost use Rattle.sqlite.specs.Held.{state};
-ghost use Rattle.sqlite.specs.Order.{Row};
-ghost use Rattle.sqlite_rules.specs.Lists.{Has};
-ghost use Rattle.signal_records.specs.Within.{IsChangeWithin, version_1_limits};
-ghost use Rattle.office_tables_shelf.specs.declared.rows.Table.{Table};
-ghost use Rattle.office_tables_sql.specs.Calls.{IsHonest, IsOffice, IsQuery, Keeps};
-ghost use Rattle.office_tables_sql.specs.Listed.{shown_key, shown_body};
+ghost use Rattle.office_tables_sql.specs.Calls.{IsOffice, IsQuery, Keeps};
 ghost use Rattle.office_tables_sql.specs.Stored.{content_now};
 ghost use Rattle.office_tables_sql.specs.Tables.{rows_at};
-ghost use Rattle.office_tables_former.specs.Former.{former_cells, shown_cells, AreKept, HasNoFormer, IsNoFormer};
-ghost use Rattle.office_tables_former.specs.Listing.{ListsAll};
+ghost use Rattle.office_tables_former.specs.Former.{former_cells, shown_cells, AreFormer};
+ghost use Rattle.office_tables_former.specs.Former.{HaveFive, ShowNoFormer};
+ghost use Rattle.office_tables_former.specs.Listing.{Lists, ListsEach};
+ghost use Rattle.office_tables_former.specs.Listing.{TellsNoFormer, TellsNoFormerOfEach};
 
 use crate::growing::push;
 use crate::kept::read;
@@ -30,8 +26,9 @@ const DRAFT: &str = "SELECT inter, kind, a, b, body FROM draft ORDER BY inter, k
 /// What each of the shown rows stood for.
 fn read_all(alloc: Global, rows: Vec<SqlRow>) -> Result<Vec<(InterId, Change)>, ShelfFault>
     ensures cells { IfOk result (λ kept. map former_cells kept.items ≡ map shown_cells rows.items) }
-    ensures within { IfOk result (λ kept. AllByRecursion (λ k. IsChangeWithin version_1_limits k.1) kept.items) }
-    ensures damaged { result ≡ Err ShelfFault.Damaged → AllByRecursion (λ row. length row ≡ 5) rows.items → (row : Row) × Has rows.items row × IsNoFormer (shown_key row) (shown_body row) }
+    ensures within { IfOk result (λ kept. AreFormer kept.items) }
+    ensures damaged { result ≡ Err ShelfFault.Damaged →
+        HaveFive rows.items → ShowNoFormer rows.items }
 {
     let mut kept = Vec::new(alloc);
     for row in rows {
@@ -49,8 +46,10 @@ fn list<S: Alter>(
 ) -> Result<Vec<(InterId, Change)>, ShelfFault>
     requires office { IsOffice (state S.Store conn.old) }
     requires query { IsQuery sql.now }
-    ensures rows { IfOk result (λ kept. IsHonest (state S.Store conn.new) → (t : Table) → ListsAll t sql.now → AreKept (rows_at (content_now (state S.Store conn.old)) t) kept.items) }
-    ensures damaged { result ≡ Err ShelfFault.Damaged → IsHonest (state S.Store conn.new) → (t : Table) → ListsAll t sql.now → HasNoFormer (rows_at (content_now (state S.Store conn.old)) t) }
+    ensures rows { ListsEach result (state S.Store conn.new) sql.now
+        (rows_at (content_now (state S.Store conn.old))) }
+    ensures damaged { TellsNoFormerOfEach result (state S.Store conn.new) sql.now
+        (rows_at (content_now (state S.Store conn.old))) }
     ensures kept { Keeps (state S.Store conn.old) (state S.Store conn.new) }
     ensures crash { Survives (state S.Store conn.old) (state S.Store conn.new) (λ _. ⊥) }
 {
@@ -64,8 +63,10 @@ pub fn timing_rows<S: Alter>(
     conn: &mut Connection<S>,
 ) -> Result<Vec<(InterId, Change)>, ShelfFault>
     requires { IsOffice (state S.Store conn.old) }
-    ensures rows { IfOk result (λ kept. IsHonest (state S.Store conn.new) → AreKept (content_now (state S.Store conn.old)).timing kept.items) }
-    ensures damaged { result ≡ Err ShelfFault.Damaged → IsHonest (state S.Store conn.new) → HasNoFormer (content_now (state S.Store conn.old)).timing }
+    ensures rows { Lists result (state S.Store conn.new)
+        (content_now (state S.Store conn.old)).timing }
+    ensures damaged { TellsNoFormer result (state S.Store conn.new)
+        (content_now (state S.Store conn.old)).timing }
     ensures kept { Keeps (state S.Store conn.old) (state S.Store conn.new) }
     ensures crash { Survives (state S.Store conn.old) (state S.Store conn.new) (λ _. ⊥) }
 {
@@ -78,8 +79,10 @@ pub fn draft_rows<S: Alter>(
     conn: &mut Connection<S>,
 ) -> Result<Vec<(InterId, Change)>, ShelfFault>
     requires { IsOffice (state S.Store conn.old) }
-    ensures rows { IfOk result (λ kept. IsHonest (state S.Store conn.new) → AreKept (content_now (state S.Store conn.old)).draft kept.items) }
-    ensures damaged { result ≡ Err ShelfFault.Damaged → IsHonest (state S.Store conn.new) → HasNoFormer (content_now (state S.Store conn.old)).draft }
+    ensures rows { Lists result (state S.Store conn.new)
+        (content_now (state S.Store conn.old)).draft }
+    ensures damaged { TellsNoFormer result (state S.Store conn.new)
+        (content_now (state S.Store conn.old)).draft }
     ensures kept { Keeps (state S.Store conn.old) (state S.Store conn.new) }
     ensures crash { Survives (state S.Store conn.old) (state S.Store conn.new) (λ _. ⊥) }
 {

@@ -1,8 +1,7 @@
 //! What is put in the place of the rows that are spelled otherwise today.
 
 ghost use Rattle.std.specs.Prelude.{◌≡◌, true, false, IfOk, OnOk};
-ghost use Rattle.std.specs.List.{list_all};
-ghost use Rattle.office_tables_former.specs.Former.{has_ped, is_row, timing_puts, draft_puts};
+ghost use Rattle.office_tables_former.specs.Former.{has_ped, are_rows, timing_puts, draft_puts};
 
 use crate::growing::push;
 use office_tables_shelf::rows::RowChange;
@@ -20,7 +19,7 @@ pub struct Migrated {
     pub draft: usize,
 }
 
-/// Whether this is the row of a phase with a pedestrian part, the one row that is spelled otherwise.
+/// Whether this is the row of a phase with a pedestrian part, which alone is spelled otherwise.
 fn has_pedestrian_part(change: &Change) -> bool
     ensures { result ≡ has_ped change.now }
 {
@@ -30,14 +29,15 @@ fn has_pedestrian_part(change: &Change) -> bool
     }
 }
 
-/// The rows of `timing` with a pedestrian part, to be put in their place. A removal there is no row.
+/// The rows of `timing` with a pedestrian part, to be put in their place. A removal there is
+/// damage.
 pub fn timing_changes(
     alloc: Global,
     kept: Vec<(InterId, Change)>,
 ) -> Result<Vec<RowChange>, ShelfFault>
     ensures puts { IfOk result (λ changes. changes.items ≡ timing_puts kept.items) }
-    ensures rows { OnOk result (list_all (λ k. is_row k.1) kept.items ≡ true) }
-    ensures damaged { result ≡ Err ShelfFault.Damaged → list_all (λ k. is_row k.1) kept.items ≡ false }
+    ensures rows { OnOk result (are_rows kept.items ≡ true) }
+    ensures damaged { result ≡ Err ShelfFault.Damaged → are_rows kept.items ≡ false }
 {
     let mut changes = Vec::new(alloc);
     for (id, change) in kept {
