@@ -3,6 +3,7 @@ pub mod SqlShelf
 pub mod Arranged
 pub mod Opening
 pub mod Migrate
+pub mod Promises
 pub use Rattle.office_tables_shelf.specs.Cells
 pub use Rattle.office_tables_shelf.specs.Content
 pub use Rattle.office_tables_shelf.specs.Rows

@@ -1,14 +1,21 @@
 -- What bringing version 1 of the tables to today's version makes of a database, and what it leaves where it refuses.
-use Rattle.std.specs.Prelude.{◌≡◌, ◌≢◌, ◌⊎◌, List, codes, Some}
+use Rattle.std.specs.Prelude.{◌≡◌, ◌≢◌, ◌⊎◌, List, codes, Some, Result, Err, IfOk, OnOk}
 use Rattle.std.specs.List.{AllByRecursion}
-use Rattle.sqlite.specs.State.{State}
+use Rattle.sqlite.specs.State.{State, HasCleanDisk}
 use Rattle.sqlite.specs.Tree.{Trees}
 use Rattle.sqlite_schema.specs.declared.schema.Table.{Table}
+use Rattle.office_tables_shelf.specs.Change.{changed_by}
 use Rattle.office_tables_shelf.specs.Content.{Content}
+use Rattle.office_tables_shelf.specs.Office.{Office, version_1}
+use Rattle.office_tables_shelf.specs.StandFor.{StandForSoundIn}
+use Rattle.office_tables_shelf.specs.declared.rows.RowChange.{RowChange}
+use Rattle.office_tables_sql.specs.Calls.{IsHonest, IsReady}
 use Rattle.office_tables_sql.specs.Stored.{content_now, content_of}
 use Rattle.office_tables_former.specs.Former.{HasNoFormer, HasNoFormerRow}
-use Rattle.office_tables_former.specs.Migration.{IsMigrated}
+use Rattle.office_tables_former.specs.Migration.{IsMigrated, StandAnew}
 use Rattle.office_tables_former.specs.declared.puts.Migrated.{Migrated}
+use Rattle.office_tables.specs.declared.open.OpenFault.{OpenFault}
+use Rattle.office_tables.specs.declared.open.OpenFault.TheVariants as fault
 use Rattle.office_tables.specs.Version.{version_in, current_version, first_version}
 
 -- today's version is stored, and the tables hold this
@@ -61,3 +68,41 @@ HasFormerDamage tables = HasNoFormerRow tables.timing ⊎ HasNoFormer tables.dra
 pub record HasDamagedFormer (trees : Trees) : Type 0 where
   pub was : version_in trees ≡ Some first_version
   pub damage : HasFormerDamage (content_of trees)
+
+-- what the changes make of the tables, stored as today's version
+abbrev pub IsChangedToday : State → List RowChange → Trees → Type 0
+IsChangedToday old changes trees = HoldsToday (changed_by (content_now old) changes) trees
+
+-- a step of a transaction writes that
+abbrev pub WritesToday : {A E : Type 0} → Result A E → List RowChange → State → State → Type 0
+WritesToday result changes old new = HasCleanDisk new → OnOk result (IsReady old → IsChangedToday old changes new.now.trees)
+
+-- a whole call writes it
+abbrev pub WritesAllToday : {A E : Type 0} → Result A E → List RowChange → State → State → Type 0
+WritesAllToday result changes old new = IsHonest new → OnOk result (IsChangedToday old changes new.now.trees)
+
+-- each row is spelled as today, and they are counted
+abbrev pub Migrates : {E : Type 0} → Result Migrated E → State → State → Type 0
+Migrates result old new = IsHonest new → IfOk result (IsMigrated (content_now old) (content_now new))
+
+-- today's version is stored
+abbrev pub EndsToday : {A E : Type 0} → Result A E → State → Type 0
+EndsToday result new = IsHonest new → OnOk result (version_in new.now.trees ≡ Some current_version)
+
+-- today's version stays, or version 1 is brought to it
+abbrev pub Brings : {E : Type 0} → Result Migrated E → State → State → Type 0
+Brings result old new = IsHonest new → IfOk result (IsBrought old new)
+
+-- tables of version 1 that stood for a sound office stand for it today
+abbrev pub StandsAnew : {A E : Type 0} → Result A E → State → State → Type 0
+StandsAnew result old new = IsHonest new → OnOk result ((office : Office) → version_in old.committed.trees ≡ Some first_version → StandForSoundIn version_1 (content_of old.committed.trees) office → StandAnew (content_now new) office)
+
+-- when Version is told, and when Damaged
+abbrev pub TellsVersion : {A : Type 0} → Result A OpenFault → State → State → Type 0
+TellsVersion result old new = result ≡ Err fault.Version → IsHonest new → HasUnknownVersion old
+
+abbrev pub TellsFormerDamage : {A : Type 0} → Result A OpenFault → State → State → Type 0
+TellsFormerDamage result old new = result ≡ Err fault.Damaged → IsHonest new → HasFormerDamage (content_now old)
+
+abbrev pub TellsDamage : {A : Type 0} → Result A OpenFault → State → State → Type 0
+TellsDamage result old new = result ≡ Err fault.Damaged → IsHonest new → HasDamagedFormer old.committed.trees

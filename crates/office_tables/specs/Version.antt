@@ -19,6 +19,10 @@ use Rattle.office_tables_sql.specs.Calls.{IsQuery, command_of}
 abbrev pub version_in : Trees → Option (List Cell)
 version_in trees = get (rows_of layout.office_version trees) (number (pos 1) ∷ [])
 
+-- the cells of a version
+abbrev pub version_cells : ℕ → List Cell
+version_cells version = number (pos version) ∷ []
+
 -- version 2
 abbrev pub current_version : List Cell
 current_version = number (pos 2) ∷ []

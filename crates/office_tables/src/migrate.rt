@@ -1,15 +1,16 @@
 //! Version 1 of the tables brought to today's version.
 
-ghost use Rattle.std.specs.Prelude.{◌≡◌, ◌≢◌, ◌++◌, IsTrue, IfOk, OnOk, OnErr, Some, Err};
-ghost use Rattle.sqlite.specs.State.{HasCleanDisk, Survives};
+ghost use Rattle.std.specs.Prelude.{◌≡◌, ◌≢◌, ◌++◌, IsTrue, IfOk, Err};
+ghost use Rattle.sqlite.specs.State.{Survives};
 ghost use Rattle.sqlite.specs.Held.{state};
-ghost use Rattle.office_tables_shelf.specs.Change.{changed_by};
 ghost use Rattle.office_tables_sql.specs.Stored.{content_now};
-ghost use Rattle.office_tables_sql.specs.Calls.{IsHonest, IsOffice, IsReady, StandsOn};
-ghost use Rattle.office_tables_former.specs.Migration.{IsMigrated};
-ghost use Rattle.office_tables.specs.Arranged.{IsArranged};
-ghost use Rattle.office_tables.specs.Migrate.{HoldsToday, IsSpelledToday, MayBecome, IsBrought, KeepNoVersion, HasUnknownVersion, HasFormerDamage, HasDamagedFormer};
-ghost use Rattle.office_tables.specs.Version.{version_in, current_version};
+ghost use Rattle.office_tables_sql.specs.Calls.{IsHonest, IsOffice, StandsOn};
+ghost use Rattle.office_tables.specs.Migrate.{KeepNoVersion, IsChangedToday, IsSpelledToday};
+ghost use Rattle.office_tables.specs.Migrate.{MayBecome, WritesToday, WritesAllToday, Migrates};
+ghost use Rattle.office_tables.specs.Migrate.{EndsToday, Brings};
+ghost use Rattle.office_tables.specs.Migrate.{TellsVersion, TellsFormerDamage, TellsDamage};
+ghost use Rattle.office_tables.specs.Promises.{WasHonest, StaysReady, LeavesNoMore, KeepsTrees};
+ghost use Rattle.office_tables.specs.Promises.{KeepsCommitted, Commits, IsArrangedIfClean};
 
 use crate::change::change_rows;
 use crate::open::OpenFault;
@@ -49,18 +50,22 @@ fn write_in<S: Alter>(
     changes: &[RowChange],
 ) -> Result<(), SqlFault>
     ensures same_reference { tx.new.conn.ghost_name ≡ tx.old.conn.ghost_name }
-    ensures honest { HasCleanDisk (state S.Store tx.new.conn.now) → OnOk result (IsHonest (state S.Store tx.old.conn.now)) }
-    ensures ready { HasCleanDisk (state S.Store tx.new.conn.now) → OnOk result (IsReady (state S.Store tx.old.conn.now) → IsReady (state S.Store tx.new.conn.now)) }
-    ensures written { HasCleanDisk (state S.Store tx.new.conn.now) → OnOk result (IsReady (state S.Store tx.old.conn.now) → HoldsToday (changed_by (content_now (state S.Store tx.old.conn.now)) changes.now) (state S.Store tx.new.conn.now).now.trees) }
+    ensures honest { WasHonest result (state S.Store tx.old.conn.now)
+        (state S.Store tx.new.conn.now) }
+    ensures ready { StaysReady result (state S.Store tx.old.conn.now)
+        (state S.Store tx.new.conn.now) }
+    ensures written { WritesToday result changes.now (state S.Store tx.old.conn.now)
+        (state S.Store tx.new.conn.now) }
     ensures stands { StandsOn (state S.Store tx.old.conn.now) (state S.Store tx.new.conn.now) }
-    ensures crash { Survives (state S.Store tx.old.conn.now) (state S.Store tx.new.conn.now) (λ _. ⊥) }
+    ensures crash { LeavesNoMore (state S.Store tx.old.conn.now) (state S.Store tx.new.conn.now) }
 {
     change_rows(alloc, tx, changes)?;
     renew_version(tx)?;
     Ok(())
 }
 
-/// Makes the changes and stores today's version in the place of the one that is stored, all or none.
+/// Makes the changes and stores today's version in the place of the one that is stored, all or
+/// none.
 fn write_anew<S: Alter>(
     alloc: Global,
     conn: &mut Connection<S>,
@@ -69,9 +74,12 @@ fn write_anew<S: Alter>(
     requires { IsOffice (state S.Store conn.old) }
     ensures office { IsOffice (state S.Store conn.new) }
     ensures honest { IsHonest (state S.Store conn.new) → IsHonest (state S.Store conn.old) }
-    ensures written { IsHonest (state S.Store conn.new) → OnOk result (HoldsToday (changed_by (content_now (state S.Store conn.old)) changes.now) (state S.Store conn.new).now.trees) }
-    ensures unchanged { IsHonest (state S.Store conn.new) → OnErr result ((state S.Store conn.new).now.trees ≡ (state S.Store conn.old).now.trees) }
-    ensures crash { Survives (state S.Store conn.old) (state S.Store conn.new) (λ trees. IsHonest (state S.Store conn.old) × HoldsToday (changed_by (content_now (state S.Store conn.old)) changes.now) trees) }
+    ensures written { WritesAllToday result changes.now (state S.Store conn.old)
+        (state S.Store conn.new) }
+    ensures unchanged { KeepsTrees result (state S.Store conn.old) (state S.Store conn.new) }
+    ensures crash { Survives (state S.Store conn.old) (state S.Store conn.new)
+        (λ trees. IsHonest (state S.Store conn.old) ×
+        IsChangedToday (state S.Store conn.old) changes.now trees) }
 {
     let mut tx = conn.transaction();
     write_in(alloc, &mut tx, changes)?;
@@ -84,12 +92,14 @@ fn spell_anew<S: Alter>(alloc: Global, conn: &mut Connection<S>) -> Result<Migra
     requires { IsOffice (state S.Store conn.old) }
     ensures office { IsOffice (state S.Store conn.new) }
     ensures honest { IsHonest (state S.Store conn.new) → IsHonest (state S.Store conn.old) }
-    ensures migrated { IsHonest (state S.Store conn.new) → IfOk result (λ count. IsMigrated (content_now (state S.Store conn.old)) (content_now (state S.Store conn.new)) count) }
-    ensures stored { IsHonest (state S.Store conn.new) → OnOk result (version_in (state S.Store conn.new).now.trees ≡ Some current_version) }
+    ensures migrated { Migrates result (state S.Store conn.old) (state S.Store conn.new) }
+    ensures stored { EndsToday result (state S.Store conn.new) }
     ensures version { result ≢ Err OpenFault.Version }
-    ensures damaged { result ≡ Err OpenFault.Damaged → IsHonest (state S.Store conn.new) → HasFormerDamage (content_now (state S.Store conn.old)) }
-    ensures unchanged { IsHonest (state S.Store conn.new) → OnErr result ((state S.Store conn.new).now.trees ≡ (state S.Store conn.old).now.trees) }
-    ensures crash { Survives (state S.Store conn.old) (state S.Store conn.new) (λ trees. IsHonest (state S.Store conn.old) × IsSpelledToday (content_now (state S.Store conn.old)) trees) }
+    ensures damaged { TellsFormerDamage result (state S.Store conn.old) (state S.Store conn.new) }
+    ensures unchanged { KeepsTrees result (state S.Store conn.old) (state S.Store conn.new) }
+    ensures crash { Survives (state S.Store conn.old) (state S.Store conn.new)
+        (λ trees. IsHonest (state S.Store conn.old) ×
+        IsSpelledToday (content_now (state S.Store conn.old)) trees) }
 {
     let kept = timing_rows(alloc, conn)?;
     let committed = timing_changes(alloc, kept)?;
@@ -107,13 +117,14 @@ pub(crate) fn migrate<S: Alter>(
     alloc: Global,
     conn: &mut Connection<S>,
 ) -> Result<Migrated, OpenFault>
-    requires { HasCleanDisk (state S.Store conn.old) → IsArranged (state S.Store conn.old).committed.trees }
-    ensures brought { IsHonest (state S.Store conn.new) → IfOk result (IsBrought (state S.Store conn.old) (state S.Store conn.new)) }
-    ensures version { result ≡ Err OpenFault.Version → IsHonest (state S.Store conn.new) → HasUnknownVersion (state S.Store conn.old) }
-    ensures damaged { result ≡ Err OpenFault.Damaged → IsHonest (state S.Store conn.new) → HasDamagedFormer (state S.Store conn.old).committed.trees }
-    ensures unchanged { IsHonest (state S.Store conn.new) → OnErr result ((state S.Store conn.new).committed.trees ≡ (state S.Store conn.old).committed.trees) }
-    ensures committed { IsHonest (state S.Store conn.new) → OnOk result ((state S.Store conn.new).committed.trees ≡ (state S.Store conn.new).now.trees) }
-    ensures crash { Survives (state S.Store conn.old) (state S.Store conn.new) (MayBecome (state S.Store conn.old).committed.trees) }
+    requires { IsArrangedIfClean (state S.Store conn.old) }
+    ensures brought { Brings result (state S.Store conn.old) (state S.Store conn.new) }
+    ensures version { TellsVersion result (state S.Store conn.old) (state S.Store conn.new) }
+    ensures damaged { TellsDamage result (state S.Store conn.old) (state S.Store conn.new) }
+    ensures unchanged { KeepsCommitted result (state S.Store conn.old) (state S.Store conn.new) }
+    ensures committed { Commits result (state S.Store conn.new) }
+    ensures crash { Survives (state S.Store conn.old) (state S.Store conn.new)
+        (MayBecome (state S.Store conn.old).committed.trees) }
 {
     if !conn.is_autocommit() {
         return Err(OpenFault::Store);

@@ -1,19 +1,15 @@
 //! The tables in SQL.
 
-ghost use Rattle.std.specs.Prelude.{◌≡◌, false, Some, Err, IfOk, IfErr, OnOk, OnErr};
+ghost use Rattle.std.specs.Prelude.{◌≡◌, false, IfOk, IfErr};
 ghost use Rattle.sqlite.specs.State.{HasCleanDisk, Survives};
 ghost use Rattle.sqlite.specs.Held.{state};
 ghost use Rattle.sqlite.specs.Files.{file_state, over_files};
 ghost use Rattle.sqlite.specs.Start.{FindsIn};
 ghost use Rattle.sqlite.specs.WalFiles.{image_at};
 ghost use Rattle.office_tables_sql.specs.Calls.{IsHonest};
-ghost use Rattle.office_tables_sql.specs.Stored.{content_now, content_of};
-ghost use Rattle.office_tables_shelf.specs.Office.{Office, version_1};
-ghost use Rattle.office_tables_shelf.specs.StandFor.{StandForSoundIn};
-ghost use Rattle.office_tables_former.specs.Migration.{StandAnew};
-ghost use Rattle.office_tables.specs.Arranged.{IsArranged};
-ghost use Rattle.office_tables.specs.Migrate.{IsBrought, MayBecome, HasUnknownVersion, HasDamagedFormer};
-ghost use Rattle.office_tables.specs.Version.{version_in, first_version};
+ghost use Rattle.office_tables.specs.Migrate.{Brings, StandsAnew, MayBecome};
+ghost use Rattle.office_tables.specs.Migrate.{TellsVersion, TellsDamage};
+ghost use Rattle.office_tables.specs.Promises.{KeepsCommitted, Settles, IsArrangedIfClean};
 ghost use Rattle.office_tables.specs.Opening.{IsOpened, IsRefused};
 
 use crate::change;
@@ -98,7 +94,7 @@ impl<S: Alter> SqlShelf<S> {
     ) -> Result<SqlShelf<S>, (OpenFault, Option<Connection<S>>)>
     where
         S: Drop,
-        requires { HasCleanDisk (state S.Store conn) → IsArranged (state S.Store conn).committed.trees }
+        requires { IsArrangedIfClean (state S.Store conn) }
         ensures opened { IfOk result (IsOpened S.Store conn) }
         ensures refused { IfErr result (λ e. IsRefused S.Store conn e.0 e.1) }
     {
@@ -119,17 +115,20 @@ impl<S: Alter> SqlShelf<S> {
     /// Brings the tables of a database from version 1 to today's version, all or none: each row of
     /// `timing` and `draft` is spelled as it is today, and today's version is stored. On tables of
     /// today's version it changes nothing. It refuses with Version where another version is stored
-    /// or none, with Damaged where a row of those two tables is none of version 1, and with Store or
-    /// NoMemory; the tables are then as they were. What is stored in other tables is not looked at.
+    /// or none, with Damaged where a row of those two tables is none of version 1, and with Store
+    /// or NoMemory; the tables are then as they were. What is stored in other tables is not looked
+    /// at.
     pub fn migrate(alloc: Global, conn: &mut Connection<S>) -> Result<Migrated, OpenFault>
-        requires { HasCleanDisk (state S.Store conn.old) → IsArranged (state S.Store conn.old).committed.trees }
-        ensures brought { IsHonest (state S.Store conn.new) → IfOk result (IsBrought (state S.Store conn.old) (state S.Store conn.new)) }
-        ensures stands { IsHonest (state S.Store conn.new) → OnOk result ((office : Office) → version_in (state S.Store conn.old).committed.trees ≡ Some first_version → StandForSoundIn version_1 (content_of (state S.Store conn.old).committed.trees) office → StandAnew (content_now (state S.Store conn.new)) office) }
-        ensures version { result ≡ Err OpenFault.Version → IsHonest (state S.Store conn.new) → HasUnknownVersion (state S.Store conn.old) }
-        ensures damaged { result ≡ Err OpenFault.Damaged → IsHonest (state S.Store conn.new) → HasDamagedFormer (state S.Store conn.old).committed.trees }
-        ensures unchanged { IsHonest (state S.Store conn.new) → OnErr result ((state S.Store conn.new).committed.trees ≡ (state S.Store conn.old).committed.trees) }
-        ensures crash { Survives (state S.Store conn.old) (state S.Store conn.new) (MayBecome (state S.Store conn.old).committed.trees) }
-        ensures settled { IsHonest (state S.Store conn.new) → OnOk result ((trees : _) → (state S.Store conn.new).may_leave trees → trees ≡ (state S.Store conn.new).now.trees) }
+        requires { IsArrangedIfClean (state S.Store conn.old) }
+        ensures brought { Brings result (state S.Store conn.old) (state S.Store conn.new) }
+        ensures stands { StandsAnew result (state S.Store conn.old) (state S.Store conn.new) }
+        ensures version { TellsVersion result (state S.Store conn.old) (state S.Store conn.new) }
+        ensures damaged { TellsDamage result (state S.Store conn.old) (state S.Store conn.new) }
+        ensures unchanged { KeepsCommitted result (state S.Store conn.old)
+            (state S.Store conn.new) }
+        ensures crash { Survives (state S.Store conn.old) (state S.Store conn.new)
+            (MayBecome (state S.Store conn.old).committed.trees) }
+        ensures settled { Settles result (state S.Store conn.new) }
     {
         migrate(alloc, conn)
     }

@@ -1,14 +1,16 @@
 //! The version that is stored, and whether the tables have rows.
 
-ghost use Rattle.std.specs.Prelude.{◌≡◌, ◌≢◌, ℕ, pos, [], ◌∷◌, length, Some, IsTrue, IfOk, IfSome, OnOk};
+ghost use Rattle.std.specs.Prelude.{◌≡◌, ◌≢◌, ℕ, [], length, Some, IsTrue, IfOk, IfSome, OnOk};
 ghost use Rattle.std.specs.Option.{option_map};
 ghost use Rattle.std.specs.List.{AllByRecursion};
-ghost use Rattle.sqlite.specs.State.{HasCleanDisk, Survives};
+ghost use Rattle.sqlite.specs.State.{Survives};
 ghost use Rattle.sqlite.specs.Held.{state};
-ghost use Rattle.office_tables_shelf.specs.Cells.{number};
 ghost use Rattle.office_tables_sql.specs.Stored.{cells, content_now, content_of};
-ghost use Rattle.office_tables_sql.specs.Calls.{IsHonest, IsOffice, IsQuery, IsReady, Keeps, StandsOn};
-ghost use Rattle.office_tables.specs.Version.{AreEmpty, HasRow, IsListing, ListsRows, version_in, current_version};
+ghost use Rattle.office_tables_sql.specs.Calls.{IsHonest, IsOffice, IsQuery, Keeps, StandsOn};
+ghost use Rattle.office_tables.specs.Promises.{WasHonest, StaysReady, StaysSame};
+ghost use Rattle.office_tables.specs.Promises.{StoresToday, LeavesNoMore};
+ghost use Rattle.office_tables.specs.Version.{AreEmpty, HasRow, IsListing, ListsRows};
+ghost use Rattle.office_tables.specs.Version.{version_in, version_cells, current_version};
 
 use office_tables_sql::statement::{SqlFault, select, select_one, write};
 use sqlite::{Alter, Connection, Row, Transaction, params};
@@ -50,8 +52,9 @@ pub(crate) fn stored_version<S: Alter>(conn: &mut Connection<S>) -> Result<Optio
 
 /// Whether this is the row of a version.
 pub(crate) fn is_version(row: &Row, version: u32) -> Result<bool, SqlFault>
-    ensures same { length row.now ≡ 1 → IfOk result (λ same. IsTrue same → cells row.now ≡ number (pos version) ∷ []) }
-    ensures other { IfOk result (λ same. ¬ IsTrue same → cells row.now ≢ number (pos version) ∷ []) }
+    ensures same { length row.now ≡ 1 →
+        IfOk result (λ same. IsTrue same → cells row.now ≡ version_cells version) }
+    ensures other { IfOk result (λ same. ¬ IsTrue same → cells row.now ≢ version_cells version) }
 {
     let number: Result<i64, _> = row.get(0);
     Ok(number? == i64::from(version))
@@ -60,11 +63,14 @@ pub(crate) fn is_version(row: &Row, version: u32) -> Result<bool, SqlFault>
 /// Stores no version any more.
 fn drop_version<S: Alter>(tx: &mut Transaction<'_, S>) -> Result<(), SqlFault>
     ensures same_reference { tx.new.conn.ghost_name ≡ tx.old.conn.ghost_name }
-    ensures honest { HasCleanDisk (state S.Store tx.new.conn.now) → OnOk result (IsHonest (state S.Store tx.old.conn.now)) }
-    ensures ready { HasCleanDisk (state S.Store tx.new.conn.now) → OnOk result (IsReady (state S.Store tx.old.conn.now) → IsReady (state S.Store tx.new.conn.now)) }
-    ensures same { HasCleanDisk (state S.Store tx.new.conn.now) → OnOk result (IsReady (state S.Store tx.old.conn.now) → content_now (state S.Store tx.new.conn.now) ≡ content_now (state S.Store tx.old.conn.now)) }
+    ensures honest { WasHonest result (state S.Store tx.old.conn.now)
+        (state S.Store tx.new.conn.now) }
+    ensures ready { StaysReady result (state S.Store tx.old.conn.now)
+        (state S.Store tx.new.conn.now) }
+    ensures same { StaysSame result (state S.Store tx.old.conn.now)
+        (state S.Store tx.new.conn.now) }
     ensures stands { StandsOn (state S.Store tx.old.conn.now) (state S.Store tx.new.conn.now) }
-    ensures crash { Survives (state S.Store tx.old.conn.now) (state S.Store tx.new.conn.now) (λ _. ⊥) }
+    ensures crash { LeavesNoMore (state S.Store tx.old.conn.now) (state S.Store tx.new.conn.now) }
 {
     write(tx, DROP, params![1u32])?;
     Ok(())
@@ -73,12 +79,16 @@ fn drop_version<S: Alter>(tx: &mut Transaction<'_, S>) -> Result<(), SqlFault>
 /// Stores today's version.
 fn put_version<S: Alter>(tx: &mut Transaction<'_, S>) -> Result<(), SqlFault>
     ensures same_reference { tx.new.conn.ghost_name ≡ tx.old.conn.ghost_name }
-    ensures honest { HasCleanDisk (state S.Store tx.new.conn.now) → OnOk result (IsHonest (state S.Store tx.old.conn.now)) }
-    ensures ready { HasCleanDisk (state S.Store tx.new.conn.now) → OnOk result (IsReady (state S.Store tx.old.conn.now) → IsReady (state S.Store tx.new.conn.now)) }
-    ensures same { HasCleanDisk (state S.Store tx.new.conn.now) → OnOk result (IsReady (state S.Store tx.old.conn.now) → content_now (state S.Store tx.new.conn.now) ≡ content_now (state S.Store tx.old.conn.now)) }
-    ensures stored { HasCleanDisk (state S.Store tx.new.conn.now) → OnOk result (IsReady (state S.Store tx.old.conn.now) → version_in (state S.Store tx.new.conn.now).now.trees ≡ Some current_version) }
+    ensures honest { WasHonest result (state S.Store tx.old.conn.now)
+        (state S.Store tx.new.conn.now) }
+    ensures ready { StaysReady result (state S.Store tx.old.conn.now)
+        (state S.Store tx.new.conn.now) }
+    ensures same { StaysSame result (state S.Store tx.old.conn.now)
+        (state S.Store tx.new.conn.now) }
+    ensures stored { StoresToday result (state S.Store tx.old.conn.now)
+        (state S.Store tx.new.conn.now) }
     ensures stands { StandsOn (state S.Store tx.old.conn.now) (state S.Store tx.new.conn.now) }
-    ensures crash { Survives (state S.Store tx.old.conn.now) (state S.Store tx.new.conn.now) (λ _. ⊥) }
+    ensures crash { LeavesNoMore (state S.Store tx.old.conn.now) (state S.Store tx.new.conn.now) }
 {
     write(tx, PUT, params![1u32, VERSION])?;
     Ok(())
@@ -87,12 +97,16 @@ fn put_version<S: Alter>(tx: &mut Transaction<'_, S>) -> Result<(), SqlFault>
 /// Stores today's version in the place of another one.
 pub(crate) fn renew_version<S: Alter>(tx: &mut Transaction<'_, S>) -> Result<(), SqlFault>
     ensures same_reference { tx.new.conn.ghost_name ≡ tx.old.conn.ghost_name }
-    ensures honest { HasCleanDisk (state S.Store tx.new.conn.now) → OnOk result (IsHonest (state S.Store tx.old.conn.now)) }
-    ensures ready { HasCleanDisk (state S.Store tx.new.conn.now) → OnOk result (IsReady (state S.Store tx.old.conn.now) → IsReady (state S.Store tx.new.conn.now)) }
-    ensures same { HasCleanDisk (state S.Store tx.new.conn.now) → OnOk result (IsReady (state S.Store tx.old.conn.now) → content_now (state S.Store tx.new.conn.now) ≡ content_now (state S.Store tx.old.conn.now)) }
-    ensures stored { HasCleanDisk (state S.Store tx.new.conn.now) → OnOk result (IsReady (state S.Store tx.old.conn.now) → version_in (state S.Store tx.new.conn.now).now.trees ≡ Some current_version) }
+    ensures honest { WasHonest result (state S.Store tx.old.conn.now)
+        (state S.Store tx.new.conn.now) }
+    ensures ready { StaysReady result (state S.Store tx.old.conn.now)
+        (state S.Store tx.new.conn.now) }
+    ensures same { StaysSame result (state S.Store tx.old.conn.now)
+        (state S.Store tx.new.conn.now) }
+    ensures stored { StoresToday result (state S.Store tx.old.conn.now)
+        (state S.Store tx.new.conn.now) }
     ensures stands { StandsOn (state S.Store tx.old.conn.now) (state S.Store tx.new.conn.now) }
-    ensures crash { Survives (state S.Store tx.old.conn.now) (state S.Store tx.new.conn.now) (λ _. ⊥) }
+    ensures crash { LeavesNoMore (state S.Store tx.old.conn.now) (state S.Store tx.new.conn.now) }
 {
     drop_version(tx)?;
     put_version(tx)?;
@@ -106,7 +120,9 @@ pub(crate) fn store_version<S: Alter>(conn: &mut Connection<S>) -> Result<(), Sq
     ensures honest { IsHonest (state S.Store conn.new) → IsHonest (state S.Store conn.old) }
     ensures same { IsHonest (state S.Store conn.new) → content_now (state S.Store conn.new) ≡ content_now (state S.Store conn.old) }
     ensures stored { IsHonest (state S.Store conn.new) → OnOk result (version_in (state S.Store conn.new).now.trees ≡ Some current_version) }
-    ensures crash { Survives (state S.Store conn.old) (state S.Store conn.new) (λ trees. IsHonest (state S.Store conn.old) × (content_of trees ≡ content_now (state S.Store conn.old))) }
+    ensures crash { Survives (state S.Store conn.old) (state S.Store conn.new)
+        (λ trees. IsHonest (state S.Store conn.old) ×
+        (content_of trees ≡ content_now (state S.Store conn.old))) }
 {
     let mut tx = conn.transaction();
     put_version(&mut tx)?;
