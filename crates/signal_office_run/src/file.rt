@@ -130,8 +130,8 @@ pub fn serve_file<S: Start, R: Source, W: Sink>(
     Ok((office, outcome))
 }
 
-/// Closes a file, so that its log is copied into it, and gives the files, which hold the last commit,
-/// with what was made of its tables. A fault from before comes first.
+/// Closes a file, so that its log is copied into it, and gives the files, which hold the last
+/// commit, with what was made of its tables. A fault from before comes first.
 pub(crate) fn close_after<D: Disk + Drop, T: Drop, E>(
     conn: Connection<FileStore<D>>,
     outcome: Result<T, E>,
@@ -139,7 +139,8 @@ pub(crate) fn close_after<D: Disk + Drop, T: Drop, E>(
 where
     Fault: From<E>,
     ensures made { IfOk result (λ done. outcome ≡ Ok done.1) }
-    ensures copied { IfOk result (λ done. AreClean D.Disk done.0.log done.0.db → IsCopied conn done.0) }
+    ensures copied { IfOk result (λ done.
+        AreClean D.Disk done.0.log done.0.db → IsCopied conn done.0) }
 {
     let closed = close_files(conn);
     let done = outcome?;

@@ -1,18 +1,14 @@
 //! The tables of a file of an older version, brought to today's version.
 
-ghost use Rattle.std.specs.Prelude.{◌≡◌, ◌⊎◌, IsTrue, IfOk, OnOk, OnErr};
+ghost use Rattle.std.specs.Prelude.{IfOk};
 ghost use Rattle.sqlite.specs.Files.{file_state};
 ghost use Rattle.sqlite.specs.Held.{state};
-ghost use Rattle.sqlite.specs.Recovery.{Image};
 ghost use Rattle.sqlite.specs.State.{HasCleanDisk};
-ghost use Rattle.sqlite.specs.Tree.{Trees};
 ghost use Rattle.sqlite.specs.WalFiles.{image_at};
-ghost use Rattle.sqlite.specs.WalReads.{AreClean};
-ghost use Rattle.office_tables.specs.Arranged.{IsArranged};
-ghost use Rattle.office_tables.specs.Calls.{IsHonest};
-ghost use Rattle.office_tables_shelf.specs.Office.{Office};
-ghost use Rattle.signal_office_run.specs.File.{AreThoseOf, StandInFiles};
-ghost use Rattle.signal_office_run.specs.Migrating.{StandFormerly, StandToday, StandFormerlyInFiles, StandTodayInFiles, IsImageOf};
+ghost use Rattle.office_tables.specs.Promises.{KeepsCommitted, IsArrangedIfClean};
+ghost use Rattle.signal_office_run.specs.Migrating.{BringsToday, LeavesEither};
+ghost use Rattle.signal_office_run.specs.Migrating.{BringsFilesToday, KeepsFiles};
+ghost use Rattle.signal_office_run.specs.Migrating.{LeavesEitherOfFiles, StandTodayInBoth};
 
 use crate::file::{close_after, unopened};
 use office_tables::Migrated;
@@ -34,11 +30,11 @@ fn is_missing(rt: &HostRuntime, path: &str) -> bool {
 
 /// Brings the tables of a database to today's version, with what is told of its last commit.
 fn migrate_tables<S: Alter>(alloc: Global, conn: &mut Connection<S>) -> Result<Migrated, OpenFault>
-    requires { HasCleanDisk (state S.Store conn.old) → IsArranged (state S.Store conn.old).committed.trees }
+    requires { IsArrangedIfClean (state S.Store conn.old) }
     ensures clean { HasCleanDisk (state S.Store conn.new) → HasCleanDisk (state S.Store conn.old) }
-    ensures stand { IsHonest (state S.Store conn.new) → OnOk result ((office : Office) → StandFormerly (state S.Store conn.old).committed.trees office → StandToday (state S.Store conn.new).committed.trees office) }
-    ensures unchanged { IsHonest (state S.Store conn.new) → OnErr result ((state S.Store conn.new).committed.trees ≡ (state S.Store conn.old).committed.trees) }
-    ensures crash { HasCleanDisk (state S.Store conn.new) → IsTrue (state S.Store conn.old).is_open → (office : Office) → StandFormerly (state S.Store conn.old).committed.trees office → (trees : Trees) → (state S.Store conn.new).may_leave trees → StandFormerly trees office ⊎ StandToday trees office }
+    ensures stand { BringsToday result (state S.Store conn.old) (state S.Store conn.new) }
+    ensures unchanged { KeepsCommitted result (state S.Store conn.old) (state S.Store conn.new) }
+    ensures crash { LeavesEither (state S.Store conn.old) (state S.Store conn.new) }
 {
     SqlShelf::migrate(alloc, conn)
 }
@@ -54,11 +50,14 @@ pub fn open_and_migrate<S: Start>(
 ) -> Result<(FileConnection<S>, Result<Migrated, OpenFault>), Fault>
     // Where the files held version 1 of the tables of a sound office, the tables are those of that
     // office today.
-    ensures stand { IfOk result (λ done. IsHonest (file_state done.0) → OnOk done.1 ((before : Office) → StandFormerlyInFiles (image_at S.Start) before → StandToday (file_state done.0).committed.trees before)) }
-    ensures unchanged { IfOk result (λ done. IsHonest (file_state done.0) → OnErr done.1 (AreThoseOf (image_at S.Start) (file_state done.0).committed.trees)) }
+    ensures stand { IfOk result (λ done.
+        BringsFilesToday (image_at S.Start) done.1 (file_state done.0)) }
+    ensures unchanged { IfOk result (λ done.
+        KeepsFiles (image_at S.Start) done.1 (file_state done.0)) }
     // A stop leaves the tables as they were, or migrated, also where a failure has shut the
     // database.
-    ensures crash { IfOk result (λ done. HasCleanDisk (file_state done.0) → (before : Office) → StandFormerlyInFiles (image_at S.Start) before → (trees : Trees) → (file_state done.0).may_leave trees → StandFormerly trees before ⊎ StandToday trees before) }
+    ensures crash { IfOk result (λ done.
+        LeavesEitherOfFiles (image_at S.Start) (file_state done.0)) }
 {
     if is_missing(rt, path) {
         return Err(Fault::Version);
@@ -78,10 +77,11 @@ pub fn migrate_file<S: Start>(
     path: &str,
     start: S,
 ) -> Result<(Files<FileFrom<S>>, Migrated), Fault>
-    // Where the files held version 1 of the tables of a sound office, its tables stand in them today,
-    // as the files read now and after a stop: so the headline of `serve_file` holds of a run over them.
-    ensures stand { IfOk result (λ done. AreClean ⟦<FileFrom<S> as Disk>⟧ done.0.log done.0.db → (before : Office) → StandFormerlyInFiles (image_at S.Start) before →
-        (image : Image) → IsImageOf ⟦<FileFrom<S> as Disk>⟧ done.0 image → StandTodayInFiles image before × StandInFiles image before) }
+    // Where the files held version 1 of the tables of a sound office, its tables stand in them
+    // today, as the files read now and after a stop: so the headline of `serve_file` holds of a run
+    // over them.
+    ensures stand { IfOk result (λ done.
+        StandTodayInBoth (image_at S.Start) ⟦<FileFrom<S> as Disk>⟧ done.0) }
 {
     let (conn, outcome) = open_and_migrate(rt, alloc, path, start)?;
     close_after(conn, outcome)
