@@ -127,6 +127,11 @@ same "the fault over no file" "$(cat "$folder/errors")" "fault: unknown intersec
 faulty "a file that is not there" migrate --db "$folder/none.db"
 same "what a migration says of no file" "$(cat "$folder/errors")" "fault: version"
 same "what a migration makes" "$(find "$folder" -name 'none.db*')" ""
+: >"$folder/empty.db"
+faulty "an empty file" migrate --db "$folder/empty.db"
+same "what a migration says of an empty file" "$(cat "$folder/errors")" "fault: version"
+same "what a migration makes of an empty file" "$(find "$folder" -name 'empty.db*' -size -1c | wc -l)" 1
+same "what a migration makes beside it" "$(find "$folder" -name 'empty.db*' | wc -l)" 1
 faulty "a folder" overdue --db "$folder" 2027-03-02
 same "the fault over a folder" "$(cat "$folder/errors")" "fault: store"
 { echo "this is no database"; head -c 8192 /dev/zero; } >"$folder/text.db"

@@ -17,15 +17,28 @@ use office_tables::sql_shelf::SqlShelf;
 use signal_office_reports::Fault;
 use sqlite::{Alter, Connection, FileFrom, FileStore, Start};
 use sqlite_disk::{Disk, Files};
-use std::alloc::Global;
+use std::alloc::{AllocError, Global};
 use std::fs;
 
 /// The database in files, of which `S` says what they held.
 pub type FileConnection<S> = Connection<FileStore<FileFrom<S>>>;
 
-/// Whether there is no such file. Where the system does not tell, opening it does.
-fn is_missing(rt: &HostRuntime, path: &str) -> bool {
-    matches!(fs::exists(rt, path), Ok(false))
+/// Whether a file has no byte.
+fn is_empty(rt: &HostRuntime, path: &str) -> bool {
+    match fs::metadata(rt, path) {
+        Ok(found) => found.is_file() && found.len() == 0,
+        Err(_) => false,
+    }
+}
+
+/// Whether there is no such file, or an empty one without a log beside it, which has no tables.
+/// Where the system does not tell, opening it does.
+fn is_missing(rt: &HostRuntime, alloc: Global, path: &str) -> Result<bool, AllocError> {
+    if matches!(fs::exists(rt, path), Ok(false)) {
+        return Ok(true);
+    }
+    let log = format!(in alloc; "{path}-wal")?;
+    Ok(is_empty(rt, path) && !matches!(fs::exists(rt, log.as_str()), Ok(true)))
 }
 
 /// Brings the tables of a database to today's version, with what is told of its last commit.
@@ -40,8 +53,8 @@ fn migrate_tables<S: Alter>(alloc: Global, conn: &mut Connection<S>) -> Result<M
 }
 
 /// Opens a file and brings its tables to today's version, which may be refused, and gives the
-/// database back. A file that is not there is not made: it has no version. No clause ties the files
-/// to the path.
+/// database back. A file that is not there is not made, and an empty one stays so: it has no version.
+/// No clause ties the files to the path.
 pub fn open_and_migrate<S: Start>(
     rt: &HostRuntime,
     alloc: Global,
@@ -59,7 +72,7 @@ pub fn open_and_migrate<S: Start>(
     ensures crash { IfOk result (λ done.
         LeavesEitherOfFiles (image_at S.Start) (file_state done.0)) }
 {
-    if is_missing(rt, path) {
+    if is_missing(rt, alloc, path)? {
         return Err(Fault::Version);
     }
     let mut conn = match Connection::open_from(rt, path, false, start) {
