@@ -1,0 +1,4 @@
+//! What the programs that try the office on hostile use have in common.
+#![tactic(auto)]
+
+pub mod trouble;
