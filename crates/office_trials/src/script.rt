@@ -1,0 +1,99 @@
+//! Requests that are sent again and again, and what must be answered.
+
+/// A request by its method, path and body, and the status and the body of its answer.
+pub type Line = (&'static str, &'static str, &'static str);
+
+const OK: &str = "200 OK";
+
+const CONFLICT: &str = "409 Conflict";
+
+const ADD: &str = r#"POST /intersections {"id":12,"interval":365,"name":"Main St"}"#;
+
+const STATE: &str = "GET /intersections/12";
+
+const BEGIN: &str = r#"POST /intersections/12/begin {"clerk":"Ana"}"#;
+
+/// The edit that brings in the plan.
+const EDIT: &str =
+    r#"POST /intersections/12/edit-csv {"clerk":"Ana","csv":"phase,2,1,8,20,40,40,15,6,7,12,490,60,0,0\nphase,4,1,8,20,40,40,15,8\nphase,6,2,8,20,40,40,15,2\nphase,8,2,8,20,40,40,15,4\nseq,1,1,2 4\nseq,1,2,6 8\nsplit,1,2,35,2,1\nsplit,1,4,25,2,0\nsplit,1,6,35,2,1\nsplit,1,8,25,2,0\npattern,1,60,0,1,1\n"}"#;
+
+const VERIFY: &str = r#"POST /intersections/12/verify {"clerk":"Ana"}"#;
+
+const CHECK: &str = r#"POST /intersections/12/check {"clerk":"Ana"}"#;
+
+const COMMIT: &str = r#"POST /intersections/12/commit {"clerk":"Ana"}"#;
+
+/// A file of records from the field.
+const FIELD_BOOK: &str =
+    r#"POST /import {"csv":"delivery,RELAY,1,2026-05-01,10\ninspection,12,1,2026-05-01,Ana,Fan and filter cleaned\norder,12,1,2026-05-01,Ana,Replace flash relay\norder,12,2,2026-05-01,Ana,\"Door lock, north side\"\nuse,12,1,1,RELAY,2\n"}"#;
+
+const CLOSE: &str = r#"POST /intersections/12/orders/1/close {"clerk":"Bo","day":"2026-05-03"}"#;
+
+/// Records of which the fourth uses more than is on hand.
+const TOO_MUCH: &str =
+    r#"POST /import {"csv":"inspection,12,2,2026-05-02,Ana,Checked\norder,12,3,2026-05-02,Ana,Repair\ndelivery,RELAY,2,2026-05-02,1\nuse,12,3,1,RELAY,10\n"}"#;
+
+/// An intersection is added and shown; a plan comes in, is checked and is committed; records come
+/// in, come again, and some are refused as a whole.
+pub const COMMANDS: [Line; 12] = [
+    (ADD, OK, r#"{"result":"added"}"#),
+    (STATE, OK, NEW),
+    (BEGIN, OK, BEGUN),
+    (EDIT, OK, BEGUN),
+    (
+        VERIFY,
+        OK,
+        r#"{"revision":0,"state":"verify","verify":"notDone"}"#,
+    ),
+    (
+        CHECK,
+        OK,
+        r#"{"revision":0,"state":"done","verify":"doneWithNoError"}"#,
+    ),
+    (
+        COMMIT,
+        OK,
+        r#"{"revision":1,"state":"normal","verify":"notDone"}"#,
+    ),
+    (FIELD_BOOK, OK, r#"{"added":5,"same":0}"#),
+    (FIELD_BOOK, OK, r#"{"added":0,"same":5}"#),
+    (CLOSE, OK, r#"{"result":"added"}"#),
+    (FIELD_BOOK, OK, r#"{"added":0,"same":5}"#),
+    (
+        TOO_MUCH,
+        CONFLICT,
+        r#"{"cause":25,"error":"ImportRow","number":30,"record":4}"#,
+    ),
+];
+
+const NEW: &str =
+    r#"{"id":12,"interval":365,"name":"Main St","owner":null,"revision":0,"rows":0,"state":"normal","verify":"notDone"}"#;
+
+const BEGUN: &str = r#"{"revision":0,"state":"transaction","verify":"notDone"}"#;
+
+/// The queries that show all that an office with intersection 12 holds.
+pub const QUERIES: [&str; 7] = [
+    "/intersections/12",
+    "/intersections/12/timing",
+    "/intersections/12/draft",
+    "/intersections/12/cabinet",
+    "/intersections/12/open-orders",
+    "/stock",
+    "/overdue/2027-05-03",
+];
+
+/// Adds intersection 12, asks for it, and begins a transaction: requests of 93, 34 and 76 bytes.
+pub const STREAM: &[u8; 203] =
+    b"POST /intersections HTTP/1.1\r\nContent-Length: 41\r\n\r\n{\"id\":12,\"interval\":365,\"name\":\"Main St\"}GET /intersections/12 HTTP/1.1\r\n\r\nPOST /intersections/12/begin HTTP/1.1\r\nContent-Length: 15\r\n\r\n{\"clerk\":\"Ana\"}";
+
+/// Its answers, of 89, 184 and 126 bytes.
+pub const ANSWERS: &[u8; 399] =
+    b"HTTP/1.1 200 OK\r\nContent-Type: application/json\r\nContent-Length: 18\r\n\r\n{\"result\":\"added\"}HTTP/1.1 200 OK\r\nContent-Type: application/json\r\nContent-Length: 112\r\n\r\n{\"id\":12,\"interval\":365,\"name\":\"Main St\",\"owner\":null,\"revision\":0,\"rows\":0,\"state\":\"normal\",\"verify\":\"notDone\"}HTTP/1.1 200 OK\r\nContent-Type: application/json\r\nContent-Length: 55\r\n\r\n{\"revision\":0,\"state\":\"transaction\",\"verify\":\"notDone\"}";
+
+/// The answer to what could not be done.
+pub const UNAVAILABLE: &[u8] =
+    b"HTTP/1.1 503 Service Unavailable\r\nContent-Type: application/json\r\nContent-Length: 35\r\n\r\n{\"error\":\"Unavailable\",\"number\":90}";
+
+/// The answer where there is no such intersection.
+pub const UNKNOWN: &[u8] =
+    b"HTTP/1.1 404 Not Found\r\nContent-Type: application/json\r\nContent-Length: 43\r\n\r\n{\"error\":\"UnknownIntersection\",\"number\":10}";
