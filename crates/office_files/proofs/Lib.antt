@@ -12,4 +12,3 @@ pub mod FileLaws
 pub mod RecordLaws
 pub mod Utf8Lemmas
 pub mod SpelledTexts
-pub mod ChangeTexts

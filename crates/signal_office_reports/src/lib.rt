@@ -8,7 +8,6 @@ mod plan;
 mod sheet;
 mod telling;
 
-pub use asking::ask;
 pub use fault::Fault;
 pub use overdue::overdue_of;
 pub use plan::violations_in;

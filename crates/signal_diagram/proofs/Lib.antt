@@ -1,3 +1,0 @@
-pub mod FewPhases
-pub mod FewRings
-pub mod Seconds

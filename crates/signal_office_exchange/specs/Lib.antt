@@ -1,5 +1,0 @@
-pub mod Asking
-pub mod Editing
-pub mod Exporting
-pub mod Importing
-pub mod Refused
