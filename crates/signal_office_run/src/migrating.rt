@@ -53,8 +53,8 @@ fn migrate_tables<S: Alter>(alloc: Global, conn: &mut Connection<S>) -> Result<M
 }
 
 /// Opens a file and brings its tables to today's version, which may be refused, and gives the
-/// database back. A file that is not there is not made, and an empty one stays so: it has no version.
-/// No clause ties the files to the path.
+/// database back. A file that is not there is not made, and an empty one stays so: they have no
+/// version. No clause ties the files to the path.
 pub fn open_and_migrate<S: Start>(
     rt: &HostRuntime,
     alloc: Global,
