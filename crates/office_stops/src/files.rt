@@ -71,3 +71,12 @@ pub(crate) fn connect<D: Disk + Drop>(
     }
     Connection::open_files(alloc, files, Options::new(1)).ok()
 }
+
+/// Closes a database, so that its log is copied into it, and gives the files as they were left and
+/// whether that was done.
+pub(crate) fn close<D: Disk + Drop>(conn: Connection<FileStore<D>>) -> (Files<D>, bool) {
+    match conn.close_files() {
+        Ok(files) => (files, true),
+        Err((_, store)) => (store.close(), false),
+    }
+}

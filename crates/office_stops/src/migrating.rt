@@ -1,6 +1,6 @@
 //! A migration that is stopped at each call of a file, and what is found after it.
 
-use crate::files::{connect, crashed, found, stopping};
+use crate::files::{close, connect, crashed, found, stopping};
 use office_tables::Migrated;
 use office_tables::open::OpenFault;
 use office_tables::sql_shelf::SqlShelf;
@@ -73,9 +73,10 @@ fn are_whole<D: Disk + Drop>(alloc: Global, files: Files<D>, is_done: bool) -> R
     Ok(())
 }
 
-/// Brings the tables in these files to today's version, and gives the files as they were left and
-/// whether it was done, which wrote two rows anew; None where the opening was stopped.
-fn migrate<D: Disk + Drop>(alloc: Global, files: Files<D>) -> Option<(Files<D>, bool)> {
+/// Brings the tables in these files to today's version and closes them. Gives the files as they were
+/// left, whether the migration was done, which wrote two rows anew, and whether the closing was; None
+/// where the opening was stopped.
+fn migrate<D: Disk + Drop>(alloc: Global, files: Files<D>) -> Option<(Files<D>, bool, bool)> {
     if !files.may_be_used() {
         return None;
     }
@@ -86,7 +87,8 @@ fn migrate<D: Disk + Drop>(alloc: Global, files: Files<D>) -> Option<(Files<D>, 
         Ok(Migrated { timing, draft }) => timing == 1 && draft == 1,
         Err(_) => false,
     };
-    Some((conn.into_store().close(), is_done))
+    let (left, is_closed) = close(conn);
+    Some((left, is_done, is_closed))
 }
 
 /// The tables of a new office, brought back to version 1.
@@ -107,8 +109,8 @@ fn former<D: Disk + Drop>(alloc: Global, files: Files<D>) -> Option<Files<D>> {
     conn.close_files().ok()
 }
 
-/// Stops the log or the database at each of its calls in turn, until the migration is done before
-/// it. Both files are opened again: with all that was written, and with what was synced. Tells how
+/// Stops the log or the database at each of its calls in turn, until the migration and the closing
+/// are done before it. Both files are opened again: with all that was written, and with what was synced. Tells how
 /// many migrations were stopped.
 pub(crate) fn stop_migration(alloc: Global, is_log: bool) -> Result<usize, Trouble> {
     let Some(start) = former(alloc, stopping(alloc, &[], true, u64::MAX)?) else {
@@ -117,12 +119,12 @@ pub(crate) fn stop_migration(alloc: Global, is_log: bool) -> Result<usize, Troub
     let mut stopped: usize = 0;
     for calls in 0..10_000 {
         let files = stopping(alloc, start.db.inner().bytes(), is_log, calls)?;
-        let Some((left, is_done)) = migrate(alloc, files) else {
+        let Some((left, is_done, is_closed)) = migrate(alloc, files) else {
             continue;
         };
         are_whole(alloc, found(alloc, &left)?, is_done)?;
         are_whole(alloc, crashed(left), is_done)?;
-        if is_done {
+        if is_done && is_closed {
             return Ok(stopped);
         }
         stopped = stopped.saturating_add(1);

@@ -1,6 +1,6 @@
 //! Commands and a stream that are stopped at each call of a file, and what is found after it.
 
-use crate::files::{connect, crashed, found, stopping};
+use crate::files::{close, connect, crashed, found, stopping};
 use office_desk::office::Office;
 use office_tables::sql_shelf::SqlShelf;
 use office_tables_shelf::map_shelf::MapShelf;
@@ -100,18 +100,19 @@ fn prepare<D: Disk + Drop>(alloc: Global, files: Files<D>) -> Option<Files<D>> {
     open(alloc, files)?.into_conn().close_files().ok()
 }
 
-/// Has an office over these files do its work, and gives the files as they were left and how much
-/// was done; None where the opening was stopped.
+/// Has an office over these files do its work, and closes them. Gives the files as they were left,
+/// how much was done, and whether the closing was; None where the opening was stopped.
 fn stop<D: Disk + Drop>(
     alloc: Global,
     files: Files<D>,
     is_stream: bool,
-) -> Result<Option<(Files<D>, usize)>, Trouble> {
+) -> Result<Option<(Files<D>, usize, bool)>, Trouble> {
     let Some(shelf) = open(alloc, files) else {
         return Ok(None);
     };
     let (shelf, done) = work(alloc, shelf, is_stream)?;
-    Ok(Some((shelf.into_conn().into_store().close(), done)))
+    let (left, is_closed) = close(shelf.into_conn());
+    Ok(Some((left, done, is_closed)))
 }
 
 /// The office over these files shows what it did before the command that was stopped, or after it.
@@ -134,7 +135,7 @@ fn reopens<D: Disk + Drop>(
 }
 
 /// Stops the log or the database at each of its calls in turn, until all commands, or the stream,
-/// are done before it. Both files are opened again: with all that was written, and with what was
+/// and the closing are done before it. Both files are opened again: with all that was written, and with what was
 /// synced. Tells how many runs were stopped.
 pub(crate) fn stop_everywhere(
     alloc: Global,
@@ -149,12 +150,12 @@ pub(crate) fn stop_everywhere(
     let mut stopped: usize = 0;
     for calls in 0..10_000 {
         let files = stopping(alloc, start.db.inner().bytes(), is_log, calls)?;
-        let Some((left, done)) = stop(alloc, files, is_stream)? else {
+        let Some((left, done, is_closed)) = stop(alloc, files, is_stream)? else {
             continue;
         };
         reopens(alloc, found(alloc, &left)?, &states, done)?;
         reopens(alloc, crashed(left), &states, done)?;
-        if done == all {
+        if done == all && is_closed {
             return Ok(stopped);
         }
         stopped = stopped.saturating_add(1);
