@@ -130,7 +130,8 @@ same "what a migration makes" "$(find "$folder" -name 'none.db*')" ""
 : >"$folder/empty.db"
 faulty "an empty file" migrate --db "$folder/empty.db"
 same "what a migration says of an empty file" "$(cat "$folder/errors")" "fault: version"
-same "what a migration makes of an empty file" "$(find "$folder" -name 'empty.db*' -size -1c | wc -l)" 1
+same "what a migration makes of an empty file" \
+  "$(find "$folder" -name 'empty.db*' -size -1c | wc -l)" 1
 same "what a migration makes beside it" "$(find "$folder" -name 'empty.db*' | wc -l)" 1
 faulty "a folder" overdue --db "$folder" 2027-03-02
 same "the fault over a folder" "$(cat "$folder/errors")" "fault: store"

@@ -73,9 +73,9 @@ fn are_whole<D: Disk + Drop>(alloc: Global, files: Files<D>, is_done: bool) -> R
     Ok(())
 }
 
-/// Brings the tables in these files to today's version and closes them. Gives the files as they were
-/// left, whether the migration was done, which wrote two rows anew, and whether the closing was; None
-/// where the opening was stopped.
+/// Brings the tables in these files to today's version and closes them. Gives the files as they
+/// were left, whether the migration was done, which wrote two rows anew, and whether the closing
+/// was; None where the opening was stopped.
 fn migrate<D: Disk + Drop>(alloc: Global, files: Files<D>) -> Option<(Files<D>, bool, bool)> {
     if !files.may_be_used() {
         return None;
@@ -110,8 +110,8 @@ fn former<D: Disk + Drop>(alloc: Global, files: Files<D>) -> Option<Files<D>> {
 }
 
 /// Stops the log or the database at each of its calls in turn, until the migration and the closing
-/// are done before it. Both files are opened again: with all that was written, and with what was synced. Tells how
-/// many migrations were stopped.
+/// are done before it. Both files are opened again: with all that was written, and with what was
+/// synced. Tells how many migrations were stopped.
 pub(crate) fn stop_migration(alloc: Global, is_log: bool) -> Result<usize, Trouble> {
     let Some(start) = former(alloc, stopping(alloc, &[], true, u64::MAX)?) else {
         return Err(Trouble::Unprepared("the tables of version 1"));

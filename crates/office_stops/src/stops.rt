@@ -135,8 +135,8 @@ fn reopens<D: Disk + Drop>(
 }
 
 /// Stops the log or the database at each of its calls in turn, until all commands, or the stream,
-/// and the closing are done before it. Both files are opened again: with all that was written, and with what was
-/// synced. Tells how many runs were stopped.
+/// and the closing are done before it. Both files are opened again: with all that was written, and
+/// with what was synced. Tells how many runs were stopped.
 pub(crate) fn stop_everywhere(
     alloc: Global,
     is_stream: bool,

@@ -14,8 +14,14 @@ const STATE: &str = "GET /intersections/12";
 const BEGIN: &str = r#"POST /intersections/12/begin {"clerk":"Ana"}"#;
 
 /// The edit that brings in the plan.
-const EDIT: &str =
-    r#"POST /intersections/12/edit-csv {"clerk":"Ana","csv":"phase,2,1,8,20,40,40,15,6,7,12,490,60,0,0\nphase,4,1,8,20,40,40,15,8\nphase,6,2,8,20,40,40,15,2\nphase,8,2,8,20,40,40,15,4\nseq,1,1,2 4\nseq,1,2,6 8\nsplit,1,2,35,2,1\nsplit,1,4,25,2,0\nsplit,1,6,35,2,1\nsplit,1,8,25,2,0\npattern,1,60,0,1,1\n"}"#;
+const EDIT: &str = "POST /intersections/12/edit-csv {\"clerk\":\"Ana\",\"csv\":\"\
+    phase,2,1,8,20,40,40,15,6,7,12,490,60,0,0\\n\
+    phase,4,1,8,20,40,40,15,8\\n\
+    phase,6,2,8,20,40,40,15,2\\n\
+    phase,8,2,8,20,40,40,15,4\\n\
+    seq,1,1,2 4\\nseq,1,2,6 8\\n\
+    split,1,2,35,2,1\\nsplit,1,4,25,2,0\\nsplit,1,6,35,2,1\\nsplit,1,8,25,2,0\\n\
+    pattern,1,60,0,1,1\\n\"}";
 
 const VERIFY: &str = r#"POST /intersections/12/verify {"clerk":"Ana"}"#;
 
@@ -24,14 +30,21 @@ const CHECK: &str = r#"POST /intersections/12/check {"clerk":"Ana"}"#;
 const COMMIT: &str = r#"POST /intersections/12/commit {"clerk":"Ana"}"#;
 
 /// A file of records from the field.
-const FIELD_BOOK: &str =
-    r#"POST /import {"csv":"delivery,RELAY,1,2026-05-01,10\ninspection,12,1,2026-05-01,Ana,Fan and filter cleaned\norder,12,1,2026-05-01,Ana,Replace flash relay\norder,12,2,2026-05-01,Ana,\"Door lock, north side\"\nuse,12,1,1,RELAY,2\n"}"#;
+const FIELD_BOOK: &str = "POST /import {\"csv\":\"\
+    delivery,RELAY,1,2026-05-01,10\\n\
+    inspection,12,1,2026-05-01,Ana,Fan and filter cleaned\\n\
+    order,12,1,2026-05-01,Ana,Replace flash relay\\n\
+    order,12,2,2026-05-01,Ana,\\\"Door lock, north side\\\"\\n\
+    use,12,1,1,RELAY,2\\n\"}";
 
 const CLOSE: &str = r#"POST /intersections/12/orders/1/close {"clerk":"Bo","day":"2026-05-03"}"#;
 
 /// Records of which the fourth uses more than is on hand.
-const TOO_MUCH: &str =
-    r#"POST /import {"csv":"inspection,12,2,2026-05-02,Ana,Checked\norder,12,3,2026-05-02,Ana,Repair\ndelivery,RELAY,2,2026-05-02,1\nuse,12,3,1,RELAY,10\n"}"#;
+const TOO_MUCH: &str = "POST /import {\"csv\":\"\
+    inspection,12,2,2026-05-02,Ana,Checked\\n\
+    order,12,3,2026-05-02,Ana,Repair\\n\
+    delivery,RELAY,2,2026-05-02,1\\n\
+    use,12,3,1,RELAY,10\\n\"}";
 
 /// An intersection is added and shown; a plan comes in, is checked and is committed; records come
 /// in, come again, and some are refused as a whole.
@@ -67,7 +80,8 @@ pub const COMMANDS: [Line; 12] = [
 ];
 
 const NEW: &str =
-    r#"{"id":12,"interval":365,"name":"Main St","owner":null,"revision":0,"rows":0,"state":"normal","verify":"notDone"}"#;
+    "{\"id\":12,\"interval\":365,\"name\":\"Main St\",\"owner\":null,\"revision\":0,\"rows\":0,\
+    \"state\":\"normal\",\"verify\":\"notDone\"}";
 
 const BEGUN: &str = r#"{"revision":0,"state":"transaction","verify":"notDone"}"#;
 
@@ -83,17 +97,29 @@ pub const QUERIES: [&str; 7] = [
 ];
 
 /// Adds intersection 12, asks for it, and begins a transaction: requests of 93, 34 and 76 bytes.
-pub const STREAM: &[u8; 203] =
-    b"POST /intersections HTTP/1.1\r\nContent-Length: 41\r\n\r\n{\"id\":12,\"interval\":365,\"name\":\"Main St\"}GET /intersections/12 HTTP/1.1\r\n\r\nPOST /intersections/12/begin HTTP/1.1\r\nContent-Length: 15\r\n\r\n{\"clerk\":\"Ana\"}";
+pub const STREAM: &[u8; 203] = b"POST /intersections HTTP/1.1\r\nContent-Length: 41\r\n\r\n\
+    {\"id\":12,\"interval\":365,\"name\":\"Main St\"}\
+    GET /intersections/12 HTTP/1.1\r\n\r\n\
+    POST /intersections/12/begin HTTP/1.1\r\nContent-Length: 15\r\n\r\n\
+    {\"clerk\":\"Ana\"}";
 
 /// Its answers, of 89, 184 and 126 bytes.
 pub const ANSWERS: &[u8; 399] =
-    b"HTTP/1.1 200 OK\r\nContent-Type: application/json\r\nContent-Length: 18\r\n\r\n{\"result\":\"added\"}HTTP/1.1 200 OK\r\nContent-Type: application/json\r\nContent-Length: 112\r\n\r\n{\"id\":12,\"interval\":365,\"name\":\"Main St\",\"owner\":null,\"revision\":0,\"rows\":0,\"state\":\"normal\",\"verify\":\"notDone\"}HTTP/1.1 200 OK\r\nContent-Type: application/json\r\nContent-Length: 55\r\n\r\n{\"revision\":0,\"state\":\"transaction\",\"verify\":\"notDone\"}";
+    b"HTTP/1.1 200 OK\r\nContent-Type: application/json\r\nContent-Length: 18\r\n\r\n\
+    {\"result\":\"added\"}\
+    HTTP/1.1 200 OK\r\nContent-Type: application/json\r\nContent-Length: 112\r\n\r\n\
+    {\"id\":12,\"interval\":365,\"name\":\"Main St\",\"owner\":null,\"revision\":0,\"rows\":0,\
+    \"state\":\"normal\",\"verify\":\"notDone\"}\
+    HTTP/1.1 200 OK\r\nContent-Type: application/json\r\nContent-Length: 55\r\n\r\n\
+    {\"revision\":0,\"state\":\"transaction\",\"verify\":\"notDone\"}";
 
 /// The answer to what could not be done.
 pub const UNAVAILABLE: &[u8] =
-    b"HTTP/1.1 503 Service Unavailable\r\nContent-Type: application/json\r\nContent-Length: 35\r\n\r\n{\"error\":\"Unavailable\",\"number\":90}";
+    b"HTTP/1.1 503 Service Unavailable\r\nContent-Type: application/json\r\n\
+    Content-Length: 35\r\n\r\n\
+    {\"error\":\"Unavailable\",\"number\":90}";
 
 /// The answer where there is no such intersection.
-pub const UNKNOWN: &[u8] =
-    b"HTTP/1.1 404 Not Found\r\nContent-Type: application/json\r\nContent-Length: 43\r\n\r\n{\"error\":\"UnknownIntersection\",\"number\":10}";
+pub const UNKNOWN: &[u8] = b"HTTP/1.1 404 Not Found\r\nContent-Type: application/json\r\n\
+    Content-Length: 43\r\n\r\n\
+    {\"error\":\"UnknownIntersection\",\"number\":10}";

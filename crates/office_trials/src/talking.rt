@@ -30,7 +30,8 @@ pub fn request_bytes(alloc: Global, (method, path, body): Words<'_>) -> Result<S
 pub fn told_answer(alloc: Global, status: &str, body: &str) -> Result<String, AllocError> {
     let length = body.len();
     format!(in alloc;
-        "HTTP/1.1 {status}\r\nContent-Type: application/json\r\nContent-Length: {length}\r\n\r\n{body}"
+        "HTTP/1.1 {status}\r\nContent-Type: application/json\r\n\
+        Content-Length: {length}\r\n\r\n{body}"
     )
 }
 
