@@ -12,3 +12,4 @@ pub mod FileLaws
 pub mod RecordLaws
 pub mod Utf8Lemmas
 pub mod SpelledTexts
+pub mod ChangeTexts

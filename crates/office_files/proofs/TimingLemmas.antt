@@ -14,7 +14,7 @@ use Rattle.office_files.proofs.ChangesLemmas.{change_laws}
 use Rattle.office_files.proofs.FileLaws.{file_only}
 use Rattle.office_files.proofs.WritingLemmas.{BeginsWithLetter, csv_records-spellings}
 
-begins_with_kind : (r : Row) → BeginsWithLetter (spelling current_limits r)
+pub begins_with_kind : (r : Row) → BeginsWithLetter (spelling current_limits r)
 begins_with_kind (row.Phase p phase) = (omega arith, omega arith)
 begins_with_kind (row.Seq n ring r) = (omega arith, omega arith)
 begins_with_kind (row.Split n p split) = (omega arith, omega arith)

@@ -1,4 +1,4 @@
--- The CSV file of a timing set.
+-- The CSV files of a timing set and of changes.
 use Rattle.std.specs.Prelude.{ℕ, List, map}
 use Rattle.std.specs.FinMap.{values}
 use Rattle.signal_records.specs.declared.record.Change.{Change}
@@ -6,6 +6,7 @@ use Rattle.signal_records.specs.declared.record.Change.TheVariants.{Put}
 use Rattle.signal_records.specs.Spelling.{spelling}
 use Rattle.signal_records.specs.TimingSet.{Rows}
 use Rattle.signal_records.specs.Within.{current_limits}
+use Rattle.office_files.specs.Changes.{spellings}
 use Rattle.office_files.specs.Csv.{csv_text}
 
 -- the rows in key order, a record for each
@@ -15,3 +16,7 @@ timing_csv_text set = csv_text (map (spelling current_limits) (values set))
 -- the changes that put the rows of a set, in key order
 abbrev pub puts_of : Rows → List Change
 puts_of set = map Put (values set)
+
+-- a record for each change
+abbrev pub changes_csv_text : List Change → List ℕ
+changes_csv_text changes = csv_text (spellings changes)

@@ -3,6 +3,7 @@
 
 mod cabinet;
 mod cells;
+mod change_writing;
 mod changes;
 mod fault;
 mod fields;
@@ -19,6 +20,7 @@ mod violations;
 mod writing;
 
 pub use cabinet::{read_records_csv, records_csv};
+pub use change_writing::changes_csv;
 pub use changes::read_timing_csv;
 pub use fault::CsvFault;
 pub use overdue::overdue_text;

@@ -13,7 +13,7 @@ use signal_records::{NoMemory, Row, TimingSet, row_is_within, write_row};
 use std::alloc::Global;
 
 /// The record of these fields.
-fn record_of(alloc: Global, texts: &[String]) -> Result<ByteRecord, NoMemory>
+pub(crate) fn record_of(alloc: Global, texts: &[String]) -> Result<ByteRecord, NoMemory>
     ensures { IfOk result (λ row. fields_of row ≡ map string_bytes texts.now) }
 {
     let mut record = ByteRecord::new(alloc);

@@ -1,20 +1,59 @@
 //! What the words of a command line ask for.
 
-ghost use Rattle.std.specs.Prelude.{◌≡◌, Option, Some, IfOk, IfErr, IfSome, IfNone, ℕ, map, codes, true};
-ghost use Rattle.clap.specs.Matches.{found_of};
-ghost use Rattle.clap.specs.Walk.{rows_of};
+ghost use Rattle.std.specs.Prelude.{◌≡◌, Some, IfOk, IfErr, map, true, is_some};
 ghost use Rattle.clap.specs.Simple.{subcommand_of};
 ghost use Rattle.clap.specs.Takes.{takes};
 ghost use Rattle.signal_office_line.specs.CommandLine.{signal_app};
-ghost use Rattle.signal_office_line.specs.Job.{IsNumberOf, IsChosenOf, IsJob, IsJobOf};
+ghost use Rattle.signal_office_line.specs.Job.{asked, job_in};
 
 use crate::command_line::command_line;
+use crate::jobs::job_at;
+use clap::Error;
 use clap::error::ErrorKind;
-use clap::{ArgMatches, Error};
-use signal_records::InterId;
+use signal_records::{InterId, PatternNo};
 use std::alloc::{AllocError, Global};
 
-/// What the words ask the program to do.
+/// What of an intersection is exported as CSV.
+#[derive(Clone, Copy)]
+pub enum View {
+    /// Its committed timing set.
+    Timing,
+    /// The draft of its timing set.
+    Draft,
+    /// Its cabinet.
+    Cabinet,
+}
+
+/// An edit of an intersection's plan by a CSV file, in a transaction of a clerk. The draft is
+/// committed where that is asked.
+#[derive(Clone, Copy)]
+pub struct Edit<'a> {
+    pub db: &'a str,
+    pub clerk: &'a str,
+    pub id: InterId,
+    pub csv: &'a str,
+    pub commit: bool,
+}
+
+/// Two plans that are compared.
+#[derive(Clone, Copy)]
+pub enum Plans<'a> {
+    /// Those in two CSV files.
+    Files { first: &'a str, second: &'a str },
+    /// The committed timing set of an intersection, and its draft.
+    Draft { db: &'a str, id: InterId },
+}
+
+/// A plan of which a pattern is drawn.
+#[derive(Clone, Copy)]
+pub enum Plan<'a> {
+    /// The committed timing set of an intersection.
+    Committed { db: &'a str, id: InterId },
+    /// That in a CSV file.
+    File { csv: &'a str },
+}
+
+/// What the words ask the program to do. A word that names a file, a clerk or a day may name none.
 #[derive(Clone, Copy)]
 pub enum Job<'a> {
     /// Answer the requests on standard input, over a file or memory.
@@ -32,8 +71,7 @@ pub enum Job<'a> {
         db: &'a str,
         id: InterId,
     },
-    /// Print the intersections that are overdue on a day, at most so many, 1 to 9999. The day's word may
-    /// spell none.
+    /// Print the intersections that are overdue on a day, at most so many, 1 to 9999.
     Overdue {
         db: &'a str,
         first: Option<u32>,
@@ -46,6 +84,29 @@ pub enum Job<'a> {
     /// Bring the tables of a file to today's version.
     Migrate {
         db: &'a str,
+    },
+    /// Take the records of a CSV file in turn: all of them, or none.
+    Import {
+        db: &'a str,
+        csv: &'a str,
+    },
+    /// Print what is kept of an intersection as CSV.
+    Export {
+        db: &'a str,
+        id: InterId,
+        view: View,
+    },
+    /// Change a plan by a CSV file.
+    Edit(Edit<'a>),
+    /// Print what two plans differ in, as a text or as CSV.
+    Compare {
+        plans: Plans<'a>,
+        csv: bool,
+    },
+    /// Draw a pattern of a plan.
+    Diagram {
+        plan: Plan<'a>,
+        pattern: PatternNo,
     },
 }
 
@@ -84,103 +145,17 @@ impl From<Error> for JobFault {
     }
 }
 
-/// The number that an argument's word spells, where it is one from 1 to `most`.
-fn number(matches: &ArgMatches<'_>, id: &str, most: u32) -> Option<u32>
-    ensures some { IfSome result (IsNumberOf (rows_of (found_of matches.now)) id.now most) }
-    ensures none { IfNone result ((n : ℕ) → IsNumberOf (rows_of (found_of matches.now)) id.now most n → ⊥) }
-{
-    let word = matches.get_str(id)?;
-    let number = word.parse::<u32>().ok()?;
-    if number == 0 || number > most {
-        return None;
-    }
-    Some(number)
-}
+/// Why words that state no job are refused.
+const NO_JOB: &str =
+    "a number is out of its range: --port is 1 to 65535, --count 1 to 1000000, --first and ID 1 to 9999, \
+    PATTERN 1 to 48; or words are too few, too many, or not to be given together";
 
-/// The number of an argument, where it was given. None where its word spells no number from 1 to `most`.
-fn chosen(matches: &ArgMatches<'_>, id: &str, most: u32) -> Option<Option<u32>>
-    ensures some { IfSome result (IsChosenOf (rows_of (found_of matches.now)) id.now most) }
-    ensures none { IfNone result ((given : Option ℕ) → IsChosenOf (rows_of (found_of matches.now)) id.now most given → ⊥) }
-{
-    match matches.get_str(id) {
-        None => Some(None),
-        Some(_) => {
-            let number = number(matches, id, most)?;
-            Some(Some(number))
-        }
-    }
-}
-
-/// What `serve` asks for, where its numbers are in their ranges.
-fn serve_job<'a>(matches: &ArgMatches<'a>) -> Option<Job<'a>>
-    ensures some { IfSome result (IsJob (codes "serve") (rows_of (found_of matches.entry.now))) }
-    ensures none { IfNone result ((job : Job) → IsJob (codes "serve") (rows_of (found_of matches.entry.now)) job → ⊥) }
-{
-    let port = number(matches, "port", 65_535)? as u16;
-    let count = number(matches, "count", 1_000_000)?;
-    let db = matches.get_str("db");
-    Some(Job::Serve { port, count, db })
-}
-
-/// What `sheet` asks for, where the intersection's number is in its range.
-fn sheet_job<'a>(matches: &ArgMatches<'a>) -> Option<Job<'a>>
-    ensures some { IfSome result (IsJob (codes "sheet") (rows_of (found_of matches.entry.now))) }
-    ensures none { IfNone result ((job : Job) → IsJob (codes "sheet") (rows_of (found_of matches.entry.now)) job → ⊥) }
-{
-    let db = matches.get_str("db")?;
-    let id = InterId::new(number(matches, "ID", 9_999)?)?;
-    Some(Job::Sheet { db, id })
-}
-
-/// What `overdue` asks for, where the number of lines is in its range.
-fn overdue_job<'a>(matches: &ArgMatches<'a>) -> Option<Job<'a>>
-    ensures some { IfSome result (IsJob (codes "overdue") (rows_of (found_of matches.entry.now))) }
-    ensures none { IfNone result ((job : Job) → IsJob (codes "overdue") (rows_of (found_of matches.entry.now)) job → ⊥) }
-{
-    let db = matches.get_str("db")?;
-    let first = chosen(matches, "first", 9_999)?;
-    let day = matches.get_str("DAY")?;
-    Some(Job::Overdue { db, first, day })
-}
-
-/// What a command asks for, where its numbers are in their ranges.
-fn job_in<'a>(name: &'a str, matches: &ArgMatches<'a>) -> Option<Job<'a>>
-    ensures some { IfSome result (IsJob name.entry.now (rows_of (found_of matches.entry.now))) }
-    ensures none { IfNone result ((job : Job) → IsJob name.entry.now (rows_of (found_of matches.entry.now)) job → ⊥) }
-{
-    if name == "batch" {
-        let db = matches.get_str("db");
-        return Some(Job::Batch { db });
-    }
-    if name == "serve" {
-        return serve_job(matches);
-    }
-    if name == "sheet" {
-        return sheet_job(matches);
-    }
-    if name == "overdue" {
-        return overdue_job(matches);
-    }
-    if name == "verify-file" {
-        let csv = matches.get_str("CSV")?;
-        return Some(Job::VerifyFile { csv });
-    }
-    if name == "migrate" {
-        let db = matches.get_str("db")?;
-        return Some(Job::Migrate { db });
-    }
-    None
-}
-
-/// Why words with a number out of its range are refused.
-fn out_of_range(alloc: Global) -> JobFault {
+/// The words are refused, since a number is out of its range, or they don't go together.
+fn no_job(alloc: Global) -> JobFault {
     let Ok(mut command) = command_line(alloc) else {
         return JobFault::NoMemory;
     };
-    match command.error(
-        ErrorKind::ValueValidation,
-        "a number is out of its range: --port is 1 to 65535, --count 1 to 1000000, --first and ID 1 to 9999",
-    ) {
+    match command.error(ErrorKind::ValueValidation, NO_JOB) {
         Ok(error) => JobFault::Refused(error),
         Err(_) => JobFault::NoMemory,
     }
@@ -189,10 +164,13 @@ fn out_of_range(alloc: Global) -> JobFault {
 /// What the words ask for, the first being the program's name.
 pub fn job_of<'a>(alloc: Global, words: &'a [&'a str]) -> Result<Job<'a>, JobFault>
     // The command and its values are those that `clap` finds, each number in its range.
-    ensures found { IfOk result (IsJobOf (subcommand_of signal_app (map (λ word. word.now) words.entry.now))) }
-    // Words that `clap` takes, with their numbers in range, are refused for want of memory alone.
-    ensures answered { IfErr result (λ fault. takes signal_app (map (λ word. word.now) words.entry.now) ≡ true →
-        (job : Job) → IsJobOf (subcommand_of signal_app (map (λ word. word.now) words.entry.now)) job → fault ≡ JobFault.NoMemory) }
+    ensures found { IfOk result (λ job.
+        job_in (subcommand_of signal_app (map (λ word. word.now) words.entry.now)) ≡ Some (asked job)) }
+    // Words that `clap` takes, and that ask for a job, are refused for want of memory alone.
+    ensures answered { IfErr result (λ fault.
+        takes signal_app (map (λ word. word.now) words.entry.now) ≡ true →
+        is_some (job_in (subcommand_of signal_app (map (λ word. word.now) words.entry.now))) ≡ true →
+        fault ≡ JobFault.NoMemory) }
 {
     let command = command_line(alloc)?;
     let matches = match command.try_get_matches_from(words) {
@@ -200,10 +178,10 @@ pub fn job_of<'a>(alloc: Global, words: &'a [&'a str]) -> Result<Job<'a>, JobFau
         Err(error) => return Err(JobFault::from(error)),
     };
     let Some((name, inner)) = matches.subcommand() else {
-        return Err(out_of_range(alloc));
+        return Err(no_job(alloc));
     };
-    match job_in(name, inner) {
+    match job_at(name, inner) {
         Some(job) => Ok(job),
-        None => Err(out_of_range(alloc)),
+        None => Err(no_job(alloc)),
     }
 }

@@ -3,5 +3,7 @@
 
 mod command_line;
 mod job;
+mod jobs;
+mod values;
 
-pub use job::{Job, JobFault, job_of};
+pub use job::{Edit, Job, JobFault, Plan, Plans, View, job_of};

@@ -15,7 +15,7 @@ use std::alloc::Global;
 
 /// What the office answers, which stays as it is. It takes the query, so that those who ask have none
 /// to drop.
-pub(crate) fn ask<S: Shelf>(alloc: Global, office: &mut Office<S>, query: Command) -> Reply
+pub fn ask<S: Shelf>(alloc: Global, office: &mut Office<S>, query: Command) -> Reply
     requires { IsQuery query }
     ensures kept { IsKept S.is_honest S.content S.written S.may_leave office.old office.new }
     ensures step { S.is_honest office.new → AnswersAny (S.content office.old) query result (S.content office.old) }

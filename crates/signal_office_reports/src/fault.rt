@@ -32,8 +32,16 @@ pub enum Fault {
     File,
     /// The office has no such intersection.
     UnknownIntersection,
+    /// The plan has no such pattern.
+    UnknownPattern,
     /// The word spells no day from 1970-01-01 to 2199-12-31.
     Day,
+    /// The word is no clerk's name: 1 to 40 bytes without control characters.
+    Clerk,
+    /// The office refused a command.
+    Refused(Refusal),
+    /// The office refused a record of the CSV file, counted from 1.
+    Record { at: usize, refusal: Refusal },
     /// A record of the CSV file spells nothing.
     Csv(CsvFault),
     /// The words are not UTF-8.
@@ -65,7 +73,17 @@ impl fmt::Display for Fault {
             Fault::Bind => f.write_str("fault: bind"),
             Fault::File => f.write_str("fault: file"),
             Fault::UnknownIntersection => f.write_str("fault: unknown intersection"),
+            Fault::UnknownPattern => f.write_str("fault: unknown pattern"),
             Fault::Day => f.write_str("fault: day"),
+            Fault::Clerk => f.write_str("fault: clerk"),
+            Fault::Refused(refusal) => {
+                let name = refusal.name();
+                write!(f, "fault: {name}")
+            }
+            Fault::Record { at, refusal } => {
+                let name = refusal.name();
+                write!(f, "fault: record {at}: {name}")
+            }
             Fault::Csv(fault) => write!(f, "fault: {fault}"),
             Fault::Words => f.write_str("the command line is not UTF-8"),
         }
@@ -73,6 +91,11 @@ impl fmt::Display for Fault {
 }
 
 impl From<AllocError> for Fault {
+    ghost use Rattle.std.specs.Prelude.{◌≡◌};
+    ghost use Rattle.signal_office_reports.specs.declared.fault.Fault.TheVariants as told;
+
+    ghost from_gives = { λ _ fault. fault ≡ told.Memory };
+
     fn from(_: AllocError) -> Fault {
         Fault::Memory
     }
@@ -96,6 +119,11 @@ impl From<WriteFailed> for Fault {
 }
 
 impl From<CsvFault> for Fault {
+    ghost use Rattle.std.specs.Prelude.{◌≡◌};
+    ghost use Rattle.signal_office_reports.specs.declared.fault.Fault.TheVariants as told;
+
+    ghost from_gives = { λ cause fault. fault ≡ told.Csv cause };
+
     fn from(fault: CsvFault) -> Fault {
         Fault::Csv(fault)
     }

@@ -8,6 +8,7 @@ mod plan;
 mod sheet;
 mod telling;
 
+pub use asking::ask;
 pub use fault::Fault;
 pub use overdue::overdue_of;
 pub use plan::violations_in;

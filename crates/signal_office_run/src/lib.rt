@@ -1,6 +1,7 @@
 //! What the program's words ask for, from a source of bytes to its two outputs.
 #![tactic(auto)]
 
+mod done;
 mod file;
 mod memory;
 mod migrating;

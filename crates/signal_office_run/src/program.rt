@@ -1,16 +1,18 @@
 //! What the program's words ask for, from a source of bytes to its two outputs.
 
+use crate::done::Done;
 use crate::memory::{open_in_memory, serve_new_office};
 use crate::migrating::migrate_file;
 use crate::serving::serve_port;
 use crate::task::{Task, batch_in_file, do_in_file};
 use cabinet_core::read_day;
 use office_desk::office::Office;
-use office_files::violation_text;
 use office_http::{Sink, Source, write_all};
 use office_tables_shelf::shelf::Shelf;
-use signal_office_line::{Job, JobFault, job_of};
+use signal_office_line::{Edit, Job, JobFault, Plan, Plans, job_of};
+use signal_office_plans::{compare_files, diagram_in};
 use signal_office_reports::{Fault, report, violations_in};
+use signal_records::{PatternNo, Words};
 use sqlite::Wary;
 use std::alloc::Global;
 use std::fs;
@@ -25,13 +27,19 @@ const ALL_INTERSECTIONS: u32 = 9_999;
 /// The status where the words are refused.
 const WORDS_REFUSED: u8 = 2;
 
-/// The status of `verify-file` where the plan breaks a rule.
-const HAS_VIOLATIONS: u8 = 3;
-
 /// Answers the requests of the source over tables in memory.
 fn batch<R: Source, W: Sink>(alloc: Global, source: &mut R, out: &mut W) -> Result<u8, Fault> {
     serve_new_office(alloc, source, out, BATCH_LIMIT)??;
     Ok(0)
+}
+
+/// The bytes of a file.
+fn read_file(rt: &HostRuntime, path: &str) -> Result<Vec<u8>, Fault> {
+    match fs::read(rt, path) {
+        Ok(bytes) => Ok(bytes),
+        Err(error) if error.kind() == ErrorKind::OutOfMemory => Err(Fault::Memory),
+        Err(_) => Err(Fault::File),
+    }
 }
 
 /// Prints the violations of the plan in a CSV file.
@@ -41,15 +49,9 @@ fn verify_file<W: Sink>(
     path: &str,
     out: &mut W,
 ) -> Result<u8, Fault> {
-    let bytes = match fs::read(rt, path) {
-        Ok(bytes) => bytes,
-        Err(error) if error.kind() == ErrorKind::OutOfMemory => return Err(Fault::Memory),
-        Err(_) => return Err(Fault::File),
-    };
+    let bytes = read_file(rt, path)?;
     let found = violations_in(alloc, &bytes)?;
-    let text = violation_text(alloc, &found)?;
-    write_all(out, &text)?;
-    Ok(if found.is_empty() { 0 } else { HAS_VIOLATIONS })
+    Done::checking(alloc, &found)?.print(out)
 }
 
 /// Serves connections on a port by an office, which is dropped then.
@@ -82,12 +84,10 @@ fn in_file<W: Sink>(
     rt: &HostRuntime,
     alloc: Global,
     path: &str,
-    task: Task,
+    task: Task<'_>,
     out: &mut W,
 ) -> Result<u8, Fault> {
-    let text = do_in_file(rt, alloc, path, &task, out)?;
-    write_all(out, &text)?;
-    Ok(0)
+    do_in_file(rt, alloc, path, &task, out)?.print(out)
 }
 
 /// Prints the report of the intersections that are overdue on the day of a word, which is read before
@@ -114,6 +114,74 @@ fn migrate<W: Sink>(rt: &HostRuntime, alloc: Global, path: &str, out: &mut W) ->
     let line = format!(in alloc; "migrated {rows} rows\n")?;
     write_all(out, line.as_bytes())?;
     Ok(0)
+}
+
+/// Takes the records of a CSV file into the office of a file.
+fn import<W: Sink>(
+    rt: &HostRuntime,
+    alloc: Global,
+    db: &str,
+    csv: &str,
+    out: &mut W,
+) -> Result<u8, Fault> {
+    let csv = &read_file(rt, csv)?;
+    in_file(rt, alloc, db, Task::Import { csv }, out)
+}
+
+/// Changes a plan by a CSV file.
+fn edit_plan<W: Sink>(
+    rt: &HostRuntime,
+    alloc: Global,
+    edit: &Edit<'_>,
+    out: &mut W,
+) -> Result<u8, Fault> {
+    let Some(clerk) = &Words::new(alloc, edit.clerk.as_bytes())? else {
+        return Err(Fault::Clerk);
+    };
+    let csv = &read_file(rt, edit.csv)?;
+    let (id, commit) = (edit.id, edit.commit);
+    let task = Task::Edit {
+        id,
+        clerk,
+        csv,
+        commit,
+    };
+    in_file(rt, alloc, edit.db, task, out)
+}
+
+/// Prints what two plans differ in.
+fn compare<W: Sink>(
+    rt: &HostRuntime,
+    alloc: Global,
+    plans: &Plans<'_>,
+    csv: bool,
+    out: &mut W,
+) -> Result<u8, Fault> {
+    match *plans {
+        Plans::Draft { db, id } => in_file(rt, alloc, db, Task::Compare { id, csv }, out),
+        Plans::Files { first, second } => {
+            let (first, second) = (read_file(rt, first)?, read_file(rt, second)?);
+            let differences = compare_files(alloc, &first, &second)?;
+            Done::comparing(alloc, &differences, csv)?.print(out)
+        }
+    }
+}
+
+/// Prints the picture of a pattern.
+fn diagram<W: Sink>(
+    rt: &HostRuntime,
+    alloc: Global,
+    plan: &Plan<'_>,
+    pattern: PatternNo,
+    out: &mut W,
+) -> Result<u8, Fault> {
+    match *plan {
+        Plan::Committed { db, id } => in_file(rt, alloc, db, Task::Diagram { id, pattern }, out),
+        Plan::File { csv } => {
+            let bytes = read_file(rt, csv)?;
+            Done::with(diagram_in(alloc, &bytes, pattern)?).print(out)
+        }
+    }
 }
 
 /// Does a job, and gives the status.
@@ -147,6 +215,14 @@ fn run_job<R: Source, W: Sink>(
         Job::Overdue { db, first, day } => overdue(rt, alloc, db, *first, day, out),
         Job::VerifyFile { csv } => verify_file(rt, alloc, csv, out),
         Job::Migrate { db } => migrate(rt, alloc, db, out),
+        Job::Import { db, csv } => import(rt, alloc, db, csv, out),
+        Job::Export { db, id, view } => {
+            let (id, view) = (*id, *view);
+            in_file(rt, alloc, db, Task::Export { id, view }, out)
+        }
+        Job::Edit(edit) => edit_plan(rt, alloc, edit, out),
+        Job::Compare { plans, csv } => compare(rt, alloc, plans, *csv, out),
+        Job::Diagram { plan, pattern } => diagram(rt, alloc, plan, *pattern, out),
     }
 }
 

@@ -1,57 +1,110 @@
 //! What is done over the tables of a file.
 
+use crate::done::Done;
 use crate::file::{close_after, open_file, serve_file};
 use crate::serving::serve_port;
 use cabinet_core::Day;
 use office_desk::office::Office;
 use office_http::{Served, Sink, Source};
 use office_tables_shelf::shelf::Shelf;
+use signal_office_exchange::{
+    cabinet_csv_of, draft_csv_of, edit_plan, import_csv, timing_csv_of,
+};
+use signal_office_line::View;
+use signal_office_plans::{diagram_of, draft_differences};
 use signal_office_reports::{Fault, overdue_of, sheet_of};
-use signal_records::InterId;
+use signal_records::{InterId, PatternNo, Words};
 use sqlite::Wary;
 use std::alloc::Global;
 
 /// What an office over the tables of a file is opened for.
 #[derive(Clone, Copy)]
-pub(crate) enum Task {
+pub(crate) enum Task<'a> {
     /// So many connections on a port.
     Serve { port: u16, count: u32 },
     /// The timing sheet of an intersection.
     Sheet { id: InterId },
     /// The report of the intersections that are overdue on a day, at most so many.
     Overdue { day: Day, most: usize },
+    /// The records of a CSV file.
+    Import { csv: &'a [u8] },
+    /// What is kept of an intersection, as CSV.
+    Export { id: InterId, view: View },
+    /// A plan's CSV file that edits a draft, which is committed where that is asked.
+    Edit {
+        id: InterId,
+        clerk: &'a Words<40>,
+        csv: &'a [u8],
+        commit: bool,
+    },
+    /// What an intersection's draft changes, as a text or as CSV.
+    Compare { id: InterId, csv: bool },
+    /// A pattern of an intersection's committed timing set.
+    Diagram { id: InterId, pattern: PatternNo },
 }
 
-/// Does a task, and gives what is to be printed once the file is closed.
+/// What is kept of an intersection, as CSV.
+fn export<S: Shelf>(
+    alloc: Global,
+    office: &mut Office<S>,
+    id: InterId,
+    view: View,
+) -> Result<Vec<u8>, Fault> {
+    match view {
+        View::Timing => timing_csv_of(alloc, office, id),
+        View::Draft => draft_csv_of(alloc, office, id),
+        View::Cabinet => cabinet_csv_of(alloc, office, id),
+    }
+}
+
+/// Does a task, and gives what is to be printed once the file is closed, with the status.
 fn done_by<S: Shelf, W: Sink>(
     rt: &HostRuntime,
     alloc: Global,
     office: &mut Office<S>,
-    task: &Task,
+    task: &Task<'_>,
     out: &mut W,
-) -> Result<Vec<u8>, Fault> {
+) -> Result<Done, Fault> {
     match task {
         Task::Serve { port, count } => {
             serve_port(rt, alloc, office, *port, *count, out)?;
-            Ok(Vec::new(alloc))
+            Ok(Done::with(Vec::new(alloc)))
         }
-        Task::Sheet { id } => sheet_of(alloc, office, *id),
-        Task::Overdue { day, most } => overdue_of(alloc, office, *day, *most),
+        Task::Sheet { id } => Ok(Done::with(sheet_of(alloc, office, *id)?)),
+        Task::Overdue { day, most } => Ok(Done::with(overdue_of(alloc, office, *day, *most)?)),
+        Task::Import { csv } => Done::importing(alloc, import_csv(alloc, office, csv)?),
+        Task::Export { id, view } => Ok(Done::with(export(alloc, office, *id, *view)?)),
+        Task::Edit {
+            id,
+            clerk,
+            csv,
+            commit,
+        } => {
+            let edited = edit_plan(alloc, office, *id, clerk, csv, *commit)?;
+            Done::editing(alloc, &edited, *commit)
+        }
+        Task::Compare { id, csv } => {
+            Done::comparing(alloc, &draft_differences(alloc, office, *id)?, *csv)
+        }
+        Task::Diagram { id, pattern } => {
+            Ok(Done::with(diagram_of(alloc, office, *id, *pattern)?))
+        }
     }
 }
 
-/// Does a task over the tables of a file, which is closed again, and gives what is to be printed.
+/// Does a task over the tables of a file, which is closed again, and gives what is to be printed,
+/// with the status.
 pub(crate) fn do_in_file<W: Sink>(
     rt: &HostRuntime,
     alloc: Global,
     path: &str,
-    task: &Task,
+    task: &Task<'_>,
     out: &mut W,
-) -> Result<Vec<u8>, Fault> {
+) -> Result<Done, Fault> {
     let mut office = open_file(rt, alloc, path, Wary)?;
     let outcome = done_by(rt, alloc, &mut office, task, out);
-    let (_, text) = close_after(office.into_shelf().into_conn(), outcome)?;
-    Ok(text)
+    let (_, done) = close_after(office.into_shelf().into_conn(), outcome)?;
+    Ok(done)
 }
 
 /// Answers the requests of the source over the tables of a file, and closes it, so that its log is

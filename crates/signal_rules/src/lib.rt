@@ -20,5 +20,7 @@ mod violation;
 
 pub use counting::{Judge, Tally, violations_touched};
 pub use judging::violations;
+pub use lookup::{pattern_at, phase_at, ring_row, split_at};
+pub use pattern::used_rings;
 pub use reach::touched;
 pub use violation::{Rule, Subject, Violation};

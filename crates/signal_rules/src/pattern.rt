@@ -54,8 +54,8 @@ fn is_coordinated(split: Option<Split>) -> bool
     }
 }
 
-/// The rings that have a phase.
-pub(crate) fn used_rings(alloc: Global, set: &TimingSet) -> Result<Vec<RingNo>, NoMemory>
+/// The rings that have a phase, in ascending order.
+pub fn used_rings(alloc: Global, set: &TimingSet) -> Result<Vec<RingNo>, NoMemory>
     ensures { IfOk result (λ rings. rings.items ≡ used_rings set.now) }
 {
     let mut rings = Vec::new(alloc);

@@ -1,12 +1,41 @@
-use Rattle.std.proofs.Common.{List, map, ap, ◌∙◌}
+use Rattle.std.proofs.Common.{◌≡◌, List, Option, Some, None, Bool, true, false, map, ap, subst, sym, refl, ◌∙◌}
+use Rattle.std.specs.Prelude.{is_some, option_map}
 use Rattle.std.specs.Borrow.{Bor}
-use Rattle.clap.specs.Simple.{App}
+use Rattle.clap.specs.Matches.{found_of}
+use Rattle.clap.specs.Simple.{App, HasMatchesOf, subcommand_of, subcommand_rows_of}
 use Rattle.clap.specs.Takes.{takes}
-use Rattle.clap.specs.Walk.{Text}
+use Rattle.clap.specs.Walk.{Text, rows_of}
+use Rattle.signal_office_line.specs.CommandLine.{signal_app}
+use Rattle.signal_office_line.specs.Job.{Asked, asked, job_in}
+use Rattle.signal_office_line.proofs.JobLemmas.{of_found}
 use Rattle.signal_office_line.proofs.job.job_of.Goals as goal
+
+-- the command that was found is that of the words
+pub returns-in-Some-job_at-clause-found : goal.returns-in-Some-job_at-clause-found
+returns-in-Some-job_at-clause-found c =
+    let words : List Text = map (λ (word : Bor Text). word.now) c.args.words.now in
+    let matched = subst (λ (app : App). HasMatchesOf app words c.in-Ok.matches)
+    c.in_ok-command.ensures.app_is c.in-Ok.ensures.matches in
+    let found = of_found _ _ c.in-Some.name.now (rows_of (found_of c.in-Some.inner.now))
+    c.in-Some.ensures.name c.in-Some.ensures.rows in
+    ap job_in (sym (matched refl).1) ∙ found ∙ sym c.job_at.ensures
+    ∙ ap (option_map asked) c.in-Some-job_at.is
 
 -- words that are taken are refused for want of memory alone
 pub returns-in-Err-clause-answered : goal.returns-in-Err-clause-answered
-returns-in-Err-clause-answered c = λ taken job is.
+returns-in-Err-clause-answered c = λ taken asks.
     let words : List Text = map (λ (word : Bor Text). word.now) c.args.words.now in
     c.from.ensures (c.in-Err.ensures.passes (ap (λ (app : App). takes app words) c.in_ok-command.ensures.app_is ∙ taken))
+
+-- a command that asks for nothing is no job
+pub returns-clause-answered : goal.returns-clause-answered
+returns-clause-answered c = λ taken asks.
+    let words : List Text = map (λ (word : Bor Text). word.now) c.args.words.now in
+    let matched = subst (λ (app : App). HasMatchesOf app words c.in-Ok.matches)
+    c.in_ok-command.ensures.app_is c.in-Ok.ensures.matches in
+    let found = of_found _ _ c.in-Some.name.now (rows_of (found_of c.in-Some.inner.now))
+    c.in-Some.ensures.name c.in-Some.ensures.rows in
+    let none : job_in (subcommand_of signal_app words) ≡ None = ap job_in (sym (matched refl).1) ∙ found
+    ∙ sym c.job_at.ensures ∙ ap (option_map asked) c.in-None.is in
+    let bad : false ≡ true = sym (ap is_some none) ∙ asks in
+    cc

@@ -1,0 +1,42 @@
+-- The file of changes is text, and is read as these changes.
+use Rattle.std.proofs.Common.{◌≡◌, ℕ, List, All, Result, Ok, Err, refl, ap, ◌∙◌, arith}
+use Rattle.std.specs.Prelude.{IfOk, OnOk, codes}
+use Rattle.signal_records.specs.declared.key.Key.{Key}
+use Rattle.signal_records.specs.declared.key.Key.TheVariants as key
+use Rattle.signal_records.specs.declared.record.Change.{Change}
+use Rattle.signal_records.specs.declared.record.Change.TheVariants.{Put, Remove}
+use Rattle.signal_records.specs.Reading.{change_at}
+use Rattle.signal_records.specs.Spelling.{change_spelling, key_spelling}
+use Rattle.signal_records.specs.Within.{current_limits, IsChangeWithin}
+use Rattle.office_files.specs.Changes.{changes_of, AreWithin, spellings}
+use Rattle.office_files.specs.Csv.{csv_text}
+use Rattle.office_files.proofs.ChangesLemmas.{change_laws}
+use Rattle.office_files.proofs.FileLaws.{file_only}
+use Rattle.office_files.proofs.SpelledTexts.{row_texts}
+use Rattle.office_files.proofs.TimingLemmas.{begins_with_kind}
+use Rattle.office_files.proofs.Utf8Lemmas.{AreTexts, IsUtf8-low, IsUtf8-decimal}
+use Rattle.office_files.proofs.WritingLemmas.{BeginsWithLetter, csv_records-spellings}
+
+key_texts : (k : Key) → AreTexts (key_spelling k)
+key_texts (key.Phase p) = (IsUtf8-low (codes "phase") refl, (IsUtf8-decimal p, tt))
+key_texts (key.Seq n ring) = (IsUtf8-low (codes "seq") refl, (IsUtf8-decimal n, (IsUtf8-decimal ring, tt)))
+key_texts (key.Split n p) = (IsUtf8-low (codes "split") refl, (IsUtf8-decimal n, (IsUtf8-decimal p, tt)))
+key_texts (key.Pattern n) = (IsUtf8-low (codes "pattern") refl, (IsUtf8-decimal n, tt))
+
+pub change_texts : (change : Change) → IsChangeWithin current_limits change → AreTexts (change_spelling current_limits change)
+change_texts (Put r) within = row_texts r within
+change_texts (Remove k) within = (IsUtf8-low (codes "remove") refl, key_texts k)
+
+begins_with_word : (change : Change) → BeginsWithLetter (change_spelling current_limits change)
+begins_with_word (Put r) = begins_with_kind r
+begins_with_word (Remove k) = (omega arith, omega arith)
+
+changes_read_back : (changes : List Change) → AreWithin changes → changes_of (csv_text (spellings changes)) ≡ Ok changes
+changes_read_back changes within =
+    file_only (change_at current_limits) (change_spelling current_limits) (IsChangeWithin current_limits) change_laws (csv_text (spellings changes)) changes within
+    (csv_records-spellings (change_spelling current_limits) begins_with_word changes)
+
+-- the law of a result
+pub given_changes_back : {V E : Type 0} (items : V → List ℕ) (result : Result V E) (changes : List Change) → IfOk result (λ text. items text ≡ csv_text (spellings changes)) → OnOk result (AreWithin changes) → IfOk result (λ text. changes_of (items text) ≡ Ok changes)
+given_changes_back items (Ok text) changes written within = ap changes_of written ∙ changes_read_back changes within
+given_changes_back items (Err e) changes written within = tt

@@ -1,0 +1,74 @@
+//! Changes of a timing set into CSV files.
+
+ghost use Rattle.std.specs.Prelude.{◌≡◌, ◌∷◌, codes, IfOk, Ok, IsUtf8};
+ghost use Rattle.signal_records.specs.Spelling.{key_spelling, Writes};
+ghost use Rattle.office_files.specs.Changes.{changes_of};
+ghost use Rattle.office_files.specs.Timing.{changes_csv_text};
+
+use crate::timing::record_of;
+use crate::writing::{CsvRecord, write_records};
+use csv::ByteRecord;
+use signal_records::{Change, Key, NoMemory, change_is_within};
+use std::alloc::Global;
+
+/// The fields that remove the row under a key.
+fn removal_fields(alloc: Global, key: Key) -> Result<Vec<String>, NoMemory>
+    ensures { Writes result (codes "remove" ∷ key_spelling key) }
+{
+    let remove = String::from_str(alloc, "remove")?;
+    match key {
+        Key::Phase(p) => {
+            let kind = String::from_str(alloc, "phase")?;
+            let p = format!(in alloc; "{}", p.get())?;
+            Ok(vec![in alloc; remove, kind, p]?)
+        }
+        Key::Seq(n, ring) => {
+            let kind = String::from_str(alloc, "seq")?;
+            let n = format!(in alloc; "{}", n.get())?;
+            let ring = format!(in alloc; "{}", ring.get())?;
+            Ok(vec![in alloc; remove, kind, n, ring]?)
+        }
+        Key::Split(n, p) => {
+            let kind = String::from_str(alloc, "split")?;
+            let n = format!(in alloc; "{}", n.get())?;
+            let p = format!(in alloc; "{}", p.get())?;
+            Ok(vec![in alloc; remove, kind, n, p]?)
+        }
+        Key::Pattern(n) => {
+            let kind = String::from_str(alloc, "pattern")?;
+            let n = format!(in alloc; "{}", n.get())?;
+            Ok(vec![in alloc; remove, kind, n]?)
+        }
+    }
+}
+
+impl CsvRecord for Change {
+    ghost use Rattle.signal_records.specs.Spelling.{change_spelling};
+    ghost use Rattle.signal_records.specs.Within.{current_limits, IsChangeWithin};
+
+    ghost spelling = { change_spelling current_limits };
+
+    ghost IsWithin = { IsChangeWithin current_limits };
+
+    fn record(&self, alloc: Global) -> Result<ByteRecord, NoMemory> {
+        change_is_within(self);
+        match self {
+            Change::Put(row) => row.record(alloc),
+            Change::Remove(key) => {
+                let fields = removal_fields(alloc, *key)?;
+                record_of(alloc, &fields)
+            }
+        }
+    }
+}
+
+/// The CSV file of changes: a record for each, in order, with a line feed after it. A row is
+/// spelled as `write_row` does, and the removal of a key as `remove` and the key. It is UTF-8, and
+/// `read_timing_csv` reads it as these changes.
+pub fn changes_csv(alloc: Global, changes: &[Change]) -> Result<Vec<u8>, NoMemory>
+    ensures text { IfOk result (λ text. text.items ≡ changes_csv_text changes.now) }
+    ensures utf8 { IfOk result (λ text. IsUtf8 text.items) }
+    ensures reads_back { IfOk result (λ text. changes_of text.items ≡ Ok changes.now) }
+{
+    write_records(alloc, changes)
+}

@@ -1,0 +1,276 @@
+//! The office by its definitions: intersections with whole plans and drafts, and the register as a
+//! list.
+
+use super::asking::{Ask, Kind, NUMBERS};
+use super::plan::{Plan, add, count, edit, show};
+use super::register;
+use super::rules::judge_all;
+use std::alloc::{AllocError, Global};
+
+/// What a command is answered: the number of its refusal, 0 if it has none, and a body.
+#[derive(Drop)]
+pub(crate) struct Told {
+    pub(crate) number: usize,
+    pub(crate) body: String,
+}
+
+/// An intersection. Without a transaction its owner and its draft are not looked at.
+#[derive(Drop)]
+struct Intersection {
+    id: u32,
+    name: &'static str,
+    revision: u32,
+    plan: Plan,
+    /// The name of its state.
+    state: &'static str,
+    owner: &'static str,
+    draft: Plan,
+}
+
+/// The office.
+#[derive(Drop)]
+pub(crate) struct Slow {
+    intersections: Vec<Intersection>,
+    records: Vec<Ask>,
+}
+
+/// The body of an answer without a refusal.
+fn done(body: String) -> Result<Told, AllocError> {
+    Ok(Told { number: 0, body })
+}
+
+/// A refusal that tells nothing but its name.
+fn refused(alloc: Global, number: usize) -> Result<Told, AllocError> {
+    let name = match number {
+        10 => "UnknownIntersection",
+        11 => "IntersectionDiffers",
+        12 => "NotNormal",
+        13 => "NotTransaction",
+        14 => "NotOwner",
+        15 => "NotVerify",
+        16 => "NotDone",
+        20 => "InspectionDiffers",
+        21 => "OrderDiffers",
+        22 => "UnknownOrder",
+        23 => "OrderClosed",
+        24 => "DayBeforeOpening",
+        25 => "NoStock",
+        26 => "StockFull",
+        27 => "DeliveryDiffers",
+        28 => "LineDiffers",
+        _ => "CloseDiffers",
+    };
+    let body = format!(in alloc; r#"{{"error":"{name}","number":{number}}}"#)?;
+    Ok(Told { number, body })
+}
+
+/// What a record, or an intersection that is added, is answered.
+fn recorded(alloc: Global, outcome: Result<bool, usize>) -> Result<Told, AllocError> {
+    match outcome {
+        Ok(true) => done(String::from_str(alloc, r#"{"result":"added"}"#)?),
+        Ok(false) => done(String::from_str(alloc, r#"{"result":"same"}"#)?),
+        Err(number) => refused(alloc, number),
+    }
+}
+
+impl Intersection {
+    /// What the checked draft is found to be.
+    fn verdict(&self, alloc: Global) -> Result<&'static str, AllocError> {
+        Ok(if self.state != "done" {
+            "notDone"
+        } else if judge_all(alloc, &self.draft)?.count == 0 {
+            "doneWithNoError"
+        } else {
+            "doneWithError"
+        })
+    }
+
+    /// A step of the transaction, by its table.
+    fn step(&mut self, alloc: Global, ask: &Ask) -> Result<Told, AllocError> {
+        let (needs, refusal, next) = match ask.kind {
+            Kind::Begin => ("normal", 12, "transaction"),
+            Kind::Edit => ("transaction", 13, "transaction"),
+            Kind::Verify => ("transaction", 13, "verify"),
+            Kind::Check => ("verify", 15, "done"),
+            Kind::Commit => ("done", 16, "normal"),
+            Kind::Reopen => ("done", 16, "transaction"),
+            _ => ("any", 13, "normal"),
+        };
+        let is_abandoned = needs == "any" && self.state != "normal";
+        if needs != self.state && !is_abandoned {
+            return refused(alloc, refusal);
+        }
+        if needs != "normal" && needs != "any" && self.owner != ask.clerk {
+            return refused(alloc, 14);
+        }
+        match ask.kind {
+            Kind::Begin => {
+                self.owner = ask.clerk;
+                self.draft = self.plan;
+            }
+            Kind::Edit => edit(&mut self.draft, ask.text),
+            Kind::Commit => {
+                let count = judge_all(alloc, &self.draft)?.count;
+                if count > 0 {
+                    let body = format!(in alloc;
+                        r#"{{"count":{count},"error":"VerifyFailed","number":17}}"#
+                    )?;
+                    return Ok(Told { number: 17, body });
+                }
+                self.plan = self.draft;
+                self.revision = self.revision.saturating_add(1);
+            }
+            _ => {}
+        }
+        self.state = next;
+        let (revision, verdict) = (self.revision, self.verdict(alloc)?);
+        done(format!(in alloc;
+            r#"{{"revision":{revision},"state":"{next}","verify":"{verdict}"}}"#
+        )?)
+    }
+
+    fn show_state(&self, alloc: Global) -> Result<Told, AllocError> {
+        let (id, name, revision, state) = (self.id, self.name, self.revision, self.state);
+        let (rows, verdict, owner) = (count(&self.plan), self.verdict(alloc)?, self.owner);
+        let owner = match state {
+            "normal" => String::from_str(alloc, "null")?,
+            _ => format!(in alloc; "\"{owner}\"")?,
+        };
+        let owner = owner.as_str();
+        done(format!(in alloc;
+            r#"{{"id":{id},"interval":365,"name":"{name}","owner":{owner},"revision":{revision},"rows":{rows},"state":"{state}","verify":"{verdict}"}}"#
+        )?)
+    }
+
+    fn show_timing(&self, alloc: Global) -> Result<Told, AllocError> {
+        let rows = show(alloc, &self.plan)?;
+        let (revision, rows) = (self.revision, rows.as_str());
+        done(format!(in alloc; r#"{{"revision":{revision},"rows":[{rows}]}}"#)?)
+    }
+
+    fn show_draft(&self, alloc: Global) -> Result<Told, AllocError> {
+        if self.state == "normal" {
+            return refused(alloc, 13);
+        }
+        let broken = judge_all(alloc, &self.draft)?;
+        let rows = show(alloc, &self.draft)?;
+        let (owner, rows, violations) = (self.owner, rows.as_str(), broken.text.as_str());
+        done(format!(in alloc;
+            r#"{{"owner":"{owner}","rows":[{rows}],"violations":[{violations}]}}"#
+        )?)
+    }
+}
+
+impl Slow {
+    /// An office without an intersection.
+    pub(crate) fn new(alloc: Global) -> Slow {
+        Slow {
+            intersections: Vec::new(alloc),
+            records: Vec::new(alloc),
+        }
+    }
+
+    fn find(&mut self, id: u32) -> Option<&mut Intersection> {
+        self.intersections.iter_mut().find(|one| one.id == id)
+    }
+
+    fn add(&mut self, alloc: Global, ask: &Ask) -> Result<Told, AllocError> {
+        if let Some(one) = self.find(ask.id) {
+            let is_one = one.name == ask.text;
+            return recorded(alloc, if is_one { Ok(false) } else { Err(11) });
+        }
+        self.intersections.push(Intersection {
+            id: ask.id,
+            name: ask.text,
+            revision: 0,
+            plan: [""; 12],
+            state: "normal",
+            owner: "",
+            draft: [""; 12],
+        })?;
+        recorded(alloc, Ok(true))
+    }
+
+    /// Records something, of an intersection that must be there.
+    fn record(&mut self, ask: &Ask) -> Result<Result<bool, usize>, AllocError> {
+        if ask.kind != Kind::Receive && self.find(ask.id).is_none() {
+            return Ok(Err(10));
+        }
+        let outcome = register::outcome(&self.records, ask);
+        if matches!(&outcome, Ok(true)) {
+            self.records.push(*ask)?;
+        }
+        Ok(outcome)
+    }
+
+    /// Records all, or nothing where one is refused.
+    fn import(&mut self, alloc: Global, records: &[Ask]) -> Result<Told, AllocError> {
+        let before = self.records.len();
+        for (at, ask) in records.iter().enumerate() {
+            let outcome = self.record(ask)?;
+            if let Err(cause) = outcome {
+                self.records.truncate(before);
+                let record = at.saturating_add(1);
+                let body = format!(in alloc;
+                    r#"{{"cause":{cause},"error":"ImportRow","number":30,"record":{record}}}"#
+                )?;
+                return Ok(Told { number: 30, body });
+            }
+        }
+        let added = self.records.len().saturating_sub(before);
+        let same = records.len().saturating_sub(added);
+        done(format!(in alloc; r#"{{"added":{added},"same":{same}}}"#)?)
+    }
+
+    fn show_overdue(&mut self, alloc: Global, day: &str) -> Result<Told, AllocError> {
+        let mut overdue = String::new(alloc);
+        for id in NUMBERS {
+            let due = register::due(&self.records, id);
+            let Some(one) = self.find(id) else {
+                continue;
+            };
+            let name = one.name;
+            let due = match due {
+                Some(due) if due >= day => continue,
+                Some(due) => format!(in alloc; "\"{due}\"")?,
+                None => String::from_str(alloc, "null")?,
+            };
+            let due = due.as_str();
+            let item = format!(in alloc; r#"{{"due":{due},"id":{id},"name":"{name}"}}"#)?;
+            add(&mut overdue, item.as_str())?;
+        }
+        let overdue = overdue.as_str();
+        done(format!(in alloc; r#"{{"overdue":[{overdue}]}}"#)?)
+    }
+
+    /// Runs a command. An import makes these records.
+    pub(crate) fn run(
+        &mut self,
+        alloc: Global,
+        ask: &Ask,
+        records: &[Ask],
+    ) -> Result<Told, AllocError> {
+        match ask.kind {
+            Kind::Add => return self.add(alloc, ask),
+            Kind::Import => return self.import(alloc, records),
+            Kind::Stock => return done(register::show_stock(alloc, &self.records)?),
+            Kind::Overdue => return self.show_overdue(alloc, ask.day),
+            Kind::Inspect | Kind::Order | Kind::Use | Kind::Close | Kind::Receive => {
+                let outcome = self.record(ask)?;
+                return recorded(alloc, outcome);
+            }
+            _ => {}
+        }
+        let cabinet = register::show(alloc, &self.records, ask.id)?;
+        let open = register::show_open(alloc, &self.records, ask.id)?;
+        match (self.find(ask.id), ask.kind) {
+            (None, _) => refused(alloc, 10),
+            (Some(one), Kind::State) => one.show_state(alloc),
+            (Some(one), Kind::Timing) => one.show_timing(alloc),
+            (Some(one), Kind::Draft) => one.show_draft(alloc),
+            (Some(_), Kind::Cabinet) => done(cabinet),
+            (Some(_), Kind::OpenOrders) => done(open),
+            (Some(one), _) => one.step(alloc, ask),
+        }
+    }
+}

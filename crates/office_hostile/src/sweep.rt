@@ -1,0 +1,93 @@
+//! Drawn commands, each answered as the slow office answers it.
+
+use crate::slow::asking::{Dice, WORDS};
+use crate::slow::office::Slow;
+use office_desk::office::Office;
+use office_tables_shelf::shelf::Shelf;
+use office_trials::talking::{answer, told_answer};
+use office_trials::trouble::{Trouble, compare};
+use std::alloc::{AllocError, Global};
+
+/// How many commands are drawn.
+const DRAWN: u32 = 2_000;
+
+/// The slow office, and how often each command was drawn and each refusal came, by its number.
+#[derive(Drop)]
+struct Sweep {
+    slow: Slow,
+    commands: [u32; 21],
+    refusals: [u32; 31],
+}
+
+/// Counts one more.
+fn count(counts: &mut [u32], at: usize) {
+    if let Some(n) = counts.get_mut(at) {
+        *n = n.saturating_add(1);
+    }
+}
+
+impl Sweep {
+    /// Draws a command, sends it, and compares the answer.
+    fn draw<S: Shelf>(
+        &mut self,
+        alloc: Global,
+        dice: &mut Dice,
+        office: &mut Office<S>,
+    ) -> Result<(), Trouble> {
+        let ask = dice.command();
+        let records = [dice.record(), dice.record()];
+        let told = self.slow.run(alloc, &ask, &records)?;
+        count(&mut self.commands, ask.kind as usize);
+        count(&mut self.refusals, told.number);
+        let status = match told.number {
+            0 => "200 OK",
+            10 | 22 => "404 Not Found",
+            _ => "409 Conflict",
+        };
+        let wanted = told_answer(alloc, status, told.body.as_str())?;
+        let path = ask.path(alloc)?;
+        let body = ask.body(alloc, &records)?;
+        let method = if body.is_empty() { "GET" } else { "POST" };
+        let came = answer(alloc, office, (method, path.as_str(), body.as_str()))?;
+        compare(alloc, "a drawn command", wanted.as_bytes(), &came)
+    }
+
+    /// Each command and each refusal with its count, and whether none is missing: 18 need not
+    /// come, and 19 is none.
+    fn tally(&self, alloc: Global) -> Result<(String, bool), AllocError> {
+        let mut text = String::new(alloc);
+        let mut is_full = true;
+        for ((_, name, _), n) in WORDS.iter().zip(&self.commands) {
+            let one = format!(in alloc; " {name} {n}")?;
+            text.push_str(one.as_str())?;
+            is_full &= *n > 0;
+        }
+        for (number, n) in self.refusals.iter().enumerate().skip(10) {
+            if number != 18 && number != 19 {
+                let one = format!(in alloc; " {number}: {n}")?;
+                text.push_str(one.as_str())?;
+                is_full &= *n > 0;
+            }
+        }
+        Ok((text, is_full))
+    }
+}
+
+/// Sends drawn commands to a new office, each as a request, compares each answer, and tells how
+/// often each command was drawn and each refusal came.
+pub(crate) fn draw_all<S: Shelf>(alloc: Global, office: &mut Office<S>) -> Result<String, Trouble> {
+    let mut sweep = Sweep {
+        slow: Slow::new(alloc),
+        commands: [0; 21],
+        refusals: [0; 31],
+    };
+    let mut dice = Dice { state: 149 };
+    for _ in 0..DRAWN {
+        sweep.draw(alloc, &mut dice, office)?;
+    }
+    let (tally, is_full) = sweep.tally(alloc)?;
+    if !is_full {
+        return Err(Trouble::wrong(alloc, "what was drawn", b"all", tally.as_bytes()));
+    }
+    Ok(tally)
+}

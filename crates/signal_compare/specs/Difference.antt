@@ -1,0 +1,50 @@
+-- What two timing sets differ in.
+use Rattle.std.specs.Prelude.{◌≡◌, ◌≢◌, ◌↔◌, List, map, Option, Some, None, IsSome}
+use Rattle.std.specs.FinMap.{find, get}
+use Rattle.signal_records.specs.declared.key.Key.{Key}
+use Rattle.signal_records.specs.declared.record.Row.{Row}
+use Rattle.signal_records.specs.declared.record.Change.{Change}
+use Rattle.signal_records.specs.declared.record.Change.TheVariants.{Put, Remove}
+use Rattle.signal_records.specs.Key.{key_cmp}
+use Rattle.signal_records.specs.Row.{key_of}
+use Rattle.signal_records.specs.TimingSet.{Rows}
+use Rattle.signal_compare.specs.declared.difference.Difference.{Difference}
+use Rattle.signal_compare.specs.declared.difference.Difference.TheVariants.{Added, Removed, Changed}
+
+-- the key at which the sets differ
+abbrev pub place_of : Difference → Key
+place_of (Added row) = key_of row
+place_of (Removed row) = key_of row
+place_of (Changed before after) = key_of after
+
+-- the change that makes the second set's row of the first set's one
+abbrev pub change_of : Difference → Change
+change_of (Added row) = Put row
+change_of (Removed row) = Remove (key_of row)
+change_of (Changed before after) = Put after
+
+abbrev pub changes_of : List Difference → List Change
+changes_of differences = map change_of differences
+
+-- the difference at a key, if there is one
+abbrev pub difference_at : Key → List Difference → Option Difference
+difference_at key differences = find key_cmp key (map (λ d. (place_of d, d)) differences)
+
+-- what two sets have under a key, and what is told of it: nothing where that is the same, and else
+-- what stands there
+abbrev pub Explains : Option Row → Option Row → Option Difference → Type 0
+Explains first second None = first ≡ second
+Explains first second (Some (Added row)) = (first ≡ None) × (second ≡ Some row)
+Explains first second (Some (Removed row)) = (first ≡ Some row) × (second ≡ None)
+Explains first second (Some (Changed before after)) =
+    (first ≡ Some before) × (second ≡ Some after) × (before ≢ after)
+
+-- a key has a difference exactly where the sets have different rows under it
+abbrev pub ExactlyWhereTheyDiffer : Rows → Rows → List Difference → Type 0
+ExactlyWhereTheyDiffer first second differences =
+    (key : Key) → IsSome (difference_at key differences) ↔ (get first key ≢ get second key)
+
+-- at each key, what is told is what stands there
+abbrev pub EachKeyExplained : Rows → Rows → List Difference → Type 0
+EachKeyExplained first second differences =
+    (key : Key) → Explains (get first key) (get second key) (difference_at key differences)

@@ -1,0 +1,3 @@
+pub mod FewPhases
+pub mod FewRings
+pub mod Seconds

@@ -1,0 +1,10 @@
+use Rattle.std.proofs.Common.{◌≡◌, is_some, filter}
+use Rattle.std.specs.List.{list_all}
+use Rattle.signal_rules.specs.Lookup.{phase_at, split_at}
+use Rattle.signal_rules.specs.PatternRules.{has_splits}
+use Rattle.signal_diagram.proofs.rows.has_splits.Given as goal
+
+abbrev pub invariant-loop-p : goal.invariant-loop-p
+invariant-loop-p l =
+    list_all (λ p. is_some (split_at l.set l.n p)) (filter (λ p. is_some
+    (phase_at l.set p)) l.p-iterator) ≡ has_splits l.set l.n

@@ -1,0 +1,7 @@
+use Rattle.std.proofs.Common.{◌≡◌, ◌≤◌, length, ◌∙◌, sym}
+use Rattle.signal_diagram.proofs.FewPhases.{few_phases}
+use Rattle.signal_diagram.proofs.rows.row_of.Goals as goal
+
+pub returns-in-Some-Seq-clause-short : goal.returns-in-Some-Seq-clause-short
+returns-in-Some-Seq-clause-short c =
+    rw c.as_slice.ensures.phases (few_phases _ c.as_slice.ensures.kept)

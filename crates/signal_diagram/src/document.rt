@@ -1,0 +1,92 @@
+//! The diagram of a pattern.
+
+ghost use Rattle.std.specs.Prelude.{◌≡◌, ◌++◌, ◌≤◌, ◌↔◌, OnOk, IfOk, IfSome, IsSome, IsUtf8};
+ghost use Rattle.std.specs.Prelude.{length, string_bytes};
+ghost use Rattle.signal_rules.specs.Lookup.{pattern_at};
+ghost use Rattle.signal_diagram.specs.Geometry.{shown_seconds};
+ghost use Rattle.signal_diagram.specs.Diagram.{opening, body, picture, diagram_text};
+
+use crate::barriers::push_barriers;
+use crate::geometry::{height_of, top_of, width_of};
+use crate::lanes::push_lanes;
+use crate::notes::push_head;
+use crate::rows::{longest_of, rings_of};
+use crate::scale::push_scale;
+use signal_records::{NoMemory, Pattern, PatternNo, RingNo, TimingSet};
+use signal_rules::pattern_at;
+use std::alloc::{AllocError, Global};
+use std::fmt::Write;
+
+/// Appends the opening of a picture of so many units, and its white ground.
+fn push_opening(text: &mut String, width: u32, height: u32) -> Result<(), AllocError>
+    ensures { OnOk result (string_bytes text.new ≡ string_bytes text.old ++ opening width height) }
+{
+    write!(
+        text,
+        "<svg xmlns='http://www.w3.org/2000/svg' width='260mm' height='180mm' \
+         viewBox='0 0 {width} {height}' preserveAspectRatio='xMidYMin' \
+         font-family='sans-serif' font-size='20'>\n\
+         <rect width='100%' height='100%' fill='white'/>\n"
+    )
+}
+
+/// Appends the lanes of the rings with their barriers and the scale.
+#[tactic(auto, unfolding(crate::specs::Diagram::body))]
+fn push_body(
+    text: &mut String,
+    set: &TimingSet,
+    pattern: &Pattern,
+    rings: &[RingNo],
+    seconds: u32,
+) -> Result<(), AllocError>
+    requires few { length rings.now ≤ 8 }
+    requires shown { seconds ≡ shown_seconds set.now pattern.now }
+    requires small { seconds ≤ 9000 }
+    ensures { OnOk result (string_bytes text.new ≡ string_bytes text.old ++ body set.now pattern.now rings.now) }
+{
+    push_lanes(text, set, pattern, rings)?;
+    push_barriers(text, set, pattern, rings)?;
+    push_scale(text, top_of(rings.len() as u32), seconds)
+}
+
+/// The picture of a pattern.
+fn picture(
+    alloc: Global,
+    set: &TimingSet,
+    n: PatternNo,
+    pattern: &Pattern,
+) -> Result<String, NoMemory>
+    ensures { IfOk result (λ text. string_bytes text ≡ picture set.now n pattern.now) }
+{
+    let rings = rings_of(alloc, set)?;
+    let seconds = longest_of(set, pattern, &rings);
+    let mut text = String::new(alloc);
+    push_opening(&mut text, width_of(seconds), height_of(rings.len() as u32))?;
+    push_head(&mut text, set, n, pattern, &rings)?;
+    push_body(&mut text, set, pattern, &rings, seconds)?;
+    text.push_str("</svg>\n")?;
+    Ok(text)
+}
+
+/// The diagram of a pattern: its rings and barriers as an SVG text, in ASCII, which prints on one
+/// page, landscape. Nothing, where the set has no such pattern.
+///
+/// Each ring that is used has a lane with its phases in the order of the pattern's sequence, each
+/// as long as its split time. A phase shows its number and seconds (a star and a thick edge where
+/// it is coordinated), a lead before its green, yellow and red at its end, and below it walk and
+/// clearance. A line stands over all lanes where all rings change phase together, and at the end
+/// of the cycle; a scale has a tick each 10 seconds. Where the pattern breaks V9 or V12, the
+/// picture says so and its lanes end where they end.
+pub fn diagram(
+    alloc: Global,
+    set: &TimingSet,
+    number: PatternNo,
+) -> Result<Option<Vec<u8>>, NoMemory>
+    ensures found { IfOk result (λ shown. IsSome shown ↔ IsSome (pattern_at set.now number)) }
+    ensures text { IfOk result (λ shown. IfSome shown (λ text. text.items ≡ diagram_text set.now number)) }
+{
+    match pattern_at(set, number) {
+        Some(pattern) => Ok(Some(picture(alloc, set, number, &pattern)?.into_bytes())),
+        None => Ok(None),
+    }
+}

@@ -1,0 +1,26 @@
+-- What a command of the program makes of what the office answers.
+use Rattle.std.specs.Prelude.{◌≡◌, ◌≢◌, ◌⊎◌, ℕ, List, [], ◌∷◌, Result, Ok, Err}
+use Rattle.office_tables_shelf.specs.Content.{Content}
+use Rattle.office_desk.specs.Answers.{AnswersAny, RunsAny}
+use Rattle.office_desk.specs.declared.command.Command.{Command}
+use Rattle.office_desk.specs.declared.reply.Reply.{Reply}
+use Rattle.signal_office_reports.specs.declared.fault.Fault.{Fault}
+use Rattle.signal_office_reports.specs.declared.fault.Fault.TheVariants as told
+
+-- the office answered one command, and this is made of its reply
+pub record Answered {A : Type 0} (made : Reply → Result A Fault) (old : Content) (command : Command) (new : Content)
+    (result : Result A Fault) : Type 0 where
+  pub reply : Reply
+  pub step : AnswersAny old command reply new
+  pub made_is : result ≡ made reply
+
+-- the office ran commands in turn, and this is made of their replies
+pub record Ran {A : Type 0} (made : List Reply → Result A Fault) (old : Content) (commands : List Command) (new : Content)
+    (result : Result A Fault) : Type 0 where
+  pub replies : List Reply
+  pub run : RunsAny old commands replies new
+  pub made_is : result ≡ made replies
+
+-- memory was refused, and nothing was changed
+abbrev pub IsWant : {A : Type 0} → Content → Content → Result A Fault → Type 0
+IsWant old new result = (result ≡ Err told.Memory) × (new ≡ old)

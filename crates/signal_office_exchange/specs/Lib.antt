@@ -1,0 +1,5 @@
+pub mod Asking
+pub mod Editing
+pub mod Exporting
+pub mod Importing
+pub mod Refused

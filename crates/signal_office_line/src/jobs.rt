@@ -1,0 +1,190 @@
+//! What each command asks for, by the values that were found for its arguments.
+
+ghost use Rattle.std.specs.Prelude.{◌≡◌, option_map};
+ghost use Rattle.clap.specs.Matches.{found_of};
+ghost use Rattle.clap.specs.Walk.{rows_of};
+ghost use Rattle.signal_office_line.specs.Job.{asked, batch_at, compare_at, diagram_at, edit_at};
+ghost use Rattle.signal_office_line.specs.Job.{export_at, import_at, job_at, migrate_at, number_at};
+ghost use Rattle.signal_office_line.specs.Job.{overdue_at, serve_at, sheet_at, verify_file_at, view_of};
+
+use crate::job::{Edit, Job, Plan, Plans, View};
+use crate::values::{choice, flag, number, word};
+use clap::ArgMatches;
+use signal_records::{InterId, PatternNo};
+
+/// The number of an intersection.
+fn intersection(matches: &ArgMatches<'_>, id: &str) -> Option<InterId>
+    ensures { result ≡ number_at 9_999 id.now (rows_of (found_of matches.now)) }
+{
+    InterId::new(number(matches, id, 9_999)?)
+}
+
+/// The number of a pattern.
+fn pattern(matches: &ArgMatches<'_>, id: &str) -> Option<PatternNo>
+    ensures { result ≡ number_at 48 id.now (rows_of (found_of matches.now)) }
+{
+    PatternNo::new(number(matches, id, 48)?)
+}
+
+/// `batch [--db FILE]`.
+fn batch<'a>(matches: &ArgMatches<'a>) -> Option<Job<'a>>
+    ensures { option_map asked result ≡ batch_at (rows_of (found_of matches.entry.now)) }
+{
+    let db = word(matches, "db");
+    Some(Job::Batch { db })
+}
+
+/// `serve --port N --count K [--db FILE]`.
+fn serve<'a>(matches: &ArgMatches<'a>) -> Option<Job<'a>>
+    ensures { option_map asked result ≡ serve_at (rows_of (found_of matches.entry.now)) }
+{
+    let port = number(matches, "port", 65_535)? as u16;
+    let count = number(matches, "count", 1_000_000)?;
+    let db = word(matches, "db");
+    Some(Job::Serve { port, count, db })
+}
+
+/// `sheet --db FILE ID`.
+fn sheet<'a>(matches: &ArgMatches<'a>) -> Option<Job<'a>>
+    ensures { option_map asked result ≡ sheet_at (rows_of (found_of matches.entry.now)) }
+{
+    let db = word(matches, "db")?;
+    let id = intersection(matches, "ID")?;
+    Some(Job::Sheet { db, id })
+}
+
+/// `overdue --db FILE [--first N] DAY`.
+fn overdue<'a>(matches: &ArgMatches<'a>) -> Option<Job<'a>>
+    ensures { option_map asked result ≡ overdue_at (rows_of (found_of matches.entry.now)) }
+{
+    let db = word(matches, "db")?;
+    let first = choice(matches, "first", 9_999)?;
+    let day = word(matches, "DAY")?;
+    Some(Job::Overdue { db, first, day })
+}
+
+/// `verify-file CSV`.
+fn verify_file<'a>(matches: &ArgMatches<'a>) -> Option<Job<'a>>
+    ensures { option_map asked result ≡ verify_file_at (rows_of (found_of matches.entry.now)) }
+{
+    let csv = word(matches, "CSV")?;
+    Some(Job::VerifyFile { csv })
+}
+
+/// `migrate --db FILE`.
+fn migrate<'a>(matches: &ArgMatches<'a>) -> Option<Job<'a>>
+    ensures { option_map asked result ≡ migrate_at (rows_of (found_of matches.entry.now)) }
+{
+    let db = word(matches, "db")?;
+    Some(Job::Migrate { db })
+}
+
+/// `import --db FILE CSV`.
+fn import<'a>(matches: &ArgMatches<'a>) -> Option<Job<'a>>
+    ensures { option_map asked result ≡ import_at (rows_of (found_of matches.entry.now)) }
+{
+    let db = word(matches, "db")?;
+    let csv = word(matches, "CSV")?;
+    Some(Job::Import { db, csv })
+}
+
+/// What is exported: the committed timing set where no flag asks for something else.
+fn view_of(draft: bool, cabinet: bool) -> Option<View>
+    ensures { result ≡ view_of draft cabinet }
+{
+    match (draft, cabinet) {
+        (false, false) => Some(View::Timing),
+        (true, false) => Some(View::Draft),
+        (false, true) => Some(View::Cabinet),
+        (true, true) => None,
+    }
+}
+
+/// `export --db FILE [--draft] [--cabinet] ID`.
+fn export<'a>(matches: &ArgMatches<'a>) -> Option<Job<'a>>
+    ensures { option_map asked result ≡ export_at (rows_of (found_of matches.entry.now)) }
+{
+    let db = word(matches, "db")?;
+    let id = intersection(matches, "ID")?;
+    let view = view_of(flag(matches, "draft"), flag(matches, "cabinet"))?;
+    Some(Job::Export { db, id, view })
+}
+
+/// `edit --db FILE --clerk NAME [--commit] ID CSV`.
+fn edit<'a>(matches: &ArgMatches<'a>) -> Option<Job<'a>>
+    ensures { option_map asked result ≡ edit_at (rows_of (found_of matches.entry.now)) }
+{
+    let db = word(matches, "db")?;
+    let clerk = word(matches, "clerk")?;
+    let id = intersection(matches, "ID")?;
+    let csv = word(matches, "CSV")?;
+    let commit = flag(matches, "commit");
+    Some(Job::Edit(Edit {
+        db,
+        clerk,
+        id,
+        csv,
+        commit,
+    }))
+}
+
+/// `compare [--csv] PLAN OTHER`, or `compare --db FILE [--csv] ID`.
+fn compare<'a>(matches: &ArgMatches<'a>) -> Option<Job<'a>>
+    ensures { option_map asked result ≡ compare_at (rows_of (found_of matches.entry.now)) }
+{
+    let csv = flag(matches, "csv");
+    match (word(matches, "db"), word(matches, "OTHER")) {
+        (None, Some(second)) => {
+            let first = word(matches, "PLAN")?;
+            let plans = Plans::Files { first, second };
+            Some(Job::Compare { plans, csv })
+        }
+        (Some(db), None) => {
+            let id = intersection(matches, "PLAN")?;
+            let plans = Plans::Draft { db, id };
+            Some(Job::Compare { plans, csv })
+        }
+        _ => None,
+    }
+}
+
+/// `diagram --db FILE ID PATTERN`, or `diagram --file CSV PATTERN`.
+fn diagram<'a>(matches: &ArgMatches<'a>) -> Option<Job<'a>>
+    ensures { option_map asked result ≡ diagram_at (rows_of (found_of matches.entry.now)) }
+{
+    let (db, file) = (word(matches, "db"), word(matches, "file"));
+    match (db, file, word(matches, "PATTERN")) {
+        (Some(db), None, Some(_)) => {
+            let id = intersection(matches, "ID")?;
+            let pattern = pattern(matches, "PATTERN")?;
+            let plan = Plan::Committed { db, id };
+            Some(Job::Diagram { plan, pattern })
+        }
+        (None, Some(csv), None) => {
+            let pattern = pattern(matches, "ID")?;
+            let plan = Plan::File { csv };
+            Some(Job::Diagram { plan, pattern })
+        }
+        _ => None,
+    }
+}
+
+/// What the command of a name asks for, where its values are there and its numbers in their ranges.
+pub(crate) fn job_at<'a>(name: &str, matches: &ArgMatches<'a>) -> Option<Job<'a>>
+    ensures { option_map asked result ≡ job_at name.now (rows_of (found_of matches.entry.now)) }
+{
+    match name {
+        "batch" => batch(matches),
+        "serve" => serve(matches),
+        "sheet" => sheet(matches),
+        "overdue" => overdue(matches),
+        "verify-file" => verify_file(matches),
+        "migrate" => migrate(matches),
+        "import" => import(matches),
+        "export" => export(matches),
+        "edit" => edit(matches),
+        "compare" => compare(matches),
+        "diagram" => diagram(matches),
+        _ => None,
+    }
+}

@@ -1,0 +1,46 @@
+//! The pictures of patterns.
+
+ghost use Rattle.std.specs.Prelude.{IfOk};
+ghost use Rattle.office_tables_shelf.specs.Shelf.{IsKept};
+ghost use Rattle.signal_office_plans.specs.Drawing.{Draws, DrawsFile, DrawsTiming};
+
+use crate::plan::{plan_in, timing_in};
+use office_desk::office::Office;
+use office_tables_shelf::shelf::Shelf;
+use signal_diagram::diagram;
+use signal_office_reports::Fault;
+use signal_records::{InterId, PatternNo, TimingSet};
+use std::alloc::Global;
+
+/// The picture of a pattern, which the plan has to have.
+fn draw(alloc: Global, plan: &TimingSet, pattern: PatternNo) -> Result<Vec<u8>, Fault>
+    ensures { IfOk result (λ text. Draws plan.now pattern text.items) }
+{
+    match diagram(alloc, plan, pattern)? {
+        Some(text) => Ok(text),
+        None => Err(Fault::UnknownPattern),
+    }
+}
+
+/// The picture of a pattern of the plan in a CSV file, or the first bad record.
+pub fn diagram_in(alloc: Global, bytes: &[u8], pattern: PatternNo) -> Result<Vec<u8>, Fault>
+    ensures { IfOk result (λ text. DrawsFile bytes.now pattern text.items) }
+{
+    let plan = plan_in(alloc, bytes)?;
+    draw(alloc, &plan, pattern)
+}
+
+/// The picture of a pattern of an intersection's committed timing set. The office is as it was.
+pub fn diagram_of<S: Shelf>(
+    alloc: Global,
+    office: &mut Office<S>,
+    id: InterId,
+    pattern: PatternNo,
+) -> Result<Vec<u8>, Fault>
+    ensures kept { IsKept S.is_honest S.content S.written S.may_leave office.old office.new }
+    ensures draws { IfOk result (λ text. S.is_honest office.new →
+        DrawsTiming (S.content office.old) id pattern text.items) }
+{
+    let plan = timing_in(alloc, office, id)?;
+    draw(alloc, &plan, pattern)
+}
