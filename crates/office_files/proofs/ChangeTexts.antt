@@ -19,11 +19,18 @@ use Rattle.office_files.proofs.WritingLemmas.{BeginsWithLetter, csv_records-spel
 
 key_texts : (k : Key) → AreTexts (key_spelling k)
 key_texts (key.Phase p) = (IsUtf8-low (codes "phase") refl, (IsUtf8-decimal p, tt))
-key_texts (key.Seq n ring) = (IsUtf8-low (codes "seq") refl, (IsUtf8-decimal n, (IsUtf8-decimal ring, tt)))
-key_texts (key.Split n p) = (IsUtf8-low (codes "split") refl, (IsUtf8-decimal n, (IsUtf8-decimal p, tt)))
+key_texts (key.Seq n ring) = (
+  IsUtf8-low (codes "seq") refl,
+  (IsUtf8-decimal n, (IsUtf8-decimal ring, tt)),
+)
+key_texts (key.Split n p) = (
+  IsUtf8-low (codes "split") refl,
+  (IsUtf8-decimal n, (IsUtf8-decimal p, tt)),
+)
 key_texts (key.Pattern n) = (IsUtf8-low (codes "pattern") refl, (IsUtf8-decimal n, tt))
 
-pub change_texts : (change : Change) → IsChangeWithin current_limits change → AreTexts (change_spelling current_limits change)
+pub change_texts : (change : Change) → IsChangeWithin current_limits change
+    → AreTexts (change_spelling current_limits change)
 change_texts (Put r) within = row_texts r within
 change_texts (Remove k) within = (IsUtf8-low (codes "remove") refl, key_texts k)
 
@@ -31,12 +38,17 @@ begins_with_word : (change : Change) → BeginsWithLetter (change_spelling curre
 begins_with_word (Put r) = begins_with_kind r
 begins_with_word (Remove k) = (omega arith, omega arith)
 
-changes_read_back : (changes : List Change) → AreWithin changes → changes_of (csv_text (spellings changes)) ≡ Ok changes
+changes_read_back : (changes : List Change) → AreWithin changes
+    → changes_of (csv_text (spellings changes)) ≡ Ok changes
 changes_read_back changes within =
-    file_only (change_at current_limits) (change_spelling current_limits) (IsChangeWithin current_limits) change_laws (csv_text (spellings changes)) changes within
+    file_only (change_at current_limits) (change_spelling current_limits)
+    (IsChangeWithin current_limits) change_laws (csv_text (spellings changes)) changes within
     (csv_records-spellings (change_spelling current_limits) begins_with_word changes)
 
 -- the law of a result
-pub given_changes_back : {V E : Type 0} (items : V → List ℕ) (result : Result V E) (changes : List Change) → IfOk result (λ text. items text ≡ csv_text (spellings changes)) → OnOk result (AreWithin changes) → IfOk result (λ text. changes_of (items text) ≡ Ok changes)
-given_changes_back items (Ok text) changes written within = ap changes_of written ∙ changes_read_back changes within
+pub given_changes_back : {V E : Type 0} (items : V → List ℕ) (result : Result V E)
+    (changes : List Change) → IfOk result (λ text. items text ≡ csv_text (spellings changes))
+    → OnOk result (AreWithin changes) → IfOk result (λ text. changes_of (items text) ≡ Ok changes)
+given_changes_back items (Ok text) changes written within =
+    ap changes_of written ∙ changes_read_back changes within
 given_changes_back items (Err e) changes written within = tt

@@ -1,5 +1,7 @@
 -- A row before all others, or two of one key, and the differences of the rows after them.
-use Rattle.std.proofs.Common.{◌≡◌, ◌≢◌, Bool, true, false, cond, T, List, [], ◌∷◌, ◌++◌, Option, Some, None, get_or, drop, refl, sym, ap, subst, ◌∙◌, append_assoc, append-nil, inl, inr}
+use Rattle.std.proofs.Common.{◌≡◌, ◌≢◌, Bool, true, false, cond, T, List, [], ◌∷◌, ◌++◌, Option}
+use Rattle.std.proofs.Common.{Some, None, get_or, drop, refl, sym, ap, subst, ◌∙◌, append_assoc}
+use Rattle.std.proofs.Common.{append-nil, inl, inr}
 use Rattle.std.specs.Prelude.{◌&&◌}
 use Rattle.std.specs.declared.cmp.Ordering.{Ordering}
 use Rattle.std.specs.declared.cmp.Ordering.TheVariants.{Less, Equal, Greater}
@@ -14,7 +16,8 @@ use Rattle.signal_records.specs.Row.{key_of}
 use Rattle.signal_compare.specs.declared.difference.Difference.{Difference}
 use Rattle.signal_compare.specs.declared.difference.Difference.TheVariants.{Added, Removed, Changed}
 use Rattle.signal_compare.specs.Difference.{difference_at, Explains}
-use Rattle.signal_compare.specs.Merging.{keyed, placed, AreInOrder, AreDifferences, TellsChange, next_order}
+use Rattle.signal_compare.specs.Merging.{keyed, placed, AreInOrder, AreDifferences, TellsChange}
+use Rattle.signal_compare.specs.Merging.{next_order}
 
 pub both : (a b : Bool) → T a → T b → T (a && b)
 both true b p q = q
@@ -33,11 +36,13 @@ pub less : (o : Ordering) → o ≡ Less → T (is_lt o)
 less o e = subst (λ p. T (is_lt p)) (sym e) tt
 
 -- a key below another is below all that the other is below
-pub below_further : {X : Type 0} (k j : Key) (es : List (Key × X)) → key_cmp k j ≡ Less → T (below_all key_cmp j es) → T (below_all key_cmp k es)
+pub below_further : {X : Type 0} (k j : Key) (es : List (Key × X)) → key_cmp k j ≡ Less
+    → T (below_all key_cmp j es) → T (below_all key_cmp k es)
 below_further k j [] low h = tt
 below_further k j (e ∷ es) low h =
     let each = parts (is_lt (key_cmp j e.0)) (below_all key_cmp j es) h in
-    both _ _ (less _ (key_total.trans k j e.0 low (is_less _ each.0))) (below_further k j es low each.1)
+    both _ _ (less _ (key_total.trans k j e.0 low (is_less _ each.0)))
+    (below_further k j es low each.1)
 
 not_equal : (o : Ordering) → T (is_lt o) → is_eq o ≡ false
 not_equal Less h = refl
@@ -45,7 +50,8 @@ not_equal Equal h = absurd h
 not_equal Greater h = absurd h
 
 -- a key below all others isn't there
-pub not_found : {X : Type 0} (k : Key) (es : List (Key × X)) → T (below_all key_cmp k es) → find key_cmp k es ≡ None
+pub not_found : {X : Type 0} (k : Key) (es : List (Key × X)) → T (below_all key_cmp k es)
+    → find key_cmp k es ≡ None
 not_found k [] h = refl
 not_found k (e ∷ es) h =
     let low = parts (is_lt (key_cmp k e.0)) (below_all key_cmp k es) h in
@@ -60,55 +66,80 @@ same_key q k e =
     ] refl e
 
 -- the same, where the key is given as another one
-pub found_nowhere : {X : Type 0} (q k : Key) (es : List (Key × X)) → is_eq (key_cmp q k) ≡ true → T (below_all key_cmp k es) → find key_cmp q es ≡ None
+pub found_nowhere : {X : Type 0} (q k : Key) (es : List (Key × X)) → is_eq (key_cmp q k) ≡ true
+    → T (below_all key_cmp k es) → find key_cmp q es ≡ None
 found_nowhere q k es e low = ap (λ j. find key_cmp j es) (same_key q k e) ∙ not_found k es low
 
 -- a row that only the first list has
-explains_removed : (t : Bool) (row : Row) (first second : Option Row) (rest : Option Difference) → (t ≡ true → second ≡ None) → Explains first second rest → Explains (cond t (Some row) first) second (cond t (Some (Removed row)) rest)
+explains_removed : (t : Bool) (row : Row) (first second : Option Row) (rest : Option Difference)
+    → (t ≡ true → second ≡ None) → Explains first second rest
+    → Explains (cond t (Some row) first) second (cond t (Some (Removed row)) rest)
 explains_removed true row first second rest none told = (refl, none refl)
 explains_removed false row first second rest none told = told
 
-explains_added : (t : Bool) (row : Row) (first second : Option Row) (rest : Option Difference) → (t ≡ true → first ≡ None) → Explains first second rest → Explains first (cond t (Some row) second) (cond t (Some (Added row)) rest)
+explains_added : (t : Bool) (row : Row) (first second : Option Row) (rest : Option Difference)
+    → (t ≡ true → first ≡ None) → Explains first second rest
+    → Explains first (cond t (Some row) second) (cond t (Some (Added row)) rest)
 explains_added true row first second rest none told = (none refl, refl)
 explains_added false row first second rest none told = told
 
-explains_changed : (t : Bool) (before after : Row) (first second : Option Row) (rest : Option Difference) → before ≢ after → Explains first second rest → Explains (cond t (Some before) first) (cond t (Some after) second) (cond t (Some (Changed before after)) rest)
+explains_changed : (t : Bool) (before after : Row) (first second : Option Row)
+    (rest : Option Difference) → before ≢ after → Explains first second rest
+    → Explains (cond t (Some before) first) (cond t (Some after) second)
+    (cond t (Some (Changed before after)) rest)
 explains_changed true before after first second rest differ told = (refl, refl, differ)
 explains_changed false before after first second rest differ told = told
 
-explains_same : (t : Bool) (row : Row) (first second : Option Row) (rest : Option Difference) → (t ≡ true → rest ≡ None) → Explains first second rest → Explains (cond t (Some row) first) (cond t (Some row) second) rest
-explains_same true row first second rest none told = subst (Explains (Some row) (Some row)) (sym (none refl)) refl
+explains_same : (t : Bool) (row : Row) (first second : Option Row) (rest : Option Difference)
+    → (t ≡ true → rest ≡ None) → Explains first second rest
+    → Explains (cond t (Some row) first) (cond t (Some row) second) rest
+explains_same true row first second rest none told =
+    subst (Explains (Some row) (Some row)) (sym (none refl)) refl
 explains_same false row first second rest none told = told
 
 pub nothing_left : AreDifferences [] [] []
 nothing_left = record { sorted = tt; explained = λ key. refl; above = λ key one other. tt }
 
-pub removed_first : (a : Row) (first second : List Row) (rest : List Difference) → AreInOrder (a ∷ first) → T (below_all key_cmp (key_of a) (keyed second)) → AreDifferences first second rest → AreDifferences (a ∷ first) second (Removed a ∷ rest)
+pub removed_first : (a : Row) (first second : List Row) (rest : List Difference)
+    → AreInOrder (a ∷ first) → T (below_all key_cmp (key_of a) (keyed second))
+    → AreDifferences first second rest → AreDifferences (a ∷ first) second (Removed a ∷ rest)
 removed_first a first second rest order low are =
     let own = parts (below_all key_cmp (key_of a) (keyed first)) _ order in
     record {
       sorted = both _ _ (are.above (key_of a) own.0 low) are.sorted;
-      explained = λ key. explains_removed (is_eq (key_cmp key (key_of a))) a _ _ _ (λ e. found_nowhere key (key_of a) (keyed second) e low) (are.explained key);
-      above = λ key one other. let here = parts (is_lt (key_cmp key (key_of a))) _ one in both _ _ here.0 (are.above key here.1 other);
+      explained = λ key. explains_removed (is_eq (key_cmp key (key_of a))) a _ _ _
+          (λ e. found_nowhere key (key_of a) (keyed second) e low) (are.explained key);
+      above = λ key one other. let here = parts (is_lt (key_cmp key (key_of a))) _ one in both _ _
+          here.0 (are.above key here.1 other);
     }
 
-pub added_first : (b : Row) (first second : List Row) (rest : List Difference) → AreInOrder (b ∷ second) → T (below_all key_cmp (key_of b) (keyed first)) → AreDifferences first second rest → AreDifferences first (b ∷ second) (Added b ∷ rest)
+pub added_first : (b : Row) (first second : List Row) (rest : List Difference)
+    → AreInOrder (b ∷ second) → T (below_all key_cmp (key_of b) (keyed first))
+    → AreDifferences first second rest → AreDifferences first (b ∷ second) (Added b ∷ rest)
 added_first b first second rest order low are =
     let own = parts (below_all key_cmp (key_of b) (keyed second)) _ order in
     record {
       sorted = both _ _ (are.above (key_of b) low own.0) are.sorted;
-      explained = λ key. explains_added (is_eq (key_cmp key (key_of b))) b _ _ _ (λ e. found_nowhere key (key_of b) (keyed first) e low) (are.explained key);
-      above = λ key one other. let here = parts (is_lt (key_cmp key (key_of b))) _ other in both _ _ here.0 (are.above key one here.1);
+      explained = λ key. explains_added (is_eq (key_cmp key (key_of b))) b _ _ _
+          (λ e. found_nowhere key (key_of b) (keyed first) e low) (are.explained key);
+      above = λ key one other. let here = parts (is_lt (key_cmp key (key_of b))) _ other in both _ _
+          here.0 (are.above key one here.1);
     }
 
-pub changed_first : (a b : Row) (first second : List Row) (rest : List Difference) → key_of a ≡ key_of b → a ≢ b → AreInOrder (a ∷ first) → AreInOrder (b ∷ second) → AreDifferences first second rest → AreDifferences (a ∷ first) (b ∷ second) (Changed a b ∷ rest)
+pub changed_first : (a b : Row) (first second : List Row) (rest : List Difference)
+    → key_of a ≡ key_of b → a ≢ b → AreInOrder (a ∷ first) → AreInOrder (b ∷ second)
+    → AreDifferences first second rest → AreDifferences (a ∷ first) (b ∷ second)
+    (Changed a b ∷ rest)
 changed_first a b first second rest same differ order_a order_b are =
     let own_a = parts (below_all key_cmp (key_of a) (keyed first)) _ order_a in
     let own_b = parts (below_all key_cmp (key_of b) (keyed second)) _ order_b in
     record {
-      sorted = both _ _ (are.above (key_of b) (subst (λ k. T (below_all key_cmp k (keyed first))) same own_a.0) own_b.0) are.sorted;
+      sorted = both _ _ (are.above (key_of b) (subst (λ k. T (below_all key_cmp k (keyed first)))
+          same own_a.0) own_b.0) are.sorted;
       explained = λ key.
-          subst (λ k. Explains (cond (is_eq (key_cmp key k)) (Some a) (find key_cmp key (keyed first))) (find key_cmp key (keyed (b ∷ second))) (difference_at key (Changed a b ∷ rest))) (sym same)
+          subst (λ k. Explains (cond (is_eq (key_cmp key k)) (Some a)
+          (find key_cmp key (keyed first))) (find key_cmp key (keyed (b ∷ second)))
+          (difference_at key (Changed a b ∷ rest))) (sym same)
           (explains_changed (is_eq (key_cmp key (key_of b))) a b _ _ _ differ (are.explained key));
       above = λ key one other.
           let here_a = parts (is_lt (key_cmp key (key_of a))) _ one in
@@ -116,13 +147,17 @@ changed_first a b first second rest same differ order_a order_b are =
           both _ _ here_b.0 (are.above key here_a.1 here_b.1);
     }
 
-pub same_first : (a : Row) (first second : List Row) (rest : List Difference) → AreInOrder (a ∷ first) → AreInOrder (a ∷ second) → AreDifferences first second rest → AreDifferences (a ∷ first) (a ∷ second) rest
+pub same_first : (a : Row) (first second : List Row) (rest : List Difference)
+    → AreInOrder (a ∷ first) → AreInOrder (a ∷ second) → AreDifferences first second rest
+    → AreDifferences (a ∷ first) (a ∷ second) rest
 same_first a first second rest order_a order_b are =
     let own_a = parts (below_all key_cmp (key_of a) (keyed first)) _ order_a in
     let own_b = parts (below_all key_cmp (key_of a) (keyed second)) _ order_b in
     record {
       sorted = are.sorted;
-      explained = λ key. explains_same (is_eq (key_cmp key (key_of a))) a _ _ _ (λ e. found_nowhere key (key_of a) (placed rest) e (are.above (key_of a) own_a.0 own_b.0)) (are.explained key);
+      explained = λ key. explains_same (is_eq (key_cmp key (key_of a))) a _ _ _
+          (λ e. found_nowhere key (key_of a) (placed rest) e (are.above (key_of a) own_a.0 own_b.0))
+          (are.explained key);
       above = λ key one other.
           let here_a = parts (is_lt (key_cmp key (key_of a))) _ one in
           let here_b = parts (is_lt (key_cmp key (key_of a))) _ other in
@@ -141,52 +176,96 @@ some_same o p e = cc
 -- what is left, and what comes before it
 abbrev Continues : List Row → List Row → List Row → List Row → List Difference → Type 0
 Continues whole_first whole_second first second old =
-    (rest : List Difference) → AreDifferences first second rest → AreDifferences whole_first whole_second (old ++ rest)
+    (rest : List Difference) → AreDifferences first second rest
+    → AreDifferences whole_first whole_second (old ++ rest)
 
 module _ (whole_first whole_second : List Row) where
-  pub after_less : (first second next : List Row) (row copy : Row) (old new : List Difference) → next_order first second ≡ Some Less → AreInOrder first → AreInOrder second → row ≡ get_or first 0 row → copy ≡ row → next ≡ drop 1 first → new ≡ old ++ Removed copy ∷ [] → Continues whole_first whole_second first second old → Continues whole_first whole_second next second new
-  after_less [] [] next row copy old new less order_a order_b at same after pushed so_far rest are = cc
-  after_less [] (b ∷ second) next row copy old new less order_a order_b at same after pushed so_far rest are = cc
-  after_less (a ∷ first) [] next row copy old new less order_a order_b at same after pushed so_far rest are =
+  pub after_less : (first second next : List Row) (row copy : Row) (old new : List Difference)
+      → next_order first second ≡ Some Less → AreInOrder first → AreInOrder second
+      → row ≡ get_or first 0 row → copy ≡ row → next ≡ drop 1 first → new ≡ old ++ Removed copy ∷ []
+      → Continues whole_first whole_second first second old
+      → Continues whole_first whole_second next second new
+  after_less [] [] next row copy old new less order_a order_b at same after pushed so_far rest are =
+      cc
+  after_less [] (b ∷ second) next row copy old new less order_a order_b at same after pushed so_far
+      rest are = cc
+  after_less (a ∷ first) [] next row copy old new less order_a order_b at same after pushed so_far
+      rest are =
       let one : copy ≡ a = same ∙ at in
-      rw (pushed, append_assoc, one) (so_far (Removed a ∷ rest) (removed_first a first [] rest order_a tt (subst (λ n. AreDifferences n [] rest) after are)))
-  after_less (a ∷ first) (b ∷ second) next row copy old new is_less order_a order_b at same after pushed so_far rest are =
+      rw (pushed, append_assoc, one) (so_far (Removed a ∷ rest)
+      (removed_first a first [] rest order_a tt
+      (subst (λ n. AreDifferences n [] rest) after are)))
+  after_less (a ∷ first) (b ∷ second) next row copy old new is_less order_a order_b at same after
+      pushed so_far rest are =
       let one : copy ≡ a = same ∙ at in
       let lower : key_cmp (key_of a) (key_of b) ≡ Less = some_same _ _ is_less in
-      let low = both _ _ (less _ lower) (below_further (key_of a) (key_of b) (keyed second) lower (parts (below_all key_cmp (key_of b) (keyed second)) _ order_b).0) in
-      rw (pushed, append_assoc, one) (so_far (Removed a ∷ rest) (removed_first a first (b ∷ second) rest order_a low (subst (λ n. AreDifferences n (b ∷ second) rest) after are)))
+      let low = both _ _ (less _ lower) (below_further (key_of a) (key_of b) (keyed second) lower
+      (parts (below_all key_cmp (key_of b) (keyed second)) _ order_b).0) in
+      rw (pushed, append_assoc, one) (so_far (Removed a ∷ rest)
+      (removed_first a first (b ∷ second) rest order_a low
+      (subst (λ n. AreDifferences n (b ∷ second) rest) after are)))
 
-  pub after_greater : (first second next : List Row) (row copy : Row) (old new : List Difference) → next_order first second ≡ Some Greater → AreInOrder first → AreInOrder second → row ≡ get_or second 0 row → copy ≡ row → next ≡ drop 1 second → new ≡ old ++ Added copy ∷ [] → Continues whole_first whole_second first second old → Continues whole_first whole_second first next new
-  after_greater [] [] next row copy old new greater order_a order_b at same after pushed so_far rest are = cc
-  after_greater (a ∷ first) [] next row copy old new greater order_a order_b at same after pushed so_far rest are = cc
-  after_greater [] (b ∷ second) next row copy old new greater order_a order_b at same after pushed so_far rest are =
+  pub after_greater : (first second next : List Row) (row copy : Row) (old new : List Difference)
+      → next_order first second ≡ Some Greater → AreInOrder first → AreInOrder second
+      → row ≡ get_or second 0 row → copy ≡ row → next ≡ drop 1 second → new ≡ old ++ Added copy ∷ []
+      → Continues whole_first whole_second first second old
+      → Continues whole_first whole_second first next new
+  after_greater [] [] next row copy old new greater order_a order_b at same after pushed so_far rest
+      are = cc
+  after_greater (a ∷ first) [] next row copy old new greater order_a order_b at same after pushed
+      so_far rest are = cc
+  after_greater [] (b ∷ second) next row copy old new greater order_a order_b at same after pushed
+      so_far rest are =
       let one : copy ≡ b = same ∙ at in
-      rw (pushed, append_assoc, one) (so_far (Added b ∷ rest) (added_first b [] second rest order_b tt (subst (λ n. AreDifferences [] n rest) after are)))
-  after_greater (a ∷ first) (b ∷ second) next row copy old new greater order_a order_b at same after pushed so_far rest are =
+      rw (pushed, append_assoc, one) (so_far (Added b ∷ rest)
+      (added_first b [] second rest order_b tt
+      (subst (λ n. AreDifferences [] n rest) after are)))
+  after_greater (a ∷ first) (b ∷ second) next row copy old new greater order_a order_b at same after
+      pushed so_far rest are =
       let one : copy ≡ b = same ∙ at in
-      let lower : key_cmp (key_of b) (key_of a) ≡ Less = key_total.antisymm (key_of b) (key_of a) ∙ ap ordering_reverse (some_same _ _ greater) in
-      let low = both _ _ (less _ lower) (below_further (key_of b) (key_of a) (keyed first) lower (parts (below_all key_cmp (key_of a) (keyed first)) _ order_a).0) in
-      rw (pushed, append_assoc, one) (so_far (Added b ∷ rest) (added_first b (a ∷ first) second rest order_b low (subst (λ n. AreDifferences (a ∷ first) n rest) after are)))
+      let lower : key_cmp (key_of b) (key_of a) ≡ Less =
+      key_total.antisymm (key_of b) (key_of a) ∙ ap ordering_reverse (some_same _ _ greater) in
+      let low = both _ _ (less _ lower) (below_further (key_of b) (key_of a) (keyed first) lower
+      (parts (below_all key_cmp (key_of a) (keyed first)) _ order_a).0) in
+      rw (pushed, append_assoc, one) (so_far (Added b ∷ rest)
+      (added_first b (a ∷ first) second rest order_b low
+      (subst (λ n. AreDifferences (a ∷ first) n rest) after are)))
 
-  pub after_equal : (first second next_first next_second : List Row) (a b : Row) (old new : List Difference) → next_order first second ≡ Some Equal → AreInOrder first → AreInOrder second → a ≡ get_or first 0 a → b ≡ get_or second 0 b → next_first ≡ drop 1 first → next_second ≡ drop 1 second → TellsChange a b old new → Continues whole_first whole_second first second old → Continues whole_first whole_second next_first next_second new
-  after_equal [] [] nf ns a b old new equal order_a order_b at_a at_b after_a after_b told so_far rest are = cc
-  after_equal [] (y ∷ second) nf ns a b old new equal order_a order_b at_a at_b after_a after_b told so_far rest are = cc
-  after_equal (x ∷ first) [] nf ns a b old new equal order_a order_b at_a at_b after_a after_b told so_far rest are = cc
-  after_equal (x ∷ first) (y ∷ second) nf ns a b old new equal order_a order_b at_a at_b after_a after_b told so_far rest are =
+  pub after_equal : (first second next_first next_second : List Row) (a b : Row)
+      (old new : List Difference) → next_order first second ≡ Some Equal → AreInOrder first
+      → AreInOrder second → a ≡ get_or first 0 a → b ≡ get_or second 0 b → next_first ≡ drop 1 first
+      → next_second ≡ drop 1 second → TellsChange a b old new
+      → Continues whole_first whole_second first second old
+      → Continues whole_first whole_second next_first next_second new
+  after_equal [] [] nf ns a b old new equal order_a order_b at_a at_b after_a after_b told so_far
+      rest are = cc
+  after_equal [] (y ∷ second) nf ns a b old new equal order_a order_b at_a at_b after_a after_b told
+      so_far rest are = cc
+  after_equal (x ∷ first) [] nf ns a b old new equal order_a order_b at_a at_b after_a after_b told
+      so_far rest are = cc
+  after_equal (x ∷ first) (y ∷ second) nf ns a b old new equal order_a order_b at_a at_b after_a
+      after_b told so_far rest are =
       let left : AreDifferences first second rest = rw (← after_a, ← after_b) are in
       elim told [
         | inl same ↦
             let one : x ≡ y = sym at_a ∙ same.0 ∙ at_b in
-            rw same.1 (so_far rest (subst (λ z. AreDifferences (x ∷ first) (z ∷ second) rest) one (same_first x first second rest order_a (subst (λ z. AreInOrder (z ∷ second)) (sym one) order_b) left)))
+            rw same.1 (so_far rest (subst (λ z. AreDifferences (x ∷ first) (z ∷ second) rest) one
+            (same_first x first second rest order_a
+            (subst (λ z. AreInOrder (z ∷ second)) (sym one) order_b) left)))
         | inr differ ↦
             let other : x ≢ y = λ e. differ.0 (at_a ∙ e ∙ sym at_b) in
             let key : key_of x ≡ key_of y = key_exact (key_of x) (key_of y) (some_same _ _ equal) in
-            rw (differ.1, append_assoc, at_a, at_b) (so_far (Changed x y ∷ rest) (changed_first x y first second rest key other order_a order_b left))
+            rw (differ.1, append_assoc, at_a, at_b)
+            (so_far (Changed x y ∷ rest) (changed_first x y first second rest key other order_a
+            order_b left))
       ]
 
   -- where no row is left
-  pub at_the_end : (first second : List Row) (old : List Difference) → next_order first second ≡ None → Continues whole_first whole_second first second old → AreDifferences whole_first whole_second old
-  at_the_end [] [] old none so_far = subst (AreDifferences whole_first whole_second) (append-nil old) (so_far [] nothing_left)
+  pub at_the_end : (first second : List Row) (old : List Difference)
+      → next_order first second ≡ None → Continues whole_first whole_second first second old
+      → AreDifferences whole_first whole_second old
+  at_the_end [] [] old none so_far = subst (AreDifferences whole_first whole_second)
+      (append-nil old) (so_far [] nothing_left)
   at_the_end [] (b ∷ second) old none so_far = cc
   at_the_end (a ∷ first) [] old none so_far = cc
   at_the_end (a ∷ first) (b ∷ second) old none so_far = cc

@@ -1,11 +1,13 @@
 -- The differences of the rows of two sets are those of the sets.
-use Rattle.std.proofs.Common.{◌≡◌, ◌≢◌, Bool, true, false, cond, T, List, [], ◌∷◌, Option, Some, None, Result, Ok, Err, map, refl, sym, ap, subst, ◌∙◌}
+use Rattle.std.proofs.Common.{◌≡◌, ◌≢◌, Bool, true, false, cond, T, List, [], ◌∷◌, Option, Some}
+use Rattle.std.proofs.Common.{None, Result, Ok, Err, map, refl, sym, ap, subst, ◌∙◌}
 use Rattle.std.specs.Prelude.{◌↔◌, IfOk, IsSome}
 use Rattle.std.specs.Ordering.{is_lt, eq_by_cmp}
 use Rattle.std.specs.List.{AllByRecursion}
 use Rattle.std.specs.List.Sorted.{IsStrictlySortedBy}
 use Rattle.std.specs.declared.cmp.Ordering.TheVariants.{Less}
-use Rattle.std.specs.FinMap.{find, get, entries, entries_sorted, values, get-entries, get-insert, get-remove, same_map}
+use Rattle.std.specs.FinMap.{find, get, entries, entries_sorted, values, get-entries, get-insert}
+use Rattle.std.specs.FinMap.{get-remove, same_map}
 use Rattle.std.specs.FinMap.Entries.{below_all, is_sorted}
 use Rattle.signal_records.specs.declared.key.Key.{Key}
 use Rattle.signal_records.specs.declared.record.Row.{Row}
@@ -15,7 +17,8 @@ use Rattle.signal_records.specs.Row.{key_of}
 use Rattle.signal_records.specs.TimingSet.{Rows, AreKeyed, after_change, after_changes}
 use Rattle.signal_compare.specs.declared.difference.Difference.{Difference}
 use Rattle.signal_compare.specs.declared.difference.Difference.TheVariants.{Added, Removed, Changed}
-use Rattle.signal_compare.specs.Difference.{place_of, change_of, changes_of, difference_at, Explains}
+use Rattle.signal_compare.specs.Difference.{place_of, change_of, changes_of, difference_at}
+use Rattle.signal_compare.specs.Difference.{Explains}
 use Rattle.signal_compare.specs.Merging.{keyed, placed, AreInOrder, AreDifferences}
 use Rattle.signal_compare.proofs.Steps.{parts, is_less, found_nowhere}
 
@@ -33,19 +36,23 @@ keyed_rows : (set : Rows) (rows : List Row) → AreRowsOf set rows → keyed row
 keyed_rows set rows of = ap keyed of.are ∙ keyed_values (entries set) of.stand
 
 pub in_order : (set : Rows) (rows : List Row) → AreRowsOf set rows → AreInOrder rows
-in_order set rows of = subst (λ es. T (is_sorted key_cmp es)) (sym (keyed_rows set rows of)) (entries_sorted set)
+in_order set rows of = subst (λ es. T (is_sorted key_cmp es)) (sym (keyed_rows set rows of))
+    (entries_sorted set)
 
-found : (set : Rows) (rows : List Row) → AreRowsOf set rows → (q : Key) → find key_cmp q (keyed rows) ≡ get set q
+found : (set : Rows) (rows : List Row) → AreRowsOf set rows → (q : Key)
+    → find key_cmp q (keyed rows) ≡ get set q
 found set rows of q = ap (find key_cmp q) (keyed_rows set rows of) ∙ sym (get-entries set q)
 
 -- the keys of the differences ascend
-below_each : (k : Key) (ds : List Difference) → T (below_all key_cmp k (placed ds)) → AllByRecursion (λ j. key_cmp k j ≡ Less) (map place_of ds)
+below_each : (k : Key) (ds : List Difference) → T (below_all key_cmp k (placed ds))
+    → AllByRecursion (λ j. key_cmp k j ≡ Less) (map place_of ds)
 below_each k [] h = tt
 below_each k (d ∷ ds) h =
     let each = parts (is_lt (key_cmp k (place_of d))) _ h in
     (is_less _ each.0, below_each k ds each.1)
 
-ascend : (ds : List Difference) → T (is_sorted key_cmp (placed ds)) → IsStrictlySortedBy key_cmp (map place_of ds)
+ascend : (ds : List Difference) → T (is_sorted key_cmp (placed ds))
+    → IsStrictlySortedBy key_cmp (map place_of ds)
 unfolding IsStrictlySortedBy
 ascend [] h = tt
 ascend (d ∷ ds) h =
@@ -53,11 +60,15 @@ ascend (d ∷ ds) h =
     (below_each (place_of d) ds each.0, ascend ds each.1)
 
 -- where something is told the two differ, and only there
-told_where : (first second : Option Row) (told : Option Difference) → Explains first second told → IsSome told ↔ (first ≢ second)
+told_where : (first second : Option Row) (told : Option Difference) → Explains first second told
+    → IsSome told ↔ (first ≢ second)
 told_where first second None same = (λ e. cc, λ differ. absurd (differ same))
-told_where first second (Some (Added row)) h = (λ e same. let a = h.0 in let b = h.1 in cc, λ differ. refl)
-told_where first second (Some (Removed row)) h = (λ e same. let a = h.0 in let b = h.1 in cc, λ differ. refl)
-told_where first second (Some (Changed before after)) h = (λ e same. h.2 (let a = h.0 in let b = h.1 in cc), λ differ. refl)
+told_where first second (Some (Added row)) h =
+    (λ e same. let a = h.0 in let b = h.1 in cc, λ differ. refl)
+told_where first second (Some (Removed row)) h =
+    (λ e same. let a = h.0 in let b = h.1 in cc, λ differ. refl)
+told_where first second (Some (Changed before after)) h =
+    (λ e same. h.2 (let a = h.0 in let b = h.1 in cc), λ differ. refl)
 
 -- what a key has after its difference was made
 abbrev made : Option Difference → Option Row → Option Row
@@ -66,57 +77,77 @@ made (Some (Added row)) there = Some row
 made (Some (Removed row)) there = None
 made (Some (Changed before after)) there = Some after
 
-made_told : (first second : Option Row) (told : Option Difference) → Explains first second told → made told first ≡ second
+made_told : (first second : Option Row) (told : Option Difference) → Explains first second told
+    → made told first ≡ second
 made_told first second None h = h
 made_told first second (Some (Added row)) h = sym h.1
 made_told first second (Some (Removed row)) h = sym h.1
 made_told first second (Some (Changed before after)) h = sym h.1
 
-after_one : (set : Rows) (d : Difference) (q : Key) → get (after_change set (change_of d)) q ≡ cond (eq_by_cmp key_cmp q (place_of d)) (made (Some d) (get set q)) (get set q)
+after_one : (set : Rows) (d : Difference) (q : Key)
+    → get (after_change set (change_of d)) q ≡ cond (eq_by_cmp key_cmp q (place_of d))
+    (made (Some d) (get set q)) (get set q)
 after_one set (Added row) q = get-insert key_total set (key_of row) row q
 after_one set (Removed row) q = get-remove key_total set (key_of row) q
 after_one set (Changed before after) q = get-insert key_total set (key_of after) after q
 
-first_or_last : (t : Bool) (d : Difference) (later : Option Difference) (there : Option Row) → (t ≡ true → later ≡ None) → made later (cond t (made (Some d) there) there) ≡ made (cond t (Some d) later) there
+first_or_last : (t : Bool) (d : Difference) (later : Option Difference) (there : Option Row)
+    → (t ≡ true → later ≡ None) → made later (cond t (made (Some d) there) there)
+    ≡ made (cond t (Some d) later) there
 first_or_last true (Added row) later there none = rw (none refl) refl
 first_or_last true (Removed row) later there none = rw (none refl) refl
 first_or_last true (Changed before after) later there none = rw (none refl) refl
 first_or_last false d later there none = refl
 
-made_all : (set : Rows) (ds : List Difference) (q : Key) → T (is_sorted key_cmp (placed ds)) → get (after_changes set (changes_of ds)) q ≡ made (difference_at q ds) (get set q)
+made_all : (set : Rows) (ds : List Difference) (q : Key) → T (is_sorted key_cmp (placed ds))
+    → get (after_changes set (changes_of ds)) q ≡ made (difference_at q ds) (get set q)
 made_all set [] q sorted = refl
 made_all set (d ∷ ds) q sorted =
     let each = parts (below_all key_cmp (place_of d) (placed ds)) _ sorted in
-    made_all (after_change set (change_of d)) ds q each.1 ∙ ap (made (difference_at q ds)) (after_one set d q)
-    ∙ first_or_last (eq_by_cmp key_cmp q (place_of d)) d (difference_at q ds) (get set q) (λ e. found_nowhere q (place_of d) (placed ds) e each.0)
+    made_all (after_change set (change_of d)) ds q each.1
+    ∙ ap (made (difference_at q ds)) (after_one set d q)
+    ∙ first_or_last (eq_by_cmp key_cmp q (place_of d)) d (difference_at q ds) (get set q)
+    (λ e. found_nowhere q (place_of d) (placed ds) e each.0)
 
-module _ (first second : Rows) (before after : List Row) (of_first : AreRowsOf first before) (of_second : AreRowsOf second after) (ds : List Difference) (are : AreDifferences before after ds) where
+module _ (first second : Rows) (before after : List Row) (of_first : AreRowsOf first before)
+    (of_second : AreRowsOf second after) (ds : List Difference)
+    (are : AreDifferences before after ds) where
   explained : (q : Key) → Explains (get first q) (get second q) (difference_at q ds)
-  explained q = rw (← found first before of_first q, ← found second after of_second q) (are.explained q)
+  explained q = rw (← found first before of_first q, ← found second after of_second q)
+      (are.explained q)
 
   exact : (q : Key) → IsSome (difference_at q ds) ↔ (get first q ≢ get second q)
   exact q = told_where _ _ (difference_at q ds) (explained q)
 
   makes : after_changes first (changes_of ds) ≡ second
-  makes = same_map key_total key_exact _ _ (λ q. made_all first ds q are.sorted ∙ made_told _ _ (difference_at q ds) (explained q))
+  makes = same_map key_total key_exact _ _ (λ q. made_all first ds q are.sorted
+      ∙ made_told _ _ (difference_at q ds) (explained q))
 
 -- the laws of a result
-module _ {V E : Type 0} (items : V → List Difference) (first second : Rows) (before after : List Row) (of_first : AreRowsOf first before) (of_second : AreRowsOf second after) where
+module _ {V E : Type 0} (items : V → List Difference) (first second : Rows)
+    (before after : List Row) (of_first : AreRowsOf first before)
+    (of_second : AreRowsOf second after) where
   abbrev Compared : Result V E → Type 0
   Compared result = IfOk result (λ v. AreDifferences before after (items v))
 
-  pub given_ascending : (result : Result V E) → Compared result → IfOk result (λ v. IsStrictlySortedBy key_cmp (map place_of (items v)))
+  pub given_ascending : (result : Result V E) → Compared result
+      → IfOk result (λ v. IsStrictlySortedBy key_cmp (map place_of (items v)))
   given_ascending (Ok v) are = ascend (items v) are.sorted
   given_ascending (Err e) are = tt
 
-  pub given_exact : (result : Result V E) → Compared result → IfOk result (λ v. (q : Key) → IsSome (difference_at q (items v)) ↔ (get first q ≢ get second q))
+  pub given_exact : (result : Result V E) → Compared result
+      → IfOk result (λ v. (q : Key) → IsSome (difference_at q (items v))
+      ↔ (get first q ≢ get second q))
   given_exact (Ok v) are = exact first second before after of_first of_second (items v) are
   given_exact (Err e) are = tt
 
-  pub given_explained : (result : Result V E) → Compared result → IfOk result (λ v. (q : Key) → Explains (get first q) (get second q) (difference_at q (items v)))
+  pub given_explained : (result : Result V E) → Compared result
+      → IfOk result (λ v. (q : Key) → Explains (get first q) (get second q)
+      (difference_at q (items v)))
   given_explained (Ok v) are = explained first second before after of_first of_second (items v) are
   given_explained (Err e) are = tt
 
-  pub given_makes : (result : Result V E) → Compared result → IfOk result (λ v. after_changes first (changes_of (items v)) ≡ second)
+  pub given_makes : (result : Result V E) → Compared result
+      → IfOk result (λ v. after_changes first (changes_of (items v)) ≡ second)
   given_makes (Ok v) are = makes first second before after of_first of_second (items v) are
   given_makes (Err e) are = tt

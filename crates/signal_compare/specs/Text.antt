@@ -1,5 +1,6 @@
 -- The differences of two timing sets as a text.
-use Rattle.std.specs.Prelude.{ℕ, if◌then◌else◌, List, [], ◌∷◌, ◌++◌, flat_map, codes, slice_index_or}
+use Rattle.std.specs.Prelude.{ℕ, if◌then◌else◌, List, [], ◌∷◌, ◌++◌, flat_map, codes}
+use Rattle.std.specs.Prelude.{slice_index_or}
 use Rattle.std.specs.Str.{bytes_eq}
 use Rattle.signal_records.specs.declared.key.Key.{Key}
 use Rattle.signal_records.specs.declared.key.Key.TheVariants as key
@@ -43,7 +44,8 @@ front_changes before after =
 abbrev pub ped_changes : List (List ℕ) → List (List ℕ) → List (List ℕ)
 ped_changes before after =
     field_change before after 9 (codes "walk") ++ field_change before after 10 (codes "clear")
-    ++ field_change before after 11 (codes "width") ++ field_change before after 12 (codes "setback")
+    ++ field_change before after 11 (codes "width")
+    ++ field_change before after 12 (codes "setback")
     ++ field_change before after 13 (codes "short") ++ field_change before after 14 (codes "lead")
 
 -- the fields that differ in two rows of a key

@@ -70,7 +70,8 @@ fn push_barriers_within(
     rings: &[RingNo],
 ) -> Result<(), AllocError>
     requires { length rings.now ≤ 8 }
-    ensures { OnOk result (string_bytes text.new ≡ string_bytes text.old ++ barriers_within set.now pattern.now rings.now) }
+    ensures { OnOk result (string_bytes text.new
+        ≡ string_bytes text.old ++ barriers_within set.now pattern.now rings.now) }
 {
     let lanes = rings.len() as u32;
     for second in Cycle::all() {
@@ -90,7 +91,8 @@ pub(crate) fn push_barriers(
     rings: &[RingNo],
 ) -> Result<(), AllocError>
     requires { length rings.now ≤ 8 }
-    ensures { OnOk result (string_bytes text.new ≡ string_bytes text.old ++ barriers set.now pattern.now rings.now) }
+    ensures { OnOk result (string_bytes text.new
+        ≡ string_bytes text.old ++ barriers set.now pattern.now rings.now) }
 {
     push_barriers_within(text, set, pattern, rings)?;
     push_barrier(text, rings.len() as u32, pattern.cycle.get())

@@ -42,7 +42,8 @@ fn push_body(
     requires few { length rings.now ≤ 8 }
     requires shown { seconds ≡ shown_seconds set.now pattern.now }
     requires small { seconds ≤ 9000 }
-    ensures { OnOk result (string_bytes text.new ≡ string_bytes text.old ++ body set.now pattern.now rings.now) }
+    ensures { OnOk result (string_bytes text.new
+        ≡ string_bytes text.old ++ body set.now pattern.now rings.now) }
 {
     push_lanes(text, set, pattern, rings)?;
     push_barriers(text, set, pattern, rings)?;
@@ -83,7 +84,8 @@ pub fn diagram(
     number: PatternNo,
 ) -> Result<Option<Vec<u8>>, NoMemory>
     ensures found { IfOk result (λ shown. IsSome shown ↔ IsSome (pattern_at set.now number)) }
-    ensures text { IfOk result (λ shown. IfSome shown (λ text. text.items ≡ diagram_text set.now number)) }
+    ensures text { IfOk result (λ shown. IfSome shown
+        (λ text. text.items ≡ diagram_text set.now number)) }
 {
     match pattern_at(set, number) {
         Some(pattern) => Ok(Some(picture(alloc, set, number, &pattern)?.into_bytes())),

@@ -33,7 +33,8 @@ pub(crate) fn push_rect(
     fill: &str,
     edge: u32,
 ) -> Result<(), AllocError>
-    ensures { OnOk result (string_bytes text.new ≡ string_bytes text.old ++ rect area fill.now edge) }
+    ensures { OnOk result (string_bytes text.new
+        ≡ string_bytes text.old ++ rect area fill.now edge) }
 {
     let Area {
         x,
@@ -90,7 +91,8 @@ pub(crate) fn close_words(text: &mut String) -> Result<(), AllocError>
 
 /// Appends words that begin at a point.
 pub(crate) fn push_words(text: &mut String, x: u32, y: u32, words: &str) -> Result<(), AllocError>
-    ensures { OnOk result (string_bytes text.new ≡ string_bytes text.old ++ words_at x y words.now) }
+    ensures { OnOk result (string_bytes text.new
+        ≡ string_bytes text.old ++ words_at x y words.now) }
 {
     open_words(text, x, y)?;
     text.push_str(words)?;

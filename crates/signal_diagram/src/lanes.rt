@@ -23,7 +23,8 @@ fn push_lane_phase(
 ) -> Result<(), AllocError>
     requires top { top ≤ 5000 }
     requires start { start ≤ 100000 }
-    ensures { OnOk result (string_bytes text.new ≡ string_bytes text.old ++ lane_phase set.now pattern.now top start p) }
+    ensures { OnOk result (string_bytes text.new
+        ≡ string_bytes text.old ++ lane_phase set.now pattern.now top start p) }
 {
     let split = split_at(set, pattern.split, p);
     let seconds = time_of(split);
@@ -52,7 +53,8 @@ fn push_lane_phases(
 ) -> Result<(), AllocError>
     requires top { top ≤ 5000 }
     requires short { length row.now ≤ 33 }
-    ensures { OnOk result (string_bytes text.new ≡ string_bytes text.old ++ lane_phases set.now pattern.now top 0 row.now) }
+    ensures { OnOk result (string_bytes text.new
+        ≡ string_bytes text.old ++ lane_phases set.now pattern.now top 0 row.now) }
 {
     let mut start: u32 = 0;
     for p in row {
@@ -71,7 +73,8 @@ fn push_lane(
     ring: RingNo,
 ) -> Result<(), AllocError>
     requires { top ≤ 5000 }
-    ensures { OnOk result (string_bytes text.new ≡ string_bytes text.old ++ lane_picture set.now pattern.now top ring) }
+    ensures { OnOk result (string_bytes text.new
+        ≡ string_bytes text.old ++ lane_picture set.now pattern.now top ring) }
 {
     let number = ring.get();
     open_words(text, LABEL_LEFT, top + 40)?;
@@ -88,7 +91,8 @@ pub(crate) fn push_lanes(
     rings: &[RingNo],
 ) -> Result<(), AllocError>
     requires { length rings.now ≤ 8 }
-    ensures { OnOk result (string_bytes text.new ≡ string_bytes text.old ++ lane_pictures set.now pattern.now 0 rings.now) }
+    ensures { OnOk result (string_bytes text.new
+        ≡ string_bytes text.old ++ lane_pictures set.now pattern.now 0 rings.now) }
 {
     let mut index: u32 = 0;
     for ring in rings {

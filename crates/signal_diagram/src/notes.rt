@@ -55,7 +55,8 @@ fn push_note(
     rings: &[RingNo],
 ) -> Result<(), AllocError>
     requires { rings.now ≡ used_rings set.now }
-    ensures { OnOk result (string_bytes text.new ≡ string_bytes text.old ++ note set.now pattern.now) }
+    ensures { OnOk result (string_bytes text.new
+        ≡ string_bytes text.old ++ note set.now pattern.now) }
 {
     if !has_rows(set, pattern) {
         return push_v9(text);
@@ -70,7 +71,8 @@ fn push_note(
 #[tactic(auto, unfolding(crate::specs::Notes::sample))]
 fn push_sample(text: &mut String, x: u32, band: Band, meaning: &str) -> Result<(), AllocError>
     requires { x ≤ 5000 }
-    ensures { OnOk result (string_bytes text.new ≡ string_bytes text.old ++ sample x band meaning.now) }
+    ensures { OnOk result (string_bytes text.new
+        ≡ string_bytes text.old ++ sample x band meaning.now) }
 {
     let area = Area {
         x,
@@ -129,7 +131,8 @@ pub(crate) fn push_head(
     rings: &[RingNo],
 ) -> Result<(), AllocError>
     requires { rings.now ≡ used_rings set.now }
-    ensures { OnOk result (string_bytes text.new ≡ string_bytes text.old ++ head set.now n pattern.now) }
+    ensures { OnOk result (string_bytes text.new
+        ≡ string_bytes text.old ++ head set.now n pattern.now) }
 {
     push_title(text, n, pattern)?;
     push_note(text, set, pattern, rings)?;

@@ -23,7 +23,8 @@ fn push_stretch(
 ) -> Result<(), AllocError>
     requires near { IsNear place }
     requires within { from ≤ place.tenths }
-    ensures { OnOk result (string_bytes text.new ≡ string_bytes text.old ++ stretch place band from to) }
+    ensures { OnOk result (string_bytes text.new
+        ≡ string_bytes text.old ++ stretch place band from to) }
 {
     let width = to.saturating_sub(from);
     if width == 0 {
@@ -41,7 +42,8 @@ fn push_stretch(
 /// Appends yellow and red, the last tenths of a phase.
 fn push_changes(text: &mut String, place: Place, phase: &Phase) -> Result<(), AllocError>
     requires { IsNear place }
-    ensures { OnOk result (string_bytes text.new ≡ string_bytes text.old ++ changes place phase.now) }
+    ensures { OnOk result (string_bytes text.new
+        ≡ string_bytes text.old ++ changes place phase.now) }
 {
     let red = u32::from(phase.red);
     let both = u32::from(phase.yellow) + red;
@@ -89,7 +91,8 @@ fn push_walking_of(text: &mut String, place: Place, ped: Option<Ped>) -> Result<
 /// Appends what the intervals of a phase show.
 fn push_intervals(text: &mut String, place: Place, phase: Option<&Phase>) -> Result<(), AllocError>
     requires { IsNear place }
-    ensures { OnOk result (string_bytes text.new ≡ string_bytes text.old ++ intervals place (option_copied phase.entry)) }
+    ensures { OnOk result (string_bytes text.new
+        ≡ string_bytes text.old ++ intervals place (option_copied phase.entry)) }
 {
     let Some(phase) = phase else {
         return Ok(());
@@ -141,7 +144,8 @@ fn push_phase_words(
     coord: bool,
 ) -> Result<(), AllocError>
     requires { IsNear place }
-    ensures { OnOk result (string_bytes text.new ≡ string_bytes text.old ++ phase_words place p seconds coord) }
+    ensures { OnOk result (string_bytes text.new
+        ≡ string_bytes text.old ++ phase_words place p seconds coord) }
 {
     let p = p.get();
     open_words(text, x_of(place.start) + 8, place.top + 25)?;
@@ -161,7 +165,9 @@ pub(crate) fn push_phase(
     coord: bool,
 ) -> Result<(), AllocError>
     requires { IsNear place }
-    ensures { OnOk result (string_bytes text.new ≡ string_bytes text.old ++ phase_picture place (option_copied phase.entry) p seconds coord) }
+    ensures { OnOk result (string_bytes text.new
+        ≡ string_bytes text.old ++ phase_picture place (option_copied phase.entry) p seconds
+        coord) }
 {
     push_stretch(text, place, Band::Green, 0, place.tenths)?;
     push_intervals(text, place, phase)?;

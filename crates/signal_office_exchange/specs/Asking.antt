@@ -8,14 +8,16 @@ use Rattle.signal_office_reports.specs.declared.fault.Fault.{Fault}
 use Rattle.signal_office_reports.specs.declared.fault.Fault.TheVariants as told
 
 -- the office answered one command, and this is made of its reply
-pub record Answered {A : Type 0} (made : Reply → Result A Fault) (old : Content) (command : Command) (new : Content)
+pub record Answered {A : Type 0} (made : Reply → Result A Fault) (old : Content) (command : Command)
+    (new : Content)
     (result : Result A Fault) : Type 0 where
   pub reply : Reply
   pub step : AnswersAny old command reply new
   pub made_is : result ≡ made reply
 
 -- the office ran commands in turn, and this is made of their replies
-pub record Ran {A : Type 0} (made : List Reply → Result A Fault) (old : Content) (commands : List Command) (new : Content)
+pub record Ran {A : Type 0} (made : List Reply → Result A Fault) (old : Content)
+    (commands : List Command) (new : Content)
     (result : Result A Fault) : Type 0 where
   pub replies : List Reply
   pub run : RunsAny old commands replies new

@@ -1,5 +1,6 @@
 -- A plan's CSV file that edits a draft, and the commit of it.
-use Rattle.std.specs.Prelude.{◌≡◌, ◌⊎◌, ◌&&◌, ◌==◌, ℕ, Bool, true, false, length, List, [], ◌∷◌, Result, Ok, Err}
+use Rattle.std.specs.Prelude.{◌≡◌, ◌⊎◌, ◌&&◌, ◌==◌, ℕ, Bool, true, false, length, List, [], ◌∷◌}
+use Rattle.std.specs.Prelude.{Result, Ok, Err}
 use Rattle.office_tables_shelf.specs.Content.{Content}
 use Rattle.signal_records.specs.declared.record.Change.{Change}
 use Rattle.signal_rules.specs.declared.violation.Violation.{Violation}
@@ -25,11 +26,13 @@ abbrev pub ◌>>=◌ : {A B : Type 0} → Result A Fault → (A → Result B Fau
 
 -- the transaction is begun where none is under way, the draft is changed, and shown
 abbrev pub edit_commands : ℕ → List ℕ → List Change → List Command
-edit_commands id clerk changes = command.Begin id clerk ∷ command.Edit id clerk changes ∷ command.Draft id ∷ []
+edit_commands id clerk changes = command.Begin id clerk ∷ command.Edit id clerk changes
+    ∷ command.Draft id ∷ []
 
 -- a draft is handed over, checked and made the committed set
 abbrev pub commit_commands : ℕ → List ℕ → List Command
-commit_commands id clerk = command.Verify id clerk ∷ command.Check id clerk ∷ command.Commit id clerk ∷ []
+commit_commands id clerk = command.Verify id clerk ∷ command.Check id clerk
+    ∷ command.Commit id clerk ∷ []
 
 -- a step of the transaction was made, or is told as refused
 abbrev pub moved : Reply → Result Unit Fault
@@ -68,8 +71,10 @@ commit_told (first ∷ second ∷ third ∷ []) = do
   moved third
 commit_told other = Err told.Store
 
--- the commands were run and the result is told of their replies, or want of memory is, and none was run
-abbrev pub Does : {A : Type 0} → (List Reply → Result A Fault) → Content → List Command → Content → Result A Fault → Type 0
+-- the commands were run and the result is told of their replies, or want of memory is, and none
+-- was run
+abbrev pub Does : {A : Type 0} → (List Reply → Result A Fault) → Content → List Command → Content
+    → Result A Fault → Type 0
 Does made old commands new result = Ran made old commands new result ⊎ IsWant old new result
 
 -- where a commit is asked for and the draft breaks no rule, it is committed; else it stays open
@@ -83,9 +88,11 @@ Goes false id clerk old new result = (result ≡ Ok tt) × (new ≡ old)
 -- the first record of the file that spells no change is told, or want of memory
 abbrev pub IsUnread : List ℕ → Fault → Type 0
 IsUnread bytes fault =
-    (why : CsvFault) × (fault ≡ told.Csv why) × ((why ≡ file.NoMemory) ⊎ (changes_of bytes ≡ Err why))
+    (why : CsvFault) × (fault ≡ told.Csv why) ×
+    ((why ≡ file.NoMemory) ⊎ (changes_of bytes ≡ Err why))
 
--- The changes of the file were made of the draft, which breaks these rules, and it was committed where it is due.
+-- The changes of the file were made of the draft, which breaks these rules, and it was committed
+-- where it is due.
 pub record Edits (bytes : List ℕ) (id : ℕ) (clerk : List ℕ) (commit : Bool) (old new : Content)
     (violations : List Violation) (outcome : Result Unit Fault) : Type 0 where
   pub changes : List Change
@@ -94,16 +101,18 @@ pub record Edits (bytes : List ℕ) (id : ℕ) (clerk : List ℕ) (commit : Bool
   pub edit : Ran edit_told old (edit_commands id clerk changes) middle (Ok violations)
   pub goes : Goes (is_due commit violations) id clerk middle new outcome
 
--- The file was not read and nothing was changed, or its changes were not made, or the commit was refused.
+-- The file was not read and nothing was changed, or its changes were not made, or the commit was
+-- refused.
 abbrev pub Fails : List ℕ → ℕ → List ℕ → Bool → Content → Content → Fault → Type 0
 Fails bytes id clerk commit old new fault =
     (IsUnread bytes fault × (new ≡ old))
     ⊎ (((changes : List Change) × (changes_of bytes ≡ Ok changes)
-        × Does edit_told old (edit_commands id clerk changes) new (Err fault))
+    × Does edit_told old (edit_commands id clerk changes) new (Err fault))
     ⊎ ((violations : List Violation) × Edits bytes id clerk commit old new violations (Err fault)))
 
 -- what an edit by a file does
 abbrev pub EditsAs : List ℕ → ℕ → List ℕ → Bool → Content → Content → Result Edited Fault → Type 0
 EditsAs bytes id clerk commit old new (Ok done) =
-    Edits bytes id clerk commit old new done.violations (Ok tt) × (done.committed ≡ is_due commit done.violations)
+    Edits bytes id clerk commit old new done.violations (Ok tt)
+    × (done.committed ≡ is_due commit done.violations)
 EditsAs bytes id clerk commit old new (Err fault) = Fails bytes id clerk commit old new fault

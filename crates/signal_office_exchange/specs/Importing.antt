@@ -23,10 +23,13 @@ import_told other = Err told.Store
 -- the first record of the file that spells nothing is told, or want of memory
 abbrev pub IsUnread : List ℕ → Fault → Type 0
 IsUnread bytes fault =
-    (why : CsvFault) × (fault ≡ told.Csv why) × ((why ≡ file.NoMemory) ⊎ (commands_of bytes ≡ Err why))
+    (why : CsvFault) × (fault ≡ told.Csv why) ×
+    ((why ≡ file.NoMemory) ⊎ (commands_of bytes ≡ Err why))
 
--- All records of the file were imported, as the office answers it; or they were not read, and nothing was changed.
+-- All records of the file were imported, as the office answers it; or they were not read, and
+-- nothing was changed.
 abbrev pub Imports : List ℕ → Content → Content → Result Imported Fault → Type 0
 Imports bytes old new result =
-    ((records : List RecordCommand) × (commands_of bytes ≡ Ok records) × Answered import_told old (command.Import records) new result)
+    ((records : List RecordCommand) × (commands_of bytes ≡ Ok records)
+    × Answered import_told old (command.Import records) new result)
     ⊎ ((fault : Fault) × (result ≡ Err fault) × IsUnread bytes fault × (new ≡ old))

@@ -9,7 +9,8 @@ use Rattle.signal_office_reports.specs.declared.fault.Fault.TheVariants as told
 -- what a record of the register may be refused for
 abbrev pub of_records : List Refusal
 of_records =
-    refusal.UnknownIntersection ∷ refusal.InspectionDiffers ∷ refusal.OrderDiffers ∷ refusal.UnknownOrder
+    refusal.UnknownIntersection ∷ refusal.InspectionDiffers ∷ refusal.OrderDiffers
+    ∷ refusal.UnknownOrder
     ∷ refusal.OrderClosed ∷ refusal.DayBeforeOpening ∷ refusal.NoStock ∷ refusal.StockFull
     ∷ refusal.DeliveryDiffers ∷ refusal.LineDiffers ∷ refusal.CloseDiffers ∷ []
 

@@ -1,8 +1,10 @@
 //! A draft that is edited by a plan's CSV file, and committed.
 
 ghost use Rattle.std.specs.Prelude.{◌≡◌};
-ghost use Rattle.signal_office_exchange.specs.Editing.{begun, commit_commands, commit_told, drafted};
-ghost use Rattle.signal_office_exchange.specs.Editing.{edit_commands, edit_told, moved, opened, Does, EditsAs};
+ghost use Rattle.signal_office_exchange.specs.Editing.{begun, commit_commands, commit_told};
+ghost use Rattle.signal_office_exchange.specs.Editing.{drafted};
+ghost use Rattle.signal_office_exchange.specs.Editing.{edit_commands, edit_told, moved, opened};
+ghost use Rattle.signal_office_exchange.specs.Editing.{Does, EditsAs};
 
 use crate::refused::fault_of;
 use draft_core::changes::Changes;
@@ -70,7 +72,12 @@ fn edit_told(replies: Vec<Reply>) -> Result<Violations, Fault>
     ensures { result ≡ edit_told replies.items }
 {
     let mut replies = replies.into_iter();
-    match (replies.next(), replies.next(), replies.next(), replies.next()) {
+    match (
+        replies.next(),
+        replies.next(),
+        replies.next(),
+        replies.next(),
+    ) {
         (Some(first), Some(second), Some(third), None) => match opened(&first, &second) {
             Ok(()) => drafted(third),
             Err(fault) => Err(fault),

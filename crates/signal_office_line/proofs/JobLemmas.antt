@@ -5,8 +5,10 @@ use Rattle.clap.specs.Walk.{Row, Text}
 use Rattle.signal_office_line.specs.Job.{Asked, job_at, job_in}
 
 -- the name and the rows are those of the command that was found
-pub of_found : {Found : Type 0} (found : Option Found) (f : Found → Text × List Row) (name : Text) (rows : List Row)
-    → Some name ≡ option_map (λ x. (f x).0) found → Some rows ≡ option_map (λ p. p.1) (option_map f found)
+pub of_found : {Found : Type 0} (found : Option Found) (f : Found → Text × List Row) (name : Text)
+    (rows : List Row)
+    → Some name ≡ option_map (λ x. (f x).0) found
+    → Some rows ≡ option_map (λ p. p.1) (option_map f found)
     → job_in (option_map f found) ≡ job_at name rows
 of_found None f name rows e g = cc
 of_found (Some x) f name rows e g =

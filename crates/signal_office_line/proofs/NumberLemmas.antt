@@ -1,6 +1,8 @@
 -- Which number a word spells, by what `parse` says of it.
-use Rattle.std.proofs.Common.{◌≡◌, ℕ, ◌<◌, ◌≤◌, ◌^◌, Bool, true, false, ◌&&◌, if◌then◌else◌, nat_lt, nat_le}
-use Rattle.std.proofs.Common.{List, [], ◌∷◌, length, Option, Some, None, Result, Ok, Err, sym, ap, ◌∙◌, refl, arith}
+use Rattle.std.proofs.Common.{◌≡◌, ℕ, ◌<◌, ◌≤◌, ◌^◌, Bool, true, false, ◌&&◌, if◌then◌else◌, nat_lt}
+use Rattle.std.proofs.Common.{nat_le}
+use Rattle.std.proofs.Common.{List, [], ◌∷◌, length, Option, Some, None, Result, Ok, Err, sym, ap}
+use Rattle.std.proofs.Common.{◌∙◌, refl, arith}
 use Rattle.std.proofs.lemmas.Bool.{ltb-true, lt-ltb, leb-true, le-leb}
 use Rattle.std.specs.Char.{digit_value}
 use Rattle.std.specs.List.{list_all}
@@ -44,12 +46,17 @@ in_range : (most : ℕ) (ds : Text)
     → IsNumeral 10 ds × (1 ≤ digits_value 10 ds) × (digits_value 10 ds ≤ most)
 in_range most ds e =
     let parts = both (is_numeral ds) _ e in
-    let range = both (nat_le 1 (digits_value 10 ds)) _ parts.1 in
-    (numeral ds parts.0, leb-true 1 (digits_value 10 ds) range.0, leb-true (digits_value 10 ds) most range.1)
+    let range = both (nat_le 1 (digits_value 10 ds)) _ parts.1 in (
+      numeral ds parts.0,
+      leb-true 1 (digits_value 10 ds) range.0,
+      leb-true (digits_value 10 ds) most
+          range.1,
+    )
 
 -- where no number was read, the word spells none
 pub unread : {E : Type 0} (r : Result ℕ E) (most : ℕ) (ds : Text) → most < 2 ^ 32
-    → OkIff r (IsNumeral 10 ds × (digits_value 10 ds < 2 ^ 32)) (digits_value 10 ds) → None ≡ result_ok r
+    → OkIff r (IsNumeral 10 ds × (digits_value 10 ds < 2 ^ 32)) (digits_value 10 ds)
+    → None ≡ result_ok r
     → None ≡ number_of most ds
 unread (Ok x) most ds fits h none = cc
 unread (Err e) most ds fits h none =
@@ -60,13 +67,15 @@ unread (Err e) most ds fits h none =
 
 -- the number that was read is that of the digits
 pub read : {E : Type 0} (r : Result ℕ E) (ds : Text) (n : ℕ)
-    → OkIff r (IsNumeral 10 ds × (digits_value 10 ds < 2 ^ 32)) (digits_value 10 ds) → Some n ≡ result_ok r
+    → OkIff r (IsNumeral 10 ds × (digits_value 10 ds < 2 ^ 32)) (digits_value 10 ds)
+    → Some n ≡ result_ok r
     → IsNumeral 10 ds × (digits_value 10 ds ≡ n)
 read (Ok x) ds n h e = (h.0.0, let same : x ≡ n = cc in sym h.1 ∙ same)
 read (Err x) ds n h e = cc
 
 -- a number outside the range is none, and one inside is that number
-pub outside : (most n : ℕ) (ds : Text) → digits_value 10 ds ≡ n → (1 ≤ n → n ≤ most → ⊥) → None ≡ number_of most ds
+pub outside : (most n : ℕ) (ds : Text) → digits_value 10 ds ≡ n → (1 ≤ n → n ≤ most → ⊥)
+    → None ≡ number_of most ds
 outside most n ds e out =
     refuted _ _ (λ yes.
     let inside = in_range most ds yes in
@@ -74,7 +83,8 @@ outside most n ds e out =
     let high = inside.2 in
     out (omega (arith, e, low)) (omega (arith, e, high)))
 
-pub inside : (most n : ℕ) (ds : Text) → IsNumeral 10 ds × (digits_value 10 ds ≡ n) → 1 ≤ n → n ≤ most
+pub inside : (most n : ℕ) (ds : Text) → IsNumeral 10 ds × (digits_value 10 ds ≡ n) → 1 ≤ n
+    → n ≤ most
     → Some n ≡ number_of most ds
 inside most n ds (h, e) low high =
     let l : 1 ≤ digits_value 10 ds = omega (arith, e, low) in

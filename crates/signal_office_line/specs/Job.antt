@@ -1,6 +1,7 @@
 -- The job that a command line states, by the command and the values that `clap` finds in it.
 use Rattle.std.specs.Prelude.{ℕ, ◌&&◌, Bool, true, false, if◌then◌else◌, List, [], ◌∷◌, length}
-use Rattle.std.specs.Prelude.{Option, Some, None, option_map, option_and_then, codes, nat_lt, nat_le, find}
+use Rattle.std.specs.Prelude.{Option, Some, None, option_map, option_and_then, codes, nat_lt}
+use Rattle.std.specs.Prelude.{nat_le, find}
 use Rattle.std.specs.Borrow.{Bor}
 use Rattle.std.specs.Char.{digit_value}
 use Rattle.std.specs.List.{list_all}
@@ -59,7 +60,8 @@ is_numeral digits = nat_lt 0 (length digits) && list_all (λ c. nat_lt (digit_va
 -- the number that digits write, where it is one from 1 to most
 abbrev pub number_of : ℕ → Text → Option ℕ
 number_of most digits =
-    if is_numeral digits && (nat_le 1 (digits_value 10 digits) && nat_le (digits_value 10 digits) most)
+    if is_numeral digits && (nat_le 1 (digits_value 10 digits)
+    && nat_le (digits_value 10 digits) most)
     then Some (digits_value 10 digits)
     else None
 
@@ -126,7 +128,8 @@ import_at rows = do
   csv ← first_of (codes "CSV") rows
   Some (import_records db csv)
 
--- what is exported: the committed timing set, but with `--draft` the draft, with `--cabinet` the cabinet
+-- what is exported: the committed timing set, but with `--draft` the draft, with `--cabinet` the
+-- cabinet
 abbrev pub view_of : Bool → Bool → Option View
 view_of false false = Some view.Timing
 view_of true false = Some view.Draft
@@ -177,7 +180,8 @@ drawing_of _ _ _ rows = None
 
 abbrev pub diagram_at : List Row → Option Asked
 diagram_at rows =
-    drawing_of (first_of (codes "db") rows) (first_of (codes "file") rows) (first_of (codes "PATTERN") rows) rows
+    drawing_of (first_of (codes "db") rows) (first_of (codes "file") rows)
+    (first_of (codes "PATTERN") rows) rows
 
 -- the program's commands
 abbrev pub jobs : List (Text × (List Row → Option Asked))

@@ -22,7 +22,8 @@ fn db_option<'a>(alloc: Global) -> Arg<'a>
     ensures local { result.global ≡ false }
 {
     Arg::new(alloc, "db").long("db").value_name("FILE").help(
-        "The SQLite file that keeps the tables; made where there is none. Without it they are in memory and are gone at the end",
+        "The SQLite file that keeps the tables; made where there is none. Without it they are in \
+         memory and are gone at the end",
     )
 }
 
@@ -56,7 +57,8 @@ fn first_option<'a>(alloc: Global) -> Arg<'a>
     ensures local { result.global ≡ false }
 {
     Arg::new(alloc, "first").long("first").value_name("N").help(
-        "The most intersections that are listed, 1 to 9999, those with the lowest numbers; without it all are",
+        "The most intersections that are listed, 1 to 9999, those with the lowest numbers; \
+         without it all are",
     )
 }
 
@@ -129,7 +131,8 @@ fn serve_command<'a>(alloc: Global) -> Result<Command<'a>, AllocError>
         .arg(number_option(
             alloc,
             "count",
-            "The connections that are served before the program ends, 1 to 1000000; each has at most 10,000 requests",
+            "The connections that are served before the program ends, 1 to 1000000; each has at \
+             most 10,000 requests",
         ))?
         .arg(db_option(alloc))
 }
@@ -140,7 +143,8 @@ fn sheet_command<'a>(alloc: Global) -> Result<Command<'a>, AllocError>
 {
     Command::new(alloc, "sheet")
         .about(
-            "Prints the timing sheet of an intersection: the committed plan, times in seconds, distances in feet",
+            "Prints the timing sheet of an intersection: the committed plan, times in seconds, \
+             distances in feet",
         )
         .arg(required_db_option(alloc, MADE_FILE))?
         .arg(word(alloc, "ID", "The intersection's number, 1 to 9999"))
@@ -152,7 +156,8 @@ fn overdue_command<'a>(alloc: Global) -> Result<Command<'a>, AllocError>
 {
     Command::new(alloc, "overdue")
         .about(
-            "Prints the intersections that were never inspected or whose inspection fell due before a day, and how many are listed",
+            "Prints the intersections that were never inspected or whose inspection fell due \
+             before a day, and how many are listed",
         )
         .arg(required_db_option(alloc, MADE_FILE))?
         .arg(first_option(alloc))?
@@ -169,7 +174,8 @@ fn verify_file_command<'a>(alloc: Global) -> Result<Command<'a>, AllocError>
 {
     Command::new(alloc, "verify-file")
         .about(
-            "Checks the timing plan in a CSV file against the fourteen rules; ends with status 3 where one is broken",
+            "Checks the timing plan in a CSV file against the fourteen rules; ends with status 3 \
+             where one is broken",
         )
         .arg(word(
             alloc,
@@ -196,7 +202,8 @@ fn import_command<'a>(alloc: Global) -> Result<Command<'a>, AllocError>
 {
     Command::new(alloc, "import")
         .about(
-            "Takes the cabinet records of a CSV file in turn, all of them or none; says how many were new",
+            "Takes the cabinet records of a CSV file in turn, all of them or none; says how many \
+             were new",
         )
         .arg(required_db_option(alloc, MADE_FILE))?
         .arg(word(
@@ -212,7 +219,8 @@ fn export_command<'a>(alloc: Global) -> Result<Command<'a>, AllocError>
 {
     Command::new(alloc, "export")
         .about(
-            "Prints the committed timing plan of an intersection as CSV, or its draft, or its cabinet",
+            "Prints the committed timing plan of an intersection as CSV, or its draft, or its \
+             cabinet",
         )
         .arg(required_db_option(alloc, MADE_FILE))?
         .arg(flag(alloc, "draft", "Print the draft"))?
@@ -226,7 +234,8 @@ fn edit_command<'a>(alloc: Global) -> Result<Command<'a>, AllocError>
 {
     Command::new(alloc, "edit")
         .about(
-            "Changes a timing plan by a CSV file, in a transaction that stays open; prints the rules that the draft breaks",
+            "Changes a timing plan by a CSV file, in a transaction that stays open; prints the \
+             rules that the draft breaks",
         )
         .arg(required_db_option(alloc, MADE_FILE))?
         .arg(clerk_option(alloc))?
@@ -249,12 +258,14 @@ fn compare_command<'a>(alloc: Global) -> Result<Command<'a>, AllocError>
 {
     Command::new(alloc, "compare")
         .about(
-            "Prints what two timing plans differ in, or what a draft changes; ends with status 4 where they differ",
+            "Prints what two timing plans differ in, or what a draft changes; ends with status 4 \
+             where they differ",
         )
         .arg(file_option(
             alloc,
             "db",
-            "The SQLite file that keeps the tables: compares the committed plan of an intersection with its draft",
+            "The SQLite file that keeps the tables: compares the committed plan of an \
+             intersection with its draft",
         ))?
         .arg(flag(
             alloc,

@@ -147,8 +147,8 @@ impl From<Error> for JobFault {
 
 /// Why words that state no job are refused.
 const NO_JOB: &str =
-    "a number is out of its range: --port is 1 to 65535, --count 1 to 1000000, --first and ID 1 to 9999, \
-    PATTERN 1 to 48; or words are too few, too many, or not to be given together";
+    "a number is out of its range: --port is 1 to 65535, --count 1 to 1000000, --first and ID \
+    1 to 9999, PATTERN 1 to 48; or words are too few, too many, or not to be given together";
 
 /// The words are refused, since a number is out of its range, or they don't go together.
 fn no_job(alloc: Global) -> JobFault {
@@ -165,11 +165,13 @@ fn no_job(alloc: Global) -> JobFault {
 pub fn job_of<'a>(alloc: Global, words: &'a [&'a str]) -> Result<Job<'a>, JobFault>
     // The command and its values are those that `clap` finds, each number in its range.
     ensures found { IfOk result (λ job.
-        job_in (subcommand_of signal_app (map (λ word. word.now) words.entry.now)) ≡ Some (asked job)) }
+        job_in (subcommand_of signal_app (map (λ word. word.now) words.entry.now))
+        ≡ Some (asked job)) }
     // Words that `clap` takes, and that ask for a job, are refused for want of memory alone.
     ensures answered { IfErr result (λ fault.
         takes signal_app (map (λ word. word.now) words.entry.now) ≡ true →
-        is_some (job_in (subcommand_of signal_app (map (λ word. word.now) words.entry.now))) ≡ true →
+        is_some (job_in (subcommand_of signal_app (map (λ word. word.now) words.entry.now))) ≡ true
+        →
         fault ≡ JobFault.NoMemory) }
 {
     let command = command_line(alloc)?;

@@ -5,7 +5,8 @@ ghost use Rattle.clap.specs.Matches.{found_of};
 ghost use Rattle.clap.specs.Walk.{rows_of};
 ghost use Rattle.signal_office_line.specs.Job.{asked, batch_at, compare_at, diagram_at, edit_at};
 ghost use Rattle.signal_office_line.specs.Job.{export_at, import_at, job_at, migrate_at, number_at};
-ghost use Rattle.signal_office_line.specs.Job.{overdue_at, serve_at, sheet_at, verify_file_at, view_of};
+ghost use Rattle.signal_office_line.specs.Job.{overdue_at, serve_at, sheet_at, verify_file_at};
+ghost use Rattle.signal_office_line.specs.Job.{view_of};
 
 use crate::job::{Edit, Job, Plan, Plans, View};
 use crate::values::{choice, flag, number, word};

@@ -4,7 +4,8 @@ use Rattle.std.specs.FinMap.{empty}
 use Rattle.signal_records.specs.TimingSet.{Rows, after_changes}
 use Rattle.signal_records.specs.declared.record.Change.{Change}
 use Rattle.signal_compare.specs.declared.difference.Difference.{Difference}
-use Rattle.signal_compare.specs.Difference.{changes_of as changes_told, EachKeyExplained, ExactlyWhereTheyDiffer}
+use Rattle.signal_compare.specs.Difference.{changes_of as changes_told, EachKeyExplained}
+use Rattle.signal_compare.specs.Difference.{ExactlyWhereTheyDiffer}
 use Rattle.office_files.specs.Changes.{changes_of}
 use Rattle.office_tables_shelf.specs.Content.{Content}
 use Rattle.office_desk.specs.Answers.{AnswersAny}
@@ -30,7 +31,8 @@ pub record ShowsDraft (tables : Content) (id : ℕ) (rows : Rows) : Type 0 where
   pub answered : AnswersAny tables (command.Draft id) (reply.Draft draft) tables
   pub rows_are : draft.rows ≡ rows
 
--- the differences are those of the sets, each told as what stands there, and their changes make the second set
+-- the differences are those of the sets, each told as what stands there, and their changes make
+-- the second set
 pub record AreTold (first second : Rows) (found : List Difference) : Type 0 where
   pub exact : ExactlyWhereTheyDiffer first second found
   pub explained : EachKeyExplained first second found

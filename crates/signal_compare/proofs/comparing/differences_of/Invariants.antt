@@ -8,7 +8,8 @@ abbrev pub invariant-loop-order : goal.invariant-loop-order
 invariant-loop-order l = record {
   first : AreInOrder l.first;
   second : AreInOrder l.second;
-  so_far : (rest : List Difference) → AreDifferences l.first l.second rest → AreDifferences l.fn.first l.fn.second (l.differences.items ++ rest);
+  so_far : (rest : List Difference) → AreDifferences l.first l.second rest
+      → AreDifferences l.fn.first l.fn.second (l.differences.items ++ rest);
 }
 
 abbrev pub decreases-loop-order : goal.decreases-loop-order

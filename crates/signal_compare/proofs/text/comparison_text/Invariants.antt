@@ -4,4 +4,5 @@ use Rattle.signal_compare.proofs.text.comparison_text.Given as goal
 
 -- the lines so far
 abbrev pub invariant-loop-difference : goal.invariant-loop-difference
-invariant-loop-difference l = string_bytes l.text ≡ flat_map difference_line (take l.difference-index l.differences)
+invariant-loop-difference l = string_bytes l.text
+    ≡ flat_map difference_line (take l.difference-index l.differences)

@@ -5,4 +5,6 @@ use Rattle.signal_compare.proofs.text.push_separated_from.Given as goal
 -- the parts so far
 abbrev pub invariant-loop-part : goal.invariant-loop-part
 invariant-loop-part l =
-    string_bytes l.text ≡ string_bytes l.fn.text ++ separated l.separator (string_bytes l.first ∷ map string_bytes (take l.part-index l.rest))
+    string_bytes l.text ≡ string_bytes l.fn.text
+    ++ separated l.separator (string_bytes l.first
+    ∷ map string_bytes (take l.part-index l.rest))

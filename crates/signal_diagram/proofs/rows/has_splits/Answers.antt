@@ -14,7 +14,10 @@ loop-p-preserved c =
     all_step (λ p. is_some (split_at set c.args.n p)) (λ p. is_some
     (phase_at set p)) _ _ c.in-Some.p _ c.in-Some.ensures.steps c.loop-p.invariant
     (elim c.else-has_phase.branch [
-      | else-has_phase-via-then-has_phase+else-not-has_split w ↦ inl
-          (sym c.has_phase.ensures ∙ w.if-has_phase.true, sym w.has_split.ensures ∙ w.if-not-has_split.false)
+      | else-has_phase-via-then-has_phase+else-not-has_split w ↦ inl (
+        sym c.has_phase.ensures ∙ w.if-has_phase.true,
+        sym w.has_split.ensures
+            ∙ w.if-not-has_split.false,
+      )
       | else-has_phase-via-else-has_phase w ↦ inr (sym c.has_phase.ensures ∙ w.if-has_phase.false)
     ])

@@ -13,8 +13,13 @@ returns c =
       app_is = ap app_of_fields c.about.ensures ∙ c.new.ensures.app;
       local = ap (λ (x : Command-F Command). x.has_globals) c.about.ensures ∙ c.new.ensures.local;
     } in
-    let db = Reads-arg _ _ _ _ _ named c.required_db_option.ensures.rule c.required_db_option.ensures.local c.in_ok-arg.ensures in
-    let clerk = Reads-arg _ _ _ _ _ db c.clerk_option.ensures.rule c.clerk_option.ensures.local c.in_ok-arg-2.ensures in
-    let commit = Reads-arg _ _ _ _ _ clerk c.flag.ensures.rule c.flag.ensures.local c.in_ok-arg-3.ensures in
-    let id = Reads-arg _ _ _ _ _ commit c.word.ensures.rule c.word.ensures.local c.in_ok-arg-4.ensures in
-    IfOk-weaker c.arg-5.result _ _ (λ r a. Reads-arg _ r _ _ _ id c.word-2.ensures.rule c.word-2.ensures.local a) c.arg-5.ensures
+    let db = Reads-arg _ _ _ _ _ named c.required_db_option.ensures.rule
+    c.required_db_option.ensures.local c.in_ok-arg.ensures in
+    let clerk = Reads-arg _ _ _ _ _ db c.clerk_option.ensures.rule c.clerk_option.ensures.local
+    c.in_ok-arg-2.ensures in
+    let commit = Reads-arg _ _ _ _ _ clerk c.flag.ensures.rule c.flag.ensures.local
+    c.in_ok-arg-3.ensures in
+    let id = Reads-arg _ _ _ _ _ commit c.word.ensures.rule c.word.ensures.local
+    c.in_ok-arg-4.ensures in
+    IfOk-weaker c.arg-5.result _ _ (λ r a. Reads-arg _ r _ _ _ id c.word-2.ensures.rule
+    c.word-2.ensures.local a) c.arg-5.ensures

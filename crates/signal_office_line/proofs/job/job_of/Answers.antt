@@ -1,4 +1,5 @@
-use Rattle.std.proofs.Common.{◌≡◌, List, Option, Some, None, Bool, true, false, map, ap, subst, sym, refl, ◌∙◌}
+use Rattle.std.proofs.Common.{◌≡◌, List, Option, Some, None, Bool, true, false, map, ap, subst, sym}
+use Rattle.std.proofs.Common.{refl, ◌∙◌}
 use Rattle.std.specs.Prelude.{is_some, option_map}
 use Rattle.std.specs.Borrow.{Bor}
 use Rattle.clap.specs.Matches.{found_of}
@@ -25,7 +26,8 @@ returns-in-Some-job_at-clause-found c =
 pub returns-in-Err-clause-answered : goal.returns-in-Err-clause-answered
 returns-in-Err-clause-answered c = λ taken asks.
     let words : List Text = map (λ (word : Bor Text). word.now) c.args.words.now in
-    c.from.ensures (c.in-Err.ensures.passes (ap (λ (app : App). takes app words) c.in_ok-command.ensures.app_is ∙ taken))
+    c.from.ensures (c.in-Err.ensures.passes (ap (λ (app : App). takes app words)
+    c.in_ok-command.ensures.app_is ∙ taken))
 
 -- a command that asks for nothing is no job
 pub returns-clause-answered : goal.returns-clause-answered
@@ -35,7 +37,8 @@ returns-clause-answered c = λ taken asks.
     c.in_ok-command.ensures.app_is c.in-Ok.ensures.matches in
     let found = of_found _ _ c.in-Some.name.now (rows_of (found_of c.in-Some.inner.now))
     c.in-Some.ensures.name c.in-Some.ensures.rows in
-    let none : job_in (subcommand_of signal_app words) ≡ None = ap job_in (sym (matched refl).1) ∙ found
+    let none : job_in (subcommand_of signal_app words) ≡ None =
+    ap job_in (sym (matched refl).1) ∙ found
     ∙ sym c.job_at.ensures ∙ ap (option_map asked) c.in-None.is in
     let bad : false ≡ true = sym (ap is_some none) ∙ asks in
     cc

@@ -5,7 +5,8 @@ use Rattle.std.specs.Str.Parse.{without_leading_plus}
 use Rattle.signal_office_line.specs.Job.{number_of}
 use Rattle.signal_office_line.proofs.NumberLemmas.{unread, read, outside, inside}
 use Rattle.signal_office_line.proofs.values.number.Goals as goal
-use Rattle.signal_office_line.proofs.values.number.Goals.{then-number-eq0-via-then-number-eq0, then-number-eq0-via-else-number-eq0+then-number-most}
+use Rattle.signal_office_line.proofs.values.number.Goals.{then-number-eq0-via-then-number-eq0}
+use Rattle.signal_office_line.proofs.values.number.Goals.{then-number-eq0-via-else-number-eq0+then-number-most}
 
 pub returns-in_err-number : goal.returns-in_err-number
 returns-in_err-number c =
@@ -25,7 +26,8 @@ returns-then-number-eq0 c =
     let out : 1 ≤ c.in_ok-number.number → c.in_ok-number.number ≤ c.args.most → ⊥ = λ low high.
     elim c.then-number-eq0.branch [
       | then-number-eq0-via-then-number-eq0 w ↦ absurd (omega (arith, low, w.if-number-eq0.true))
-      | then-number-eq0-via-else-number-eq0+then-number-most w ↦ absurd (omega (arith, high, w.if-number-most.true))
+      | then-number-eq0-via-else-number-eq0+then-number-most w ↦ absurd
+          (omega (arith, high, w.if-number-most.true))
     ] in
     outside c.args.most c.in_ok-number.number digits parsed.1 out
     ∙ ap (option_and_then (λ (word : Text). number_of c.args.most (without_leading_plus word)))
