@@ -1,5 +1,5 @@
 -- The plans that are compared and drawn.
-use Rattle.std.specs.Prelude.{◌≡◌, ℕ, List, Ok}
+use Rattle.std.specs.Prelude.{◌≡◌, ◌⊎◌, ℕ, List, Result, Ok, Err}
 use Rattle.std.specs.FinMap.{empty}
 use Rattle.signal_records.specs.TimingSet.{Rows, after_changes}
 use Rattle.signal_records.specs.declared.record.Change.{Change}
@@ -7,12 +7,15 @@ use Rattle.signal_compare.specs.declared.difference.Difference.{Difference}
 use Rattle.signal_compare.specs.Difference.{changes_of as changes_told, EachKeyExplained}
 use Rattle.signal_compare.specs.Difference.{ExactlyWhereTheyDiffer}
 use Rattle.office_files.specs.Changes.{changes_of}
+use Rattle.office_files.specs.declared.fault.CsvFault.{CsvFault}
 use Rattle.office_tables_shelf.specs.Content.{Content}
-use Rattle.office_desk.specs.Answers.{AnswersAny}
 use Rattle.office_desk.specs.declared.command.Command.TheVariants as command
-use Rattle.office_desk.specs.declared.reply.OpenDraft.{OpenDraft}
+use Rattle.office_desk.specs.declared.reply.Reply.{Reply}
 use Rattle.office_desk.specs.declared.reply.Reply.TheVariants as reply
-use Rattle.office_desk.specs.declared.reply.RunningTiming.{RunningTiming}
+use Rattle.signal_office_reports.specs.declared.fault.Fault.{Fault}
+use Rattle.signal_office_reports.specs.declared.fault.Fault.TheVariants as told
+use Rattle.signal_office_exchange.specs.Asking.{Answered}
+use Rattle.signal_office_exchange.specs.Refused.{fault_of}
 
 -- the set is what the changes of the file make of the empty one
 pub record IsPlan (bytes : List ℕ) (plan : Rows) : Type 0 where
@@ -20,16 +23,23 @@ pub record IsPlan (bytes : List ℕ) (plan : Rows) : Type 0 where
   pub spelled : changes_of bytes ≡ Ok changes
   pub plan_is : plan ≡ after_changes empty changes
 
--- the office answers a query for the timing set, or for the draft, with these rows
-pub record ShowsTiming (tables : Content) (id : ℕ) (rows : Rows) : Type 0 where
-  pub timing : RunningTiming
-  pub answered : AnswersAny tables (command.Timing id) (reply.Timing timing) tables
-  pub rows_are : timing.rows ≡ rows
+-- the rows that a reply shows, or the fault of its refusal: those of a timing set, and of a draft
+abbrev pub timing_shown : Reply → Result Rows Fault
+timing_shown (reply.Timing timing) = Ok timing.rows
+timing_shown (reply.Refused why) = Err (fault_of why)
+timing_shown other = Err told.Store
 
-pub record ShowsDraft (tables : Content) (id : ℕ) (rows : Rows) : Type 0 where
-  pub draft : OpenDraft
-  pub answered : AnswersAny tables (command.Draft id) (reply.Draft draft) tables
-  pub rows_are : draft.rows ≡ rows
+abbrev pub draft_shown : Reply → Result Rows Fault
+draft_shown (reply.Draft draft) = Ok draft.rows
+draft_shown (reply.Refused why) = Err (fault_of why)
+draft_shown other = Err told.Store
+
+-- the office, which stays as it is, answers a query for the timing set, or for the draft, so
+abbrev pub ShowsTiming : Content → ℕ → Result Rows Fault → Type 0
+ShowsTiming tables id rows = Answered timing_shown tables (command.Timing id) tables rows
+
+abbrev pub ShowsDraft : Content → ℕ → Result Rows Fault → Type 0
+ShowsDraft tables id rows = Answered draft_shown tables (command.Draft id) tables rows
 
 -- the differences are those of the sets, each told as what stands there, and their changes make
 -- the second set
@@ -46,10 +56,19 @@ pub record ComparesFiles (first second : List ℕ) (found : List Difference) : T
   pub second_is : IsPlan second after
   pub told : AreTold before after found
 
+-- the first bad record of the first file, or that of the second
+abbrev pub IsFirstBad : List ℕ → List ℕ → CsvFault → Type 0
+IsFirstBad first second why = (changes_of first ≡ Err why) ⊎ (changes_of second ≡ Err why)
+
 -- they are those of a committed timing set and its draft
 pub record ComparesDraft (tables : Content) (id : ℕ) (found : List Difference) : Type 0 where
   pub committed : Rows
   pub draft : Rows
-  pub timing_is : ShowsTiming tables id committed
-  pub draft_is : ShowsDraft tables id draft
+  pub timing_is : ShowsTiming tables id (Ok committed)
+  pub draft_is : ShowsDraft tables id (Ok draft)
   pub told : AreTold committed draft found
+
+-- the fault is that of a query that is refused
+abbrev pub IsRefusedQuery : Content → ℕ → Fault → Type 0
+IsRefusedQuery tables id why =
+    ShowsTiming tables id (Err why) ⊎ ShowsDraft tables id (Err why)

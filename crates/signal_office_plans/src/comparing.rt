@@ -1,8 +1,9 @@
 //! What two plans differ in.
 
-ghost use Rattle.std.specs.Prelude.{IfOk};
+ghost use Rattle.std.specs.Prelude.{◌≢◌, IfOk, IfErr};
 ghost use Rattle.office_tables_shelf.specs.Shelf.{IsKept};
-ghost use Rattle.signal_office_plans.specs.Plan.{ComparesDraft, ComparesFiles};
+ghost use Rattle.signal_office_plans.specs.Plan.{ComparesDraft, ComparesFiles, IsFirstBad};
+ghost use Rattle.signal_office_plans.specs.Plan.{IsRefusedQuery};
 
 use crate::plan::{draft_in, plan_in, timing_in};
 use office_desk::office::Office;
@@ -19,7 +20,9 @@ pub fn compare_files(
     first: &[u8],
     second: &[u8],
 ) -> Result<Vec<Difference>, CsvFault>
-    ensures { IfOk result (λ found. ComparesFiles first.now second.now found.items) }
+    ensures found { IfOk result (λ found. ComparesFiles first.now second.now found.items) }
+    ensures fault { IfErr result (λ why. why ≢ CsvFault.NoMemory →
+        IsFirstBad first.now second.now why) }
 {
     let before = plan_in(alloc, first)?;
     let after = plan_in(alloc, second)?;
@@ -36,6 +39,8 @@ pub fn draft_differences<S: Shelf>(
     ensures kept { IsKept S.is_honest S.content S.written S.may_leave office.old office.new }
     ensures found { IfOk result (λ found. S.is_honest office.new →
         ComparesDraft (S.content office.old) id found.items) }
+    ensures fault { IfErr result (λ why. why ≢ Fault.Memory → S.is_honest office.new →
+        IsRefusedQuery (S.content office.old) id why) }
 {
     let committed = timing_in(alloc, office, id)?;
     let draft = draft_in(alloc, office, id)?;

@@ -1,8 +1,9 @@
 //! The pictures of patterns.
 
-ghost use Rattle.std.specs.Prelude.{IfOk};
+ghost use Rattle.std.specs.Prelude.{◌≢◌, IfOk, IfErr};
 ghost use Rattle.office_tables_shelf.specs.Shelf.{IsKept};
-ghost use Rattle.signal_office_plans.specs.Drawing.{Draws, DrawsFile, DrawsTiming};
+ghost use Rattle.signal_office_plans.specs.Drawing.{Draws, DrawsFile, DrawsNoFile, DrawsTiming};
+ghost use Rattle.signal_office_plans.specs.Drawing.{DrawsNoTiming, Lacks};
 
 use crate::plan::{plan_in, timing_in};
 use office_desk::office::Office;
@@ -14,7 +15,8 @@ use std::alloc::Global;
 
 /// The picture of a pattern, which the plan has to have.
 fn draw(alloc: Global, plan: &TimingSet, pattern: PatternNo) -> Result<Vec<u8>, Fault>
-    ensures { IfOk result (λ text. Draws plan.now pattern text.items) }
+    ensures draws { IfOk result (λ text. Draws plan.now pattern text.items) }
+    ensures fault { IfErr result (λ why. why ≢ Fault.Memory → Lacks plan.now pattern why) }
 {
     match diagram(alloc, plan, pattern)? {
         Some(text) => Ok(text),
@@ -24,7 +26,8 @@ fn draw(alloc: Global, plan: &TimingSet, pattern: PatternNo) -> Result<Vec<u8>, 
 
 /// The picture of a pattern of the plan in a CSV file, or the first bad record.
 pub fn diagram_in(alloc: Global, bytes: &[u8], pattern: PatternNo) -> Result<Vec<u8>, Fault>
-    ensures { IfOk result (λ text. DrawsFile bytes.now pattern text.items) }
+    ensures draws { IfOk result (λ text. DrawsFile bytes.now pattern text.items) }
+    ensures fault { IfErr result (λ why. why ≢ Fault.Memory → DrawsNoFile bytes.now pattern why) }
 {
     let plan = plan_in(alloc, bytes)?;
     draw(alloc, &plan, pattern)
@@ -40,6 +43,8 @@ pub fn diagram_of<S: Shelf>(
     ensures kept { IsKept S.is_honest S.content S.written S.may_leave office.old office.new }
     ensures draws { IfOk result (λ text. S.is_honest office.new →
         DrawsTiming (S.content office.old) id pattern text.items) }
+    ensures fault { IfErr result (λ why. why ≢ Fault.Memory → S.is_honest office.new →
+        DrawsNoTiming (S.content office.old) id pattern why) }
 {
     let plan = timing_in(alloc, office, id)?;
     draw(alloc, &plan, pattern)

@@ -34,8 +34,7 @@ pub(crate) fn timing_in<S: Shelf>(
     id: InterId,
 ) -> Result<TimingSet, Fault>
     ensures kept { IsKept S.is_honest S.content S.written S.may_leave office.old office.new }
-    ensures timing { IfOk result (λ rows. S.is_honest office.new →
-        ShowsTiming (S.content office.old) id rows) }
+    ensures timing { S.is_honest office.new → ShowsTiming (S.content office.old) id result }
 {
     match ask(alloc, office, Command::Timing { id }) {
         Reply::Timing(timing) => Ok(timing.rows),
@@ -51,8 +50,7 @@ pub(crate) fn draft_in<S: Shelf>(
     id: InterId,
 ) -> Result<TimingSet, Fault>
     ensures kept { IsKept S.is_honest S.content S.written S.may_leave office.old office.new }
-    ensures draft { IfOk result (λ rows. S.is_honest office.new →
-        ShowsDraft (S.content office.old) id rows) }
+    ensures draft { S.is_honest office.new → ShowsDraft (S.content office.old) id result }
 {
     match ask(alloc, office, Command::Draft { id }) {
         Reply::Draft(draft) => Ok(draft.rows),
