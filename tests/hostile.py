@@ -22,6 +22,18 @@ ADD = (
     b'{"id":12,"interval":365,"name":"Main St"}'
 )
 STATE = b"GET /intersections/12 HTTP/1.1\r\n\r\n"
+PLAN = os.path.join(os.path.dirname(os.path.abspath(__file__)), "..", "bench", "plan.csv")
+ON_FILES = (
+    ["batch"],
+    ["sheet", "12"],
+    ["overdue", "2027-03-02"],
+    ["migrate"],
+    ["import", os.devnull],
+    ["export", "12"],
+    ["edit", "--clerk", "Ana", "12", PLAN],
+    ["compare", "12"],
+    ["diagram", "12", "1"],
+)
 failed = []
 
 
@@ -50,7 +62,7 @@ def held(path):
 def refused(name, path, line=b"fault: store\n", migrate=None, **how):
     """The commands on a file refuse it with the same line, `migrate` perhaps with its own, and leave it as it was."""
     before = held(path)
-    for words in (["batch"], ["sheet", "12"], ["overdue", "2027-03-02"], ["migrate"]):
+    for words in ON_FILES:
         status, out, err = run([words[0], "--db", path, *words[1:]], ADD, **how)
         wanted = migrate or line if words == ["migrate"] else line
         case(f"{name}, {words[0]}", (status, out, err), (1, b"", wanted))
@@ -223,7 +235,17 @@ def little_memory(folder):
     with open(plan, "wb") as file:
         file.write(b"phase,2,1,8,20,40,40,15,\n" * 1000)
     kept = held(path)
-    for words in (["batch"], ["batch", "--db", path], ["sheet", "--db", path, "12"], ["overdue", "--db", path, "2027-03-02"], ["verify-file", plan]):
+    for words in (
+        ["batch"],
+        ["batch", "--db", path],
+        ["sheet", "--db", path, "12"],
+        ["overdue", "--db", path, "2027-03-02"],
+        ["verify-file", plan],
+        ["import", "--db", path, os.devnull],
+        ["export", "--db", path, "12"],
+        ["compare", PLAN, plan],
+        ["diagram", "--file", PLAN, "1"],
+    ):
         told, done, other = 0, 0, []
         for limit in range(1 << 20, 40 << 20, 1 << 17):
             try:
@@ -232,7 +254,7 @@ def little_memory(folder):
                 continue
             if status == 1 and err == b"fault: memory\n" or "--db" in words and status == 1 and err == b"fault: store\n":
                 told += 1
-            elif status in (0, 3) and not err:
+            elif status in (0, 3, 4) and not err:
                 done += 1
             elif told or done:
                 other.append((limit, status, out[:40], err))
