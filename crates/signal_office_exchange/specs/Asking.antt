@@ -1,6 +1,8 @@
 -- What a command of the program makes of what the office answers.
 use Rattle.std.specs.Prelude.{◌≡◌, ◌≢◌, ◌⊎◌, ℕ, List, [], ◌∷◌, Result, Ok, Err}
 use Rattle.office_tables_shelf.specs.Content.{Content}
+use Rattle.office_files.specs.declared.fault.CsvFault.{CsvFault}
+use Rattle.office_files.specs.declared.fault.CsvFault.TheVariants as file
 use Rattle.office_desk.specs.Answers.{AnswersAny, RunsAny}
 use Rattle.office_desk.specs.declared.command.Command.{Command}
 use Rattle.office_desk.specs.declared.reply.Reply.{Reply}
@@ -26,3 +28,8 @@ pub record Ran {A : Type 0} (made : List Reply → Result A Fault) (old : Conten
 -- memory was refused, and nothing was changed
 abbrev pub IsWant : {A : Type 0} → Content → Content → Result A Fault → Type 0
 IsWant old new result = (result ≡ Err told.Memory) × (new ≡ old)
+
+-- the first record of the file that spells nothing is told, or want of memory, as it was read
+abbrev pub IsUnread : {A : Type 0} → Result A CsvFault → Fault → Type 0
+IsUnread read fault =
+    (why : CsvFault) × (fault ≡ told.Csv why) × ((why ≡ file.NoMemory) ⊎ (read ≡ Err why))

@@ -4,8 +4,6 @@ use Rattle.std.specs.Prelude.{Result, Ok, Err}
 use Rattle.office_tables_shelf.specs.Content.{Content}
 use Rattle.signal_records.specs.declared.record.Change.{Change}
 use Rattle.signal_rules.specs.declared.violation.Violation.{Violation}
-use Rattle.office_files.specs.declared.fault.CsvFault.{CsvFault}
-use Rattle.office_files.specs.declared.fault.CsvFault.TheVariants as file
 use Rattle.office_files.specs.Changes.{changes_of}
 use Rattle.office_desk.specs.declared.command.Command.{Command}
 use Rattle.office_desk.specs.declared.command.Command.TheVariants as command
@@ -15,7 +13,7 @@ use Rattle.office_desk.specs.declared.reply.Reply.TheVariants as reply
 use Rattle.signal_office_reports.specs.declared.fault.Fault.{Fault}
 use Rattle.signal_office_reports.specs.declared.fault.Fault.TheVariants as told
 use Rattle.signal_office_exchange.specs.declared.editing.Edited.{Edited}
-use Rattle.signal_office_exchange.specs.Asking.{Ran, IsWant}
+use Rattle.signal_office_exchange.specs.Asking.{Ran, IsWant, IsUnread}
 use Rattle.signal_office_exchange.specs.Refused.{fault_of}
 
 -- what comes next, where a step gave a value; else its fault
@@ -85,12 +83,6 @@ abbrev pub Goes : Bool → ℕ → List ℕ → Content → Content → Result U
 Goes true id clerk old new result = Does commit_told old (commit_commands id clerk) new result
 Goes false id clerk old new result = (result ≡ Ok tt) × (new ≡ old)
 
--- the first record of the file that spells no change is told, or want of memory
-abbrev pub IsUnread : List ℕ → Fault → Type 0
-IsUnread bytes fault =
-    (why : CsvFault) × (fault ≡ told.Csv why) ×
-    ((why ≡ file.NoMemory) ⊎ (changes_of bytes ≡ Err why))
-
 -- The changes of the file were made of the draft, which breaks these rules, and it was committed
 -- where it is due.
 pub record Edits (bytes : List ℕ) (id : ℕ) (clerk : List ℕ) (commit : Bool) (old new : Content)
@@ -105,7 +97,7 @@ pub record Edits (bytes : List ℕ) (id : ℕ) (clerk : List ℕ) (commit : Bool
 -- refused.
 abbrev pub Fails : List ℕ → ℕ → List ℕ → Bool → Content → Content → Fault → Type 0
 Fails bytes id clerk commit old new fault =
-    (IsUnread bytes fault × (new ≡ old))
+    (IsUnread (changes_of bytes) fault × (new ≡ old))
     ⊎ (((changes : List Change) × (changes_of bytes ≡ Ok changes)
     × Does edit_told old (edit_commands id clerk changes) new (Err fault))
     ⊎ ((violations : List Violation) × Edits bytes id clerk commit old new violations (Err fault)))

@@ -1,26 +1,26 @@
--- What is exported of an intersection, by what the office answers.
-use Rattle.std.specs.Prelude.{◌≡◌, ◌≢◌, ℕ, List, Result, Ok, Err, Vec, IfOk, IfErr}
-use Rattle.std.specs.declared.alloc.Global.{Global}
+-- What is exported of an intersection.
+use Rattle.std.specs.Prelude.{◌≡◌, ℕ, List, Ok}
+use Rattle.signal_records.specs.TimingSet.{Rows}
 use Rattle.office_tables_shelf.specs.Content.{Content}
 use Rattle.office_files.specs.Timing.{timing_csv_text}
 use Rattle.office_files.specs.Records.{cabinet_csv_text}
-use Rattle.office_desk.specs.declared.command.Command.{Command}
-use Rattle.office_desk.specs.declared.reply.Reply.{Reply}
-use Rattle.office_desk.specs.declared.reply.Reply.TheVariants as reply
-use Rattle.signal_office_reports.specs.declared.fault.Fault.{Fault}
-use Rattle.signal_office_reports.specs.declared.fault.Fault.TheVariants as told
-use Rattle.signal_office_exchange.specs.Asking.{Answered}
-use Rattle.signal_office_exchange.specs.Refused.{fault_of}
+use Rattle.office_desk.specs.Lists.{CabinetLists}
+use Rattle.signal_office_exchange.specs.Showing.{ShowsTiming, ShowsDraft, ShowsCabinet}
 
--- the CSV of what a query shows: a timing set, a draft, a cabinet
-abbrev pub exported : Reply → Result (List ℕ) Fault
-exported (reply.Timing timing) = Ok (timing_csv_text timing.rows)
-exported (reply.Draft draft) = Ok (timing_csv_text draft.rows)
-exported (reply.Cabinet c) = Ok (cabinet_csv_text c.id c.inspections c.orders c.lines)
-exported (reply.Refused why) = Err (fault_of why)
-exported other = Err told.Store
+-- the text is the CSV of the committed timing set
+pub record ExportsTiming (tables : Content) (id : ℕ) (text : List ℕ) : Type 0 where
+  pub rows : Rows
+  pub shown : ShowsTiming tables id (Ok rows)
+  pub text_is : text ≡ timing_csv_text rows
 
--- The text is the CSV of what the query shows, or the fault that of its refusal, or want of memory.
-abbrev pub Exports : Content → Command → Result (Vec ℕ Global) Fault → Type 0
-Exports tables query (Ok text) = Answered exported tables query tables (Ok text.items)
-Exports tables query (Err why) = why ≢ told.Memory → Answered exported tables query tables (Err why)
+-- that of the draft
+pub record ExportsDraft (tables : Content) (id : ℕ) (text : List ℕ) : Type 0 where
+  pub rows : Rows
+  pub shown : ShowsDraft tables id (Ok rows)
+  pub text_is : text ≡ timing_csv_text rows
+
+-- that of the cabinet: the records that made it so
+pub record ExportsCabinet (tables : Content) (id : ℕ) (text : List ℕ) : Type 0 where
+  pub cabinet : CabinetLists
+  pub shown : ShowsCabinet tables id (Ok cabinet)
+  pub text_is : text ≡ cabinet_csv_text cabinet.id cabinet.inspections cabinet.orders cabinet.lines

@@ -2,8 +2,6 @@
 use Rattle.std.specs.Prelude.{◌≡◌, ◌⊎◌, ℕ, List, Result, Ok, Err}
 use Rattle.office_tables_shelf.specs.Content.{Content}
 use Rattle.cabinet_core.specs.declared.command.RecordCommand.{RecordCommand}
-use Rattle.office_files.specs.declared.fault.CsvFault.{CsvFault}
-use Rattle.office_files.specs.declared.fault.CsvFault.TheVariants as file
 use Rattle.office_files.specs.Records.{commands_of}
 use Rattle.office_desk.specs.declared.command.Command.TheVariants as command
 use Rattle.office_desk.specs.declared.reply.Reply.{Reply}
@@ -11,7 +9,7 @@ use Rattle.office_desk.specs.declared.reply.Reply.TheVariants as reply
 use Rattle.signal_office_reports.specs.declared.fault.Fault.{Fault}
 use Rattle.signal_office_reports.specs.declared.fault.Fault.TheVariants as told
 use Rattle.signal_office_exchange.specs.declared.importing.Imported.{Imported}
-use Rattle.signal_office_exchange.specs.Asking.{Answered}
+use Rattle.signal_office_exchange.specs.Asking.{Answered, IsUnread}
 use Rattle.signal_office_exchange.specs.Refused.{fault_of}
 
 -- what is told of the reply to an import
@@ -20,16 +18,10 @@ import_told (reply.Imported added same) = Ok (record { added = added; same = sam
 import_told (reply.Refused why) = Err (fault_of why)
 import_told other = Err told.Store
 
--- the first record of the file that spells nothing is told, or want of memory
-abbrev pub IsUnread : List ℕ → Fault → Type 0
-IsUnread bytes fault =
-    (why : CsvFault) × (fault ≡ told.Csv why) ×
-    ((why ≡ file.NoMemory) ⊎ (commands_of bytes ≡ Err why))
-
 -- All records of the file were imported, as the office answers it; or they were not read, and
 -- nothing was changed.
 abbrev pub Imports : List ℕ → Content → Content → Result Imported Fault → Type 0
 Imports bytes old new result =
     ((records : List RecordCommand) × (commands_of bytes ≡ Ok records)
     × Answered import_told old (command.Import records) new result)
-    ⊎ ((fault : Fault) × (result ≡ Err fault) × IsUnread bytes fault × (new ≡ old))
+    ⊎ ((fault : Fault) × (result ≡ Err fault) × IsUnread (commands_of bytes) fault × (new ≡ old))

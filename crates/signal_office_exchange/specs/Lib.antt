@@ -3,3 +3,4 @@ pub mod Editing
 pub mod Exporting
 pub mod Importing
 pub mod Refused
+pub mod Showing

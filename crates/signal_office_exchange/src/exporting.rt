@@ -1,16 +1,16 @@
 //! What is exported of an intersection as CSV.
 
-ghost use Rattle.office_desk.specs.declared.command.Command.TheVariants as command;
+ghost use Rattle.std.specs.Prelude.{◌≢◌, Err, IfOk, IfErr};
 ghost use Rattle.office_tables_shelf.specs.Shelf.{IsKept};
-ghost use Rattle.signal_office_exchange.specs.Exporting.{Exports};
+ghost use Rattle.signal_office_exchange.specs.Exporting.{ExportsTiming, ExportsDraft};
+ghost use Rattle.signal_office_exchange.specs.Exporting.{ExportsCabinet};
+ghost use Rattle.signal_office_exchange.specs.Showing.{ShowsTiming, ShowsDraft, ShowsCabinet};
 
-use crate::refused::fault_of;
-use office_desk::command::Command;
+use crate::showing::{cabinet_in, draft_in, timing_in};
 use office_desk::office::Office;
-use office_desk::reply::Reply;
 use office_files::{records_csv, timing_csv};
 use office_tables_shelf::shelf::Shelf;
-use signal_office_reports::{Fault, ask};
+use signal_office_reports::Fault;
 use signal_records::InterId;
 use std::alloc::Global;
 
@@ -21,14 +21,13 @@ pub fn timing_csv_of<S: Shelf>(
     id: InterId,
 ) -> Result<Vec<u8>, Fault>
     ensures kept { IsKept S.is_honest S.content S.written S.may_leave office.old office.new }
-    ensures text { S.is_honest office.new →
-        Exports (S.content office.old) (command.Timing id) result }
+    ensures text { IfOk result (λ text. S.is_honest office.new →
+        ExportsTiming (S.content office.old) id text.items) }
+    ensures fault { IfErr result (λ why. why ≢ Fault.Memory → S.is_honest office.new →
+        ShowsTiming (S.content office.old) id (Err why)) }
 {
-    match ask(alloc, office, Command::Timing { id }) {
-        Reply::Timing(timing) => Ok(timing_csv(alloc, &timing.rows)?),
-        Reply::Refused(refusal) => Err(fault_of(refusal)),
-        _ => Err(Fault::Store),
-    }
+    let rows = timing_in(alloc, office, id)?;
+    Ok(timing_csv(alloc, &rows)?)
 }
 
 /// The draft of an intersection's timing set as CSV. The office is as it was.
@@ -38,14 +37,13 @@ pub fn draft_csv_of<S: Shelf>(
     id: InterId,
 ) -> Result<Vec<u8>, Fault>
     ensures kept { IsKept S.is_honest S.content S.written S.may_leave office.old office.new }
-    ensures text { S.is_honest office.new →
-        Exports (S.content office.old) (command.Draft id) result }
+    ensures text { IfOk result (λ text. S.is_honest office.new →
+        ExportsDraft (S.content office.old) id text.items) }
+    ensures fault { IfErr result (λ why. why ≢ Fault.Memory → S.is_honest office.new →
+        ShowsDraft (S.content office.old) id (Err why)) }
 {
-    match ask(alloc, office, Command::Draft { id }) {
-        Reply::Draft(draft) => Ok(timing_csv(alloc, &draft.rows)?),
-        Reply::Refused(refusal) => Err(fault_of(refusal)),
-        _ => Err(Fault::Store),
-    }
+    let rows = draft_in(alloc, office, id)?;
+    Ok(timing_csv(alloc, &rows)?)
 }
 
 /// The cabinet of an intersection as CSV: the records that made it so. The office is as it was.
@@ -55,12 +53,11 @@ pub fn cabinet_csv_of<S: Shelf>(
     id: InterId,
 ) -> Result<Vec<u8>, Fault>
     ensures kept { IsKept S.is_honest S.content S.written S.may_leave office.old office.new }
-    ensures text { S.is_honest office.new →
-        Exports (S.content office.old) (command.Cabinet id) result }
+    ensures text { IfOk result (λ text. S.is_honest office.new →
+        ExportsCabinet (S.content office.old) id text.items) }
+    ensures fault { IfErr result (λ why. why ≢ Fault.Memory → S.is_honest office.new →
+        ShowsCabinet (S.content office.old) id (Err why)) }
 {
-    match ask(alloc, office, Command::Cabinet { id }) {
-        Reply::Cabinet(shown) => Ok(records_csv(alloc, shown.id(), shown.view())?),
-        Reply::Refused(refusal) => Err(fault_of(refusal)),
-        _ => Err(Fault::Store),
-    }
+    let cabinet = cabinet_in(alloc, office, id)?;
+    Ok(records_csv(alloc, cabinet.id(), cabinet.view())?)
 }

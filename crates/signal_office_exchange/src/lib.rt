@@ -6,8 +6,9 @@ mod editing;
 mod exporting;
 mod importing;
 mod refused;
+mod showing;
 
 pub use editing::{Edited, edit_plan};
 pub use exporting::{cabinet_csv_of, draft_csv_of, timing_csv_of};
 pub use importing::{Imported, import_csv};
-pub use refused::fault_of;
+pub use showing::{draft_in, timing_in};

@@ -6,8 +6,10 @@ use Rattle.signal_diagram.specs.Diagram.{diagram_text}
 use Rattle.office_tables_shelf.specs.Content.{Content}
 use Rattle.signal_office_reports.specs.declared.fault.Fault.{Fault}
 use Rattle.signal_office_reports.specs.declared.fault.Fault.TheVariants as told
-use Rattle.signal_office_exchange.specs.Editing.{IsUnread}
-use Rattle.signal_office_plans.specs.Plan.{IsPlan, ShowsTiming}
+use Rattle.office_files.specs.Changes.{changes_of}
+use Rattle.signal_office_exchange.specs.Asking.{IsUnread}
+use Rattle.signal_office_exchange.specs.Showing.{ShowsTiming}
+use Rattle.signal_office_plans.specs.Plan.{IsPlan}
 
 -- the plan has the pattern, and the text is its picture
 pub record Draws (plan : Rows) (pattern : ℕ) (text : List ℕ) : Type 0 where
@@ -27,7 +29,7 @@ pub record DrawsFile (bytes : List ℕ) (pattern : ℕ) (text : List ℕ) : Type
 -- the file spells no plan, or its plan lacks the pattern
 abbrev pub DrawsNoFile : List ℕ → ℕ → Fault → Type 0
 DrawsNoFile bytes pattern why =
-    IsUnread bytes why ⊎ ((plan : Rows) × IsPlan bytes plan × Lacks plan pattern why)
+    IsUnread (changes_of bytes) why ⊎ ((plan : Rows) × IsPlan bytes plan × Lacks plan pattern why)
 
 -- the picture is of a committed timing set
 pub record DrawsTiming (tables : Content) (id pattern : ℕ) (text : List ℕ) : Type 0 where

@@ -1,5 +1,5 @@
 -- The plans that are compared and drawn.
-use Rattle.std.specs.Prelude.{◌≡◌, ◌⊎◌, ℕ, List, Result, Ok, Err}
+use Rattle.std.specs.Prelude.{◌≡◌, ◌⊎◌, ℕ, List, Ok, Err}
 use Rattle.std.specs.FinMap.{empty}
 use Rattle.signal_records.specs.TimingSet.{Rows, after_changes}
 use Rattle.signal_records.specs.declared.record.Change.{Change}
@@ -9,37 +9,14 @@ use Rattle.signal_compare.specs.Difference.{ExactlyWhereTheyDiffer}
 use Rattle.office_files.specs.Changes.{changes_of}
 use Rattle.office_files.specs.declared.fault.CsvFault.{CsvFault}
 use Rattle.office_tables_shelf.specs.Content.{Content}
-use Rattle.office_desk.specs.declared.command.Command.TheVariants as command
-use Rattle.office_desk.specs.declared.reply.Reply.{Reply}
-use Rattle.office_desk.specs.declared.reply.Reply.TheVariants as reply
 use Rattle.signal_office_reports.specs.declared.fault.Fault.{Fault}
-use Rattle.signal_office_reports.specs.declared.fault.Fault.TheVariants as told
-use Rattle.signal_office_exchange.specs.Asking.{Answered}
-use Rattle.signal_office_exchange.specs.Refused.{fault_of}
+use Rattle.signal_office_exchange.specs.Showing.{ShowsTiming, ShowsDraft}
 
 -- the set is what the changes of the file make of the empty one
 pub record IsPlan (bytes : List ℕ) (plan : Rows) : Type 0 where
   pub changes : List Change
   pub spelled : changes_of bytes ≡ Ok changes
   pub plan_is : plan ≡ after_changes empty changes
-
--- the rows that a reply shows, or the fault of its refusal: those of a timing set, and of a draft
-abbrev pub timing_shown : Reply → Result Rows Fault
-timing_shown (reply.Timing timing) = Ok timing.rows
-timing_shown (reply.Refused why) = Err (fault_of why)
-timing_shown other = Err told.Store
-
-abbrev pub draft_shown : Reply → Result Rows Fault
-draft_shown (reply.Draft draft) = Ok draft.rows
-draft_shown (reply.Refused why) = Err (fault_of why)
-draft_shown other = Err told.Store
-
--- the office, which stays as it is, answers a query for the timing set, or for the draft, so
-abbrev pub ShowsTiming : Content → ℕ → Result Rows Fault → Type 0
-ShowsTiming tables id rows = Answered timing_shown tables (command.Timing id) tables rows
-
-abbrev pub ShowsDraft : Content → ℕ → Result Rows Fault → Type 0
-ShowsDraft tables id rows = Answered draft_shown tables (command.Draft id) tables rows
 
 -- the differences are those of the sets, each told as what stands there, and their changes make
 -- the second set

@@ -5,11 +5,12 @@ ghost use Rattle.office_tables_shelf.specs.Shelf.{IsKept};
 ghost use Rattle.signal_office_plans.specs.Plan.{ComparesDraft, ComparesFiles, IsFirstBad};
 ghost use Rattle.signal_office_plans.specs.Plan.{IsRefusedQuery};
 
-use crate::plan::{draft_in, plan_in, timing_in};
+use crate::plan::plan_in;
 use office_desk::office::Office;
 use office_files::CsvFault;
 use office_tables_shelf::shelf::Shelf;
 use signal_compare::{Difference, compare};
+use signal_office_exchange::{draft_in, timing_in};
 use signal_office_reports::Fault;
 use signal_records::InterId;
 use std::alloc::Global;

@@ -5,10 +5,11 @@ ghost use Rattle.office_tables_shelf.specs.Shelf.{IsKept};
 ghost use Rattle.signal_office_plans.specs.Drawing.{Draws, DrawsFile, DrawsNoFile, DrawsTiming};
 ghost use Rattle.signal_office_plans.specs.Drawing.{DrawsNoTiming, Lacks};
 
-use crate::plan::{plan_in, timing_in};
+use crate::plan::plan_in;
 use office_desk::office::Office;
 use office_tables_shelf::shelf::Shelf;
 use signal_diagram::diagram;
+use signal_office_exchange::timing_in;
 use signal_office_reports::Fault;
 use signal_records::{InterId, PatternNo, TimingSet};
 use std::alloc::Global;
