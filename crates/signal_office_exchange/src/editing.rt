@@ -100,6 +100,32 @@ fn commit_told(replies: &[Reply]) -> Result<(), Fault>
     }
 }
 
+/// Runs the commands of an edit, and tells what they were answered.
+fn run_edit<S: Shelf>(
+    alloc: Global,
+    office: &mut Office<S>,
+    commands: &[Command],
+) -> Result<Violations, Fault>
+    ensures honest { S.is_honest office.new → S.is_honest office.old }
+    ensures does { S.is_honest office.new → Does edit_told (S.content office.old)
+        commands.now (S.content office.new) result }
+{
+    edit_told(office.run_all(alloc, commands)?)
+}
+
+/// Runs the commands of a commit, and tells what they were answered.
+fn run_commit<S: Shelf>(
+    alloc: Global,
+    office: &mut Office<S>,
+    commands: &[Command],
+) -> Result<(), Fault>
+    ensures honest { S.is_honest office.new → S.is_honest office.old }
+    ensures does { S.is_honest office.new → Does commit_told (S.content office.old)
+        commands.now (S.content office.new) result }
+{
+    commit_told(&office.run_all(alloc, commands)?)
+}
+
 /// Begins a transaction where none is under way, changes the draft, and gives the rules that it
 /// breaks.
 fn edit_draft<S: Shelf>(
@@ -125,8 +151,7 @@ fn edit_draft<S: Shelf>(
         },
         Command::Draft { id },
     ];
-    let replies = office.run_all(alloc, &commands)?;
-    edit_told(replies)
+    run_edit(alloc, office, &commands)
 }
 
 /// Hands the draft over, has it checked, and commits it.
@@ -154,8 +179,7 @@ fn commit_draft<S: Shelf>(
             clerk: clerk.clone()?,
         },
     ];
-    let replies = office.run_all(alloc, &commands)?;
-    commit_told(&replies)
+    run_commit(alloc, office, &commands)
 }
 
 /// Changes the draft of an intersection's timing set by the records of a CSV file, in a transaction
