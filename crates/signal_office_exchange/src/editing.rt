@@ -4,7 +4,7 @@ ghost use Rattle.std.specs.Prelude.{◌≡◌};
 ghost use Rattle.signal_office_exchange.specs.Editing.{begun, commit_commands, commit_told};
 ghost use Rattle.signal_office_exchange.specs.Editing.{drafted};
 ghost use Rattle.signal_office_exchange.specs.Editing.{edit_commands, edit_told, moved, opened};
-ghost use Rattle.signal_office_exchange.specs.Editing.{Does, EditsAs};
+ghost use Rattle.signal_office_exchange.specs.Editing.{is_due, Does, EditsAs, Goes};
 
 use crate::refused::fault_of;
 use draft_core::changes::Changes;
@@ -182,6 +182,31 @@ fn commit_draft<S: Shelf>(
     run_commit(alloc, office, &commands)
 }
 
+/// Whether a draft is to be committed: where that is asked, and it breaks no rule.
+fn is_due(commit: bool, violations: &Violations) -> bool
+    ensures { result ≡ is_due commit violations.now }
+{
+    commit && violations.as_slice().is_empty()
+}
+
+/// Commits the draft where that is due, and leaves it open else.
+fn commit_where_due<S: Shelf>(
+    alloc: Global,
+    office: &mut Office<S>,
+    id: InterId,
+    clerk: &Words<40>,
+    due: bool,
+) -> Result<(), Fault>
+    ensures honest { S.is_honest office.new → S.is_honest office.old }
+    ensures goes { S.is_honest office.new →
+        Goes due id clerk.now (S.content office.old) (S.content office.new) result }
+{
+    if due {
+        return commit_draft(alloc, office, id, clerk);
+    }
+    Ok(())
+}
+
 /// Changes the draft of an intersection's timing set by the records of a CSV file, in a transaction
 /// of a clerk: one that is begun, or that clerk's own. It stays open; but where a commit is asked
 /// for and the draft breaks no rule, it is committed.
@@ -199,10 +224,8 @@ pub fn edit_plan<S: Shelf>(
 {
     let changes = Changes::new(read_timing_csv(alloc, bytes)?);
     let violations = edit_draft(alloc, office, id, clerk, changes)?;
-    let committed = commit && violations.as_slice().is_empty();
-    if committed {
-        commit_draft(alloc, office, id, clerk)?;
-    }
+    let committed = is_due(commit, &violations);
+    commit_where_due(alloc, office, id, clerk, committed)?;
     Ok(Edited {
         violations,
         committed,
