@@ -1,6 +1,6 @@
 //! The fields that differ in two rows of a key.
 
-ghost use Rattle.std.specs.Prelude.{◌≡◌, ◌++◌, codes, map, string_bytes, OnOk, IfOk};
+ghost use Rattle.std.specs.Prelude.{◌≡◌, ◌++◌, map, string_bytes, OnOk};
 ghost use Rattle.signal_records.specs.Spelling.{Writes};
 ghost use Rattle.signal_compare.specs.Text.{shown, field_change, front_changes, ped_changes};
 ghost use Rattle.signal_compare.specs.Text.{row_changes, changed_fields};

@@ -1,6 +1,6 @@
 -- A timing set uses no more rings than an intersection has.
-use Rattle.std.proofs.Common.{◌≡◌, ℕ, ◌≤◌, Bool, true, false, List, [], ◌∷◌, length, filter, refl}
-use Rattle.std.proofs.Common.{arith, Result, Ok, Err, ap, sym}
+use Rattle.std.proofs.Common.{◌≡◌, ℕ, ◌≤◌, Bool, true, false, List, [], ◌∷◌, length, filter}
+use Rattle.std.proofs.Common.{arith, Result, Ok, Err}
 use Rattle.std.specs.Prelude.{cond, IfOk}
 use Rattle.signal_records.specs.TimingSet.{Rows}
 use Rattle.signal_rules.specs.Lookup.{ring_numbers}

@@ -7,7 +7,6 @@ use Rattle.signal_records.specs.Numbers.{numbers}
 use Rattle.signal_records.specs.TimingSet.{Rows}
 use Rattle.signal_rules.specs.Lookup.{is_in}
 use Rattle.signal_rules.specs.SequenceRule.{ring_row}
-use Rattle.signal_rules.specs.PatternRules.{used_rings}
 use Rattle.signal_rules.specs.CutPoints.{starts}
 use Rattle.signal_rules.specs.Starts.{times}
 use Rattle.signal_diagram.specs.declared.geometry.TheConstants.{LANES_TOP, BARRIER_RISE, THICK}

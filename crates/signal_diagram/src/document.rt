@@ -1,6 +1,6 @@
 //! The diagram of a pattern.
 
-ghost use Rattle.std.specs.Prelude.{◌≡◌, ◌++◌, ◌≤◌, ◌↔◌, OnOk, IfOk, IfSome, IsSome, IsUtf8};
+ghost use Rattle.std.specs.Prelude.{◌≡◌, ◌++◌, ◌≤◌, ◌↔◌, OnOk, IfOk, IfSome, IsSome};
 ghost use Rattle.std.specs.Prelude.{length, string_bytes};
 ghost use Rattle.signal_rules.specs.Lookup.{pattern_at};
 ghost use Rattle.signal_diagram.specs.Geometry.{shown_seconds};

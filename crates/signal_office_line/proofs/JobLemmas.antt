@@ -1,8 +1,8 @@
 -- What the command that was found asks for.
-use Rattle.std.proofs.Common.{◌≡◌, ◌∙◌, sym, ap₂, Option, Some, None, List}
+use Rattle.std.proofs.Common.{◌≡◌, ap₂, Option, Some, None, List}
 use Rattle.std.specs.Prelude.{option_map}
 use Rattle.clap.specs.Walk.{Row, Text}
-use Rattle.signal_office_line.specs.Job.{Asked, job_at, job_in}
+use Rattle.signal_office_line.specs.Job.{job_at, job_in}
 
 -- the name and the rows are those of the command that was found
 pub of_found : {Found : Type 0} (found : Option Found) (f : Found → Text × List Row) (name : Text)

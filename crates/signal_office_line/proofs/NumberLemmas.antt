@@ -1,7 +1,7 @@
 -- Which number a word spells, by what `parse` says of it.
 use Rattle.std.proofs.Common.{◌≡◌, ℕ, ◌<◌, ◌≤◌, ◌^◌, Bool, true, false, ◌&&◌, if◌then◌else◌, nat_lt}
 use Rattle.std.proofs.Common.{nat_le}
-use Rattle.std.proofs.Common.{List, [], ◌∷◌, length, Option, Some, None, Result, Ok, Err, sym, ap}
+use Rattle.std.proofs.Common.{[], ◌∷◌, length, Some, None, Result, Ok, Err, sym, ap}
 use Rattle.std.proofs.Common.{◌∙◌, refl, arith}
 use Rattle.std.proofs.lemmas.Bool.{ltb-true, lt-ltb, leb-true, le-leb}
 use Rattle.std.specs.Char.{digit_value}

@@ -1,4 +1,3 @@
-use Rattle.std.proofs.Common.{◌≡◌, ◌≤◌, length, ◌∙◌, sym}
 use Rattle.signal_diagram.proofs.FewPhases.{few_phases}
 use Rattle.signal_diagram.proofs.rows.row_of.Goals as goal
 

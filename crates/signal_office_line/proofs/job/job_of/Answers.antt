@@ -1,13 +1,13 @@
-use Rattle.std.proofs.Common.{◌≡◌, List, Option, Some, None, Bool, true, false, map, ap, subst, sym}
+use Rattle.std.proofs.Common.{◌≡◌, List, None, true, false, map, ap, subst, sym}
 use Rattle.std.proofs.Common.{refl, ◌∙◌}
 use Rattle.std.specs.Prelude.{is_some, option_map}
 use Rattle.std.specs.Borrow.{Bor}
 use Rattle.clap.specs.Matches.{found_of}
-use Rattle.clap.specs.Simple.{App, HasMatchesOf, subcommand_of, subcommand_rows_of}
+use Rattle.clap.specs.Simple.{App, HasMatchesOf, subcommand_of}
 use Rattle.clap.specs.Takes.{takes}
 use Rattle.clap.specs.Walk.{Text, rows_of}
 use Rattle.signal_office_line.specs.CommandLine.{signal_app}
-use Rattle.signal_office_line.specs.Job.{Asked, asked, job_in}
+use Rattle.signal_office_line.specs.Job.{asked, job_in}
 use Rattle.signal_office_line.proofs.JobLemmas.{of_found}
 use Rattle.signal_office_line.proofs.job.job_of.Goals as goal
 
