@@ -84,10 +84,11 @@ fn in_file<W: Sink>(
     rt: &HostRuntime,
     alloc: Global,
     path: &str,
-    task: Task<'_>,
+    task: &Task<'_>,
     out: &mut W,
 ) -> Result<u8, Fault> {
-    do_in_file(rt, alloc, path, &task, out)?.print(out)
+    let done = do_in_file(rt, alloc, path, task, out)?;
+    done.print(out)
 }
 
 /// Prints the report of the intersections that are overdue on the day of a word, which is read before
@@ -104,7 +105,7 @@ fn overdue<W: Sink>(
         return Err(Fault::Day);
     };
     let most = first.unwrap_or(ALL_INTERSECTIONS) as usize;
-    in_file(rt, alloc, path, Task::Overdue { day, most }, out)
+    in_file(rt, alloc, path, &Task::Overdue { day, most }, out)
 }
 
 /// Brings the tables of a file to today's version, and prints how many rows were written anew.
@@ -125,7 +126,7 @@ fn import<W: Sink>(
     out: &mut W,
 ) -> Result<u8, Fault> {
     let csv = &read_file(rt, csv)?;
-    in_file(rt, alloc, db, Task::Import { csv }, out)
+    in_file(rt, alloc, db, &Task::Import { csv }, out)
 }
 
 /// Changes a plan by a CSV file.
@@ -146,7 +147,7 @@ fn edit_plan<W: Sink>(
         csv,
         commit,
     };
-    in_file(rt, alloc, edit.db, task, out)
+    in_file(rt, alloc, edit.db, &task, out)
 }
 
 /// Prints what two plans differ in.
@@ -158,7 +159,7 @@ fn compare<W: Sink>(
     out: &mut W,
 ) -> Result<u8, Fault> {
     match *plans {
-        Plans::Draft { db, id } => in_file(rt, alloc, db, Task::Compare { id, csv }, out),
+        Plans::Draft { db, id } => in_file(rt, alloc, db, &Task::Compare { id, csv }, out),
         Plans::Files { first, second } => {
             let (first, second) = (read_file(rt, first)?, read_file(rt, second)?);
             let differences = compare_files(alloc, &first, &second)?;
@@ -176,7 +177,7 @@ fn diagram<W: Sink>(
     out: &mut W,
 ) -> Result<u8, Fault> {
     match *plan {
-        Plan::Committed { db, id } => in_file(rt, alloc, db, Task::Diagram { id, pattern }, out),
+        Plan::Committed { db, id } => in_file(rt, alloc, db, &Task::Diagram { id, pattern }, out),
         Plan::File { csv } => {
             let bytes = read_file(rt, csv)?;
             Done::with(diagram_in(alloc, &bytes, pattern)?).print(out)
@@ -209,16 +210,16 @@ fn run_job<R: Source, W: Sink>(
             db: Some(path),
         } => {
             let (port, count) = (*port, *count);
-            in_file(rt, alloc, path, Task::Serve { port, count }, out)
+            in_file(rt, alloc, path, &Task::Serve { port, count }, out)
         }
-        Job::Sheet { db, id } => in_file(rt, alloc, db, Task::Sheet { id: *id }, out),
+        Job::Sheet { db, id } => in_file(rt, alloc, db, &Task::Sheet { id: *id }, out),
         Job::Overdue { db, first, day } => overdue(rt, alloc, db, *first, day, out),
         Job::VerifyFile { csv } => verify_file(rt, alloc, csv, out),
         Job::Migrate { db } => migrate(rt, alloc, db, out),
         Job::Import { db, csv } => import(rt, alloc, db, csv, out),
         Job::Export { db, id, view } => {
             let (id, view) = (*id, *view);
-            in_file(rt, alloc, db, Task::Export { id, view }, out)
+            in_file(rt, alloc, db, &Task::Export { id, view }, out)
         }
         Job::Edit(edit) => edit_plan(rt, alloc, edit, out),
         Job::Compare { plans, csv } => compare(rt, alloc, plans, *csv, out),

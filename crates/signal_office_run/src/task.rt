@@ -7,9 +7,7 @@ use cabinet_core::Day;
 use office_desk::office::Office;
 use office_http::{Served, Sink, Source};
 use office_tables_shelf::shelf::Shelf;
-use signal_office_exchange::{
-    cabinet_csv_of, draft_csv_of, edit_plan, import_csv, timing_csv_of,
-};
+use signal_office_exchange::{cabinet_csv_of, draft_csv_of, edit_plan, import_csv, timing_csv_of};
 use signal_office_line::View;
 use signal_office_plans::{diagram_of, draft_differences};
 use signal_office_reports::{Fault, overdue_of, sheet_of};
@@ -21,15 +19,28 @@ use std::alloc::Global;
 #[derive(Clone, Copy)]
 pub(crate) enum Task<'a> {
     /// So many connections on a port.
-    Serve { port: u16, count: u32 },
+    Serve {
+        port: u16,
+        count: u32,
+    },
     /// The timing sheet of an intersection.
-    Sheet { id: InterId },
+    Sheet {
+        id: InterId,
+    },
     /// The report of the intersections that are overdue on a day, at most so many.
-    Overdue { day: Day, most: usize },
+    Overdue {
+        day: Day,
+        most: usize,
+    },
     /// The records of a CSV file.
-    Import { csv: &'a [u8] },
+    Import {
+        csv: &'a [u8],
+    },
     /// What is kept of an intersection, as CSV.
-    Export { id: InterId, view: View },
+    Export {
+        id: InterId,
+        view: View,
+    },
     /// A plan's CSV file that edits a draft, which is committed where that is asked.
     Edit {
         id: InterId,
@@ -38,9 +49,15 @@ pub(crate) enum Task<'a> {
         commit: bool,
     },
     /// What an intersection's draft changes, as a text or as CSV.
-    Compare { id: InterId, csv: bool },
+    Compare {
+        id: InterId,
+        csv: bool,
+    },
     /// A pattern of an intersection's committed timing set.
-    Diagram { id: InterId, pattern: PatternNo },
+    Diagram {
+        id: InterId,
+        pattern: PatternNo,
+    },
 }
 
 /// What is kept of an intersection, as CSV.
