@@ -1,41 +1,46 @@
-//! Tries the office on hostile use: streams that break off, long bodies, late days, drawn commands.
-//! It prints a line for each thing tried, and ends with status 1 where one is not as it must be.
+//! Tries the office on hostile use: streams that break off, a shelf that refuses, long bodies, late
+//! days, drawn commands. It prints a line for each thing tried, and ends with status 1 where one is
+//! not as it must be. With the word `requests`, `maps` or `tables` it tries what is meant for runs
+//! in which one allocation is refused from outside.
 #![tactic(auto)]
 
 mod cuts;
 mod long;
+mod memory;
+mod refusing;
 mod slow;
+mod state;
 mod sweep;
+mod talk;
 
 use crate::cuts::cut_everywhere;
 use crate::long::serve_long;
+use crate::memory::{run_all, serve_two};
+use crate::refusing::refuse_everywhere;
 use crate::sweep::draw_all;
 use office_desk::office::Office;
+use office_tables::open::OpenFault;
 use office_tables::sql_shelf::SqlShelf;
 use office_tables_shelf::map_shelf::MapShelf;
 use office_trials::trouble::Trouble;
-use sqlite::{Alter, Connection};
+use sqlite::{Connection, MemStore};
 use std::alloc::Global;
-use std::io;
 use std::process::ExitCode;
+use std::{env, io};
 
-/// A new office over an empty database.
-fn open<S: Alter + Drop>(
-    alloc: Global,
-    conn: Connection<S>,
-) -> Result<Office<SqlShelf<S>>, Trouble> {
-    match SqlShelf::open(alloc, conn) {
+/// A new office over an empty database in memory, which nothing but want of memory refuses.
+fn open(alloc: Global) -> Result<Office<SqlShelf<MemStore>>, Trouble> {
+    match SqlShelf::open(alloc, Connection::open_in_memory(alloc)?) {
         Ok(shelf) => Ok(Office::new(shelf)),
-        Err(_) => Err(Trouble::NoMemory),
+        Err(OpenFault::NoMemory) => Err(Trouble::NoMemory),
+        Err(_) => Err(Trouble::Unprepared("a database in memory")),
     }
 }
 
 /// Sends long bodies and drawn commands to offices over a database in memory.
 fn try_tables(alloc: Global) -> Result<(u32, String), Trouble> {
-    let mut office = open(alloc, Connection::open_in_memory(alloc)?)?;
-    let long = serve_long(alloc, &mut office)?;
-    let mut office = open(alloc, Connection::open_in_memory(alloc)?)?;
-    let tally = draw_all(alloc, &mut office)?;
+    let long = serve_long(alloc, &mut open(alloc)?)?;
+    let tally = draw_all(alloc, &mut open(alloc)?)?;
     Ok((long, tally))
 }
 
@@ -44,6 +49,10 @@ fn try_all(rt: &HostRuntime) -> Result<(), Trouble> {
     let alloc = rt.alloc();
     cut_everywhere(alloc)?;
     println!(rt; "a stream of 203 bytes, cut in 204 places: the whole requests were answered")?;
+    let calls = refuse_everywhere(alloc)?;
+    println!(rt;
+        "12 commands, each of {calls} calls of a shelf refused: unavailable, all as it was"
+    )?;
     let long = serve_long(alloc, &mut Office::new(MapShelf::new(alloc)))?;
     println!(rt; "{long} requests with long bodies and late days: answered as any other")?;
     let tally = draw_all(alloc, &mut Office::new(MapShelf::new(alloc)))?;
@@ -56,8 +65,34 @@ fn try_all(rt: &HostRuntime) -> Result<(), Trouble> {
     Ok(())
 }
 
+/// Tries work in which one allocation may be refused from outside. Where that meets this program
+/// itself, it ends with status 1; where something else came than may, that is printed, and the
+/// status is 0, as in a run that refuses nothing.
+fn try_memory(rt: &HostRuntime, part: &str) -> Result<(), Trouble> {
+    let alloc = rt.alloc();
+    let tried = match part {
+        "requests" => serve_two(alloc, &mut open(alloc)?),
+        "maps" => run_all(alloc, Office::new(MapShelf::new(alloc))),
+        "tables" => run_all(alloc, open(alloc)?),
+        _ => return Err(Trouble::Unprepared("a word")),
+    };
+    match tried {
+        Err(Trouble::NoMemory) => Err(Trouble::NoMemory),
+        Err(trouble) => Ok(println!(rt; "{trouble}")?),
+        Ok(()) => Ok(()),
+    }
+}
+
+/// Tries what the first word names, or all.
+fn try_named(rt: &HostRuntime) -> Result<(), Trouble> {
+    match env::args(rt)?.nth(1) {
+        Some(part) => try_memory(rt, part.as_str()),
+        None => try_all(rt),
+    }
+}
+
 fn main(rt: HostRuntime) -> io::Result<ExitCode> {
-    match try_all(&rt) {
+    match try_named(&rt) {
         Ok(()) => Ok(ExitCode::SUCCESS),
         Err(trouble) => {
             println!(rt; "{trouble}")?;

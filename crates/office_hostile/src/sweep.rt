@@ -2,14 +2,14 @@
 
 use crate::slow::asking::{Dice, WORDS};
 use crate::slow::office::Slow;
+use crate::talk::Talk;
 use office_desk::office::Office;
 use office_tables_shelf::shelf::Shelf;
-use office_trials::talking::{answer, told_answer};
-use office_trials::trouble::{Trouble, compare};
+use office_trials::trouble::Trouble;
 use std::alloc::{AllocError, Global};
 
-/// How many commands are drawn.
-const DRAWN: u32 = 2_000;
+/// How many streams are sent, and how many drawn commands are in each.
+const STREAMS: (u32, u32) = (40, 50);
 
 /// The slow office, and how often each command was drawn and each refusal came, by its number.
 #[derive(Drop)]
@@ -27,13 +27,8 @@ fn count(counts: &mut [u32], at: usize) {
 }
 
 impl Sweep {
-    /// Draws a command, sends it, and compares the answer.
-    fn draw<S: Shelf>(
-        &mut self,
-        alloc: Global,
-        dice: &mut Dice,
-        office: &mut Office<S>,
-    ) -> Result<(), Trouble> {
+    /// Draws a command, and adds it and what the slow office answers to a stream.
+    fn draw(&mut self, alloc: Global, dice: &mut Dice, talk: &mut Talk) -> Result<(), AllocError> {
         let ask = dice.command();
         let records = [dice.record(), dice.record()];
         let told = self.slow.run(alloc, &ask, &records)?;
@@ -44,12 +39,20 @@ impl Sweep {
             10 | 22 => "404 Not Found",
             _ => "409 Conflict",
         };
-        let wanted = told_answer(alloc, status, told.body.as_str())?;
         let path = ask.path(alloc)?;
         let body = ask.body(alloc, &records)?;
         let method = if body.is_empty() { "GET" } else { "POST" };
-        let came = answer(alloc, office, (method, path.as_str(), body.as_str()))?;
-        compare(alloc, "a drawn command", wanted.as_bytes(), &came)
+        let words = (method, path.as_str(), body.as_str());
+        talk.ask(alloc, words, (status, told.body.as_str()))
+    }
+
+    /// A stream of drawn commands.
+    fn draw_stream(&mut self, alloc: Global, dice: &mut Dice) -> Result<Talk, AllocError> {
+        let mut talk = Talk::new(alloc);
+        for _ in 0..STREAMS.1 {
+            self.draw(alloc, dice, &mut talk)?;
+        }
+        Ok(talk)
     }
 
     /// Each command and each refusal with its count, and whether none is missing: 18 need not
@@ -73,8 +76,8 @@ impl Sweep {
     }
 }
 
-/// Sends drawn commands to a new office, each as a request, compares each answer, and tells how
-/// often each command was drawn and each refusal came.
+/// Sends drawn commands to a new office, as requests, compares the answers, and tells how often
+/// each command was drawn and each refusal came.
 pub(crate) fn draw_all<S: Shelf>(alloc: Global, office: &mut Office<S>) -> Result<String, Trouble> {
     let mut sweep = Sweep {
         slow: Slow::new(alloc),
@@ -82,8 +85,9 @@ pub(crate) fn draw_all<S: Shelf>(alloc: Global, office: &mut Office<S>) -> Resul
         refusals: [0; 31],
     };
     let mut dice = Dice { state: 149 };
-    for _ in 0..DRAWN {
-        sweep.draw(alloc, &mut dice, office)?;
+    for _ in 0..STREAMS.0 {
+        let talk = sweep.draw_stream(alloc, &mut dice)?;
+        talk.serve(alloc, office, "drawn commands")?;
     }
     let (tally, is_full) = sweep.tally(alloc)?;
     if !is_full {
