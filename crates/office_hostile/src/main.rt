@@ -1,46 +1,39 @@
-//! Tries the office on hostile use: streams that break off, a shelf that refuses, long bodies, late
-//! days, drawn commands. It prints a line for each thing tried, and ends with status 1 where one is
-//! not as it must be. With the word `requests`, `maps` or `tables` it tries what is meant for runs
-//! in which one allocation is refused from outside.
+//! Tries the office on hostile use: streams that break off, a shelf that refuses, stored rows that
+//! are no records, long bodies, late days, drawn commands. It prints a line for each thing tried,
+//! and ends with status 1 where one is not as it must be. With the word `requests`, `maps` or
+//! `tables` it tries what is meant for runs in which one allocation is refused from outside.
 #![tactic(auto)]
 
 mod cuts;
+mod damaged;
+mod database;
 mod long;
 mod memory;
 mod refusing;
+mod running;
 mod slow;
 mod state;
 mod sweep;
 mod talk;
 
 use crate::cuts::cut_everywhere;
+use crate::damaged::meet_all;
+use crate::database::open_new;
 use crate::long::serve_long;
 use crate::memory::{run_all, serve_two};
 use crate::refusing::refuse_everywhere;
 use crate::sweep::draw_all;
 use office_desk::office::Office;
-use office_tables::open::OpenFault;
-use office_tables::sql_shelf::SqlShelf;
 use office_tables_shelf::map_shelf::MapShelf;
 use office_trials::trouble::Trouble;
-use sqlite::{Connection, MemStore};
 use std::alloc::Global;
 use std::process::ExitCode;
 use std::{env, io};
 
-/// A new office over an empty database in memory, which nothing but want of memory refuses.
-fn open(alloc: Global) -> Result<Office<SqlShelf<MemStore>>, Trouble> {
-    match SqlShelf::open(alloc, Connection::open_in_memory(alloc)?) {
-        Ok(shelf) => Ok(Office::new(shelf)),
-        Err(OpenFault::NoMemory) => Err(Trouble::NoMemory),
-        Err(_) => Err(Trouble::Unprepared("a database in memory")),
-    }
-}
-
 /// Sends long bodies and drawn commands to offices over a database in memory.
 fn try_tables(alloc: Global) -> Result<(u32, String), Trouble> {
-    let long = serve_long(alloc, &mut open(alloc)?)?;
-    let tally = draw_all(alloc, &mut open(alloc)?)?;
+    let long = serve_long(alloc, &mut open_new(alloc)?)?;
+    let tally = draw_all(alloc, &mut open_new(alloc)?)?;
     Ok((long, tally))
 }
 
@@ -51,8 +44,10 @@ fn try_all(rt: &HostRuntime) -> Result<(), Trouble> {
     println!(rt; "a stream of 203 bytes, cut in 204 places: the whole requests were answered")?;
     let calls = refuse_everywhere(alloc)?;
     println!(rt;
-        "12 commands, each of {calls} calls of a shelf refused: unavailable, all as it was"
+        "12 commands, each of their {calls} calls of the shelf refused: unavailable, all as it was"
     )?;
+    let rows = meet_all(alloc)?;
+    println!(rt; "{rows} stored rows that are no records: told by what reads them, all as it was")?;
     let long = serve_long(alloc, &mut Office::new(MapShelf::new(alloc)))?;
     println!(rt; "{long} requests with long bodies and late days: answered as any other")?;
     let tally = draw_all(alloc, &mut Office::new(MapShelf::new(alloc)))?;
@@ -71,9 +66,9 @@ fn try_all(rt: &HostRuntime) -> Result<(), Trouble> {
 fn try_memory(rt: &HostRuntime, part: &str) -> Result<(), Trouble> {
     let alloc = rt.alloc();
     let tried = match part {
-        "requests" => serve_two(alloc, &mut open(alloc)?),
+        "requests" => serve_two(alloc, &mut open_new(alloc)?),
         "maps" => run_all(alloc, Office::new(MapShelf::new(alloc))),
-        "tables" => run_all(alloc, open(alloc)?),
+        "tables" => run_all(alloc, open_new(alloc)?),
         _ => return Err(Trouble::Unprepared("a word")),
     };
     match tried {

@@ -1,54 +1,16 @@
 //! Work that is tried with one allocation refused from outside, at whichever place. Where that
 //! meets this program itself, it ends with `NoMemory`, and nothing is said of the office.
 
+use crate::running::is_run;
 use crate::state::{is_unchanged, state};
 use office_desk::office::Office;
-use office_desk::refusal::Refusal;
-use office_desk::reply::Reply;
-use office_http::{
-    AskFault, Asked, FromRead, Request, ServeFault, Served, ToWrite, answer_of, command_of, serve,
-};
+use office_http::{FromRead, ServeFault, Served, ToWrite, serve};
 use office_tables_shelf::map_shelf::MapShelf;
 use office_tables_shelf::shelf::Shelf;
-use office_trials::script::{ANSWERS, COMMANDS, Line, STREAM, UNAVAILABLE, UNKNOWN};
-use office_trials::talking::{answer, is_done, told_answer};
+use office_trials::script::{ANSWERS, COMMANDS, STREAM, UNAVAILABLE, UNKNOWN};
+use office_trials::talking::answer;
 use office_trials::trouble::{Trouble, compare};
 use std::alloc::Global;
-
-/// What a line asks for.
-fn asked(alloc: Global, line: &Line) -> Result<Option<Asked>, Trouble> {
-    let mut words = line.0.splitn(3, ' ');
-    let request = Request {
-        method: words.next().unwrap_or("").as_bytes(),
-        path: words.next().unwrap_or("").as_bytes(),
-        body: words.next().unwrap_or("").as_bytes(),
-        last: false,
-    };
-    match command_of(alloc, &request) {
-        Ok(asked) => Ok(Some(asked)),
-        Err(AskFault::NoMemory) => Ok(None),
-        Err(_) => Err(Trouble::Unprepared(line.0)),
-    }
-}
-
-/// Runs what a line asks for. It is answered as the line tells, or is unavailable; tells whether it
-/// was done.
-fn is_run<S: Shelf>(alloc: Global, office: &mut Office<S>, line: &Line) -> Result<bool, Trouble> {
-    let Some(Asked { command, form }) = asked(alloc, line)? else {
-        return Ok(false);
-    };
-    let reply = office.run(alloc, &command);
-    if matches!(&reply, Reply::Refused(Refusal::Unavailable)) {
-        return Ok(false);
-    }
-    let came = match answer_of(alloc, &reply, form) {
-        Ok(came) => came,
-        Err(_) => answer_of(alloc, &reply, form)?,
-    };
-    let told = told_answer(alloc, line.1, line.2)?;
-    compare(alloc, line.0, told.as_bytes(), &came)?;
-    Ok(true)
-}
 
 /// The office shows and has written what one over maps does after so many commands, none of which
 /// was refused.
@@ -59,7 +21,7 @@ fn is_after<S: Shelf + Drop>(
 ) -> Result<Office<S>, Trouble> {
     let mut other = Office::new(MapShelf::new(alloc));
     for line in COMMANDS.iter().take(done) {
-        if !is_done(alloc, &mut other, line)? {
+        if !is_run(alloc, &mut other, line)? {
             return Err(Trouble::NoMemory);
         }
     }

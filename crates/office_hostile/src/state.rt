@@ -16,7 +16,7 @@ pub(crate) struct State {
 }
 
 /// How often the rows of each table were written.
-fn counts<S: Shelf>(shelf: &S) -> [u64; 8] {
+pub(crate) fn counts<S: Shelf>(shelf: &S) -> [u64; 8] {
     [
         shelf.writes(Table::Intersection),
         shelf.writes(Table::Timing),
