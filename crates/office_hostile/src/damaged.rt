@@ -116,7 +116,10 @@ fn told(alloc: Global) -> Result<Vec<Vec<u8>>, Trouble> {
     fill(alloc, &mut office)?;
     let mut told = Vec::new(alloc);
     for path in QUERIES {
-        told.push(answer(alloc, &mut office, ("GET", path, ""))?)?;
+        let answer = answer(alloc, &mut office, ("GET", path, ""))?;
+        if told.push(answer).is_err() {
+            return Err(Trouble::NoMemory);
+        }
     }
     Ok(told)
 }
