@@ -1,10 +1,10 @@
 //! What an office shows, and how often it wrote.
 
+use crate::running::run;
 use office_desk::office::Office;
 use office_tables_shelf::rows::Table;
 use office_tables_shelf::shelf::Shelf;
 use office_trials::script::QUERIES;
-use office_trials::talking::{request_bytes, serve_all};
 use office_trials::trouble::{Trouble, compare};
 use std::alloc::Global;
 
@@ -31,13 +31,14 @@ pub(crate) fn counts<S: Shelf>(shelf: &S) -> [u64; 8] {
 
 /// All that an office shows of intersection 12, of the stock and of what is overdue.
 fn shown<S: Shelf>(alloc: Global, office: &mut Office<S>) -> Result<Vec<u8>, Trouble> {
-    let mut asked = Vec::new(alloc);
+    let mut seen = Vec::new(alloc);
     for path in QUERIES {
-        let request = request_bytes(alloc, ("GET", path, ""))?;
-        asked.extend_from_slice(request.as_bytes())?;
+        let Some(answer) = run(alloc, office, ("GET", path, ""))? else {
+            return Err(Trouble::Unprepared("a query"));
+        };
+        seen.extend_from_slice(&answer)?;
     }
-    let (answers, _) = serve_all(alloc, office, &asked)?;
-    Ok(answers)
+    Ok(seen)
 }
 
 /// The state of an office, and the office.
