@@ -1,7 +1,7 @@
 //! Tries the office on hostile use: streams that break off, a shelf that refuses, stored rows that
 //! are no records, long bodies, late days, drawn commands. It prints a line for each thing tried,
-//! and ends with status 1 where one is not as it must be. With the words `requests`, `maps` or
-//! `tables` and a number it tries what is meant for runs in which one allocation is refused.
+//! and ends with status 1 where one is not as it must be. With the word `requests`, `maps` or
+//! `tables` it tries what is meant for runs in which one allocation is refused from outside.
 #![tactic(auto)]
 
 mod cuts;
@@ -20,7 +20,7 @@ use crate::cuts::cut_everywhere;
 use crate::damaged::meet_all;
 use crate::database::open_new;
 use crate::long::serve_long;
-use crate::memory::{run_all, serve_two, spend};
+use crate::memory::{run_all, serve_two};
 use crate::refusing::refuse_everywhere;
 use crate::sweep::draw_all;
 use office_desk::office::Office;
@@ -60,12 +60,11 @@ fn try_all(rt: &HostRuntime) -> Result<(), Trouble> {
     Ok(())
 }
 
-/// Tries a piece of work in which one allocation may be refused from outside, after so many others,
-/// and prints what came of it. Where the refusal meets this program itself, it ends with status 1;
-/// where something else came than may, with status 0, as where all is as it must be.
-fn try_memory(rt: &HostRuntime, part: &str, before: u32) -> Result<(), Trouble> {
+/// Tries a piece of work in which one allocation may be refused from outside, and prints what came
+/// of it. Where the refusal meets this program itself, it ends with status 1; where something else
+/// came than may, with status 0, as where all is as it must be.
+fn try_memory(rt: &HostRuntime, part: &str) -> Result<(), Trouble> {
     let alloc = rt.alloc();
-    spend(alloc, before)?;
     let tried = match part {
         "requests" => serve_two(alloc, &mut open_new(alloc)?),
         "maps" => run_all(alloc, Office::new(MapShelf::new(alloc))),
@@ -81,16 +80,14 @@ fn try_memory(rt: &HostRuntime, part: &str, before: u32) -> Result<(), Trouble> 
     Ok(())
 }
 
-/// Tries what the words name, or all.
+/// Tries what the first word names, or all.
 fn try_named(rt: &HostRuntime) -> Result<(), Trouble> {
-    let mut words = env::args(rt)?.skip(1);
-    let (part, before) = (words.next(), words.next());
-    match (part, before) {
-        (Some(part), Some(before)) => {
-            let before = before.parse().unwrap_or(0);
-            try_memory(rt, part.as_str(), before)
-        }
-        _ => try_all(rt),
+    let Ok(mut words) = env::args(rt) else {
+        return Err(Trouble::NoMemory);
+    };
+    match words.nth(1) {
+        Some(part) => try_memory(rt, part.as_str()),
+        None => try_all(rt),
     }
 }
 

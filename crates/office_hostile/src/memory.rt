@@ -3,7 +3,7 @@
 //! Otherwise it tells what came: whether something was refused.
 
 use crate::running::is_run;
-use crate::state::{is_unchanged, state};
+use crate::state::{is_unchanged, state_of};
 use office_desk::office::Office;
 use office_http::{FromRead, ServeFault, Served, ToWrite, serve};
 use office_tables_shelf::map_shelf::MapShelf;
@@ -11,8 +11,7 @@ use office_tables_shelf::shelf::Shelf;
 use office_trials::script::{ANSWERS, COMMANDS, STREAM, UNAVAILABLE, UNKNOWN};
 use office_trials::talking::answer;
 use office_trials::trouble::{Trouble, compare};
-use std::alloc::{AllocError, Global};
-use std::mem;
+use std::alloc::Global;
 
 /// The office shows and has written what one over maps does after so many commands, none of which
 /// was refused.
@@ -27,17 +26,8 @@ fn is_after<S: Shelf + Drop>(
             return Err(Trouble::NoMemory);
         }
     }
-    let (before, _) = state(alloc, other)?;
+    let (before, _) = state_of(alloc, other)?;
     is_unchanged(alloc, office, &before)
-}
-
-/// Makes so many allocations, each of which is let go at once.
-pub(crate) fn spend(alloc: Global, count: u32) -> Result<(), AllocError> {
-    for n in 0..count {
-        let spent = Box::new(alloc, n)?;
-        mem::drop(spent);
-    }
-    Ok(())
 }
 
 /// Runs all commands. One that is refused leaves tables and counts as they were, and asked again

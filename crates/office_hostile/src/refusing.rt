@@ -2,7 +2,7 @@
 
 ghost use Rattle.std.specs.Prelude.{◌≡◌, OnErr};
 
-use crate::state::{is_unchanged, state};
+use crate::state::{is_unchanged, state_of};
 use cabinet_core::{Delivery, Hand, Inspection, Order, PartCode, UsedLine};
 use office_desk::office::Office;
 use office_tables_shelf::map_shelf::MapShelf;
@@ -188,7 +188,7 @@ fn refuse_each(
     start: Office<Refusing>,
     line: &Line,
 ) -> Result<(u32, Office<Refusing>), Trouble> {
-    let (before, mut office) = state(alloc, start)?;
+    let (before, mut office) = state_of(alloc, start)?;
     for call in 0..1_000 {
         let (is_refused, left) = refuse(alloc, office, line, call)?;
         if !is_refused {

@@ -42,7 +42,7 @@ fn shown<S: Shelf>(alloc: Global, office: &mut Office<S>) -> Result<Vec<u8>, Tro
 }
 
 /// The state of an office, and the office.
-pub(crate) fn state<S: Shelf + Drop>(
+pub(crate) fn state_of<S: Shelf + Drop>(
     alloc: Global,
     office: Office<S>,
 ) -> Result<(State, Office<S>), Trouble> {
@@ -59,7 +59,7 @@ pub(crate) fn is_unchanged<S: Shelf + Drop>(
     office: Office<S>,
     before: &State,
 ) -> Result<Office<S>, Trouble> {
-    let (State { seen, written }, office) = state(alloc, office)?;
+    let (State { seen, written }, office) = state_of(alloc, office)?;
     compare(alloc, "tables after a refusal", &before.seen, &seen)?;
     if written != before.written {
         return Err(Trouble::Unprepared("a count of writes"));
