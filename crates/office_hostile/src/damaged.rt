@@ -1,7 +1,7 @@
 //! Stored rows that are no records, each met by the requests that read it.
 
 use crate::database::{altered, open_new};
-use crate::running::{is_run, run};
+use crate::running::{answers, is_run};
 use crate::state::counts;
 use office_desk::office::Office;
 use office_tables_shelf::map_shelf::MapShelf;
@@ -131,10 +131,7 @@ fn ask<S: Shelf>(
     words: Words<'_>,
     (sql, told): (&'static str, &[u8]),
 ) -> Result<(), Trouble> {
-    let Some(came) = run(alloc, office, words)? else {
-        return Err(Trouble::Unprepared(sql));
-    };
-    compare(alloc, sql, told, &came)?;
+    answers(alloc, office, words, (sql, told))?;
     let came = answer(alloc, office, words)?;
     compare(alloc, sql, told, &came)
 }

@@ -33,7 +33,7 @@ use std::{env, io};
 /// Sends long bodies and drawn commands to offices over a database in memory.
 fn try_tables(alloc: Global) -> Result<(u32, String), Trouble> {
     let long = serve_long(alloc, &mut open_new(alloc)?)?;
-    let tally = draw_all(alloc, &mut open_new(alloc)?)?;
+    let tally = draw_all(alloc, &mut open_new(alloc)?, &mut open_new(alloc)?)?;
     Ok((long, tally))
 }
 
@@ -50,7 +50,8 @@ fn try_all(rt: &HostRuntime) -> Result<(), Trouble> {
     println!(rt; "{rows} stored rows that are no records: told by what reads them, all as it was")?;
     let long = serve_long(alloc, &mut Office::new(MapShelf::new(alloc)))?;
     println!(rt; "{long} requests with long bodies and late days: answered as any other")?;
-    let tally = draw_all(alloc, &mut Office::new(MapShelf::new(alloc)))?;
+    let mut served = Office::new(MapShelf::new(alloc));
+    let tally = draw_all(alloc, &mut Office::new(MapShelf::new(alloc)), &mut served)?;
     println!(rt; "2000 drawn commands, and refusals by their numbers:{tally}")?;
     let (requests, drawn) = try_tables(alloc)?;
     if requests != long || drawn.as_str() != tally.as_str() {

@@ -38,6 +38,19 @@ pub(crate) fn run<S: Shelf>(
     }
 }
 
+/// Runs what a request asks for, which must be answered this.
+pub(crate) fn answers<S: Shelf>(
+    alloc: Global,
+    office: &mut Office<S>,
+    words: Words<'_>,
+    (what, told): (&'static str, &[u8]),
+) -> Result<(), Trouble> {
+    match run(alloc, office, words)? {
+        Some(came) => compare(alloc, what, told, &came),
+        None => Err(Trouble::Unprepared(what)),
+    }
+}
+
 /// Runs what a line asks for. It is answered as the line tells, or was refused; tells whether it
 /// was done.
 pub(crate) fn is_run<S: Shelf>(

@@ -59,9 +59,9 @@ pub(crate) fn is_unchanged<S: Shelf + Drop>(
     office: Office<S>,
     before: &State,
 ) -> Result<Office<S>, Trouble> {
-    let (State { seen, written }, office) = state_of(alloc, office)?;
-    compare(alloc, "tables after a refusal", &before.seen, &seen)?;
-    if written != before.written {
+    let (after, office) = state_of(alloc, office)?;
+    compare(alloc, "tables after a refusal", &before.seen, &after.seen)?;
+    if after.written != before.written {
         return Err(Trouble::Unprepared("a count of writes"));
     }
     Ok(office)

@@ -1,10 +1,12 @@
 //! Drawn commands, each answered as the slow office answers it.
 
+use crate::running::answers;
 use crate::slow::asking::{Dice, WORDS};
 use crate::slow::office::Slow;
 use crate::talk::Talk;
 use office_desk::office::Office;
 use office_tables_shelf::shelf::Shelf;
+use office_trials::talking::told_answer;
 use office_trials::trouble::Trouble;
 use std::alloc::{AllocError, Global};
 
@@ -27,8 +29,15 @@ fn count(counts: &mut [u32], at: usize) {
 }
 
 impl Sweep {
-    /// Draws a command, and adds it and what the slow office answers to a stream.
-    fn draw(&mut self, alloc: Global, dice: &mut Dice, talk: &mut Talk) -> Result<(), AllocError> {
+    /// Draws a command, adds it to a stream, and has an office run it, which must answer as the
+    /// slow office does.
+    fn draw<S: Shelf>(
+        &mut self,
+        alloc: Global,
+        dice: &mut Dice,
+        office: &mut Office<S>,
+        talk: &mut Talk,
+    ) -> Result<(), Trouble> {
         let ask = dice.command();
         let records = [dice.record(), dice.record()];
         let told = self.slow.run(alloc, &ask, &records)?;
@@ -43,14 +52,21 @@ impl Sweep {
         let body = ask.body(alloc, &records)?;
         let method = if body.is_empty() { "GET" } else { "POST" };
         let words = (method, path.as_str(), body.as_str());
-        talk.ask(alloc, words, (status, told.body.as_str()))
+        talk.ask(alloc, words, (status, told.body.as_str()))?;
+        let told = told_answer(alloc, status, told.body.as_str())?;
+        answers(alloc, office, words, ("a drawn command", told.as_bytes()))
     }
 
-    /// A stream of drawn commands.
-    fn draw_stream(&mut self, alloc: Global, dice: &mut Dice) -> Result<Talk, AllocError> {
+    /// Draws commands, which an office runs, and gives the stream of them.
+    fn draw_stream<S: Shelf>(
+        &mut self,
+        alloc: Global,
+        dice: &mut Dice,
+        office: &mut Office<S>,
+    ) -> Result<Talk, Trouble> {
         let mut talk = Talk::new(alloc);
         for _ in 0..STREAMS.1 {
-            self.draw(alloc, dice, &mut talk)?;
+            self.draw(alloc, dice, office, &mut talk)?;
         }
         Ok(talk)
     }
@@ -76,9 +92,13 @@ impl Sweep {
     }
 }
 
-/// Sends drawn commands to a new office, as requests, compares the answers, and tells how often
-/// each command was drawn and each refusal came.
-pub(crate) fn draw_all<S: Shelf>(alloc: Global, office: &mut Office<S>) -> Result<String, Trouble> {
+/// Has a new office run drawn commands, and sends them to another one as requests, compares the
+/// answers, and tells how often each command was drawn and each refusal came.
+pub(crate) fn draw_all<S: Shelf>(
+    alloc: Global,
+    office: &mut Office<S>,
+    served: &mut Office<S>,
+) -> Result<String, Trouble> {
     let mut sweep = Sweep {
         slow: Slow::new(alloc),
         commands: [0; 21],
@@ -86,8 +106,8 @@ pub(crate) fn draw_all<S: Shelf>(alloc: Global, office: &mut Office<S>) -> Resul
     };
     let mut dice = Dice { state: 149 };
     for _ in 0..STREAMS.0 {
-        let talk = sweep.draw_stream(alloc, &mut dice)?;
-        talk.serve(alloc, office, "drawn commands")?;
+        let talk = sweep.draw_stream(alloc, &mut dice, office)?;
+        talk.serve(alloc, served, "drawn commands")?;
     }
     let (tally, is_full) = sweep.tally(alloc)?;
     if !is_full {
