@@ -1,9 +1,10 @@
 //! Long bodies and late days, which are answered as any other.
 
+use crate::talk::Talk;
 use office_desk::office::Office;
 use office_tables_shelf::shelf::Shelf;
-use office_trials::talking::{Words, request_bytes, serve_all, told_answer};
-use office_trials::trouble::{Trouble, compare};
+use office_trials::talking::Words;
+use office_trials::trouble::Trouble;
 use std::alloc::{AllocError, Global};
 
 const OK: &str = "200 OK";
@@ -11,31 +12,6 @@ const OK: &str = "200 OK";
 const CONFLICT: &str = "409 Conflict";
 
 const BAD: &str = "400 Bad Request";
-
-/// A stream of requests, and the answers that must come.
-#[derive(Drop)]
-struct Talk {
-    asked: Vec<u8>,
-    told: Vec<u8>,
-    requests: u32,
-}
-
-impl Talk {
-    /// Adds a request and its answer.
-    fn ask(
-        &mut self,
-        alloc: Global,
-        words: Words<'_>,
-        (status, answer): (&str, &str),
-    ) -> Result<(), AllocError> {
-        let asked = request_bytes(alloc, words)?;
-        self.asked.extend_from_slice(asked.as_bytes())?;
-        let told = told_answer(alloc, status, answer)?;
-        self.told.extend_from_slice(told.as_bytes())?;
-        self.requests = self.requests.saturating_add(1);
-        Ok(())
-    }
-}
 
 /// Deliveries with the numbers from 1 on, as a body.
 fn deliveries(alloc: Global, count: u32) -> Result<String, AllocError> {
@@ -155,18 +131,10 @@ fn ask_late_days(alloc: Global, talk: &mut Talk) -> Result<(), AllocError> {
 /// Serves long bodies and late days to a new office, compares the answers, and tells how many
 /// requests they are.
 pub(crate) fn serve_long<S: Shelf>(alloc: Global, office: &mut Office<S>) -> Result<u32, Trouble> {
-    let mut talk = Talk {
-        asked: Vec::new(alloc),
-        told: Vec::new(alloc),
-        requests: 0,
-    };
+    let mut talk = Talk::new(alloc);
     ask_long_bodies(alloc, &mut talk)?;
-    ask_many_rows(alloc, &mut talk)?;
     ask_late_days(alloc, &mut talk)?;
-    let (answers, requests) = serve_all(alloc, office, &talk.asked)?;
-    compare(alloc, "a long stream", &talk.told, &answers)?;
-    if requests != talk.requests {
-        return Err(Trouble::Unprepared("a count of requests"));
-    }
-    Ok(requests)
+    ask_many_rows(alloc, &mut talk)?;
+    talk.serve(alloc, office, "a long stream")?;
+    Ok(talk.requests)
 }

@@ -1,15 +1,17 @@
 //! Drawn commands, each answered as the slow office answers it.
 
+use crate::running::answers;
 use crate::slow::asking::{Dice, WORDS};
 use crate::slow::office::Slow;
+use crate::talk::Talk;
 use office_desk::office::Office;
 use office_tables_shelf::shelf::Shelf;
-use office_trials::talking::{answer, told_answer};
-use office_trials::trouble::{Trouble, compare};
+use office_trials::talking::told_answer;
+use office_trials::trouble::Trouble;
 use std::alloc::{AllocError, Global};
 
-/// How many commands are drawn.
-const DRAWN: u32 = 2_000;
+/// How many streams are sent, and how many drawn commands are in each.
+const STREAMS: (u32, u32) = (40, 50);
 
 /// The slow office, and how often each command was drawn and each refusal came, by its number.
 #[derive(Drop)]
@@ -27,12 +29,14 @@ fn count(counts: &mut [u32], at: usize) {
 }
 
 impl Sweep {
-    /// Draws a command, sends it, and compares the answer.
+    /// Draws a command, adds it to a stream, and has an office run it, which must answer as the
+    /// slow office does.
     fn draw<S: Shelf>(
         &mut self,
         alloc: Global,
         dice: &mut Dice,
         office: &mut Office<S>,
+        talk: &mut Talk,
     ) -> Result<(), Trouble> {
         let ask = dice.command();
         let records = [dice.record(), dice.record()];
@@ -44,12 +48,27 @@ impl Sweep {
             10 | 22 => "404 Not Found",
             _ => "409 Conflict",
         };
-        let wanted = told_answer(alloc, status, told.body.as_str())?;
         let path = ask.path(alloc)?;
         let body = ask.body(alloc, &records)?;
         let method = if body.is_empty() { "GET" } else { "POST" };
-        let came = answer(alloc, office, (method, path.as_str(), body.as_str()))?;
-        compare(alloc, "a drawn command", wanted.as_bytes(), &came)
+        let words = (method, path.as_str(), body.as_str());
+        talk.ask(alloc, words, (status, told.body.as_str()))?;
+        let told = told_answer(alloc, status, told.body.as_str())?;
+        answers(alloc, office, words, ("a drawn command", told.as_bytes()))
+    }
+
+    /// Draws commands, which an office runs, and gives the stream of them.
+    fn draw_stream<S: Shelf>(
+        &mut self,
+        alloc: Global,
+        dice: &mut Dice,
+        office: &mut Office<S>,
+    ) -> Result<Talk, Trouble> {
+        let mut talk = Talk::new(alloc);
+        for _ in 0..STREAMS.1 {
+            self.draw(alloc, dice, office, &mut talk)?;
+        }
+        Ok(talk)
     }
 
     /// Each command and each refusal with its count, and whether none is missing: 18 need not
@@ -73,17 +92,22 @@ impl Sweep {
     }
 }
 
-/// Sends drawn commands to a new office, each as a request, compares each answer, and tells how
-/// often each command was drawn and each refusal came.
-pub(crate) fn draw_all<S: Shelf>(alloc: Global, office: &mut Office<S>) -> Result<String, Trouble> {
+/// Has a new office run drawn commands, and sends them to another one as requests, compares the
+/// answers, and tells how often each command was drawn and each refusal came.
+pub(crate) fn draw_all<S: Shelf>(
+    alloc: Global,
+    office: &mut Office<S>,
+    served: &mut Office<S>,
+) -> Result<String, Trouble> {
     let mut sweep = Sweep {
         slow: Slow::new(alloc),
         commands: [0; 21],
         refusals: [0; 31],
     };
     let mut dice = Dice { state: 149 };
-    for _ in 0..DRAWN {
-        sweep.draw(alloc, &mut dice, office)?;
+    for _ in 0..STREAMS.0 {
+        let talk = sweep.draw_stream(alloc, &mut dice, office)?;
+        talk.serve(alloc, served, "drawn commands")?;
     }
     let (tally, is_full) = sweep.tally(alloc)?;
     if !is_full {

@@ -59,8 +59,14 @@ pub(crate) const WORDS: [Word; 21] = [
 ];
 
 /// The rows of a plan without a fault, as the JSON text of an edit has them.
-const PLAN: &str =
-    r"phase,2,1,8,20,40,40,15,6,7,12,490,60,0,0\nphase,4,1,8,20,40,40,15,8\nphase,6,2,8,20,40,40,15,2\nphase,8,2,8,20,40,40,15,4\nseq,1,1,2 4\nseq,1,2,6 8\nsplit,1,2,35,2,1\nsplit,1,4,25,2,0\nsplit,1,6,35,2,1\nsplit,1,8,25,2,0\npattern,1,60,0,1,1\n";
+const PLAN: &str = "\
+    phase,2,1,8,20,40,40,15,6,7,12,490,60,0,0\\n\
+    phase,4,1,8,20,40,40,15,8\\n\
+    phase,6,2,8,20,40,40,15,2\\n\
+    phase,8,2,8,20,40,40,15,4\\n\
+    seq,1,1,2 4\\nseq,1,2,6 8\\n\
+    split,1,2,35,2,1\\nsplit,1,4,25,2,0\\nsplit,1,6,35,2,1\\nsplit,1,8,25,2,0\\n\
+    pattern,1,60,0,1,1\\n";
 
 /// The changes of a draft that are drawn beside the whole plan.
 const CHANGES: [&str; 26] = [

@@ -138,7 +138,9 @@ impl Intersection {
         };
         let owner = owner.as_str();
         done(format!(in alloc;
-            r#"{{"id":{id},"interval":365,"name":"{name}","owner":{owner},"revision":{revision},"rows":{rows},"state":"{state}","verify":"{verdict}"}}"#
+            "{{\"id\":{id},\"interval\":365,\"name\":\"{name}\",\"owner\":{owner},\
+            \"revision\":{revision},\"rows\":{rows},\"state\":\"{state}\",\
+            \"verify\":\"{verdict}\"}}"
         )?)
     }
 

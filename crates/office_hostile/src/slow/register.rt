@@ -168,6 +168,7 @@ fn show_order(alloc: Global, records: &[Ask], order: &Ask) -> Result<String, All
     }
     let (end, lines) = (end.as_str(), lines.as_str());
     format!(in alloc;
-        r#"{{"clerk":"{clerk}",{end},"number":{number},"opened":"{day}","text":"{text}","used":[{lines}]}}"#
+        "{{\"clerk\":\"{clerk}\",{end},\"number\":{number},\"opened\":\"{day}\",\
+        \"text\":\"{text}\",\"used\":[{lines}]}}"
     )
 }
