@@ -1,6 +1,6 @@
 #!/usr/bin/env bash
-# Refuses each allocation in turn of three pieces of work of the program `office_hostile`: of two requests, and of the
-# commands of a transaction and of imports, over maps and over a database in memory. What comes of it must be that all
+# Refuses each allocation in turn of three pieces of work of the program `office_hostile`: of two requests, and of a
+# transaction, imports and queries, over maps and over a database in memory. What comes of it must be that all
 # is as it was, and as told when it is asked again, or that there was no memory to begin. A piece ends with the run that
 # was refused nothing. Prints how often which came, and ends with status 1 where anything else did.
 #
@@ -11,6 +11,10 @@
 set -eu
 top=$(cd "$(dirname "$0")/.." && pwd)
 program=${1:-$top/crates/office_hostile/out/office_hostile}
+[ -x "$program" ] || {
+  echo "memory.sh: there is no program $program: \`rt run\` in crates/office_hostile makes it" >&2
+  exit 2
+}
 folder=$(mktemp -d)
 trap 'rm -rf "$folder"' EXIT
 

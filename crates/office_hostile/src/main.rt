@@ -9,6 +9,7 @@ mod damaged;
 mod database;
 mod long;
 mod memory;
+mod more;
 mod refusing;
 mod running;
 mod slow;

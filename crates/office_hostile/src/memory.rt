@@ -2,6 +2,7 @@
 //! meets this program itself, it ends with `NoMemory`, and nothing is said of the office.
 //! Otherwise it tells what came: whether something was refused.
 
+use crate::more::MORE;
 use crate::running::is_run;
 use crate::state::{is_unchanged, state_of};
 use office_desk::office::Office;
@@ -21,7 +22,7 @@ fn is_after<S: Shelf + Drop>(
     done: usize,
 ) -> Result<Office<S>, Trouble> {
     let mut other = Office::new(MapShelf::new(alloc));
-    for line in COMMANDS.iter().take(done) {
+    for line in COMMANDS.iter().chain(&MORE).take(done) {
         if !is_run(alloc, &mut other, line)? {
             return Err(Trouble::NoMemory);
         }
@@ -35,7 +36,7 @@ fn is_after<S: Shelf + Drop>(
 pub(crate) fn run_all<S: Shelf + Drop>(alloc: Global, start: Office<S>) -> Result<bool, Trouble> {
     let mut office = start;
     let mut is_refused = false;
-    for (done, line) in COMMANDS.iter().enumerate() {
+    for (done, line) in COMMANDS.iter().chain(&MORE).enumerate() {
         if !is_run(alloc, &mut office, line)? {
             is_refused = true;
             office = is_after(alloc, office, done)?;
