@@ -1,20 +1,27 @@
 #!/usr/bin/env bash
-# Refuses each allocation in turn of three pieces of work of the program `office_hostile`: of two requests, and of a
-# transaction, imports and queries, over maps and over a database in memory. What comes of it must be that all
-# is as it was, and as told when it is asked again, or that there was no memory to begin. A piece ends with the run that
-# was refused nothing. Prints how often which came, and ends with status 1 where anything else did.
+# Refuses each allocation in turn of three pieces of work of the program `office_hostile` (two requests; a
+# transaction, imports and queries over maps, and over a database in memory), and of commands of the
+# office's program. What comes of a piece must be that all is as it was, and as told when it is asked
+# again, or that there was no memory to begin; what comes of a command, that it prints what it ever
+# prints, or that it tells of memory or of the database and prints the same when it is run again. Each
+# ends with the run that was refused nothing. Prints how often which came, and ends with status 1 where
+# anything else did.
 #
-#     tests/memory.sh [PROGRAM]      the program is crates/office_hostile/out/office_hostile, where none is named; `rt run`
-#                                    in that folder makes it
+#     tests/memory.sh [PROGRAM [OFFICE]]
 #
-# Needs a C compiler, `cc`, for an allocator that is loaded before the system's and refuses one call. Takes some minutes.
+# The program is crates/office_hostile/out/office_hostile where none is named, and the office's program
+# the one that ./office runs; `rt run` in their folders makes them. Needs a C compiler, `cc`, for an
+# allocator that is loaded before the system's and refuses one call. Takes some minutes.
 set -eu
 top=$(cd "$(dirname "$0")/.." && pwd)
 program=${1:-$top/crates/office_hostile/out/office_hostile}
-[ -x "$program" ] || {
-  echo "memory.sh: there is no program $program: \`rt run\` in crates/office_hostile makes it" >&2
-  exit 2
-}
+office=${2:-$top/crates/signal_office/out/signal_office}
+for it in "$program" "$office"; do
+  [ -x "$it" ] || {
+    echo "memory.sh: there is no program $it: \`rt run\` in its crate makes it" >&2
+    exit 2
+  }
+done
 folder=$(mktemp -d)
 trap 'rm -rf "$folder"' EXIT
 
@@ -65,16 +72,65 @@ try() {
     esac
     if [ ! -s "$folder/$1.told" ]; then break; fi
   done
-  echo "$1: $((number - 1)) allocations refused: $kept times all was as before, $none times there was no memory to begin," \
-    "$done times it was done all the same"
+  echo "$1: $((number - 1)) allocations refused: $kept times all was as before," \
+    "$none times there was no memory to begin, $done times it was done all the same"
   return $status
 }
 
-try requests & requests=$!
-try maps & maps=$!
-try tables & tables=$!
+# Tries a command of the office's program on a copy of a file until a run is refused nothing. The first
+# word is what it may print when it is run again after it was done, the others the command.
+try_command() {
+  again=$1 name=$2 told=0 done=0 status=0
+  shift
+  file=$folder/$name$#.db
+  words=("${@/office.db/$file}")
+  cp "$folder/office.db" "$file"
+  ended=0
+  wanted=$("$office" "${words[@]}" 2>&1) || ended=$?
+  for ((number = 1; number < 100000; number++)); do
+    rm -f "$file-wal"
+    cp "$folder/office.db" "$file"
+    found=0
+    printed=$(REFUSED=$number LD_PRELOAD=$folder/refuse.so "$office" "${words[@]}" 2>"$file.told") || found=$?
+    case "$(tr '\n' ' ' <"$file.told")" in
+      "") break ;;
+      "refused ") [ "$found $printed" = "$ended $wanted" ] && done=$((done + 1)) && continue ;;
+      "refused fault: memory " | "refused fault: store ")
+        next=$("$office" "${words[@]}" 2>&1) || true
+        [ "$found$printed" = 1 ] && [[ $next == "$wanted" || $next == "$again" ]] &&
+          told=$((told + 1)) && continue
+        ;;
+    esac
+    echo "$name, allocation $number: status $found: $printed; $(cat "$file.told")" >&2
+    status=1
+  done
+  echo "$*: $((number - 1)) allocations refused: told $told times, $done times it was done all the same"
+  return $status
+}
+
+printf 'POST /intersections HTTP/1.1\r\nContent-Length: 41\r\n\r\n{"id":12,"interval":365,"name":"Main St"}' |
+  "$office" batch --db "$folder/office.db" >"$folder/added"
+plan=$top/bench/plan.csv
+"$office" edit --db "$folder/office.db" --clerk Ana --commit 12 "$plan" >"$folder/committed"
+"$office" edit --db "$folder/office.db" --clerk Ana 12 "$plan" >"$folder/opened"
+sed 's/^split,1,2,35/split,1,2,34/' "$plan" >"$folder/changed.csv"
+printf 'inspection,12,1,2026-03-01,Ana,Fan cleaned\n' >"$folder/records.csv"
+
+try requests & pieces=$!
+try maps & pieces="$pieces $!"
+try tables & pieces="$pieces $!"
+try_command "" sheet --db office.db 12 & pieces="$pieces $!"
+try_command "" overdue --db office.db 2027-03-02 & pieces="$pieces $!"
+try_command "" verify-file "$folder/changed.csv" & pieces="$pieces $!"
+try_command "" migrate --db office.db & pieces="$pieces $!"
+try_command "added 0, same 1" import --db office.db "$folder/records.csv" & pieces="$pieces $!"
+try_command "" export --db office.db 12 & pieces="$pieces $!"
+try_command "" edit --db office.db --clerk Ana 12 "$folder/changed.csv" & pieces="$pieces $!"
+try_command "" compare "$plan" "$folder/changed.csv" & pieces="$pieces $!"
+try_command "" compare --db office.db 12 & pieces="$pieces $!"
+try_command "" diagram --file "$plan" 1 & pieces="$pieces $!"
 status=0
-for piece in $requests $maps $tables; do
+for piece in $pieces; do
   wait "$piece" || status=1
 done
 exit $status
