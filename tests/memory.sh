@@ -1,17 +1,18 @@
 #!/usr/bin/env bash
-# Refuses each allocation in turn of three pieces of work of the program `office_hostile` (two requests; a
-# transaction, imports and queries over maps, and over a database in memory), and of commands of the
-# office's program. What comes of a piece must be that all is as it was, and as told when it is asked
-# again, or that there was no memory to begin; what comes of a command, that it prints what it ever
-# prints, or that it tells of memory or of the database and prints the same when it is run again. Each
-# ends with the run that was refused nothing. Prints how often which came, and ends with status 1 where
-# anything else did.
+# Refuses each allocation in turn of three pieces of work of the program `office_hostile` (two
+# requests; a transaction, imports and queries over maps, and over a database in memory), and of
+# commands of the office's program. What comes of a piece must be that all is as it was, and as
+# told when it is asked again, or that there was no memory to begin; what comes of a command, that
+# it prints what it ever prints, or that it tells of memory or of the database and prints the same
+# when it is run again. Each ends with the run that was refused nothing. Prints how often which
+# came, and ends with status 1 where anything else did.
 #
 #     tests/memory.sh [PROGRAM [OFFICE]]
 #
-# The program is crates/office_hostile/out/office_hostile where none is named, and the office's program
-# the one that ./office runs; `rt run` in their folders makes them. Needs a C compiler, `cc`, for an
-# allocator that is loaded before the system's and refuses one call. Takes some minutes.
+# The program is crates/office_hostile/out/office_hostile where none is named, and the office's
+# program the one that ./office runs; `rt run` in their folders makes them. Needs a C compiler,
+# `cc`, for an allocator that is loaded before the system's and refuses one call. Takes some
+# minutes.
 set -eu
 top=$(cd "$(dirname "$0")/.." && pwd)
 program=${1:-$top/crates/office_hostile/out/office_hostile}
@@ -50,7 +51,9 @@ static int is_refused(void) {
 
 void *malloc(size_t size) { return is_refused() ? NULL : __libc_malloc(size); }
 
-void *realloc(void *block, size_t size) { return is_refused() ? NULL : __libc_realloc(block, size); }
+void *realloc(void *block, size_t size) {
+  return is_refused() ? NULL : __libc_realloc(block, size);
+}
 C
 cc -O1 -fPIC -shared -o "$folder/refuse.so" "$folder/refuse.c"
 
@@ -59,7 +62,8 @@ try() {
   kept=0 none=0 done=0 status=0
   for ((number = 1; number < 100000; number++)); do
     ended=0
-    printed=$(REFUSED=$number LD_PRELOAD=$folder/refuse.so "$program" "$1" 2>"$folder/$1.told") || ended=$?
+    printed=$(REFUSED=$number LD_PRELOAD=$folder/refuse.so "$program" "$1" \
+      2>"$folder/$1.told") || ended=$?
     case "$(cat "$folder/$1.told") $ended $printed" in
       " 0 done") break ;;
       "refused 0 refused, and all as it was") kept=$((kept + 1)) ;;
@@ -77,8 +81,8 @@ try() {
   return $status
 }
 
-# Tries a command of the office's program on a copy of a file until a run is refused nothing. The first
-# word is what it may print when it is run again after it was done, the others the command.
+# Tries a command of the office's program on a copy of a file until a run is refused nothing. The
+# first word is what it may print when it is run again after it was done, the others the command.
 try_command() {
   again=$1 name=$2 told=0 done=0 status=0
   shift
@@ -91,7 +95,8 @@ try_command() {
     rm -f "$file-wal"
     cp "$folder/office.db" "$file"
     found=0
-    printed=$(REFUSED=$number LD_PRELOAD=$folder/refuse.so "$office" "${words[@]}" 2>"$file.told") || found=$?
+    printed=$(REFUSED=$number LD_PRELOAD=$folder/refuse.so "$office" "${words[@]}" \
+      2>"$file.told") || found=$?
     case "$(tr '\n' ' ' <"$file.told")" in
       "") break ;;
       "refused ") [ "$found $printed" = "$ended $wanted" ] && done=$((done + 1)) && continue ;;
@@ -104,11 +109,13 @@ try_command() {
     echo "$name, allocation $number: status $found: $printed; $(cat "$file.told")" >&2
     status=1
   done
-  echo "$*: $((number - 1)) allocations refused: told $told times, $done times it was done all the same"
+  echo "$*: $((number - 1)) allocations refused: told $told times," \
+    "$done times it was done all the same"
   return $status
 }
 
-printf 'POST /intersections HTTP/1.1\r\nContent-Length: 41\r\n\r\n{"id":12,"interval":365,"name":"Main St"}' |
+printf 'POST /intersections HTTP/1.1\r\nContent-Length: 41\r\n\r\n%s' \
+  '{"id":12,"interval":365,"name":"Main St"}' |
   "$office" batch --db "$folder/office.db" >"$folder/added"
 plan=$top/bench/plan.csv
 "$office" edit --db "$folder/office.db" --clerk Ana --commit 12 "$plan" >"$folder/committed"
