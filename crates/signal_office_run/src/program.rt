@@ -91,8 +91,8 @@ fn in_file<W: Sink>(
     done.print(out)
 }
 
-/// Prints the report of the intersections that are overdue on the day of a word, which is read before
-/// the file is opened.
+/// Prints the report of the intersections that are overdue on the day of a word, which is read
+/// before the file is opened.
 fn overdue<W: Sink>(
     rt: &HostRuntime,
     alloc: Global,
@@ -244,7 +244,8 @@ fn show<W: Sink, E: Sink>(
 }
 
 /// Does what the words ask for, and gives the status: 0 done, 1 a fault, 2 the words were refused,
-/// 3 a plan breaks a rule. The first word is the name under which the program was called.
+/// 3 a plan breaks a rule, 4 two plans differ. The first word is the name under which the program was
+/// called.
 pub fn run_words<R: Source, W: Sink, E: Sink>(
     rt: &HostRuntime,
     alloc: Global,
