@@ -71,9 +71,8 @@ impl Sweep {
         Ok(talk)
     }
 
-    /// Each command and each refusal with its count, and whether none is missing: 18 need not
-    /// come, and 19 is none.
-    fn tally(&self, alloc: Global) -> Result<(String, bool), AllocError> {
+    /// Each command with its count, and whether none is missing.
+    fn drawn(&self, alloc: Global) -> Result<(String, bool), AllocError> {
         let mut text = String::new(alloc);
         let mut is_full = true;
         for ((_, name, _), n) in WORDS.iter().zip(&self.commands) {
@@ -81,6 +80,13 @@ impl Sweep {
             text.push_str(one.as_str())?;
             is_full &= *n > 0;
         }
+        Ok((text, is_full))
+    }
+
+    /// Each command and each refusal with its count, and whether none is missing: 18 need not
+    /// come, and 19 is none.
+    fn tally(&self, alloc: Global) -> Result<(String, bool), AllocError> {
+        let (mut text, mut is_full) = self.drawn(alloc)?;
         for (number, n) in self.refusals.iter().enumerate().skip(10) {
             if number != 18 && number != 19 {
                 let one = format!(in alloc; " {number}: {n}")?;

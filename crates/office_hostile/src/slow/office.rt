@@ -73,6 +73,20 @@ fn recorded(alloc: Global, outcome: Result<bool, usize>) -> Result<Told, AllocEr
     }
 }
 
+/// The line of the transaction's table for a step: the state that it needs, its refusal in another
+/// one, and the next state.
+fn line_of(kind: Kind) -> (&'static str, usize, &'static str) {
+    match kind {
+        Kind::Begin => ("normal", 12, "transaction"),
+        Kind::Edit => ("transaction", 13, "transaction"),
+        Kind::Verify => ("transaction", 13, "verify"),
+        Kind::Check => ("verify", 15, "done"),
+        Kind::Commit => ("done", 16, "normal"),
+        Kind::Reopen => ("done", 16, "transaction"),
+        _ => ("any", 13, "normal"),
+    }
+}
+
 impl Intersection {
     /// What the checked draft is found to be.
     fn verdict(&self, alloc: Global) -> Result<&'static str, AllocError> {
@@ -87,15 +101,7 @@ impl Intersection {
 
     /// A step of the transaction, by its table.
     fn step(&mut self, alloc: Global, ask: &Ask) -> Result<Told, AllocError> {
-        let (needs, refusal, next) = match ask.kind {
-            Kind::Begin => ("normal", 12, "transaction"),
-            Kind::Edit => ("transaction", 13, "transaction"),
-            Kind::Verify => ("transaction", 13, "verify"),
-            Kind::Check => ("verify", 15, "done"),
-            Kind::Commit => ("done", 16, "normal"),
-            Kind::Reopen => ("done", 16, "transaction"),
-            _ => ("any", 13, "normal"),
-        };
+        let (needs, refusal, next) = line_of(ask.kind);
         let is_abandoned = needs == "any" && self.state != "normal";
         if needs != self.state && !is_abandoned {
             return refused(alloc, refusal);

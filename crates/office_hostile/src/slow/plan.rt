@@ -21,18 +21,22 @@ const KEYS: [&str; 12] = [
     "pattern,2",
 ];
 
+/// Puts a row, or none, at the place of the key that a text begins with.
+fn put(plan: &mut Plan, key: &'static str, row: &'static str) {
+    for (slot, at) in plan.iter_mut().zip(&KEYS) {
+        if key.starts_with(*at) {
+            *slot = row;
+        }
+    }
+}
+
 /// Makes the changes of a text, one after the other: a row is put, or the one that it names is
 /// removed.
 pub(super) fn edit(plan: &mut Plan, rows: &'static str) {
     for row in rows.split("\\n") {
-        let (key, put) = match row.strip_prefix("remove,") {
-            Some(key) => (key, ""),
-            None => (row, row),
-        };
-        for (slot, at) in plan.iter_mut().zip(&KEYS) {
-            if key.starts_with(*at) {
-                *slot = put;
-            }
+        match row.strip_prefix("remove,") {
+            Some(key) => put(plan, key, ""),
+            None => put(plan, row, row),
         }
     }
 }
@@ -50,6 +54,16 @@ pub(super) fn add(list: &mut String, item: &str) -> Result<(), AllocError> {
     list.push_str(item)
 }
 
+/// The fields of a row, as the items of an array.
+fn fields(alloc: Global, row: &str) -> Result<String, AllocError> {
+    let mut fields = String::new(alloc);
+    for field in row.split(',') {
+        let item = format!(in alloc; "\"{field}\"")?;
+        add(&mut fields, item.as_str())?;
+    }
+    Ok(fields)
+}
+
 /// The rows of a plan, each as the array of its fields.
 pub(super) fn show(alloc: Global, plan: &Plan) -> Result<String, AllocError> {
     let mut rows = String::new(alloc);
@@ -57,11 +71,7 @@ pub(super) fn show(alloc: Global, plan: &Plan) -> Result<String, AllocError> {
         if row.is_empty() {
             continue;
         }
-        let mut fields = String::new(alloc);
-        for field in row.split(',') {
-            let item = format!(in alloc; "\"{field}\"")?;
-            add(&mut fields, item.as_str())?;
-        }
+        let fields = fields(alloc, row)?;
         let fields = fields.as_str();
         let item = format!(in alloc; "[{fields}]")?;
         add(&mut rows, item.as_str())?;

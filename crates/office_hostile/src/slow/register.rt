@@ -81,14 +81,22 @@ pub(super) fn outcome(records: &[Ask], ask: &Ask) -> Result<bool, usize> {
     }
 }
 
+/// Whether an intersection was inspected on a day.
+fn is_inspected(records: &[Ask], id: u32, day: &str) -> bool {
+    for record in records {
+        if record.kind == Kind::Inspect && record.id == id && record.day == day {
+            return true;
+        }
+    }
+    false
+}
+
 /// When the next inspection of an intersection is due, if it was ever inspected.
 pub(super) fn due(records: &[Ask], id: u32) -> Option<&'static str> {
     let mut last = None;
     for (day, due) in &DUE {
-        for record in records {
-            if record.kind == Kind::Inspect && record.id == id && record.day == *day {
-                last = Some(*due);
-            }
+        if is_inspected(records, id, day) {
+            last = Some(*due);
         }
     }
     last

@@ -151,8 +151,21 @@ impl Judge<'_> {
         self.add(!holds, 8, subject.as_str())
     }
 
-    /// The lanes of the rings that have a phase: each phase of the ring's row of the sequence once
-    /// for each second of its split.
+    /// The lane of a ring: each phase of the ring's row of the sequence once for each second of its
+    /// split.
+    fn lane(&self, pattern: &'static str, ring: u32) -> Result<Vec<u32>, AllocError> {
+        let mut lane = Vec::new(self.alloc);
+        for text in field(self.find("seq", number(pattern, 5), ring), 3).split(' ') {
+            let p = digits(text);
+            let split = self.find("split", number(pattern, 4), p);
+            if p != 0 {
+                lane.resize(lane.len().saturating_add(number(split, 3) as usize), p)?;
+            }
+        }
+        Ok(lane)
+    }
+
+    /// The lanes of the rings that have a phase.
     fn lanes(&self, pattern: &'static str) -> Result<Vec<Vec<u32>>, AllocError> {
         let mut rings: Vec<u32> = Vec::new(self.alloc);
         let mut lanes = Vec::new(self.alloc);
@@ -161,14 +174,7 @@ impl Judge<'_> {
             if field(row, 0) != "phase" || rings.contains(&ring) {
                 continue;
             }
-            let mut lane = Vec::new(self.alloc);
-            for text in field(self.find("seq", number(pattern, 5), ring), 3).split(' ') {
-                let p = digits(text);
-                let split = self.find("split", number(pattern, 4), p);
-                if p != 0 {
-                    lane.resize(lane.len().saturating_add(number(split, 3) as usize), p)?;
-                }
-            }
+            let lane = self.lane(pattern, ring)?;
             rings.push(ring)?;
             lanes.push(lane)?;
         }
@@ -186,6 +192,16 @@ impl Judge<'_> {
         false
     }
 
+    /// A lane clashes with one of these.
+    fn clashes(&self, first: &[u32], others: &[Vec<u32>]) -> bool {
+        for second in others {
+            if self.clash(second, first) {
+                return true;
+            }
+        }
+        false
+    }
+
     /// Judges a pattern with its rows by the lanes of its rings.
     fn judge_lanes(&mut self, row: &'static str, subject: &str) -> Result<(), AllocError> {
         let lanes = self.lanes(row)?;
@@ -193,9 +209,7 @@ impl Judge<'_> {
         let mut clashes = false;
         for (n, first) in lanes.iter().enumerate() {
             is_short |= first.len() != number(row, 2) as usize;
-            for second in lanes.iter().skip(n.saturating_add(1)) {
-                clashes |= self.clash(first, second);
-            }
+            clashes |= self.clashes(first, &lanes[..n]);
         }
         self.add(is_short, 12, subject)?;
         self.add(clashes && !is_short, 13, subject)
