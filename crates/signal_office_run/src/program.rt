@@ -244,8 +244,8 @@ fn show<W: Sink, E: Sink>(
 }
 
 /// Does what the words ask for, and gives the status: 0 done, 1 a fault, 2 the words were refused,
-/// 3 a plan breaks a rule, 4 two plans differ. The first word is the name under which the program was
-/// called.
+/// 3 a plan breaks a rule, 4 two plans differ. The first word is the name under which the program
+/// was called.
 pub fn run_words<R: Source, W: Sink, E: Sink>(
     rt: &HostRuntime,
     alloc: Global,
