@@ -1,5 +1,5 @@
 #!/usr/bin/env bash
-# Refuses each allocation in turn of three pieces of work of the program `office_hostile` (two
+# Refuses each allocation in turn of three pieces of work of the program `office_rows` (two
 # requests; a transaction, imports and queries over maps, and over a database in memory), and of
 # commands of the office's program. What comes of a piece must be that all is as it was, and as
 # told when it is asked again, or that there was no memory to begin; what comes of a command, that
@@ -9,13 +9,13 @@
 #
 #     tests/memory.sh [PROGRAM [OFFICE]]
 #
-# The program is crates/office_hostile/out/office_hostile where none is named, and the office's
+# The program is crates/office_rows/out/office_rows where none is named, and the office's
 # program the one that ./office runs; `rt run` in their folders makes them. Needs a C compiler,
 # `cc`, for an allocator that is loaded before the system's and refuses one call. Takes some
 # minutes.
 set -eu
 top=$(cd "$(dirname "$0")/.." && pwd)
-program=${1:-$top/crates/office_hostile/out/office_hostile}
+program=${1:-$top/crates/office_rows/out/office_rows}
 office=${2:-$top/crates/signal_office/out/signal_office}
 for it in "$program" "$office"; do
   [ -x "$it" ] || {

@@ -1,3 +1,14 @@
 pub mod DayLemmas
 pub mod OverdueLemmas
 pub mod PartLemmas
+pub mod KeyOrders
+pub mod EntryLemmas
+pub mod EntrySums
+pub mod Puts
+pub mod StockLemmas
+pub mod RecordLaws
+pub mod RecordKept
+pub mod Sound
+pub mod Made
+pub mod StockList
+pub mod EmptyRegister

@@ -3,3 +3,10 @@ pub mod Part
 pub mod Overdue
 pub mod Cabinet
 pub mod Within
+pub mod Register
+pub mod Stock
+pub mod Orders
+pub mod Sound
+pub mod Step
+pub mod Changes
+pub mod Runs

@@ -1,10 +1,13 @@
--- Records within their limits.
+-- Records, and commands that bring them, within their limits.
 use Rattle.std.specs.Prelude.{IfSome}
 use Rattle.std.specs.Int.{IsInRange}
 use Rattle.signal_records.specs.Words.{AreWords}
 use Rattle.cabinet_core.specs.Day.{IsDay}
 use Rattle.cabinet_core.specs.Part.{IsPartCode}
 use Rattle.cabinet_core.specs.declared.record.Inspection.{Inspection}
+use Rattle.cabinet_core.specs.declared.command.RecordCommand.{RecordCommand}
+use Rattle.cabinet_core.specs.declared.command.RecordCommand.TheVariants.{Inspect, OpenOrder, UsePart, CloseOrder, Receive}
+use Rattle.cabinet_core.specs.declared.record.Opening.{Opening}
 use Rattle.cabinet_core.specs.declared.record.Closing.{Closing}
 use Rattle.cabinet_core.specs.declared.record.Order.{Order}
 use Rattle.cabinet_core.specs.declared.record.UsedLine.{UsedLine}
@@ -16,6 +19,13 @@ pub record IsInspectionWithin (inspection : Inspection) : Type 0 where
   pub day : IsDay inspection.day
   pub clerk : AreWords 40 inspection.clerk
   pub text : AreWords 500 inspection.text
+
+-- what opens an order
+pub record IsOpeningWithin (opening : Opening) : Type 0 where
+  pub number : IsInRange 1 999_999 opening.number
+  pub day : IsDay opening.day
+  pub clerk : AreWords 40 opening.clerk
+  pub text : AreWords 500 opening.text
 
 -- what closes an order
 pub record IsClosingWithin (closing : Closing) : Type 0 where
@@ -43,3 +53,11 @@ pub record IsDeliveryWithin (delivery : Delivery) : Type 0 where
   pub number : IsInRange 1 999_999 delivery.number
   pub day : IsDay delivery.day
   pub count : IsInRange 1 999_999_999 delivery.count
+
+-- a command with its intersection, 1 to 9999
+abbrev pub IsRecordWithin : RecordCommand → Type 0
+IsRecordWithin (Inspect id r) = IsInRange 1 9999 id × IsInspectionWithin r
+IsRecordWithin (OpenOrder id r) = IsInRange 1 9999 id × IsOpeningWithin r
+IsRecordWithin (UsePart id r) = IsInRange 1 9999 id × IsUsedLineWithin r
+IsRecordWithin (CloseOrder id order r) = IsInRange 1 9999 id × (IsInRange 1 999_999 order × IsClosingWithin r)
+IsRecordWithin (Receive r) = IsDeliveryWithin r

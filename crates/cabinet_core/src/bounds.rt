@@ -2,9 +2,10 @@
 //! limits.
 
 ghost use Rattle.std.specs.Prelude.{IfSome};
-ghost use Rattle.cabinet_core.specs.Within.{IsInspectionWithin, IsClosingWithin, IsOrderWithin, IsUsedLineWithin, IsDeliveryWithin};
+ghost use Rattle.cabinet_core.specs.Within.{IsInspectionWithin, IsOpeningWithin, IsClosingWithin, IsOrderWithin, IsUsedLineWithin, IsDeliveryWithin, IsRecordWithin};
 
-use crate::record::{Closing, Delivery, Inspection, Order, UsedLine};
+use crate::command::RecordCommand;
+use crate::record::{Closing, Delivery, Inspection, Opening, Order, UsedLine};
 
 /// Every inspection is within its limits.
 pub fn inspection_is_within(inspection: &Inspection)
@@ -15,7 +16,17 @@ pub fn inspection_is_within(inspection: &Inspection)
     let _text = inspection.text.as_str();
 }
 
-fn closing_is_within(closing: &Closing)
+/// What opens an order is within its limits.
+pub(crate) fn opening_is_within(opening: &Opening)
+    ensures { IsOpeningWithin opening.now }
+{
+    let _numbers = (opening.number.get(), opening.day.number());
+    let _clerk = opening.clerk.as_str();
+    let _text = opening.text.as_str();
+}
+
+/// What closes an order is within its limits.
+pub(crate) fn closing_is_within(closing: &Closing)
     ensures { IsClosingWithin closing.now }
 {
     let _day = closing.day.number();
@@ -58,4 +69,29 @@ pub fn delivery_is_within(delivery: &Delivery)
         delivery.count.get(),
     );
     let _part = delivery.part.as_str();
+}
+
+/// Every command is within its limits.
+pub fn record_is_within(command: &RecordCommand)
+    ensures { IsRecordWithin command.now }
+{
+    match command {
+        RecordCommand::Inspect { id, inspection } => {
+            let _id = id.get();
+            inspection_is_within(inspection);
+        }
+        RecordCommand::OpenOrder { id, opening } => {
+            let _id = id.get();
+            opening_is_within(opening);
+        }
+        RecordCommand::UsePart { id, line } => {
+            let _id = id.get();
+            used_line_is_within(line);
+        }
+        RecordCommand::CloseOrder { id, order, closing } => {
+            let _numbers = (id.get(), order.get());
+            closing_is_within(closing);
+        }
+        RecordCommand::Receive { delivery } => delivery_is_within(delivery),
+    }
 }

@@ -3,9 +3,14 @@
 
 ghost use Rattle.std.specs.Prelude.{◌≡◌, ◌+◌, ◌-◌, ◌≤◌, [], ◌∷◌, nat_lt, IfOk, if◌then◌else◌, Some, None};
 ghost use Rattle.cabinet_core.specs.declared.part.TheConstants.{MOST_ON_HAND};
+ghost use Rattle.cabinet_core.specs.Changes.{InspectMakes, OpenMakes, UseMakes, CloseMakes, ReceiveMakes};
 ghost use Rattle.cabinet_core.specs.declared.decide.CabinetChange.TheVariants.{PutInspection, PutOrder};
 ghost use Rattle.cabinet_core.specs.Cabinet.{Records, on_hand, record_of, is_opened_so, inspect_line, open_line, use_line, close_line, receive_line, use_changes, close_changes, receive_changes};
 
+use crate::bounds::{
+    closing_is_within, delivery_is_within, inspection_is_within, opening_is_within,
+    used_line_is_within,
+};
 use crate::part::{Hand, PartCode};
 use crate::record::{Closing, Delivery, Inspection, Opening, Order, UsedLine};
 use crate::refusal::CabinetRefusal;
@@ -40,8 +45,10 @@ pub fn inspect(
     there: &Option<Inspection>,
     asked: &Inspection,
 ) -> Result<Recorded, CabinetRefusal>
-    ensures { Records result (inspect_line there.now asked.now) (PutInspection asked.now ∷ []) }
+    ensures line { Records result (inspect_line there.now asked.now) (PutInspection asked.now ∷ []) }
+    ensures makes { InspectMakes there.now asked.now result }
 {
+    inspection_is_within(asked);
     match there {
         Some(there) if there == asked => Ok(Recorded::Same),
         Some(_) => Err(CabinetRefusal::InspectionDiffers),
@@ -82,8 +89,10 @@ pub fn open_order(
     there: &Option<Order>,
     asked: &Opening,
 ) -> Result<Recorded, CabinetRefusal>
-    ensures { Records result (open_line there.now asked.now) (PutOrder (record_of asked.now) ∷ []) }
+    ensures line { Records result (open_line there.now asked.now) (PutOrder (record_of asked.now) ∷ []) }
+    ensures makes { OpenMakes there.now asked.now result }
 {
+    opening_is_within(asked);
     match there {
         Some(there) if is_opened_so(there, asked) => Ok(Recorded::Same),
         Some(_) => Err(CabinetRefusal::OrderDiffers),
@@ -131,8 +140,10 @@ pub fn use_part(
     hand: Option<Hand>,
     asked: &UsedLine,
 ) -> Result<Recorded, CabinetRefusal>
-    ensures { Records result (use_line there.now order.now hand asked.now) (use_changes hand asked.now) }
+    ensures line { Records result (use_line there.now order.now hand asked.now) (use_changes hand asked.now) }
+    ensures makes { UseMakes there.now order.now hand asked.now result }
 {
+    used_line_is_within(asked);
     if let Some(line) = there {
         return if line == asked {
             Ok(Recorded::Same)
@@ -163,8 +174,10 @@ pub fn close_order(
     order: &Option<Order>,
     asked: &Closing,
 ) -> Result<Recorded, CabinetRefusal>
-    ensures { Records result (close_line order.now asked.now) (close_changes order.now asked.now) }
+    ensures line { Records result (close_line order.now asked.now) (close_changes order.now asked.now) }
+    ensures makes { CloseMakes order.now asked.now result }
 {
+    closing_is_within(asked);
     let Some(there) = order else {
         return Err(CabinetRefusal::UnknownOrder);
     };
@@ -195,8 +208,10 @@ pub fn receive(
     hand: Option<Hand>,
     asked: &Delivery,
 ) -> Result<Recorded, CabinetRefusal>
-    ensures { Records result (receive_line there.now hand asked.now) (receive_changes hand asked.now) }
+    ensures line { Records result (receive_line there.now hand asked.now) (receive_changes hand asked.now) }
+    ensures makes { ReceiveMakes there.now hand asked.now result }
 {
+    delivery_is_within(asked);
     if let Some(delivery) = there {
         return if delivery == asked {
             Ok(Recorded::Same)

@@ -2,3 +2,4 @@ pub mod Transaction
 pub mod DraftRows
 pub mod Moves
 pub mod Writes
+pub mod Sound

@@ -4,22 +4,26 @@ use Rattle.std.proofs.Math.Seq.{drop-cons}
 use Rattle.std.specs.Prelude.{◌⊎◌}
 use Rattle.cabinet_core.specs.Cabinet.{Line, added as added_line, same as same_line, refused as refused_line}
 use Rattle.cabinet_core.specs.declared.command.RecordCommand.{RecordCommand}
-use Rattle.office_tables_shelf.specs.Change.{changed, changed_by}
+use Rattle.office_tables_shelf.specs.Change.{changed_by}
 use Rattle.office_tables_shelf.specs.Content.{Content}
 use Rattle.office_tables_shelf.specs.Counts.{writes_in}
 use Rattle.office_tables_shelf.specs.declared.rows.RowChange.{RowChange}
 use Rattle.office_tables_shelf.specs.declared.rows.Table.{Table}
-use Rattle.office_desk_cabinet.specs.Register.{Register}
+use Rattle.cabinet_core.specs.Register.{Register}
+use Rattle.cabinet_core.specs.Step.{after_line, after_record, line_at, with_record}
+use Rattle.office_desk_cabinet.proofs.KeptDamage.{meets_still, nothing_kept}
+use Rattle.office_desk_cabinet.specs.RegisterDamage.{KeepsDamage, MeetsRecordDamage, SparesDamage}
 use Rattle.office_desk_cabinet.specs.Registers.{RegistersFrom, line_told, most_record_writes, rows_told}
 use Rattle.office_desk_cabinet.specs.RegisterStands.{RegisterStandsSound}
-use Rattle.office_desk_cabinet.specs.RegisterStep.{after_line, after_record, line_at, with_record}
 use Rattle.office_desk_cabinet.specs.declared.registered.Registered.{Registered}
+use Rattle.office_desk_cabinet.proofs.PendingLemmas.{changed_append}
 use Rattle.office_desk.specs.Answers.{AnswersAny}
-use Rattle.office_desk.specs.Changes.{IsRefused, most_import_writes}
+use Rattle.office_desk.specs.Changes.{IsRefused, most_import_writes, most_writes}
 use Rattle.office_desk.specs.Damage.{MeetsCabinetDamage, MeetsImportDamage}
 use Rattle.office_desk.specs.Deciding.{IsDecision}
-use Rattle.office_desk.specs.Importing.{ImportsAny, LeavesAnyTiming, TakesFrom, TakesRecord, goes_on}
+use Rattle.office_desk.specs.Importing.{ImportsAny, IsTaken, LeavesAnyTiming, TakesFrom, TakesRecord, TakesWhole, goes_on}
 use Rattle.office_desk.specs.Office.{Office}
+use Rattle.office_desk.specs.Recording.{HasDamagedAbout}
 use Rattle.office_desk.specs.Refusal.{line_of}
 use Rattle.office_desk.specs.StandFor.{StandForSound}
 use Rattle.office_desk.specs.Step.{cabinet_of, import_by, import_from, imported, is_known}
@@ -32,8 +36,8 @@ use Rattle.office_desk.specs.declared.refusal.Refusal.TheVariants as refusal
 use Rattle.office_desk.specs.declared.refusal.Refusal.TheVariants.{ImportRow}
 use Rattle.office_desk.specs.declared.reply.Reply.{Reply}
 use Rattle.office_desk.specs.declared.reply.Reply.TheVariants.{Imported, Refused}
-use Rattle.office_desk.proofs.Decisions.{refuses_so, told_decides}
-use Rattle.office_desk.proofs.Recorded.{register_of, stands_after}
+use Rattle.office_desk.proofs.Decisions.{refuses_so}
+use Rattle.office_desk.proofs.Recorded.{record_whole, register_of, stands_after}
 use Rattle.office_desk.proofs.Shown.{query_answers}
 use Rattle.office_desk.proofs.Writes.{import_writes}
 
@@ -47,15 +51,11 @@ import_goes_on P at true (refused_line why) added same done new old is = absurd 
 
 -- ---- rows after rows
 
-pub changed_after : (tables : Content) (first then : List RowChange) → changed_by tables (first ++ then) ≡ changed_by (changed_by tables first) then
-changed_after tables [] then = refl
-changed_after tables (change ∷ first) then = changed_after (changed tables change) first then
-
 pub leaves_after : (first then : List RowChange) → LeavesAnyTiming first → LeavesAnyTiming then → LeavesAnyTiming (first ++ then)
 leaves_after first then one two tables =
     let a = one tables in
     let b = two (changed_by tables first) in
-    let after = changed_after tables first then in
+    let after = changed_append tables first then in
     record {
       intersection = ap (λ (c : Content). c.intersection) after ∙ b.intersection ∙ a.intersection;
       timing = ap (λ (c : Content). c.timing) after ∙ b.timing ∙ a.timing;
@@ -178,7 +178,7 @@ record_added stored seen c rows shown before after told office r slice same know
     let line : line_at r c ≡ added_line = sym from.line ∙ is in
     record {
       goes = λ at new old. (λ k. import_by at (sym known k) (line k) new old);
-      stand = subst (λ (t : Content). RegisterStandsSound t (with_record r c)) (sym (ap (changed_by stored) list ∙ changed_after stored before rows))
+      stand = subst (λ (t : Content). RegisterStandsSound t (with_record r c)) (sym (ap (changed_by stored) list ∙ changed_append stored before rows))
           (subst (λ l. RegisterStandsSound (changed_by (changed_by stored before) rows) (after_line l (with_record r c) r)) line
           (subst (λ t. RegisterStandsSound (changed_by (changed_by stored before) t) (after_record r c)) those from.stand));
     }
@@ -200,6 +200,43 @@ pub counted_on : (added same index added_now same_now : ℕ) (t : Taken) → add
 counted_on added same index added_now same_now t is (inl new) = let a = new.1 in let b = new.2 in omega (arith, is, a, b)
 counted_on added same index added_now same_now t is (inr old) = let a = old.1 in let b = old.2 in omega (arith, is, a, b)
 
+-- ---- damaged rows
+
+pub refused_whole : (stored : Content) (before : List RowChange) (c : RecordCommand) (why : Refusal) → TakesWhole stored before c (taken.Refused why) before
+refused_whole stored before c why = record { whole = λ took. absurd took; spares = nothing_kept (changed_by stored before) }
+
+pub same_whole : (stored seen : Content) (before : List RowChange) (c : RecordCommand) → seen ≡ stored → ¬ HasDamagedAbout stored (cabinet_of c) → ¬ MeetsRecordDamage (changed_by seen before) c
+    → TakesWhole stored before c taken.Same before
+same_whole stored seen before c same about whole = record {
+  whole = λ took. (about, subst (λ t. ¬ MeetsRecordDamage (changed_by t before) c) same whole);
+  spares = nothing_kept (changed_by stored before);
+}
+
+pub added_whole : (stored seen : Content) (before rows after shown : List RowChange) (c : RecordCommand) → seen ≡ stored → shown ≡ rows → after ≡ before ++ rows
+    → ¬ HasDamagedAbout stored (cabinet_of c) → ¬ MeetsRecordDamage (changed_by seen before) c → SparesDamage seen before shown → TakesWhole stored before c taken.Added after
+added_whole stored seen before rows after shown c same those list about whole spares = record {
+  whole = λ took. (about, subst (λ t. ¬ MeetsRecordDamage (changed_by t before) c) same whole);
+  spares =
+      subst (KeepsDamage (changed_by stored before)) (sym (ap (changed_by stored) list ∙ changed_append stored before rows))
+      (subst (λ t. SparesDamage t before rows) same (subst (SparesDamage seen before) those spares));
+}
+
+pub was_taken : {added same added_now same_now : ℕ} (t : Taken) → (((t ≡ taken.Added) × (added_now ≡ added + 1) × (same_now ≡ same)) ⊎ ((t ≡ taken.Same) × (added_now ≡ added) × (same_now ≡ same + 1))) → IsTaken t
+was_taken t (inl new) = subst IsTaken (sym new.0) tt
+was_taken t (inr old) = subst IsTaken (sym old.0) tt
+
+pub whole_stored : (before : List RowChange) (c : RecordCommand) (t : Taken) (after : List RowChange) {stored seen : Content} → seen ≡ stored → TakesWhole seen before c t after → TakesWhole stored before c t after
+whole_stored before c t after same takes = subst (λ s. TakesWhole s before c t after) same takes
+
+-- a damaged row that a record of the import meets is met by one of those that are left
+pub still_left : (stored : Content) (rest : List RecordCommand) (c : RecordCommand) (cs : List RecordCommand) (before after : List RowChange) (t : Taken) → rest ≡ c ∷ cs → IsTaken t
+    → KeepsDamage stored (changed_by stored before) → TakesWhole stored before c t after → MeetsImportDamage stored rest → MeetsImportDamage stored cs
+still_left stored rest c cs before after t left took spared takes damage = go (subst (MeetsImportDamage stored) left damage)
+  where
+    go : MeetsCabinetDamage stored c (cabinet_of c) ⊎ MeetsImportDamage stored cs → MeetsImportDamage stored cs
+    go (inl damaged) = absurd (record_whole stored c (cabinet_of c) (takes.whole took).0 (λ met. (takes.whole took).1 (meets_still stored (changed_by stored before) c spared met)) damaged)
+    go (inr later) = later
+
 -- ---- the ends of the loop
 
 pub nothing_leaves : LeavesAnyTiming []
@@ -216,15 +253,15 @@ same_stored before c t after same takes = subst (λ s. TakesRecord s before c t 
 
 -- every record was taken
 pub import_decides : (is_honest : Type 0) (stored : Content) (all rest : List RecordCommand) (at added same : ℕ) (pending : List RowChange) (decided : Decided) → rest ≡ []
-    → (is_honest → ImportsAny stored all rest at added same pending) → LeavesAnyTiming pending → ((table : Table) → writes_in table pending ≤ most_import_writes all table)
+    → (is_honest → ImportsAny stored all rest at added same pending) → (is_honest → MeetsImportDamage stored all → MeetsImportDamage stored rest) → LeavesAnyTiming pending → ((table : Table) → writes_in table pending ≤ most_import_writes all table)
     → decided.reply ≡ Imported added same → decided.changes.items ≡ pending → IsDecision is_honest stored (command.Import all) decided
-import_decides is_honest stored all rest at added same pending decided none imports leaves few told rows = record {
+import_decides is_honest stored all rest at added same pending decided none imports whole leaves few told rows = record {
   step = λ honest. import_done stored all rest at added same pending decided.changes.items decided.reply none (imports honest) leaves told rows;
   writes = λ honest. import_writes stored all decided.changes.items (λ table. subst (λ list. writes_in table list ≤ most_import_writes all table) (sym rows) (few table));
   refused = λ refused. absurd (subst IsRefused told refused);
   query = λ query. absurd query;
   named = λ why e. absurd (let f : Imported added same ≡ Refused why = sym told ∙ e in cc);
-  whole = λ honest damaged. damaged;
+  whole = λ honest damaged. absurd (subst (MeetsImportDamage stored) none (whole honest damaged));
   undamaged = λ e. absurd (let f : Imported added same ≡ Refused refusal.Damaged = sym told ∙ e in cc);
 }
 
@@ -233,5 +270,12 @@ pub refused_decides : (is_honest : Type 0) (stored : Content) (all rest : List R
     → rest ≡ c ∷ cs → (is_honest → ImportsAny stored all rest at added same before) → (is_honest → TakesRecord stored before c (taken.Refused why) after)
     → cause ≡ (line_of why).number → decided.reply ≡ Refused (ImportRow at cause) → decided.changes.items ≡ [] → IsDecision is_honest stored (command.Import all) decided
 refused_decides is_honest stored all rest c cs at added same cause before after why decided left imports takes number told none =
-    told_decides is_honest stored (command.Import all) (Refused (ImportRow at cause)) decided told (λ e. cc) (refuses_so (30 ∷ []) (ImportRow at cause) (inl refl)) none (λ honest damaged. damaged)
-    (λ honest. import_refused stored all rest c cs at added same cause before after why _ _ left (imports honest) (takes honest) number told none)
+    record {
+      step = λ honest. import_refused stored all rest c cs at added same cause before after why _ _ left (imports honest) (takes honest) number told none;
+      writes = λ honest table. subst (λ (list : List RowChange). writes_in table list ≤ most_writes stored (command.Import all) table) (sym none) (omega arith);
+      refused = λ refused. none;
+      query = λ query. none;
+      named = λ w e. refuses_so (30 ∷ []) (ImportRow at cause) (inl refl) w (sym told ∙ e);
+      undamaged = λ e. absurd (let f : Refused (ImportRow at cause) ≡ Refused refusal.Damaged = sym told ∙ e in cc);
+      whole = λ honest damaged. (tt, subst IsRefused (sym told) tt);
+    }

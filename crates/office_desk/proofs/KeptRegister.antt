@@ -1,10 +1,7 @@
 -- Changes of the intersections and of their timing leave the register as it was.
-use Rattle.std.proofs.Common.{◌≡◌, ap, sym, ◌∙◌}
-use Rattle.std.specs.FinMap.{get}
-use Rattle.office_tables_shelf.specs.Cells.{Rows}
-use Rattle.office_tables_shelf.specs.CabinetRows.{part_key}
+use Rattle.std.proofs.Common.{◌≡◌, ◌∙◌}
 use Rattle.office_tables_shelf.specs.Content.{Content}
-use Rattle.office_desk_cabinet.specs.Register.{Register}
+use Rattle.cabinet_core.specs.Register.{Register}
 use Rattle.office_desk_cabinet.specs.RegisterStands.{RegisterStands}
 
 -- the tables of the register stay
@@ -27,10 +24,9 @@ kept_twice old mid new first rest = record {
 -- and still stand for the register
 pub still_stands : (old new : Content) (r : Register) → KeepsRegister old new → RegisterStands old r → RegisterStands new r
 still_stands old new r kept stands = record {
-  inspection = λ key. ap (λ (rows : Rows). get rows key) kept.inspection ∙ stands.inspection key;
-  work_order = λ key. ap (λ (rows : Rows). get rows key) kept.work_order ∙ stands.work_order key;
-  used_part = λ key. ap (λ (rows : Rows). get rows key) kept.used_part ∙ stands.used_part key;
-  delivery = λ key. ap (λ (rows : Rows). get rows key) kept.delivery ∙ stands.delivery key;
-  part = λ code. ap (λ (rows : Rows). get rows (part_key code)) kept.part ∙ stands.part code;
-  part_keys = λ key columns at. stands.part_keys key columns (sym (ap (λ (rows : Rows). get rows key) kept.part) ∙ at);
+  inspection = kept.inspection ∙ stands.inspection;
+  work_order = kept.work_order ∙ stands.work_order;
+  used_part = kept.used_part ∙ stands.used_part;
+  delivery = kept.delivery ∙ stands.delivery;
+  part = kept.part ∙ stands.part;
 }

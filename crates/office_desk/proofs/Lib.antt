@@ -12,6 +12,7 @@ pub mod Imports
 pub mod Keeps
 pub mod Transactions
 pub mod TimingLaw
+pub mod ShownRegister
 pub mod RegisterLaws
 pub mod Repeats
 pub mod Shown
@@ -19,5 +20,5 @@ pub mod IntersectionTable
 pub mod Recorded
 pub mod IntersectionCount
 pub mod OverdueRows
-pub mod Runs
 pub mod Writes
+pub mod Runs

@@ -114,7 +114,7 @@ add_decides is_honest tables id interval name None decided reads whole adds = re
   refused = λ refused. absurd (subst IsRefused adds.0 refused);
   query = λ query. absurd query;
   named = λ why e. absurd (let f : reply.Added ≡ reply.Refused why = sym adds.0 ∙ e in cc);
-  whole = whole;
+  whole = λ honest damaged. absurd (whole honest damaged);
   undamaged = λ e. absurd (let f : reply.Added ≡ reply.Refused refusal.Damaged = sym adds.0 ∙ e in cc);
 }
 add_decides is_honest tables id interval name (Some row) decided reads whole adds =

@@ -3,19 +3,19 @@ use Rattle.std.proofs.Common.{◌≡◌, ◌≤◌, ℕ, List, [], ◌∷◌, ma
 use Rattle.std.proofs.lemmas.List.{length-map, take_all}
 use Rattle.std.specs.FinMap.{entries}
 use Rattle.std.specs.List.{cons_option}
-use Rattle.cabinet_core.specs.Overdue.{Listed, lateness, listed, overdue_list}
+use Rattle.cabinet_core.specs.Overdue.{Listed, lateness, latest_day, listed, overdue_list}
 use Rattle.cabinet_core.specs.declared.inspections.OverdueRow.{OverdueRow}
 use Rattle.cabinet_core.specs.declared.inspections.Seen.{Seen}
 use Rattle.office_tables_shelf.specs.Cells.{Cell}
 use Rattle.office_tables_shelf.specs.Change.{changed_by}
 use Rattle.office_tables_shelf.specs.Content.{Content}
-use Rattle.office_tables_shelf.specs.Overdue.{latest_day, seen_row, IsSeen, AreSeenOf, AreSeen, ListsOverdue}
+use Rattle.office_tables_shelf.specs.Overdue.{seen_row, IsSeen, AreSeenOf, AreSeen, ListsOverdue}
 use Rattle.office_tables_shelf.specs.Rows.{intersection_key, intersection_columns}
 use Rattle.office_tables_shelf.specs.declared.rows.IntersectionRow.{IntersectionRow}
 use Rattle.office_tables_shelf.specs.declared.rows.RowChange.{RowChange}
-use Rattle.office_desk_cabinet.specs.Register.{Register}
+use Rattle.cabinet_core.specs.Register.{Register}
 use Rattle.office_desk_cabinet.specs.RegisterStands.{RegisterStandsSound}
-use Rattle.office_desk_cabinet.proofs.ListedRecords.{inspections_listed}
+use Rattle.office_desk_cabinet.proofs.ListedRecords.{inspections_listed, rows_tell}
 use Rattle.office_desk.specs.Answers.{Answers}
 use Rattle.office_desk.specs.Office.{Office, IsSound}
 use Rattle.office_desk.specs.StandFor.{StandForSound, row_of}
@@ -44,15 +44,6 @@ one_read a e same =
     let number : a.0 ≡ e.0 = cc in
     λ k. (number k, row_from_cells a.1 (row_of e.1) columns k)
 
-rows_read : (rows : List (ℕ × IntersectionRow)) (es : List Entry) → map read_cells rows ≡ map cells es → rows ≡ map of_entry es
-rows_read [] [] same = refl
-rows_read [] (e ∷ es) same = absurd (let f : [] ≡ cells e ∷ map cells es = same in cc)
-rows_read (a ∷ rows) [] same = absurd (let f : read_cells a ∷ map read_cells rows ≡ [] = same in cc)
-rows_read (a ∷ rows) (e ∷ es) same =
-    let first : read_cells a ≡ cells e = cc in
-    let rest : map read_cells rows ≡ map cells es = cc in
-    λ k. one_read a e first k ∷ rows_read rows es rest k
-
 -- ---- what is seen of each is what the office knows
 
 seen_entries : (tables : Content) (r : Register) → RegisterStandsSound tables r → (es : List Entry) → AreSeenOf tables (map of_entry es) (map (seen_of r) es)
@@ -66,7 +57,7 @@ seen_entries tables r stands (e ∷ es) = (here, seen_entries tables r stands es
 pub are_seen : (tables : Content) (office : Office) → StandForSound tables office → AreSeen tables (map (seen_of office.register) (entries office.intersections))
 are_seen tables office stands rows lists =
     let es = entries office.intersections in
-    let read : rows ≡ map of_entry es = rows_read rows es (lists ∙ stored tables office stands.stand) in
+    let read : rows ≡ map of_entry es = rows_tell read_cells cells of_entry one_read rows es (lists ∙ stored tables office stands.stand) in
     subst (λ (list : List (ℕ × IntersectionRow)). AreSeenOf tables list (map (seen_of office.register) es)) (sym read)
     (seen_entries tables office.register (register_of tables office stands) es)
 

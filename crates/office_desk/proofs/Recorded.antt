@@ -7,19 +7,21 @@ use Rattle.cabinet_core.specs.declared.command.RecordCommand.{RecordCommand}
 use Rattle.cabinet_core.specs.declared.record.CabinetView.{CabinetView}
 use Rattle.cabinet_core.specs.declared.refusal.CabinetRefusal.{CabinetRefusal}
 use Rattle.cabinet_core.specs.declared.refusal.CabinetRefusal.TheVariants as cabinet
-use Rattle.office_tables_shelf.specs.Cells.{Rows}
+use Rattle.office_tables_shelf.specs.Cells.{Cell, Rows}
 use Rattle.office_tables_shelf.specs.Change.{changed_by}
 use Rattle.office_tables_shelf.specs.Content.{Content}
 use Rattle.office_tables_shelf.specs.Counts.{writes_in}
-use Rattle.office_tables_shelf.specs.Rows.{timing_key}
+use Rattle.office_tables_shelf.specs.Rows.{intersection_columns, intersection_key, timing_key}
 use Rattle.office_tables_shelf.specs.Shelf.{ReadsIntersection}
 use Rattle.office_tables_shelf.specs.declared.rows.IntersectionRow.{IntersectionRow}
 use Rattle.office_tables_shelf.specs.declared.rows.RowChange.{RowChange}
 use Rattle.office_tables_shelf.specs.declared.rows.Table.{Table}
-use Rattle.office_desk_cabinet.specs.Register.{Register, open_at, stock_of}
+use Rattle.cabinet_core.specs.Orders.{open_at}
+use Rattle.cabinet_core.specs.Register.{Register}
+use Rattle.cabinet_core.specs.Step.{after_record}
+use Rattle.cabinet_core.specs.Stock.{stock_of}
 use Rattle.office_desk_cabinet.specs.RegisterDamage.{MeetsRecordDamage}
 use Rattle.office_desk_cabinet.specs.RegisterStands.{RegisterStandsSound}
-use Rattle.office_desk_cabinet.specs.RegisterStep.{after_record}
 use Rattle.office_desk_cabinet.specs.Registers.{IsNamed, IsOneOf, LeavesTiming, RegistersFrom, ShowsCabinet, line_told, most_record_writes, refusals_of, rows_told}
 use Rattle.office_desk_cabinet.specs.declared.registered.Registered.{Registered}
 use Rattle.office_desk_cabinet.specs.declared.registered.Registered.TheVariants.{Added, Same, Refused}
@@ -29,7 +31,7 @@ use Rattle.office_desk.specs.Damage.{MeetsCabinetDamage}
 use Rattle.office_desk.specs.Deciding.{IsDecision}
 use Rattle.office_desk.specs.Office.{Office, Intersection}
 use Rattle.office_desk.specs.Named.{RefusesBy, number_of, numbers_about, numbers_of}
-use Rattle.office_desk.specs.Recording.{HasDamagedAbout, IsKnownIn}
+use Rattle.office_desk.specs.Recording.{HasDamagedAbout, IsKnownIn, TellsAbout}
 use Rattle.office_desk.specs.StandFor.{StandForSound, row_of}
 use Rattle.office_desk.specs.Step.{cabinet_of, cabinet_shown, is_known, known, recorded, recorded_at, refusal_of_record, shown, told}
 use Rattle.office_desk.specs.declared.command.Command.TheVariants as command
@@ -114,13 +116,33 @@ pub record_unknown : (tables : Content) (office : Office) (c : RecordCommand) (s
 record_unknown tables office c said changes stands gone is none =
     query_answers tables office (command.Record c) (reply.Refused refusal.UnknownIntersection) said changes stands (at_unknown office (cabinet_of c) (recorded office c) (gone office stands)) is none
 
--- a row of the register that is no record
-pub meets_record : (tables : Content) (c : RecordCommand) → MeetsRecordDamage tables c → MeetsCabinetDamage tables c (cabinet_of c)
-meets_record tables c damage = go (cabinet_of c)
+-- a row was read where one stands
+pub row_stands : (tables : Content) (id : ℕ) (row : Option IntersectionRow) → ReadsIntersection tables id row → is_some row ≡ is_some (get tables.intersection (intersection_key id))
+row_stands tables id row reads = go row ∙ sym (ap (λ (o : Option (List Cell)). is_some o) reads)
   where
-    go : (about : Option ℕ) → MeetsCabinetDamage tables c about
-    go None = damage
-    go (Some id) = inr damage
+    go : (o : Option IntersectionRow) → is_some o ≡ is_some (option_map intersection_columns o)
+    go None = refl
+    go (Some i) = refl
+
+-- a row of the register that is no record, of an intersection that is there
+pub meets_record : (tables : Content) (c : RecordCommand) (about : Option ℕ) → TellsAbout tables about true → MeetsRecordDamage tables c → MeetsCabinetDamage tables c about
+meets_record tables c None there damage = damage
+meets_record tables c (Some id) there damage = inr (sym there, damage)
+
+-- no row that the command reads is no record: the intersection's, and where that is there, those of the register
+pub gone_whole : (tables : Content) (c : RecordCommand) (about : Option ℕ) → TellsAbout tables about false → ¬ HasDamagedAbout tables about → ¬ MeetsCabinetDamage tables c about
+gone_whole tables c None gone row damage = absurd (let f : false ≡ true = gone in cc)
+gone_whole tables c (Some id) gone row (inl damage) = row damage
+gone_whole tables c (Some id) gone row (inr later) = absurd (let f : false ≡ true = gone ∙ later.0 in cc)
+
+pub record_whole : (tables : Content) (c : RecordCommand) (about : Option ℕ) → ¬ HasDamagedAbout tables about → ¬ MeetsRecordDamage tables c → ¬ MeetsCabinetDamage tables c about
+record_whole tables c None row register damage = register damage
+record_whole tables c (Some id) row register (inl damage) = row damage
+record_whole tables c (Some id) row register (inr later) = register later.1
+
+-- what is told of an intersection that is asked for
+pub tells_about : (tables : Content) (asked about : Option ℕ) (was known : Bool) → asked ≡ about → was ≡ known → TellsAbout tables asked was → TellsAbout tables about known
+tells_about tables asked about was known same is tells = subst (λ b. TellsAbout tables about b) is (subst (λ a. TellsAbout tables a was) same tells)
 
 -- ---- the decision
 
@@ -170,7 +192,7 @@ told_named c (Refused why) named = refuses_so (numbers_of (command.Record c)) (r
 -- of a command on an intersection that is there
 pub record_decides : (is_honest : Type 0) (tables : Content) (c : RecordCommand) (done : Registered) (decided : Decided)
     → (is_honest → (office : Office) → StandForSound tables office → Answers office (command.Record c) decided.reply (changed_by tables decided.changes.items))
-    → ((table : Table) → writes_in table (rows_told done) ≤ most_record_writes c table) → IsNamed c (line_told done) → (is_honest → ¬ HasDamagedAbout tables (cabinet_of c))
+    → ((table : Table) → writes_in table (rows_told done) ≤ most_record_writes c table) → IsNamed c (line_told done) → (is_honest → ¬ MeetsCabinetDamage tables c (cabinet_of c))
     → decided.reply ≡ told (line_told done) → decided.changes.items ≡ rows_told done → IsDecision is_honest tables (command.Record c) decided
 record_decides is_honest tables c done decided step few named whole is rows = record {
   step = step;
@@ -179,7 +201,7 @@ record_decides is_honest tables c done decided step few named whole is rows = re
   query = λ query. absurd query;
   named = λ why e. told_named c done named why (sym is ∙ e);
   undamaged = λ e. told_undamaged done (sym is ∙ e);
-  whole = whole;
+  whole = λ honest damaged. absurd (whole honest damaged);
 }
 
 -- ---- queries

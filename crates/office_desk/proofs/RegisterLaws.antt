@@ -5,18 +5,23 @@ use Rattle.cabinet_core.specs.Cabinet.{Line, added as added_line, same as same_l
 use Rattle.cabinet_core.specs.declared.command.RecordCommand.{RecordCommand}
 use Rattle.draft_core.specs.Transaction.{TimingSide, begun, edited, verified, checked, committed, reopened, abandoned}
 use Rattle.draft_core.specs.declared.refusal.DraftRefusal.{DraftRefusal}
-use Rattle.office_desk_cabinet.specs.Register.{Register}
-use Rattle.office_desk_cabinet.specs.RegisterStep.{line_at, with_record, after_line}
-use Rattle.office_desk_cabinet.specs.RecordRuns.{AreAccepted}
-use Rattle.office_desk_cabinet.proofs.RecordLaws.{open_law, stock_law}
+use Rattle.cabinet_core.specs.Orders.{open_at}
+use Rattle.cabinet_core.specs.Register.{Register}
+use Rattle.cabinet_core.specs.Runs.{AreAccepted}
+use Rattle.cabinet_core.specs.Step.{line_at, with_record, after_line}
+use Rattle.cabinet_core.specs.Stock.{stock_of}
+use Rattle.cabinet_core.proofs.RecordLaws.{open_law, stock_law}
 use Rattle.office_desk.specs.Office.{Office, Intersection, IsSound}
 use Rattle.office_desk.proofs.Imports.{import_goes_on}
-use Rattle.office_desk.specs.RegisterRuns.{is_accepted, records_asked, accepted_of, accepted, new_by, new_among, RegisterRuns}
-use Rattle.office_desk.specs.Step.{Step, Run, answered, added, moved, transacted, told, recorded, recorded_at, known, cabinet_of, is_known, with_recorded, import_from, imported}
+use Rattle.office_desk.proofs.ShownRegister.{IsTidy, accepted_more, accepted_tidy, open_shown, sound_tidy, stock_shown}
+use Rattle.office_desk.specs.RegisterRuns.{is_accepted, records_asked, accepted_of, accepted, new_by, new_among, RegisterRuns, ShowsAccepted, ShowAccepted}
+use Rattle.office_desk.specs.Step.{Step, Run, answered, added, moved, shown, transacted, told, recorded, recorded_at, known, cabinet_of, is_known, with_recorded, import_from, imported}
 use Rattle.office_desk.specs.declared.command.Command.{Command}
 use Rattle.office_desk.specs.declared.command.Command.TheVariants as command
 use Rattle.office_desk.specs.declared.refusal.Refusal.{Refusal}
+use Rattle.office_desk.specs.declared.refusal.Refusal.TheVariants.{Unavailable, UnknownIntersection}
 use Rattle.office_desk.specs.declared.reply.Reply.{Reply}
+use Rattle.office_desk.specs.declared.reply.Reply.TheVariants.{OpenOrders, Stock, Refused}
 
 -- ---- one step
 
@@ -146,6 +151,77 @@ runs_accepted (command ∷ commands) (reply ∷ replies) first last run =
 runs_accepted [] (reply ∷ replies) first last run = absurd run
 runs_accepted (command ∷ commands) [] first last run = absurd run
 
+-- ---- replies
+
+-- a refusal shows nothing of the register
+refused_shows : (first : Office) (so_far : List RecordCommand) (command : Command) (why : Refusal) → ShowsAccepted first so_far command (Refused why)
+refused_shows first so_far (command.AddIntersection id interval name) why = tt
+refused_shows first so_far (command.Begin id clerk) why = tt
+refused_shows first so_far (command.Edit id clerk changes) why = tt
+refused_shows first so_far (command.Verify id clerk) why = tt
+refused_shows first so_far (command.Check id clerk) why = tt
+refused_shows first so_far (command.Commit id clerk) why = tt
+refused_shows first so_far (command.Reopen id clerk) why = tt
+refused_shows first so_far (command.Abandon id clerk) why = tt
+refused_shows first so_far (command.State id) why = tt
+refused_shows first so_far (command.Timing id) why = tt
+refused_shows first so_far (command.Draft id) why = tt
+refused_shows first so_far (command.Record c) why = tt
+refused_shows first so_far (command.Import records) why = tt
+refused_shows first so_far (command.Cabinet id) why = tt
+refused_shows first so_far (command.OpenOrders id) why = tt
+refused_shows first so_far command.Stock why = tt
+refused_shows first so_far (command.Overdue day) why = tt
+
+module _ (first now next : Office) (so_far : List RecordCommand) (run : AreAccepted first.register so_far now.register) (tidy : IsTidy first.register) (still : IsTidy now.register) where
+  orders_show : (id : ℕ) (reply : Reply) (there : Option Intersection) → ◌≡◌ {A = Reply × Office} (shown there (λ i. OpenOrders (open_at now.register id)), now) (reply, next) → ShowsAccepted first so_far (command.OpenOrders id) reply
+  orders_show id reply None is = subst (λ (p : Reply × Office). ShowsAccepted first so_far (command.OpenOrders id) p.0) is tt
+  orders_show id reply (Some i) is =
+      subst (λ (p : Reply × Office). ShowsAccepted first so_far (command.OpenOrders id) p.0) is (λ n. open_shown first.register now.register so_far run still id n)
+
+  answer_shows : (command : Command) (reply : Reply) → answered now command ≡ (reply, next) → ShowsAccepted first so_far command reply
+  answer_shows (command.AddIntersection id interval name) reply is = tt
+  answer_shows (command.Begin id clerk) reply is = tt
+  answer_shows (command.Edit id clerk changes) reply is = tt
+  answer_shows (command.Verify id clerk) reply is = tt
+  answer_shows (command.Check id clerk) reply is = tt
+  answer_shows (command.Commit id clerk) reply is = tt
+  answer_shows (command.Reopen id clerk) reply is = tt
+  answer_shows (command.Abandon id clerk) reply is = tt
+  answer_shows (command.State id) reply is = tt
+  answer_shows (command.Timing id) reply is = tt
+  answer_shows (command.Draft id) reply is = tt
+  answer_shows (command.Record c) reply is = tt
+  answer_shows (command.Import records) reply is = tt
+  answer_shows (command.Cabinet id) reply is = tt
+  answer_shows (command.OpenOrders id) reply is = orders_show id reply (get now.intersections id) is
+  answer_shows command.Stock reply is =
+      subst (λ (p : Reply × Office). ShowsAccepted first so_far command.Stock p.0) is (λ code. stock_shown first.register now.register so_far run tidy still code)
+  answer_shows (command.Overdue day) reply is = tt
+
+  step_shows : (command : Command) (reply : Reply) → Step now command reply next → ShowsAccepted first so_far command reply
+  step_shows command reply (inl left) = subst (ShowsAccepted first so_far command) (sym left.0) (refused_shows first so_far command Unavailable)
+  step_shows command reply (inr is) = answer_shows command reply is
+
+no_more : (commands : List RecordCommand) → commands ++ [] ≡ commands
+no_more [] = refl
+no_more (c ∷ cs) = ap (λ rest. c ∷ rest) (no_more cs)
+
+-- after records that were accepted from the first office on
+replies_show : (commands : List Command) (replies : List Reply) (first now last : Office) (so_far : List RecordCommand) (run : Run now commands replies last)
+    → AreAccepted first.register so_far now.register → IsTidy first.register → ShowAccepted first so_far now commands replies last run
+replies_show [] [] first now last so_far run taken tidy = tt
+replies_show (command ∷ commands) (reply ∷ replies) first now last so_far run taken tidy =
+    let one = step_after now run.0 command reply run.1 [] run.0.register refl in
+    let brought : AreAccepted now.register (accepted_of now command reply) run.0.register =
+    subst (λ (cs : List RecordCommand). AreAccepted now.register cs run.0.register) (no_more (accepted_of now command reply)) one in (
+      step_shows first now run.0 so_far taken tidy (accepted_tidy so_far first.register now.register taken tidy) command reply run.1,
+      replies_show commands replies first run.0 last (so_far ++ accepted_of now command reply) run.2
+          (accepted_more so_far (accepted_of now command reply) first.register now.register run.0.register taken brought) tidy,
+    )
+replies_show [] (reply ∷ replies) first now last so_far run taken tidy = tt
+replies_show (command ∷ commands) [] first now last so_far run taken tidy = tt
+
 -- over a run of a sound office
 pub runs_register : (commands : List Command) (replies : List Reply) (first last : Office) (run : Run first commands replies last) → IsSound first → IsSound last → RegisterRuns first commands replies last run
 runs_register commands replies first last run first_sound last_sound =
@@ -153,4 +229,5 @@ runs_register commands replies first last run first_sound last_sound =
     record {
       orders = λ id n. open_law id n (accepted first commands replies last run) first.register last.register taken;
       stock = λ code. stock_law code (accepted first commands replies last run) first.register last.register taken first_sound.register last_sound.register;
+      shown = replies_show commands replies first first last [] run refl (sound_tidy first.register first_sound.register);
     }

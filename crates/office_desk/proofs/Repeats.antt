@@ -8,8 +8,8 @@ use Rattle.cabinet_core.specs.Cabinet.{Line, added as added_line, same as same_l
 use Rattle.cabinet_core.specs.declared.command.RecordCommand.{RecordCommand}
 use Rattle.draft_core.specs.Transaction.{TimingSide, begun, edited, verified, checked, committed, reopened, abandoned}
 use Rattle.draft_core.specs.declared.refusal.DraftRefusal.{DraftRefusal}
-use Rattle.office_desk_cabinet.specs.RegisterStep.{line_at, with_record, after_line}
-use Rattle.office_desk_cabinet.proofs.RecordKept.{same_after, same_kept}
+use Rattle.cabinet_core.specs.Step.{line_at, with_record, after_line}
+use Rattle.cabinet_core.proofs.RecordKept.{same_after, same_kept}
 use Rattle.office_desk.specs.Office.{Office, Intersection}
 use Rattle.office_desk.specs.Repeats.{IsRepeat, AreRepeats, Repeats}
 use Rattle.office_desk.specs.Step.{Step, Run, answered, added, moved, transacted, with_intersection, new_intersection, recorded, recorded_at, known, cabinet_of, is_known, with_recorded, import_by, import_from, imported}

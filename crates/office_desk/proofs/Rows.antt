@@ -1,38 +1,11 @@
--- A finite map, stored as the rows of a table: what the rows have at a key, what an insertion makes of them, and that a row is told by its cells.
-use Rattle.std.proofs.Common.{◌≡◌, List, [], ◌∷◌, Option, Some, None, cond, Ordering, refl, ap, sym, ◌∙◌, arith}
-use Rattle.std.specs.Cmp.{IsTotalOrder, eq_by_cmp_equiv}
-use Rattle.std.specs.FinMap.{FinMap, entries, get, insert, find, get-entries, get-insert}
+-- The row of an intersection is told by its cells.
+use Rattle.std.proofs.Common.{◌≡◌, Option, Some, None, refl, ap, arith}
 use Rattle.std.specs.Option.{option_map}
-use Rattle.std.specs.Ordering.{is_eq, eq_by_cmp}
 use Rattle.draft_core.specs.declared.state.Stage.{Stage}
 use Rattle.draft_core.specs.declared.state.Stage.TheVariants.{Transaction, Verify, Done}
 use Rattle.draft_core.specs.declared.state.Holder.{Holder}
-use Rattle.office_tables_shelf.specs.Cells.{Cell, tree_rows, cells_cmp}
 use Rattle.office_tables_shelf.specs.Rows.{stage_number, state_number, owner_cell, intersection_columns}
 use Rattle.office_tables_shelf.specs.declared.rows.IntersectionRow.{IntersectionRow}
-use Rattle.office_tables_shelf.proofs.TreeLemmas.{entry_at, get_tree, insert_tree}
-
--- ---- a map and its rows
-
-module _ {K X : Type 0} {R : K → K → Ordering} (o : IsTotalOrder R) (key : K → List Cell) (columns : X → List Cell) (ties : (a b : K) → is_eq (cells_cmp (key a) (key b)) ≡ is_eq (R a b)) where
-  entry_found : (es : List (K × X)) (q : K) → entry_at R key columns es q ≡ find R q es
-  entry_found [] q = refl
-  entry_found (e ∷ es) q = ap (cond (eq_by_cmp R q e.0) (Some e.1)) (entry_found es q)
-
-  entry_got : (m : FinMap R X) (q : K) → entry_at R key columns (entries m) q ≡ get m q
-  entry_got m q = entry_found (entries m) q ∙ sym (get-entries m q)
-
-  -- the rows have at the cells of a key what the map has at the key
-  pub get_stored : (m : FinMap R X) (k : K) → get (tree_rows key columns (entries m)) (key k) ≡ option_map columns (get m k)
-  get_stored m k = get_tree R key columns ties (entries m) k ∙ ap (option_map columns) (entry_got m k)
-
-  -- to store a map after an insertion is to insert into the stored map
-  pub insert_stored : (m : FinMap R X) (k : K) (v : X) → tree_rows key columns (entries (insert m k v)) ≡ insert (tree_rows key columns (entries m)) (key k) (columns v)
-  insert_stored m k v = insert_tree R key columns ties (entries m) (entries (insert m k v)) k v (λ q.
-      entry_got (insert m k v) q ∙ get-insert o m k v q
-      ∙ (λ i. cond ((eq_by_cmp_equiv o).symm q k i) (Some v) (sym (entry_got m q) i)))
-
--- ---- a row and its cells
 
 stage_from_number : (a b : Stage) → stage_number a ≡ stage_number b → a ≡ b
 stage_from_number Transaction Transaction e = refl

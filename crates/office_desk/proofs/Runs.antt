@@ -1,21 +1,28 @@
 -- From a decision to a step that was made, and from steps to runs.
-use Rattle.std.proofs.Common.{◌≡◌, List, [], ◌∷◌, ◌++◌, ℕ, Option, Some, None, refl, sym, subst, ◌∙◌, inl, inr, length, true, arith}
+use Rattle.std.proofs.Common.{◌≡◌, ◌≢◌, ◌≤◌, ◌+◌, ◌⊎◌, List, [], ◌∷◌, ◌++◌, ℕ, Option, Some, None, refl, ap, sym, subst, ◌∙◌, inl, inr, length, true, arith}
 use Rattle.std.specs.Prelude.{◌==◌}
 use Rattle.std.proofs.lemmas.Bool.Decides.{nat_tests}
 use Rattle.office_tables_shelf.specs.Change.{changed_by}
 use Rattle.office_tables_shelf.specs.Content.{Content}
+use Rattle.office_tables_shelf.specs.Counts.{counts_after, writes_in}
+use Rattle.office_tables_shelf.specs.Shelf.{IsKept}
+use Rattle.office_tables_shelf.specs.declared.counts.WriteCounts.{WriteCounts}
 use Rattle.office_tables_shelf.specs.declared.rows.RowChange.{RowChange}
 use Rattle.office_tables_shelf.specs.declared.shelf.ShelfFault.{ShelfFault}
 use Rattle.office_tables_shelf.specs.declared.shelf.ShelfFault.TheVariants.{NoMemory, Store, Damaged}
-use Rattle.office_desk.specs.Answers.{AnswersAny, Answers, RunsAny, RunsTo}
+use Rattle.office_desk.specs.Answers.{AnswersAny, Answers, IsAfterStep, RunsAny, RunsTo}
+use Rattle.office_desk.specs.Changes.{IsRefused, RiseAtMost, most_writes}
+use Rattle.office_desk.specs.Deciding.{IsAnswered, IsDecision}
+use Rattle.office_desk.specs.Running.{AreRun, IsRun}
+use Rattle.office_desk.specs.declared.decided.Decided.{Decided}
 use Rattle.cabinet_core.specs.declared.command.RecordCommand.{RecordCommand}
 use Rattle.office_desk_cabinet.proofs.Undamaged.{no_damaged_inspection, no_damaged_order, no_damaged_used, no_damaged_part, undamaged_record}
-use Rattle.office_desk.specs.Damage.{IsTurnedAway, MeetsCabinetDamage, MeetsImportDamage, MeetsDamage}
-use Rattle.office_desk.specs.Named.{AreNamedFor, IsNamedFor, RefusesBy, numbers_of}
+use Rattle.office_desk.specs.Damage.{MeetsCabinetDamage, MeetsImportDamage, MeetsDamage}
+use Rattle.office_desk.specs.Named.{IsNamedFor, RefusesBy, numbers_of}
 use Rattle.office_desk.specs.Decisions.{refusal_of}
 use Rattle.office_desk.specs.Office.{Office, IsSound}
 use Rattle.office_desk.specs.StandFor.{StandForSound}
-use Rattle.office_desk.specs.Step.{AreSound, Step, Run, cabinet_of}
+use Rattle.office_desk.specs.Step.{AreSound, Step, Run, answered, cabinet_of}
 use Rattle.office_desk.specs.declared.command.Command.{Command}
 use Rattle.office_desk.specs.declared.command.Command.TheVariants as command
 use Rattle.office_desk.specs.declared.refusal.Refusal.TheVariants as refusal
@@ -29,17 +36,18 @@ use Rattle.office_desk.proofs.Stands.{no_damage}
 use Rattle.office_desk.proofs.RegisterLaws.{runs_register}
 use Rattle.office_desk.proofs.Repeats.{runs_repeat}
 use Rattle.office_desk.proofs.TimingLaw.{runs_timing}
+use Rattle.office_desk.proofs.Writes.{no_rise, rise_at_most}
 
 -- ---- a decision
 
-pub unavailable_answers : (tables : Content) (command : Command) (reply : Reply) (changes : List RowChange) → reply ≡ Refused Unavailable → changes ≡ [] → AnswersAny tables command reply (changed_by tables changes)
+unavailable_answers : (tables : Content) (command : Command) (reply : Reply) (changes : List RowChange) → reply ≡ Refused Unavailable → changes ≡ [] → AnswersAny tables command reply (changed_by tables changes)
 unavailable_answers tables command reply changes r e office stands = record {
   next = office;
   step = inl (r, refl);
   stand = subst (λ list. StandForSound (changed_by tables list) office) (sym e) stands;
 }
 
-pub same_answers : (old new : Content) (command : Command) (reply : Reply) (changes : List RowChange) → AnswersAny old command reply (changed_by old changes) → new ≡ changed_by old changes → AnswersAny old command reply new
+same_answers : (old new : Content) (command : Command) (reply : Reply) (changes : List RowChange) → AnswersAny old command reply (changed_by old changes) → new ≡ changed_by old changes → AnswersAny old command reply new
 same_answers old new command reply changes answers e office stands = subst (Answers office command reply) (sym e) (answers office stands)
 
 pub reply_answers : (tables : Content) (command : Command) (reply told : Reply) (changes : List RowChange) → AnswersAny tables command reply tables → told ≡ reply → changes ≡ [] → AnswersAny tables command told (changed_by tables changes)
@@ -49,7 +57,7 @@ reply_answers tables command reply told changes answers r e office stands =
 record_refuted : (tables : Content) (c : RecordCommand) (about : Option ℕ) → MeetsCabinetDamage tables c about → (office : Office) → StandForSound tables office → ⊥
 record_refuted tables c None damage office stands = undamaged_record tables office.register c (register_of tables office stands) damage
 record_refuted tables c (Some id) (inl row) office stands = no_damage tables id (inl row) office stands
-record_refuted tables c (Some id) (inr damage) office stands = undamaged_record tables office.register c (register_of tables office stands) damage
+record_refuted tables c (Some id) (inr (there, damage)) office stands = undamaged_record tables office.register c (register_of tables office stands) damage
 
 import_refuted : (tables : Content) (records : List RecordCommand) → MeetsImportDamage tables records → (office : Office) → StandForSound tables office → ⊥
 import_refuted tables [] damage office stands = damage
@@ -82,61 +90,143 @@ damage_refuted tables (command.Overdue day) (inl row) = no_damaged_intersection 
 damage_refuted tables (command.Overdue day) (inr inspection) = λ office stands. no_damaged_inspection tables office.register inspection.0 (register_of tables office stands) inspection.1
 
 -- a fault of the shelf, answered as its refusal
-pub fault_answers : (tables : Content) (command : Command) (fault : ShelfFault) (reply : Reply) (changes : List RowChange) → (fault ≡ Damaged → MeetsDamage tables command) → reply ≡ Refused (refusal_of fault) → changes ≡ [] → AnswersAny tables command reply (changed_by tables changes)
+fault_answers : (tables : Content) (command : Command) (fault : ShelfFault) (reply : Reply) (changes : List RowChange) → (fault ≡ Damaged → MeetsDamage tables command) → reply ≡ Refused (refusal_of fault) → changes ≡ [] → AnswersAny tables command reply (changed_by tables changes)
 fault_answers tables command NoMemory reply changes meets r e = unavailable_answers tables command reply changes r e
 fault_answers tables command Store reply changes meets r e = unavailable_answers tables command reply changes r e
 fault_answers tables command Damaged reply changes meets r e = λ office stands. absurd (damage_refuted tables command (meets refl) office stands)
 
+fault_damaged : (fault : ShelfFault) → Refused (refusal_of fault) ≡ Refused refusal.Damaged → fault ≡ Damaged
+fault_damaged NoMemory told = absurd (let f : Refused Unavailable ≡ Refused refusal.Damaged = told in cc)
+fault_damaged Store told = absurd (let f : Refused Unavailable ≡ Refused refusal.Damaged = told in cc)
+fault_damaged Damaged told = refl
+
 -- it refuses the command, and so a row that it could not read
-pub turned_away : (fault : ShelfFault) (reply : Reply) → reply ≡ Refused (refusal_of fault) → IsTurnedAway reply
+turned_away : (fault : ShelfFault) (reply : Reply) → reply ≡ Refused (refusal_of fault) → (reply ≡ Refused refusal.Damaged) ⊎ (reply ≡ Refused Unavailable)
 turned_away NoMemory reply e = inr e
 turned_away Store reply e = inr e
 turned_away Damaged reply e = inl e
 
-pub fault_named : (command : Command) (fault : ShelfFault) (reply : Reply) → reply ≡ Refused (refusal_of fault) → IsNamedFor command reply
+fault_named : (command : Command) (fault : ShelfFault) (reply : Reply) → reply ≡ Refused (refusal_of fault) → IsNamedFor command reply
 fault_named command NoMemory reply e = λ why told. refuses_so (90 ∷ 91 ∷ numbers_of command) Unavailable (inl refl) why (sym e ∙ told)
 fault_named command Store reply e = λ why told. refuses_so (90 ∷ 91 ∷ numbers_of command) Unavailable (inl refl) why (sym e ∙ told)
 fault_named command Damaged reply e = λ why told. refuses_so (90 ∷ 91 ∷ numbers_of command) refusal.Damaged (inr (inl refl)) why (sym e ∙ told)
 
-pub named_more : (command : Command) (reply : Reply) → RefusesBy (numbers_of command) reply → IsNamedFor command reply
+named_more : (command : Command) (reply : Reply) → RefusesBy (numbers_of command) reply → IsNamedFor command reply
 named_more command reply named = λ why told. inr (inr (named why told))
 
-pub unavailable_named : (command : Command) → IsNamedFor command (Refused Unavailable)
+unavailable_named : (command : Command) → IsNamedFor command (Refused Unavailable)
 unavailable_named command = refuses_so (90 ∷ 91 ∷ numbers_of command) Unavailable (inl refl)
-
--- one more reply that is named for its command
-pub all_named : (commands : List Command) (replies : List Reply) (command : Command) (reply : Reply) → AreNamedFor commands replies → IsNamedFor command reply → AreNamedFor (commands ++ command ∷ []) (replies ++ reply ∷ [])
-all_named [] [] command reply all one = (one, tt)
-all_named [] (r ∷ rs) command reply all one = absurd all
-all_named (c ∷ cs) [] command reply all one = absurd all
-all_named (c ∷ cs) (r ∷ rs) command reply all one = (all.0, all_named cs rs command reply all.1 one)
-
--- changes that were decided on the first tables, and applied to the same
-pub applied : (first mid new : Content) (given changes : List RowChange) → new ≡ changed_by mid given → mid ≡ first → given ≡ changes → new ≡ changed_by first changes
-applied first mid new given changes made same list = made ∙ (λ i. changed_by (same i) (list i))
 
 pub no_items : (changes : List RowChange) → true ≡ (length changes == 0) → changes ≡ []
 no_items [] e = refl
 no_items (x ∷ xs) e = absurd (grind (arith, nat_tests))
 
--- ---- runs
+-- a command that was decided is answered so
+pub decided_answers : (is_honest : Type 0) (tables : Content) (command : Command) (decided : Decided) → IsDecision is_honest tables command decided → IsAnswered is_honest tables command decided
+decided_answers is_honest tables command decided is = record {
+  step = is.step;
+  writes = is.writes;
+  refused = is.refused;
+  query = is.query;
+  named = named_more command decided.reply is.named;
+  damaged = λ told. absurd (is.undamaged told);
+  turned_away = λ honest damaged. inr (is.whole honest damaged);
+}
 
--- a run goes on by one step
-run-more : (commands : List Command) (replies : List Reply) (first mid last : Office) (command : Command) (reply : Reply) → Run first commands replies mid → Step mid command reply last → Run first (commands ++ command ∷ []) (replies ++ reply ∷ []) last
-run-more [] [] first mid last command reply run step = (last, subst (λ o. Step o command reply last) run step, refl)
-run-more (c ∷ cs) (r ∷ rs) first mid last command reply run step = (run.0, run.1, run-more cs rs run.0 mid last command reply run.2 step)
-run-more [] (r ∷ rs) first mid last command reply run step = absurd run
-run-more (c ∷ cs) [] first mid last command reply run step = absurd run
+-- and a fault as its refusal
+pub fault_is_answered : (is_honest : Type 0) (tables : Content) (command : Command) (fault : ShelfFault) (decided : Decided) → (fault ≡ Damaged → is_honest → MeetsDamage tables command)
+    → decided.reply ≡ Refused (refusal_of fault) → decided.changes.items ≡ [] → IsAnswered is_honest tables command decided
+fault_is_answered is_honest tables command fault decided meets told none = record {
+  step = λ honest. fault_answers tables command fault decided.reply decided.changes.items (λ damaged. meets damaged honest) told none;
+  writes = λ honest table. subst (λ (list : List RowChange). writes_in table list ≤ most_writes tables command table) (sym none) (omega arith);
+  refused = λ _. none;
+  query = λ _. none;
+  named = fault_named command fault decided.reply told;
+  damaged = λ said. meets (fault_damaged fault (sym told ∙ said));
+  turned_away = λ honest damaged. inl (turned_away fault decided.reply told);
+}
 
-sound-more : (commands : List Command) (replies : List Reply) (first mid last : Office) (command : Command) (reply : Reply) (run : Run first commands replies mid) (step : Step mid command reply last)
-    → AreSound first commands replies mid run → IsSound last → AreSound first (commands ++ command ∷ []) (replies ++ reply ∷ []) last (run-more commands replies first mid last command reply run step)
-unfolding run-more
-sound-more [] [] first mid last command reply run step so_far now = (so_far, now)
-sound-more (c ∷ cs) (r ∷ rs) first mid last command reply run step so_far now = (so_far.0, sound-more cs rs run.0 mid last command reply run.2 step so_far.1 now)
-sound-more [] (r ∷ rs) first mid last command reply run step so_far now = absurd run
-sound-more (c ∷ cs) [] first mid last command reply run step so_far now = absurd run
+-- ---- one command
 
--- the replies of a run, and what runs after it
+-- the changes of an answer make the office after the command's own step
+after_step : (tables new : Content) (command : Command) (decided : Decided) → AnswersAny tables command decided.reply (changed_by tables decided.changes.items) → ¬ IsRefused decided.reply
+    → new ≡ changed_by tables decided.changes.items → IsAfterStep tables command new
+after_step tables new command decided answers accepted made office stands =
+    let is = answers office stands in
+    subst (λ t. StandForSound t (answered office command).1) (sym made) (own is.next is.step is.stand)
+  where
+    own : (next : Office) → Step office command decided.reply next → StandForSound (changed_by tables decided.changes.items) next → StandForSound (changed_by tables decided.changes.items) (answered office command).1
+    own next (inl left) stand = absurd (accepted (subst IsRefused (sym left.0) tt))
+    own next (inr is) stand = subst (StandForSound (changed_by tables decided.changes.items)) (ap (λ (p : Reply × Office). p.1) (sym is)) stand
+
+module _ {S : Type 0} (is_honest : S → Type 0) (content : S → Content) (written : S → WriteCounts) (may_leave : S → Content → Type 0)
+    (command : Command) (decided : Decided) (old mid : S)
+    (kept : IsKept is_honest content written may_leave old mid)
+    (is : IsAnswered (is_honest mid) (content old) command decided) where
+  -- there was nothing to be written
+  pub unwritten_run : decided.changes.items ≡ [] → IsRun is_honest content written may_leave command decided.reply old mid
+  unwritten_run none = record {
+    honest = kept.honest_before;
+    step = λ honest. same_answers _ _ _ _ decided.changes.items (is.step honest) (kept.same_content honest ∙ ap (changed_by (content old)) (sym none));
+    refused = λ refused. kept.same_content;
+    unwritten = λ refused. kept.same_counts;
+    writes = λ honest. no_rise (content old) command _ _ kept.same_counts;
+    named = is.named;
+    damaged = is.damaged;
+    turned_away = is.turned_away;
+    crash = λ tables left. inl (kept.same_outcomes tables left);
+    settled = λ honest answered changed. absurd (changed (kept.same_content honest));
+    made = λ answered wrote. absurd (wrote kept.same_counts);
+  }
+
+  module _ (new : S) (some : decided.changes.items ≢ []) (honest : is_honest new → is_honest mid)
+      (crash : (tables : Content) → may_leave new tables → may_leave mid tables ⊎ (is_honest mid × (tables ≡ changed_by (content mid) decided.changes.items))) where
+    left_by : (tables : Content) → may_leave new tables → may_leave old tables ⊎ (is_honest old × IsAfterStep (content old) command tables)
+    left_by tables left =
+        elim (crash tables left) [
+          | inl before ↦ inl (kept.same_outcomes tables before)
+          | inr made ↦ inr (
+            kept.honest_before made.0,
+            after_step (content old) tables command decided (is.step made.0) (λ refused. some (is.refused refused)) (made.1 ∙ ap (λ t. changed_by t decided.changes.items) (kept.same_content made.0)),
+          )
+        ]
+
+    -- the changes were made
+    pub applied_run : (is_honest new → content new ≡ changed_by (content mid) decided.changes.items) → written new ≡ counts_after (written mid) decided.changes.items
+        → ((tables : Content) → may_leave new tables → tables ≡ content new) → IsRun is_honest content written may_leave command decided.reply old new
+    applied_run made counted settled = record {
+      honest = λ now. kept.honest_before (honest now);
+      step = λ now. same_answers _ _ _ _ decided.changes.items (is.step (honest now)) (made now ∙ ap (λ t. changed_by t decided.changes.items) (kept.same_content (honest now)));
+      refused = λ refused. absurd (some (is.refused refused));
+      unwritten = λ refused. absurd (some (is.refused refused));
+      writes = λ now. rise_at_most (content old) command decided.changes.items (written old) (written new) (is.writes (honest now)) (counted ∙ ap (λ counts. counts_after counts decided.changes.items) kept.same_counts);
+      named = is.named;
+      damaged = λ told now. is.damaged told (honest now);
+      turned_away = λ now. is.turned_away (honest now);
+      crash = left_by;
+      settled = λ now answered changed. settled;
+      made = λ answered wrote. settled;
+    }
+
+    -- they were refused
+    pub failed_run : (is_honest new → content new ≡ content mid) → written new ≡ written mid → IsRun is_honest content written may_leave command (Refused Unavailable) old new
+    failed_run same uncounted = record {
+      honest = λ now. kept.honest_before (honest now);
+      step = λ now. same_answers _ _ _ _ [] (unavailable_answers _ _ _ _ refl refl) (same now ∙ kept.same_content (honest now));
+      refused = λ refused now. same now ∙ kept.same_content (honest now);
+      unwritten = λ refused. uncounted ∙ kept.same_counts;
+      writes = λ now. no_rise (content old) command _ _ (uncounted ∙ kept.same_counts);
+      named = unavailable_named command;
+      damaged = λ told. absurd (let f : Refused Unavailable ≡ Refused refusal.Damaged = told in cc);
+      turned_away = λ now damaged. inl (inr refl);
+      crash = left_by;
+      settled = λ now answered. absurd (answered refl);
+      made = λ answered. absurd (answered refl);
+    }
+
+-- ---- commands in turn
+
+-- a run of no commands, or of one more at the front
 runs_to : (office last : Office) (commands : List Command) (replies : List Reply) (tables : Content) → IsSound office → (run : Run office commands replies last) → AreSound office commands replies last run
     → StandForSound tables last → RunsTo office commands replies tables
 runs_to office last commands replies tables sound run between stand = record {
@@ -149,12 +239,26 @@ runs_to office last commands replies tables sound run between stand = record {
   repeats = runs_repeat commands replies office last run;
 }
 
-pub runs_nothing : (tables : Content) → RunsAny tables [] [] tables
-runs_nothing tables office stands = runs_to office office [] [] tables stands.sound refl stands.sound stands
+module _ {S : Type 0} (is_honest : S → Type 0) (content : S → Content) (written : S → WriteCounts) (may_leave : S → Content → Type 0) where
+  pub one_more : (commands : List Command) (replies : List Reply) (old mid new : S) (command : Command) (reply : Reply) → AreRun is_honest content written may_leave commands replies old mid
+      → IsRun is_honest content written may_leave command reply mid new → AreRun is_honest content written may_leave (commands ++ command ∷ []) (replies ++ reply ∷ []) old new
+  one_more [] [] old mid new command reply same run = (new, subst (λ (s : S). IsRun is_honest content written may_leave command reply s new) same run, refl)
+  one_more (c ∷ cs) (r ∷ rs) old mid new command reply all run = (all.0, all.1, one_more cs rs all.0 mid new command reply all.2 run)
+  one_more [] (r ∷ rs) old mid new command reply all run = absurd all
+  one_more (c ∷ cs) [] old mid new command reply all run = absurd all
 
-pub runs_more : (first mid last : Content) (commands : List Command) (replies : List Reply) (command : Command) (reply : Reply) → RunsAny first commands replies mid → AnswersAny mid command reply last → RunsAny first (commands ++ command ∷ []) (replies ++ reply ∷ []) last
-runs_more first mid last commands replies command reply runs answers office stands =
-    let so_far = runs office stands in
-    let now = answers so_far.last so_far.stand in
-    runs_to office now.next _ _ last stands.sound (run-more commands replies office so_far.last now.next command reply so_far.run now.step)
-    (sound-more commands replies office so_far.last now.next command reply so_far.run now.step so_far.sound now.stand.sound) now.stand
+  pub honest_first : (commands : List Command) (replies : List Reply) (old new : S) → AreRun is_honest content written may_leave commands replies old new → is_honest new → is_honest old
+  honest_first [] [] old new same honest = subst is_honest same honest
+  honest_first (c ∷ cs) (r ∷ rs) old new all honest = all.1.honest (honest_first cs rs all.0 new all.2 honest)
+  honest_first [] (r ∷ rs) old new all honest = absurd all
+  honest_first (c ∷ cs) [] old new all honest = absurd all
+
+  -- what each command makes of the office before it is a run
+  pub run_any : (commands : List Command) (replies : List Reply) (old new : S) → AreRun is_honest content written may_leave commands replies old new → is_honest new → RunsAny (content old) commands replies (content new)
+  run_any [] [] old new same honest office stands = runs_to office office [] [] (content new) stands.sound refl stands.sound (subst (λ (s : S). StandForSound (content s) office) (sym same) stands)
+  run_any (c ∷ cs) (r ∷ rs) old new all honest office stands =
+      let now = all.1.step (honest_first cs rs all.0 new all.2 honest) office stands in
+      let rest = run_any cs rs all.0 new all.2 honest now.next now.stand in
+      runs_to office rest.last (c ∷ cs) (r ∷ rs) (content new) stands.sound (now.next, now.step, rest.run) (stands.sound, rest.sound) rest.stand
+  run_any [] (r ∷ rs) old new all honest office stands = absurd all
+  run_any (c ∷ cs) [] old new all honest office stands = absurd all

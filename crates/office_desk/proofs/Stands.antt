@@ -17,7 +17,8 @@ use Rattle.signal_records.specs.declared.record.Change.TheVariants.{Put, Remove}
 use Rattle.draft_core.specs.DraftRows.{RowStands}
 use Rattle.draft_core.specs.Transaction.{Draft, TimingSide, holder_of}
 use Rattle.office_tables_shelf.proofs.CellLemmas.{cell_exact, tied}
-use Rattle.office_tables_shelf.proofs.TreeLemmas.{number_ties}
+use Rattle.office_tables_shelf.proofs.KeyCells.{intersection_order}
+use Rattle.office_tables_shelf.proofs.StoredMaps.{get_stored, insert_stored}
 use Rattle.office_tables_shelf.specs.Cells.{Cell, Rows, number}
 use Rattle.office_tables_shelf.specs.Content.{Content}
 use Rattle.office_tables_shelf.specs.Damage.{HasDamagedIntersection, HasDamagedTiming, HasDamagedDraft}
@@ -30,14 +31,14 @@ use Rattle.office_desk.specs.StandFor.{StandFor, StandForSound, DraftRowStands, 
 use Rattle.office_desk.specs.Step.{with_intersection}
 use Rattle.office_desk.proofs.EmptySet.{no_records}
 use Rattle.office_desk.proofs.KeptRegister.{KeepsRegister, still_stands}
-use Rattle.office_desk.proofs.Rows.{get_stored, insert_stored, read_from_cells}
+use Rattle.office_desk.proofs.Rows.{read_from_cells}
 
 -- ---- what is stored of an intersection
 
 pub stored_at : (tables : Content) (office : Office) (id : ℕ) → StandFor tables office → get tables.intersection (intersection_key id) ≡ option_map columns_of (get office.intersections id)
 stored_at tables office id stand =
     ap (λ (rows : Rows). get rows (intersection_key id)) stand.intersection
-    ∙ get_stored nat_cmp_total intersection_key columns_of number_ties office.intersections id
+    ∙ get_stored nat_cmp_total intersection_key columns_of intersection_order office.intersections id
 
 through_row : (i : Option Intersection) → option_map columns_of i ≡ option_map intersection_columns (option_map row_of i)
 through_row None = refl
@@ -121,8 +122,8 @@ no_damaged_draft tables id damaged office stands =
 -- where the tables stand for a sound office, each row of an intersection is a record
 pub no_damage : (tables : Content) (id : ℕ) → HasDamage tables id → (office : Office) → StandForSound tables office → ⊥
 no_damage tables id (inl row) = no_damaged_row tables id row
-no_damage tables id (inr (inl timing)) = no_damaged_timing tables id timing
-no_damage tables id (inr (inr draft)) = no_damaged_draft tables id draft
+no_damage tables id (inr (there, inl timing)) = no_damaged_timing tables id timing
+no_damage tables id (inr (there, inr draft)) = no_damaged_draft tables id draft
 
 -- ---- another timing side of an intersection
 
@@ -201,7 +202,7 @@ pub stand_after : (old new : Content) (office : Office) (id : ℕ) (i : Intersec
 stand_after old new office id i stand new_rows = record {
   intersection = new_rows.intersection
       ∙ ap (λ (rows : Rows). insert rows (intersection_key id) (columns_of i)) stand.intersection
-      ∙ sym (insert_stored nat_cmp_total intersection_key columns_of number_ties office.intersections id i);
+      ∙ sym (insert_stored nat_cmp_total intersection_key columns_of intersection_order office.intersections id i);
   timing = timing_at old new office id i stand new_rows;
   timing_keys = new_rows.timing_keys;
   draft = draft_at old new office id i stand new_rows;

@@ -18,7 +18,7 @@ use Rattle.draft_core.specs.declared.state.Stage.{Stage}
 use Rattle.draft_core.specs.declared.state.Stage.TheVariants.{Transaction}
 use Rattle.office_desk.specs.Office.{Office, Intersection, side_of, side_at}
 use Rattle.cabinet_core.specs.declared.command.RecordCommand.{RecordCommand}
-use Rattle.office_desk_cabinet.specs.RegisterStep.{line_at}
+use Rattle.cabinet_core.specs.Step.{line_at}
 use Rattle.office_desk.specs.Step.{Step, Run, answered, added, moved, transacted, with_intersection, new_intersection, cabinet_of, known, recorded, recorded_at, is_known, with_recorded, import_from, imported}
 use Rattle.office_desk.specs.Timing.{is_commit_of, is_moved, set_of_draft, running}
 use Rattle.office_desk.specs.declared.command.Command.{Command}

@@ -31,7 +31,7 @@ use Rattle.office_desk_cabinet.specs.Registers.{IsOneOf}
 use Rattle.office_desk.specs.Answers.{Answers, AnswersAny}
 use Rattle.office_desk.specs.Changes.{IsQuery, IsRefused, most_intersection_writes, most_writes}
 use Rattle.office_tables_shelf.specs.Counts.{is_same_table, writes_in}
-use Rattle.office_desk.specs.Damage.{HasDamage, MeetsDamage, NamesDamaged}
+use Rattle.office_desk.specs.Damage.{HasDamage, IsBarred, MeetsDamage}
 use Rattle.office_desk.specs.Deciding.{Decides, IsDecision}
 use Rattle.office_desk.specs.Moving.{WritesMove, WritesDecision, moved_row, row_changes_of}
 use Rattle.office_desk.specs.Named.{RefusesBy, number_of, numbers_of}
@@ -299,7 +299,7 @@ never_query id clerk Commit query = query
 never_query id clerk Reopen query = query
 never_query id clerk Abandon query = query
 
-names_row : (tables : Content) (id : ℕ) (clerk : List ℕ) (ask : Ask) → NamesDamaged tables (command_of id clerk ask) → HasDamagedIntersection tables id
+names_row : (tables : Content) (id : ℕ) (clerk : List ℕ) (ask : Ask) → IsBarred tables (command_of id clerk ask) → HasDamage tables id
 names_row tables id clerk Begin damaged = damaged
 names_row tables id clerk (Edit changes) damaged = damaged
 names_row tables id clerk Verify damaged = damaged
@@ -321,7 +321,7 @@ unknown_named id clerk Abandon = inl refl
 pub transact_decides : (is_honest : Type 0) (tables : Content) (id : ℕ) (clerk : List ℕ) (ask : Ask) (found : Found) (decision : Result Move DraftRefusal) (result : Result Decided ShelfFault)
     → AreWords 40 clerk → IsAskWithin ask → (is_honest → FindsAny tables id (Some found)) → (is_honest → ListsDraft tables id found.timing.delta)
     → FollowsSoundLine found.timing clerk decision (λ side. line_of ask clerk side) → IfOk decision (λ move. IsBounded ask (length found.timing.delta) move.changes.items)
-    → RefusesFirst (first_refusal ask found.timing.holder clerk) (IsLater ask) decision → (is_honest → ¬ HasDamagedIntersection tables id)
+    → RefusesFirst (first_refusal ask found.timing.holder clerk) (IsLater ask) decision → (is_honest → ¬ HasDamage tables id)
     → IfOk result (λ decided. WritesDecision id clerk found decision decided.reply decided.changes.items) → OnErr result (result ≡ Err NoMemory)
     → Decides is_honest tables (command_of id clerk ask) result
 transact_decides is_honest tables id clerk ask found decision (Ok decided) words within finds lists follows bounds refuses whole writes fault = record {
@@ -331,13 +331,13 @@ transact_decides is_honest tables id clerk ask found decision (Ok decided) words
   query = λ query. absurd (never_query id clerk ask query);
   named = reply_named ask id clerk found decision decided.reply decided.changes.items refuses writes;
   undamaged = reply_undamaged id clerk found decision decided.reply decided.changes.items writes;
-  whole = λ honest damaged. whole honest (names_row tables id clerk ask damaged);
+  whole = λ honest damaged. absurd (whole honest (names_row tables id clerk ask damaged));
 }
 transact_decides is_honest tables id clerk ask found decision (Err other) words within finds lists follows bounds refuses whole writes fault =
     λ damaged. absurd (let f : Err other ≡ Err NoMemory = fault in cc)
 
 -- on an intersection that is not there
-pub absent_decides : (is_honest : Type 0) (tables : Content) (id : ℕ) (clerk : List ℕ) (ask : Ask) (decided : Decided) → (is_honest → FindsAny tables id None) → (is_honest → ¬ HasDamagedIntersection tables id)
+pub absent_decides : (is_honest : Type 0) (tables : Content) (id : ℕ) (clerk : List ℕ) (ask : Ask) (decided : Decided) → (is_honest → FindsAny tables id None) → (is_honest → ¬ HasDamage tables id)
     → decided.reply ≡ Refused refusal.UnknownIntersection → decided.changes.items ≡ [] → IsDecision is_honest tables (command_of id clerk ask) decided
 absent_decides is_honest tables id clerk ask decided finds whole told none =
     unknown_decides is_honest tables (command_of id clerk ask) decided told (unknown_named id clerk ask) none (λ honest damaged. whole honest (names_row tables id clerk ask damaged)) (λ honest. unknown_answers tables id clerk ask decided.reply decided.changes.items (finds honest) told none)

@@ -1,11 +1,30 @@
--- A row that was read, or none, is no damaged one.
-use Rattle.std.proofs.Common.{◌≡◌, ◌≢◌, ℕ, List, Some, None, sym, ◌∙◌}
-use Rattle.office_tables_shelf.specs.Cells.{Cell}
+-- Rows that were read, or none, are no damaged ones.
+use Rattle.std.proofs.Common.{◌≡◌, ◌≢◌, ◌⊎◌, inl, inr, ℕ, Bool, true, false, cond, List, [], ◌∷◌, map, Option, Some, None, option_map, is_some, refl, ap, sym, subst, ◌∙◌}
+use Rattle.std.proofs.lemmas.Bool.{cases_Bool}
+use Rattle.std.specs.FinMap as finite
+use Rattle.std.specs.FinMap.{get, entries, get-entries}
+use Rattle.std.specs.FinMap.Entries.{find-where_key}
+use Rattle.std.specs.List.{AllByRecursion}
+use Rattle.std.specs.Ordering.{eq_by_cmp}
+use Rattle.std.specs.Prelude.{IsSome}
+use Rattle.signal_records.specs.Row.{key_of}
+use Rattle.signal_records.specs.Within.{IsChangeWithin, IsRowWithin, current_limits}
+use Rattle.signal_records.specs.declared.record.Change.{Change}
+use Rattle.signal_records.specs.declared.record.Row.{Row}
+use Rattle.draft_core.specs.declared.state.Holder.{Holder}
+use Rattle.draft_core.specs.declared.state.Stage.{Stage}
+use Rattle.draft_core.specs.declared.state.Stage.TheVariants.{Transaction, Verify, Done}
+use Rattle.office_tables_shelf.proofs.CellLemmas.{cells_exact, tied}
+use Rattle.office_tables_shelf.specs.Cells.{Cell, Rows, cells_cmp}
 use Rattle.office_tables_shelf.specs.Content.{Content}
-use Rattle.office_tables_shelf.specs.Damage.{HasDamagedIntersection}
-use Rattle.office_tables_shelf.specs.Rows.{IsIntersectionRow}
-use Rattle.office_tables_shelf.specs.Shelf.{ReadsIntersection}
+use Rattle.office_tables_shelf.specs.Damage.{HasDamagedDraft, HasDamagedIntersection, HasDamagedTiming}
+use Rattle.office_tables_shelf.specs.Rows.{IsIntersectionRow, draft_columns, draft_key, intersection_columns, intersection_key, state_number, timing_columns, timing_key}
+use Rattle.office_tables_shelf.specs.Shelf.{ListsDraft, ListsTiming, ReadsIntersection, is_of, rows_of}
 use Rattle.office_tables_shelf.specs.declared.rows.IntersectionRow.{IntersectionRow}
+use Rattle.office_desk.specs.Damage.{HasDamage, HasJudgedDamage, IsDone, IsThere, MeetsAfter}
+use Rattle.office_desk.specs.Reading.{AreChangesWithin, AreWithin}
+
+-- ---- the row of an intersection
 
 same_columns : (a b : List Cell) → Some a ≡ Some b → a ≡ b
 same_columns a b e = cc
@@ -18,3 +37,95 @@ none_whole tables id reads damaged = no_columns damaged.columns (sym damaged.sto
 
 pub row_whole : (tables : Content) (id : ℕ) (row : IntersectionRow) → ReadsIntersection tables id (Some row) → IsIntersectionRow row → ¬ HasDamagedIntersection tables id
 row_whole tables id row reads within damaged = damaged.no_row row within (same_columns _ _ (sym damaged.stored ∙ reads))
+
+pub row_there : (tables : Content) (id : ℕ) (row : IntersectionRow) → ReadsIntersection tables id (Some row) → IsThere tables id
+row_there tables id row reads = subst (λ (o : Option (List Cell)). IsSome o) (sym reads) refl
+
+-- where there is none, nothing is read after it
+pub none_after : (tables : Content) (id : ℕ) (Later : Type 0) → ReadsIntersection tables id None → ¬ MeetsAfter tables id Later
+none_after tables id Later reads (inl damaged) = none_whole tables id reads damaged
+none_after tables id Later reads (inr later) = absurd (let f : false ≡ true = sym (ap (λ (o : Option (List Cell)). is_some o) reads) ∙ later.0 in cc)
+
+pub row_after : (tables : Content) (id : ℕ) (Later : Type 0) → ¬ HasDamagedIntersection tables id → ¬ Later → ¬ MeetsAfter tables id Later
+row_after tables id Later row rest (inl damaged) = row damaged
+row_after tables id Later row rest (inr later) = rest later.1
+
+-- ---- rows that are listed
+
+module _ {X : Type 0} (key columns : X → List Cell) (Within : X → Type 0) where
+  abbrev entry : X → List Cell × List Cell
+  entry x = (key x, columns x)
+
+  -- what stands under a key is one of the rows
+  found_row : (xs : List X) (q cells : List Cell) → AllByRecursion Within xs → finite.find cells_cmp q (map entry xs) ≡ Some cells → (x : X) × Within x × (q ≡ key x) × (cells ≡ columns x)
+  found_row [] q cells each is = absurd (let f : None ≡ Some cells = is in cc)
+  found_row (x ∷ xs) q cells each is = go (cases_Bool (eq_by_cmp cells_cmp q (key x))) (found_row xs q cells each.1)
+    where
+      go : (eq_by_cmp cells_cmp q (key x) ≡ true) ⊎ (eq_by_cmp cells_cmp q (key x) ≡ false)
+          → (finite.find cells_cmp q (map entry xs) ≡ Some cells → (y : X) × Within y × (q ≡ key y) × (cells ≡ columns y)) → (y : X) × Within y × (q ≡ key y) × (cells ≡ columns y)
+      go (inl hit) later = (
+        x,
+        each.0,
+        cells_exact q (key x) (tied _ hit),
+        same_columns _ _ (sym is ∙ ap (λ b. cond b (Some (columns x)) (finite.find cells_cmp q (map entry xs))) hit),
+      )
+      go (inr miss) later = later (sym (ap (λ b. cond b (Some (columns x)) (finite.find cells_cmp q (map entry xs))) miss) ∙ is)
+
+  -- of the rows of an intersection, those of the list are all
+  pub listed_row : (rows : Rows) (id : ℕ) (xs : List X) (q cells : List Cell) → map entry xs ≡ rows_of id rows → AllByRecursion Within xs → is_of id q ≡ true → get rows q ≡ Some cells
+      → (x : X) × Within x × (q ≡ key x) × (cells ≡ columns x)
+  listed_row rows id xs q cells lists each of stored =
+      found_row xs q cells each (
+      ap (finite.find cells_cmp q) lists
+      ∙ find-where_key cells_cmp (is_of id) q (λ other tie. ap (is_of id) (sym (cells_exact q other tie))) (entries rows)
+      ∙ ap (λ b. cond b (finite.find cells_cmp q (entries rows)) None) of
+      ∙ sym (get-entries rows q) ∙ stored)
+
+pub timing_whole : (tables : Content) (id : ℕ) (rows : List Row) → ListsTiming tables id rows → AreWithin rows → ¬ HasDamagedTiming tables id
+timing_whole tables id rows lists within damaged =
+    let is = listed_row (λ row. timing_key id (key_of row)) timing_columns (IsRowWithin current_limits) tables.timing id rows damaged.key damaged.columns lists within damaged.of damaged.stored in
+    damaged.no_row is.0 is.1 is.2 is.3
+
+pub draft_whole : (tables : Content) (id : ℕ) (changes : List Change) → ListsDraft tables id changes → AreChangesWithin changes → ¬ HasDamagedDraft tables id
+draft_whole tables id changes lists within damaged =
+    let is = listed_row (draft_key id) draft_columns (IsChangeWithin current_limits) tables.draft id changes damaged.key damaged.columns lists within damaged.of damaged.stored in
+    damaged.no_row is.0 is.1 is.2 is.3
+
+-- the intersection, its committed set and its draft
+pub plan_whole : (tables : Content) (id : ℕ) (rows : List Row) (changes : List Change) → ¬ HasDamagedIntersection tables id → ListsTiming tables id rows → AreWithin rows
+    → ListsDraft tables id changes → AreChangesWithin changes → ¬ HasDamage tables id
+plan_whole tables id rows changes row timing rows_within draft changes_within (inl damaged) = row damaged
+plan_whole tables id rows changes row timing rows_within draft changes_within (inr (there, inl damaged)) = timing_whole tables id rows timing rows_within damaged
+plan_whole tables id rows changes row timing rows_within draft changes_within (inr (there, inr damaged)) = draft_whole tables id changes draft changes_within damaged
+
+-- ---- a draft that is judged
+
+done_number : (holder : Option Holder) → option_map (λ (h : Holder). h.stage) holder ≡ Some Done → state_number holder ≡ 3
+done_number None is = absurd (let f : None ≡ Some Done = is in cc)
+done_number (Some holder) is = go holder.stage is
+  where
+    go : (stage : Stage) → Some stage ≡ Some Done → state_number (Some (record holder { stage = stage })) ≡ 3
+    go Transaction e = absurd cc
+    go Verify e = absurd cc
+    go Done e = refl
+
+number_done : (holder : Option Holder) → state_number holder ≡ 3 → option_map (λ (h : Holder). h.stage) holder ≡ Some Done
+number_done None is = absurd (let f : 0 ≡ 3 = is in cc)
+number_done (Some holder) is = go holder.stage is
+  where
+    go : (stage : Stage) → state_number (Some (record holder { stage = stage })) ≡ 3 → Some stage ≡ Some Done
+    go Transaction e = absurd (let f : 1 ≡ 3 = e in cc)
+    go Verify e = absurd (let f : 2 ≡ 3 = e in cc)
+    go Done e = refl
+
+-- whatever row is read there, its draft is in that state
+same_done : (tables : Content) (id : ℕ) (row other : IntersectionRow) → ReadsIntersection tables id (Some row) → ReadsIntersection tables id (Some other) → IsDone other → IsDone row
+same_done tables id row other reads again done =
+    let same : intersection_columns row ≡ intersection_columns other = same_columns _ _ (sym reads ∙ again) in
+    let numbers : state_number row.holder ≡ state_number other.holder = cc in
+    number_done row.holder (numbers ∙ done_number other.holder done)
+
+pub judged_whole : (tables : Content) (id : ℕ) (row : IntersectionRow) → ReadsIntersection tables id (Some row) → ¬ HasDamagedIntersection tables id → (IsDone row → ¬ HasDamage tables id)
+    → ¬ (HasDamagedIntersection tables id ⊎ HasJudgedDamage tables id)
+judged_whole tables id row reads whole judged (inl damaged) = whole damaged
+judged_whole tables id row reads whole judged (inr damaged) = judged (same_done tables id row damaged.row reads damaged.read damaged.done) damaged.damage

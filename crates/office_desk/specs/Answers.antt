@@ -4,7 +4,7 @@ use Rattle.office_tables_shelf.specs.Content.{Content}
 use Rattle.office_desk.specs.declared.command.Command.{Command}
 use Rattle.office_desk.specs.declared.reply.Reply.{Reply}
 use Rattle.office_desk.specs.Office.{Office, side_at}
-use Rattle.office_desk.specs.Step.{AreSound, Step, Run}
+use Rattle.office_desk.specs.Step.{AreSound, Step, Run, answered}
 use Rattle.office_desk.specs.Timing.{running}
 use Rattle.office_desk.specs.RegisterRuns.{RegisterRuns}
 use Rattle.office_desk.specs.Repeats.{Repeats}
@@ -36,6 +36,6 @@ pub record RunsTo (office : Office) (commands : List Command) (replies : List Re
 abbrev pub RunsAny : Content → List Command → List Reply → Content → Type 0
 RunsAny old commands replies new = (office : Office) → StandForSound old office → RunsTo office commands replies new
 
--- tables that a step of the command, with whichever reply, makes of the old ones
+-- tables that stand for the office after the command's own step, whichever sound office the old ones stand for
 abbrev pub IsAfterStep : Content → Command → Content → Type 0
-IsAfterStep old command new = (reply : Reply) × AnswersAny old command reply new
+IsAfterStep old command new = (office : Office) → StandForSound old office → StandForSound new (answered office command).1

@@ -11,41 +11,22 @@ use Rattle.office_desk_cabinet.specs.Registers.{most_record_writes}
 use Rattle.office_desk.specs.declared.command.Command.{Command}
 use Rattle.office_desk.specs.declared.command.Command.TheVariants as command
 use Rattle.office_desk.specs.declared.reply.Reply.{Reply}
-use Rattle.office_desk.specs.declared.reply.Reply.TheVariants.{Added, Same, Moved, Imported, State as Shown, Timing as Running, Draft as Drafted, Cabinet, OpenOrders, Stock, Overdue, Refused}
+use Rattle.office_desk.specs.declared.reply.Reply.TheVariants.{Refused}
 
 abbrev pub IsRefused : Reply → Type 0
-IsRefused Added = ⊥
-IsRefused Same = ⊥
-IsRefused (Moved revision state verdict) = ⊥
-IsRefused (Imported added same) = ⊥
-IsRefused (Shown state) = ⊥
-IsRefused (Running timing) = ⊥
-IsRefused (Drafted draft) = ⊥
-IsRefused (Cabinet cabinet) = ⊥
-IsRefused (OpenOrders numbers) = ⊥
-IsRefused (Stock stock) = ⊥
-IsRefused (Overdue rows) = ⊥
 IsRefused (Refused refusal) = Unit {0}
+IsRefused _ = ⊥
 
 -- a query asks, and no more
 abbrev pub IsQuery : Command → Type 0
-IsQuery (command.AddIntersection id interval name) = ⊥
-IsQuery (command.Begin id clerk) = ⊥
-IsQuery (command.Edit id clerk changes) = ⊥
-IsQuery (command.Verify id clerk) = ⊥
-IsQuery (command.Check id clerk) = ⊥
-IsQuery (command.Commit id clerk) = ⊥
-IsQuery (command.Reopen id clerk) = ⊥
-IsQuery (command.Abandon id clerk) = ⊥
 IsQuery (command.State id) = Unit {0}
 IsQuery (command.Timing id) = Unit {0}
 IsQuery (command.Draft id) = Unit {0}
-IsQuery (command.Record c) = ⊥
-IsQuery (command.Import records) = ⊥
 IsQuery (command.Cabinet id) = Unit {0}
 IsQuery (command.OpenOrders id) = Unit {0}
 IsQuery command.Stock = Unit {0}
 IsQuery (command.Overdue day) = Unit {0}
+IsQuery _ = ⊥
 
 -- the most timing rows that a command writes: a commit one for each draft row, any other none
 abbrev pub most_timing_writes : Content → Command → ℕ

@@ -1,16 +1,18 @@
 -- When a stored row keeps a command from being answered.
-use Rattle.std.specs.Prelude.{◌≡◌, ◌⊎◌, ℕ, List, [], ◌∷◌, Option, Some, None}
+use Rattle.std.specs.Prelude.{◌≡◌, ◌⊎◌, ℕ, List, [], ◌∷◌, Option, Some, None, IsSome}
+use Rattle.std.specs.FinMap.{get}
 use Rattle.std.specs.Option.{option_map}
 use Rattle.draft_core.specs.declared.state.Holder.{Holder}
 use Rattle.draft_core.specs.declared.state.Stage.TheVariants.{Done}
 use Rattle.office_tables_shelf.specs.Content.{Content}
+use Rattle.office_tables_shelf.specs.Rows.{intersection_key}
 use Rattle.office_tables_shelf.specs.Shelf.{ReadsIntersection}
 use Rattle.office_tables_shelf.specs.declared.rows.IntersectionRow.{IntersectionRow}
 use Rattle.office_tables_shelf.specs.Damage.{HasDamagedIntersection, HasAnyDamagedIntersection, HasDamagedTiming, HasDamagedDraft}
 use Rattle.office_tables_shelf.specs.CabinetReads.{HasAnyDamagedInspection, HasDamagedInspection, HasDamagedOrder, HasDamagedUsed, HasDamagedPart}
 use Rattle.cabinet_core.specs.declared.command.RecordCommand.{RecordCommand}
 use Rattle.office_desk_cabinet.specs.RegisterDamage.{MeetsRecordDamage}
-use Rattle.office_desk.specs.Recording.{HasDamagedAbout}
+use Rattle.office_desk.specs.Changes.{IsRefused}
 use Rattle.office_desk.specs.Step.{cabinet_of}
 use Rattle.office_desk.specs.declared.command.Command.{Command}
 use Rattle.office_desk.specs.declared.command.Command.TheVariants as command
@@ -18,37 +20,26 @@ use Rattle.office_desk.specs.declared.refusal.Refusal.TheVariants as refusal
 use Rattle.office_desk.specs.declared.reply.Reply.{Reply}
 use Rattle.office_desk.specs.declared.reply.Reply.TheVariants.{Refused}
 
--- the intersection that a command names
-abbrev pub intersection_of : Command → Option ℕ
-intersection_of (command.AddIntersection id interval name) = Some id
-intersection_of (command.Begin id clerk) = Some id
-intersection_of (command.Edit id clerk changes) = Some id
-intersection_of (command.Verify id clerk) = Some id
-intersection_of (command.Check id clerk) = Some id
-intersection_of (command.Commit id clerk) = Some id
-intersection_of (command.Reopen id clerk) = Some id
-intersection_of (command.Abandon id clerk) = Some id
-intersection_of (command.State id) = Some id
-intersection_of (command.Timing id) = Some id
-intersection_of (command.Draft id) = Some id
-intersection_of (command.Record c) = cabinet_of c
-intersection_of (command.Import records) = None
-intersection_of (command.Cabinet id) = Some id
-intersection_of (command.OpenOrders id) = Some id
-intersection_of command.Stock = None
-intersection_of (command.Overdue day) = None
+abbrev pub IsImport : Command → Type 0
+IsImport (command.Import records) = Unit {0}
+IsImport _ = ⊥
 
--- its row is no record
-abbrev pub NamesDamaged : Content → Command → Type 0
-NamesDamaged tables command = HasDamagedAbout tables (intersection_of command)
+-- the reply to a command that meets such a row: it says so, unless memory or the shelf refused before; and an import is refused, if not so then for
+-- a record before the row's
+abbrev pub IsTurnedAway : Command → Reply → Type 0
+IsTurnedAway command reply = ((reply ≡ Refused refusal.Damaged) ⊎ (reply ≡ Refused refusal.Unavailable)) ⊎ (IsImport command × IsRefused reply)
 
--- the reply to a command that meets such a row: it says so, unless memory or the shelf refused before
-abbrev pub IsTurnedAway : Reply → Type 0
-IsTurnedAway reply = (reply ≡ Refused refusal.Damaged) ⊎ (reply ≡ Refused refusal.Unavailable)
+-- an intersection stands under the number
+abbrev pub IsThere : Content → ℕ → Type 0
+IsThere tables id = IsSome (get tables.intersection (intersection_key id))
+
+-- its row is no record; or it is there, and something that is read after it is none
+abbrev pub MeetsAfter : Content → ℕ → Type 0 → Type 0
+MeetsAfter tables id Later = HasDamagedIntersection tables id ⊎ (IsThere tables id × Later)
 
 -- a row of the intersection, of its committed set or of its draft is no record
 abbrev pub HasDamage : Content → ℕ → Type 0
-HasDamage tables id = HasDamagedIntersection tables id ⊎ (HasDamagedTiming tables id ⊎ HasDamagedDraft tables id)
+HasDamage tables id = MeetsAfter tables id (HasDamagedTiming tables id ⊎ HasDamagedDraft tables id)
 
 -- the row has a draft in state Done
 abbrev pub IsDone : IntersectionRow → Type 0
@@ -64,7 +55,7 @@ pub record HasJudgedDamage (tables : Content) (id : ℕ) : Type 0 where
 -- the intersection's row, or a row of the register that the command reads, is no record
 abbrev pub MeetsCabinetDamage : Content → RecordCommand → Option ℕ → Type 0
 MeetsCabinetDamage tables c None = MeetsRecordDamage tables c
-MeetsCabinetDamage tables c (Some id) = HasDamagedIntersection tables id ⊎ MeetsRecordDamage tables c
+MeetsCabinetDamage tables c (Some id) = MeetsAfter tables id (MeetsRecordDamage tables c)
 
 -- the same of some record of an import
 abbrev pub MeetsImportDamage : Content → List RecordCommand → Type 0
@@ -90,3 +81,13 @@ MeetsDamage tables (command.Cabinet id) = HasDamagedIntersection tables id ⊎ (
 MeetsDamage tables (command.OpenOrders id) = HasDamagedIntersection tables id ⊎ HasDamagedOrder tables id
 MeetsDamage tables command.Stock = HasDamagedPart tables
 MeetsDamage tables (command.Overdue day) = HasAnyDamagedIntersection tables ⊎ HasAnyDamagedInspection tables
+
+-- the same, but of the draft where the committed set is asked for, and of what the queries of the register read in a list: such a row keeps the
+-- command from being answered otherwise
+abbrev pub IsBarred : Content → Command → Type 0
+IsBarred tables (command.Timing id) = MeetsAfter tables id (HasDamagedTiming tables id)
+IsBarred tables (command.Cabinet id) = HasDamagedIntersection tables id
+IsBarred tables (command.OpenOrders id) = HasDamagedIntersection tables id
+IsBarred tables command.Stock = ⊥
+IsBarred tables (command.Overdue day) = ⊥
+IsBarred tables command = MeetsDamage tables command

@@ -12,11 +12,11 @@ use Rattle.office_desk.specs.declared.refusal.Refusal.TheVariants.{Damaged}
 use Rattle.office_desk.specs.declared.reply.Reply.TheVariants.{Refused}
 use Rattle.office_desk.specs.Answers.{AnswersAny}
 use Rattle.office_desk.specs.Changes.{IsRefused, IsQuery, most_writes}
-use Rattle.office_desk.specs.Damage.{MeetsDamage, NamesDamaged}
-use Rattle.office_desk.specs.Named.{RefusesBy, numbers_of}
+use Rattle.office_desk.specs.Damage.{IsBarred, IsImport, IsTurnedAway, MeetsDamage}
+use Rattle.office_desk.specs.Named.{IsNamedFor, RefusesBy, numbers_of}
 
 -- The reply and what the rows make of the tables are one step; the rows are at most those of the kind of command, and none where it is refused or only asks;
--- a refusal is one of the command's table; and a row that is no record is told as a fault, never as a reply, and that of the intersection was found to be none such.
+-- a refusal is one of the command's table; and a row that is no record is told as a fault, never as a reply, and none that the command reads was found to be such, unless an import was refused before it.
 pub record IsDecision (is_honest : Type 0) (tables : Content) (command : Command) (decided : Decided) : Type 0 where
   pub step : is_honest → AnswersAny tables command decided.reply (changed_by tables decided.changes.items)
   pub writes : is_honest → (table : Table) → writes_in table decided.changes.items ≤ most_writes tables command table
@@ -24,7 +24,17 @@ pub record IsDecision (is_honest : Type 0) (tables : Content) (command : Command
   pub query : IsQuery command → decided.changes.items ≡ []
   pub named : RefusesBy (numbers_of command) decided.reply
   pub undamaged : decided.reply ≢ Refused Damaged
-  pub whole : is_honest → ¬ NamesDamaged tables command
+  pub whole : is_honest → IsBarred tables command → IsImport command × IsRefused decided.reply
+
+-- What is answered, where a fault is told as its refusal: Unavailable, or Damaged where a row that the command reads is no record.
+pub record IsAnswered (is_honest : Type 0) (tables : Content) (command : Command) (decided : Decided) : Type 0 where
+  pub step : is_honest → AnswersAny tables command decided.reply (changed_by tables decided.changes.items)
+  pub writes : is_honest → (table : Table) → writes_in table decided.changes.items ≤ most_writes tables command table
+  pub refused : IsRefused decided.reply → decided.changes.items ≡ []
+  pub query : IsQuery command → decided.changes.items ≡ []
+  pub named : IsNamedFor command decided.reply
+  pub damaged : decided.reply ≡ Refused Damaged → is_honest → MeetsDamage tables command
+  pub turned_away : is_honest → IsBarred tables command → IsTurnedAway command decided.reply
 
 -- The command is decided, or a fault is told: Damaged only where a row that it reads is no record.
 abbrev pub Decides : Type 0 → Content → Command → Result Decided ShelfFault → Type 0

@@ -4,11 +4,13 @@ use Rattle.cabinet_core.specs.declared.command.RecordCommand.{RecordCommand}
 use Rattle.office_tables_shelf.specs.Change.{changed_by}
 use Rattle.office_tables_shelf.specs.Content.{Content}
 use Rattle.office_tables_shelf.specs.declared.rows.RowChange.{RowChange}
-use Rattle.office_desk_cabinet.specs.Register.{Register}
+use Rattle.cabinet_core.specs.Register.{Register}
+use Rattle.cabinet_core.specs.Step.{line_at, with_record}
 use Rattle.office_desk_cabinet.specs.Registers.{LeavesTiming}
 use Rattle.office_desk_cabinet.specs.RegisterStands.{RegisterStandsSound}
-use Rattle.office_desk_cabinet.specs.RegisterStep.{line_at, with_record}
 use Rattle.office_desk.specs.Office.{Office}
+use Rattle.office_desk_cabinet.specs.RegisterDamage.{KeepsDamage, MeetsRecordDamage}
+use Rattle.office_desk.specs.Recording.{HasDamagedAbout}
 use Rattle.office_desk.specs.Refusal.{line_of}
 use Rattle.office_desk.specs.StandFor.{StandForSound}
 use Rattle.office_desk.specs.Step.{cabinet_of, import_by, import_from, is_known}
@@ -27,6 +29,10 @@ goes_on at Added added same = added
 goes_on at Same added same = same
 goes_on at (Refused why) added same = Err (ImportRow at (line_of why).number)
 
+abbrev pub IsTaken : Taken → Type 0
+IsTaken (Refused why) = ⊥
+IsTaken _ = Unit {0}
+
 -- the register after a record
 abbrev pub register_with : Taken → Register → RecordCommand → Register
 register_with Added r c = with_record r c
@@ -41,6 +47,11 @@ pub record TakesFrom (stored : Content) (c : RecordCommand) (taken : Taken) (pen
 -- whichever sound office the stored tables stand for, and whichever register the pending rows made of its own
 abbrev pub TakesRecord : Content → List RowChange → RecordCommand → Taken → List RowChange → Type 0
 TakesRecord stored before c taken pending = (office : Office) → StandForSound stored office → (r : Register) → RegisterStandsSound (changed_by stored before) r → TakesFrom stored c taken pending office r
+
+-- a record that was taken met no damaged row, after the rows that were pending; and its own rows overwrite none
+pub record TakesWhole (stored : Content) (before : List RowChange) (c : RecordCommand) (taken : Taken) (after : List RowChange) : Type 0 where
+  pub whole : IsTaken taken → (¬ HasDamagedAbout stored (cabinet_of c)) × ¬ MeetsRecordDamage (changed_by stored before) c
+  pub spares : KeepsDamage (changed_by stored before) (changed_by stored after)
 
 -- from an office: the pending rows made a register, and the import of all the records goes on from there with those that are left
 pub record ImportsFrom (stored : Content) (all rest : List RecordCommand) (at added same : ℕ) (pending : List RowChange) (office : Office) : Type 0 where

@@ -12,6 +12,7 @@ pub mod Recording
 pub mod Damage
 pub mod Named
 pub mod Deciding
+pub mod Running
 pub mod Adding
 pub mod Reading
 pub mod Moving

@@ -1,6 +1,5 @@
 -- Which refusals are named for a command, by their numbers in the table.
 use Rattle.std.specs.Prelude.{◌≡◌, ℕ, List, [], ◌∷◌, map, Option, Some, None}
-use Rattle.std.specs.List.{AllZip}
 use Rattle.office_desk_cabinet.specs.Registers.{IsOneOf, refusals_of}
 use Rattle.office_desk.specs.Refusal.{line_of}
 use Rattle.office_desk.specs.Step.{cabinet_of, refusal_of_record}
@@ -45,7 +44,3 @@ RefusesBy numbers reply = (why : Refusal) → reply ≡ Refused why → IsOneOf 
 -- a refusal is one that is named for the command, or Unavailable, or Damaged
 abbrev pub IsNamedFor : Command → Reply → Type 0
 IsNamedFor command reply = RefusesBy (90 ∷ 91 ∷ numbers_of command) reply
-
--- each of the replies to commands in turn
-abbrev pub AreNamedFor : List Command → List Reply → Type 0
-AreNamedFor = AllZip IsNamedFor

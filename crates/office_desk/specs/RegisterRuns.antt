@@ -1,16 +1,22 @@
 -- The register of an office over a run of commands: which orders are open, and what is in stock.
-use Rattle.std.specs.Prelude.{◌≡◌, ℕ, ◌+◌, Bool, true, false, cond, List, [], ◌∷◌, ◌++◌}
-use Rattle.cabinet_core.specs.Cabinet.{Line, added as added_line, same as same_line, refused as refused_line}
+use Rattle.std.specs.Prelude.{◌≡◌, ℕ, ◌+◌, Bool, true, false, ◌==◌, cond, List, [], ◌∷◌, ◌++◌}
+use Rattle.std.specs.Cmp.Lexicographic.{slice_cmp}
+use Rattle.std.specs.FinMap.{find}
+use Rattle.std.specs.List.{list_any}
+use Rattle.std.specs.Ordering.{nat_cmp}
+use Rattle.cabinet_core.specs.Cabinet.{Line, added as added_line, same as same_line, refused as refused_line, on_hand}
 use Rattle.cabinet_core.specs.declared.command.RecordCommand.{RecordCommand}
-use Rattle.office_desk_cabinet.specs.Register.{Register, pieces}
-use Rattle.office_desk_cabinet.specs.RegisterStep.{line_at, with_record}
-use Rattle.office_desk_cabinet.specs.RecordRuns.{is_open_at, open_by, received_by, spent_by}
+use Rattle.cabinet_core.specs.Orders.{is_open_at}
+use Rattle.cabinet_core.specs.Register.{Register}
+use Rattle.cabinet_core.specs.Runs.{open_by, received_by, spent_by}
+use Rattle.cabinet_core.specs.Step.{line_at, with_record}
+use Rattle.cabinet_core.specs.Stock.{pieces}
 use Rattle.office_desk.specs.Office.{Office}
 use Rattle.office_desk.specs.Step.{Run}
 use Rattle.office_desk.specs.declared.command.Command.{Command}
 use Rattle.office_desk.specs.declared.command.Command.TheVariants as command
 use Rattle.office_desk.specs.declared.reply.Reply.{Reply}
-use Rattle.office_desk.specs.declared.reply.Reply.TheVariants.{Added, Imported}
+use Rattle.office_desk.specs.declared.reply.Reply.TheVariants.{Added, Imported, OpenOrders, Stock}
 
 -- ---- the records that are accepted
 
@@ -54,9 +60,37 @@ accepted first (command ∷ commands) [] last run = []
 abbrev pub is_open_in : Office → ℕ → ℕ → Bool
 is_open_in office id n = is_open_at office.register id n
 
+-- ---- what the replies show of it
+
+-- the number is one of the list
+abbrev pub is_among : List ℕ → ℕ → Bool
+is_among numbers n = list_any (λ m. m == n) numbers
+
+-- the pieces of a part that a list of stock shows; none of a part that it does not name
+abbrev pub pieces_in : List (List ℕ × ℕ) → List ℕ → ℕ
+pieces_in stock code = on_hand (find (slice_cmp nat_cmp) code stock)
+
+-- after records that were accepted from the first office on, the orders that a reply shows are those that they left open, and the pieces that
+-- it shows and those that were used are those that were on hand and those that were received
+abbrev pub ShowsAccepted : Office → List RecordCommand → Command → Reply → Type 0
+ShowsAccepted first so_far (command.OpenOrders id) (OpenOrders numbers) =
+    (n : ℕ) → is_among numbers n ≡ open_by id n (is_open_in first id n) so_far
+ShowsAccepted first so_far command.Stock (Stock stock) =
+    (code : List ℕ) → pieces_in stock code + spent_by code so_far ≡ pieces first.register code + received_by code so_far
+ShowsAccepted first so_far _ _ = Unit {0}
+
+-- each reply of a run shows the records that were accepted before it
+abbrev pub ShowAccepted : Office → List RecordCommand → (now : Office) (commands : List Command) (replies : List Reply) (last : Office) → Run now commands replies last → Type 0
+ShowAccepted first so_far now [] [] last run = Unit {0}
+ShowAccepted first so_far now (command ∷ commands) (reply ∷ replies) last run =
+    ShowsAccepted first so_far command reply × ShowAccepted first (so_far ++ accepted_of now command reply) run.0 commands replies last run.2
+ShowAccepted first so_far now [] (reply ∷ replies) last run = Unit {0}
+ShowAccepted first so_far now (command ∷ commands) [] last run = Unit {0}
+
 -- an order is open after it was opened, not open after it was closed, else as before; and what is on hand and what was used is what
--- was on hand and what was received
+-- was on hand and what was received: at the end, and in each reply that shows it
 pub record RegisterRuns (first : Office) (commands : List Command) (replies : List Reply) (last : Office) (run : Run first commands replies last) : Type 0 where
   pub orders : (id n : ℕ) → is_open_in last id n ≡ open_by id n (is_open_in first id n) (accepted first commands replies last run)
   pub stock : (code : List ℕ) →
       pieces last.register code + spent_by code (accepted first commands replies last run) ≡ pieces first.register code + received_by code (accepted first commands replies last run)
+  pub shown : ShowAccepted first [] first commands replies last run

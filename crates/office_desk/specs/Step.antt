@@ -8,14 +8,16 @@ use Rattle.draft_core.specs.Transaction.{TimingSide, Draft, state_of, verdict_of
 use Rattle.draft_core.specs.declared.refusal.DraftRefusal.{DraftRefusal}
 use Rattle.draft_core.specs.declared.refusal.DraftRefusal.TheVariants as draft
 use Rattle.cabinet_core.specs.Cabinet.{Line, added as added_line, same as same_line, refused as refused_line}
-use Rattle.cabinet_core.specs.Overdue.{Listed, overdue_list}
+use Rattle.cabinet_core.specs.Overdue.{Listed, last_at, overdue_list}
 use Rattle.cabinet_core.specs.declared.command.RecordCommand.{RecordCommand}
 use Rattle.cabinet_core.specs.declared.command.RecordCommand.TheVariants as register
 use Rattle.cabinet_core.specs.declared.inspections.Seen.{Seen}
 use Rattle.cabinet_core.specs.declared.refusal.CabinetRefusal.{CabinetRefusal}
 use Rattle.cabinet_core.specs.declared.refusal.CabinetRefusal.TheVariants as cabinet
-use Rattle.office_desk_cabinet.specs.Register.{Register, records_at, open_at, last_at, stock_of}
-use Rattle.office_desk_cabinet.specs.RegisterStep.{line_at, with_record, after_record}
+use Rattle.cabinet_core.specs.Orders.{open_at}
+use Rattle.cabinet_core.specs.Register.{Register, records_at}
+use Rattle.cabinet_core.specs.Step.{line_at, with_record, after_record}
+use Rattle.cabinet_core.specs.Stock.{stock_of}
 use Rattle.office_desk.specs.Lists.{CabinetLists}
 use Rattle.office_desk.specs.declared.command.Command.{Command}
 use Rattle.office_desk.specs.declared.command.Command.TheVariants as command

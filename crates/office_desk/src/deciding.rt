@@ -1,14 +1,7 @@
 //! How a command is decided over a shelf.
-ghost use Rattle.std.specs.Prelude.{◌≡◌, ◌≤◌, []};
-ghost use Rattle.office_tables_shelf.specs.Change.{changed_by};
+ghost use Rattle.std.specs.Prelude.{◌≡◌};
 ghost use Rattle.office_tables_shelf.specs.Shelf.{IsKept};
-ghost use Rattle.office_tables_shelf.specs.declared.rows.Table.{Table};
-ghost use Rattle.office_desk.specs.Answers.{AnswersAny};
 ghost use Rattle.office_desk.specs.Deciding.{Decides};
-ghost use Rattle.office_desk.specs.Changes.{IsRefused, IsQuery, most_writes};
-ghost use Rattle.office_tables_shelf.specs.Counts.{writes_in};
-ghost use Rattle.office_desk.specs.Damage.{IsTurnedAway, MeetsDamage, NamesDamaged};
-ghost use Rattle.office_desk.specs.Named.{IsNamedFor};
 ghost use Rattle.office_desk.specs.Decisions.{refusal_of};
 
 use crate::adding::decide_add;
@@ -19,7 +12,6 @@ use crate::overdue::decide_overdue;
 use crate::recording::decide_record_command;
 use crate::refusal::Refusal;
 use crate::register_showing::{decide_cabinet, decide_open_orders, decide_stock};
-use crate::reply::Reply;
 use crate::showing::{decide_draft, decide_state, decide_timing};
 use crate::transacting::{Ask, transact};
 use office_tables_shelf::shelf::{Shelf, ShelfFault};
@@ -36,7 +28,7 @@ pub(crate) fn refused(fault: ShelfFault) -> Refusal
 }
 
 /// Decides a command by what it asks.
-fn try_decide<S: Shelf>(
+pub(crate) fn try_decide<S: Shelf>(
     shelf: &mut S,
     alloc: Global,
     command: &Command,
@@ -66,22 +58,5 @@ fn try_decide<S: Shelf>(
         Command::OpenOrders { id } => decide_open_orders(shelf, alloc, *id),
         Command::Stock => decide_stock(shelf, alloc),
         Command::Overdue { day } => decide_overdue(shelf, alloc, *day),
-    }
-}
-
-/// What a command is answered, and what is to be written for it.
-pub(crate) fn decide_on<S: Shelf>(shelf: &mut S, alloc: Global, command: &Command) -> Decided
-    ensures step { S.is_honest shelf.new → AnswersAny (S.content shelf.old) command.now result.reply (changed_by (S.content shelf.old) result.changes.items) }
-    ensures writes { S.is_honest shelf.new → (table : Table) → writes_in table result.changes.items ≤ most_writes (S.content shelf.old) command.now table }
-    ensures named { IsNamedFor command.now result.reply }
-    ensures refused { IsRefused result.reply → result.changes.items ≡ [] }
-    ensures query { IsQuery command.now → result.changes.items ≡ [] }
-    ensures damaged { result.reply ≡ Reply.Refused Refusal.Damaged → S.is_honest shelf.new → MeetsDamage (S.content shelf.old) command.now }
-    ensures turned_away { S.is_honest shelf.new → NamesDamaged (S.content shelf.old) command.now → IsTurnedAway result.reply }
-    ensures kept { IsKept S.is_honest S.content S.written S.may_leave shelf.old shelf.new }
-{
-    match try_decide(shelf, alloc, command) {
-        Ok(decided) => decided,
-        Err(fault) => Decided::refused(alloc, refused(fault)),
     }
 }

@@ -15,6 +15,5 @@ pub mod records;
 pub mod refusal;
 mod register_showing;
 pub mod reply;
-mod running;
 mod showing;
 mod transacting;

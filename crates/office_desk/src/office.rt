@@ -1,32 +1,40 @@
 //! The office over a shelf.
-ghost use Rattle.std.specs.Prelude.{◌≡◌, ◌≢◌, ◌≤◌, ◌⊎◌, [], map, take, Err, IfErr, IfOk, OnOk, OnErr};
+ghost use Rattle.std.specs.Prelude.{◌≡◌, ◌≢◌, ◌<◌, ◌≤◌, ◌+◌, ◌⊎◌, [], ◌∷◌, ◌++◌, map, take};
+ghost use Rattle.std.specs.Prelude.{Err, IfErr, IfOk, OnOk, OnErr, vec_len, vec_capacity};
 ghost use Rattle.cabinet_core.specs.Overdue.{listed};
 ghost use Rattle.office_tables_shelf.specs.Content.{Content};
 ghost use Rattle.office_tables_shelf.specs.Change.{changed_by};
 ghost use Rattle.office_tables_shelf.specs.Counts.{counts_after};
 ghost use Rattle.office_tables_shelf.specs.Shelf.{IsKept};
-ghost use Rattle.office_tables_shelf.specs.declared.rows.Table.{Table};
-ghost use Rattle.office_desk.specs.Answers.{AnswersAny, RunsAny, IsAfterStep};
-ghost use Rattle.office_desk.specs.Changes.{IsRefused, IsQuery, RiseAtMost, most_writes};
-ghost use Rattle.office_tables_shelf.specs.Counts.{writes_in};
-ghost use Rattle.office_desk.specs.Damage.{IsTurnedAway, MeetsDamage, NamesDamaged};
-ghost use Rattle.office_desk.specs.Named.{AreNamedFor, IsNamedFor};
+ghost use Rattle.office_desk.specs.Answers.{RunsAny};
+ghost use Rattle.office_desk.specs.Damage.{MeetsDamage};
+ghost use Rattle.office_desk.specs.Deciding.{IsAnswered};
 ghost use Rattle.office_desk.specs.Office.{Office as OfficeState};
+ghost use Rattle.office_desk.specs.Running.{AreRun, IsRun};
 ghost use Rattle.office_desk.specs.StandFor.{StandForSound};
 ghost use Rattle.office_desk.specs.Step.{overdue_on};
 
 use crate::command::Command;
 use crate::decided::Decided;
-use crate::deciding::{decide_on, refused};
+use crate::deciding::{refused, try_decide};
 use crate::refusal::Refusal;
 use crate::reply::Reply;
-use crate::running::{run_all_on, run_on};
 use cabinet_core::{Day, OverdueRow};
 use office_tables_shelf::rows::RowChange;
 use office_tables_shelf::shelf::{Shelf, ShelfFault};
 use signal_records::NoMemory;
 use std::alloc::Global;
 use std::marker::Model;
+
+/// Adds a reply where there is room for it.
+fn add_reply(replies: &mut Vec<Reply>, reply: Reply)
+    requires { vec_len replies.old < vec_capacity replies.old }
+    ensures items { replies.new.items ≡ replies.old.items ++ reply ∷ [] }
+    ensures len { vec_len replies.new ≡ vec_len replies.old + 1 }
+    ensures room { vec_capacity replies.old ≤ vec_capacity replies.new }
+{
+    let _fits = replies.push(reply);
+}
 
 /// The office over a shelf.
 #[derive(Drop)]
@@ -58,18 +66,13 @@ impl<S: Shelf> Office<S> {
     /// What a command is answered, and what is to be written for it. Nothing is written yet. Where
     /// memory or the shelf refuses, it answers Unavailable; where a stored row is no record, Damaged.
     pub fn decide(&mut self, alloc: Global, command: &Command) -> Decided
-        ensures step { S.is_honest self.new → AnswersAny (S.content self.old) command.now result.reply (changed_by (S.content self.old) result.changes.items) }
+        ensures answers { IsAnswered (S.is_honest self.new) (S.content self.old) command.now result }
         ensures kept { IsKept S.is_honest S.content S.written S.may_leave self.old self.new }
-        ensures writes { S.is_honest self.new → (table : Table) → writes_in table result.changes.items ≤ most_writes (S.content self.old) command.now table }
-        // A refusal is one of the command's table, or Unavailable, or Damaged, whatever the tables hold.
-        ensures named { IsNamedFor command.now result.reply }
-        ensures refused { IsRefused result.reply → result.changes.items ≡ [] }
-        ensures query { IsQuery command.now → result.changes.items ≡ [] }
-        ensures damaged { result.reply ≡ Reply.Refused Refusal.Damaged → S.is_honest self.new → MeetsDamage (S.content self.old) command.now }
-        // Where the row of the intersection that it names is no record, it is answered Damaged or Unavailable.
-        ensures turned_away { S.is_honest self.new → NamesDamaged (S.content self.old) command.now → IsTurnedAway result.reply }
     {
-        decide_on(&mut self.shelf, alloc, command)
+        match try_decide(&mut self.shelf, alloc, command) {
+            Ok(decided) => return decided,
+            Err(fault) => return Decided::refused(alloc, refused(fault)),
+        }
     }
 
     /// Makes the changes of a decision in their order, all or none. Refused, it answers NoMemory or Store.
@@ -92,36 +95,33 @@ impl<S: Shelf> Office<S> {
     /// Runs one command: decides it, and makes its changes. Where memory or the shelf refuses, it
     /// answers Unavailable and changes nothing; where a stored row is no record, Damaged.
     pub fn run(&mut self, alloc: Global, command: &Command) -> Reply
-        ensures step { S.is_honest self.new → AnswersAny (S.content self.old) command.now result (S.content self.new) }
-        ensures honest { S.is_honest self.new → S.is_honest self.old }
-        ensures named { IsNamedFor command.now result }
-        ensures refused { IsRefused result → S.is_honest self.new → S.content self.new ≡ S.content self.old }
-        // The rows that it writes are at most those of its kind of command.
-        ensures writes { S.is_honest self.new → RiseAtMost (S.content self.old) command.now (S.written self.old) (S.written self.new) }
-        ensures unwritten { IsRefused result → S.written self.new ≡ S.written self.old }
-        ensures turned_away { S.is_honest self.new → NamesDamaged (S.content self.old) command.now → IsTurnedAway result }
-        ensures damaged { result ≡ Reply.Refused Refusal.Damaged → S.is_honest self.new → MeetsDamage (S.content self.old) command.now }
-        // A crash leaves what it could before the call, or the tables after the command's step, also where a failure
-        // has shut the database.
-        ensures crash { (tables : Content) → S.may_leave self.new tables →
-            S.may_leave self.old tables ⊎ (S.is_honest self.old × IsAfterStep (S.content self.old) command.now tables) }
-        // Where the command changed the tables, or wrote rows, and was answered, it leaves those alone.
-        ensures settled { S.is_honest self.new → result ≢ Reply.Refused Refusal.Unavailable → S.content self.new ≢ S.content self.old →
-            (tables : Content) → S.may_leave self.new tables → tables ≡ S.content self.new }
-        ensures made { result ≢ Reply.Refused Refusal.Unavailable → S.written self.new ≢ S.written self.old →
-            (tables : Content) → S.may_leave self.new tables → tables ≡ S.content self.new }
+        ensures ran { IsRun S.is_honest S.content S.written S.may_leave command.now result self.old self.new }
     {
-        run_on(&mut self.shelf, alloc, command)
+        let decided = self.decide(alloc, command);
+        let changes = decided.changes.as_slice();
+        if changes.is_empty() {
+            return decided.reply;
+        }
+        match self.apply(alloc, changes) {
+            Ok(()) => decided.reply,
+            Err(_fault) => Reply::Refused(Refusal::Unavailable),
+        }
     }
 
     /// Runs commands in turn. Room for the replies is taken first: refused, nothing is run.
     pub fn run_all(&mut self, alloc: Global, commands: &[Command]) -> Result<Vec<Reply>, NoMemory>
         ensures run { IfOk result (λ replies. S.is_honest self.new → RunsAny (S.content self.old) commands.now replies.items (S.content self.new)) }
-        ensures named { IfOk result (λ replies. AreNamedFor commands.now replies.items) }
+        ensures each { IfOk result (λ replies. AreRun S.is_honest S.content S.written S.may_leave
+            commands.now replies.items self.old self.new) }
         ensures honest { S.is_honest self.new → S.is_honest self.old }
         ensures err { OnErr result (self.new ≡ self.old) }
     {
-        run_all_on(&mut self.shelf, alloc, commands)
+        let mut replies = Vec::with_capacity(alloc, commands.len())?;
+        for command in commands {
+            let reply = self.run(alloc, command);
+            add_reply(&mut replies, reply);
+        }
+        Ok(replies)
     }
 
     /// The first `most` of the intersections that are overdue for an inspection on a day, in the

@@ -140,7 +140,8 @@ pub(crate) fn find<S: Shelf>(
 ) -> Result<Option<Found>, ShelfFault>
     ensures found { IfOk result (λ found. S.is_honest shelf.new → FindsAny (S.content shelf.old) id found) }
     ensures listed { IfOk result (λ found. S.is_honest shelf.new → IfSome found (λ found. ListsDraft (S.content shelf.old) id found.timing.delta)) }
-    ensures whole { IfOk result (λ _. S.is_honest shelf.new → ¬ HasDamagedIntersection (S.content shelf.old) id) }
+    ensures whole { IfOk result (λ _. S.is_honest shelf.new →
+        ¬ HasDamage (S.content shelf.old) id) }
     ensures damaged { result ≡ Err ShelfFault.Damaged → S.is_honest shelf.new → HasDamage (S.content shelf.old) id }
     ensures kept { IsKept S.is_honest S.content S.written S.may_leave shelf.old shelf.new }
 {

@@ -3,7 +3,7 @@ ghost use Rattle.std.specs.Prelude.{◌≡◌, false, IfOk, IsSome, Ok, Err};
 ghost use Rattle.office_tables_shelf.specs.Shelf.{IsKept};
 ghost use Rattle.office_desk_cabinet.specs.Registers.{line_told, rows_told};
 ghost use Rattle.office_desk.specs.Deciding.{Decides};
-ghost use Rattle.office_desk.specs.Recording.{IsKnownIn, HasDamagedAbout};
+ghost use Rattle.office_desk.specs.Recording.{IsKnownIn, HasDamagedAbout, TellsAbout};
 ghost use Rattle.office_desk.specs.Step.{cabinet_of as about_of, refusal_of_record, told as reply_of};
 
 use crate::command::Command;
@@ -37,6 +37,8 @@ pub(crate) fn is_known<S: Shelf>(
     about: Option<InterId>,
 ) -> Result<bool, ShelfFault>
     ensures known { IfOk result (λ known. S.is_honest shelf.new → IsKnownIn (S.content shelf.old) about known) }
+    ensures tells { IfOk result (λ known. S.is_honest shelf.new →
+        TellsAbout (S.content shelf.old) about known) }
     ensures asked { result ≡ Ok false → IsSome about }
     ensures whole { IfOk result (λ _. S.is_honest shelf.new → ¬ HasDamagedAbout (S.content shelf.old) about) }
     ensures damaged { result ≡ Err ShelfFault.Damaged → S.is_honest shelf.new → HasDamagedAbout (S.content shelf.old) about }

@@ -61,6 +61,8 @@ fn verdict_at<S: Shelf>(
     row: &IntersectionRow,
 ) -> Result<Verdict, ShelfFault>
     ensures verdict { IfOk result (λ verdict. S.is_honest shelf.new → IsVerdictOf (S.content shelf.old) id row.now verdict) }
+    ensures whole { IfOk result (λ _. S.is_honest shelf.new →
+        IsDone row.now → ¬ HasDamage (S.content shelf.old) id) }
     ensures damaged { result ≡ Err ShelfFault.Damaged → S.is_honest shelf.new → IsDone row.now × HasDamage (S.content shelf.old) id }
     ensures kept { IsKept S.is_honest S.content S.written S.may_leave shelf.old shelf.new }
 {

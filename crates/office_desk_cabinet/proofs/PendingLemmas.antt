@@ -18,8 +18,7 @@ use Rattle.cabinet_core.specs.declared.record.Inspection.{Inspection as Inspecti
 use Rattle.cabinet_core.specs.declared.record.Order.{Order as OrderRecord}
 use Rattle.cabinet_core.specs.declared.record.UsedLine.{UsedLine}
 use Rattle.office_desk_cabinet.specs.Puts.{Puts}
-use Rattle.office_desk_cabinet.proofs.KeyTies.{numbered_ties, used_ties, delivery_ties}
-use Rattle.office_desk_cabinet.proofs.PartRows.{part_ties}
+use Rattle.office_desk_cabinet.proofs.KeyTies.{numbered_ties, used_ties, delivery_ties, part_ties}
 
 -- ---- places
 

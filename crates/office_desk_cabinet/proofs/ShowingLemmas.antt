@@ -1,7 +1,7 @@
 -- The open ones of a list of orders.
 use Rattle.std.proofs.Common.{ℕ, List, map, filter}
+use Rattle.cabinet_core.specs.Orders.{is_open}
 use Rattle.cabinet_core.specs.declared.record.Order.{Order}
-use Rattle.office_desk_cabinet.specs.Register.{is_open}
 
 -- the numbers of the open ones of some orders
 abbrev pub open_among : List Order → List ℕ

@@ -1,7 +1,10 @@
 -- What is told of a decision, from the line that it takes: the step of the register, the rows that stay, how many are written, and which refusal.
-use Rattle.std.proofs.Common.{◌≡◌, ◌≤◌, ℕ, ◌+◌, Bool, true, false, List, [], ◌∷◌, Option, Some, None, Result, Ok, Err, is_some, refl, sym, ap, subst, ◌∙◌, inl, inr, arith}
+use Rattle.std.proofs.Common.{◌≡◌, ◌≤◌, ℕ, ◌+◌, Bool, true, false, List, [], ◌∷◌, Option, Some, None, Result, Ok, Err, is_some, refl, sym, ap, subst, subst₂, ◌∙◌, inl, inr, arith}
 use Rattle.std.specs.Prelude.{IfOk, OnErr, if◌then◌else◌, nat_lt}
 use Rattle.cabinet_core.specs.Cabinet.{Line, added, same, refused, Records, inspect_line, open_line, use_line, close_line, close_order_line, receive_line, is_same_inspection, is_opened_so, is_same_line, is_same_closing, is_same_delivery, on_hand}
+use Rattle.cabinet_core.specs.Changes.{Makes}
+use Rattle.cabinet_core.specs.Register.{Register}
+use Rattle.cabinet_core.specs.Step.{line_at, with_record, after_line}
 use Rattle.cabinet_core.specs.declared.command.RecordCommand.{RecordCommand}
 use Rattle.cabinet_core.specs.declared.command.RecordCommand.TheVariants.{Inspect, OpenOrder, UsePart, CloseOrder, Receive}
 use Rattle.cabinet_core.specs.declared.part.TheConstants.{MOST_ON_HAND}
@@ -24,13 +27,12 @@ use Rattle.office_tables_shelf.specs.declared.rows.RowChange.{RowChange}
 use Rattle.office_tables_shelf.specs.declared.rows.Table.{Table}
 use Rattle.office_tables_shelf.specs.declared.shelf.ShelfFault.{ShelfFault}
 use Rattle.office_tables_shelf.specs.declared.shelf.ShelfFault.TheVariants.{NoMemory, Store, Damaged}
-use Rattle.office_desk_cabinet.specs.Register.{Register}
 use Rattle.office_desk_cabinet.specs.RegisterDamage.{MeetsRecordDamage}
 use Rattle.office_desk_cabinet.specs.RegisterStands.{RegisterStandsSound}
-use Rattle.office_desk_cabinet.specs.RegisterStep.{line_at, with_record, after_line, after_record}
 use Rattle.office_desk_cabinet.specs.Registers.{line_told, rows_told, IsNamed, RegistersFrom, Registers, LeavesTiming, most_record_writes}
 use Rattle.office_desk_cabinet.specs.Telling.{row_change_of, row_changes_of, Tells}
 use Rattle.office_desk_cabinet.specs.declared.registered.Registered.{Registered}
+use Rattle.office_desk_cabinet.proofs.Changed.{stand_changed}
 use Rattle.office_desk_cabinet.specs.declared.registered.Registered.TheVariants.{Refused}
 
 -- the rows that a line writes
@@ -74,34 +76,46 @@ told_by id line list (Err refusal.CloseDiffers) told is tells = turned_down id l
 
 -- ---- the step
 
-stands_after : (tables : Content) (r next : Register) (line : Line) (rows : List RowChange) → RegisterStandsSound tables r → (line ≡ added → RegisterStandsSound (changed_by tables rows) next)
-    → RegisterStandsSound (changed_by tables (rows_for line rows)) (after_line line next r)
-stands_after tables r next added rows stands put = put refl
-stands_after tables r next same rows stands put = stands
-stands_after tables r next (refused why) rows stands put = stands
+-- a refusal leaves the register and the tables
+refused_from : (tables : Content) (r : Register) (command : RecordCommand) (why : CabinetRefusal) (told : Registered) → line_at r command ≡ refused why → told ≡ Refused why → RegisterStandsSound tables r → RegistersFrom tables command told r
+refused_from tables r command why told is tells stands = record {
+  line = ap line_told tells ∙ sym is;
+  stand = subst₂ (λ (rows : List RowChange) (l : Line). RegisterStandsSound (changed_by tables rows) (after_line l (with_record r command) r)) (sym (ap rows_told tells)) (sym is) stands;
+}
 
--- a decision on the records of a register, whose rows make the tables stand for the register with the record
-pub registers_from : (tables : Content) (r : Register) (command : RecordCommand) (id : ℕ) (list : List CabinetChange) (decision : Result Recorded CabinetRefusal) (told : Registered)
-    → Records decision (line_at r command) list → Tells id decision told → RegisterStandsSound tables r
-    → (line_at r command ≡ added → RegisterStandsSound (changed_by tables (row_changes_of id list)) (with_record r command))
-    → RegistersFrom tables command told r
-registers_from tables r command id list decision told is tells stands put =
-    let by = told_by id (line_at r command) list decision told is tells in
-    record {
-      line = by.same_line;
-      stand = subst (λ rows. RegisterStandsSound (changed_by tables rows) (after_record r command)) (sym by.same_rows)
-          (stands_after tables r (with_record r command) (line_at r command) (row_changes_of id list) stands put);
-    }
+-- the rows of a decision make the tables stand for the register that the decision makes
+pub registers_from : (tables : Content) (r : Register) (command : RecordCommand) (id : ℕ) (decision : Result Recorded CabinetRefusal) (told : Registered)
+    → RegisterStandsSound tables r → Makes id r command decision → Tells id decision told → RegistersFrom tables command told r
+registers_from tables r command id (Ok (recorded.Added changes)) told stands makes tells = record {
+  line = tells.0 ∙ sym makes.0;
+  stand = subst₂ (λ (rows : List RowChange) (l : Line). RegisterStandsSound (changed_by tables rows) (after_line l (with_record r command) r)) (sym tells.1) (sym makes.0)
+      (record { stand = stand_changed tables r (with_record r command) id changes.items stands.stand makes.1; sound = makes.1.sound });
+}
+registers_from tables r command id (Ok recorded.Same) told stands is tells = record {
+  line = ap line_told tells ∙ sym is;
+  stand = subst₂ (λ (rows : List RowChange) (l : Line). RegisterStandsSound (changed_by tables rows) (after_line l (with_record r command) r)) (sym (ap rows_told tells)) (sym is) stands;
+}
+registers_from tables r command id (Err refusal.NoMemory) told stands is tells = absurd (tells.0 refl)
+registers_from tables r command id (Err refusal.InspectionDiffers) told stands is tells = refused_from tables r command _ told is tells.1 stands
+registers_from tables r command id (Err refusal.OrderDiffers) told stands is tells = refused_from tables r command _ told is tells.1 stands
+registers_from tables r command id (Err refusal.UnknownOrder) told stands is tells = refused_from tables r command _ told is tells.1 stands
+registers_from tables r command id (Err refusal.OrderClosed) told stands is tells = refused_from tables r command _ told is tells.1 stands
+registers_from tables r command id (Err refusal.DayBeforeOpening) told stands is tells = refused_from tables r command _ told is tells.1 stands
+registers_from tables r command id (Err refusal.NoStock) told stands is tells = refused_from tables r command _ told is tells.1 stands
+registers_from tables r command id (Err refusal.StockFull) told stands is tells = refused_from tables r command _ told is tells.1 stands
+registers_from tables r command id (Err refusal.DeliveryDiffers) told stands is tells = refused_from tables r command _ told is tells.1 stands
+registers_from tables r command id (Err refusal.LineDiffers) told stands is tells = refused_from tables r command _ told is tells.1 stands
+registers_from tables r command id (Err refusal.CloseDiffers) told stands is tells = refused_from tables r command _ told is tells.1 stands
 
 -- and the answer to it
 pub registers : (stored : Content) (pending : List RowChange) (command : RecordCommand) (id : ℕ) (decision : Result Recorded CabinetRefusal) (result : Result Registered ShelfFault)
     → IfOk result (λ told. Tells id decision told) → OnErr result (result ≡ Err NoMemory)
-    → ((told : Registered) → Tells id decision told → (r : Register) → RegisterStandsSound (changed_by stored pending) r → RegistersFrom (changed_by stored pending) command told r)
+    → ((r : Register) → RegisterStandsSound (changed_by stored pending) r → Makes id r command decision)
     → Registers stored pending command result
-registers stored pending command id decision (Ok told) tells fault from = from told tells
-registers stored pending command id decision (Err NoMemory) tells fault from = tt
-registers stored pending command id decision (Err Store) tells fault from = tt
-registers stored pending command id decision (Err Damaged) tells fault from = absurd (let f : Err Damaged ≡ Err NoMemory = fault in cc)
+registers stored pending command id decision (Ok told) tells fault makes = λ r stands. registers_from (changed_by stored pending) r command id decision told stands (makes r stands) tells
+registers stored pending command id decision (Err NoMemory) tells fault makes = tt
+registers stored pending command id decision (Err Store) tells fault makes = tt
+registers stored pending command id decision (Err Damaged) tells fault makes = absurd (let f : Err Damaged ≡ Err NoMemory = fault in cc)
 
 -- a fault that the shelf answered
 pub fault_registers : (stored : Content) (pending : List RowChange) (command : RecordCommand) (fault : ShelfFault) → (fault ≡ Damaged → MeetsRecordDamage stored command) → Registers stored pending command (Err fault)

@@ -1,9 +1,6 @@
-pub use Rattle.office_tables_shelf.specs.Register
-pub mod RegisterStep
 pub use Rattle.office_tables_shelf.specs.RegisterStands
 pub mod RegisterDamage
 pub mod Puts
 pub mod Registers
 pub mod Telling
 pub mod Stocking
-pub mod RecordRuns

@@ -4,6 +4,7 @@ ghost use Rattle.office_tables_shelf.specs.Content.{Content};
 ghost use Rattle.office_tables_shelf.specs.Counts.{writes_in};
 ghost use Rattle.office_tables_shelf.specs.Shelf.{IsKept};
 ghost use Rattle.office_tables_shelf.specs.declared.rows.Table.{Table};
+ghost use Rattle.office_desk_cabinet.specs.RegisterDamage.{IsWhole, SparesDamage};
 ghost use Rattle.office_desk_cabinet.specs.Registers.{IsNamed, LeavesTiming, Registers, line_told, most_record_writes, rows_told};
 
 use crate::pending::Pending;
@@ -23,6 +24,10 @@ pub fn decide_record<S: Shelf>(
     command: &RecordCommand,
 ) -> Result<Registered, ShelfFault>
     ensures step { S.is_honest shelf.new → Registers (S.content shelf.old) pending.now command.now result }
+    ensures whole { IfOk result (λ _. S.is_honest shelf.new →
+        IsWhole (S.content shelf.old) pending.now command.now) }
+    ensures spares { IfOk result (λ told. S.is_honest shelf.new →
+        SparesDamage (S.content shelf.old) pending.now (rows_told told)) }
     ensures leaves { IfOk result (λ told. (tables : Content) → LeavesTiming tables (rows_told told)) }
     ensures writes { IfOk result (λ told. (table : Table) → writes_in table (rows_told told) ≤ most_record_writes command.now table) }
     ensures named { IfOk result (λ told. IsNamed command.now (line_told told)) }

@@ -1,22 +1,18 @@
 //! Inspections and orders: their commands decided.
 ghost use Rattle.std.specs.Prelude.{◌≤◌, IfOk};
-ghost use Rattle.cabinet_core.specs.Cabinet.{record_of};
-ghost use Rattle.cabinet_core.specs.Within.{IsClosingWithin, IsOrderWithin};
 ghost use Rattle.cabinet_core.specs.declared.command.RecordCommand.{RecordCommand};
 ghost use Rattle.office_tables_shelf.specs.Content.{Content};
 ghost use Rattle.office_tables_shelf.specs.Counts.{writes_in};
 ghost use Rattle.office_tables_shelf.specs.Shelf.{IsKept};
 ghost use Rattle.office_tables_shelf.specs.declared.rows.Table.{Table};
+ghost use Rattle.office_desk_cabinet.specs.RegisterDamage.{IsWhole, SparesDamage};
 ghost use Rattle.office_desk_cabinet.specs.Registers.{IsNamed, LeavesTiming, Registers, line_told, most_record_writes, rows_told};
 
 use crate::pending::Pending;
 use crate::registered::Registered;
 use crate::rows::registered;
 use crate::standing::{inspection_at, order_at};
-use cabinet_core::{
-    Closing, Inspection, Opening, RecordCommand, close_order, inspect, inspection_is_within,
-    open_order,
-};
+use cabinet_core::{Closing, Inspection, Opening, RecordCommand, close_order, inspect, open_order};
 use office_tables_shelf::shelf::{Shelf, ShelfFault};
 use signal_records::{InterId, RecordNo};
 use std::alloc::Global;
@@ -30,24 +26,18 @@ pub(crate) fn decide_inspect<S: Shelf>(
     inspection: &Inspection,
 ) -> Result<Registered, ShelfFault>
     ensures step { S.is_honest shelf.new → Registers (S.content shelf.old) pending.now (RecordCommand.Inspect id inspection.now) result }
+    ensures whole { IfOk result (λ _. S.is_honest shelf.new →
+        IsWhole (S.content shelf.old) pending.now (RecordCommand.Inspect id inspection.now)) }
+    ensures spares { IfOk result (λ told. S.is_honest shelf.new →
+        SparesDamage (S.content shelf.old) pending.now (rows_told told)) }
     ensures leaves { IfOk result (λ told. (tables : Content) → LeavesTiming tables (rows_told told)) }
     ensures writes { IfOk result (λ told. (table : Table) → writes_in table (rows_told told) ≤ most_record_writes (RecordCommand.Inspect id inspection.now) table) }
     ensures named { IfOk result (λ told. IsNamed (RecordCommand.Inspect id inspection.now) (line_told told)) }
     ensures kept { IsKept S.is_honest S.content S.written S.may_leave shelf.old shelf.new }
 {
-    inspection_is_within(inspection);
     let there = inspection_at(shelf, alloc, pending, id, inspection.number)?;
     let decision = inspect(alloc, &there, inspection);
     registered(alloc, id, decision)
-}
-
-/// The order that an opening makes is within its limits, as the opening's type says.
-fn opening_is_within(opening: &Opening)
-    ensures { IsOrderWithin (record_of opening.now) }
-{
-    let _numbers = (opening.number.get(), opening.day.number());
-    let _clerk = opening.clerk.as_str();
-    let _text = opening.text.as_str();
 }
 
 /// Decides whether an order is opened.
@@ -59,23 +49,18 @@ pub(crate) fn decide_open_order<S: Shelf>(
     opening: &Opening,
 ) -> Result<Registered, ShelfFault>
     ensures step { S.is_honest shelf.new → Registers (S.content shelf.old) pending.now (RecordCommand.OpenOrder id opening.now) result }
+    ensures whole { IfOk result (λ _. S.is_honest shelf.new →
+        IsWhole (S.content shelf.old) pending.now (RecordCommand.OpenOrder id opening.now)) }
+    ensures spares { IfOk result (λ told. S.is_honest shelf.new →
+        SparesDamage (S.content shelf.old) pending.now (rows_told told)) }
     ensures leaves { IfOk result (λ told. (tables : Content) → LeavesTiming tables (rows_told told)) }
     ensures writes { IfOk result (λ told. (table : Table) → writes_in table (rows_told told) ≤ most_record_writes (RecordCommand.OpenOrder id opening.now) table) }
     ensures named { IfOk result (λ told. IsNamed (RecordCommand.OpenOrder id opening.now) (line_told told)) }
     ensures kept { IsKept S.is_honest S.content S.written S.may_leave shelf.old shelf.new }
 {
-    opening_is_within(opening);
     let there = order_at(shelf, alloc, pending, id, opening.number)?;
     let decision = open_order(alloc, &there, opening);
     registered(alloc, id, decision)
-}
-
-/// What closes an order is within its limits, as its type says.
-fn closing_is_within(closing: &Closing)
-    ensures { IsClosingWithin closing.now }
-{
-    let _day = closing.day.number();
-    let _closer = closing.closer.as_str();
 }
 
 /// Decides whether an order is closed.
@@ -88,12 +73,15 @@ pub(crate) fn decide_close_order<S: Shelf>(
     closing: &Closing,
 ) -> Result<Registered, ShelfFault>
     ensures step { S.is_honest shelf.new → Registers (S.content shelf.old) pending.now (RecordCommand.CloseOrder id order closing.now) result }
+    ensures whole { IfOk result (λ _. S.is_honest shelf.new →
+        IsWhole (S.content shelf.old) pending.now (RecordCommand.CloseOrder id order closing.now)) }
+    ensures spares { IfOk result (λ told. S.is_honest shelf.new →
+        SparesDamage (S.content shelf.old) pending.now (rows_told told)) }
     ensures leaves { IfOk result (λ told. (tables : Content) → LeavesTiming tables (rows_told told)) }
     ensures writes { IfOk result (λ told. (table : Table) → writes_in table (rows_told told) ≤ most_record_writes (RecordCommand.CloseOrder id order closing.now) table) }
     ensures named { IfOk result (λ told. IsNamed (RecordCommand.CloseOrder id order closing.now) (line_told told)) }
     ensures kept { IsKept S.is_honest S.content S.written S.may_leave shelf.old shelf.new }
 {
-    closing_is_within(closing);
     let there = order_at(shelf, alloc, pending, id, order)?;
     let decision = close_order(alloc, &there, closing);
     registered(alloc, id, decision)

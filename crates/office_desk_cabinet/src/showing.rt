@@ -1,9 +1,10 @@
 //! What is asked of the register: the records of a cabinet, its open orders.
 ghost use Rattle.std.specs.Prelude.{◌≡◌, ◌⊎◌, IfOk, filter, map};
+ghost use Rattle.cabinet_core.specs.Orders.{is_open, open_at};
+ghost use Rattle.cabinet_core.specs.Register.{Register};
 ghost use Rattle.cabinet_core.specs.declared.record.Order.{Order};
 ghost use Rattle.office_tables_shelf.specs.CabinetReads.{HasDamagedInspection, HasDamagedOrder, HasDamagedUsed};
 ghost use Rattle.office_tables_shelf.specs.Shelf.{IsKept};
-ghost use Rattle.office_desk_cabinet.specs.Register.{Register, is_open, open_at};
 ghost use Rattle.office_desk_cabinet.specs.RegisterStands.{RegisterStandsSound};
 ghost use Rattle.office_desk_cabinet.specs.Registers.{ShowsCabinet};
 

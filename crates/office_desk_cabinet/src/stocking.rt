@@ -1,13 +1,15 @@
 //! The stock: parts used, deliveries received, and what is on hand.
 ghost use Rattle.std.specs.Prelude.{◌≡◌, ◌≤◌, IfOk, OnErr};
+ghost use Rattle.cabinet_core.specs.Register.{Register};
+ghost use Rattle.cabinet_core.specs.Stock.{stock_of};
 ghost use Rattle.cabinet_core.specs.declared.command.RecordCommand.{RecordCommand};
 ghost use Rattle.office_tables_shelf.specs.CabinetReads.{HasDamagedPart};
 ghost use Rattle.office_tables_shelf.specs.Content.{Content};
 ghost use Rattle.office_tables_shelf.specs.Counts.{writes_in};
 ghost use Rattle.office_tables_shelf.specs.Shelf.{IsKept};
 ghost use Rattle.office_tables_shelf.specs.declared.rows.Table.{Table};
-ghost use Rattle.office_desk_cabinet.specs.Register.{Register, stock_of};
 ghost use Rattle.office_desk_cabinet.specs.RegisterStands.{RegisterStandsSound};
+ghost use Rattle.office_desk_cabinet.specs.RegisterDamage.{IsWhole, SparesDamage};
 ghost use Rattle.office_desk_cabinet.specs.Registers.{IsNamed, LeavesTiming, Registers, line_told, most_record_writes, rows_told};
 ghost use Rattle.office_desk_cabinet.specs.Stocking.{TellsStock, stock_row_of, stock_rows_of};
 ghost use Rattle.office_desk_cabinet.specs.Telling.{WantsMemory};
@@ -18,7 +20,7 @@ use crate::rows::registered;
 use crate::standing::{delivery_at, hand_at, line_at, order_at};
 use cabinet_core::{
     CabinetChange, CabinetRefusal, Delivery, Hand, PartCode, RecordCommand, Recorded, UsedLine,
-    delivery_is_within, receive, use_part, used_line_is_within,
+    receive, use_part,
 };
 use office_tables_shelf::rows::RowChange;
 use office_tables_shelf::shelf::{Shelf, ShelfFault};
@@ -34,12 +36,15 @@ pub(crate) fn decide_use_part<S: Shelf>(
     line: &UsedLine,
 ) -> Result<Registered, ShelfFault>
     ensures step { S.is_honest shelf.new → Registers (S.content shelf.old) pending.now (RecordCommand.UsePart id line.now) result }
+    ensures whole { IfOk result (λ _. S.is_honest shelf.new →
+        IsWhole (S.content shelf.old) pending.now (RecordCommand.UsePart id line.now)) }
+    ensures spares { IfOk result (λ told. S.is_honest shelf.new →
+        SparesDamage (S.content shelf.old) pending.now (rows_told told)) }
     ensures leaves { IfOk result (λ told. (tables : Content) → LeavesTiming tables (rows_told told)) }
     ensures writes { IfOk result (λ told. (table : Table) → writes_in table (rows_told told) ≤ most_record_writes (RecordCommand.UsePart id line.now) table) }
     ensures named { IfOk result (λ told. IsNamed (RecordCommand.UsePart id line.now) (line_told told)) }
     ensures kept { IsKept S.is_honest S.content S.written S.may_leave shelf.old shelf.new }
 {
-    used_line_is_within(line);
     let hand = hand_at(shelf, alloc, pending, &line.part)?;
     let there = line_at(shelf, alloc, pending, id, line.order, line.line)?;
     let order = order_at(shelf, alloc, pending, id, line.order)?;
@@ -99,12 +104,15 @@ pub(crate) fn decide_receive<S: Shelf>(
     delivery: &Delivery,
 ) -> Result<Registered, ShelfFault>
     ensures step { S.is_honest shelf.new → Registers (S.content shelf.old) pending.now (RecordCommand.Receive delivery.now) result }
+    ensures whole { IfOk result (λ _. S.is_honest shelf.new →
+        IsWhole (S.content shelf.old) pending.now (RecordCommand.Receive delivery.now)) }
+    ensures spares { IfOk result (λ told. S.is_honest shelf.new →
+        SparesDamage (S.content shelf.old) pending.now (rows_told told)) }
     ensures leaves { IfOk result (λ told. (tables : Content) → LeavesTiming tables (rows_told told)) }
     ensures writes { IfOk result (λ told. (table : Table) → writes_in table (rows_told told) ≤ most_record_writes (RecordCommand.Receive delivery.now) table) }
     ensures named { IfOk result (λ told. IsNamed (RecordCommand.Receive delivery.now) (line_told told)) }
     ensures kept { IsKept S.is_honest S.content S.written S.may_leave shelf.old shelf.new }
 {
-    delivery_is_within(delivery);
     let hand = hand_at(shelf, alloc, pending, &delivery.part)?;
     let there = delivery_at(shelf, alloc, pending, &delivery.part, delivery.number)?;
     let decision = receive(alloc, &there, hand, delivery);

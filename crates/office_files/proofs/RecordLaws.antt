@@ -9,7 +9,6 @@ use Rattle.signal_records.specs.Reading.{text_at, number_of, number_at}
 use Rattle.signal_records.proofs.FieldLaws.{if_ok, same_ok, number_found, number_only}
 use Rattle.signal_records.proofs.RowLaws.{bind_ok, bind_only, choose, cons_is, places_all, same_bytes, counted_ok}
 use Rattle.cabinet_core.specs.Day.{day_text}
-use Rattle.cabinet_core.specs.Within.{IsDeliveryWithin}
 use Rattle.cabinet_core.specs.declared.record.Inspection.{Inspection}
 use Rattle.cabinet_core.specs.declared.record.Opening.{Opening}
 use Rattle.cabinet_core.specs.declared.record.UsedLine.{UsedLine}
@@ -19,7 +18,7 @@ use Rattle.cabinet_core.specs.declared.command.RecordCommand.{RecordCommand}
 use Rattle.cabinet_core.specs.declared.command.RecordCommand.TheVariants as command
 use Rattle.office_files.specs.RecordReading.{day_of, day_at, words_of, words_at, part_of, part_at, inspection_at, opening_at, use_at, close_at, delivery_at, record_at}
 use Rattle.office_files.specs.RecordSpelling.{record_spelling}
-use Rattle.office_files.specs.RecordsWithin.{IsRecordWithin}
+use Rattle.cabinet_core.specs.Within.{IsDeliveryWithin, IsRecordWithin}
 use Rattle.office_files.specs.Csv.{csv_records, csv_text}
 use Rattle.office_files.specs.Records.{commands_of}
 use Rattle.office_files.proofs.FileLaws.{AreRowLaws, file_only}

@@ -15,7 +15,7 @@ use Rattle.cabinet_core.specs.declared.command.RecordCommand.TheVariants as comm
 use Rattle.cabinet_core.proofs.DayLemmas.{IsShort, civil_day_is_short}
 use Rattle.cabinet_core.proofs.PartLemmas.{IsUtf8-from_code}
 use Rattle.office_files.specs.RecordSpelling.{record_spelling}
-use Rattle.office_files.specs.RecordsWithin.{IsRecordWithin}
+use Rattle.cabinet_core.specs.Within.{IsRecordWithin}
 use Rattle.office_files.proofs.Utf8Lemmas.{AreTexts, AreTexts-append, before, IsUtf8-low, IsUtf8-decimal, IsUtf8-list}
 
 phase_texts : (p : ℕ) (phase : Phase) → AreTexts (phase_front p phase)

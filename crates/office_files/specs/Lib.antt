@@ -5,7 +5,6 @@ pub mod Changes
 pub mod Timing
 pub mod RecordSpelling
 pub mod RecordReading
-pub mod RecordsWithin
 pub mod Records
 pub mod Violations
 pub mod Cells

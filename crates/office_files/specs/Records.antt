@@ -14,7 +14,7 @@ use Rattle.office_files.specs.Csv.{csv_records, csv_text}
 use Rattle.office_files.specs.CsvRow.{rows_of}
 use Rattle.office_files.specs.RecordReading.{record_at}
 use Rattle.office_files.specs.RecordSpelling.{record_spelling}
-use Rattle.office_files.specs.RecordsWithin.{IsRecordWithin}
+use Rattle.cabinet_core.specs.Within.{IsRecordWithin}
 
 -- each record is a command of the register
 abbrev pub commands_of : List ℕ → Result (List RecordCommand) CsvFault

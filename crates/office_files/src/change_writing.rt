@@ -15,31 +15,20 @@ use std::alloc::Global;
 fn removal_fields(alloc: Global, key: Key) -> Result<Vec<String>, NoMemory>
     ensures { Writes result (codes "remove" ∷ key_spelling key) }
 {
-    let remove = String::from_str(alloc, "remove")?;
-    match key {
-        Key::Phase(p) => {
-            let kind = String::from_str(alloc, "phase")?;
-            let p = format!(in alloc; "{}", p.get())?;
-            Ok(vec![in alloc; remove, kind, p]?)
-        }
-        Key::Seq(n, ring) => {
-            let kind = String::from_str(alloc, "seq")?;
-            let n = format!(in alloc; "{}", n.get())?;
-            let ring = format!(in alloc; "{}", ring.get())?;
-            Ok(vec![in alloc; remove, kind, n, ring]?)
-        }
-        Key::Split(n, p) => {
-            let kind = String::from_str(alloc, "split")?;
-            let n = format!(in alloc; "{}", n.get())?;
-            let p = format!(in alloc; "{}", p.get())?;
-            Ok(vec![in alloc; remove, kind, n, p]?)
-        }
-        Key::Pattern(n) => {
-            let kind = String::from_str(alloc, "pattern")?;
-            let n = format!(in alloc; "{}", n.get())?;
-            Ok(vec![in alloc; remove, kind, n]?)
-        }
+    let (kind, first, second) = match key {
+        Key::Phase(p) => ("phase", p.get(), None),
+        Key::Seq(n, ring) => ("seq", n.get(), Some(ring.get())),
+        Key::Split(n, p) => ("split", n.get(), Some(p.get())),
+        Key::Pattern(n) => ("pattern", n.get(), None),
+    };
+    let mut fields = Vec::new(alloc);
+    fields.push(String::from_str(alloc, "remove")?)?;
+    fields.push(String::from_str(alloc, kind)?)?;
+    fields.push(format!(in alloc; "{first}")?)?;
+    if let Some(second) = second {
+        fields.push(format!(in alloc; "{second}")?)?;
     }
+    Ok(fields)
 }
 
 impl CsvRecord for Change {

@@ -8,7 +8,6 @@ mod changes;
 mod fault;
 mod fields;
 mod overdue;
-mod record_bounds;
 mod record_fields;
 mod record_reading;
 mod record_writing;

@@ -4,9 +4,10 @@ ghost use Rattle.std.specs.Prelude.{◌≡◌, IfOk, decimal, string_bytes};
 ghost use Rattle.csv.specs.Records.{fields_of};
 ghost use Rattle.office_files.specs.RecordSpelling.{inspection_fields, opening_fields, use_fields, close_fields, delivery_fields};
 
-use crate::record_bounds::record_is_within;
 use crate::writing::CsvRecord;
-use cabinet_core::{Closing, Delivery, Inspection, Opening, RecordCommand, UsedLine, write_day};
+use cabinet_core::{
+    Closing, Delivery, Inspection, Opening, RecordCommand, UsedLine, record_is_within, write_day,
+};
 use csv::ByteRecord;
 use signal_records::{InterId, NoMemory, RecordNo};
 use std::alloc::{AllocError, Global};
@@ -108,7 +109,7 @@ fn delivery_record(alloc: Global, r: &Delivery) -> Result<ByteRecord, NoMemory>
 
 impl CsvRecord for RecordCommand {
     ghost use Rattle.office_files.specs.RecordSpelling.{record_spelling};
-    ghost use Rattle.office_files.specs.RecordsWithin.{IsRecordWithin};
+    ghost use Rattle.cabinet_core.specs.Within.{IsRecordWithin};
 
     ghost spelling = { record_spelling };
 

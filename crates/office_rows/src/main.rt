@@ -1,6 +1,8 @@
 //! Plays the row files of the working folder: each over maps, over a database in memory and over one
-//! in files, with its streams whole and in single bytes. It prints a line for each row, and ends with
-//! status 1 where one is not as told.
+//! in files, with its streams whole and in single bytes. Then it makes calls that no row makes, and
+//! tries the office on hostile use and on files that stop. It prints a line for each row and each
+//! thing tried, and ends with status 1 where one is not as told. With the word `requests`, `maps`
+//! or `tables` it tries what is meant for runs in which an allocation is refused from outside.
 #![tactic(auto)]
 
 mod ends;
@@ -16,12 +18,17 @@ mod wording;
 use crate::ends::Cut;
 use crate::fault::Fault;
 use crate::folder::{names, remove_others, row_name};
-use crate::playing::play;
+use crate::playing::{play, play_want_of_memory};
 use crate::reading::read_row;
 use crate::row::Row;
 use crate::way::Way;
+use office_trials::calls::try_calls;
+use office_trials::hostile::try_hostile;
+use office_trials::memory::try_memory;
+use office_trials::stops::try_stops;
+use office_trials::trouble::Trouble;
 use std::process::ExitCode;
-use std::{fs, io};
+use std::{env, fs, io};
 
 /// Plays a row in one way, and removes what it left in the working folder.
 fn play_way(rt: &HostRuntime, row: &Row<'_>, way: Way, kept: &[String]) -> Result<(), Fault> {
@@ -71,6 +78,7 @@ fn play_file(rt: &HostRuntime, file: &str, name: &str, kept: &[String]) -> Resul
 
 /// Plays all rows of the working folder, and tells whether all was as told.
 fn play_all(rt: &HostRuntime) -> Result<bool, Fault> {
+    play_want_of_memory(rt.alloc())?;
     let kept = names(rt)?;
     let mut is_told = true;
     for file in kept.iter() {
@@ -81,12 +89,39 @@ fn play_all(rt: &HostRuntime) -> Result<bool, Fault> {
     Ok(is_told)
 }
 
-fn main(rt: HostRuntime) -> io::Result<ExitCode> {
-    match play_all(&rt) {
-        Ok(true) => Ok(ExitCode::SUCCESS),
-        Ok(false) => Ok(ExitCode::FAILURE),
+/// Plays all rows, and says why where that breaks off.
+fn play_or_say(rt: &HostRuntime) -> io::Result<bool> {
+    match play_all(rt) {
+        Ok(is_told) => Ok(is_told),
         Err(fault) => {
             println!(rt; "{fault}")?;
+            Ok(false)
+        }
+    }
+}
+
+/// Plays all rows and tries all, or tries what the first word names. Tells whether all was as told.
+fn is_as_told(rt: &HostRuntime) -> Result<bool, Trouble> {
+    let Ok(mut words) = env::args(rt) else {
+        return Err(Trouble::NoMemory);
+    };
+    if let Some(part) = words.nth(1) {
+        try_memory(rt, part.as_str())?;
+        return Ok(true);
+    }
+    let is_told = play_or_say(rt)?;
+    try_calls(rt)?;
+    try_hostile(rt)?;
+    try_stops(rt)?;
+    Ok(is_told)
+}
+
+fn main(rt: HostRuntime) -> io::Result<ExitCode> {
+    match is_as_told(&rt) {
+        Ok(true) => Ok(ExitCode::SUCCESS),
+        Ok(false) => Ok(ExitCode::FAILURE),
+        Err(trouble) => {
+            println!(rt; "{trouble}")?;
             Ok(ExitCode::FAILURE)
         }
     }

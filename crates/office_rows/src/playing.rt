@@ -8,7 +8,7 @@ use crate::tables::Tables;
 use crate::way::Way;
 use office_http::{ServeFault, Served};
 use office_tables::open::OpenFault;
-use signal_office_run::run_words;
+use signal_office_run::{report, run_words};
 use std::alloc::{AllocError, Global};
 use std::net::{Ipv4Addr, SocketAddr, TcpListener};
 
@@ -119,6 +119,16 @@ fn compare_statuses(alloc: Global, line: usize, told: u8, came: u8) -> Result<()
     let told = format!(in alloc; "status {told}")?;
     let came = format!(in alloc; "status {came}")?;
     compare_texts(alloc, line, told.as_str(), came.as_str())
+}
+
+/// Has the program end for want of memory, which it tells.
+pub(crate) fn play_want_of_memory(alloc: Global) -> Result<(), Fault> {
+    let mut err = Keep::new(alloc, None, Cut::Whole);
+    let status = report(alloc, &mut err, signal_office_run::Fault::Memory);
+    if err.bytes.as_slice() != b"fault: memory\n".as_slice() {
+        return Err(Fault::differs(alloc, 0, b"fault: memory", &err.bytes));
+    }
+    compare_statuses(alloc, 0, 1, status)
 }
 
 /// Changes the tables by another hand.

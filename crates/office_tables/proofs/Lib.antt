@@ -3,5 +3,5 @@ mod StatementLemmas
 mod BlankLemmas
 pub mod ArrangedLemmas
 mod OpenLemmas
-mod VacantLemmas
+mod FoundLemmas
 mod MigrateLemmas

@@ -1,10 +1,13 @@
 -- When each tree holds what its place in the list of objects says.
-use Rattle.std.specs.Prelude.{◌≡◌, ℕ, ◌<◌}
+use Rattle.std.specs.Prelude.{◌≡◌, ◌≤◌, ℕ, ◌<◌, false, IsTrue}
+use Rattle.sqlite.specs.State.{State, HasCleanDisk, Opens, IsLive}
+use Rattle.sqlite.specs.Steps.{IsFresh}
 use Rattle.sqlite.specs.Tree.{Trees}
 use Rattle.sqlite.specs.View.{View, IsShaped}
 use Rattle.sqlite_trees.specs.declared.store.Shape.{Shape}
 use Rattle.sqlite_trees.specs.declared.store.Shape.TheVariants.{Table}
 use Rattle.sqlite_trees.specs.Objects.{catalog_tree, IsListed}
+use Rattle.sqlite_trees.specs.View.{doubt, IsClean}
 
 -- the list of objects gives each tree its shape, and its rows are in the order of that shape
 pub record IsArranged (trees : Trees) : Type 0 where
@@ -17,3 +20,22 @@ pub record IsArranged (trees : Trees) : Type 0 where
 -- only cursors have moved
 abbrev pub IsUnchanged : View → View → Type 0
 IsUnchanged old new = new ≡ record old { cursors = new.cursors }
+
+-- the store of a connection, as the last commit left it
+pub record IsTaken (old : State) (view : View) : Type 0 where
+  pub clean : doubt old.is_clean ≤ doubt view.is_clean
+  pub was_open : IsClean view → IsTrue old.is_open
+  pub fresh : IsClean view → IsFresh view
+  pub trees : IsClean view → view.trees ≡ old.committed.trees
+  pub left : IsClean view → old.may_leave old.committed.trees
+  pub arranged : IsClean view → IsArranged old.committed.trees
+
+-- the database of a connection, which was checked once more
+pub record IsCheckedAgain (old new : State) : Type 0 where
+  pub autocommit : new.in_transaction ≡ false
+  pub clean : doubt old.is_clean ≤ doubt new.is_clean
+  pub was_open : HasCleanDisk new → IsTrue old.is_open
+  pub opens : HasCleanDisk new → Opens new × IsLive new
+  pub kept : HasCleanDisk new → new.now.trees ≡ old.committed.trees
+  pub arranged : HasCleanDisk new → IsArranged new.committed.trees
+  pub crash : HasCleanDisk new → (trees : Trees) → new.may_leave trees → old.may_leave trees

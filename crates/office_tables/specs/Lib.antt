@@ -1,6 +1,7 @@
 pub mod Version
 pub mod SqlShelf
 pub mod Arranged
+pub mod Found
 pub mod Opening
 pub mod Migrate
 pub mod Promises

@@ -85,10 +85,6 @@ WritesAllToday result changes old new = IsHonest new → OnOk result (IsChangedT
 abbrev pub Migrates : {E : Type 0} → Result Migrated E → State → State → Type 0
 Migrates result old new = IsHonest new → IfOk result (IsMigrated (content_now old) (content_now new))
 
--- today's version is stored
-abbrev pub EndsToday : {A E : Type 0} → Result A E → State → Type 0
-EndsToday result new = IsHonest new → OnOk result (version_in new.now.trees ≡ Some current_version)
-
 -- today's version stays, or version 1 is brought to it
 abbrev pub Brings : {E : Type 0} → Result Migrated E → State → State → Type 0
 Brings result old new = IsHonest new → IfOk result (IsBrought old new)

@@ -1,5 +1,5 @@
 -- What an opening of the tables makes of a database, and what it leaves where it refuses.
-use Rattle.std.specs.Prelude.{◌≡◌, ◌≢◌, ◌⊎◌, ℕ, true, List, [], ◌∷◌, map, Option, None, Some, Ok, IfSome}
+use Rattle.std.specs.Prelude.{◌≡◌, ◌≢◌, ◌⊎◌, ℕ, true, List, [], ◌∷◌, map, Option, None, Some, Ok, IfSome, IsTrue}
 use Rattle.sqlite.specs.Held.{Held, state}
 use Rattle.sqlite.specs.State.{State, HasCleanDisk, ExecutesInside, Survives}
 use Rattle.sqlite.specs.Tree.{Trees}
@@ -11,25 +11,20 @@ use Rattle.office_tables_sql.specs.Calls.{IsHonest, Keeps}
 use Rattle.office_tables_sql.specs.Schema.{no_schema}
 use Rattle.office_tables_sql.specs.Stored.{content_now, content_of}
 use Rattle.office_tables.specs.SqlShelf.{SqlView}
-use Rattle.office_tables.specs.Version.{AreEmpty, HasRow, version_in, current_version}
+use Rattle.office_tables.specs.Found.{IsUnclaimed}
+pub use Rattle.office_tables.specs.Found.{HasOtherVersion, HasRowsAlone}
+use Rattle.office_tables.specs.Version.{version_in, current_version}
 use Rattle.office_tables.specs.declared.open.TheConstants.{DROPS}
 use Rattle.office_tables.specs.declared.open.OpenFault.{OpenFault}
 use Rattle.office_tables.specs.declared.open.OpenFault.TheVariants as fault
 
 -- version 2 is stored, or none is and no table has a row
 abbrev pub MayBeTaken : Trees → Type 0
-MayBeTaken trees = (version_in trees ≡ Some current_version) ⊎ ((version_in trees ≡ None) × AreEmpty trees)
+MayBeTaken trees = (version_in trees ≡ Some current_version) ⊎ IsUnclaimed trees
 
-abbrev pub HasOtherVersion : Trees → Type 0
-HasOtherVersion trees = (version_in trees ≢ None) × (version_in trees ≢ Some current_version)
-
-abbrev pub HasRowsAlone : Trees → Type 0
-HasRowsAlone trees = (version_in trees ≡ None) × HasRow trees
-
--- the name is one of these
-abbrev pub IsOneOf : List ℕ → List (List ℕ) → Type 0
-IsOneOf name [] = ⊥
-IsOneOf name (first ∷ more) = (name ≡ first) ⊎ IsOneOf name more
+-- what is seen is what was committed
+abbrev pub IsSettled : State → Type 0
+IsSettled s = IsTrue s.is_open → s.now ≡ s.committed
 
 -- nothing was written, and the shelf goes on
 abbrev pub OnlyReads : State → State → Type 0

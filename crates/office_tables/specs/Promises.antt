@@ -3,7 +3,8 @@ use Rattle.std.specs.Prelude.{◌≡◌, Result, Some, OnOk, OnErr}
 use Rattle.sqlite.specs.State.{State, HasCleanDisk, Survives}
 use Rattle.sqlite.specs.Tree.{Trees}
 use Rattle.office_tables_sql.specs.Calls.{IsHonest, IsReady}
-use Rattle.office_tables_sql.specs.Stored.{content_now}
+use Rattle.office_tables_shelf.specs.Content.{Content}
+use Rattle.office_tables_sql.specs.Stored.{content_now, content_of}
 use Rattle.office_tables.specs.Arranged.{IsArranged}
 use Rattle.office_tables.specs.Version.{version_in, current_version}
 
@@ -19,6 +20,10 @@ StaysReady result old new = HasCleanDisk new → OnOk result (IsReady old → Is
 abbrev pub StaysSame : {A E : Type 0} → Result A E → State → State → Type 0
 StaysSame result old new = HasCleanDisk new → OnOk result (IsReady old → content_now new ≡ content_now old)
 
+-- the eight tables then hold that
+abbrev pub TurnsTo : {A E : Type 0} → Result A E → Content → State → State → Type 0
+TurnsTo result tables old new = HasCleanDisk new → OnOk result (IsReady old → content_now new ≡ tables)
+
 -- today's version is stored
 abbrev pub StoresToday : {A E : Type 0} → Result A E → State → State → Type 0
 StoresToday result old new = HasCleanDisk new → OnOk result (IsReady old → version_in new.now.trees ≡ Some current_version)
@@ -26,6 +31,18 @@ StoresToday result old new = HasCleanDisk new → OnOk result (IsReady old → v
 -- a stop leaves what it could leave before the call
 abbrev pub LeavesNoMore : State → State → Type 0
 LeavesNoMore old new = Survives old new (λ _. ⊥)
+
+-- a whole call keeps what the eight tables hold
+abbrev pub KeepsContent : State → State → Type 0
+KeepsContent old new = IsHonest new → content_now new ≡ content_now old
+
+-- and so does a stop
+abbrev pub LeavesContent : State → State → Type 0
+LeavesContent old new = Survives old new (λ trees. IsHonest old × (content_of trees ≡ content_now old))
+
+-- it ends with today's version stored
+abbrev pub EndsToday : {A E : Type 0} → Result A E → State → Type 0
+EndsToday result new = IsHonest new → OnOk result (version_in new.now.trees ≡ Some current_version)
 
 -- where the call fails, all that can be read is as it was
 abbrev pub KeepsTrees : {A E : Type 0} → Result A E → State → State → Type 0

@@ -15,9 +15,13 @@ use Rattle.office_tables_sql.specs.Layout as layout
 use Rattle.office_tables_sql.specs.Stored.{rows_of}
 use Rattle.office_tables_sql.specs.Calls.{IsQuery, command_of}
 
--- the version that is stored, if there is one: the cells under the number 1
+-- the version that the table with this number stores, if it stores one: the cells under the number 1
+abbrev pub version_at : ℕ → Trees → Option (List Cell)
+version_at tree trees = get (rows_of (record layout.office_version { tree = tree }) trees) (number (pos 1) ∷ [])
+
+-- the version that an office stores
 abbrev pub version_in : Trees → Option (List Cell)
-version_in trees = get (rows_of layout.office_version trees) (number (pos 1) ∷ [])
+version_in = version_at 15
 
 -- the cells of a version
 abbrev pub version_cells : ℕ → List Cell

@@ -5,7 +5,8 @@ ghost use Rattle.sqlite.specs.State.{HasCleanDisk, Survives};
 ghost use Rattle.sqlite.specs.Held.{state};
 ghost use Rattle.office_tables_shelf.specs.Change.{changed, changed_by};
 ghost use Rattle.office_tables_sql.specs.Stored.{content_now, content_of};
-ghost use Rattle.office_tables_sql.specs.Calls.{IsHonest, IsOffice, IsReady, StandsOn};
+ghost use Rattle.office_tables_sql.specs.Calls.{IsHonest, IsOffice, StandsOn};
+ghost use Rattle.office_tables.specs.Promises.{WasHonest, StaysReady, TurnsTo, LeavesNoMore};
 
 use office_tables_shelf::rows::RowChange;
 use office_tables_sql::statement::SqlFault;
@@ -21,11 +22,15 @@ fn change_row<S: Alter>(
     change: &RowChange,
 ) -> Result<(), SqlFault>
     ensures same_reference { tx.new.conn.ghost_name ≡ tx.old.conn.ghost_name }
-    ensures ready { HasCleanDisk (state S.Store tx.new.conn.now) → OnOk result (IsReady (state S.Store tx.old.conn.now) → IsReady (state S.Store tx.new.conn.now)) }
-    ensures changed { HasCleanDisk (state S.Store tx.new.conn.now) → OnOk result (IsReady (state S.Store tx.old.conn.now) → content_now (state S.Store tx.new.conn.now) ≡ changed (content_now (state S.Store tx.old.conn.now)) change.now) }
-    ensures honest { HasCleanDisk (state S.Store tx.new.conn.now) → OnOk result (IsHonest (state S.Store tx.old.conn.now)) }
+    ensures ready { StaysReady result (state S.Store tx.old.conn.now)
+        (state S.Store tx.new.conn.now) }
+    ensures changed { TurnsTo result
+        (changed (content_now (state S.Store tx.old.conn.now)) change.now)
+        (state S.Store tx.old.conn.now) (state S.Store tx.new.conn.now) }
+    ensures honest { WasHonest result (state S.Store tx.old.conn.now)
+        (state S.Store tx.new.conn.now) }
     ensures stands { StandsOn (state S.Store tx.old.conn.now) (state S.Store tx.new.conn.now) }
-    ensures crash { Survives (state S.Store tx.old.conn.now) (state S.Store tx.new.conn.now) (λ _. ⊥) }
+    ensures crash { LeavesNoMore (state S.Store tx.old.conn.now) (state S.Store tx.new.conn.now) }
 {
     match change {
         RowChange::PutIntersection(id, row) => intersection::put(alloc, tx, *id, row),
@@ -48,11 +53,15 @@ pub(crate) fn change_rows<S: Alter>(
     changes: &[RowChange],
 ) -> Result<(), SqlFault>
     ensures same_reference { tx.new.conn.ghost_name ≡ tx.old.conn.ghost_name }
-    ensures ready { HasCleanDisk (state S.Store tx.new.conn.now) → OnOk result (IsReady (state S.Store tx.old.conn.now) → IsReady (state S.Store tx.new.conn.now)) }
-    ensures changed { HasCleanDisk (state S.Store tx.new.conn.now) → OnOk result (IsReady (state S.Store tx.old.conn.now) → content_now (state S.Store tx.new.conn.now) ≡ changed_by (content_now (state S.Store tx.old.conn.now)) changes.now) }
-    ensures honest { HasCleanDisk (state S.Store tx.new.conn.now) → OnOk result (changes.now ≢ [] → IsHonest (state S.Store tx.old.conn.now)) }
+    ensures ready { StaysReady result (state S.Store tx.old.conn.now)
+        (state S.Store tx.new.conn.now) }
+    ensures changed { TurnsTo result
+        (changed_by (content_now (state S.Store tx.old.conn.now)) changes.now)
+        (state S.Store tx.old.conn.now) (state S.Store tx.new.conn.now) }
+    ensures honest { HasCleanDisk (state S.Store tx.new.conn.now) →
+        OnOk result (changes.now ≢ [] → IsHonest (state S.Store tx.old.conn.now)) }
     ensures stands { StandsOn (state S.Store tx.old.conn.now) (state S.Store tx.new.conn.now) }
-    ensures crash { Survives (state S.Store tx.old.conn.now) (state S.Store tx.new.conn.now) (λ _. ⊥) }
+    ensures crash { LeavesNoMore (state S.Store tx.old.conn.now) (state S.Store tx.new.conn.now) }
 {
     for change in changes {
         change_row(alloc, tx, change)?;
@@ -69,10 +78,16 @@ pub(crate) fn apply<S: Alter>(
     requires { IsOffice (state S.Store conn.old) }
     ensures office { IsOffice (state S.Store conn.new) }
     ensures honest { IsHonest (state S.Store conn.new) → IsHonest (state S.Store conn.old) }
-    ensures applied { IsHonest (state S.Store conn.new) → OnOk result (content_now (state S.Store conn.new) ≡ changed_by (content_now (state S.Store conn.old)) changes.now) }
-    ensures unchanged { IsHonest (state S.Store conn.new) → OnErr result (content_now (state S.Store conn.new) ≡ content_now (state S.Store conn.old)) }
-    ensures open { HasCleanDisk (state S.Store conn.new) → OnOk result (changes.now ≢ [] → IsHonest (state S.Store conn.new)) }
-    ensures crash { Survives (state S.Store conn.old) (state S.Store conn.new) (λ trees. IsHonest (state S.Store conn.old) × (content_of trees ≡ changed_by (content_now (state S.Store conn.old)) changes.now)) }
+    ensures applied { IsHonest (state S.Store conn.new) →
+        OnOk result (content_now (state S.Store conn.new) ≡ changed_by
+        (content_now (state S.Store conn.old)) changes.now) }
+    ensures unchanged { IsHonest (state S.Store conn.new) →
+        OnErr result (content_now (state S.Store conn.new) ≡ content_now (state S.Store conn.old)) }
+    ensures open { HasCleanDisk (state S.Store conn.new) → OnOk result (changes.now ≢ [] →
+        IsHonest (state S.Store conn.new)) }
+    ensures crash { Survives (state S.Store conn.old) (state S.Store conn.new) (λ trees.
+        IsHonest (state S.Store conn.old) × (content_of trees ≡ changed_by
+        (content_now (state S.Store conn.old)) changes.now)) }
 {
     if changes.is_empty() {
         return Ok(());

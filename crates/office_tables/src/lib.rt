@@ -2,10 +2,10 @@
 #![tactic(auto)]
 
 mod change;
+mod found;
 mod migrate;
 pub mod open;
 pub mod sql_shelf;
-mod vacant;
 mod version;
 
 pub use office_tables_former::puts::Migrated;

@@ -7,10 +7,11 @@ ghost use Rattle.office_tables_sql.specs.Stored.{content_now};
 ghost use Rattle.office_tables_sql.specs.Calls.{IsHonest, IsOffice, StandsOn};
 ghost use Rattle.office_tables.specs.Migrate.{KeepNoVersion, IsChangedToday, IsSpelledToday};
 ghost use Rattle.office_tables.specs.Migrate.{MayBecome, WritesToday, WritesAllToday, Migrates};
-ghost use Rattle.office_tables.specs.Migrate.{EndsToday, Brings};
+ghost use Rattle.office_tables.specs.Migrate.{Brings};
 ghost use Rattle.office_tables.specs.Migrate.{TellsVersion, TellsFormerDamage, TellsDamage};
 ghost use Rattle.office_tables.specs.Promises.{WasHonest, StaysReady, LeavesNoMore, KeepsTrees};
-ghost use Rattle.office_tables.specs.Promises.{KeepsCommitted, Commits, IsArrangedIfClean};
+ghost use Rattle.office_tables.specs.Promises.{KeepsCommitted, Commits, EndsToday};
+ghost use Rattle.office_tables.specs.Promises.{IsArrangedIfClean};
 
 use crate::change::change_rows;
 use crate::open::OpenFault;

@@ -1,19 +1,21 @@
 //! Opening the tables of the office.
 
-ghost use Rattle.std.specs.Prelude.{◌≡◌, ◌≢◌, ◌⊎◌, ◌≤◌, true, false, map, [], Err, None, Some, IsTrue, IfOk, IfErr, IfSome, OnOk};
+ghost use Rattle.std.specs.Prelude.{◌≡◌, ◌≢◌, ◌⊎◌, ◌≤◌, true, false, map, [], Err, None, Some};
+ghost use Rattle.std.specs.Prelude.{IsTrue, IfOk, IfErr, OnOk};
 ghost use Rattle.std.specs.List.{AllByRecursion};
-ghost use Rattle.sqlite.specs.State.{HasCleanDisk, IsLive, Opens, Survives};
+ghost use Rattle.sqlite.specs.State.{HasCleanDisk};
 ghost use Rattle.sqlite.specs.Held.{state};
 ghost use Rattle.sqlite_trees.specs.View.{doubt};
 ghost use Rattle.office_tables_sql.specs.Schema.{no_schema};
-ghost use Rattle.office_tables_sql.specs.Stored.{content_now, content_of};
 ghost use Rattle.office_tables_sql.specs.Calls.{IsHonest, IsOffice};
-ghost use Rattle.office_tables.specs.Version.{AreEmpty, HasRow, version_in, current_version};
-ghost use Rattle.office_tables.specs.Arranged.{IsArranged};
-ghost use Rattle.office_tables.specs.declared.open.TheConstants.{NAMES};
-ghost use Rattle.office_tables.specs.Opening.{AreMade, AreMadeAnew, AreRun, HasOtherVersion, HasRowsAlone, IsOneOf, MayBeTaken, OnlyReads};
+ghost use Rattle.office_tables.specs.Version.{AreEmpty, HasRow};
+ghost use Rattle.office_tables.specs.Found.{HasOtherVersion, HasRowsAlone, IsOurs, IsUnclaimed};
+ghost use Rattle.office_tables.specs.Opening.{AreMade, AreMadeAnew, AreRun, IsRefused, IsSettled};
+ghost use Rattle.office_tables.specs.Opening.{MayBeTaken, OnlyReads};
+ghost use Rattle.office_tables.specs.Promises.{KeepsContent, LeavesContent, EndsToday};
+ghost use Rattle.office_tables.specs.Promises.{IsArrangedIfClean};
 
-use crate::vacant::vacant;
+use crate::found::{EIGHT, Found, KEEPER, checked, is_one_of, looked};
 use crate::version::{VERSION, are_empty, is_version, store_version, stored_version};
 use office_tables_shelf::shelf::ShelfFault;
 use office_tables_sql::schema::{CREATES, is_blank, is_office};
@@ -21,7 +23,6 @@ use office_tables_sql::statement::SqlFault;
 use signal_records::NoMemory;
 use sqlite::{Alter, Connection, Transaction};
 use sqlite_schema::schema::{Schema, Table};
-use sqlite_trees::store::Store;
 use std::alloc::Global;
 
 /// Why the tables of a database were not opened.
@@ -79,44 +80,7 @@ impl From<NoMemory> for OpenFault {
     }
 }
 
-/// The same database, which was checked again, so that each tree is known to hold what its list
-/// of objects says.
-pub(crate) fn checked<S: Alter + Drop>(
-    alloc: Global,
-    conn: Connection<S>,
-) -> Result<Connection<S>, SqlFault>
-    ensures autocommit { IfOk result (λ c. (state S.Store c).in_transaction ≡ false) }
-    ensures clean { IfOk result (λ c. doubt (state S.Store conn).is_clean ≤ doubt (state S.Store c).is_clean) }
-    ensures opens { IfOk result (λ c. HasCleanDisk (state S.Store c) → Opens (state S.Store c) × IsLive (state S.Store c)) }
-    ensures was_open { IfOk result (λ c. HasCleanDisk (state S.Store c) → IsTrue (state S.Store conn).is_open) }
-    ensures kept { IfOk result (λ c. HasCleanDisk (state S.Store c) → (state S.Store c).now.trees ≡ (state S.Store conn).committed.trees) }
-    ensures arranged { IfOk result (λ c. HasCleanDisk (state S.Store c) → IsArranged (state S.Store c).committed.trees) }
-    ensures crash { IfOk result (λ c. HasCleanDisk (state S.Store c) → (trees : _) → (state S.Store c).may_leave trees → (state S.Store conn).may_leave trees) }
-{
-    let store = conn.into_store();
-    if store.is_broken() {
-        return Err(SqlFault::Store);
-    }
-    match Connection::over(alloc, store) {
-        Ok(conn) => Ok(conn),
-        Err((error, _)) => Err(SqlFault::from(error)),
-    }
-}
-
-/// The nine names, those first whose tables refer to others.
-const NAMES: [&str; 9] = [
-    "used_part",
-    "delivery",
-    "work_order",
-    "inspection",
-    "draft",
-    "timing",
-    "part",
-    "intersection",
-    "office_version",
-];
-
-/// What drops the tables of those names.
+/// What drops the tables of the nine names, those first that refer to others.
 const DROPS: [&str; 9] = [
     "DROP TABLE IF EXISTS used_part",
     "DROP TABLE IF EXISTS delivery",
@@ -129,37 +93,31 @@ const DROPS: [&str; 9] = [
     "DROP TABLE IF EXISTS office_version",
 ];
 
-fn is_one_of(name: &[u8], names: &[&str]) -> bool
-    ensures { IsTrue result → IsOneOf name.now (map (λ text. text.now) names.now) }
-{
-    let Some((first, names)) = names.split_first() else {
-        return false;
-    };
-    name == first.as_bytes() || is_one_of(name, names)
-}
-
-fn are_named(tables: &[Table], names: &[&str]) -> bool
-    ensures { IsTrue result → AllByRecursion (λ t. IsOneOf t.name (map (λ text. text.now) names.now)) tables.now }
+fn are_named(tables: &[Table]) -> bool
+    ensures { IsTrue result → AllByRecursion (λ t. IsOurs t.name) tables.now }
 {
     let Some((table, tables)) = tables.split_first() else {
         return true;
     };
-    is_one_of(table.name.as_slice(), names) && are_named(tables, names)
+    let name = table.name.as_slice();
+    (is_one_of(name, &EIGHT) || name == KEEPER.as_bytes()) && are_named(tables)
 }
 
 /// Whether each table has one of the nine names, and there is no view.
 pub(crate) fn has_only_ours(schema: &Schema) -> bool
-    ensures named { IsTrue result → AllByRecursion (λ t. IsOneOf t.name (map (λ text. text.now) NAMES)) schema.now.tables }
+    ensures named { IsTrue result → AllByRecursion (λ t. IsOurs t.name) schema.now.tables }
     ensures no_views { IsTrue result → schema.now.views ≡ [] }
 {
-    schema.views.is_empty() && are_named(schema.tables.as_slice(), &NAMES)
+    schema.views.is_empty() && are_named(schema.tables.as_slice())
 }
 
 /// Makes the tables anew, all or none, in the order of their numbers.
 fn make_tables<S: Alter>(conn: &mut Connection<S>) -> Result<(), SqlFault>
     requires { (state S.Store conn.old).in_transaction ≡ false }
-    ensures clean { doubt (state S.Store conn.old).is_clean ≤ doubt (state S.Store conn.new).is_clean }
-    ensures made { HasCleanDisk (state S.Store conn.new) → OnOk result (AreMade S.Store conn.old conn.new) }
+    ensures clean { doubt (state S.Store conn.old).is_clean ≤ doubt
+        (state S.Store conn.new).is_clean }
+    ensures made { HasCleanDisk (state S.Store conn.new) →
+        OnOk result (AreMade S.Store conn.old conn.new) }
 {
     let mut tx = conn.transaction();
     make_anew(&mut tx)?;
@@ -169,8 +127,11 @@ fn make_tables<S: Alter>(conn: &mut Connection<S>) -> Result<(), SqlFault>
 
 fn make_anew<S: Alter>(tx: &mut Transaction<'_, S>) -> Result<(), SqlFault>
     ensures same_reference { tx.new.conn.ghost_name ≡ tx.old.conn.ghost_name }
-    ensures clean { doubt (state S.Store tx.old.conn.now).is_clean ≤ doubt (state S.Store tx.new.conn.now).is_clean }
-    ensures made { HasCleanDisk (state S.Store tx.new.conn.now) → tx.old.conn.now.in_transaction ≡ true → OnOk result (AreMadeAnew S.Store tx.old.conn.now tx.new.conn.now) }
+    ensures clean { doubt (state S.Store tx.old.conn.now).is_clean ≤ doubt
+        (state S.Store tx.new.conn.now).is_clean }
+    ensures made { HasCleanDisk (state S.Store tx.new.conn.now) →
+        tx.old.conn.now.in_transaction ≡ true →
+        OnOk result (AreMadeAnew S.Store tx.old.conn.now tx.new.conn.now) }
 {
     run_all(tx, &DROPS)?;
     run_all(tx, &CREATES)
@@ -178,8 +139,12 @@ fn make_anew<S: Alter>(tx: &mut Transaction<'_, S>) -> Result<(), SqlFault>
 
 fn run_all<S: Alter>(tx: &mut Transaction<'_, S>, texts: &[&str]) -> Result<(), SqlFault>
     ensures same_reference { tx.new.conn.ghost_name ≡ tx.old.conn.ghost_name }
-    ensures clean { doubt (state S.Store tx.old.conn.now).is_clean ≤ doubt (state S.Store tx.new.conn.now).is_clean }
-    ensures run { HasCleanDisk (state S.Store tx.new.conn.now) → tx.old.conn.now.in_transaction ≡ true → OnOk result (AreRun S.Store (map (λ text. text.now) texts.now) tx.old.conn.now tx.new.conn.now) }
+    ensures clean { doubt (state S.Store tx.old.conn.now).is_clean ≤ doubt
+        (state S.Store tx.new.conn.now).is_clean }
+    ensures run { HasCleanDisk (state S.Store tx.new.conn.now) →
+        tx.old.conn.now.in_transaction ≡ true →
+        OnOk result (AreRun S.Store (map (λ text. text.now) texts.now)
+        tx.old.conn.now tx.new.conn.now) }
 {
     for sql in texts {
         tx.execute(sql, &[])?;
@@ -192,14 +157,17 @@ fn claim_empty<S: Alter>(conn: &mut Connection<S>, fault: OpenFault) -> Result<(
     requires { IsOffice (state S.Store conn.old) }
     ensures office { IsOffice (state S.Store conn.new) }
     ensures honest { IsHonest (state S.Store conn.new) → IsHonest (state S.Store conn.old) }
-    ensures same { IsHonest (state S.Store conn.new) → content_now (state S.Store conn.new) ≡ content_now (state S.Store conn.old) }
-    ensures stored { IsHonest (state S.Store conn.new) → OnOk result (version_in (state S.Store conn.new).now.trees ≡ Some current_version) }
-    ensures empty { IsHonest (state S.Store conn.new) → OnOk result (AreEmpty (state S.Store conn.old).now.trees) }
+    ensures same { KeepsContent (state S.Store conn.old) (state S.Store conn.new) }
+    ensures stored { EndsToday result (state S.Store conn.new) }
+    ensures empty { IsHonest (state S.Store conn.new) →
+        OnOk result (AreEmpty (state S.Store conn.old).now.trees) }
     ensures version { result ≡ Err OpenFault.Version → fault ≡ OpenFault.Version }
     ensures damaged { result ≡ Err OpenFault.Damaged → fault ≡ OpenFault.Damaged }
-    ensures has_row { IsHonest (state S.Store conn.new) → result ≡ Err OpenFault.Damaged → HasRow (state S.Store conn.old).now.trees }
-    ensures left { (result ≡ Err OpenFault.Version) ⊎ (result ≡ Err OpenFault.Damaged) → OnlyReads (state S.Store conn.old) (state S.Store conn.new) }
-    ensures crash { Survives (state S.Store conn.old) (state S.Store conn.new) (λ trees. IsHonest (state S.Store conn.old) × (content_of trees ≡ content_now (state S.Store conn.old))) }
+    ensures has_row { IsHonest (state S.Store conn.new) → result ≡ Err OpenFault.Damaged →
+        HasRow (state S.Store conn.old).now.trees }
+    ensures left { (result ≡ Err OpenFault.Version) ⊎ (result ≡ Err OpenFault.Damaged) →
+        OnlyReads (state S.Store conn.old) (state S.Store conn.new) }
+    ensures crash { LeavesContent (state S.Store conn.old) (state S.Store conn.new) }
 {
     if !are_empty(conn)? {
         return Err(fault);
@@ -214,15 +182,21 @@ pub(crate) fn claim<S: Alter>(conn: &mut Connection<S>, is_new: bool) -> Result<
     requires { IsOffice (state S.Store conn.old) }
     ensures office { IsOffice (state S.Store conn.new) }
     ensures honest { IsHonest (state S.Store conn.new) → IsHonest (state S.Store conn.old) }
-    ensures same { IsHonest (state S.Store conn.new) → content_now (state S.Store conn.new) ≡ content_now (state S.Store conn.old) }
-    ensures stored { IsHonest (state S.Store conn.new) → OnOk result (version_in (state S.Store conn.new).now.trees ≡ Some current_version) }
-    ensures empty { IsHonest (state S.Store conn.new) → OnOk result (is_new ≡ true → AreEmpty (state S.Store conn.old).now.trees) }
-    ensures taken { IsHonest (state S.Store conn.new) → OnOk result (is_new ≡ false → MayBeTaken (state S.Store conn.old).now.trees) }
-    ensures found { is_new ≡ true → (result ≢ Err OpenFault.Version) × (result ≢ Err OpenFault.Damaged) }
-    ensures version { IsHonest (state S.Store conn.new) → result ≡ Err OpenFault.Version → HasOtherVersion (state S.Store conn.old).now.trees }
-    ensures damaged { IsHonest (state S.Store conn.new) → result ≡ Err OpenFault.Damaged → HasRowsAlone (state S.Store conn.old).now.trees }
-    ensures left { (result ≡ Err OpenFault.Version) ⊎ (result ≡ Err OpenFault.Damaged) → OnlyReads (state S.Store conn.old) (state S.Store conn.new) }
-    ensures crash { Survives (state S.Store conn.old) (state S.Store conn.new) (λ trees. IsHonest (state S.Store conn.old) × (content_of trees ≡ content_now (state S.Store conn.old))) }
+    ensures same { KeepsContent (state S.Store conn.old) (state S.Store conn.new) }
+    ensures stored { EndsToday result (state S.Store conn.new) }
+    ensures empty { IsHonest (state S.Store conn.new) → OnOk result (is_new ≡ true →
+        AreEmpty (state S.Store conn.old).now.trees) }
+    ensures taken { IsHonest (state S.Store conn.new) → OnOk result (is_new ≡ false →
+        MayBeTaken (state S.Store conn.old).now.trees) }
+    ensures found { is_new ≡ true →
+        (result ≢ Err OpenFault.Version) × (result ≢ Err OpenFault.Damaged) }
+    ensures version { IsHonest (state S.Store conn.new) → result ≡ Err OpenFault.Version →
+        HasOtherVersion (state S.Store conn.old).now.trees }
+    ensures damaged { IsHonest (state S.Store conn.new) → result ≡ Err OpenFault.Damaged →
+        HasRowsAlone (state S.Store conn.old).now.trees }
+    ensures left { (result ≡ Err OpenFault.Version) ⊎ (result ≡ Err OpenFault.Damaged) →
+        OnlyReads (state S.Store conn.old) (state S.Store conn.new) }
+    ensures crash { LeavesContent (state S.Store conn.old) (state S.Store conn.new) }
 {
     if is_new {
         return claim_empty(conn, OpenFault::Store);
@@ -249,16 +223,21 @@ pub(crate) fn prepared<S: Alter + Drop>(
     alloc: Global,
     conn: Connection<S>,
 ) -> Result<Prepared<S>, Refused<S>>
-    requires { HasCleanDisk (state S.Store conn) → IsArranged (state S.Store conn).committed.trees }
+    requires { IsArrangedIfClean (state S.Store conn) }
     ensures office { IfOk result (λ p. IsOffice (state S.Store p.0)) }
-    ensures clean { IfOk result (λ p. doubt (state S.Store conn).is_clean ≤ doubt (state S.Store p.0).is_clean) }
+    ensures clean { IfOk result (λ p.
+        doubt (state S.Store conn).is_clean ≤ doubt (state S.Store p.0).is_clean) }
     ensures kept { IfOk result (λ p. p.1 ≡ false → p.0 ≡ conn) }
-    ensures settled { IfOk result (λ p. p.1 ≡ false → IsHonest (state S.Store conn) → (state S.Store conn).now ≡ (state S.Store conn).committed) }
-    ensures made { IfOk result (λ p. HasCleanDisk (state S.Store p.0) → p.1 ≡ true → (version_in (state S.Store conn).committed.trees ≡ None) × AreEmpty (state S.Store conn).committed.trees) }
-    ensures blank { IfOk result (λ p. (state S.Store conn).now.schema ≡ no_schema → p.1 ≡ true) }
-    ensures ours { IfOk result (λ p. p.1 ≡ true → AllByRecursion (λ t. IsOneOf t.name (map (λ text. text.now) NAMES)) (state S.Store conn).now.schema.tables) }
-    ensures fault { IfErr result (λ e. (e.0 ≢ OpenFault.Version) × (e.0 ≢ OpenFault.Damaged)) }
-    ensures back { IfErr result (λ e. IfSome e.1 (λ c. (c ≡ conn) × (IsHonest (state S.Store conn) → (state S.Store conn).now ≡ (state S.Store conn).committed))) }
+    ensures settled { IfOk result (λ p. p.1 ≡ false → IsSettled (state S.Store conn)) }
+    ensures made { IfOk result (λ p. HasCleanDisk (state S.Store p.0) → p.1 ≡ true →
+        IsUnclaimed (state S.Store conn).committed.trees) }
+    ensures empty { IfOk result (λ p. HasCleanDisk (state S.Store p.0) → p.1 ≡ true →
+        AreEmpty (state S.Store conn).committed.trees) }
+    ensures blank { IfOk result (λ p.
+        (state S.Store conn).now.schema ≡ no_schema → p.1 ≡ true) }
+    ensures ours { IfOk result (λ p. p.1 ≡ true →
+        AllByRecursion (λ t. IsOurs t.name) (state S.Store conn).now.schema.tables) }
+    ensures refused { IfErr result (λ e. IsRefused S.Store conn e.0 e.1) }
 {
     if !conn.is_autocommit() {
         return Err((OpenFault::Store, None));
@@ -277,23 +256,39 @@ pub(crate) fn prepared<S: Alter + Drop>(
     }
     match laid_anew(alloc, conn) {
         Ok(conn) => Ok((conn, true)),
-        Err(fault) => Err((fault, None)),
+        Err(refused) => Err(refused),
     }
 }
 
-/// The same database with the tables of the office, where no tree of it has a row.
+/// The same database with the tables of the office, where those that it has in another layout hold
+/// no row. Otherwise it tells what they hold.
 fn laid_anew<S: Alter + Drop>(
     alloc: Global,
     conn: Connection<S>,
-) -> Result<Connection<S>, OpenFault>
+) -> Result<Connection<S>, Refused<S>>
+    requires settled { IsSettled (state S.Store conn) }
+    requires no_views { (state S.Store conn).now.schema.views ≡ [] }
     ensures office { IfOk result (λ c. IsOffice (state S.Store c)) }
-    ensures clean { IfOk result (λ c. doubt (state S.Store conn).is_clean ≤ doubt (state S.Store c).is_clean) }
-    ensures made { IfOk result (λ c. HasCleanDisk (state S.Store c) → (version_in (state S.Store conn).committed.trees ≡ None) × AreEmpty (state S.Store conn).committed.trees) }
-    ensures fault { IfErr result (λ fault. (fault ≢ OpenFault.Version) × (fault ≢ OpenFault.Damaged)) }
+    ensures clean { IfOk result (λ c.
+        doubt (state S.Store conn).is_clean ≤ doubt (state S.Store c).is_clean) }
+    ensures made { IfOk result (λ c. HasCleanDisk (state S.Store c) →
+        IsUnclaimed (state S.Store conn).committed.trees) }
+    ensures empty { IfOk result (λ c. HasCleanDisk (state S.Store c) →
+        AreEmpty (state S.Store conn).committed.trees) }
+    ensures refused { IfErr result (λ e. IsRefused S.Store conn e.0 e.1) }
 {
-    match vacant(alloc, conn)? {
-        Some(conn) => with_tables(alloc, conn),
-        None => Err(OpenFault::Store),
+    let (held, conn) = match looked(alloc, conn) {
+        Ok(found) => found,
+        Err(fault) => return Err((OpenFault::from(fault), None)),
+    };
+    match held {
+        Found::Nothing => match with_tables(alloc, conn) {
+            Ok(conn) => Ok(conn),
+            Err(fault) => Err((fault, None)),
+        },
+        Found::RowsAlone => Err((OpenFault::Damaged, Some(conn))),
+        Found::OtherVersion => Err((OpenFault::Version, Some(conn))),
+        Found::Unknown => Err((OpenFault::Store, Some(conn))),
     }
 }
 
@@ -304,9 +299,12 @@ fn with_tables<S: Alter + Drop>(
 ) -> Result<Connection<S>, OpenFault>
     requires { (state S.Store conn).in_transaction ≡ false }
     ensures office { IfOk result (λ c. IsOffice (state S.Store c)) }
-    ensures clean { IfOk result (λ c. doubt (state S.Store conn).is_clean ≤ doubt (state S.Store c).is_clean) }
-    ensures was_open { IfOk result (λ c. HasCleanDisk (state S.Store c) → IsTrue (state S.Store conn).is_open) }
-    ensures fault { IfErr result (λ fault. (fault ≢ OpenFault.Version) × (fault ≢ OpenFault.Damaged)) }
+    ensures clean { IfOk result (λ c.
+        doubt (state S.Store conn).is_clean ≤ doubt (state S.Store c).is_clean) }
+    ensures was_open { IfOk result (λ c. HasCleanDisk (state S.Store c) →
+        IsTrue (state S.Store conn).is_open) }
+    ensures fault { IfErr result (λ fault.
+        (fault ≢ OpenFault.Version) × (fault ≢ OpenFault.Damaged)) }
 {
     make_tables(&mut conn)?;
     let found = checked(alloc, conn)?;

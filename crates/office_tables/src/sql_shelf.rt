@@ -13,8 +13,9 @@ ghost use Rattle.office_tables.specs.Promises.{KeepsCommitted, Settles, IsArrang
 ghost use Rattle.office_tables.specs.Opening.{IsOpened, IsRefused};
 
 use crate::change;
+use crate::found::checked;
 use crate::migrate::migrate;
-use crate::open::{OpenFault, checked, claim, has_only_ours, prepared};
+use crate::open::{OpenFault, claim, has_only_ours, prepared};
 use cabinet_core::{Delivery, Hand, Inspection, Order, PartCode, UsedLine};
 use office_tables_former::puts::Migrated;
 use office_tables_shelf::counts::WriteCounts;
@@ -137,7 +138,8 @@ impl<S: Alter> SqlShelf<S> {
     pub fn into_conn(self) -> Connection<S>
         ensures same { result ≡ self.conn }
         ensures autocommit { (state S.Store result).in_transaction ≡ false }
-        ensures committed { IsHonest (state S.Store result) → (state S.Store result).committed ≡ (state S.Store self.conn).now }
+        ensures committed { IsHonest (state S.Store result) →
+            (state S.Store result).committed ≡ (state S.Store self.conn).now }
     {
         let SqlShelf { conn, .. } = self;
         conn

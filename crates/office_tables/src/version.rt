@@ -1,16 +1,16 @@
 //! The version that is stored, and whether the tables have rows.
 
-ghost use Rattle.std.specs.Prelude.{◌≡◌, ◌≢◌, ℕ, [], length, Some, IsTrue, IfOk, IfSome, OnOk};
+ghost use Rattle.std.specs.Prelude.{◌≡◌, ◌≢◌, ℕ, [], length, Some, IsTrue, IfOk, IfSome};
 ghost use Rattle.std.specs.Option.{option_map};
 ghost use Rattle.std.specs.List.{AllByRecursion};
-ghost use Rattle.sqlite.specs.State.{Survives};
 ghost use Rattle.sqlite.specs.Held.{state};
-ghost use Rattle.office_tables_sql.specs.Stored.{cells, content_now, content_of};
+ghost use Rattle.office_tables_sql.specs.Stored.{cells};
 ghost use Rattle.office_tables_sql.specs.Calls.{IsHonest, IsOffice, IsQuery, Keeps, StandsOn};
-ghost use Rattle.office_tables.specs.Promises.{WasHonest, StaysReady, StaysSame};
-ghost use Rattle.office_tables.specs.Promises.{StoresToday, LeavesNoMore};
 ghost use Rattle.office_tables.specs.Version.{AreEmpty, HasRow, IsListing, ListsRows};
-ghost use Rattle.office_tables.specs.Version.{version_in, version_cells, current_version};
+ghost use Rattle.office_tables.specs.Version.{version_in, version_cells};
+ghost use Rattle.office_tables.specs.Promises.{WasHonest, StaysReady, StaysSame, StoresToday};
+ghost use Rattle.office_tables.specs.Promises.{LeavesNoMore, KeepsContent, LeavesContent};
+ghost use Rattle.office_tables.specs.Promises.{EndsToday};
 
 use office_tables_sql::statement::{SqlFault, select, select_one, write};
 use sqlite::{Alter, Connection, Row, Transaction, params};
@@ -42,10 +42,12 @@ const LISTINGS: [&str; 8] = [
 /// The version that is stored.
 pub(crate) fn stored_version<S: Alter>(conn: &mut Connection<S>) -> Result<Option<Row>, SqlFault>
     requires { IsOffice (state S.Store conn.old) }
-    ensures found { IsHonest (state S.Store conn.new) → IfOk result (λ row. option_map cells row ≡ version_in (state S.Store conn.old).now.trees) }
-    ensures width { IsHonest (state S.Store conn.new) → IfOk result (λ row. IfSome row (λ r. length r ≡ 1)) }
+    ensures found { IsHonest (state S.Store conn.new) →
+        IfOk result (λ row. option_map cells row ≡ version_in (state S.Store conn.old).now.trees) }
+    ensures width { IsHonest (state S.Store conn.new) →
+        IfOk result (λ row. IfSome row (λ r. length r ≡ 1)) }
     ensures kept { Keeps (state S.Store conn.old) (state S.Store conn.new) }
-    ensures crash { Survives (state S.Store conn.old) (state S.Store conn.new) (λ _. ⊥) }
+    ensures crash { LeavesNoMore (state S.Store conn.old) (state S.Store conn.new) }
 {
     select_one(conn, FIND, params![1u32])
 }
@@ -118,11 +120,9 @@ pub(crate) fn store_version<S: Alter>(conn: &mut Connection<S>) -> Result<(), Sq
     requires { IsOffice (state S.Store conn.old) }
     ensures office { IsOffice (state S.Store conn.new) }
     ensures honest { IsHonest (state S.Store conn.new) → IsHonest (state S.Store conn.old) }
-    ensures same { IsHonest (state S.Store conn.new) → content_now (state S.Store conn.new) ≡ content_now (state S.Store conn.old) }
-    ensures stored { IsHonest (state S.Store conn.new) → OnOk result (version_in (state S.Store conn.new).now.trees ≡ Some current_version) }
-    ensures crash { Survives (state S.Store conn.old) (state S.Store conn.new)
-        (λ trees. IsHonest (state S.Store conn.old) ×
-        (content_of trees ≡ content_now (state S.Store conn.old))) }
+    ensures same { KeepsContent (state S.Store conn.old) (state S.Store conn.new) }
+    ensures stored { EndsToday result (state S.Store conn.new) }
+    ensures crash { LeavesContent (state S.Store conn.old) (state S.Store conn.new) }
 {
     let mut tx = conn.transaction();
     put_version(&mut tx)?;
@@ -134,10 +134,12 @@ pub(crate) fn store_version<S: Alter>(conn: &mut Connection<S>) -> Result<(), Sq
 fn is_empty<S: Alter>(conn: &mut Connection<S>, sql: &str) -> Result<bool, SqlFault>
     requires office { IsOffice (state S.Store conn.old) }
     requires query { IsQuery sql.now }
-    ensures empty { IsHonest (state S.Store conn.new) → IfOk result (λ empty. IsTrue empty → (tree : ℕ) → ListsRows sql.now tree → (state S.Store conn.old).now.trees tree ≡ []) }
-    ensures has_row { IsHonest (state S.Store conn.new) → IfOk result (λ empty. ¬ IsTrue empty → (tree : ℕ) → ListsRows sql.now tree → (state S.Store conn.old).now.trees tree ≢ []) }
+    ensures empty { IsHonest (state S.Store conn.new) → IfOk result (λ empty. IsTrue empty →
+        (tree : ℕ) → ListsRows sql.now tree → (state S.Store conn.old).now.trees tree ≡ []) }
+    ensures has_row { IsHonest (state S.Store conn.new) → IfOk result (λ empty. ¬ IsTrue empty →
+        (tree : ℕ) → ListsRows sql.now tree → (state S.Store conn.old).now.trees tree ≢ []) }
     ensures kept { Keeps (state S.Store conn.old) (state S.Store conn.new) }
-    ensures crash { Survives (state S.Store conn.old) (state S.Store conn.new) (λ _. ⊥) }
+    ensures crash { LeavesNoMore (state S.Store conn.old) (state S.Store conn.new) }
 {
     let rows = select(conn, sql, &[])?;
     Ok(rows.as_slice().is_empty())
@@ -147,10 +149,14 @@ fn is_empty<S: Alter>(conn: &mut Connection<S>, sql: &str) -> Result<bool, SqlFa
 fn show_none<S: Alter>(conn: &mut Connection<S>, queries: &[&str]) -> Result<bool, SqlFault>
     requires office { IsOffice (state S.Store conn.old) }
     requires queries { AllByRecursion (λ sql. IsListing sql.now) queries.now }
-    ensures empty { IsHonest (state S.Store conn.new) → IfOk result (λ empty. IsTrue empty → AllByRecursion (λ sql. (tree : ℕ) → ListsRows sql.now tree → (state S.Store conn.old).now.trees tree ≡ []) queries.now) }
-    ensures has_row { IsHonest (state S.Store conn.new) → IfOk result (λ empty. ¬ IsTrue empty → ¬ AllByRecursion (λ sql. (tree : ℕ) → ListsRows sql.now tree → (state S.Store conn.old).now.trees tree ≡ []) queries.now) }
+    ensures empty { IsHonest (state S.Store conn.new) → IfOk result (λ empty. IsTrue empty →
+        AllByRecursion (λ sql. (tree : ℕ) → ListsRows sql.now tree →
+        (state S.Store conn.old).now.trees tree ≡ []) queries.now) }
+    ensures has_row { IsHonest (state S.Store conn.new) → IfOk result (λ empty. ¬ IsTrue empty →
+        ¬ AllByRecursion (λ sql. (tree : ℕ) → ListsRows sql.now tree →
+        (state S.Store conn.old).now.trees tree ≡ []) queries.now) }
     ensures kept { Keeps (state S.Store conn.old) (state S.Store conn.new) }
-    ensures crash { Survives (state S.Store conn.old) (state S.Store conn.new) (λ _. ⊥) }
+    ensures crash { LeavesNoMore (state S.Store conn.old) (state S.Store conn.new) }
 {
     let Some((sql, queries)) = queries.split_first() else {
         return Ok(true);
@@ -164,10 +170,12 @@ fn show_none<S: Alter>(conn: &mut Connection<S>, queries: &[&str]) -> Result<boo
 /// Whether no table has a row.
 pub(crate) fn are_empty<S: Alter>(conn: &mut Connection<S>) -> Result<bool, SqlFault>
     requires { IsOffice (state S.Store conn.old) }
-    ensures empty { IsHonest (state S.Store conn.new) → IfOk result (λ empty. IsTrue empty → AreEmpty (state S.Store conn.old).now.trees) }
-    ensures has_row { IsHonest (state S.Store conn.new) → IfOk result (λ empty. ¬ IsTrue empty → HasRow (state S.Store conn.old).now.trees) }
+    ensures empty { IsHonest (state S.Store conn.new) → IfOk result (λ empty. IsTrue empty →
+        AreEmpty (state S.Store conn.old).now.trees) }
+    ensures has_row { IsHonest (state S.Store conn.new) → IfOk result (λ empty. ¬ IsTrue empty →
+        HasRow (state S.Store conn.old).now.trees) }
     ensures kept { Keeps (state S.Store conn.old) (state S.Store conn.new) }
-    ensures crash { Survives (state S.Store conn.old) (state S.Store conn.new) (λ _. ⊥) }
+    ensures crash { LeavesNoMore (state S.Store conn.old) (state S.Store conn.new) }
 {
     show_none(conn, &LISTINGS)
 }

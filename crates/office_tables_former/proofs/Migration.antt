@@ -357,7 +357,7 @@ stand_anew old new count office it before =
               record { row = d.row; stored = left_anew old.draft new.draft it.draft it.draft_rows (timing_key id k) d.row (any_left_within k d.row d.within) d.stored; stands = d.stands; within = any_left_more k d.row d.within };
           draft_keys = keys_anew old.draft new.draft it.draft it.draft_rows;
           register = subst (λ (t : Content). RegisterStands t office.register) (sym it.others)
-              (record { inspection = stand.register.inspection; work_order = stand.register.work_order; used_part = stand.register.used_part; delivery = stand.register.delivery; part = stand.register.part; part_keys = stand.register.part_keys });
+              (record { inspection = stand.register.inspection; work_order = stand.register.work_order; used_part = stand.register.used_part; delivery = stand.register.delivery; part = stand.register.part });
         };
         sound = record { numbers = sound.numbers; intersections = λ id. intersection_more (get office.intersections id) (sound.intersections id); register = sound.register };
       };

@@ -33,7 +33,7 @@ use Rattle.office_tables_shelf.proofs.TreeLemmas.{ranged_cmp, then_last, number_
 -- ---- how places compare, as their cells do
 
 -- texts of cells compare by their bytes
-text_order : (a b : List ℕ) → cell_cmp (text a) (text b) ≡ slice_cmp nat_cmp a b
+pub text_order : (a b : List ℕ) → cell_cmp (text a) (text b) ≡ slice_cmp nat_cmp a b
 unfolding cell_cmp
 text_order a b = refl
 
@@ -173,7 +173,7 @@ same_clones = entries_from_clone (λ x y. y ≡ x) (λ x y. y ≡ x) (λ x y h. 
 
 -- ---- the records of an intersection
 
-of_number : (id n : ℕ) (cells : List Cell) → is_of id (number (pos n) ∷ cells) ≡ (n == id)
+pub of_number : (id n : ℕ) (cells : List Cell) → is_of id (number (pos n) ∷ cells) ≡ (n == id)
 of_number id n cells = ap is_eq (number_order id n) ∙ same id n
   where
     same : (m k : ℕ) → is_eq (nat_cmp m k) ≡ eqb k m

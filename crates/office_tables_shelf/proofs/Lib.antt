@@ -8,3 +8,5 @@ pub mod RowLemmas
 pub mod CountLemmas
 pub mod KeptLemmas
 pub mod OverdueLemmas
+pub mod StoredMaps
+pub mod KeyCells

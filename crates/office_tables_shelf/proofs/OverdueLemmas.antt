@@ -4,13 +4,13 @@ use Rattle.std.proofs.Math.Seq.{take-append_seam}
 use Rattle.std.specs.List.{cons_option}
 use Rattle.std.proofs.lemmas.List.{take_more, take_all, take-append-drop, length-map}
 use Rattle.std.proofs.lemmas.List.Elements.{filter_map-append}
-use Rattle.cabinet_core.specs.Overdue.{Listed, listed, lateness, overdue_list}
+use Rattle.cabinet_core.specs.Overdue.{Listed, greater, latest_day, listed, lateness, overdue_list}
 use Rattle.cabinet_core.specs.declared.inspections.OverdueRow.{OverdueRow}
 use Rattle.cabinet_core.specs.declared.inspections.Seen.{Seen}
 use Rattle.cabinet_core.specs.declared.record.Inspection.{Inspection}
 use Rattle.office_tables_shelf.specs.CabinetReads.{ListsInspections}
 use Rattle.office_tables_shelf.specs.Content.{Content}
-use Rattle.office_tables_shelf.specs.Overdue.{greater, latest_day, ReadsLast, seen_row, AreSeenOf}
+use Rattle.office_tables_shelf.specs.Overdue.{ReadsLast, seen_row, AreSeenOf}
 use Rattle.office_tables_shelf.specs.declared.rows.IntersectionRow.{IntersectionRow}
 
 -- ---- the latest day

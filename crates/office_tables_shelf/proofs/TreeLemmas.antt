@@ -48,7 +48,7 @@ module _ {K X : Type 0} (R : K → K → Ordering) (key : K → List Cell) (colu
     get_tree es k = get_by key_in columns_in es (key k) ∙ under_key es k
 
     -- the cells are those of a key, or nothing stands under them
-    some_key : (es : List (K × X)) (q : List Cell) → ((k : K) × (q ≡ key k)) ⊎ (first_under key_in columns_in es q ≡ None)
+    pub some_key : (es : List (K × X)) (q : List Cell) → ((k : K) × (q ≡ key k)) ⊎ (first_under key_in columns_in es q ≡ None)
     some_key [] q = inr refl
     some_key (e ∷ es) q = go (cases_Bool (is_under key_in columns_in q e)) (some_key es q)
       where

@@ -1,8 +1,10 @@
 -- What the tables of the office hold, whatever keeps them.
-use Rattle.std.specs.Prelude.{refl}
+use Rattle.std.specs.Prelude.{ℕ, Bool, ◌==◌, cond, List, refl}
 use Rattle.std.specs.Coded.{Coded, code_by, coded×}
-use Rattle.std.specs.FinMap.{empty}
-use Rattle.office_tables_shelf.specs.Cells.{Rows, rows_code}
+use Rattle.std.specs.FinMap.{empty, insert, remove}
+use Rattle.office_tables_shelf.specs.Cells.{Cell, Rows, rows_code}
+use Rattle.office_tables_shelf.specs.declared.rows.Table.{Table}
+use Rattle.office_tables_shelf.specs.declared.rows.Table.TheVariants as table
 
 -- the rows of each table; that of the stored version is no part of it
 pub record Content : Type 0 where
@@ -28,7 +30,55 @@ no_content = record {
   used_part = empty;
 }
 
--- how the logic stores it
+-- ---- one table
+
+abbrev pub rows_at : Content → Table → Rows
+rows_at tables table.Intersection = tables.intersection
+rows_at tables table.Timing = tables.timing
+rows_at tables table.Draft = tables.draft
+rows_at tables table.Inspection = tables.inspection
+rows_at tables table.WorkOrder = tables.work_order
+rows_at tables table.Part = tables.part
+rows_at tables table.Delivery = tables.delivery
+rows_at tables table.UsedPart = tables.used_part
+
+-- its place among the eight
+abbrev pub place_at : Table → ℕ
+place_at table.Intersection = 0
+place_at table.Timing = 1
+place_at table.Draft = 2
+place_at table.Inspection = 3
+place_at table.WorkOrder = 4
+place_at table.Part = 5
+place_at table.Delivery = 6
+place_at table.UsedPart = 7
+
+abbrev pub is_same_table : Table → Table → Bool
+is_same_table t other = place_at t == place_at other
+
+-- it has these rows, and the others stay
+abbrev pub with_rows : Content → Table → Rows → Content
+with_rows tables t rows = record {
+  intersection = cond (is_same_table t table.Intersection) rows tables.intersection;
+  timing = cond (is_same_table t table.Timing) rows tables.timing;
+  draft = cond (is_same_table t table.Draft) rows tables.draft;
+  inspection = cond (is_same_table t table.Inspection) rows tables.inspection;
+  work_order = cond (is_same_table t table.WorkOrder) rows tables.work_order;
+  part = cond (is_same_table t table.Part) rows tables.part;
+  delivery = cond (is_same_table t table.Delivery) rows tables.delivery;
+  used_part = cond (is_same_table t table.UsedPart) rows tables.used_part;
+}
+
+-- a row stands in it
+abbrev pub put_in : Content → Table → List Cell → List Cell → Content
+put_in tables t key columns = with_rows tables t (insert (rows_at tables t) key columns)
+
+-- the row under the key is gone from it
+abbrev pub remove_in : Content → Table → List Cell → Content
+remove_in tables t key = with_rows tables t (remove (rows_at tables t) key)
+
+-- ---- how the logic stores it
+
 abbrev pub content_code : Coded Content
 content_code = code_by (Rows × (Rows × (Rows × (Rows × (Rows × (Rows × (Rows × Rows)))))))
     (coded× rows_code (coded× rows_code (coded× rows_code (coded× rows_code (coded× rows_code (coded× rows_code (coded× rows_code rows_code)))))))

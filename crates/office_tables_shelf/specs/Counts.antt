@@ -1,7 +1,8 @@
 -- How often the rows of each table were written.
-use Rattle.std.specs.Prelude.{ℕ, Bool, true, false, ◌+◌, ◌-◌, ◌^◌, min, cond, List, [], ◌∷◌, refl}
+use Rattle.std.specs.Prelude.{ℕ, ◌+◌, ◌-◌, ◌^◌, min, cond, List, [], ◌∷◌, refl}
 use Rattle.std.specs.Coded.{Coded, code_by, coded×, coded_ℕ}
 use Rattle.office_tables_shelf.specs.Change.{table_of}
+pub use Rattle.office_tables_shelf.specs.Content.{is_same_table}
 use Rattle.office_tables_shelf.specs.declared.counts.WriteCounts.{WriteCounts}
 use Rattle.office_tables_shelf.specs.declared.rows.RowChange.{RowChange}
 use Rattle.office_tables_shelf.specs.declared.rows.Table.{Table}
@@ -39,17 +40,6 @@ count_at counts table.UsedPart = record counts { used_part = counted counts.used
 abbrev pub counts_after : WriteCounts → List RowChange → WriteCounts
 counts_after counts [] = counts
 counts_after counts (change ∷ changes) = counts_after (count_at counts (table_of change)) changes
-
-abbrev pub is_same_table : Table → Table → Bool
-is_same_table table.Intersection table.Intersection = true
-is_same_table table.Timing table.Timing = true
-is_same_table table.Draft table.Draft = true
-is_same_table table.Inspection table.Inspection = true
-is_same_table table.WorkOrder table.WorkOrder = true
-is_same_table table.Part table.Part = true
-is_same_table table.Delivery table.Delivery = true
-is_same_table table.UsedPart table.UsedPart = true
-is_same_table _ _ = false
 
 -- how many of the changes write a table
 abbrev pub writes_in : Table → List RowChange → ℕ

@@ -10,7 +10,6 @@ pub mod MapCabinet
 pub mod MapShelf
 pub mod CabinetReads
 pub mod Overdue
-pub mod Register
 pub mod RegisterStands
 pub mod Office
 pub mod StandFor

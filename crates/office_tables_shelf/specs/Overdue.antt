@@ -1,6 +1,6 @@
 -- The intersections that are overdue on a day, as the tables hold them.
-use Rattle.std.specs.Prelude.{◌≡◌, ℕ, List, [], ◌∷◌, map, take, Option, Some, None, max}
-use Rattle.cabinet_core.specs.Overdue.{listed, overdue_list}
+use Rattle.std.specs.Prelude.{◌≡◌, ℕ, List, [], ◌∷◌, map, take, Option}
+use Rattle.cabinet_core.specs.Overdue.{latest_day, listed, overdue_list}
 use Rattle.cabinet_core.specs.declared.inspections.OverdueRow.{OverdueRow}
 use Rattle.cabinet_core.specs.declared.inspections.Seen.{Seen}
 use Rattle.cabinet_core.specs.declared.record.Inspection.{Inspection}
@@ -8,22 +8,6 @@ use Rattle.office_tables_shelf.specs.CabinetReads.{ListsInspections}
 use Rattle.office_tables_shelf.specs.Content.{Content}
 use Rattle.office_tables_shelf.specs.Shelf.{ListsIntersections}
 use Rattle.office_tables_shelf.specs.declared.rows.IntersectionRow.{IntersectionRow}
-
--- ---- the latest day
-
--- the greater of a number and what there is besides
-abbrev pub greater : ℕ → Option ℕ → ℕ
-greater n None = n
-greater n (Some m) = max n m
-
--- the greatest of some numbers
-abbrev pub greatest : List ℕ → Option ℕ
-greatest [] = None
-greatest (n ∷ ns) = Some (greater n (greatest ns))
-
--- the latest day of some inspections, whatever their numbers
-abbrev pub latest_day : List Inspection → Option ℕ
-latest_day inspections = greatest (map (λ (inspection : Inspection). inspection.day) inspections)
 
 -- what the tables hold of the intersection's inspections are inspections, and this is the latest day of them
 pub record ReadsLast (tables : Content) (id : ℕ) (last : Option ℕ) : Type 0 where

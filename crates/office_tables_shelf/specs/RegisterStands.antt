@@ -1,24 +1,33 @@
 -- Which register the tables stand for.
-use Rattle.std.specs.Prelude.{◌≡◌, ℕ, List, Some}
-use Rattle.std.specs.Option.{option_map}
-use Rattle.std.specs.FinMap.{get}
-use Rattle.office_tables_shelf.specs.Cells.{Cell}
+use Rattle.std.specs.Prelude.{◌≡◌, List}
+use Rattle.std.specs.FinMap.{entries}
+use Rattle.cabinet_core.specs.Register.{Register, RecordKey, LineKey, DeliveryKey}
+use Rattle.cabinet_core.specs.Sound.{IsSoundRegister}
+use Rattle.cabinet_core.specs.Stock.{stock_of}
+use Rattle.office_tables_shelf.specs.Cells.{Cell, tree_rows}
 use Rattle.office_tables_shelf.specs.Content.{Content}
-use Rattle.office_tables_shelf.specs.CabinetRows.{inspection_columns, order_columns, used_columns, delivery_columns, part_key, part_columns}
-use Rattle.office_tables_shelf.specs.Register.{Register, IsSoundRegister, hand_of}
+use Rattle.office_tables_shelf.specs.CabinetRows.{inspection_key, inspection_columns, order_key, order_columns, used_key, used_columns, delivery_key, delivery_columns, part_key, part_columns}
 
--- the cells are the key of a part's row
-abbrev pub IsPartKey : List Cell → Type 0
-IsPartKey cells = (code : List ℕ) × (cells ≡ part_key code)
+-- the cells of the register's keys
+abbrev pub inspection_cells : RecordKey → List Cell
+inspection_cells key = inspection_key key.0 key.1
+
+abbrev pub order_cells : RecordKey → List Cell
+order_cells key = order_key key.0 key.1
+
+abbrev pub line_cells : LineKey → List Cell
+line_cells key = used_key key.0 key.1.0 key.1.1
+
+abbrev pub delivery_cells : DeliveryKey → List Cell
+delivery_cells key = delivery_key key.0 key.1
 
 -- the tables hold the records of the register, and no others; each part that was delivered, and no other, has a row with what is on hand
 pub record RegisterStands (tables : Content) (r : Register) : Type 0 where
-  pub inspection : (key : List Cell) → get tables.inspection key ≡ option_map inspection_columns (get r.inspections key)
-  pub work_order : (key : List Cell) → get tables.work_order key ≡ option_map order_columns (get r.orders key)
-  pub used_part : (key : List Cell) → get tables.used_part key ≡ option_map used_columns (get r.lines key)
-  pub delivery : (key : List Cell) → get tables.delivery key ≡ option_map delivery_columns (get r.deliveries key)
-  pub part : (code : List ℕ) → get tables.part (part_key code) ≡ option_map part_columns (hand_of r code)
-  pub part_keys : (key columns : List Cell) → get tables.part key ≡ Some columns → IsPartKey key
+  pub inspection : tables.inspection ≡ tree_rows inspection_cells inspection_columns (entries r.inspections)
+  pub work_order : tables.work_order ≡ tree_rows order_cells order_columns (entries r.orders)
+  pub used_part : tables.used_part ≡ tree_rows line_cells used_columns (entries r.lines)
+  pub delivery : tables.delivery ≡ tree_rows delivery_cells delivery_columns (entries r.deliveries)
+  pub part : tables.part ≡ tree_rows part_key part_columns (stock_of r)
 
 -- the tables stand for a sound register
 pub record RegisterStandsSound (tables : Content) (r : Register) : Type 0 where

@@ -1,8 +1,8 @@
 //! Rows of intersections that are overdue for an inspection.
 
 ghost use Rattle.std.specs.Prelude.{◌≡◌, [], ◌∷◌, ◌++◌, map, OnOk};
-ghost use Rattle.cabinet_core.specs.Overdue.{listed, overdue_list};
-ghost use Rattle.office_tables_shelf.specs.Overdue.{greater, latest_day, seen_row};
+ghost use Rattle.cabinet_core.specs.Overdue.{greater, latest_day, listed, overdue_list};
+ghost use Rattle.office_tables_shelf.specs.Overdue.{seen_row};
 
 use crate::rows::IntersectionRow;
 use cabinet_core::{Day, Inspection, OverdueRow, Seen, overdue_row};

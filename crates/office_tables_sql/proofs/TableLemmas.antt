@@ -1,5 +1,6 @@
 -- What is known of each table by computation on the schema.
-use Rattle.std.proofs.Common.{◌≡◌, ◌≢◌, ◌⊎◌, inl, inr, ℕ, true, false, [], ◌∷◌, slice_get, None, Some, refl, sym, ap, ◌∙◌}
+use Rattle.std.proofs.Common.{◌≡◌, ◌≢◌, ◌⊎◌, inl, inr, ℕ, ◌+◌, ◌/◌, true, false, true≢false, cond, [], ◌∷◌, slice_get, unwrap_or, None, Some, refl, sym, ap, subst, ◌∙◌, eq-eqb}
+use Rattle.std.proofs.lemmas.Bool.{cases_Bool, eqb-true}
 use Rattle.std.specs.List.{AllByRecursion, list_all}
 use Rattle.sqlite.specs.Order.{Row}
 use Rattle.sqlite.specs.Term.{holds}
@@ -11,6 +12,7 @@ use Rattle.sqlite_schema.specs.Rules.{guards}
 use Rattle.sqlite_schema.specs.declared.schema.Index.{Index}
 use Rattle.sqlite_value.specs.Keys.{plain}
 use Rattle.office_tables_shelf.specs.Cells.{Rows}
+use Rattle.office_tables_shelf.specs.Content.{Content, is_same_table}
 use Rattle.office_tables_shelf.specs.declared.rows.Table.{Table}
 use Rattle.office_tables_shelf.specs.declared.rows.Table.TheVariants as table
 use Rattle.office_tables_sql.specs.Schema.{office_schema}
@@ -112,6 +114,25 @@ facts table.Part = record { key = inr (record { keyless = refl; sound = refl; in
 facts table.Delivery = record { key = inr (record { keyless = refl; sound = refl; index = _; has = inr (inr (inr (inr (inr (inl refl))))); guard = refl; order = refl; columns = refl }); paired = tt; first = λ id row h. refl }
 facts table.UsedPart = record { key = inr (record { keyless = refl; sound = refl; index = _; has = inr (inr (inr (inr (inr (inr (inl refl)))))); guard = refl; order = refl; columns = refl }); paired = tt; first = λ id. first_is id (2 ∷ 3 ∷ []) }
 
+-- ---- the table at a place
+
+table_at : ℕ → Table
+table_at n = unwrap_or (slice_get (table.Intersection ∷ table.Timing ∷ table.Draft ∷ table.Inspection ∷ table.WorkOrder ∷ table.Part ∷ table.Delivery ∷ table.UsedPart ∷ []) n) table.Intersection
+
+at_place : (t : Table) → table_at (place_at t) ≡ t
+unfolding table_at
+at_place table.Intersection = refl
+at_place table.Timing = refl
+at_place table.Draft = refl
+at_place table.Inspection = refl
+at_place table.WorkOrder = refl
+at_place table.Part = refl
+at_place table.Delivery = refl
+at_place table.UsedPart = refl
+
+same_table : (t other : Table) → is_same_table t other ≡ true → t ≡ other
+same_table t other same = sym (at_place t) ∙ ap table_at (eqb-true (place_at t) (place_at other) same) ∙ at_place other
+
 -- ---- what a query shows
 
 pub listing_of : (t : Table) → IsListing (layout_at t) (filter_of t) (key_shown t) (columns_shown t)
@@ -136,27 +157,61 @@ rows_in_tree table.Part trees = refl
 rows_in_tree table.Delivery trees = refl
 rows_in_tree table.UsedPart trees = refl
 
+-- what holds the same rows table by table is the same
+pub same_content : (a b : Content) → ((t : Table) → rows_at a t ≡ rows_at b t) → a ≡ b
+same_content a b same = λ i. record {
+  intersection = same table.Intersection i;
+  timing = same table.Timing i;
+  draft = same table.Draft i;
+  inspection = same table.Inspection i;
+  work_order = same table.WorkOrder i;
+  part = same table.Part i;
+  delivery = same table.Delivery i;
+  used_part = same table.UsedPart i;
+}
+
+rows_with : (tables : Content) (t : Table) (rows : Rows) (other : Table) → rows_at (with_rows tables t rows) other ≡ cond (is_same_table t other) rows (rows_at tables other)
+rows_with tables t rows table.Intersection = refl
+rows_with tables t rows table.Timing = refl
+rows_with tables t rows table.Draft = refl
+rows_with tables t rows table.Inspection = refl
+rows_with tables t rows table.WorkOrder = refl
+rows_with tables t rows table.Part = refl
+rows_with tables t rows table.Delivery = refl
+rows_with tables t rows table.UsedPart = refl
+
+-- the place of a table from its number
+placed : (t : Table) → ((schema_at t).tree + 1) / 2 ≡ place_at t
+placed table.Intersection = refl
+placed table.Timing = refl
+placed table.Draft = refl
+placed table.Inspection = refl
+placed table.WorkOrder = refl
+placed table.Part = refl
+placed table.Delivery = refl
+placed table.UsedPart = refl
+
+-- the trees of the tables but the one with this number are as they were
+module _ (old new : Trees) (tree : ℕ) (others : AllByRecursion (λ x. x.tree ≢ tree → new x.tree ≡ old x.tree) office_schema.tables) where
+  stays : (t : Table) → (schema_at t).tree ≢ tree → rows_at (content_of new) t ≡ rows_at (content_of old) t
+  stays t apart =
+      let same = all_has (λ x. x.tree ≢ tree → new x.tree ≡ old x.tree) office_schema.tables (schema_at t) others (is_listed t) apart in
+      let at = same_tree t in
+      rows_in_tree t new ∙ ap (λ n. rows_in (layout_at t) (new n)) at ∙ ap (rows_in (layout_at t)) same ∙ ap (λ n. rows_in (layout_at t) (old n)) (sym at) ∙ sym (rows_in_tree t old)
+
+  -- it is none of the eight
+  pub none_in : ((t : Table) → (schema_at t).tree ≢ tree) → content_of new ≡ content_of old
+  none_in apart = same_content (content_of new) (content_of old) (λ t. stays t (apart t))
+
 -- one table has these rows, and the others are as they were
-module _ (old new : Trees) where
-  abbrev Same : Table → Type 0
-  Same t = rows_at (content_of new) t ≡ rows_at (content_of old) t
+pub only_in : (old new : Trees) (t : Table) (rows : Rows) → AllByRecursion (λ x. x.tree ≢ (schema_at t).tree → new x.tree ≡ old x.tree) office_schema.tables → rows_in (layout_at t) (new (schema_at t).tree) ≡ rows
+    → content_of new ≡ with_rows (content_of old) t rows
+only_in old new t rows others is =
+    same_content (content_of new) (with_rows (content_of old) t rows) (λ other. go other (cases_Bool (is_same_table t other)) ∙ sym (rows_with (content_of old) t rows other))
+  where
+    here : rows_at (content_of new) t ≡ rows
+    here = rows_in_tree t new ∙ ap (λ n. rows_in (layout_at t) (new n)) (same_tree t) ∙ is
 
-  stays : (t other : Table) → ((schema_at other).tree ≢ (schema_at t).tree) → AllByRecursion (λ x. x.tree ≢ (schema_at t).tree → new x.tree ≡ old x.tree) office_schema.tables → Same other
-  stays t other apart others =
-      let same = all_has (λ x. x.tree ≢ (schema_at t).tree → new x.tree ≡ old x.tree) office_schema.tables (schema_at other) others (is_listed other) apart in
-      let tree = same_tree other in
-      rows_in_tree other new ∙ ap (λ n. rows_in (layout_at other) (new n)) tree ∙ ap (rows_in (layout_at other)) same ∙ ap (λ n. rows_in (layout_at other) (old n)) (sym tree) ∙ sym (rows_in_tree other old)
-
-  pub only_in : (t : Table) (rows : Rows) → AllByRecursion (λ x. x.tree ≢ (schema_at t).tree → new x.tree ≡ old x.tree) office_schema.tables → rows_in (layout_at t) (new (schema_at t).tree) ≡ rows
-      → content_of new ≡ with_rows (content_of old) t rows
-  only_in t rows others is = go t (λ other apart. stays t other apart others) (rows_in_tree t new ∙ ap (λ n. rows_in (layout_at t) (new n)) (same_tree t) ∙ is)
-    where
-      go : (t : Table) → ((other : Table) → ((schema_at other).tree ≢ (schema_at t).tree) → Same other) → rows_at (content_of new) t ≡ rows → content_of new ≡ with_rows (content_of old) t rows
-      go table.Intersection o is = λ i. record { intersection = is i; timing = o table.Timing (λ e. cc) i; draft = o table.Draft (λ e. cc) i; inspection = o table.Inspection (λ e. cc) i; work_order = o table.WorkOrder (λ e. cc) i; part = o table.Part (λ e. cc) i; delivery = o table.Delivery (λ e. cc) i; used_part = o table.UsedPart (λ e. cc) i }
-      go table.Timing o is = λ i. record { intersection = o table.Intersection (λ e. cc) i; timing = is i; draft = o table.Draft (λ e. cc) i; inspection = o table.Inspection (λ e. cc) i; work_order = o table.WorkOrder (λ e. cc) i; part = o table.Part (λ e. cc) i; delivery = o table.Delivery (λ e. cc) i; used_part = o table.UsedPart (λ e. cc) i }
-      go table.Draft o is = λ i. record { intersection = o table.Intersection (λ e. cc) i; timing = o table.Timing (λ e. cc) i; draft = is i; inspection = o table.Inspection (λ e. cc) i; work_order = o table.WorkOrder (λ e. cc) i; part = o table.Part (λ e. cc) i; delivery = o table.Delivery (λ e. cc) i; used_part = o table.UsedPart (λ e. cc) i }
-      go table.Inspection o is = λ i. record { intersection = o table.Intersection (λ e. cc) i; timing = o table.Timing (λ e. cc) i; draft = o table.Draft (λ e. cc) i; inspection = is i; work_order = o table.WorkOrder (λ e. cc) i; part = o table.Part (λ e. cc) i; delivery = o table.Delivery (λ e. cc) i; used_part = o table.UsedPart (λ e. cc) i }
-      go table.WorkOrder o is = λ i. record { intersection = o table.Intersection (λ e. cc) i; timing = o table.Timing (λ e. cc) i; draft = o table.Draft (λ e. cc) i; inspection = o table.Inspection (λ e. cc) i; work_order = is i; part = o table.Part (λ e. cc) i; delivery = o table.Delivery (λ e. cc) i; used_part = o table.UsedPart (λ e. cc) i }
-      go table.Part o is = λ i. record { intersection = o table.Intersection (λ e. cc) i; timing = o table.Timing (λ e. cc) i; draft = o table.Draft (λ e. cc) i; inspection = o table.Inspection (λ e. cc) i; work_order = o table.WorkOrder (λ e. cc) i; part = is i; delivery = o table.Delivery (λ e. cc) i; used_part = o table.UsedPart (λ e. cc) i }
-      go table.Delivery o is = λ i. record { intersection = o table.Intersection (λ e. cc) i; timing = o table.Timing (λ e. cc) i; draft = o table.Draft (λ e. cc) i; inspection = o table.Inspection (λ e. cc) i; work_order = o table.WorkOrder (λ e. cc) i; part = o table.Part (λ e. cc) i; delivery = is i; used_part = o table.UsedPart (λ e. cc) i }
-      go table.UsedPart o is = λ i. record { intersection = o table.Intersection (λ e. cc) i; timing = o table.Timing (λ e. cc) i; draft = o table.Draft (λ e. cc) i; inspection = o table.Inspection (λ e. cc) i; work_order = o table.WorkOrder (λ e. cc) i; part = o table.Part (λ e. cc) i; delivery = o table.Delivery (λ e. cc) i; used_part = is i }
+    go : (other : Table) → (is_same_table t other ≡ true) ⊎ (is_same_table t other ≡ false) → rows_at (content_of new) other ≡ cond (is_same_table t other) rows (rows_at (content_of old) other)
+    go other (inl same) = rw same (subst (λ u. rows_at (content_of new) u ≡ rows) (same_table t other same) here)
+    go other (inr apart) = rw apart (stays old new (schema_at t).tree others other (λ e. true≢false (sym (eq-eqb _ _ (sym (placed t) ∙ ap (λ n. (n + 1) / 2) (sym e) ∙ placed other)) ∙ apart)))

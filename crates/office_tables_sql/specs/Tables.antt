@@ -30,6 +30,7 @@ use Rattle.signal_records.specs.Key.{kind_of, first_of, second_of}
 use Rattle.signal_records.specs.declared.key.Key.{Key}
 use Rattle.office_tables_shelf.specs.Cells.{Cell, Rows, cells_cmp, null, number, text, odd}
 use Rattle.office_tables_shelf.specs.Content.{Content}
+pub use Rattle.office_tables_shelf.specs.Content.{rows_at, place_at, with_rows, put_in, remove_in}
 use Rattle.office_tables_shelf.specs.Shelf.{is_of}
 use Rattle.office_tables_shelf.specs.declared.rows.Table.{Table}
 use Rattle.office_tables_shelf.specs.declared.rows.Table.TheVariants as table
@@ -41,26 +42,6 @@ use Rattle.office_tables_sql.specs.Schema.{office_schema}
 use Rattle.office_tables_sql.specs.Stored.{cells_at, are_sound}
 
 -- ---- where each table is
-
-abbrev pub rows_at : Content → Table → Rows
-rows_at tables table.Intersection = tables.intersection
-rows_at tables table.Timing = tables.timing
-rows_at tables table.Draft = tables.draft
-rows_at tables table.Inspection = tables.inspection
-rows_at tables table.WorkOrder = tables.work_order
-rows_at tables table.Part = tables.part
-rows_at tables table.Delivery = tables.delivery
-rows_at tables table.UsedPart = tables.used_part
-
-abbrev pub with_rows : Content → Table → Rows → Content
-with_rows tables table.Intersection rows = record tables { intersection = rows }
-with_rows tables table.Timing rows = record tables { timing = rows }
-with_rows tables table.Draft rows = record tables { draft = rows }
-with_rows tables table.Inspection rows = record tables { inspection = rows }
-with_rows tables table.WorkOrder rows = record tables { work_order = rows }
-with_rows tables table.Part rows = record tables { part = rows }
-with_rows tables table.Delivery rows = record tables { delivery = rows }
-with_rows tables table.UsedPart rows = record tables { used_part = rows }
 
 abbrev pub layout_at : Table → Layout
 layout_at table.Intersection = layout.intersection
@@ -81,17 +62,6 @@ schema_at table.WorkOrder = schema.work_order_table
 schema_at table.Part = schema.part_table
 schema_at table.Delivery = schema.delivery_table
 schema_at table.UsedPart = schema.used_part_table
-
--- its place in the schema
-abbrev pub place_at : Table → ℕ
-place_at table.Intersection = 0
-place_at table.Timing = 1
-place_at table.Draft = 2
-place_at table.Inspection = 3
-place_at table.WorkOrder = 4
-place_at table.Part = 5
-place_at table.Delivery = 6
-place_at table.UsedPart = 7
 
 -- it has a PRIMARY KEY of its own, and does not keep its key as the rowid
 abbrev pub is_keyed : Table → Bool
@@ -191,14 +161,6 @@ pub record IsUnder (t : Table) (tables : Content) (key : List Cell) (found : Opt
   pub stored : option_map (columns_shown t) found ≡ get (rows_at tables t) key
   pub keyed : IfSome found (λ row. key_shown t row ≡ key)
   pub wide : IfSome found (λ row. length row ≡ width_of t)
-
--- the row stands in the table
-abbrev pub put_in : Content → Table → List Cell → List Cell → Content
-put_in tables t key columns = with_rows tables t (insert (rows_at tables t) key columns)
-
--- the row under the key is gone
-abbrev pub remove_in : Content → Table → List Cell → Content
-remove_in tables t key = with_rows tables t (remove (rows_at tables t) key)
 
 -- ---- the statements
 

@@ -1,6 +1,27 @@
-//! What the programs that try the office on hostile use have in common.
+//! What is tried with the office beside the worked rows: hostile use, files that stop, and calls
+//! that no row makes.
 #![tactic(auto)]
 
-pub mod script;
-pub mod talking;
+mod below;
+pub mod calls;
+mod cuts;
+mod damaged;
+mod database;
+mod ends;
+mod files;
+pub mod hostile;
+mod long;
+pub mod memory;
+mod migrating;
+mod more;
+mod refusing;
+mod running;
+mod script;
+mod state;
+pub mod stops;
+mod sweep;
+mod talk;
+mod talking;
 pub mod trouble;
+mod waits;
+mod writes;

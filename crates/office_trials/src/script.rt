@@ -1,7 +1,7 @@
 //! Requests that are sent again and again, and what must be answered.
 
 /// A request by its method, path and body, and the status and the body of its answer.
-pub type Line = (&'static str, &'static str, &'static str);
+pub(crate) type Line = (&'static str, &'static str, &'static str);
 
 const OK: &str = "200 OK";
 
@@ -48,7 +48,7 @@ const TOO_MUCH: &str = "POST /import {\"csv\":\"\
 
 /// An intersection is added and shown; a plan comes in, is checked and is committed; records come
 /// in, come again, and some are refused as a whole.
-pub const COMMANDS: [Line; 12] = [
+pub(crate) const COMMANDS: [Line; 12] = [
     (ADD, OK, r#"{"result":"added"}"#),
     (STATE, OK, NEW),
     (BEGIN, OK, BEGUN),
@@ -86,7 +86,7 @@ const NEW: &str =
 const BEGUN: &str = r#"{"revision":0,"state":"transaction","verify":"notDone"}"#;
 
 /// The queries that show all that an office with intersection 12 holds.
-pub const QUERIES: [&str; 7] = [
+pub(crate) const QUERIES: [&str; 7] = [
     "/intersections/12",
     "/intersections/12/timing",
     "/intersections/12/draft",
@@ -97,14 +97,14 @@ pub const QUERIES: [&str; 7] = [
 ];
 
 /// Adds intersection 12, asks for it, and begins a transaction: requests of 93, 34 and 76 bytes.
-pub const STREAM: &[u8; 203] = b"POST /intersections HTTP/1.1\r\nContent-Length: 41\r\n\r\n\
+pub(crate) const STREAM: &[u8; 203] = b"POST /intersections HTTP/1.1\r\nContent-Length: 41\r\n\r\n\
     {\"id\":12,\"interval\":365,\"name\":\"Main St\"}\
     GET /intersections/12 HTTP/1.1\r\n\r\n\
     POST /intersections/12/begin HTTP/1.1\r\nContent-Length: 15\r\n\r\n\
     {\"clerk\":\"Ana\"}";
 
 /// Its answers, of 89, 184 and 126 bytes.
-pub const ANSWERS: &[u8; 399] =
+pub(crate) const ANSWERS: &[u8; 399] =
     b"HTTP/1.1 200 OK\r\nContent-Type: application/json\r\nContent-Length: 18\r\n\r\n\
     {\"result\":\"added\"}\
     HTTP/1.1 200 OK\r\nContent-Type: application/json\r\nContent-Length: 112\r\n\r\n\
@@ -114,12 +114,12 @@ pub const ANSWERS: &[u8; 399] =
     {\"revision\":0,\"state\":\"transaction\",\"verify\":\"notDone\"}";
 
 /// The answer to what could not be done.
-pub const UNAVAILABLE: &[u8] =
+pub(crate) const UNAVAILABLE: &[u8] =
     b"HTTP/1.1 503 Service Unavailable\r\nContent-Type: application/json\r\n\
     Content-Length: 35\r\n\r\n\
     {\"error\":\"Unavailable\",\"number\":90}";
 
 /// The answer where there is no such intersection.
-pub const UNKNOWN: &[u8] = b"HTTP/1.1 404 Not Found\r\nContent-Type: application/json\r\n\
+pub(crate) const UNKNOWN: &[u8] = b"HTTP/1.1 404 Not Found\r\nContent-Type: application/json\r\n\
     Content-Length: 43\r\n\r\n\
     {\"error\":\"UnknownIntersection\",\"number\":10}";

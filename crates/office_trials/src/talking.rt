@@ -1,6 +1,6 @@
 //! Requests sent to an office, and what it shows.
 
-use crate::script::{Line, QUERIES, UNAVAILABLE};
+use crate::script::{Line, UNAVAILABLE};
 use crate::trouble::{Trouble, compare};
 use office_desk::office::Office;
 use office_http::{FromRead, Served, ToWrite, serve};
@@ -11,23 +11,26 @@ use std::alloc::{AllocError, Global};
 const STREAM_LIMIT: u32 = 10_000;
 
 /// A method, a path and a body.
-pub type Words<'a> = (&'a str, &'a str, &'a str);
+pub(crate) type Words<'a> = (&'a str, &'a str, &'a str);
 
 /// The method, the path and the body of a line's request.
-fn words(line: &Line) -> Words<'static> {
+pub(crate) fn words(line: &Line) -> Words<'static> {
     let (method, rest) = line.0.split_once(' ').unwrap_or((line.0, ""));
     let (path, body) = rest.split_once(' ').unwrap_or((rest, ""));
     (method, path, body)
 }
 
 /// The bytes of a request.
-pub fn request_bytes(alloc: Global, (method, path, body): Words<'_>) -> Result<String, AllocError> {
+pub(crate) fn request_bytes(
+    alloc: Global,
+    (method, path, body): Words<'_>,
+) -> Result<String, AllocError> {
     let length = body.len();
     format!(in alloc; "{method} {path} HTTP/1.1\r\nContent-Length: {length}\r\n\r\n{body}")
 }
 
 /// An answer with its head.
-pub fn told_answer(alloc: Global, status: &str, body: &str) -> Result<String, AllocError> {
+pub(crate) fn told_answer(alloc: Global, status: &str, body: &str) -> Result<String, AllocError> {
     let length = body.len();
     format!(in alloc;
         "HTTP/1.1 {status}\r\nContent-Type: application/json\r\n\
@@ -36,7 +39,7 @@ pub fn told_answer(alloc: Global, status: &str, body: &str) -> Result<String, Al
 }
 
 /// The answers to a stream, and how many requests were dealt with.
-pub fn serve_all<S: Shelf>(
+pub(crate) fn serve_all<S: Shelf>(
     alloc: Global,
     office: &mut Office<S>,
     bytes: &[u8],
@@ -50,7 +53,7 @@ pub fn serve_all<S: Shelf>(
 }
 
 /// The answer to one request.
-pub fn answer<S: Shelf>(
+pub(crate) fn answer<S: Shelf>(
     alloc: Global,
     office: &mut Office<S>,
     words: Words<'_>,
@@ -62,7 +65,7 @@ pub fn answer<S: Shelf>(
 
 /// Sends what a line asks. It is answered as the line tells, or is unavailable; tells whether it
 /// was done.
-pub fn is_done<S: Shelf>(
+pub(crate) fn is_done<S: Shelf>(
     alloc: Global,
     office: &mut Office<S>,
     line: &Line,
@@ -74,14 +77,4 @@ pub fn is_done<S: Shelf>(
     }
     compare(alloc, line.0, told.as_bytes(), &came)?;
     Ok(true)
-}
-
-/// All that an office shows of intersection 12, of the stock and of what is overdue.
-pub fn shown<S: Shelf>(alloc: Global, office: &mut Office<S>) -> Result<Vec<u8>, Trouble> {
-    let mut seen = Vec::new(alloc);
-    for path in QUERIES {
-        let answer = answer(alloc, office, ("GET", path, ""))?;
-        seen.extend_from_slice(&answer)?;
-    }
-    Ok(seen)
 }

@@ -12,6 +12,8 @@ pub enum Trouble {
         wanted: String,
         came: String,
     },
+    /// What must hold does not.
+    Untrue(&'static str),
     /// A step that prepares a trial was refused.
     Unprepared(&'static str),
     /// A growth was refused.
@@ -22,7 +24,7 @@ pub enum Trouble {
 
 impl Trouble {
     /// Something else came.
-    pub fn wrong(alloc: Global, what: &'static str, wanted: &[u8], came: &[u8]) -> Trouble {
+    pub(crate) fn wrong(alloc: Global, what: &'static str, wanted: &[u8], came: &[u8]) -> Trouble {
         let Ok(wanted) = String::from_utf8_lossy(alloc, wanted) else {
             return Trouble::NoMemory;
         };
@@ -34,7 +36,7 @@ impl Trouble {
 }
 
 /// Compares what came with what must come.
-pub fn compare(
+pub(crate) fn compare(
     alloc: Global,
     what: &'static str,
     wanted: &[u8],
@@ -44,6 +46,14 @@ pub fn compare(
         return Ok(());
     }
     Err(Trouble::wrong(alloc, what, wanted, came))
+}
+
+/// What must hold does.
+pub(crate) fn holds(is_so: bool, what: &'static str) -> Result<(), Trouble> {
+    if is_so {
+        return Ok(());
+    }
+    Err(Trouble::Untrue(what))
 }
 
 impl From<AllocError> for Trouble {
@@ -64,6 +74,7 @@ impl fmt::Display for Trouble {
             Trouble::Wrong { what, wanted, came } => {
                 write!(f, "{what}: wanted {wanted:?}, came {came:?}")
             }
+            Trouble::Untrue(what) => write!(f, "{what}: not as it must be"),
             Trouble::Unprepared(what) => write!(f, "{what} was refused"),
             Trouble::NoMemory => f.write_str("no memory"),
             Trouble::Output(error) => write!(f, "the output failed: {error}"),

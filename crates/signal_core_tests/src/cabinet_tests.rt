@@ -1,6 +1,6 @@
 use crate::spelling::words;
 use cabinet_core::*;
-use signal_records::{Amount, InterId, Interval, LineNo, RecordNo};
+use signal_records::{Amount, LineNo, RecordNo};
 use std::alloc::Global;
 use std::test::Fail;
 
@@ -206,32 +206,5 @@ fn days_are_read_and_written(rt: HostRuntime) -> Result<(), Fail> {
         assert!(rt; read_day(text.as_bytes()).is_none(), "{text}");
     }
     assert!(rt; Day::new(84_006).is_none());
-    Ok(())
-}
-
-/// What is known of an intersection that is inspected once a year.
-fn seen(alloc: Global, id: u32, name: &str, last: Option<Day>) -> Result<Seen, Fail> {
-    Ok(Seen {
-        id: InterId::new(id).ok_or("an intersection")?,
-        name: words(alloc, name)?,
-        interval: Interval::new(365).ok_or("a year")?,
-        last,
-    })
-}
-
-/// One was never inspected, the other last on 2026-03-01, so that it falls due a year later.
-#[test]
-fn who_is_overdue_is_listed(rt: HostRuntime) -> Result<(), Fail> {
-    let alloc = rt.alloc();
-    let year = Interval::new(365).ok_or("a year")?;
-    let last = day("2026-03-01")?;
-    assert_eq!(rt; due(last, year), day("2027-03-01")?.date());
-    let rows = vec![in alloc;
-        seen(alloc, 7, "Elm", None)?,
-        seen(alloc, 12, "Main St", Some(last))?,
-    ]?;
-    let on_the_day = overdue(alloc, day("2027-03-01")?, &rows)?;
-    assert!(rt; matches!(on_the_day.as_slice(), [elm] if elm.id.get() == 7 && elm.due.is_none()));
-    assert_eq!(rt; overdue(alloc, day("2027-03-02")?, &rows)?.len(), 2);
     Ok(())
 }

@@ -9,21 +9,20 @@ pub(crate) const PLAN: &str = "phase,2,1,8,20,40,40,15,6,7,12,490,60,0,0;phase,4
     phase,6,2,8,20,40,40,15,2;phase,8,2,8,20,40,40,15,4;seq,1,1,2 4;seq,1,2,6 8;\
     split,1,2,35,2,1;split,1,4,25,2,0;split,1,6,35,2,1;split,1,8,25,2,0;pattern,1,60,0,1,1";
 
-/// The fields of a record, which stand between commas.
-pub(crate) fn fields<'a>(alloc: Global, record: &'a [u8]) -> Result<Vec<&'a [u8]>, Fail> {
+/// The change of a record, whose fields stand between commas.
+fn change(alloc: Global, record: &str) -> Result<Change, Fail> {
     let mut fields = Vec::new(alloc);
-    for field in record.split(|b| *b == b',') {
-        fields.push(field)?;
+    for field in record.split(',') {
+        fields.push(field.as_bytes())?;
     }
-    Ok(fields)
+    Ok(read_change(alloc, &fields).ok().ok_or("a change")?)
 }
 
 /// The changes of a text, which stand between semicolons.
 pub(crate) fn changes(alloc: Global, text: &str) -> Result<Vec<Change>, Fail> {
     let mut changes = Vec::new(alloc);
-    for record in text.as_bytes().split(|b| *b == b';') {
-        let change = read_change(alloc, &fields(alloc, record)?);
-        changes.push(change.ok().ok_or("a change")?)?;
+    for record in text.split(';') {
+        changes.push(change(alloc, record)?)?;
     }
     Ok(changes)
 }

@@ -5,7 +5,7 @@ use Rattle.sqlite.specs.Steps.{over_memory}
 use Rattle.sqlite_trees.specs.declared.memory.MemStore.{MemStore}
 use Rattle.office_tables.specs.SqlShelf.{SqlView}
 use Rattle.office_tables.specs.Stored.{content_now}
-use Rattle.office_desk_cabinet.specs.Register.{no_register}
+use Rattle.cabinet_core.specs.Register.{no_register}
 use Rattle.office_desk.specs.Office.{Office}
 use Rattle.office_desk.specs.StandFor.{StandForSound}
 

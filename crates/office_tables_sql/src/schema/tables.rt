@@ -4,32 +4,48 @@ use crate::schema::parts::{WantedCheck, WantedColumn, WantedKey, WantedReference
 use sqlite_schema::schema::Kind;
 use sqlite_sql::ops::CompareOp;
 
-pub(crate) const INTERSECTION: &str =
-    "CREATE TABLE intersection (id INTEGER PRIMARY KEY, name TEXT NOT NULL, days INTEGER NOT NULL, revision INTEGER NOT NULL, state INTEGER NOT NULL, owner TEXT) STRICT";
+pub(crate) const INTERSECTION: &str = "\
+    CREATE TABLE intersection (id INTEGER PRIMARY KEY, name TEXT NOT NULL, \
+    days INTEGER NOT NULL, revision INTEGER NOT NULL, state INTEGER NOT NULL, owner TEXT) \
+    STRICT";
 
-pub(crate) const TIMING: &str =
-    "CREATE TABLE timing (inter INTEGER NOT NULL REFERENCES intersection, kind INTEGER NOT NULL, a INTEGER NOT NULL, b INTEGER NOT NULL, body TEXT NOT NULL, PRIMARY KEY (inter, kind, a, b)) STRICT";
+pub(crate) const TIMING: &str = "\
+    CREATE TABLE timing (inter INTEGER NOT NULL REFERENCES intersection, \
+    kind INTEGER NOT NULL, a INTEGER NOT NULL, b INTEGER NOT NULL, body TEXT NOT NULL, \
+    PRIMARY KEY (inter, kind, a, b)) STRICT";
 
-pub(crate) const DRAFT: &str =
-    "CREATE TABLE draft (inter INTEGER NOT NULL REFERENCES intersection, kind INTEGER NOT NULL, a INTEGER NOT NULL, b INTEGER NOT NULL, body TEXT, PRIMARY KEY (inter, kind, a, b)) STRICT";
+pub(crate) const DRAFT: &str = "\
+    CREATE TABLE draft (inter INTEGER NOT NULL REFERENCES intersection, \
+    kind INTEGER NOT NULL, a INTEGER NOT NULL, b INTEGER NOT NULL, body TEXT, PRIMARY KEY (\
+    inter, kind, a, b)) STRICT";
 
-pub(crate) const INSPECTION: &str =
-    "CREATE TABLE inspection (inter INTEGER NOT NULL REFERENCES intersection, number INTEGER NOT NULL, day INTEGER NOT NULL, clerk TEXT NOT NULL, body TEXT NOT NULL, PRIMARY KEY (inter, number)) STRICT";
+pub(crate) const INSPECTION: &str = "\
+    CREATE TABLE inspection (inter INTEGER NOT NULL REFERENCES intersection, \
+    number INTEGER NOT NULL, day INTEGER NOT NULL, clerk TEXT NOT NULL, body TEXT NOT NULL, \
+    PRIMARY KEY (inter, number)) STRICT";
 
-pub(crate) const WORK_ORDER: &str =
-    "CREATE TABLE work_order (inter INTEGER NOT NULL REFERENCES intersection, number INTEGER NOT NULL, opened INTEGER NOT NULL, clerk TEXT NOT NULL, body TEXT NOT NULL, closed INTEGER, closer TEXT, PRIMARY KEY (inter, number)) STRICT";
+pub(crate) const WORK_ORDER: &str = "\
+    CREATE TABLE work_order (inter INTEGER NOT NULL REFERENCES intersection, \
+    number INTEGER NOT NULL, opened INTEGER NOT NULL, clerk TEXT NOT NULL, \
+    body TEXT NOT NULL, closed INTEGER, closer TEXT, PRIMARY KEY (inter, number)) STRICT";
 
-pub(crate) const PART: &str =
-    "CREATE TABLE part (code TEXT NOT NULL PRIMARY KEY, hand INTEGER NOT NULL CHECK (hand >= 0)) STRICT";
+pub(crate) const PART: &str = "\
+    CREATE TABLE part (code TEXT NOT NULL PRIMARY KEY, hand INTEGER NOT NULL CHECK (\
+    hand >= 0)) STRICT";
 
-pub(crate) const DELIVERY: &str =
-    "CREATE TABLE delivery (part TEXT NOT NULL REFERENCES part, number INTEGER NOT NULL, day INTEGER NOT NULL, amount INTEGER NOT NULL, PRIMARY KEY (part, number)) STRICT";
+pub(crate) const DELIVERY: &str = "\
+    CREATE TABLE delivery (part TEXT NOT NULL REFERENCES part, number INTEGER NOT NULL, \
+    day INTEGER NOT NULL, amount INTEGER NOT NULL, PRIMARY KEY (part, number)) STRICT";
 
-pub(crate) const USED_PART: &str =
-    "CREATE TABLE used_part (inter INTEGER NOT NULL REFERENCES intersection, ord INTEGER NOT NULL, line INTEGER NOT NULL, part TEXT NOT NULL REFERENCES part, amount INTEGER NOT NULL, PRIMARY KEY (inter, ord, line), FOREIGN KEY (inter, ord) REFERENCES work_order) STRICT";
+pub(crate) const USED_PART: &str = "\
+    CREATE TABLE used_part (inter INTEGER NOT NULL REFERENCES intersection, \
+    ord INTEGER NOT NULL, line INTEGER NOT NULL, part TEXT NOT NULL REFERENCES part, \
+    amount INTEGER NOT NULL, PRIMARY KEY (inter, ord, line), FOREIGN KEY (inter, ord) \
+    REFERENCES work_order) STRICT";
 
-pub(crate) const OFFICE_VERSION: &str =
-    "CREATE TABLE office_version (one INTEGER PRIMARY KEY CHECK (one = 1), version INTEGER NOT NULL) STRICT";
+pub(crate) const OFFICE_VERSION: &str = "\
+    CREATE TABLE office_version (one INTEGER PRIMARY KEY CHECK (one = 1), \
+    version INTEGER NOT NULL) STRICT";
 
 /// Each table in the order of the numbers. A number is a place in the catalog, where each PRIMARY
 /// KEY that is no rowid takes the next one for its index.

@@ -2,13 +2,17 @@ use Rattle.std.proofs.Common.{◌≡◌, ◌+◌, ◌≤◌, ◌<◌, ◌∙◌,
 use Rattle.std.specs.Prelude.{◌⊎◌}
 use Rattle.std.proofs.lemmas.List.{drop_all}
 use Rattle.cabinet_core.specs.declared.command.RecordCommand.{RecordCommand}
+use Rattle.office_tables_shelf.specs.Change.{changed_by}
+use Rattle.office_tables_shelf.specs.declared.rows.RowChange.{RowChange}
 use Rattle.office_tables_shelf.specs.declared.shelf.ShelfFault.{ShelfFault}
+use Rattle.office_desk_cabinet.specs.RegisterDamage.{KeepsDamage}
+use Rattle.office_desk_cabinet.proofs.KeptDamage.{kept_after, nothing_kept}
 use Rattle.office_desk.specs.Damage.{MeetsCabinetDamage}
 use Rattle.office_desk.specs.Step.{cabinet_of}
 use Rattle.office_desk.specs.Importing.{ImportsAny, LeavesAnyTiming, TakesRecord}
 use Rattle.office_desk.specs.declared.importing.Taken.TheVariants.{Added, Same}
 use Rattle.office_desk.proofs.Decisions.{fault_decides}
-use Rattle.office_desk.proofs.Imports.{counted_on, damage_of_record, import_decides, imports_on, imports_start, next_left, nothing_leaves, nothing_written, refused_decides, same_stored, writes_left, writes_whole}
+use Rattle.office_desk.proofs.Imports.{counted_on, damage_of_record, import_decides, imports_on, imports_start, next_left, still_left, was_taken, whole_stored, nothing_leaves, nothing_written, refused_decides, same_stored, writes_left, writes_whole}
 use Rattle.office_tables_shelf.proofs.KeptLemmas.{kept_on}
 use Rattle.office_desk.proofs.importing.decide_import.Goals as goal
 use Rattle.office_desk.proofs.importing.decide_import.Goals.{in-Added, in-Same}
@@ -19,6 +23,8 @@ loop-index-init g c =
     record {
       counted = refl;
       imports = λ honest. subst (ImportsAny (g.S.Shelf.content c.args.shelf.now) c.args.records.now c.args.records.now 1 0 0) (sym none) (imports_start (g.S.Shelf.content c.args.shelf.now) c.args.records.now);
+      spares = λ honest. subst (λ (list : List RowChange). KeepsDamage (g.S.Shelf.content c.args.shelf.now) (changed_by (g.S.Shelf.content c.args.shelf.now) list)) (sym none) (nothing_kept (g.S.Shelf.content c.args.shelf.now));
+      whole = λ honest damaged. damaged;
       leaves = subst LeavesAnyTiming (sym none) nothing_leaves;
       writes = λ table. nothing_written table c.new-pending.result c.args.records.now none;
       kept = record { honest_before = λ honest. honest; same_content = λ honest. refl; same_counts = refl; same_outcomes = λ tables left. left };
@@ -83,6 +89,14 @@ loop-index-preserved g c =
           imports_on stored all (drop index all) item (drop (index + 1) all) (index + 1) c.loop-index.added c.loop-index.same before after t _ _
           (next_left all index item low at) came (c.loop-index.invariant.imports first)
           (same_stored before item t after (c.loop-index.invariant.kept.same_content first) (c.in_ok-taken.ensures.step honest));
+      spares = λ honest.
+          let first = c.take_record.ensures.kept.honest_before honest in
+          let now = whole_stored before item t after (c.loop-index.invariant.kept.same_content first) (c.in_ok-taken.ensures.whole honest) in
+          kept_after stored (changed_by stored before) (changed_by stored after) (c.loop-index.invariant.spares first) now.spares;
+      whole = λ honest damaged.
+          let first = c.take_record.ensures.kept.honest_before honest in
+          let now = whole_stored before item t after (c.loop-index.invariant.kept.same_content first) (c.in_ok-taken.ensures.whole honest) in
+          still_left stored (drop index all) item (drop (index + 1) all) before after t (next_left all index item low at) (was_taken t came) (c.loop-index.invariant.spares first) now (c.loop-index.invariant.whole first damaged);
       leaves = c.in_ok-taken.ensures.leaves c.loop-index.invariant.leaves;
       writes = λ table. writes_left table all index item _ _ _ low at (c.loop-index.invariant.writes table) (c.in_ok-taken.ensures.writes table);
       kept = kept_on shelf.is_honest shelf.content shelf.written shelf.may_leave c.args.shelf.now c.loop-index.shelf c.take_record.new.shelf c.loop-index.invariant.kept c.take_record.ensures.kept;
@@ -94,5 +108,5 @@ returns-clause-decides g c =
     let index = c.loop-index.index in
     let high = subst (λ (list : List RecordCommand). length list ≤ index) c.as_slice-command-items.ensures c.loop-index-test.false in
     import_decides _ (g.S.Shelf.content c.args.shelf.now) all (drop index all) (index + 1) c.loop-index.added c.loop-index.same c.loop-index.pending _
-    (drop_all index all high) c.loop-index.invariant.imports c.loop-index.invariant.leaves
+    (drop_all index all high) c.loop-index.invariant.imports c.loop-index.invariant.whole c.loop-index.invariant.leaves
     (λ table. writes_whole table all index _ _ high (c.loop-index.invariant.writes table)) refl c.into_changes.ensures

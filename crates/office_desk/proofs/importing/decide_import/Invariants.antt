@@ -1,8 +1,11 @@
 use Rattle.std.proofs.Common.{◌≡◌, ◌+◌, ◌≤◌, drop}
+use Rattle.office_tables_shelf.specs.Change.{changed_by}
 use Rattle.office_tables_shelf.specs.Counts.{writes_in}
 use Rattle.office_tables_shelf.specs.Shelf.{IsKept}
 use Rattle.office_tables_shelf.specs.declared.rows.Table.{Table}
+use Rattle.office_desk_cabinet.specs.RegisterDamage.{KeepsDamage}
 use Rattle.office_desk.specs.Changes.{most_import_writes}
+use Rattle.office_desk.specs.Damage.{MeetsImportDamage}
 use Rattle.office_desk.specs.Importing.{ImportsAny, LeavesAnyTiming}
 use Rattle.office_desk.proofs.importing.decide_import.Given as goal
 
@@ -13,6 +16,8 @@ invariant-loop-index g l =
     record {
       counted : l.added + l.same ≡ l.index;
       imports : shelf.is_honest l.shelf → ImportsAny (shelf.content l.fn.shelf) l.records (drop l.index l.records) (l.index + 1) l.added l.same l.pending;
+      spares : shelf.is_honest l.shelf → KeepsDamage (shelf.content l.fn.shelf) (changed_by (shelf.content l.fn.shelf) l.pending);
+      whole : shelf.is_honest l.shelf → MeetsImportDamage (shelf.content l.fn.shelf) l.records → MeetsImportDamage (shelf.content l.fn.shelf) (drop l.index l.records);
       leaves : LeavesAnyTiming l.pending;
       writes : (table : Table) → writes_in table l.pending + most_import_writes (drop l.index l.records) table ≤ most_import_writes l.records table;
       kept : IsKept shelf.is_honest shelf.content shelf.written shelf.may_leave l.fn.shelf l.shelf;

@@ -1,6 +1,7 @@
-use Rattle.std.proofs.Common.{◌≡◌, true, ap, refl, arith}
+use Rattle.std.proofs.Common.{◌≡◌, true, ap, refl, subst, arith}
+use Rattle.office_desk.specs.Recording.{HasDamagedAbout}
 use Rattle.office_desk_cabinet.specs.Registers.{line_told, rows_told}
-use Rattle.office_desk.proofs.Imports.{few_more, leaves_more, record_added}
+use Rattle.office_desk.proofs.Imports.{added_whole, few_more, leaves_more, record_added, refused_whole, same_whole}
 use Rattle.office_desk.proofs.Recorded.{about_known}
 use Rattle.office_desk.proofs.importing.take_record.Goals as goal
 
@@ -21,3 +22,25 @@ returns-in_ok-next-in-Added-clause-leaves g c = λ before.
 pub returns-in_ok-next-in-Added-clause-writes : goal.returns-in_ok-next-in-Added-clause-writes
 returns-in_ok-next-in-Added-clause-writes g c = λ table.
     few_more table c.args.pending c.in-Added.rows.items _ _ _ (ap rows_told c.in-Added.is) c.in_ok-next-in-Added.ensures (c.in_ok-rows.ensures.writes table)
+
+pub returns-then-not-branch-clause-whole : goal.returns-then-not-branch-clause-whole
+returns-then-not-branch-clause-whole g c = λ honest. refused_whole _ c.args.pending c.args.command.now _
+
+pub returns-in_ok-next-in-Added-clause-whole : goal.returns-in_ok-next-in-Added-clause-whole
+returns-in_ok-next-in-Added-clause-whole g c = λ honest.
+    let first = c.decide_record.ensures.kept.honest_before honest in
+    added_whole (g.S.Shelf.content c.args.shelf.now) (g.S.Shelf.content c.is_known.new.shelf) c.args.pending c.in-Added.rows.items _ _ c.args.command.now
+    (c.is_known.ensures.kept.same_content first) (ap rows_told c.in-Added.is) c.in_ok-next-in-Added.ensures
+    (subst (λ about. ¬ HasDamagedAbout (g.S.Shelf.content c.args.shelf.now) about) c.cabinet_of.ensures (c.in_ok-is_known.ensures.whole first))
+    (c.in_ok-rows.ensures.whole honest) (c.in_ok-rows.ensures.spares honest)
+
+pub returns-in-Same-clause-whole : goal.returns-in-Same-clause-whole
+returns-in-Same-clause-whole g c = λ honest.
+    let first = c.decide_record.ensures.kept.honest_before honest in
+    same_whole (g.S.Shelf.content c.args.shelf.now) (g.S.Shelf.content c.is_known.new.shelf) c.args.pending c.args.command.now
+    (c.is_known.ensures.kept.same_content first)
+    (subst (λ about. ¬ HasDamagedAbout (g.S.Shelf.content c.args.shelf.now) about) c.cabinet_of.ensures (c.in_ok-is_known.ensures.whole first))
+    (c.in_ok-rows.ensures.whole honest)
+
+pub returns-in-Refused-clause-whole : goal.returns-in-Refused-clause-whole
+returns-in-Refused-clause-whole g c = λ honest. refused_whole _ c.args.pending c.args.command.now _

@@ -2,7 +2,7 @@ use Rattle.std.proofs.Common.{◌≡◌, ◌∙◌, Some, true, false, ap, arith
 use Rattle.std.specs.Prelude.{◌⊎◌}
 use Rattle.office_tables_shelf.specs.CabinetReads.{HasDamagedInspection, HasDamagedOrder, HasDamagedUsed}
 use Rattle.office_tables_shelf.specs.declared.shelf.ShelfFault.{ShelfFault}
-use Rattle.office_desk_cabinet.specs.Register.{Register}
+use Rattle.cabinet_core.specs.Register.{Register}
 use Rattle.office_desk_cabinet.specs.RegisterStands.{RegisterStandsSound}
 use Rattle.office_desk_cabinet.specs.Registers.{ShowsCabinet}
 use Rattle.office_desk.specs.Lists.{CabinetLists}

@@ -1,5 +1,6 @@
 use Rattle.std.proofs.Common.{◌≡◌, ◌∙◌, Some, ℕ, List, true, false, ap, arith, inl, refl, subst}
-use Rattle.office_desk_cabinet.specs.Register.{Register, open_at}
+use Rattle.cabinet_core.specs.Orders.{open_at}
+use Rattle.cabinet_core.specs.Register.{Register}
 use Rattle.office_desk_cabinet.specs.RegisterStands.{RegisterStandsSound}
 use Rattle.office_desk.specs.declared.reply.Reply.TheVariants.{OpenOrders}
 use Rattle.office_desk.proofs.Decisions.{told_decides, unknown_decides}

@@ -1,20 +1,31 @@
-use Rattle.std.proofs.Common.{◌∙◌, subst, refl, inl, Err, ap, inr}
+use Rattle.std.proofs.Common.{◌≡◌, ◌∙◌, Some, None, subst, sym, refl, inl, Err, ap, inr}
+use Rattle.office_tables_shelf.specs.Rows.{intersection_columns}
 use Rattle.office_tables_shelf.specs.declared.shelf.ShelfFault.{ShelfFault}
 use Rattle.office_tables_shelf.specs.Shelf.{ReadsIntersection, CountsTiming}
 use Rattle.office_desk.specs.Damage.{HasDamage}
 use Rattle.office_desk.specs.Decisions.{IsVerdictOf}
 use Rattle.office_desk.proofs.Decisions.{fault_decides, told_decides, unknown_decides}
 use Rattle.office_desk.proofs.Shown.{state_answers, unknown_state}
+use Rattle.office_desk.proofs.WholeRows.{judged_whole}
 use Rattle.office_desk.proofs.showing.decide_state.Goals as goal
 
 pub returns-in_default-clause-decides : goal.returns-in_default-clause-decides
 returns-in_default-clause-decides g c =
-    unknown_decides _ _ _ _ c.refused.ensures.reply (inl refl) c.refused.ensures.no_changes c.in_ok-row.ensures.whole (λ honest office stands.
+    unknown_decides _ _ _ _ c.refused.ensures.reply (inl refl) c.refused.ensures.no_changes
+    (λ honest damaged. elim damaged [
+      | inl row ↦ c.in_ok-row.ensures.whole honest row
+      | inr judged ↦ absurd (let f : None ≡ Some (intersection_columns judged.row) = sym (subst (ReadsIntersection (g.S.Shelf.content c.args.shelf.now) c.args.id) c.in_default.is (c.in_ok-row.ensures.row honest)) ∙ judged.read in cc)
+    ]) (λ honest office stands.
     unknown_state _ office _ _ _ stands (subst (ReadsIntersection (g.S.Shelf.content c.args.shelf.now) c.args.id) c.in_default.is (c.in_ok-row.ensures.row honest)) c.refused.ensures.reply c.refused.ensures.no_changes)
 
 pub returns-clause-decides : goal.returns-clause-decides
 returns-clause-decides g c =
-    told_decides _ _ _ _ _ (c.unchanged.ensures.reply ∙ c.shown.ensures) (λ e. cc) (λ why e. absurd cc) c.unchanged.ensures.no_changes (λ honest. c.in_ok-row.ensures.whole (c.committed_count.ensures.kept.honest_before (c.verdict_at.ensures.kept.honest_before honest))) (λ honest office stands.
+    told_decides _ _ _ _ _ (c.unchanged.ensures.reply ∙ c.shown.ensures) (λ e. cc) (λ why e. absurd cc) c.unchanged.ensures.no_changes (λ honest.
+    let read = c.verdict_at.ensures.kept.honest_before honest in
+    let first = c.committed_count.ensures.kept.honest_before read in
+    let still = c.committed_count.ensures.kept.same_content read ∙ c.intersection_row.ensures.kept.same_content first in
+    judged_whole (g.S.Shelf.content c.args.shelf.now) c.args.id c.in-Some.row (subst (ReadsIntersection (g.S.Shelf.content c.args.shelf.now) c.args.id) c.in-Some.is (c.in_ok-row.ensures.row first))
+    (c.in_ok-row.ensures.whole first) (λ done. subst (λ t. ¬ HasDamage t c.args.id) still (c.in_ok-verify.ensures.whole honest done))) (λ honest office stands.
     let read = c.verdict_at.ensures.kept.honest_before honest in
     let first = c.committed_count.ensures.kept.honest_before read in
     let same = c.intersection_row.ensures.kept.same_content first in

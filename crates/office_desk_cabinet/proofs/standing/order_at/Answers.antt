@@ -1,6 +1,7 @@
 use Rattle.std.proofs.Common.{subst}
 use Rattle.office_tables_shelf.specs.CabinetReads.{ReadsOrder}
 use Rattle.office_desk_cabinet.specs.Puts.{Puts}
+use Rattle.office_desk_cabinet.proofs.WholeRecords.{order_whole}
 use Rattle.office_desk_cabinet.proofs.standing.order_at.Goals as goal
 
 pub returns-in-Some-clause-row : goal.returns-in-Some-clause-row
@@ -10,3 +11,9 @@ returns-in-Some-clause-row g c = λ honest.
 pub returns-clause-row : goal.returns-clause-row
 returns-clause-row g c = λ honest.
     subst (Puts (λ tables there. ReadsOrder tables c.args.id c.args.number there) c.args.pending.now) c.in_default.is c.in_ok-put.ensures (g.S.Shelf.content c.args.shelf.now) c.in_ok-before.before (c.in_ok-before.ensures.row honest)
+
+pub returns-in-Some-clause-whole : goal.returns-in-Some-clause-whole
+returns-in-Some-clause-whole g c = λ honest. order_whole _ _ _ _ (returns-in-Some-clause-row g c honest) c.order_is_within.ensures
+
+pub returns-clause-whole : goal.returns-clause-whole
+returns-clause-whole g c = λ honest. order_whole _ _ _ _ (returns-clause-row g c honest) c.any_order_is_within.ensures

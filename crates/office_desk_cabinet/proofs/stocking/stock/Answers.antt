@@ -1,4 +1,4 @@
-use Rattle.office_desk_cabinet.proofs.StockList.{parts_are_stock}
+use Rattle.office_desk_cabinet.proofs.ListedRecords.{parts_are_stock}
 use Rattle.office_desk_cabinet.proofs.stocking.stock.Goals as goal
 
 pub returns-clause-shows : goal.returns-clause-shows

@@ -13,7 +13,7 @@ returns-in-Ok-apply-clause-ok g c = λ honest before stands.
     let made : g.S.Shelf.content c.apply.new.self ≡ changed_by (g.S.Shelf.content c.args.office.now) c.decide-decided.result.changes.items =
     c.in-Ok-apply.ensures.ok honest ∙ (λ i. changed_by (same i) (c.as_slice-changes.ensures.value i)) in
     answers_asked (g.S.Shelf.content c.args.office.now) (g.S.Shelf.content c.apply.new.self) c.args.asked.now c.decide-decided.result.reply (bytes_of c.in-Ok.answer)
-    (subst (AnswersAny (g.S.Shelf.content c.args.office.now) c.args.asked.now.command c.decide-decided.result.reply) (sym made) (c.decide-decided.ensures.step honest_before))
+    (subst (AnswersAny (g.S.Shelf.content c.args.office.now) c.args.asked.now.command c.decide-decided.result.reply) (sym made) (c.decide-decided.ensures.answers.step honest_before))
     c.in-Ok.ensures.told c.in-Ok.ensures.text before stands
 
 -- where nothing is to be changed, the tables are those that were read
@@ -23,7 +23,7 @@ returns-then-is_empty-clause-ok g c = λ honest before stands.
     let made : g.S.Shelf.content c.decide-decided.new.self ≡ changed_by (g.S.Shelf.content c.args.office.now) c.decide-decided.result.changes.items =
     c.decide-decided.ensures.kept.same_content honest ∙ ap (changed_by _) (sym none) in
     answers_asked (g.S.Shelf.content c.args.office.now) (g.S.Shelf.content c.decide-decided.new.self) c.args.asked.now c.decide-decided.result.reply (bytes_of c.in-Ok.answer)
-    (subst (AnswersAny (g.S.Shelf.content c.args.office.now) c.args.asked.now.command c.decide-decided.result.reply) (sym made) (c.decide-decided.ensures.step honest))
+    (subst (AnswersAny (g.S.Shelf.content c.args.office.now) c.args.asked.now.command c.decide-decided.result.reply) (sym made) (c.decide-decided.ensures.answers.step honest))
     c.in-Ok.ensures.told c.in-Ok.ensures.text before stands
 
 pub returns-in-Ok-apply-clause-settles : goal.returns-in-Ok-apply-clause-settles
@@ -39,12 +39,12 @@ returns-then-is_empty-clause-settles g c = λ honest.
 pub returns-in-Ok-apply-clause-crash : goal.returns-in-Ok-apply-clause-crash
 returns-in-Ok-apply-clause-crash g c =
     leaves_applied g.S.Shelf.is_honest g.S.Shelf.content g.S.Shelf.written g.S.Shelf.may_leave c.args.office.now c.decide-decided.new.self c.apply.new.self c.args.asked.now c.decide-decided.result.reply (bytes_of c.in-Ok.answer)
-    c.decide-decided.result.changes.items _ c.decide-decided.ensures.kept c.decide-decided.ensures.step c.as_slice-changes.ensures.value
+    c.decide-decided.result.changes.items _ c.decide-decided.ensures.kept c.decide-decided.ensures.answers.step c.as_slice-changes.ensures.value
     c.in-Ok.ensures.told c.in-Ok.ensures.text c.apply.ensures.crash
 
 -- refused, the changes may stand all the same after a crash
 pub returns-clause-crash : goal.returns-clause-crash
 returns-clause-crash g c =
     leaves_applied g.S.Shelf.is_honest g.S.Shelf.content g.S.Shelf.written g.S.Shelf.may_leave c.args.office.now c.decide-decided.new.self c.apply.new.self c.args.asked.now c.decide-decided.result.reply (bytes_of c.in-Ok.answer)
-    c.decide-decided.result.changes.items _ c.decide-decided.ensures.kept c.decide-decided.ensures.step c.as_slice-changes.ensures.value
+    c.decide-decided.result.changes.items _ c.decide-decided.ensures.kept c.decide-decided.ensures.answers.step c.as_slice-changes.ensures.value
     c.in-Ok.ensures.told c.in-Ok.ensures.text c.apply.ensures.crash

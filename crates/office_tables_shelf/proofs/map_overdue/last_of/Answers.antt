@@ -1,5 +1,5 @@
 use Rattle.std.proofs.Common.{◌∙◌, sym, ap}
-use Rattle.office_tables_shelf.specs.Overdue.{latest_day}
+use Rattle.cabinet_core.specs.Overdue.{latest_day}
 use Rattle.office_tables_shelf.proofs.CabinetLemmas.{records_under, record_inter, inspections_listed}
 use Rattle.office_tables_shelf.proofs.OverdueLemmas.{latest_with, latest_with_none}
 use Rattle.office_tables_shelf.proofs.map_overdue.last_of.Goals as goal

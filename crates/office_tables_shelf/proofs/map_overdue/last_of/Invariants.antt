@@ -1,5 +1,5 @@
 use Rattle.std.proofs.Common.{◌≡◌}
-use Rattle.office_tables_shelf.specs.Overdue.{latest_day}
+use Rattle.cabinet_core.specs.Overdue.{latest_day}
 use Rattle.office_tables_shelf.proofs.CabinetLemmas.{records_under, record_inter}
 use Rattle.office_tables_shelf.proofs.OverdueLemmas.{latest_with}
 use Rattle.office_tables_shelf.proofs.map_overdue.last_of.Given as goal

@@ -1,5 +1,5 @@
 use Rattle.std.proofs.Common.{◌≡◌, take}
-use Rattle.office_tables_shelf.specs.Overdue.{latest_day}
+use Rattle.cabinet_core.specs.Overdue.{latest_day}
 use Rattle.office_tables_shelf.proofs.overdue.latest.Given as goal
 
 abbrev pub invariant-loop-inspection : goal.invariant-loop-inspection

@@ -14,7 +14,10 @@ returns-clause-imports g c = λ honest.
         reply = c.run-reply.result;
         step =
             subst (λ records. AnswersAny old (command.Import records) c.run-reply.result new)
-            c.new-records.ensures (c.run-reply.ensures.step honest);
+            c.new-records.ensures (c.run-reply.ensures.ran.step honest);
         made_is = c.import_told.ensures;
       },
     )
+
+pub returns-clause-honest : goal.returns-clause-honest
+returns-clause-honest g c = c.run-reply.ensures.ran.honest

@@ -22,7 +22,7 @@ returns-in-Ok-clause-opened g c =
     let opened = it.was_open h in
     let listed = subst (AreListed (old.now.trees catalog_tree)) is (c.schema.ensures.live opened).0.lists.listed in
     let none = subst (λ (d : Database). AreListed (d.trees catalog_tree) no_schema) (c.is_autocommit.ensures.settled c.if-not-is_autocommit.false opened) listed in
-    (blank_rows old.committed.trees (subst IsArranged (same h) (it.arranged h)) none).1 in
+    blank_rows old.committed.trees (subst IsArranged (same h) (it.arranged h)) none in
     IfOk-weaker c.open_arranged.result _ _ (opened_before g.S.Store c.args.conn c.in-Ok.conn (λ h. omega (arith, h, it.clean)) same blank) c.open_arranged.ensures.opened
 
 pub returns-in-Ok-clause-refused : goal.returns-in-Ok-clause-refused

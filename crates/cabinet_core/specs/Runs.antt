@@ -1,0 +1,55 @@
+-- What commands that were accepted in turn make of an order and of the stock.
+use Rattle.std.specs.Prelude.{◌≡◌, ℕ, ◌+◌, Bool, true, false, ◌==◌, ◌&&◌, if◌then◌else◌, List, [], ◌∷◌}
+use Rattle.std.specs.Str.{bytes_eq}
+use Rattle.cabinet_core.specs.Cabinet.{added}
+use Rattle.cabinet_core.specs.Register.{Register}
+use Rattle.cabinet_core.specs.Step.{line_at, with_record}
+use Rattle.cabinet_core.specs.declared.command.RecordCommand.{RecordCommand}
+use Rattle.cabinet_core.specs.declared.command.RecordCommand.TheVariants.{Inspect, OpenOrder, UsePart, CloseOrder, Receive}
+
+-- each command was accepted in its turn, from the first register to the last
+abbrev pub AreAccepted : Register → List RecordCommand → Register → Type 0
+AreAccepted r [] last = last ≡ r
+AreAccepted r (command ∷ commands) last = (line_at r command ≡ added) × AreAccepted (with_record r command) commands last
+
+-- ---- orders
+
+-- whether the order is open after a command that was accepted
+abbrev pub open_with : ℕ → ℕ → Bool → RecordCommand → Bool
+open_with id n before (OpenOrder other opening) = if (other == id) && (opening.number == n) then true else before
+open_with id n before (CloseOrder other order closing) = if (other == id) && (order == n) then false else before
+open_with id n before (Inspect other inspection) = before
+open_with id n before (UsePart other line) = before
+open_with id n before (Receive delivery) = before
+
+-- and after commands
+abbrev pub open_by : ℕ → ℕ → Bool → List RecordCommand → Bool
+open_by id n before [] = before
+open_by id n before (command ∷ commands) = open_by id n (open_with id n before command) commands
+
+-- ---- stock
+
+-- the pieces of a part that a command brings into stock
+abbrev pub received : List ℕ → RecordCommand → ℕ
+received code (Receive delivery) = if bytes_eq delivery.part code then delivery.count else 0
+received code (Inspect id inspection) = 0
+received code (OpenOrder id opening) = 0
+received code (UsePart id line) = 0
+received code (CloseOrder id order closing) = 0
+
+-- the pieces of a part that a command takes from stock
+abbrev pub spent : List ℕ → RecordCommand → ℕ
+spent code (UsePart id line) = if bytes_eq line.part code then line.count else 0
+spent code (Inspect id inspection) = 0
+spent code (OpenOrder id opening) = 0
+spent code (CloseOrder id order closing) = 0
+spent code (Receive delivery) = 0
+
+-- the pieces that commands bring, and take
+abbrev pub received_by : List ℕ → List RecordCommand → ℕ
+received_by code [] = 0
+received_by code (command ∷ commands) = received code command + received_by code commands
+
+abbrev pub spent_by : List ℕ → List RecordCommand → ℕ
+spent_by code [] = 0
+spent_by code (command ∷ commands) = spent code command + spent_by code commands

@@ -1,0 +1,52 @@
+-- The stock: what is on hand of a part is the sum of its deliveries less the sum of its used lines.
+use Rattle.std.specs.Prelude.{ℕ, ◌+◌, ◌-◌, ◌≤◌, Bool, if◌then◌else◌, List, map, Option, Some, None, sum_by}
+use Rattle.std.specs.List.{list_any}
+use Rattle.std.specs.Str.{bytes_eq}
+use Rattle.std.specs.Ordering.{nat_cmp}
+use Rattle.std.specs.Cmp.Lexicographic.{slice_cmp}
+use Rattle.std.specs.FinMap.{FinMap, entries, from_entries}
+use Rattle.cabinet_core.specs.Register.{Register, LineKey, DeliveryKey}
+use Rattle.cabinet_core.specs.declared.part.TheConstants.{MOST_ON_HAND}
+use Rattle.cabinet_core.specs.declared.record.UsedLine.{UsedLine}
+use Rattle.cabinet_core.specs.declared.record.Delivery.{Delivery}
+
+-- the pieces of a part that a delivery brought
+abbrev pub brought : List ℕ → DeliveryKey × Delivery → ℕ
+brought code e = if bytes_eq e.1.part code then e.1.count else 0
+
+-- the pieces of a part that a line used
+abbrev pub taken : List ℕ → LineKey × UsedLine → ℕ
+taken code e = if bytes_eq e.1.part code then e.1.count else 0
+
+-- all deliveries of a part
+abbrev pub delivered : Register → List ℕ → ℕ
+delivered r code = sum_by (brought code) (entries r.deliveries)
+
+-- all used lines of a part, over all orders of all intersections
+abbrev pub used : Register → List ℕ → ℕ
+used r code = sum_by (taken code) (entries r.lines)
+
+-- there was a delivery of the part
+abbrev pub was_delivered : Register → List ℕ → Bool
+was_delivered r code = list_any (λ e. bytes_eq e.1.part code) (entries r.deliveries)
+
+-- the pieces on hand: the deliveries less the used lines
+abbrev pub pieces : Register → List ℕ → ℕ
+pieces r code = delivered r code - used r code
+
+-- how many of a part are on hand; nothing of a part that was never delivered
+abbrev pub hand_of : Register → List ℕ → Option ℕ
+hand_of r code = if was_delivered r code then Some (pieces r code) else None
+
+-- the parts that were delivered, with what is on hand of each
+abbrev pub stock_by_code : Register → FinMap (slice_cmp nat_cmp) ℕ
+stock_by_code r = from_entries (map {B = List ℕ × ℕ} (λ e. (e.1.part, pieces r e.1.part)) (entries r.deliveries))
+
+-- in the order of their codes
+abbrev pub stock_of : Register → List (List ℕ × ℕ)
+stock_of r = entries (stock_by_code r)
+
+-- no more was used than was delivered, and what is on hand is at most 999,999,999
+pub record IsStocked (r : Register) (code : List ℕ) : Type 0 where
+  pub covered : used r code ≤ delivered r code
+  pub bounded : delivered r code ≤ used r code + MOST_ON_HAND

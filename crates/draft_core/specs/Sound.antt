@@ -1,0 +1,45 @@
+-- When what is committed and drafted is sound, in a version of the rows and the rules.
+use Rattle.std.specs.Prelude.{◌≡◌, ℕ, List, None, IfSome}
+use Rattle.std.specs.FinMap.{get, empty}
+use Rattle.signal_records.specs.Row.{key_of}
+use Rattle.signal_records.specs.TimingSet.{Rows}
+use Rattle.signal_records.specs.Within.{IsRowWithin, current_limits, version_1_limits}
+use Rattle.signal_records.specs.Words.{AreWords}
+use Rattle.signal_records.specs.declared.key.Key.{Key}
+use Rattle.signal_records.specs.declared.limits.Limits.{Limits}
+use Rattle.signal_rules.specs.Violations.{violations_of}
+use Rattle.signal_rules.specs.BeforeLead.{violations_before_lead}
+use Rattle.signal_rules.specs.declared.violation.Violation.{Violation}
+use Rattle.draft_core.specs.Transaction.{TimingSide, Draft}
+
+-- nothing was committed yet, and nobody holds a draft
+abbrev pub no_timing : TimingSide
+no_timing = record { revision = 0; committed = empty; draft = None }
+
+-- a version of the tables: the limits of its rows, and the rules that it holds a set to
+pub record Version : Type 0 where
+  pub limits : Limits
+  pub violations : Rows → List Violation
+
+-- today's version
+abbrev pub today : Version
+today = record { limits = current_limits; violations = violations_of }
+
+-- version 1, which knew no leading pedestrian interval: its rows have lead 0, and are held to V1 to V13
+abbrev pub version_1 : Version
+version_1 = record { limits = version_1_limits; violations = violations_before_lead }
+
+-- each row is within its limits, and stands under its own key
+abbrev pub AreRecordsIn : Version → Rows → Type 0
+AreRecordsIn v set = (key : Key) → IfSome (get set key) (λ row. IsRowWithin v.limits row × (key_of row ≡ key))
+
+abbrev pub AreRecords : Rows → Type 0
+AreRecords = AreRecordsIn today
+
+-- the owner of a draft is a name, and its rows are records
+pub record IsSoundDraftIn (v : Version) (draft : Draft) : Type 0 where
+  pub owner : AreWords 40 draft.owner
+  pub rows : AreRecordsIn v draft.set
+
+abbrev pub IsSoundDraft : Draft → Type 0
+IsSoundDraft = IsSoundDraftIn today

@@ -1,0 +1,165 @@
+-- What the queries of the register show after records that were accepted, each in its turn.
+use Rattle.std.proofs.Common.{◌≡◌, ◌⊎◌, inl, inr, ℕ, ◌+◌, ◌-◌, ◌≤◌, pos, Bool, true, false, ◌&&◌, ◌||◌, ◌==◌, cond, List, [], ◌∷◌, ◌++◌, map, filter, Option, Some, None, Ordering, Less, Equal, Greater, T, refl, ap, sym, subst, ◌∙◌, arith}
+use Rattle.std.specs.FinMap as finite
+use Rattle.std.specs.FinMap.{get, entries, entries_sorted, get-entries}
+use Rattle.std.specs.FinMap.Entries.{is_sorted, below_all, where_key}
+use Rattle.std.specs.List.{AllByRecursion, list_any}
+use Rattle.std.specs.Ordering.{eq_by_cmp, is_eq, is_lt}
+use Rattle.std.specs.Prelude.{IfSome}
+use Rattle.cabinet_core.specs.Cabinet.{added, on_hand, close_line, with_closing, record_of}
+use Rattle.cabinet_core.specs.declared.command.RecordCommand.{RecordCommand}
+use Rattle.cabinet_core.specs.declared.command.RecordCommand.TheVariants.{Inspect, OpenOrder, UsePart, CloseOrder, Receive}
+use Rattle.cabinet_core.specs.declared.record.Closing.{Closing}
+use Rattle.cabinet_core.specs.declared.record.Order.{Order}
+use Rattle.cabinet_core.proofs.EntryLemmas.{entries_stand, tied}
+use Rattle.cabinet_core.proofs.KeyOrders.{record_exact, record_total, record_ties}
+use Rattle.cabinet_core.proofs.Puts.{all_put, if_more}
+use Rattle.cabinet_core.proofs.RecordLaws.{open_law, delivered_law, used_law}
+use Rattle.cabinet_core.proofs.Sound.{usable, receivable}
+use Rattle.cabinet_core.proofs.StockLemmas.{line_stocked, delivery_stocked, hand_adds}
+use Rattle.cabinet_core.proofs.StockList.{stock_has}
+use Rattle.cabinet_core.specs.Orders.{is_open, is_open_at, is_open_order, open_at}
+use Rattle.cabinet_core.specs.Register.{RecordKey, Register, record_cmp}
+use Rattle.cabinet_core.specs.Runs.{AreAccepted, open_by, received_by, spent_by}
+use Rattle.cabinet_core.specs.Sound.{IsOrderAt, IsSoundRegister}
+use Rattle.cabinet_core.specs.Step.{line_at, with_closed, with_record}
+use Rattle.cabinet_core.specs.Stock.{IsStocked, delivered, hand_of, pieces, stock_by_code, stock_of, used}
+use Rattle.office_desk.specs.RegisterRuns.{is_among, pieces_in}
+
+-- ---- what stays over records that are accepted
+
+-- an order under its own number
+abbrev IsNumbered : RecordKey → Order → Type 0
+IsNumbered key order = order.number ≡ key.1
+
+-- an order with its key
+abbrev Entry : Type 0
+Entry = RecordKey × Order
+
+-- each order stands under its own number, and no more of a part was used than was delivered
+pub record IsTidy (r : Register) : Type 0 where
+  pub orders : (key : RecordKey) → IfSome (get r.orders key) (IsNumbered key)
+  pub stock : (code : List ℕ) → IsStocked r code
+
+pub sound_tidy : (r : Register) → IsSoundRegister r → IsTidy r
+sound_tidy r sound = record {
+  orders = λ key. if_more (IsOrderAt key) (IsNumbered key) (λ order at. at.number) (get r.orders key) (sound.orders key);
+  stock = sound.stock;
+}
+
+closed_tidy : (r : Register) (id n : ℕ) (closing : Closing) (there : Option Order) → get r.orders (id, n) ≡ there → close_line there closing ≡ added → IsTidy r → IsTidy (with_closed r id n closing there)
+closed_tidy r id n closing None is line tidy = absurd cc
+closed_tidy r id n closing (Some order) is line tidy = record {
+  orders = all_put record_total record_exact IsNumbered r.orders (id, n) (with_closing order closing) tidy.orders (subst (λ (o : Option Order). IfSome o (IsNumbered (id, n))) is (tidy.orders (id, n)));
+  stock = λ code. record { covered = (tidy.stock code).covered; bounded = (tidy.stock code).bounded };
+}
+
+tidy_step : (r : Register) (command : RecordCommand) → line_at r command ≡ added → IsTidy r → IsTidy (with_record r command)
+tidy_step r (Inspect id inspection) line tidy = record { orders = tidy.orders; stock = λ code. record { covered = (tidy.stock code).covered; bounded = (tidy.stock code).bounded } }
+tidy_step r (OpenOrder id opening) line tidy = record {
+  orders = all_put record_total record_exact IsNumbered r.orders (id, opening.number) (record_of opening) tidy.orders refl;
+  stock = λ code. record { covered = (tidy.stock code).covered; bounded = (tidy.stock code).bounded };
+}
+tidy_step r (UsePart id used) line tidy =
+    let is = usable _ _ _ used line in
+    record { orders = tidy.orders; stock = λ code. line_stocked r (id, (used.order, used.line)) used is.new is.enough code (tidy.stock code) }
+tidy_step r (CloseOrder id order closing) line tidy = closed_tidy r id order closing (get r.orders (id, order)) refl line tidy
+tidy_step r (Receive delivery) line tidy =
+    let is = receivable _ _ delivery line in
+    record { orders = tidy.orders; stock = λ code. delivery_stocked r (delivery.part, delivery.number) delivery is.new is.room code (tidy.stock code) }
+
+pub accepted_tidy : (commands : List RecordCommand) (r last : Register) → AreAccepted r commands last → IsTidy r → IsTidy last
+accepted_tidy [] r last same tidy = subst IsTidy (sym same) tidy
+accepted_tidy (command ∷ commands) r last run tidy = accepted_tidy commands (with_record r command) last run.1 (tidy_step r command run.0 tidy)
+
+-- records that were accepted after others
+pub accepted_more : (commands more : List RecordCommand) (r mid last : Register) → AreAccepted r commands mid → AreAccepted mid more last → AreAccepted r (commands ++ more) last
+accepted_more [] more r mid last same run = subst (λ (x : Register). AreAccepted x more last) same run
+accepted_more (command ∷ commands) more r mid last first run = (first.0, accepted_more commands more (with_record r command) mid last first.1 run)
+
+-- ---- open orders
+
+halves : (a b : Bool) → T (a && b) → T a × T b
+halves true b h = (tt, h)
+halves false b h = absurd h
+
+less : (o : Ordering) → T (is_lt o) → o ≡ Less
+less Less h = refl
+less Equal h = absurd h
+less Greater h = absurd h
+
+-- nothing stands at a key that ties with one below all others
+none_above : (q k : RecordKey) (es : List Entry) → eq_by_cmp record_cmp q k ≡ true → T (below_all record_cmp k es) → finite.find record_cmp q es ≡ None
+none_above q k [] tie below = refl
+none_above q k (e ∷ es) tie below =
+    let hs = halves _ _ below in
+    let apart : eq_by_cmp record_cmp q e.0 ≡ false = ap is_eq (record_total.congr q k e.0 (tied _ tie) ∙ less _ hs.0) in
+    rw apart (none_above q k es tie hs.1)
+
+abbrev numbers_of : List Order → List ℕ
+numbers_of orders = map (λ (order : Order). order.number) (filter is_open orders)
+
+abbrev of_id : ℕ → RecordKey → Bool
+of_id id key = key.0 == id
+
+abbrev open_of : ℕ → List (Entry) → List ℕ
+open_of id es = numbers_of (map (λ e. e.1) (where_key record_cmp (of_id id) es))
+
+-- an order before others, of the intersection or of another, with the number or with another
+one_more : (of_id has_number is_open rest found : Bool) → rest ≡ found → ((of_id && has_number) ≡ true → found ≡ false)
+    → cond of_id (cond is_open (has_number || rest) rest) rest ≡ cond (of_id && has_number) is_open found
+one_more false n o rest found same none = same
+one_more true false true rest found same none = same
+one_more true false false rest found same none = same
+one_more true true true rest found same none = refl
+one_more true true false rest found same none = same ∙ none refl
+
+among_more : (n : ℕ) (b : Bool) (order : Order) (orders : List Order)
+    → is_among (numbers_of (cond b (order ∷ orders) orders)) n ≡ cond b (cond (is_open order) ((order.number == n) || is_among (numbers_of orders) n) (is_among (numbers_of orders) n)) (is_among (numbers_of orders) n)
+among_more n false order orders = refl
+among_more n true order orders = go (is_open order)
+  where
+    go : (b : Bool) → is_among (map (λ (o : Order). o.number) (cond b (order ∷ filter is_open orders) (filter is_open orders))) n ≡ cond b ((order.number == n) || is_among (numbers_of orders) n) (is_among (numbers_of orders) n)
+    go true = refl
+    go false = refl
+
+chosen : (b : Bool) (e : Entry) (es : List (Entry)) → map (λ (d : Entry). d.1) (cond b (e ∷ es) es) ≡ cond b (e.1 ∷ map (λ (d : Entry). d.1) es) (map (λ (d : Entry). d.1) es)
+chosen true e es = refl
+chosen false e es = refl
+
+open_order : (b : Bool) (order : Order) (there : Option Order) → is_open_order (cond b (Some order) there) ≡ cond b (is_open order) (is_open_order there)
+open_order true order there = refl
+open_order false order there = refl
+
+open_listed : (id n : ℕ) (es : List (Entry)) → T (is_sorted record_cmp es) → AllByRecursion (λ e. IsNumbered e.0 e.1) es
+    → is_among (open_of id es) n ≡ is_open_order (finite.find record_cmp (id, n) es)
+open_listed id n [] sorted each = refl
+open_listed id n (e ∷ es) sorted each =
+    let later = is_among (open_of id es) n in
+    let there = is_open_order (finite.find record_cmp (id, n) es) in
+    let ties : eq_by_cmp record_cmp (id, n) e.0 ≡ ((e.0.0 == id) && (e.1.number == n)) = record_ties id n e.0.0 e.0.1 ∙ ap (λ m. (e.0.0 == id) && (m == n)) (sym each.0) in
+    ap (λ (orders : List Order). is_among (numbers_of orders) n) (chosen (of_id id e.0) e (where_key record_cmp (of_id id) es))
+    ∙ among_more n (of_id id e.0) e.1 (map (λ (d : Entry). d.1) (where_key record_cmp (of_id id) es))
+    ∙ one_more (e.0.0 == id) (e.1.number == n) (is_open e.1) later there (open_listed id n es (halves _ _ sorted).1 each.1)
+    (λ both. ap is_open_order (none_above (id, n) e.0 es (ties ∙ both) (halves _ _ sorted).0))
+    ∙ sym (open_order (eq_by_cmp record_cmp (id, n) e.0) e.1 (finite.find record_cmp (id, n) es) ∙ ap (λ b. cond b (is_open e.1) there) ties)
+
+-- the orders that are shown are those that records that were accepted left open
+pub open_shown : (first now : Register) (so_far : List RecordCommand) → AreAccepted first so_far now → IsTidy now → (id n : ℕ) → is_among (open_at now id) n ≡ open_by id n (is_open_at first id n) so_far
+open_shown first now so_far run tidy id n =
+    open_listed id n (entries now.orders) (entries_sorted now.orders) (entries_stand record_total IsNumbered now.orders tidy.orders)
+    ∙ ap is_open_order (sym (get-entries now.orders (id, n)))
+    ∙ open_law id n so_far first now run
+
+-- ---- stock
+
+on_balance : (hand new_in new_out old_in old_out came went : ℕ) → hand + new_out ≡ new_in → new_in ≡ old_in + came → new_out ≡ old_out + went → old_out ≤ old_in → hand + went ≡ (old_in - old_out) + came
+on_balance hand new_in new_out old_in old_out came went adds ins outs covered = omega arith
+
+-- the pieces that are shown and those that were used are those that were on hand and those that were received
+pub stock_shown : (first now : Register) (so_far : List RecordCommand) → AreAccepted first so_far now → IsTidy first → IsTidy now
+    → (code : List ℕ) → pieces_in (stock_of now) code + spent_by code so_far ≡ pieces first code + received_by code so_far
+stock_shown first now so_far run tidy still code =
+    ap (λ (o : Option ℕ). on_hand o + spent_by code so_far) (sym (get-entries (stock_by_code now) code) ∙ stock_has now code)
+    ∙ on_balance (on_hand (hand_of now code)) (delivered now code) (used now code) (delivered first code) (used first code) (received_by code so_far) (spent_by code so_far)
+    (hand_adds now code (still.stock code)) (delivered_law code so_far first now run) (used_law code so_far first now run) (tidy.stock code).covered

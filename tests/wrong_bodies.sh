@@ -1,0 +1,35 @@
+#!/usr/bin/env bash
+# Tries the wrong bodies that the gate passes over: those in the folders wrong-bodies, each an edit in the form of
+# those in must-fail. Each has to be refused by the prover. It takes some half a minute for each, over kept work, and
+# works on a copy. It prints a line for each, and ends with status 1 where one is not refused.
+#
+#     tests/wrong_bodies.sh [CRATE..]      all crates that have some, where none is named
+set -eu
+top=$(cd "$(dirname "$0")/.." && pwd)
+copy=$(mktemp -d)
+trap 'rm -rf "$copy"' EXIT
+
+names=("$@")
+if [ ${#names[@]} -eq 0 ]; then
+  for folder in "$top"/crates/*/wrong-bodies; do
+    names+=("$(basename "$(dirname "$folder")")")
+  done
+fi
+
+cp "$top/crates.txt" "$top/HANDLES" "$copy"
+mkdir "$copy/crates"
+for crate in "$top"/crates/*; do
+  mkdir "$copy/crates/$(basename "$crate")"
+  for part in "$crate"/*; do
+    case "$(basename "$part")" in
+      out | must-fail | wrong-bodies) ;;
+      *) cp -R "$part" "$copy/crates/$(basename "$crate")" ;;
+    esac
+  done
+done
+for name in "${names[@]}"; do
+  cp -R "$top/crates/$name/wrong-bodies" "$copy/crates/$name/must-fail"
+done
+mkdir "$copy/.git"
+cd "$copy"
+rt must-fail "${names[@]}"
