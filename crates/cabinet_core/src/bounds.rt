@@ -2,7 +2,8 @@
 //! limits.
 
 ghost use Rattle.std.specs.Prelude.{IfSome};
-ghost use Rattle.cabinet_core.specs.Within.{IsInspectionWithin, IsOpeningWithin, IsClosingWithin, IsOrderWithin, IsUsedLineWithin, IsDeliveryWithin, IsRecordWithin};
+ghost use Rattle.cabinet_core.specs.Within.{IsInspectionWithin, IsOpeningWithin, IsClosingWithin, IsOrderWithin};
+ghost use Rattle.cabinet_core.specs.Within.{IsUsedLineWithin, IsDeliveryWithin, IsRecordWithin};
 
 use crate::command::RecordCommand;
 use crate::record::{Closing, Delivery, Inspection, Opening, Order, UsedLine};

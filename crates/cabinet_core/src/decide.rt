@@ -1,11 +1,17 @@
 //! What becomes of a command on the register. Each decision is given the records that stand under
 //! the command's keys, and changes nothing itself.
 
-ghost use Rattle.std.specs.Prelude.{◌≡◌, ◌+◌, ◌-◌, ◌≤◌, [], ◌∷◌, nat_lt, IfOk, if◌then◌else◌, Some, None};
+ghost use Rattle.std.specs.Prelude.{◌≡◌, ◌+◌, ◌-◌, ◌≤◌, [], ◌∷◌};
+ghost use Rattle.std.specs.Prelude.{nat_lt, IfOk, if◌then◌else◌, Some, None};
 ghost use Rattle.cabinet_core.specs.declared.part.TheConstants.{MOST_ON_HAND};
-ghost use Rattle.cabinet_core.specs.Changes.{InspectMakes, OpenMakes, UseMakes, CloseMakes, ReceiveMakes};
-ghost use Rattle.cabinet_core.specs.declared.decide.CabinetChange.TheVariants.{PutInspection, PutOrder};
-ghost use Rattle.cabinet_core.specs.Cabinet.{Records, on_hand, record_of, is_opened_so, inspect_line, open_line, use_line, close_line, receive_line, use_changes, close_changes, receive_changes};
+ghost use Rattle.cabinet_core.specs.Changes.{InspectMakes, OpenMakes, UseMakes};
+ghost use Rattle.cabinet_core.specs.Changes.{CloseMakes, ReceiveMakes};
+ghost use Rattle.cabinet_core.specs.declared.decide.CabinetChange.TheVariants.{PutInspection};
+ghost use Rattle.cabinet_core.specs.declared.decide.CabinetChange.TheVariants.{PutOrder};
+ghost use Rattle.cabinet_core.specs.Cabinet.{Records, on_hand, record_of};
+ghost use Rattle.cabinet_core.specs.Cabinet.{is_opened_so, inspect_line, open_line};
+ghost use Rattle.cabinet_core.specs.Cabinet.{use_line, close_line, receive_line};
+ghost use Rattle.cabinet_core.specs.Cabinet.{use_changes, close_changes, receive_changes};
 
 use crate::bounds::{
     closing_is_within, delivery_is_within, inspection_is_within, opening_is_within,
@@ -45,7 +51,8 @@ pub fn inspect(
     there: &Option<Inspection>,
     asked: &Inspection,
 ) -> Result<Recorded, CabinetRefusal>
-    ensures line { Records result (inspect_line there.now asked.now) (PutInspection asked.now ∷ []) }
+    ensures line { Records result (inspect_line there.now asked.now)
+        (PutInspection asked.now ∷ []) }
     ensures makes { InspectMakes there.now asked.now result }
 {
     inspection_is_within(asked);
@@ -89,7 +96,8 @@ pub fn open_order(
     there: &Option<Order>,
     asked: &Opening,
 ) -> Result<Recorded, CabinetRefusal>
-    ensures line { Records result (open_line there.now asked.now) (PutOrder (record_of asked.now) ∷ []) }
+    ensures line { Records result (open_line there.now asked.now)
+        (PutOrder (record_of asked.now) ∷ []) }
     ensures makes { OpenMakes there.now asked.now result }
 {
     opening_is_within(asked);
@@ -123,7 +131,8 @@ fn left_on_hand(hand: Option<Hand>, used: Amount) -> Option<Hand>
 
 /// How many are on hand when these have come, unless there is no room for them.
 fn raised_on_hand(hand: Option<Hand>, delivered: Amount) -> Option<Hand>
-    ensures { result ≡ (if nat_lt MOST_ON_HAND (on_hand hand + delivered) then None else Some (on_hand hand + delivered)) }
+    ensures { result ≡ (if nat_lt MOST_ON_HAND (on_hand hand + delivered)
+        then None else Some (on_hand hand + delivered)) }
 {
     Hand::new(on_hand(hand) + delivered.get())
 }
@@ -140,7 +149,8 @@ pub fn use_part(
     hand: Option<Hand>,
     asked: &UsedLine,
 ) -> Result<Recorded, CabinetRefusal>
-    ensures line { Records result (use_line there.now order.now hand asked.now) (use_changes hand asked.now) }
+    ensures line { Records result (use_line there.now order.now hand asked.now)
+        (use_changes hand asked.now) }
     ensures makes { UseMakes there.now order.now hand asked.now result }
 {
     used_line_is_within(asked);
@@ -174,7 +184,8 @@ pub fn close_order(
     order: &Option<Order>,
     asked: &Closing,
 ) -> Result<Recorded, CabinetRefusal>
-    ensures line { Records result (close_line order.now asked.now) (close_changes order.now asked.now) }
+    ensures line { Records result (close_line order.now asked.now)
+        (close_changes order.now asked.now) }
     ensures makes { CloseMakes order.now asked.now result }
 {
     closing_is_within(asked);
@@ -208,7 +219,8 @@ pub fn receive(
     hand: Option<Hand>,
     asked: &Delivery,
 ) -> Result<Recorded, CabinetRefusal>
-    ensures line { Records result (receive_line there.now hand asked.now) (receive_changes hand asked.now) }
+    ensures line { Records result (receive_line there.now hand asked.now)
+        (receive_changes hand asked.now) }
     ensures makes { ReceiveMakes there.now hand asked.now result }
 {
     delivery_is_within(asked);

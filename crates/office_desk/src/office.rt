@@ -66,7 +66,8 @@ impl<S: Shelf> Office<S> {
     /// What a command is answered, and what is to be written for it. Nothing is written yet. Where
     /// memory or the shelf refuses, it answers Unavailable; where a stored row is no record, Damaged.
     pub fn decide(&mut self, alloc: Global, command: &Command) -> Decided
-        ensures answers { IsAnswered (S.is_honest self.new) (S.content self.old) command.now result }
+        ensures answers { IsAnswered (S.is_honest self.new) (S.content self.old)
+            command.now result }
         ensures kept { IsKept S.is_honest S.content S.written S.may_leave self.old self.new }
     {
         match try_decide(&mut self.shelf, alloc, command) {
@@ -95,7 +96,8 @@ impl<S: Shelf> Office<S> {
     /// Runs one command: decides it, and makes its changes. Where memory or the shelf refuses, it
     /// answers Unavailable and changes nothing; where a stored row is no record, Damaged.
     pub fn run(&mut self, alloc: Global, command: &Command) -> Reply
-        ensures ran { IsRun S.is_honest S.content S.written S.may_leave command.now result self.old self.new }
+        ensures ran { IsRun S.is_honest S.content S.written S.may_leave
+            command.now result self.old self.new }
     {
         let decided = self.decide(alloc, command);
         let changes = decided.changes.as_slice();
