@@ -9,6 +9,9 @@ ghost use Rattle.signal_office_line.specs.CommandLine.{overdue_app, verify_file_
 ghost use Rattle.signal_office_line.specs.CommandLine.{option_rule, flag_rule, second_rule};
 ghost use Rattle.signal_office_line.specs.CommandLine.{import_app, export_app, edit_app};
 ghost use Rattle.signal_office_line.specs.CommandLine.{compare_app, diagram_app, signal_app};
+ghost use Rattle.signal_office_line.specs.CommandLine.{answering, exchanging, planning};
+ghost use Rattle.signal_office_line.specs.CommandLine.{with_subcommands};
+ghost use Rattle.clap.specs.Simple.{App};
 
 use clap::{Arg, ArgAction, Command};
 use std::alloc::{AllocError, Global};
@@ -312,22 +315,49 @@ fn diagram_command<'a>(alloc: Global) -> Result<Command<'a>, AllocError>
         ))
 }
 
+/// The program with the commands that answer requests and report.
+fn with_answers<'a>(alloc: Global, program: Command<'a>) -> Result<Command<'a>, AllocError>
+    ensures { (app : App) → Reads program.entry app →
+        IfOk result (λ c. Reads c (with_subcommands app answering)) }
+{
+    program
+        .subcommand(batch_command(alloc)?)?
+        .subcommand(serve_command(alloc)?)?
+        .subcommand(sheet_command(alloc)?)?
+        .subcommand(overdue_command(alloc)?)
+}
+
+/// The program with the commands that take whole files and give them.
+fn with_files<'a>(alloc: Global, program: Command<'a>) -> Result<Command<'a>, AllocError>
+    ensures { (app : App) → Reads program.entry app →
+        IfOk result (λ c. Reads c (with_subcommands app exchanging)) }
+{
+    program
+        .subcommand(verify_file_command(alloc)?)?
+        .subcommand(migrate_command(alloc)?)?
+        .subcommand(import_command(alloc)?)?
+        .subcommand(export_command(alloc)?)
+}
+
+/// The program with the commands that change plans and show them.
+fn with_plans<'a>(alloc: Global, program: Command<'a>) -> Result<Command<'a>, AllocError>
+    ensures { (app : App) → Reads program.entry app →
+        IfOk result (λ c. Reads c (with_subcommands app planning)) }
+{
+    program
+        .subcommand(edit_command(alloc)?)?
+        .subcommand(compare_command(alloc)?)?
+        .subcommand(diagram_command(alloc)?)
+}
+
 /// The command line of the program.
 pub(crate) fn command_line<'a>(alloc: Global) -> Result<Command<'a>, AllocError>
     ensures { IfOk result (λ c. Reads c signal_app) }
 {
-    Command::new(alloc, "signal_office")
+    let program = Command::new(alloc, "signal_office")
         .about("The office of a city's traffic signals: timing plans, cabinets and stock")
-        .subcommand_required(true)
-        .subcommand(batch_command(alloc)?)?
-        .subcommand(serve_command(alloc)?)?
-        .subcommand(sheet_command(alloc)?)?
-        .subcommand(overdue_command(alloc)?)?
-        .subcommand(verify_file_command(alloc)?)?
-        .subcommand(migrate_command(alloc)?)?
-        .subcommand(import_command(alloc)?)?
-        .subcommand(export_command(alloc)?)?
-        .subcommand(edit_command(alloc)?)?
-        .subcommand(compare_command(alloc)?)?
-        .subcommand(diagram_command(alloc)?)
+        .subcommand_required(true);
+    let program = with_answers(alloc, program)?;
+    let program = with_files(alloc, program)?;
+    with_plans(alloc, program)
 }
