@@ -28,9 +28,10 @@ pub fn is_office(schema: &Schema) -> bool
     ensures is { IsTrue result → schema.now ≡ office_schema }
     ensures other { schema.now ≡ office_schema → IsTrue result }
 {
+    let tables = &TABLES;
     schema.views.is_empty()
-        && are_indexes(schema.indexes.as_slice(), &TABLES)
-        && are_tables(schema.tables.as_slice(), &TABLES)
+        && are_indexes(schema.indexes.as_slice(), tables)
+        && are_tables(schema.tables.as_slice(), tables)
 }
 
 /// Whether there is no table yet.
