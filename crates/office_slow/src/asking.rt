@@ -45,7 +45,7 @@ pub(crate) const LINE: &str = r#"{"count":%count%,"line":%line%,"part":"%part%"}
 
 /// The commands in their order: that of a new intersection, seven of the transaction, five
 /// records.
-pub const WORDS: [Word; 21] = [
+const WORDS: [Word; 21] = [
     (
         Kind::Add,
         "AddIntersection",
@@ -162,6 +162,12 @@ const IDS: Choice = &["1", "1", "1", "1", "2", "3"];
 
 const CLERKS: Choice = &["Ana", "Ana", "Ana", "Ana", "Ana", "Bo"];
 
+/// All commands, by one name for all: a constant that holds texts costs the check of each function
+/// that names it.
+pub fn all_words() -> &'static [Word; 21] {
+    &WORDS
+}
+
 /// The numbers of intersections, of records and of their lines.
 pub(crate) const NUMBERS: [&str; 3] = ["1", "2", "3"];
 
@@ -236,7 +242,7 @@ impl Dice {
 
     /// One of these commands.
     fn ask(&mut self, words: &[Word]) -> Ask {
-        let word = self.one_of(words, WORDS[0]);
+        let word = self.one_of(words, all_words()[0]);
         let kind = word.0;
         let [ids, clerks, lines, days, parts, counts] = choices(kind);
         let mut ask = Ask {
@@ -260,15 +266,15 @@ impl Dice {
     /// A command: of three, two that lead a transaction to its end, and one of any kind.
     pub fn command(&mut self) -> Ask {
         if self.one_of(&[true, true, false], true) {
-            self.ask(&WORDS[1..6])
+            self.ask(&all_words()[1..6])
         } else {
-            self.ask(&WORDS)
+            self.ask(all_words())
         }
     }
 
     /// A command that an import may make.
     pub fn record(&mut self) -> Ask {
-        self.ask(&WORDS[8..13])
+        self.ask(&all_words()[8..13])
     }
 }
 

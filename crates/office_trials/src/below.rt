@@ -2,9 +2,9 @@
 //! and the front of a stream.
 
 use crate::database::open_new;
-use crate::more::MORE;
+use crate::more::more;
 use crate::running::{answers, asked, does};
-use crate::script::{COMMANDS, Line, UNAVAILABLE, UNKNOWN};
+use crate::script::{Line, UNAVAILABLE, UNKNOWN, commands};
 use crate::state::{is_unchanged, state_of};
 use crate::talking::{told_answer, words};
 use crate::trouble::{Trouble, compare, holds};
@@ -37,7 +37,7 @@ fn tells(alloc: Global, line: &Line, reply: &Reply, form: Form) -> Result<(), Tr
 
 /// A decision changes nothing, and its changes make what the command asks.
 fn decide_first<S: Shelf>(alloc: Global, office: &mut Office<S>) -> Result<(), Trouble> {
-    let [add, shown, ..] = &COMMANDS;
+    let [add, shown, ..] = commands();
     let (command, form) = asked_by(alloc, add)?;
     let decided = office.decide(alloc, &command);
     tells(alloc, add, &decided.reply, form)?;
@@ -64,7 +64,7 @@ fn ask_overdue<S: Shelf>(alloc: Global, office: &mut Office<S>) -> Result<(), Tr
 fn whole_list(alloc: Global) -> Result<(Vec<Command>, Vec<Form>), Trouble> {
     let mut commands = Vec::new(alloc);
     let mut forms = Vec::new(alloc);
-    for line in COMMANDS.iter().chain(&MORE) {
+    for line in commands().iter().chain(more()) {
         let (command, form) = asked_by(alloc, line)?;
         if commands.push(command).is_err() || forms.push(form).is_err() {
             return Err(Trouble::NoMemory);
@@ -81,7 +81,7 @@ fn run_list<S: Shelf + Drop>(alloc: Global, start: Office<S>) -> Result<Office<S
         return Err(Trouble::NoMemory);
     };
     holds(replies.len() == forms.len(), "a reply to each command")?;
-    let lines = COMMANDS.iter().chain(&MORE);
+    let lines = commands().iter().chain(more());
     for ((reply, form), line) in replies.iter().zip(&forms).zip(lines) {
         tells(alloc, line, reply, *form)?;
     }

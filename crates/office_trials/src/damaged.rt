@@ -2,7 +2,7 @@
 
 use crate::database::{altered, open_new};
 use crate::running::{answers, does};
-use crate::script::{COMMANDS, Line, QUERIES};
+use crate::script::{Line, commands, queries};
 use crate::state::counts;
 use crate::talking::{Words, answer};
 use crate::trouble::{Trouble, compare};
@@ -102,7 +102,7 @@ const BEGIN: Line = (
 
 /// Runs all commands on a new office, and begins a second transaction.
 fn fill<S: Shelf>(alloc: Global, office: &mut Office<S>) -> Result<(), Trouble> {
-    for line in COMMANDS.iter().chain(&[BEGIN]) {
+    for line in commands().iter().chain(&[BEGIN]) {
         does(alloc, office, line)?;
     }
     Ok(())
@@ -113,7 +113,7 @@ fn told(alloc: Global) -> Result<Vec<Vec<u8>>, Trouble> {
     let mut office = Office::new(MapShelf::new(alloc));
     fill(alloc, &mut office)?;
     let mut told = Vec::new(alloc);
-    for path in QUERIES {
+    for path in queries() {
         let answer = answer(alloc, &mut office, ("GET", path, ""))?;
         if told.push(answer).is_err() {
             return Err(Trouble::NoMemory);
@@ -144,7 +144,7 @@ fn meet<S: Shelf + Drop>(
 ) -> Result<(), Trouble> {
     let (sql, damaged, body) = *damage;
     let mut office = start;
-    for ((path, told), is_damaged) in QUERIES.iter().zip(told).zip(&damaged) {
+    for ((path, told), is_damaged) in queries().iter().zip(told).zip(&damaged) {
         let told = if *is_damaged { DAMAGED } else { told };
         ask(alloc, &mut office, ("GET", path, ""), (sql, told))?;
     }
@@ -164,13 +164,11 @@ fn meet<S: Shelf + Drop>(
 
 /// A draft row of an intersection without a transaction is a record.
 fn meet_stray_draft(alloc: Global) -> Result<(), Trouble> {
-    let (stray, [add, shown, ..]) = (
-        "INSERT INTO draft VALUES (12, 2, 1, 1, 'seq,1,1,2 4')",
-        COMMANDS,
-    );
+    let stray = "INSERT INTO draft VALUES (12, 2, 1, 1, 'seq,1,1,2 4')";
+    let [add, shown, ..] = commands();
     let mut office = open_new(alloc)?;
-    does(alloc, &mut office, &add)?;
-    does(alloc, &mut altered(alloc, office, stray)?, &shown)
+    does(alloc, &mut office, add)?;
+    does(alloc, &mut altered(alloc, office, stray)?, shown)
 }
 
 /// Meets each row, and tells how many they are.

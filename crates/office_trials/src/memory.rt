@@ -3,9 +3,9 @@
 //! Otherwise it tells what came: whether something was refused.
 
 use crate::database::open_new;
-use crate::more::MORE;
+use crate::more::more;
 use crate::running::is_run;
-use crate::script::{ANSWERS, COMMANDS, STREAM, UNAVAILABLE, UNKNOWN};
+use crate::script::{ANSWERS, STREAM, UNAVAILABLE, UNKNOWN, commands};
 use crate::state::{is_unchanged, state_of};
 use crate::talking::answer;
 use crate::trouble::{Trouble, compare};
@@ -23,7 +23,7 @@ fn is_after<S: Shelf + Drop>(
     done: usize,
 ) -> Result<Office<S>, Trouble> {
     let mut other = Office::new(MapShelf::new(alloc));
-    for line in COMMANDS.iter().chain(&MORE).take(done) {
+    for line in commands().iter().chain(more()).take(done) {
         if !is_run(alloc, &mut other, line)? {
             return Err(Trouble::NoMemory);
         }
@@ -37,7 +37,7 @@ fn is_after<S: Shelf + Drop>(
 fn run_all<S: Shelf + Drop>(alloc: Global, start: Office<S>) -> Result<bool, Trouble> {
     let mut office = start;
     let mut is_refused = false;
-    for (done, line) in COMMANDS.iter().chain(&MORE).enumerate() {
+    for (done, line) in commands().iter().chain(more()).enumerate() {
         if !is_run(alloc, &mut office, line)? {
             is_refused = true;
             office = is_after(alloc, office, done)?;

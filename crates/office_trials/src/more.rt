@@ -39,7 +39,7 @@ const DRAFT: &str = "{\"owner\":\"Ana\",\"rows\":[\
     \"violations\":[{\"rule\":\"V12\",\"subject\":\"pattern 1\"}]}";
 
 /// Queries, and a transaction that comes to no commit.
-pub(crate) const MORE: [Line; 14] = [
+const MORE: [Line; 14] = [
     ("GET /intersections/12/timing-csv", OK, PLAN),
     ("GET /intersections/12/cabinet-csv", OK, CABINET),
     ("GET /intersections/12/open-orders", OK, r#"{"open":[2]}"#),
@@ -87,3 +87,8 @@ pub(crate) const MORE: [Line; 14] = [
         r#"{"revision":1,"state":"normal","verify":"notDone"}"#,
     ),
 ];
+
+/// The further lines.
+pub(crate) fn more() -> &'static [Line; 14] {
+    &MORE
+}

@@ -2,7 +2,7 @@
 
 ghost use Rattle.std.specs.Prelude.{◌≡◌, OnErr};
 
-use crate::script::{COMMANDS, Line};
+use crate::script::{Line, commands};
 use crate::state::{is_unchanged, state_of};
 use crate::talking::is_done;
 use crate::trouble::Trouble;
@@ -206,7 +206,7 @@ pub(crate) fn refuse_everywhere(alloc: Global) -> Result<u32, Trouble> {
         left: None,
     });
     let mut refused: u32 = 0;
-    for line in &COMMANDS {
+    for line in commands() {
         let (calls, left) = refuse_each(alloc, office, line)?;
         if calls == 0 {
             return Err(Trouble::Unprepared("a command with a call of the shelf"));

@@ -48,7 +48,7 @@ const TOO_MUCH: &str = "POST /import {\"csv\":\"\
 
 /// An intersection is added and shown; a plan comes in, is checked and is committed; records come
 /// in, come again, and some are refused as a whole.
-pub(crate) const COMMANDS: [Line; 12] = [
+const COMMANDS: [Line; 12] = [
     (ADD, OK, r#"{"result":"added"}"#),
     (STATE, OK, NEW),
     (BEGIN, OK, BEGUN),
@@ -86,7 +86,7 @@ const NEW: &str =
 const BEGUN: &str = r#"{"revision":0,"state":"transaction","verify":"notDone"}"#;
 
 /// The queries that show all that an office with intersection 12 holds.
-pub(crate) const QUERIES: [&str; 7] = [
+const QUERIES: [&str; 7] = [
     "/intersections/12",
     "/intersections/12/timing",
     "/intersections/12/draft",
@@ -123,3 +123,14 @@ pub(crate) const UNAVAILABLE: &[u8] =
 pub(crate) const UNKNOWN: &[u8] = b"HTTP/1.1 404 Not Found\r\nContent-Type: application/json\r\n\
     Content-Length: 43\r\n\r\n\
     {\"error\":\"UnknownIntersection\",\"number\":10}";
+
+/// The commands, by one name for all: a constant that holds texts costs the check of each function
+/// that names it.
+pub(crate) fn commands() -> &'static [Line; 12] {
+    &COMMANDS
+}
+
+/// The queries.
+pub(crate) fn queries() -> &'static [&'static str; 7] {
+    &QUERIES
+}

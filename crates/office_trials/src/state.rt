@@ -1,7 +1,7 @@
 //! What an office shows, and how often it wrote.
 
 use crate::running::run;
-use crate::script::QUERIES;
+use crate::script::queries;
 use crate::trouble::{Trouble, compare};
 use office_desk::office::Office;
 use office_tables_shelf::rows::Table;
@@ -32,7 +32,7 @@ pub(crate) fn counts<S: Shelf>(shelf: &S) -> [u64; 8] {
 /// All that an office shows of intersection 12, of the stock and of what is overdue.
 pub(crate) fn shown<S: Shelf>(alloc: Global, office: &mut Office<S>) -> Result<Vec<u8>, Trouble> {
     let mut seen = Vec::new(alloc);
-    for path in QUERIES {
+    for path in queries() {
         let Some(answer) = run(alloc, office, ("GET", path, ""))? else {
             return Err(Trouble::Unprepared("a query"));
         };

@@ -3,7 +3,7 @@
 
 use crate::files::{close, connect, crashed, found, stopping};
 use crate::migrating::stop_migration;
-use crate::script::{ANSWERS, COMMANDS, STREAM, UNAVAILABLE, UNKNOWN};
+use crate::script::{ANSWERS, STREAM, UNAVAILABLE, UNKNOWN, commands};
 use crate::state::shown;
 use crate::talking::{is_done, serve_all};
 use crate::trouble::Trouble;
@@ -21,7 +21,7 @@ fn states(alloc: Global) -> Result<Vec<Vec<u8>>, Trouble> {
     let mut office = Office::new(MapShelf::new(alloc));
     let mut states = Vec::new(alloc);
     let mut seen = shown(alloc, &mut office)?;
-    for line in &COMMANDS {
+    for line in commands() {
         if states.push(seen).is_err() || !is_done(alloc, &mut office, line)? {
             return Err(Trouble::NoMemory);
         }
@@ -35,12 +35,12 @@ fn states(alloc: Global) -> Result<Vec<Vec<u8>>, Trouble> {
 
 /// How many commands are answered before one is refused.
 fn commands_answered<S: Shelf>(alloc: Global, office: &mut Office<S>) -> Result<usize, Trouble> {
-    for (n, line) in COMMANDS.iter().enumerate() {
+    for (n, line) in commands().iter().enumerate() {
         if !is_done(alloc, office, line)? {
             return Ok(n);
         }
     }
-    Ok(COMMANDS.len())
+    Ok(commands().len())
 }
 
 /// The bytes are an answer that tells of a refusal, and then so many that tell of one or, where
@@ -145,7 +145,7 @@ fn stop_everywhere(alloc: Global, is_stream: bool, is_log: bool) -> Result<usize
     let Some(start) = prepare(alloc, stopping(alloc, &[], true, u64::MAX)?) else {
         return Err(Trouble::Unprepared("the tables of a new office"));
     };
-    let all = if is_stream { 3 } else { COMMANDS.len() };
+    let all = if is_stream { 3 } else { commands().len() };
     let mut stopped: usize = 0;
     for calls in 0..10_000 {
         let files = stopping(alloc, start.db.inner().bytes(), is_log, calls)?;

@@ -5,7 +5,7 @@ use crate::talk::Talk;
 use crate::talking::told_answer;
 use crate::trouble::Trouble;
 use office_desk::office::Office;
-use office_slow::asking::{Dice, WORDS};
+use office_slow::asking::{Dice, all_words};
 use office_slow::office::Slow;
 use office_tables_shelf::shelf::Shelf;
 use std::alloc::{AllocError, Global};
@@ -75,7 +75,7 @@ impl Sweep {
     fn drawn(&self, alloc: Global) -> Result<(String, bool), AllocError> {
         let mut text = String::new(alloc);
         let mut is_full = true;
-        for ((_, name, ..), n) in WORDS.iter().zip(&self.commands) {
+        for ((_, name, ..), n) in all_words().iter().zip(&self.commands) {
             let one = format!(in alloc; " {name} {n}")?;
             text.push_str(one.as_str())?;
             is_full &= *n > 0;

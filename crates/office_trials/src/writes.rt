@@ -2,7 +2,7 @@
 //! and nothing else of it is written, at the commit neither.
 
 use crate::running::does;
-use crate::script::{COMMANDS, Line};
+use crate::script::{Line, commands};
 use crate::state::counts;
 use crate::trouble::{Trouble, holds};
 use office_desk::office::Office;
@@ -130,7 +130,7 @@ pub(crate) fn count_writes<S: Shelf + Drop>(
     start: Office<S>,
 ) -> Result<(), Trouble> {
     let mut office = start;
-    for line in &COMMANDS[..7] {
+    for line in &commands()[..7] {
         does(alloc, &mut office, line)?;
     }
     take_steps(alloc, office)
