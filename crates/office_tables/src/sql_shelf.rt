@@ -1,11 +1,8 @@
 //! The tables in SQL.
 
 ghost use Rattle.std.specs.Prelude.{◌≡◌, false, IfOk, IfErr};
-ghost use Rattle.sqlite.specs.State.{HasCleanDisk, Survives};
+ghost use Rattle.sqlite.specs.State.{Survives};
 ghost use Rattle.sqlite.specs.Held.{state};
-ghost use Rattle.sqlite.specs.Files.{file_state, over_files};
-ghost use Rattle.sqlite.specs.Start.{FindsIn};
-ghost use Rattle.sqlite.specs.WalFiles.{image_at};
 ghost use Rattle.office_tables_sql.specs.Calls.{IsHonest};
 ghost use Rattle.office_tables.specs.Migrate.{Brings, StandsAnew, MayBecome};
 ghost use Rattle.office_tables.specs.Migrate.{TellsVersion, TellsDamage};
@@ -23,7 +20,7 @@ use office_tables_shelf::rows::{IntersectionRow, RowChange, Table};
 use office_tables_shelf::shelf::{Shelf, ShelfFault};
 use office_tables_sql::{intersection, part, reads, timing};
 use signal_records::{Change, InterId, LineNo, RecordNo, Row};
-use sqlite::{Alter, Connection, FileFrom, FileStore, Start};
+use sqlite::{Alter, Connection};
 use std::alloc::Global;
 use std::marker::Model;
 
@@ -88,8 +85,10 @@ impl<S: Alter> SqlShelf<S> {
         }
     }
 
-    /// As `open_returning`, over a database whose rows are known to be in order.
-    fn open_arranged(
+    /// As `open_returning`, over a database whose rows are known to be in order, as those of files
+    /// that were just opened: the open has read and checked the whole database, so that it is not
+    /// read again.
+    pub fn open_arranged(
         alloc: Global,
         conn: Connection<S>,
     ) -> Result<SqlShelf<S>, (OpenFault, Option<Connection<S>>)>
@@ -143,24 +142,6 @@ impl<S: Alter> SqlShelf<S> {
     {
         let SqlShelf { conn, .. } = self;
         conn
-    }
-}
-
-impl<S: Start> SqlShelf<FileStore<FileFrom<S>>> {
-    /// As `open_returning`, over files that were just opened: the open has read and checked the
-    /// whole database, so that it is not read again.
-    pub fn open_file(
-        alloc: Global,
-        conn: Connection<FileStore<FileFrom<S>>>,
-    ) -> Result<
-        SqlShelf<FileStore<FileFrom<S>>>,
-        (OpenFault, Option<Connection<FileStore<FileFrom<S>>>>),
-    >
-        requires { HasCleanDisk (file_state conn) → FindsIn (image_at S.Start) (file_state conn) }
-        ensures opened { IfOk result (IsOpened over_files conn) }
-        ensures refused { IfErr result (λ e. IsRefused over_files conn e.0 e.1) }
-    {
-        SqlShelf::open_arranged(alloc, conn)
     }
 }
 

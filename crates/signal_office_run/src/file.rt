@@ -2,15 +2,15 @@
 
 ghost use Rattle.std.specs.Prelude.{◌≡◌, ◌≢◌, ◌≤◌, ◌+◌, ◌*◌, ℕ, List, None, Ok, IfOk, IfErr, IfSome};
 ghost use Rattle.sqlite.specs.Closing.{IsCopied};
-ghost use Rattle.sqlite.specs.Files.{file_state, over_files};
-ghost use Rattle.sqlite.specs.Start.{FindsIn};
-ghost use Rattle.sqlite.specs.State.{HasCleanDisk};
+ghost use Rattle.sqlite.specs.Files.{file_state};
+ghost use Rattle.sqlite.specs.Held.{state};
 ghost use Rattle.sqlite.specs.WalFiles.{image_at};
 ghost use Rattle.sqlite.specs.WalReads.{AreClean};
 ghost use Rattle.office_tables.specs.Calls.{IsHonest};
 ghost use Rattle.office_tables.specs.Stored.{content_now, content_of};
 ghost use Rattle.office_tables.specs.SqlShelf.{SqlView};
 ghost use Rattle.office_tables.specs.Opening.{HasOtherVersion, HasRowsAlone, IsOpened};
+ghost use Rattle.office_tables.specs.Promises.{IsArrangedIfClean};
 ghost use Rattle.office_desk.specs.Office.{IsSound, Office as OfficeState};
 ghost use Rattle.office_desk.specs.StandFor.{StandForSound};
 ghost use Rattle.office_http.specs.Laws.{KeepsLaws};
@@ -27,38 +27,38 @@ use office_desk::office::Office;
 use office_http::{ServeFault, Served, Sink, Source, serve};
 use office_tables::sql_shelf::SqlShelf;
 use signal_office_reports::Fault;
-use sqlite::{Connection, Error, FileFrom, FileStore, Start};
+use sqlite::{Alter, Connection, Error, FileFrom, FileStore, Start};
 use sqlite_disk::{Disk, Files};
 use std::alloc::Global;
 
 /// An office over tables in files, of which `S` says what they held.
 pub type FileOffice<S> = Office<SqlShelf<FileStore<FileFrom<S>>>>;
 
-/// The office over the tables of files that were just opened, which are made where there are none.
-/// Where the tables are refused, the connection comes back with the fault.
-fn open_tables<S: Start>(
+/// The office over the tables of a database whose rows are known to be in order. They are made
+/// where there are none. Where they are refused, the connection comes back with the fault.
+fn open_tables<S: Alter + Drop>(
     alloc: Global,
-    conn: Connection<FileStore<FileFrom<S>>>,
-) -> Result<FileOffice<S>, (Fault, Option<Connection<FileStore<FileFrom<S>>>>)>
-    requires { HasCleanDisk (file_state conn) → FindsIn (image_at S.Start) (file_state conn) }
-    ensures opened { IfOk result (λ office. IsOpened over_files conn office) }
+    conn: Connection<S>,
+) -> Result<Office<SqlShelf<S>>, (Fault, Option<Connection<S>>)>
+    requires { IsArrangedIfClean (state S.Store conn) }
+    ensures opened { IfOk result (λ office. IsOpened S.Store conn office) }
     ensures unreached { IfErr result (λ e. e.1 ≡ None → (e.0 ≢ Fault.Version) × (e.0 ≢ Fault.Damaged)) }
-    ensures version { IfErr result (λ e. e.0 ≡ Fault.Version → IfSome e.1 (λ c. IsHonest (file_state c) → HasOtherVersion (file_state conn).committed.trees)) }
-    ensures damaged { IfErr result (λ e. e.0 ≡ Fault.Damaged → IfSome e.1 (λ c. IsHonest (file_state c) → HasRowsAlone (file_state conn).committed.trees)) }
+    ensures version { IfErr result (λ e. e.0 ≡ Fault.Version → IfSome e.1 (λ c. IsHonest (state S.Store c) → HasOtherVersion (state S.Store conn).committed.trees)) }
+    ensures damaged { IfErr result (λ e. e.0 ≡ Fault.Damaged → IfSome e.1 (λ c. IsHonest (state S.Store c) → HasRowsAlone (state S.Store conn).committed.trees)) }
 {
-    match SqlShelf::open_file(alloc, conn) {
+    match SqlShelf::open_arranged(alloc, conn) {
         Ok(shelf) => Ok(Office::new(shelf)),
         Err((fault, conn)) => Err((Fault::from(fault), conn)),
     }
 }
 
 /// As `open_tables`, but a connection whose tables are refused is dropped.
-fn office_over<S: Start>(
+fn office_over<S: Alter + Drop>(
     alloc: Global,
-    conn: Connection<FileStore<FileFrom<S>>>,
-) -> Result<FileOffice<S>, Fault>
-    requires { HasCleanDisk (file_state conn) → FindsIn (image_at S.Start) (file_state conn) }
-    ensures opened { IfOk result (λ office. IsOpened over_files conn office) }
+    conn: Connection<S>,
+) -> Result<Office<SqlShelf<S>>, Fault>
+    requires { IsArrangedIfClean (state S.Store conn) }
+    ensures opened { IfOk result (λ office. IsOpened S.Store conn office) }
 {
     match open_tables(alloc, conn) {
         Ok(office) => Ok(office),

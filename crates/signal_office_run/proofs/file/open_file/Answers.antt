@@ -1,8 +1,12 @@
 use Rattle.std.proofs.Common.{sym, subst, ◌∙◌}
 use Rattle.std.proofs.lemmas.Result.{IfOk-weaker}
 use Rattle.sqlite.specs.Files.{file_state}
+use Rattle.office_tables.proofs.ArrangedLemmas.{found_arranged}
 use Rattle.office_desk.specs.StandFor.{StandForSound}
 use Rattle.signal_office_run.proofs.file.open_file.Goals as goal
+
+pub office_over-requires : goal.office_over-requires
+office_over-requires g c clean = found_arranged _ _ (c.in-Ok.ensures.found clean).reads
 
 pub returns-in-Ok : goal.returns-in-Ok
 returns-in-Ok g c =
