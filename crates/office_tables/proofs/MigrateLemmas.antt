@@ -30,7 +30,7 @@ use Rattle.office_tables_former.specs.Migration.{IsMigrated, StandAnew, kept_key
 use Rattle.office_tables_former.specs.declared.puts.Migrated.{Migrated}
 use Rattle.office_tables_former.proofs.Migration.{migrated, stand_anew}
 use Rattle.office_tables.specs.Migrate.{HoldsToday, IsBrought, IsToday, IsAnew}
-use Rattle.office_tables.specs.Version.{version_in, current_version, first_version}
+use Rattle.office_tables_open.specs.Version.{version_in, current_version, first_version}
 
 -- changes after changes
 pub changed_after : (tables : Content) (first second : List RowChange) → changed_by tables (first ++ second) ≡ changed_by (changed_by tables first) second

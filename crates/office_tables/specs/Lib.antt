@@ -1,10 +1,4 @@
-pub mod Version
-pub mod SqlShelf
-pub mod Arranged
-pub mod Found
-pub mod Opening
 pub mod Migrate
-pub mod Promises
 pub use Rattle.office_tables_shelf.specs.Cells
 pub use Rattle.office_tables_shelf.specs.Content
 pub use Rattle.office_tables_shelf.specs.Rows
@@ -17,3 +11,9 @@ pub use Rattle.office_tables_sql.specs.Layout
 pub use Rattle.office_tables_sql.specs.Stored
 pub use Rattle.office_tables_sql.specs.Calls
 pub use Rattle.office_tables_shelf.specs.MapShelf
+pub use Rattle.office_tables_open.specs.Version
+pub use Rattle.office_tables_open.specs.SqlShelf
+pub use Rattle.office_tables_open.specs.Arranged
+pub use Rattle.office_tables_open.specs.Found
+pub use Rattle.office_tables_open.specs.Opening
+pub use Rattle.office_tables_open.specs.Promises

@@ -14,9 +14,9 @@ use Rattle.office_tables_sql.specs.Stored.{content_now, content_of}
 use Rattle.office_tables_former.specs.Former.{HasNoFormer, HasNoFormerRow}
 use Rattle.office_tables_former.specs.Migration.{IsMigrated, StandAnew}
 use Rattle.office_tables_former.specs.declared.puts.Migrated.{Migrated}
-use Rattle.office_tables.specs.declared.open.OpenFault.{OpenFault}
-use Rattle.office_tables.specs.declared.open.OpenFault.TheVariants as fault
-use Rattle.office_tables.specs.Version.{version_in, current_version, first_version}
+use Rattle.office_tables_open.specs.declared.open.OpenFault.{OpenFault}
+use Rattle.office_tables_open.specs.declared.open.OpenFault.TheVariants as fault
+use Rattle.office_tables_open.specs.Version.{version_in, current_version, first_version}
 
 -- today's version is stored, and the tables hold this
 abbrev pub HoldsToday : Content → Trees → Type 0

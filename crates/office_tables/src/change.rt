@@ -6,7 +6,7 @@ ghost use Rattle.sqlite.specs.Held.{state};
 ghost use Rattle.office_tables_shelf.specs.Change.{changed, changed_by};
 ghost use Rattle.office_tables_sql.specs.Stored.{content_now, content_of};
 ghost use Rattle.office_tables_sql.specs.Calls.{IsHonest, IsOffice, StandsOn};
-ghost use Rattle.office_tables.specs.Promises.{WasHonest, StaysReady, TurnsTo, LeavesNoMore};
+ghost use Rattle.office_tables_open.specs.Promises.{WasHonest, StaysReady, TurnsTo, LeavesNoMore};
 
 use office_tables_shelf::rows::RowChange;
 use office_tables_sql::statement::SqlFault;

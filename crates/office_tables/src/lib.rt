@@ -2,11 +2,9 @@
 #![tactic(auto)]
 
 mod change;
-mod found;
 mod migrate;
-pub mod open;
 pub mod sql_shelf;
-mod version;
 
 pub use office_tables_former::puts::Migrated;
+pub use office_tables_open::open;
 pub use office_tables_shelf::{counts, map_shelf, rows, shelf};

@@ -9,15 +9,17 @@ ghost use Rattle.office_tables.specs.Migrate.{KeepNoVersion, IsChangedToday, IsS
 ghost use Rattle.office_tables.specs.Migrate.{MayBecome, WritesToday, WritesAllToday, Migrates};
 ghost use Rattle.office_tables.specs.Migrate.{Brings};
 ghost use Rattle.office_tables.specs.Migrate.{TellsVersion, TellsFormerDamage, TellsDamage};
-ghost use Rattle.office_tables.specs.Promises.{WasHonest, StaysReady, LeavesNoMore, KeepsTrees};
-ghost use Rattle.office_tables.specs.Promises.{KeepsCommitted, Commits, EndsToday};
-ghost use Rattle.office_tables.specs.Promises.{IsArrangedIfClean};
+ghost use Rattle.office_tables_open.specs.Promises.{WasHonest, StaysReady, LeavesNoMore, KeepsTrees};
+ghost use Rattle.office_tables_open.specs.Promises.{KeepsCommitted, Commits, EndsToday};
+ghost use Rattle.office_tables_open.specs.Promises.{IsArrangedIfClean};
 
 use crate::change::change_rows;
-use crate::open::OpenFault;
-use crate::version::{FIRST_VERSION, VERSION, is_version, renew_version, stored_version};
 use office_tables_former::listing::{draft_rows, timing_rows};
 use office_tables_former::puts::{Migrated, draft_changes, timing_changes};
+use office_tables_open::open::OpenFault;
+use office_tables_open::version::{
+    FIRST_VERSION, VERSION, is_version, renew_version, stored_version,
+};
 use office_tables_shelf::rows::RowChange;
 use office_tables_sql::schema::is_office;
 use office_tables_sql::statement::SqlFault;

@@ -6,15 +6,15 @@ ghost use Rattle.sqlite.specs.Held.{state};
 ghost use Rattle.office_tables_sql.specs.Calls.{IsHonest};
 ghost use Rattle.office_tables.specs.Migrate.{Brings, StandsAnew, MayBecome};
 ghost use Rattle.office_tables.specs.Migrate.{TellsVersion, TellsDamage};
-ghost use Rattle.office_tables.specs.Promises.{KeepsCommitted, Settles, IsArrangedIfClean};
-ghost use Rattle.office_tables.specs.Opening.{IsOpened, IsRefused};
+ghost use Rattle.office_tables_open.specs.Promises.{KeepsCommitted, Settles, IsArrangedIfClean};
+ghost use Rattle.office_tables_open.specs.Opening.{IsOpened, IsRefused};
 
 use crate::change;
-use crate::found::checked;
 use crate::migrate::migrate;
-use crate::open::{OpenFault, claim, has_only_ours, prepared};
 use cabinet_core::{Delivery, Hand, Inspection, Order, PartCode, UsedLine};
 use office_tables_former::puts::Migrated;
+use office_tables_open::found::checked;
+use office_tables_open::open::{OpenFault, claim, has_only_ours, prepared};
 use office_tables_shelf::counts::WriteCounts;
 use office_tables_shelf::rows::{IntersectionRow, RowChange, Table};
 use office_tables_shelf::shelf::{Shelf, ShelfFault};
@@ -34,7 +34,7 @@ pub struct SqlShelf<S: Alter> {
 impl<S: Alter> Model for SqlShelf<S> {
     ghost use Rattle.sqlite.specs.Held.{state};
     ghost use Rattle.office_tables_sql.specs.Calls.{IsOffice};
-    ghost use Rattle.office_tables.specs.SqlShelf.{SqlView, view_code};
+    ghost use Rattle.office_tables_open.specs.SqlShelf.{SqlView, view_code};
 
     ghost Value = { SqlView S };
 
@@ -149,7 +149,7 @@ impl<S: Alter> Shelf for SqlShelf<S> {
     ghost use Rattle.sqlite.specs.Held.{state};
     ghost use Rattle.office_tables_sql.specs.Stored.{content_now};
     ghost use Rattle.office_tables_sql.specs.Calls.{IsHonest};
-    ghost use Rattle.office_tables.specs.SqlShelf.{MayLeave};
+    ghost use Rattle.office_tables_open.specs.SqlShelf.{MayLeave};
 
     ghost content = { λ s. content_now (state S.Store s.conn) };
 

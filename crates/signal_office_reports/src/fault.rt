@@ -165,7 +165,7 @@ impl From<Refusal> for Fault {
 
 impl From<OpenFault> for Fault {
     ghost use Rattle.std.specs.Prelude.{◌≡◌, ◌↔◌};
-    ghost use Rattle.office_tables.specs.declared.open.OpenFault.TheVariants as opened;
+    ghost use Rattle.office_tables_open.specs.declared.open.OpenFault.TheVariants as opened;
     ghost use Rattle.signal_office_reports.specs.declared.fault.Fault.TheVariants as told;
 
     ghost from_gives = { λ cause fault. ((fault ≡ told.Version) ↔ (cause ≡ opened.Version)) × ((fault ≡ told.Damaged) ↔ (cause ≡ opened.Damaged)) };

@@ -19,8 +19,8 @@ use Rattle.office_tables_shelf.specs.StandFor.{StandForSoundIn}
 use Rattle.office_tables.specs.Calls.{IsHonest}
 use Rattle.office_tables.specs.Stored.{content_now, content_of}
 use Rattle.office_tables.specs.Migrate.{IsBrought, MayBecome}
-use Rattle.office_tables.specs.Version.{version_in, current_version, first_version}
-use Rattle.office_tables.specs.declared.open.OpenFault.{OpenFault}
+use Rattle.office_tables_open.specs.Version.{version_in, current_version, first_version}
+use Rattle.office_tables_open.specs.declared.open.OpenFault.{OpenFault}
 use Rattle.office_tables_former.specs.Migration.{StandAnew}
 use Rattle.office_tables_former.specs.declared.puts.Migrated.{Migrated}
 use Rattle.office_tables_former.proofs.Migration.{stand_anew}

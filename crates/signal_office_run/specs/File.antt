@@ -6,7 +6,7 @@ use Rattle.sqlite.specs.Tree.{Trees}
 use Rattle.sqlite.specs.Held.{Held}
 use Rattle.sqlite.specs.State.{State}
 use Rattle.office_tables.specs.Content.{Content}
-use Rattle.office_tables.specs.SqlShelf.{MayLeave, SqlView}
+use Rattle.office_tables_open.specs.SqlShelf.{MayLeave, SqlView}
 use Rattle.office_tables.specs.Stored.{content_now, content_of}
 use Rattle.office_desk.specs.Office.{Office}
 use Rattle.office_desk.specs.StandFor.{StandForSound}

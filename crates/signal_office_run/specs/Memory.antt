@@ -3,7 +3,7 @@ use Rattle.std.specs.FinMap.{empty}
 use Rattle.sqlite.specs.Held.{state}
 use Rattle.sqlite.specs.Steps.{over_memory}
 use Rattle.sqlite_trees.specs.declared.memory.MemStore.{MemStore}
-use Rattle.office_tables.specs.SqlShelf.{SqlView}
+use Rattle.office_tables_open.specs.SqlShelf.{SqlView}
 use Rattle.office_tables.specs.Stored.{content_now}
 use Rattle.cabinet_core.specs.Register.{no_register}
 use Rattle.office_desk.specs.Office.{Office}

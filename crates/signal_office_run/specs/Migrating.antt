@@ -13,7 +13,7 @@ use Rattle.office_tables_shelf.specs.StandFor.{StandForSoundIn}
 use Rattle.office_tables.specs.Calls.{IsHonest}
 use Rattle.office_tables.specs.Stored.{content_of}
 use Rattle.office_tables_former.specs.Migration.{StandAnew}
-use Rattle.office_tables.specs.Version.{version_in, current_version, first_version}
+use Rattle.office_tables_open.specs.Version.{version_in, current_version, first_version}
 use Rattle.signal_office_run.specs.File.{AreThoseOf, StandInFiles}
 
 -- version 1 is stored, and as it reads the tables they stand for the office, which is sound by its rules

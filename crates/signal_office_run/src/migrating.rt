@@ -5,7 +5,7 @@ ghost use Rattle.sqlite.specs.Files.{file_state};
 ghost use Rattle.sqlite.specs.Held.{state};
 ghost use Rattle.sqlite.specs.State.{HasCleanDisk};
 ghost use Rattle.sqlite.specs.WalFiles.{image_at};
-ghost use Rattle.office_tables.specs.Promises.{KeepsCommitted, IsArrangedIfClean};
+ghost use Rattle.office_tables_open.specs.Promises.{KeepsCommitted, IsArrangedIfClean};
 ghost use Rattle.signal_office_run.specs.Migrating.{BringsToday, LeavesEither};
 ghost use Rattle.signal_office_run.specs.Migrating.{BringsFilesToday, KeepsFiles};
 ghost use Rattle.signal_office_run.specs.Migrating.{LeavesEitherOfFiles, StandTodayInBoth};

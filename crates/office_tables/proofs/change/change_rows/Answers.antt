@@ -5,7 +5,7 @@ use Rattle.office_tables_sql.specs.Stored.{content_now}
 use Rattle.sqlite.specs.Held.{state}
 use Rattle.sqlite.proofs.StateLemmas.{survives_then}
 use Rattle.office_tables_sql.proofs.CallLemmas.{stands_then}
-use Rattle.office_tables.proofs.VersionLemmas.{none_left}
+use Rattle.office_tables_open.proofs.VersionLemmas.{none_left}
 use Rattle.office_tables.proofs.change.change_rows.Goals as goal
 
 pub loop-change-preserved : goal.loop-change-preserved

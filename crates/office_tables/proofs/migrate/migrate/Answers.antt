@@ -1,6 +1,6 @@
 use Rattle.std.proofs.Common.{sym, ◌∙◌}
 use Rattle.sqlite.specs.Held.{state}
-use Rattle.office_tables.proofs.OpenLemmas.{arranged_office, not_true}
+use Rattle.office_tables_open.proofs.OpenLemmas.{arranged_office, not_true}
 use Rattle.office_tables.proofs.migrate.migrate.Goals as goal
 
 pub stored_version-requires : goal.stored_version-requires

@@ -9,7 +9,7 @@ use Rattle.office_tables_sql.specs.Calls.{IsHonest, IsOffice, IsReady}
 use Rattle.office_tables_sql.specs.Stored.{content_now, content_of}
 use Rattle.office_tables_sql.proofs.CallLemmas.{undone_office, begun_stands, failed_commit}
 use Rattle.office_tables.specs.Migrate.{HoldsToday}
-use Rattle.office_tables.specs.Version.{version_in}
+use Rattle.office_tables_open.specs.Version.{version_in}
 use Rattle.office_tables.proofs.migrate.write_anew.Goals as goal
 
 pub returns-in_err-commit-clause-office : goal.returns-in_err-commit-clause-office

@@ -1,4 +1,4 @@
-use Rattle.office_tables.proofs.ArrangedLemmas.{found_arranged}
+use Rattle.office_tables_open.proofs.ArrangedLemmas.{found_arranged}
 use Rattle.office_trials.proofs.migrating.migrate.Goals as goal
 
 pub migrate-requires : goal.migrate-requires

@@ -1,7 +1,7 @@
 use Rattle.std.proofs.Common.{sym, subst, ◌∙◌}
 use Rattle.std.proofs.lemmas.Result.{IfOk-weaker}
 use Rattle.sqlite.specs.Files.{file_state}
-use Rattle.office_tables.proofs.ArrangedLemmas.{found_arranged}
+use Rattle.office_tables_open.proofs.ArrangedLemmas.{found_arranged}
 use Rattle.office_desk.specs.StandFor.{StandForSound}
 use Rattle.signal_office_run.proofs.file.open_file.Goals as goal
 

@@ -1,5 +1,5 @@
 use Rattle.std.proofs.Common.{sym, subst}
-use Rattle.office_tables.specs.Opening.{IsOpened}
+use Rattle.office_tables_open.specs.Opening.{IsOpened}
 use Rattle.signal_office_run.proofs.file.open_tables.Goals as goal
 
 pub returns-in-Ok-clause-opened : goal.returns-in-Ok-clause-opened

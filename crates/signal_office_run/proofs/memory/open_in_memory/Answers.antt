@@ -2,7 +2,7 @@ use Rattle.std.proofs.Common.{◌∙◌, ap}
 use Rattle.sqlite.specs.Held.{state}
 use Rattle.sqlite.specs.Steps.{over_memory}
 use Rattle.sqlite_trees.specs.declared.memory.MemStore.{MemStore}
-use Rattle.office_tables.specs.SqlShelf.{SqlView}
+use Rattle.office_tables_open.specs.SqlShelf.{SqlView}
 use Rattle.office_tables.specs.Stored.{content_now}
 use Rattle.signal_office_run.proofs.MemoryLemmas.{memory_is_honest, nothing_stands}
 use Rattle.signal_office_run.proofs.memory.open_in_memory.Goals as goal

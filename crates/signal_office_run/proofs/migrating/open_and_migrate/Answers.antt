@@ -1,5 +1,5 @@
 use Rattle.sqlite.specs.Files.{file_state}
-use Rattle.office_tables.proofs.ArrangedLemmas.{found_arranged}
+use Rattle.office_tables_open.proofs.ArrangedLemmas.{found_arranged}
 use Rattle.signal_office_run.proofs.MigratingLemmas.{on_ok, on_err, found_formerly, found_those}
 use Rattle.signal_office_run.proofs.migrating.open_and_migrate.Goals as goal
 

@@ -4,10 +4,10 @@ use Rattle.sqlite.specs.Held.{state}
 use Rattle.sqlite.specs.Tree.{Trees}
 use Rattle.office_tables_sql.specs.Calls.{IsHonest}
 use Rattle.office_tables_sql.specs.Stored.{content_now, content_of}
-use Rattle.office_tables.specs.Found.{HasOtherVersion, HasRowsAlone}
-use Rattle.office_tables.specs.Opening.{IsOpened, MayBeTaken, OnlyReads}
-use Rattle.office_tables.specs.declared.open.OpenFault.TheVariants.{Version, Damaged}
-use Rattle.office_tables.proofs.OpenLemmas.{opened_looked, opened_made, refused_looked}
+use Rattle.office_tables_open.specs.Found.{HasOtherVersion, HasRowsAlone}
+use Rattle.office_tables_open.specs.Opening.{IsOpened, MayBeTaken, OnlyReads}
+use Rattle.office_tables_open.specs.declared.open.OpenFault.TheVariants.{Version, Damaged}
+use Rattle.office_tables_open.proofs.OpenLemmas.{opened_looked, opened_made, refused_looked}
 use Rattle.office_tables.proofs.sql_shelf.SqlShelf.open_arranged.Goals as goal
 
 pub returns-in-Ok-claim-clause-opened : goal.returns-in-Ok-claim-clause-opened

@@ -6,10 +6,10 @@ use Rattle.sqlite.specs.State.{HasCleanDisk}
 use Rattle.sqlite_trees.specs.Objects.{catalog_tree}
 use Rattle.sqlite_catalog.specs.Listing.{AreListed}
 use Rattle.office_tables_sql.specs.Schema.{no_schema}
-use Rattle.office_tables.specs.Arranged.{IsArranged}
-use Rattle.office_tables.specs.Version.{AreEmpty}
-use Rattle.office_tables.proofs.BlankLemmas.{blank_rows}
-use Rattle.office_tables.proofs.OpenLemmas.{opened_before, refused_before}
+use Rattle.office_tables_open.specs.Arranged.{IsArranged}
+use Rattle.office_tables_open.specs.Version.{AreEmpty}
+use Rattle.office_tables_open.proofs.BlankLemmas.{blank_rows}
+use Rattle.office_tables_open.proofs.OpenLemmas.{opened_before, refused_before}
 use Rattle.office_tables.proofs.sql_shelf.SqlShelf.open_returning.Goals as goal
 
 pub returns-in-Ok-clause-opened : goal.returns-in-Ok-clause-opened

@@ -1,0 +1,147 @@
+-- What is found in tables whose layout is not the office's.
+use Rattle.std.proofs.Common.{◌≡◌, ◌≢◌, inl, inr, ℕ, arith, Bool, true, false, true≢false, not, IsTrue, List, [], ◌∷◌, length, eqb, eq-eqb, filter, find, option_map, Option, None, Some, ℤ, pos, refl, sym, ap, subst, ◌∙◌, ◌&&◌}
+use Rattle.std.proofs.lemmas.Bool.{cases_Bool}
+use Rattle.std.specs.FinMap.{get, get-empty}
+use Rattle.std.specs.Ordering.{is_eq}
+use Rattle.sqlite.specs.Collation.TheVariants.{Binary}
+use Rattle.sqlite.specs.Ops.{binary, is_true, from_truth}
+use Rattle.sqlite.specs.Order.{Row, column}
+use Rattle.sqlite.specs.Tree.{Trees}
+use Rattle.sqlite.specs.View.{View, IsShaped}
+use Rattle.sqlite.specs.declared.types.Value.{Value}
+use Rattle.sqlite.specs.declared.types.Value.TheVariants.{Null, Int, Real, Text, Blob}
+use Rattle.sqlite_rules.proofs.ListLemmas.{all_has, all_from}
+use Rattle.sqlite_rules.specs.Lists.{Has}
+use Rattle.sqlite_schema.specs.Rules.{agree, equal}
+use Rattle.sqlite_schema.specs.declared.schema.Table.{Table}
+use Rattle.sqlite_trees.specs.Tree.{sought, from_key, has_rowid}
+use Rattle.sqlite_trees.specs.View.{with_cursor, Advances, Finds, is_int}
+use Rattle.sqlite_trees.specs.declared.store.Direction.TheVariants.{Forward}
+use Rattle.sqlite_trees.specs.declared.store.Shape.TheVariants as shape
+use Rattle.sqlite_value.specs.Keys.{plain, first_key}
+use Rattle.sqlite_value.specs.Order.{value_cmp}
+use Rattle.sqlite_value.specs.declared.keys.Order.{Order}
+use Rattle.office_tables_shelf.specs.Cells.{number, cells_cmp}
+use Rattle.office_tables_sql.specs.Layout as layout
+use Rattle.office_tables_sql.specs.Layout.{has_key, values_at}
+use Rattle.office_tables_sql.specs.Stored.{cell_of, cells, rows_in}
+use Rattle.office_tables_sql.proofs.StoredLemmas.{get_columns, sound_rowids}
+use Rattle.office_tables_open.specs.Found.{IsOneOfEight, KeepsVersion, StoresOtherAt, StoreOther, StoreNone, HaveNoRow, IsFoundAt, IsFound}
+use Rattle.office_tables_open.specs.Version.{version_at, current_version}
+use Rattle.office_tables_open.specs.declared.found.Found.{Found}
+use Rattle.office_tables_open.specs.declared.found.Found.TheVariants.{Nothing, RowsAlone, OtherVersion, Unknown}
+use Rattle.office_tables_open.specs.declared.found.TheConstants.{KEEPER}
+
+-- ---- the first row of a tree
+
+all_sought : (o : Order) (rows : List Row) → from_key o [] rows ≡ rows
+all_sought o [] = refl
+all_sought o (r ∷ rows) = refl
+
+module _ (old mid new : View) (o : Order) (key row : Row) (tree : ℕ) (none : key ≡ []) (is : mid ≡ with_cursor old 0 (sought o Forward key (old.trees tree))) where
+  left : mid.cursors 0 ≡ Some (old.trees tree)
+  left = ap (λ (v : View). v.cursors 0) is ∙ ap (λ k. Some (from_key o k (old.trees tree))) none ∙ ap Some (all_sought o (old.trees tree))
+
+  pub none_there : (found : Bool) → Advances mid new 0 row found → IsTrue (not found) → old.trees tree ≡ []
+  none_there true moved h = absurd (cc)
+  none_there false moved h = let ends : Some (old.trees tree) ≡ Some [] = sym left ∙ moved.0 in cc
+
+  pub some_there : (found : Bool) → Advances mid new 0 row found → ¬ IsTrue (not found) → old.trees tree ≢ []
+  some_there false moved h = λ e. h (cc)
+  some_there true moved h = λ e. let has : Some (row ∷ moved.0) ≡ Some (old.trees tree) = sym moved.1 ∙ left in absurd (let no : Some (row ∷ moved.0) ≡ Some [] = has ∙ ap Some e in cc)
+
+-- ---- the row under 1
+
+pub clash : (b : Bool) → IsTrue b → IsTrue (not b) → ⊥
+clash true it other = absurd (cc)
+clash false it other = absurd (cc)
+
+told : (b : Bool) → is_true (from_truth (Some b)) && true ≡ b
+told true = refl
+told false = refl
+
+key_of_int : (v : Value) → is_int v ≡ true → equal Binary v (Int (pos 1)) && true ≡ is_eq (value_cmp v (Int (pos 1)))
+unfolding binary
+key_of_int (Int n) h = told _
+key_of_int Null h = absurd (cc)
+key_of_int (Real x) h = absurd (cc)
+key_of_int (Text t) h = absurd (cc)
+key_of_int (Blob b) h = absurd (cc)
+
+rowid_key : (r : Row) → is_int (column r 0) ≡ true → has_key layout.office_version (Int (pos 1) ∷ []) r ≡ has_rowid (pos 1) r
+unfolding first_key
+rowid_key r int = key_of_int (column r 0) int
+
+first_found : (p q : Row → Bool) (rows : List Row) (row : Row) → ((r : Row) → Has rows r → p r ≡ q r) → filter q rows ≡ row ∷ [] → find p rows ≡ Some row
+first_found p q [] row same e = absurd (cc)
+first_found p q (r ∷ rows) row same e = elim (cases_Bool (q r)) [
+  | inl hit ↦ rw (same r (inl refl), hit) (let is : r ∷ filter q rows ≡ row ∷ [] = rw hit at e in let first : r ≡ row = cc in ap Some first)
+  | inr miss ↦ rw (same r (inl refl), miss) (first_found p q rows row (λ x there. same x (inr there)) (rw miss at e))
+]
+
+cell_number : (v : Value) (n : ℤ) → cell_of v ≡ number n → v ≡ Int n
+cell_number Null n e = absurd (cc)
+cell_number (Int m) n e = cc
+cell_number (Real x) n e = absurd (cc)
+cell_number (Text t) n e = absurd (cc)
+cell_number (Blob b) n e = absurd (cc)
+
+module _ (table : Table) (trees : Trees) (row : Row) (shaped : IsShaped shape.Table (trees table.tree)) (finds : Finds (trees table.tree) (pos 1) row true) where
+  version_is : version_at table.tree trees ≡ Some (cell_of (column row 2) ∷ [])
+  version_is =
+      let rows = trees table.tree in
+      get_columns layout.office_version rows (Int (pos 1) ∷ []) (sound_rowids layout.office_version refl rows shaped) refl
+      ∙ ap (λ (o : Option Row). option_map cells (option_map (values_at layout.office_version.columns) o)) (first_found (has_key layout.office_version (Int (pos 1) ∷ [])) (has_rowid (pos 1)) rows row (λ r there. rowid_key r (all_has _ rows r shaped.1 there)) finds)
+
+  pub other_stored : KeepsVersion table → column row 2 ≢ Int (pos 2) → StoresOtherAt table trees
+  other_stored keeps other = record {
+    keeps = keeps;
+    stored = λ none. absurd (let e : Some (cell_of (column row 2) ∷ []) ≡ None = sym version_is ∙ none in cc);
+    other = λ same. let e : Some (cell_of (column row 2) ∷ []) ≡ Some current_version = sym version_is ∙ same in let is : cell_of (column row 2) ≡ number (pos 2) = cc in other (cell_number _ _ is);
+  }
+
+-- ---- several tables
+
+pub differ : (a b : List ℕ) → a ≡ b → eqb (length a) (length b) ≡ false → ⊥
+differ a b same other = true≢false (sym (eq-eqb (length a) (length b) (ap length same)) ∙ other)
+
+pub apart : (name : List ℕ) → IsOneOfEight name → name ≡ KEEPER.now → ⊥
+apart name (inl e) k = differ _ _ (sym e ∙ k) refl
+apart name (inr (inl e)) k = differ _ _ (sym e ∙ k) refl
+apart name (inr (inr (inl e))) k = differ _ _ (sym e ∙ k) refl
+apart name (inr (inr (inr (inl e)))) k = differ _ _ (sym e ∙ k) refl
+apart name (inr (inr (inr (inr (inl e))))) k = differ _ _ (sym e ∙ k) refl
+apart name (inr (inr (inr (inr (inr (inl e)))))) k = differ _ _ (sym e ∙ k) refl
+apart name (inr (inr (inr (inr (inr (inr (inl e))))))) k = differ _ _ (sym e ∙ k) refl
+apart name (inr (inr (inr (inr (inr (inr (inr (inl e)))))))) k = differ _ _ (sym e ∙ k) refl
+apart name (inr (inr (inr (inr (inr (inr (inr (inr none)))))))) k = none
+
+module _ (trees : Trees) where
+  abbrev IsEmptyTable : Table → Type 0
+  IsEmptyTable t = trees t.tree ≡ []
+
+  none_here : (tree : ℕ) → trees tree ≡ [] → version_at tree trees ≡ None
+  none_here tree empty = ap (λ rows. get (rows_in layout.office_version rows) (number (pos 1) ∷ [])) empty ∙ get-empty cells_cmp (number (pos 1) ∷ [])
+
+  pub store_none : (ts : List Table) → IsFound Nothing ts trees → StoreNone ts trees
+  store_none ts all = all_from (λ t. t.name ≡ KEEPER.now → version_at t.tree trees ≡ None) ts (λ t there named. none_here t.tree (all_has IsEmptyTable ts t all there))
+
+  pub have_no_row : (ts : List Table) → IsFound Nothing ts trees → HaveNoRow ts trees
+  have_no_row ts all = all_from (λ t. IsOneOfEight t.name → trees t.tree ≡ []) ts (λ t there named. all_has IsEmptyTable ts t all there)
+
+  -- a table without a row before others
+  pub empty_before : (t : Table) (ts : List Table) (more : Found) → trees t.tree ≡ [] → IsFound more ts trees → IsFound more (t ∷ ts) trees
+  empty_before t ts Nothing empty h = (empty, h)
+  empty_before t ts RowsAlone empty h = ((λ named. none_here t.tree empty, h.0), λ all. h.1 all.1)
+  empty_before t ts OtherVersion empty h = (h.0, inr h.1, h.2)
+  empty_before t ts Unknown empty h = tt
+
+  -- a table with a row before others that store no version
+  pub rows_before : (t : Table) (ts : List Table) → IsFoundAt RowsAlone t trees → StoreNone ts trees → IsFound RowsAlone (t ∷ ts) trees
+  rows_before t ts here none = ((λ named. absurd (apart t.name here.0 named), none), λ all. here.1 (all.0 here.0))
+
+  pub other_before : (t : Table) (ts : List Table) → StoresOtherAt t trees → StoreOther (t ∷ ts) trees
+  other_before t ts here = (t, inl refl, here)
+
+  pub other_later : (t : Table) (ts : List Table) → StoreOther ts trees → StoreOther (t ∷ ts) trees
+  other_later t ts h = (h.0, inr h.1, h.2)

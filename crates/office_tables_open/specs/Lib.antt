@@ -1,0 +1,6 @@
+pub mod Version
+pub mod SqlShelf
+pub mod Arranged
+pub mod Found
+pub mod Opening
+pub mod Promises

@@ -1,0 +1,65 @@
+-- What a call that may fail promises of a connection, by the state that it found and the one that it left.
+use Rattle.std.specs.Prelude.{◌≡◌, Result, Some, OnOk, OnErr}
+use Rattle.sqlite.specs.State.{State, HasCleanDisk, Survives}
+use Rattle.sqlite.specs.Tree.{Trees}
+use Rattle.office_tables_sql.specs.Calls.{IsHonest, IsReady}
+use Rattle.office_tables_shelf.specs.Content.{Content}
+use Rattle.office_tables_sql.specs.Stored.{content_now, content_of}
+use Rattle.office_tables_open.specs.Arranged.{IsArranged}
+use Rattle.office_tables_open.specs.Version.{version_in, current_version}
+
+-- a step of a transaction that succeeds on a clean disk found it honest
+abbrev pub WasHonest : {A E : Type 0} → Result A E → State → State → Type 0
+WasHonest result old new = HasCleanDisk new → OnOk result (IsHonest old)
+
+-- it leaves the transaction as ready as it was
+abbrev pub StaysReady : {A E : Type 0} → Result A E → State → State → Type 0
+StaysReady result old new = HasCleanDisk new → OnOk result (IsReady old → IsReady new)
+
+-- the eight tables hold what they held
+abbrev pub StaysSame : {A E : Type 0} → Result A E → State → State → Type 0
+StaysSame result old new = HasCleanDisk new → OnOk result (IsReady old → content_now new ≡ content_now old)
+
+-- the eight tables then hold that
+abbrev pub TurnsTo : {A E : Type 0} → Result A E → Content → State → State → Type 0
+TurnsTo result tables old new = HasCleanDisk new → OnOk result (IsReady old → content_now new ≡ tables)
+
+-- today's version is stored
+abbrev pub StoresToday : {A E : Type 0} → Result A E → State → State → Type 0
+StoresToday result old new = HasCleanDisk new → OnOk result (IsReady old → version_in new.now.trees ≡ Some current_version)
+
+-- a stop leaves what it could leave before the call
+abbrev pub LeavesNoMore : State → State → Type 0
+LeavesNoMore old new = Survives old new (λ _. ⊥)
+
+-- a whole call keeps what the eight tables hold
+abbrev pub KeepsContent : State → State → Type 0
+KeepsContent old new = IsHonest new → content_now new ≡ content_now old
+
+-- and so does a stop
+abbrev pub LeavesContent : State → State → Type 0
+LeavesContent old new = Survives old new (λ trees. IsHonest old × (content_of trees ≡ content_now old))
+
+-- it ends with today's version stored
+abbrev pub EndsToday : {A E : Type 0} → Result A E → State → Type 0
+EndsToday result new = IsHonest new → OnOk result (version_in new.now.trees ≡ Some current_version)
+
+-- where the call fails, all that can be read is as it was
+abbrev pub KeepsTrees : {A E : Type 0} → Result A E → State → State → Type 0
+KeepsTrees result old new = IsHonest new → OnErr result (new.now.trees ≡ old.now.trees)
+
+-- and so is the last commit
+abbrev pub KeepsCommitted : {A E : Type 0} → Result A E → State → State → Type 0
+KeepsCommitted result old new = IsHonest new → OnErr result (new.committed.trees ≡ old.committed.trees)
+
+-- where it succeeds, all is committed
+abbrev pub Commits : {A E : Type 0} → Result A E → State → Type 0
+Commits result new = IsHonest new → OnOk result (new.committed.trees ≡ new.now.trees)
+
+-- and a stop leaves that alone
+abbrev pub Settles : {A E : Type 0} → Result A E → State → Type 0
+Settles result new = IsHonest new → OnOk result ((trees : Trees) → new.may_leave trees → trees ≡ new.now.trees)
+
+-- over a clean disk, the last commit is in order
+abbrev pub IsArrangedIfClean : State → Type 0
+IsArrangedIfClean s = HasCleanDisk s → IsArranged s.committed.trees

@@ -1,0 +1,249 @@
+//! What a database holds whose tables are the office's in another layout.
+
+ghost use Rattle.std.specs.Prelude.{◌≡◌, ◌≢◌, ◌∷◌, pos, Some, [], map, IsTrue, IfOk, OnOk};
+ghost use Rattle.sqlite.specs.Held.{state};
+ghost use Rattle.sqlite.specs.State.{HasCleanDisk};
+ghost use Rattle.sqlite_schema.specs.declared.schema.Table.{Table};
+ghost use Rattle.sqlite_trees.specs.Tree.{Trees};
+ghost use Rattle.sqlite_trees.specs.View.{IsClean, IsQuiet};
+ghost use Rattle.sqlite_value.specs.declared.value.Value.TheVariants.{Int};
+ghost use Rattle.sqlite_value.specs.Value.{owned};
+ghost use Rattle.office_tables_open.specs.Arranged.{IsUnchanged, IsTaken, IsCheckedAgain};
+ghost use Rattle.office_tables_open.specs.Found.{IsOneOf, StoresOtherAt, IsFound};
+ghost use Rattle.office_tables_open.specs.Found.{IsFoundAt, IsFoundIn};
+
+use crate::version::VERSION;
+use office_tables_sql::statement::SqlFault;
+use sqlite::{Alter, Connection};
+use sqlite_schema::schema::{Column, Table};
+use sqlite_trees::error::StoreError;
+use sqlite_trees::store::{Direction, Shape, Store};
+use sqlite_value::row::Row;
+use sqlite_value::value::ValueRef;
+use std::alloc::Global;
+
+/// The names of the eight tables.
+pub const EIGHT: [&str; 8] = [
+    "intersection",
+    "timing",
+    "draft",
+    "inspection",
+    "work_order",
+    "part",
+    "delivery",
+    "used_part",
+];
+
+/// The name of the table that keeps the version.
+pub const KEEPER: &str = "office_version";
+
+/// Its columns: the number 1, which is its rowid, and the version.
+const COLUMNS: [&str; 2] = ["one", "version"];
+
+/// What the tables hold.
+#[derive(Clone, Copy)]
+pub enum Found {
+    /// No row.
+    Nothing,
+    /// Rows, and no version.
+    RowsAlone,
+    /// Another version than today's.
+    OtherVersion,
+    /// Today's version, or rows that tell no version.
+    Unknown,
+}
+
+pub fn is_one_of(name: &[u8], names: &[&str]) -> bool
+    ensures { IsTrue result → IsOneOf name.now (map (λ text. text.now) names.now) }
+{
+    let Some((first, names)) = names.split_first() else {
+        return false;
+    };
+    name == first.as_bytes() || is_one_of(name, names)
+}
+
+fn are_named(columns: &[Column], names: &[&str]) -> bool
+    ensures { IsTrue result → map (λ c. c.name) columns.now ≡ map (λ text. text.now) names.now }
+{
+    let Some((column, columns)) = columns.split_first() else {
+        return names.is_empty();
+    };
+    let Some((name, names)) = names.split_first() else {
+        return false;
+    };
+    column.name.as_slice() == name.as_bytes() && are_named(columns, names)
+}
+
+/// Whether the table keeps a version as the office does.
+fn keeps_version(table: &Table) -> bool
+    ensures named { IsTrue result → table.now.name ≡ KEEPER.now }
+    ensures rowid { IsTrue result → table.now.key ≡ Some 0 }
+    ensures columns { IsTrue result →
+        map (λ c. c.name) table.now.columns ≡ map (λ text. text.now) COLUMNS }
+{
+    table.name.as_slice() == KEEPER.as_bytes()
+        && table.key == Some(0)
+        && are_named(table.columns.as_slice(), &COLUMNS)
+}
+
+/// Whether a tree has no row.
+fn is_vacant<S: Store>(alloc: Global, store: &mut S, tree: u32) -> Result<bool, StoreError>
+    ensures vacant { IsClean (S.Store.view store.new) →
+        IfOk result (λ vacant. IsTrue vacant → (S.Store.view store.old).trees tree ≡ []) }
+    ensures filled { IsClean (S.Store.view store.new) →
+        IfOk result (λ vacant. ¬ IsTrue vacant → (S.Store.view store.old).trees tree ≢ []) }
+    ensures same { IsClean (S.Store.view store.new) →
+        OnOk result (IsUnchanged (S.Store.view store.old) (S.Store.view store.new)) }
+    ensures quiet { IsQuiet S.Store.view S.Store.faults S.Store.recovers S.Store.is_shielded
+        store.old store.new }
+{
+    let key = Row::new(alloc);
+    let mut row = Row::new(alloc);
+    store.seek(0, tree, &key, Direction::Forward)?;
+    let found = store.next(0, &mut row)?;
+    Ok(!found)
+}
+
+/// Whether this is today's version.
+fn is_today(value: ValueRef<'_>) -> bool
+    ensures { owned value.entry ≡ Int (pos VERSION) → IsTrue result }
+{
+    matches!(value, ValueRef::Int(number) if number == i64::from(VERSION))
+}
+
+/// Whether the table stores another version than today's.
+fn stores_other<S: Store>(alloc: Global, store: &mut S, table: &Table) -> Result<bool, StoreError>
+    ensures other { IsClean (S.Store.view store.new) → IfOk result (λ other.
+        IsTrue other → StoresOtherAt table.now (S.Store.view store.old).trees) }
+    ensures same { IsClean (S.Store.view store.new) →
+        OnOk result (IsUnchanged (S.Store.view store.old) (S.Store.view store.new)) }
+    ensures quiet { IsQuiet S.Store.view S.Store.faults S.Store.recovers S.Store.is_shielded
+        store.old store.new }
+{
+    if !keeps_version(table) {
+        return Ok(false);
+    }
+    let Shape::Table = store.shape(table.tree) else {
+        return Ok(false);
+    };
+    let mut row = Row::new(alloc);
+    if !store.get(table.tree, 1, &mut row)? {
+        return Ok(false);
+    }
+    Ok(!is_today(row.get(2)))
+}
+
+/// What one table holds.
+fn found_at<S: Store>(alloc: Global, store: &mut S, table: &Table) -> Result<Found, StoreError>
+    ensures found { IsClean (S.Store.view store.new) →
+        IfOk result (λ found. IsFoundAt found table.now (S.Store.view store.old).trees) }
+    ensures same { IsClean (S.Store.view store.new) →
+        OnOk result (IsUnchanged (S.Store.view store.old) (S.Store.view store.new)) }
+    ensures quiet { IsQuiet S.Store.view S.Store.faults S.Store.recovers S.Store.is_shielded
+        store.old store.new }
+{
+    if is_vacant(alloc, store, table.tree)? {
+        return Ok(Found::Nothing);
+    }
+    if is_one_of(table.name.as_slice(), &EIGHT) {
+        return Ok(Found::RowsAlone);
+    }
+    if stores_other(alloc, store, table)? {
+        return Ok(Found::OtherVersion);
+    }
+    Ok(Found::Unknown)
+}
+
+/// What a table and the tables after it hold.
+fn both(first: Found, more: Found) -> Found
+    ensures { (table : Table) (tables : _) (trees : Trees) → IsFoundAt first table trees →
+        IsFound more tables trees → IsFound result (table ∷ tables) trees }
+{
+    match first {
+        Found::Nothing => more,
+        Found::OtherVersion => Found::OtherVersion,
+        Found::RowsAlone => match more {
+            Found::Nothing => Found::RowsAlone,
+            Found::RowsAlone => Found::RowsAlone,
+            Found::OtherVersion => Found::OtherVersion,
+            Found::Unknown => Found::Unknown,
+        },
+        Found::Unknown => match more {
+            Found::OtherVersion => Found::OtherVersion,
+            _ => Found::Unknown,
+        },
+    }
+}
+
+/// What the tables hold.
+fn found_in<S: Store>(alloc: Global, store: &mut S, tables: &[Table]) -> Result<Found, StoreError>
+    ensures found { IsClean (S.Store.view store.new) →
+        IfOk result (λ found. IsFound found tables.now (S.Store.view store.old).trees) }
+    ensures same { IsClean (S.Store.view store.new) →
+        OnOk result (IsUnchanged (S.Store.view store.old) (S.Store.view store.new)) }
+    ensures quiet { IsQuiet S.Store.view S.Store.faults S.Store.recovers S.Store.is_shielded
+        store.old store.new }
+{
+    let Some((table, tables)) = tables.split_first() else {
+        return Ok(Found::Nothing);
+    };
+    let first = found_at(alloc, store, table)?;
+    let more = found_in(alloc, store, tables)?;
+    Ok(both(first, more))
+}
+
+/// The store of a connection, as the last commit left it.
+fn store_of<S: Alter + Drop>(conn: Connection<S>) -> Result<S, SqlFault>
+    ensures { IfOk result (λ s. IsTaken (state S.Store conn) (S.Store.view s)) }
+{
+    let store = conn.into_store();
+    if store.is_broken() {
+        return Err(SqlFault::Store);
+    }
+    Ok(store)
+}
+
+/// The same database, which was checked again, so that each tree is known to hold what its list
+/// of objects says.
+pub fn checked<S: Alter + Drop>(
+    alloc: Global,
+    conn: Connection<S>,
+) -> Result<Connection<S>, SqlFault>
+    ensures { IfOk result (λ c. IsCheckedAgain (state S.Store conn) (state S.Store c)) }
+{
+    let store = store_of(conn)?;
+    match Connection::over(alloc, store) {
+        Ok(conn) => Ok(conn),
+        Err((error, _)) => Err(SqlFault::from(error)),
+    }
+}
+
+fn fault_of(error: StoreError) -> SqlFault {
+    match error {
+        StoreError::OutOfMemory => SqlFault::NoMemory,
+        _ => SqlFault::Store,
+    }
+}
+
+/// The same database, checked again, and what its tables hold.
+pub fn looked<S: Alter + Drop>(
+    alloc: Global,
+    conn: Connection<S>,
+) -> Result<(Found, Connection<S>), SqlFault>
+    ensures again { IfOk result (λ f. IsCheckedAgain (state S.Store conn) (state S.Store f.1)) }
+    ensures found { IfOk result (λ f. HasCleanDisk (state S.Store f.1) →
+        IsFoundIn f.0 (state S.Store conn)) }
+{
+    let Ok(schema) = conn.schema().copy(alloc) else {
+        return Err(SqlFault::NoMemory);
+    };
+    let mut store = store_of(conn)?;
+    let held = match found_in(alloc, &mut store, schema.tables.as_slice()) {
+        Ok(held) => held,
+        Err(error) => return Err(fault_of(error)),
+    };
+    match Connection::over(alloc, store) {
+        Ok(conn) => Ok((held, conn)),
+        Err((error, _)) => Err(SqlFault::from(error)),
+    }
+}

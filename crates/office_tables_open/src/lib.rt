@@ -1,0 +1,6 @@
+//! How tables that are found in a database are told, taken, and made anew.
+#![tactic(auto)]
+
+pub mod found;
+pub mod open;
+pub mod version;
