@@ -16,12 +16,12 @@ use crate::change;
 use crate::found::checked;
 use crate::migrate::migrate;
 use crate::open::{OpenFault, claim, has_only_ours, prepared};
-use cabinet_core::{Delivery, Hand, Inspection, Order, PartCode, UsedLine};
+use cabinet_core::{Day, Delivery, Hand, Inspection, Order, PartCode, UsedLine};
 use office_tables_former::puts::Migrated;
 use office_tables_shelf::counts::WriteCounts;
 use office_tables_shelf::rows::{IntersectionRow, RowChange, Table};
 use office_tables_shelf::shelf::{Shelf, ShelfFault};
-use office_tables_sql::{intersection, part, reads, timing};
+use office_tables_sql::{inspection, intersection, part, reads, timing};
 use signal_records::{Change, InterId, LineNo, RecordNo, Row};
 use sqlite::{Alter, Connection, FileFrom, FileStore, Start};
 use std::alloc::Global;
@@ -217,6 +217,10 @@ impl<S: Alter> Shelf for SqlShelf<S> {
 
     fn inspections(&mut self, alloc: Global, id: InterId) -> Result<Vec<Inspection>, ShelfFault> {
         reads::inspections(alloc, &mut self.conn, id)
+    }
+
+    fn last_inspection(&mut self, alloc: Global, id: InterId) -> Result<Option<Day>, ShelfFault> {
+        inspection::last_day(alloc, &mut self.conn, id)
     }
 
     fn order(
