@@ -130,7 +130,8 @@ impl Gather<Inspection> for LatestDay {
     }
 }
 
-/// The day of the latest inspection of an intersection, if there is one. No inspection is kept
+/// The day of the latest inspection of an intersection, if there is one. It refuses with Damaged
+/// where one of its inspections is no record, and with Store or NoMemory. No inspection is kept
 /// after it is read.
 pub fn last_day<S: Alter>(
     alloc: Global,
