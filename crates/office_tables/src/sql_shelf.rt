@@ -11,16 +11,16 @@ ghost use Rattle.office_tables_open.specs.Opening.{IsOpened, IsRefused};
 
 use crate::change;
 use crate::migrate::migrate;
-use cabinet_core::{Delivery, Hand, Inspection, Order, PartCode, UsedLine};
+use cabinet_core::{Day, Delivery, Hand, Inspection, Order, PartCode, UsedLine};
 use office_tables_former::puts::Migrated;
 use office_tables_open::found::checked;
 use office_tables_open::open::{OpenFault, claim, has_only_ours, prepared};
 use office_tables_shelf::counts::WriteCounts;
 use office_tables_shelf::rows::{IntersectionRow, RowChange, Table};
 use office_tables_shelf::shelf::{Shelf, ShelfFault};
-use office_tables_sql::{intersection, part, reads, timing};
+use office_tables_sql::{each_row, inspection, intersection, part, stored_row, timing};
 use signal_records::{Change, InterId, LineNo, RecordNo, Row};
-use sqlite::{Alter, Connection};
+use sqlite::{Alter, Connection, params};
 use std::alloc::Global;
 use std::marker::Model;
 
@@ -171,11 +171,11 @@ impl<S: Alter> Shelf for SqlShelf<S> {
         &mut self,
         alloc: Global,
     ) -> Result<Vec<(InterId, IntersectionRow)>, ShelfFault> {
-        reads::intersections(alloc, &mut self.conn)
+        each_row::list_all(alloc, &mut self.conn)
     }
 
     fn timing_rows(&mut self, alloc: Global, id: InterId) -> Result<Vec<Row>, ShelfFault> {
-        reads::timing_rows(alloc, &mut self.conn, id)
+        each_row::list(alloc, &mut self.conn, id)
     }
 
     fn committed_count(&mut self, _alloc: Global, id: InterId) -> Result<usize, ShelfFault> {
@@ -184,7 +184,7 @@ impl<S: Alter> Shelf for SqlShelf<S> {
     }
 
     fn draft_rows(&mut self, alloc: Global, id: InterId) -> Result<Vec<Change>, ShelfFault> {
-        reads::draft_rows(alloc, &mut self.conn, id)
+        each_row::list(alloc, &mut self.conn, id)
     }
 
     fn inspection(
@@ -193,11 +193,15 @@ impl<S: Alter> Shelf for SqlShelf<S> {
         id: InterId,
         number: RecordNo,
     ) -> Result<Option<Inspection>, ShelfFault> {
-        reads::inspection(alloc, &mut self.conn, id, number)
+        stored_row::find(alloc, &mut self.conn, id, params![id.get(), number.get()])
     }
 
     fn inspections(&mut self, alloc: Global, id: InterId) -> Result<Vec<Inspection>, ShelfFault> {
-        reads::inspections(alloc, &mut self.conn, id)
+        each_row::list(alloc, &mut self.conn, id)
+    }
+
+    fn last_inspection(&mut self, alloc: Global, id: InterId) -> Result<Option<Day>, ShelfFault> {
+        inspection::last_day(alloc, &mut self.conn, id)
     }
 
     fn order(
@@ -206,11 +210,11 @@ impl<S: Alter> Shelf for SqlShelf<S> {
         id: InterId,
         number: RecordNo,
     ) -> Result<Option<Order>, ShelfFault> {
-        reads::order(alloc, &mut self.conn, id, number)
+        stored_row::find(alloc, &mut self.conn, id, params![id.get(), number.get()])
     }
 
     fn orders(&mut self, alloc: Global, id: InterId) -> Result<Vec<Order>, ShelfFault> {
-        reads::orders(alloc, &mut self.conn, id)
+        each_row::list(alloc, &mut self.conn, id)
     }
 
     fn used_line(
@@ -220,11 +224,16 @@ impl<S: Alter> Shelf for SqlShelf<S> {
         order: RecordNo,
         line: LineNo,
     ) -> Result<Option<UsedLine>, ShelfFault> {
-        reads::used_line(alloc, &mut self.conn, id, order, line)
+        stored_row::find(
+            alloc,
+            &mut self.conn,
+            id,
+            params![id.get(), order.get(), line.get()],
+        )
     }
 
     fn used_lines(&mut self, alloc: Global, id: InterId) -> Result<Vec<UsedLine>, ShelfFault> {
-        reads::used_lines(alloc, &mut self.conn, id)
+        each_row::list(alloc, &mut self.conn, id)
     }
 
     fn delivery(
@@ -233,7 +242,12 @@ impl<S: Alter> Shelf for SqlShelf<S> {
         part: &PartCode,
         number: RecordNo,
     ) -> Result<Option<Delivery>, ShelfFault> {
-        reads::delivery(alloc, &mut self.conn, part, number)
+        stored_row::find(
+            alloc,
+            &mut self.conn,
+            (),
+            params![part.as_str(), number.get()],
+        )
     }
 
     fn hand(&mut self, alloc: Global, part: &PartCode) -> Result<Option<Hand>, ShelfFault> {
@@ -241,7 +255,7 @@ impl<S: Alter> Shelf for SqlShelf<S> {
     }
 
     fn parts(&mut self, alloc: Global) -> Result<Vec<(PartCode, Hand)>, ShelfFault> {
-        reads::parts(alloc, &mut self.conn)
+        each_row::list_all(alloc, &mut self.conn)
     }
 
     fn apply(&mut self, alloc: Global, changes: &[RowChange]) -> Result<(), ShelfFault> {

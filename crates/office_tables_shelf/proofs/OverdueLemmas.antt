@@ -19,7 +19,8 @@ exchanged : (x n : ℕ) (o : Option ℕ) → max x (greater n o) ≡ max n (grea
 exchanged x n None = omega arith
 exchanged x n (Some m) = omega arith
 
-latest_push : (inspections : List Inspection) (inspection : Inspection) → latest_day (inspections ++ inspection ∷ []) ≡ Some (greater inspection.day (latest_day inspections))
+-- the last one's day counts too
+pub latest_push : (inspections : List Inspection) (inspection : Inspection) → latest_day (inspections ++ inspection ∷ []) ≡ Some (greater inspection.day (latest_day inspections))
 latest_push [] inspection = refl
 latest_push (x ∷ xs) inspection =
     ap (λ o. Some (greater x.day o)) (latest_push xs inspection)

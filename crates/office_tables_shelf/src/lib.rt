@@ -6,7 +6,7 @@ mod map_cabinet;
 mod map_overdue;
 mod map_rows;
 pub mod map_shelf;
-mod overdue;
+pub mod overdue;
 mod place;
 pub mod rows;
 pub mod shelf;

@@ -9,7 +9,7 @@ use cabinet_core::{Day, Inspection, OverdueRow, Seen, overdue_row};
 use signal_records::{InterId, NoMemory};
 
 /// The later of a day and what there is besides.
-pub(crate) fn later(day: Day, last: Option<Day>) -> Day
+pub fn later(day: Day, last: Option<Day>) -> Day
     ensures { result ≡ greater day last }
 {
     match last {

@@ -8,7 +8,7 @@ use Rattle.sqlite.specs.Given.{IsPlain}
 use Rattle.sqlite.specs.Listing.{understood}
 use Rattle.sqlite.specs.Order.{Row}
 use Rattle.sqlite.specs.State.{State, HasCleanDisk, Survives, CommitsShowing, IsUnchanged, IsRolledBack, Shown, Begins, Fails, FailsToQuery}
-use Rattle.sqlite.proofs.Callers.{reads_as, begins_shown, EndsIn}
+use Rattle.sqlite.proofs.Callers.{reads_as, begins_shown, unchanged_then, EndsIn}
 use Rattle.sqlite.proofs.StateLemmas.{survives_weaker, survives_then}
 use Rattle.sqlite_trees.specs.View.{doubt}
 use Rattle.sqlite_rules.specs.Lists.{Has}
@@ -16,7 +16,12 @@ use Rattle.office_tables_sql.specs.Calls.{IsHonest, IsOffice, IsQuery, Keeps, Re
 use Rattle.office_tables_sql.specs.Schema.{office_schema}
 use Rattle.office_tables_sql.proofs.CallLemmas.{keeps, keeps_then, prepared_keeps, prepared_survives, unqueried_keeps, queried_reads, survives_self}
 use Rattle.office_tables_shelf.specs.declared.rows.Table.{Table}
-use Rattle.office_tables_sql.specs.Tables.{IsListText}
+use Rattle.office_tables_shelf.specs.Cells.{Cell}
+use Rattle.office_tables_sql.specs.Tables.{IsListText, row_shown, stored_for}
+
+-- what was gathered is of the records that the rows given so far show
+abbrev pub HasGathered : {X G : Type 0} → (G → List X → Type 0) → Table → (ℕ → X → List Cell) → (X → List Cell) → ℕ → List Row → G → Type 0
+HasGathered {X} holds t key columns id given found = (records : List X) × holds found records × (map (stored_for key columns id) records ≡ map (row_shown t) given)
 
 same_self : (s : State) → IsTrue s.is_open → IsUnchanged s s
 same_self s opened = (record { was_open = opened; is_open = opened; now_is = refl; committed_is = refl; mode = refl }, record { changes = refl; last_rowid = refl }, refl)
@@ -64,6 +69,17 @@ module _ (sql text : List ℕ) (params : Row) (query : IsQuery sql) (old : State
         undisturbed : Fails mid new ⊥ e ⊎ IsUnchanged mid new → IsUnchanged mid new ⊎ IsRolledBack mid new
         undisturbed (inl failed) = inr failed.3
         undisturbed (inr kept) = inl kept
+
+    -- at the next row
+    module _ (new : State) (then : Survives mid new (λ _. ⊥)) (after : mid.in_transaction ≡ false → new.in_transaction ≡ false) (step : HasCleanDisk new → IsUnchanged mid new) where
+      pub next_survives : Survives old new (λ _. ⊥)
+      next_survives = survives_on old mid new survives then
+
+      pub next_unchanged : HasCleanDisk new → IsUnchanged old new
+      next_unchanged clean = unchanged_then old mid new (same (omega (arith, clean, then.clean))) (step clean)
+
+      pub next_keeps : Keeps old new
+      next_keeps = prepared_keeps sql sql old new query office next_survives (after mode) (λ clean. (refl, next_unchanged clean))
 
     -- at the end
     pub all_read : (new : State) → Survives mid new (λ _. ⊥) → new.in_transaction ≡ false → (rows : List Row) → (HasCleanDisk new → Shown text params mid new rows) → IsHonest new → Reads sql params old.now rows

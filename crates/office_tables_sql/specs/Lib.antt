@@ -5,6 +5,7 @@ pub mod Stored
 pub mod Calls
 pub mod Listed
 pub mod Tables
+pub mod Gathers
 pub mod IntersectionTexts
 pub mod PartTexts
 pub mod DeliveryTexts

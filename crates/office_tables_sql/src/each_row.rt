@@ -1,6 +1,6 @@
 //! Rows of a table, read one at a time.
 
-ghost use Rattle.std.specs.Prelude.{◌≡◌, ◌≢◌, [], ◌∷◌, pos, IfOk, OnOk, IsTrue};
+ghost use Rattle.std.specs.Prelude.{◌≡◌, ◌≢◌, List, [], ◌∷◌, ◌++◌, pos, IfOk, OnOk, IsTrue};
 ghost use Rattle.sqlite.specs.State.{HasCleanDisk, Survives};
 ghost use Rattle.sqlite.specs.Held.{state};
 ghost use Rattle.sqlite.specs.Values.{bound};
@@ -8,14 +8,35 @@ ghost use Rattle.sqlite.specs.declared.types.Value.TheVariants.{Int};
 ghost use Rattle.office_tables_sql.specs.Stored.{content_now};
 ghost use Rattle.office_tables_sql.specs.Calls.{IsHonest, IsOffice, IsQuery, Keeps};
 ghost use Rattle.office_tables_sql.specs.Tables.{params_of, ListsRows, HasDamagedRow};
+ghost use Rattle.office_tables_sql.specs.Gathers.{Gathers};
 
 use crate::statement::SqlFault;
 use crate::stored_row::StoredRow;
 use office_tables_shelf::shelf::ShelfFault;
-use signal_records::InterId;
+use signal_records::{InterId, NoMemory};
 use sqlite::types::ValueRef;
 use sqlite::{Alter, Connection, Error, Statement, params};
 use std::alloc::Global;
+
+/// What gathers the records of a list, one after another.
+pub(crate) trait Gather<T>: Sized + Drop {
+    /// It holds what is to be known of these records.
+    ghost holds: { Self → List T → Type 0 };
+
+    /// Gathers one more record. It refuses where a growth is refused.
+    fn take(&mut self, next: T) -> Result<(), NoMemory>
+        ensures { OnOk result ((records : List T) → holds self.old records →
+            holds self.new (records ++ next ∷ [])) };
+}
+
+impl<T: Drop> Gather<T> for Vec<T> {
+    ghost holds = { λ found records. found.items ≡ records };
+
+    fn take(&mut self, next: T) -> Result<(), NoMemory> {
+        self.push(next)?;
+        Ok(())
+    }
+}
 
 /// Why the database refused.
 fn refused(error: Error) -> ShelfFault
@@ -37,7 +58,7 @@ fn prepared<S: Alter>(conn: &mut Connection<S>, sql: &str) -> Result<Statement, 
     Ok(statement)
 }
 
-/// The rows of the intersection, in the order of their keys. No row is kept after it is read.
+/// The rows of the intersection, in the order of their keys.
 pub fn list<T: StoredRow<Of = InterId>, S: Alter>(
     alloc: Global,
     conn: &mut Connection<S>,
@@ -50,8 +71,7 @@ pub fn list<T: StoredRow<Of = InterId>, S: Alter>(
     ensures kept { Keeps (state S.Store conn.old) (state S.Store conn.new) }
     ensures crash { Survives (state S.Store conn.old) (state S.Store conn.new) (λ _. ⊥) }
 {
-    let statement = prepared(conn, T::list_text())?;
-    list_each(alloc, conn, &statement, id, params![id.get()])
+    gathered::<T, Vec<T>, S>(alloc, conn, id, params![id.get()], Vec::new(alloc))
 }
 
 /// All rows of a table that is not parted by intersections, in the order of their keys.
@@ -66,28 +86,56 @@ pub fn list_all<T: StoredRow<Of = ()>, S: Alter>(
     ensures kept { Keeps (state S.Store conn.old) (state S.Store conn.new) }
     ensures crash { Survives (state S.Store conn.old) (state S.Store conn.new) (λ _. ⊥) }
 {
+    gathered::<T, Vec<T>, S>(alloc, conn, (), params![], Vec::new(alloc))
+}
+
+/// The rows of a list, gathered in the order of their keys by one that has none yet. No row is
+/// kept after it is read.
+pub(crate) fn gathered<T: StoredRow, G: Gather<T>, S: Alter>(
+    alloc: Global,
+    conn: &mut Connection<S>,
+    of: T::Of,
+    params: &[ValueRef<'_>],
+    begun: G,
+) -> Result<G, ShelfFault>
+    requires params { bound params.now ≡ params_of T.table (T.number of) }
+    requires office { IsOffice (state S.Store conn.old) }
+    requires begun { G.holds begun [] }
+    ensures rows { IfOk result (λ found. IsHonest (state S.Store conn.new) →
+        Gathers G.holds T.table T.key T.columns (content_now (state S.Store conn.old))
+        (T.number of) found) }
+    ensures damaged { result ≡ Err ShelfFault.Damaged → IsHonest (state S.Store conn.new) →
+        HasDamagedRow T.table T.is_within T.key T.columns (content_now (state S.Store conn.old))
+        (T.number of) }
+    ensures kept { Keeps (state S.Store conn.old) (state S.Store conn.new) }
+    ensures crash { Survives (state S.Store conn.old) (state S.Store conn.new) (λ _. ⊥) }
+{
     let statement = prepared(conn, T::list_text())?;
-    list_each(alloc, conn, &statement, (), params![])
+    gather_each::<T, G, S>(alloc, conn, &statement, of, params, begun)
 }
 
 /// Those rows, by the statement that is prepared for them.
-fn list_each<T: StoredRow, S: Alter>(
+fn gather_each<T: StoredRow, G: Gather<T>, S: Alter>(
     alloc: Global,
     conn: &mut Connection<S>,
     statement: &Statement,
     of: T::Of,
     params: &[ValueRef<'_>],
-) -> Result<Vec<T>, ShelfFault>
+    begun: G,
+) -> Result<G, ShelfFault>
     requires text { HasCleanDisk (state S.Store conn.old) → statement.now.text ≡ T.list_text }
     requires params { bound params.now ≡ params_of T.table (T.number of) }
     requires office { IsOffice (state S.Store conn.old) }
     requires opened { HasCleanDisk (state S.Store conn.old) → IsTrue (state S.Store conn.old).is_open }
-    ensures rows { IfOk result (λ found. IsHonest (state S.Store conn.new) → ListsRows T.table T.key T.columns (content_now (state S.Store conn.old)) (T.number of) found.items) }
+    requires begun { G.holds begun [] }
+    ensures rows { IfOk result (λ found. IsHonest (state S.Store conn.new) →
+        Gathers G.holds T.table T.key T.columns (content_now (state S.Store conn.old))
+        (T.number of) found) }
     ensures damaged { result ≡ Err ShelfFault.Damaged → IsHonest (state S.Store conn.new) → HasDamagedRow T.table T.is_within T.key T.columns (content_now (state S.Store conn.old)) (T.number of) }
     ensures kept { Keeps (state S.Store conn.old) (state S.Store conn.new) }
     ensures crash { Survives (state S.Store conn.old) (state S.Store conn.new) (λ _. ⊥) }
 {
-    let mut found = Vec::new(alloc);
+    let mut found = begun;
     let mut rows = match conn.query_prepared(statement, params) {
         Ok(rows) => rows,
         Err(error) => return Err(refused(error)),
@@ -100,9 +148,7 @@ fn list_each<T: StoredRow, S: Alter>(
             return Ok(found);
         };
         let record = T::read(alloc, of, row)?;
-        if found.push(record).is_err() {
-            return Err(ShelfFault::NoMemory);
-        }
+        found.take(record)?;
     }
     Err(ShelfFault::Store)
 }

@@ -1,15 +1,25 @@
 //! The table `inspection`: the inspections of each cabinet.
 
+ghost use Rattle.std.specs.Prelude.{◌≡◌, IfOk};
+ghost use Rattle.sqlite.specs.State.{Survives};
+ghost use Rattle.sqlite.specs.Held.{state};
+ghost use Rattle.cabinet_core.specs.Overdue.{latest_day};
+ghost use Rattle.office_tables_shelf.specs.CabinetReads.{HasDamagedInspection};
 ghost use Rattle.office_tables_shelf.specs.CabinetRows.{inspection_key, inspection_columns};
+ghost use Rattle.office_tables_shelf.specs.Overdue.{ReadsLast};
+ghost use Rattle.office_tables_sql.specs.Stored.{content_now};
+ghost use Rattle.office_tables_sql.specs.Calls.{IsHonest, IsOffice, Keeps};
 
+use crate::each_row::{Gather, gathered};
 use crate::listed::check_number;
 use crate::stored_row::StoredRow;
 use crate::value::{day_at, ranged_at, words_at};
-use cabinet_core::Inspection;
+use cabinet_core::{Day, Inspection};
+use office_tables_shelf::overdue::later;
 use office_tables_shelf::shelf::ShelfFault;
 use signal_records::{InterId, NoMemory};
-use sqlite::Row;
 use sqlite::types::{ToSql, ValueRef};
+use sqlite::{Alter, Connection, Row, params};
 use std::alloc::Global;
 
 const LIST: &str =
@@ -103,4 +113,40 @@ impl StoredRow for Inspection {
         let text = self.text.as_str().to_sql();
         Ok(vec![in alloc; id, number, day, clerk, text]?)
     }
+}
+
+/// The latest day of the inspections that were gathered, if there is one.
+#[derive(Drop)]
+struct LatestDay {
+    day: Option<Day>,
+}
+
+impl Gather<Inspection> for LatestDay {
+    ghost holds = { λ latest inspections. latest.day ≡ latest_day inspections };
+
+    fn take(&mut self, next: Inspection) -> Result<(), NoMemory> {
+        self.day = Some(later(next.day, self.day));
+        Ok(())
+    }
+}
+
+/// The day of the latest inspection of an intersection, if there is one. It refuses with Damaged
+/// where one of its inspections is no record, and with Store or NoMemory. No inspection is kept
+/// after it is read.
+pub fn last_day<S: Alter>(
+    alloc: Global,
+    conn: &mut Connection<S>,
+    id: InterId,
+) -> Result<Option<Day>, ShelfFault>
+    requires { IsOffice (state S.Store conn.old) }
+    ensures day { IfOk result (λ last. IsHonest (state S.Store conn.new) →
+        ReadsLast (content_now (state S.Store conn.old)) id last) }
+    ensures damaged { result ≡ Err ShelfFault.Damaged → IsHonest (state S.Store conn.new) →
+        HasDamagedInspection (content_now (state S.Store conn.old)) id }
+    ensures kept { Keeps (state S.Store conn.old) (state S.Store conn.new) }
+    ensures crash { Survives (state S.Store conn.old) (state S.Store conn.new) (λ _. ⊥) }
+{
+    let begun = LatestDay { day: None };
+    let latest = gathered::<Inspection, LatestDay, S>(alloc, conn, id, params![id.get()], begun)?;
+    Ok(latest.day)
 }

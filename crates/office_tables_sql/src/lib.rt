@@ -11,7 +11,6 @@ pub mod intersection;
 pub mod listed;
 pub mod order;
 pub mod part;
-pub mod reads;
 pub mod schema;
 pub mod statement;
 pub mod stored_row;

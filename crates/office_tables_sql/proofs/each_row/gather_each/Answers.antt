@@ -1,4 +1,4 @@
-use Rattle.std.proofs.Common.{◌≡◌, ◌++◌, rules, refl, None, Some, [], ◌∷◌, map, arith, ap, subst, sym, ◌∙◌, Err}
+use Rattle.std.proofs.Common.{◌≡◌, ◌++◌, rules, refl, None, Some, [], ◌∷◌, arith, ap, subst, sym, ◌∙◌, Err}
 use Rattle.std.specs.Prelude.{option_copied}
 use Rattle.sqlite.specs.Given.{GivesOn, row_if}
 use Rattle.sqlite.specs.Order.{Row}
@@ -8,10 +8,11 @@ use Rattle.sqlite.proofs.Callers.{given_begin, begun_plain, unchanged_then}
 use Rattle.office_tables_shelf.specs.declared.shelf.ShelfFault.TheVariants.{Damaged}
 use Rattle.office_tables_sql.specs.Calls.{IsHonest, Keeps, Reads}
 use Rattle.office_tables_sql.specs.Stored.{content_now}
-use Rattle.office_tables_sql.specs.Tables.{params_of, row_shown, stored_for, ListsRows, HasDamagedRow}
+use Rattle.office_tables_sql.specs.Tables.{params_of, row_shown, stored_for, HasDamagedRow}
+use Rattle.office_tables_sql.specs.Gathers.{Gathers}
 use Rattle.office_tables_sql.proofs.StoredLists.{lists, width, damaged_at}
-use Rattle.office_tables_sql.proofs.EachLemmas.{plain_at, refused_keeps, began_survives, still_keeps, broken_keeps, all_read, some_read, has_mid, one_more, survives_on}
-use Rattle.office_tables_sql.proofs.each_row.list_each.Goals as goal
+use Rattle.office_tables_sql.proofs.EachLemmas.{plain_at, refused_keeps, began_survives, still_keeps, broken_keeps, all_read, some_read, has_mid, one_more, survives_on, next_keeps}
+use Rattle.office_tables_sql.proofs.each_row.gather_each.Goals as goal
 
 pub returns-in-Err-clause-kept : goal.returns-in-Err-clause-kept
 returns-in-Err-clause-kept g c =
@@ -41,7 +42,7 @@ rows-init g c =
       mode,
       λ clean.
           let begun = begun_plain g.S.Store text params c.args.conn.now c.in-Ok.rows.conn.now (plain_at sql text params query old c.requires.office c.requires.opened c.requires.text (omega (arith, clean, survives.clean))) (made.begun clean) in
-          (begun.1, [], begun.0, rw c.new-found.ensures.items refl),
+          (begun.1, [], begun.0, ([], c.requires.begun, refl)),
     )
 
 pub returns-in-Err-advance-clause-kept : goal.returns-in-Err-advance-clause-kept
@@ -73,13 +74,13 @@ returns-in_default-get-clause-rows g c =
     let mode = step.mode inv.2 in
     let unchanged = λ (clean : HasCleanDisk new). unchanged_then old mid new (inv.3 (omega (arith, clean, step.survives.clean))).0 (step.same clean) in
     let none : row_if c.advance.new.self.has_row c.advance.new.self.conn.now ≡ None = sym c.get.ensures ∙ ap option_copied c.in_default-get.is in
-    let told : IsHonest new → ListsRows g.T.StoredRow.table g.T.StoredRow.key g.T.StoredRow.columns (content_now old) (g.T.StoredRow.number c.args.of) c.rows.found.items = λ honest.
+    let told : IsHonest new → Gathers g.G.Gather.holds g.T.StoredRow.table g.T.StoredRow.key g.T.StoredRow.columns (content_now old) (g.T.StoredRow.number c.args.of) c.rows.found = λ honest.
     let before = c.requires.office.schema in
     let now = inv.3 (omega (arith, honest.0, step.survives.clean)) in
     let shown = λ (clean : HasCleanDisk new). subst (GivesOn g.S.Store text params c.rows.rows.conn.now c.advance.new.self.conn.now now.1) none (step.ok clean text params now.1 now.2) in
     let reads : Reads sql params old.now now.1 = all_read sql text params means.query old c.requires.office c.requires.opened c.requires.text mid inv.1 inv.2 (λ clean. (inv.3 clean).0) new step.survives mode now.1 shown honest in
     let was : IsHonest old = (still_keeps sql text params means.query old c.requires.office c.requires.opened c.requires.text new survives mode unchanged).honest honest in
-    now.3 ∙ lists g.T.StoredRow.table old.now (c.requires.office.schema was) (c.requires.office.sound was) (c.requires.office.ordered was) sql means (g.T.StoredRow.number c.args.of) now.1 reads in
+    record { records = now.3.0; held = now.3.1; lists = now.3.2 ∙ lists g.T.StoredRow.table old.now (c.requires.office.schema was) (c.requires.office.sound was) (c.requires.office.ordered was) sql means (g.T.StoredRow.number c.args.of) now.1 reads } in
     search rules
 
 pub returns-in_default-get-clause-kept : goal.returns-in_default-get-clause-kept
@@ -93,10 +94,7 @@ returns-in_default-get-clause-kept g c =
     let mid = state g.S.Store c.rows.rows.conn.now in
     let new = state g.S.Store c.advance.new.self.conn.now in
     let step = c.in_default.ensures in
-    let survives = survives_on old mid new inv.1 step.survives in
-    let mode = step.mode inv.2 in
-    let unchanged = λ (clean : HasCleanDisk new). unchanged_then old mid new (inv.3 (omega (arith, clean, step.survives.clean))).0 (step.same clean) in
-    let kept : Keeps old new = still_keeps sql text params means.query old c.requires.office c.requires.opened c.requires.text new survives mode unchanged in
+    let kept : Keeps old new = next_keeps sql text params means.query old c.requires.office c.requires.opened c.requires.text mid inv.1 inv.2 (λ clean. (inv.3 clean).0) new step.survives step.mode step.same in
     search rules
 
 pub returns-in_err-record-clause-damaged : goal.returns-in_err-record-clause-damaged
@@ -141,14 +139,11 @@ returns-in_err-record-clause-kept g c =
     let mid = state g.S.Store c.rows.rows.conn.now in
     let new = state g.S.Store c.advance.new.self.conn.now in
     let step = c.in_default.ensures in
-    let survives = survives_on old mid new inv.1 step.survives in
-    let mode = step.mode inv.2 in
-    let unchanged = λ (clean : HasCleanDisk new). unchanged_then old mid new (inv.3 (omega (arith, clean, step.survives.clean))).0 (step.same clean) in
-    let kept : Keeps old new = still_keeps sql text params means.query old c.requires.office c.requires.opened c.requires.text new survives mode unchanged in
+    let kept : Keeps old new = next_keeps sql text params means.query old c.requires.office c.requires.opened c.requires.text mid inv.1 inv.2 (λ clean. (inv.3 clean).0) new step.survives step.mode step.same in
     search rules
 
-pub returns-then-is_err-clause-kept : goal.returns-then-is_err-clause-kept
-returns-then-is_err-clause-kept g c =
+pub returns-in_err-take-clause-kept : goal.returns-in_err-take-clause-kept
+returns-in_err-take-clause-kept g c =
     let sql = g.T.StoredRow.list_text in
     let text = c.args.statement.now.text in
     let params : Row = params_of g.T.StoredRow.table (g.T.StoredRow.number c.args.of) in
@@ -158,10 +153,7 @@ returns-then-is_err-clause-kept g c =
     let mid = state g.S.Store c.rows.rows.conn.now in
     let new = state g.S.Store c.advance.new.self.conn.now in
     let step = c.in_default.ensures in
-    let survives = survives_on old mid new inv.1 step.survives in
-    let mode = step.mode inv.2 in
-    let unchanged = λ (clean : HasCleanDisk new). unchanged_then old mid new (inv.3 (omega (arith, clean, step.survives.clean))).0 (step.same clean) in
-    let kept : Keeps old new = still_keeps sql text params means.query old c.requires.office c.requires.opened c.requires.text new survives mode unchanged in
+    let kept : Keeps old new = next_keeps sql text params means.query old c.requires.office c.requires.opened c.requires.text mid inv.1 inv.2 (λ clean. (inv.3 clean).0) new step.survives step.mode step.same in
     search rules
 
 pub rows-preserved : goal.rows-preserved
@@ -181,8 +173,7 @@ rows-preserved g c =
     let some : row_if c.advance.new.self.has_row c.advance.new.self.conn.now ≡ Some c.in-Some.row.now = sym c.get.ensures ∙ ap option_copied c.in-Some.is in
     let read = c.in_ok-record.record in
     let key = c.in_ok-record.ensures.key in
-    let columns = c.in_ok-record.ensures.columns in
-    let pushed : c.push.new.self.items ≡ c.rows.found.items ++ read ∷ [] = search rules in (
+    let columns = c.in_ok-record.ensures.columns in (
       step.same_reference ∙ inv.0,
       survives,
       mode,
@@ -192,6 +183,6 @@ rows-preserved g c =
             unchanged clean,
             now.1 ++ c.in-Some.row.now ∷ [],
             given,
-            ap (map (stored_for g.T.StoredRow.key g.T.StoredRow.columns (g.T.StoredRow.number c.args.of))) pushed ∙ one_more (stored_for g.T.StoredRow.key g.T.StoredRow.columns (g.T.StoredRow.number c.args.of)) (row_shown g.T.StoredRow.table) c.rows.found.items now.1 read c.in-Some.row.now now.3 (λ i. (key i, columns i)),
+            (now.3.0 ++ read ∷ [], c.in_ok-take.ensures now.3.0 now.3.1, one_more (stored_for g.T.StoredRow.key g.T.StoredRow.columns (g.T.StoredRow.number c.args.of)) (row_shown g.T.StoredRow.table) now.3.0 now.1 read c.in-Some.row.now now.3.2 (λ i. (key i, columns i))),
           ),
     )

@@ -1,10 +1,11 @@
-use Rattle.std.proofs.Common.{◌≡◌, false, List, map}
+use Rattle.std.proofs.Common.{◌≡◌, false, List}
 use Rattle.sqlite.specs.Order.{Row}
 use Rattle.sqlite.specs.State.{HasCleanDisk, IsUnchanged, Survives}
 use Rattle.sqlite.specs.Held.{state}
 use Rattle.sqlite.specs.Given.{HasGiven}
-use Rattle.office_tables_sql.specs.Tables.{params_of, row_shown, stored_for}
-use Rattle.office_tables_sql.proofs.each_row.list_each.Given as goal
+use Rattle.office_tables_sql.specs.Tables.{params_of}
+use Rattle.office_tables_sql.proofs.EachLemmas.{HasGathered}
+use Rattle.office_tables_sql.proofs.each_row.gather_each.Given as goal
 
 abbrev pub invariant-rows : goal.invariant-rows
 invariant-rows g l =
@@ -12,4 +13,4 @@ invariant-rows g l =
     let now = state g.S.Store l.rows.conn.now in
     (l.rows.conn.ghost_name ≡ l.initial.rows.conn.ghost_name) × Survives old now (λ _. ⊥) × (now.in_transaction ≡ false)
     × (HasCleanDisk now → IsUnchanged old now × (given : List Row) × HasGiven g.S.Store l.fn.statement.text (params_of g.T.StoredRow.table (g.T.StoredRow.number l.fn.of)) l.rows.conn.now given
-    × (map (stored_for g.T.StoredRow.key g.T.StoredRow.columns (g.T.StoredRow.number l.fn.of)) l.found.items ≡ map (row_shown g.T.StoredRow.table) given))
+    × HasGathered g.G.Gather.holds g.T.StoredRow.table g.T.StoredRow.key g.T.StoredRow.columns (g.T.StoredRow.number l.fn.of) given l.found)
