@@ -10,3 +10,4 @@ pub mod Sound
 pub mod Step
 pub mod Changes
 pub mod Runs
+pub mod Refusal

@@ -1,4 +1,7 @@
-//! Why the register refuses a command.
+//! Why the register refuses a command: one table of numbers and names.
+
+ghost use Rattle.std.specs.Prelude.{◌≡◌};
+ghost use Rattle.cabinet_core.specs.Refusal.{line_of};
 
 use std::alloc::{AllocError, AllocFailed};
 
@@ -27,6 +30,42 @@ pub enum CabinetRefusal {
     CloseDiffers,
     /// A growth was refused. It may stand in place of any other answer.
     NoMemory,
+}
+
+impl CabinetRefusal {
+    /// Its number and its name.
+    fn line(self) -> (u32, &'static str)
+        ensures number { result.0 ≡ (line_of self).0 }
+        ensures name { result.1.now ≡ (line_of self).1 }
+    {
+        match self {
+            CabinetRefusal::InspectionDiffers => (20, "InspectionDiffers"),
+            CabinetRefusal::OrderDiffers => (21, "OrderDiffers"),
+            CabinetRefusal::UnknownOrder => (22, "UnknownOrder"),
+            CabinetRefusal::OrderClosed => (23, "OrderClosed"),
+            CabinetRefusal::DayBeforeOpening => (24, "DayBeforeOpening"),
+            CabinetRefusal::NoStock => (25, "NoStock"),
+            CabinetRefusal::StockFull => (26, "StockFull"),
+            CabinetRefusal::DeliveryDiffers => (27, "DeliveryDiffers"),
+            CabinetRefusal::LineDiffers => (28, "LineDiffers"),
+            CabinetRefusal::CloseDiffers => (29, "CloseDiffers"),
+            CabinetRefusal::NoMemory => (90, "Unavailable"),
+        }
+    }
+
+    /// Its number, by which clients know it.
+    pub fn number(self) -> u32
+        ensures { result ≡ (line_of self).0 }
+    {
+        self.line().0
+    }
+
+    /// Its name, as answers show it.
+    pub fn name(self) -> &'static str
+        ensures { result.now ≡ (line_of self).1 }
+    {
+        self.line().1
+    }
 }
 
 impl From<AllocError> for CabinetRefusal {

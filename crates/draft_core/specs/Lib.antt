@@ -3,3 +3,4 @@ pub mod DraftRows
 pub mod Moves
 pub mod Writes
 pub mod Sound
+pub mod Refusal

@@ -1,4 +1,7 @@
-//! Why a command of the transaction is refused.
+//! Why a command of the transaction is refused: one table of numbers and names.
+
+ghost use Rattle.std.specs.Prelude.{◌≡◌};
+ghost use Rattle.draft_core.specs.Refusal.{line_of};
 
 use signal_records::NoMemory;
 
@@ -21,6 +24,39 @@ pub enum DraftRefusal {
     RevisionFull,
     /// A growth was refused.
     NoMemory,
+}
+
+impl DraftRefusal {
+    /// Its number and its name.
+    fn line(self) -> (u32, &'static str)
+        ensures number { result.0 ≡ (line_of self).0 }
+        ensures name { result.1.now ≡ (line_of self).1 }
+    {
+        match self {
+            DraftRefusal::NotNormal => (12, "NotNormal"),
+            DraftRefusal::NotTransaction => (13, "NotTransaction"),
+            DraftRefusal::NotOwner => (14, "NotOwner"),
+            DraftRefusal::NotVerify => (15, "NotVerify"),
+            DraftRefusal::NotDone => (16, "NotDone"),
+            DraftRefusal::VerifyFailed(_) => (17, "VerifyFailed"),
+            DraftRefusal::RevisionFull => (18, "RevisionFull"),
+            DraftRefusal::NoMemory => (90, "Unavailable"),
+        }
+    }
+
+    /// Its number, by which clients know it.
+    pub fn number(self) -> u32
+        ensures { result ≡ (line_of self).0 }
+    {
+        self.line().0
+    }
+
+    /// Its name, as answers show it.
+    pub fn name(self) -> &'static str
+        ensures { result.now ≡ (line_of self).1 }
+    {
+        self.line().1
+    }
 }
 
 impl From<NoMemory> for DraftRefusal {

@@ -147,17 +147,8 @@ tells_about tables asked about was known same is tells = subst (λ b. TellsAbout
 -- ---- the decision
 
 never_damaged : (why : CabinetRefusal) → reply.Refused (refusal_of_record why) ≢ reply.Refused refusal.Damaged
-never_damaged cabinet.InspectionDiffers e = cc
-never_damaged cabinet.OrderDiffers e = cc
-never_damaged cabinet.UnknownOrder e = cc
-never_damaged cabinet.OrderClosed e = cc
-never_damaged cabinet.DayBeforeOpening e = cc
-never_damaged cabinet.NoStock e = cc
-never_damaged cabinet.StockFull e = cc
-never_damaged cabinet.DeliveryDiffers e = cc
-never_damaged cabinet.LineDiffers e = cc
-never_damaged cabinet.CloseDiffers e = cc
 never_damaged cabinet.NoMemory e = cc
+never_damaged why e = cc
 
 told_undamaged : (done : Registered) → told (line_told done) ≢ reply.Refused refusal.Damaged
 told_undamaged (Added rows) e = cc

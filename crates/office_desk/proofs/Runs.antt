@@ -25,11 +25,11 @@ use Rattle.office_desk.specs.StandFor.{StandForSound}
 use Rattle.office_desk.specs.Step.{AreSound, Step, Run, answered, cabinet_of}
 use Rattle.office_desk.specs.declared.command.Command.{Command}
 use Rattle.office_desk.specs.declared.command.Command.TheVariants as command
+use Rattle.office_desk.specs.declared.refusal.Refusal.{Refusal}
 use Rattle.office_desk.specs.declared.refusal.Refusal.TheVariants as refusal
 use Rattle.office_desk.specs.declared.refusal.Refusal.TheVariants.{Unavailable}
 use Rattle.office_desk.specs.declared.reply.Reply.{Reply}
 use Rattle.office_desk.specs.declared.reply.Reply.TheVariants.{Refused}
-use Rattle.office_desk.proofs.Decisions.{refuses_so}
 use Rattle.office_desk.proofs.IntersectionTable.{no_damaged_intersection}
 use Rattle.office_desk.proofs.Recorded.{register_of}
 use Rattle.office_desk.proofs.Stands.{no_damage}
@@ -106,16 +106,19 @@ turned_away NoMemory reply e = inr e
 turned_away Store reply e = inr e
 turned_away Damaged reply e = inl e
 
+refused_as : (told why : Refusal) → Refused told ≡ Refused why → why ≡ told
+refused_as told why e = cc
+
 fault_named : (command : Command) (fault : ShelfFault) (reply : Reply) → reply ≡ Refused (refusal_of fault) → IsNamedFor command reply
-fault_named command NoMemory reply e = λ why told. refuses_so (90 ∷ 91 ∷ numbers_of command) Unavailable (inl refl) why (sym e ∙ told)
-fault_named command Store reply e = λ why told. refuses_so (90 ∷ 91 ∷ numbers_of command) Unavailable (inl refl) why (sym e ∙ told)
-fault_named command Damaged reply e = λ why told. refuses_so (90 ∷ 91 ∷ numbers_of command) refusal.Damaged (inr (inl refl)) why (sym e ∙ told)
+fault_named command NoMemory reply e = λ why told. inl (refused_as Unavailable why (sym e ∙ told))
+fault_named command Store reply e = λ why told. inl (refused_as Unavailable why (sym e ∙ told))
+fault_named command Damaged reply e = λ why told. inr (inl (refused_as refusal.Damaged why (sym e ∙ told)))
 
 named_more : (command : Command) (reply : Reply) → RefusesBy (numbers_of command) reply → IsNamedFor command reply
 named_more command reply named = λ why told. inr (inr (named why told))
 
 unavailable_named : (command : Command) → IsNamedFor command (Refused Unavailable)
-unavailable_named command = refuses_so (90 ∷ 91 ∷ numbers_of command) Unavailable (inl refl)
+unavailable_named command = λ why told. inl (refused_as Unavailable why told)
 
 pub no_items : (changes : List RowChange) → true ≡ (length changes == 0) → changes ≡ []
 no_items [] e = refl

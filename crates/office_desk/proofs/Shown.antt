@@ -28,6 +28,7 @@ use Rattle.office_desk.specs.Step.{answered, shown, state_shown, draft_shown}
 use Rattle.office_desk.specs.declared.command.Command.{Command}
 use Rattle.office_desk.specs.declared.command.Command.TheVariants as command
 use Rattle.office_desk.specs.declared.reading.Found.{Found}
+use Rattle.draft_core.specs.declared.refusal.DraftRefusal.TheVariants as draft
 use Rattle.office_desk.specs.declared.refusal.Refusal.TheVariants as refusal
 use Rattle.office_desk.specs.declared.reply.Reply.{Reply}
 use Rattle.office_desk.specs.declared.reply.Reply.TheVariants as reply
@@ -181,10 +182,10 @@ draft_shows timing side holder rows violations stands held made judged =
     let same : rows ≡ at.0.set = made ∙ draft_is timing side at.0 stands at.1 in
     (λ k. reply.Draft (record { owner = (sym at.2 k).owner; rows = same k; violations = (judged ∙ ap violations_of same) k })) ∙ sym (ap draft_shown at.1)
 
-pub no_draft_shows : (timing : Timing) (side : TimingSide) → TimingStands timing side → timing.holder ≡ None → reply.Refused refusal.NotTransaction ≡ draft_shown side.draft
+pub no_draft_shows : (timing : Timing) (side : TimingSide) → TimingStands timing side → timing.holder ≡ None → reply.Refused (refusal.Draft draft.NotTransaction) ≡ draft_shown side.draft
 no_draft_shows timing side stands free = go side.draft (sym free ∙ stands.same_holder)
   where
-    go : (d : Option Draft) → None ≡ option_map holder_of d → reply.Refused refusal.NotTransaction ≡ draft_shown d
+    go : (d : Option Draft) → None ≡ option_map holder_of d → reply.Refused (refusal.Draft draft.NotTransaction) ≡ draft_shown d
     go None e = refl
     go (Some draft) e = absurd (let f : None ≡ Some (holder_of draft) = e in cc)
 

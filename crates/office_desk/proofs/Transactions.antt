@@ -132,14 +132,8 @@ move_answers tables id clerk ask found decision reply changes words within finds
 -- ---- replies
 
 not_damaged : (why : DraftRefusal) → Refused (refusal_of_draft why) ≢ Refused refusal.Damaged
-not_damaged draft.NotNormal e = cc
-not_damaged draft.NotTransaction e = cc
-not_damaged draft.NotOwner e = cc
-not_damaged draft.NotVerify e = cc
-not_damaged draft.NotDone e = cc
-not_damaged (draft.VerifyFailed count) e = cc
-not_damaged draft.RevisionFull e = cc
 not_damaged draft.NoMemory e = cc
+not_damaged why e = cc
 
 reply_undamaged : (id : ℕ) (clerk : List ℕ) (found : Found) (decision : Result Move DraftRefusal) (reply : Reply) (changes : List RowChange) → WritesDecision id clerk found decision reply changes → reply ≢ Refused refusal.Damaged
 reply_undamaged id clerk found (Ok move) reply changes writes e = absurd (let f : Moved move.revision move.state move.verdict ≡ Refused refusal.Damaged = sym writes.told ∙ e in cc)

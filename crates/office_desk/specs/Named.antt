@@ -1,11 +1,12 @@
 -- Which refusals are named for a command, by their numbers in the table.
-use Rattle.std.specs.Prelude.{◌≡◌, ℕ, List, [], ◌∷◌, map, Option, Some, None}
+use Rattle.std.specs.Prelude.{◌≡◌, ◌⊎◌, ℕ, List, [], ◌∷◌, map, Option, Some, None}
 use Rattle.office_desk_cabinet.specs.Registers.{IsOneOf, refusals_of}
 use Rattle.office_desk.specs.Refusal.{line_of}
 use Rattle.office_desk.specs.Step.{cabinet_of, refusal_of_record}
 use Rattle.office_desk.specs.declared.command.Command.{Command}
 use Rattle.office_desk.specs.declared.command.Command.TheVariants as command
 use Rattle.office_desk.specs.declared.refusal.Refusal.{Refusal}
+use Rattle.office_desk.specs.declared.refusal.Refusal.TheVariants.{Unavailable, Damaged}
 use Rattle.office_desk.specs.declared.reply.Reply.{Reply}
 use Rattle.office_desk.specs.declared.reply.Reply.TheVariants.{Refused}
 
@@ -41,6 +42,7 @@ numbers_of (command.Overdue day) = []
 abbrev pub RefusesBy : List ℕ → Reply → Type 0
 RefusesBy numbers reply = (why : Refusal) → reply ≡ Refused why → IsOneOf numbers (number_of why)
 
--- a refusal is one that is named for the command, or Unavailable, or Damaged
+-- a refusal is Unavailable, or Damaged, or one that is named for the command; so want of memory, whose number no command names, is told as Unavailable
+-- alone
 abbrev pub IsNamedFor : Command → Reply → Type 0
-IsNamedFor command reply = RefusesBy (90 ∷ 91 ∷ numbers_of command) reply
+IsNamedFor command reply = (why : Refusal) → reply ≡ Refused why → (why ≡ Unavailable) ⊎ ((why ≡ Damaged) ⊎ IsOneOf (numbers_of command) (number_of why))

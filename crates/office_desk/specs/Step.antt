@@ -47,14 +47,8 @@ added office id interval name (Some i) = (if bytes_eq i.name name && (i.interval
 
 -- a refusal of the transaction; want of memory is no line of its table
 abbrev pub refusal_of_draft : DraftRefusal → Refusal
-refusal_of_draft draft.NotNormal = refusal.NotNormal
-refusal_of_draft draft.NotTransaction = refusal.NotTransaction
-refusal_of_draft draft.NotOwner = refusal.NotOwner
-refusal_of_draft draft.NotVerify = refusal.NotVerify
-refusal_of_draft draft.NotDone = refusal.NotDone
-refusal_of_draft (draft.VerifyFailed count) = refusal.VerifyFailed count
-refusal_of_draft draft.RevisionFull = refusal.RevisionFull
 refusal_of_draft draft.NoMemory = refusal.Unavailable
+refusal_of_draft why = refusal.Draft why
 
 -- where the transaction stands
 abbrev pub moved_to : TimingSide → Reply
@@ -85,7 +79,7 @@ state_shown id i = record {
 }
 
 abbrev pub draft_shown : Option Draft → Reply
-draft_shown None = Refused refusal.NotTransaction
+draft_shown None = Refused (refusal.Draft draft.NotTransaction)
 draft_shown (Some d) = Drafted (record { owner = d.owner; rows = d.set; violations = violations_of d.set })
 
 -- what a query shows of an intersection that is there, or not
@@ -95,18 +89,10 @@ shown (Some i) show = show i
 
 -- ---- the register
 
+-- a refusal of the register; want of memory is no line of its table
 abbrev pub refusal_of_record : CabinetRefusal → Refusal
-refusal_of_record cabinet.InspectionDiffers = refusal.InspectionDiffers
-refusal_of_record cabinet.OrderDiffers = refusal.OrderDiffers
-refusal_of_record cabinet.UnknownOrder = refusal.UnknownOrder
-refusal_of_record cabinet.OrderClosed = refusal.OrderClosed
-refusal_of_record cabinet.DayBeforeOpening = refusal.DayBeforeOpening
-refusal_of_record cabinet.NoStock = refusal.NoStock
-refusal_of_record cabinet.StockFull = refusal.StockFull
-refusal_of_record cabinet.DeliveryDiffers = refusal.DeliveryDiffers
-refusal_of_record cabinet.LineDiffers = refusal.LineDiffers
-refusal_of_record cabinet.CloseDiffers = refusal.CloseDiffers
 refusal_of_record cabinet.NoMemory = refusal.Unavailable
+refusal_of_record why = refusal.Cabinet why
 
 -- a line of the register's table as a reply
 abbrev pub told : Line → Reply

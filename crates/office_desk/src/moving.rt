@@ -94,14 +94,8 @@ fn refused(refusal: DraftRefusal) -> Refusal
     ensures { result ≡ refusal_of_draft refusal }
 {
     match refusal {
-        DraftRefusal::NotNormal => Refusal::NotNormal,
-        DraftRefusal::NotTransaction => Refusal::NotTransaction,
-        DraftRefusal::NotOwner => Refusal::NotOwner,
-        DraftRefusal::NotVerify => Refusal::NotVerify,
-        DraftRefusal::NotDone => Refusal::NotDone,
-        DraftRefusal::VerifyFailed(count) => Refusal::VerifyFailed(count),
-        DraftRefusal::RevisionFull => Refusal::RevisionFull,
         DraftRefusal::NoMemory => Refusal::Unavailable,
+        refusal => Refusal::Draft(refusal),
     }
 }
 

@@ -56,17 +56,8 @@ pub(crate) fn refused(refusal: CabinetRefusal) -> Refusal
     ensures { result ≡ refusal_of_record refusal }
 {
     match refusal {
-        CabinetRefusal::InspectionDiffers => Refusal::InspectionDiffers,
-        CabinetRefusal::OrderDiffers => Refusal::OrderDiffers,
-        CabinetRefusal::UnknownOrder => Refusal::UnknownOrder,
-        CabinetRefusal::OrderClosed => Refusal::OrderClosed,
-        CabinetRefusal::DayBeforeOpening => Refusal::DayBeforeOpening,
-        CabinetRefusal::NoStock => Refusal::NoStock,
-        CabinetRefusal::StockFull => Refusal::StockFull,
-        CabinetRefusal::DeliveryDiffers => Refusal::DeliveryDiffers,
-        CabinetRefusal::LineDiffers => Refusal::LineDiffers,
-        CabinetRefusal::CloseDiffers => Refusal::CloseDiffers,
         CabinetRefusal::NoMemory => Refusal::Unavailable,
+        refusal => Refusal::Cabinet(refusal),
     }
 }
 

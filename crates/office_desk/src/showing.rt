@@ -12,6 +12,7 @@ use crate::decided::Decided;
 use crate::reading::{Found, find, intersection_row, set_of};
 use crate::refusal::Refusal;
 use crate::reply::{IntersectionState, OpenDraft, Reply, RunningTiming, Violations};
+use draft_core::refusal::DraftRefusal;
 use draft_core::state::{DbState, Holder, Stage, Verdict};
 use draft_core::timing::Timing;
 use draft_core::{overlay, verdict};
@@ -130,7 +131,8 @@ fn draft_of(alloc: Global, found: Found) -> Result<Reply, NoMemory>
         ..
     } = found.timing;
     let Some(holder) = holder else {
-        return Ok(Reply::Refused(Refusal::NotTransaction));
+        let refusal = DraftRefusal::NotTransaction;
+        return Ok(Reply::Refused(Refusal::Draft(refusal)));
     };
     let rows = overlay(alloc, &committed, delta.as_slice())?;
     let violations = Violations::new(violations(alloc, &rows)?);

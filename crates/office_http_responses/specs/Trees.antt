@@ -2,13 +2,14 @@
 use Rattle.std.specs.Prelude.{ℕ, List, [], ◌∷◌, codes}
 use Rattle.std.specs.FinMap.{values}
 use Rattle.serde_json.specs.Data.{Data}
+use Rattle.draft_core.specs.declared.refusal.DraftRefusal.TheVariants.{VerifyFailed}
 use Rattle.draft_core.specs.declared.state.DbState.{DbState}
 use Rattle.draft_core.specs.declared.state.DbState.TheVariants.{Normal, Transaction, Verify, Done}
 use Rattle.draft_core.specs.declared.state.Verdict.{Verdict}
 use Rattle.draft_core.specs.declared.state.Verdict.TheVariants.{NotDone, DoneWithError, DoneWithNoError}
 use Rattle.office_desk.specs.Refusal.{Line, line_of}
 use Rattle.office_desk.specs.declared.refusal.Refusal.{Refusal}
-use Rattle.office_desk.specs.declared.refusal.Refusal.TheVariants.{VerifyFailed, ImportRow}
+use Rattle.office_desk.specs.declared.refusal.Refusal.TheVariants as refusal
 use Rattle.office_desk.specs.declared.reply.IntersectionState.{IntersectionState}
 use Rattle.office_desk.specs.declared.reply.OpenDraft.{OpenDraft}
 use Rattle.office_desk.specs.declared.reply.Reply.{Reply}
@@ -46,22 +47,22 @@ error_tree line = keys ((codes "error", text line.name) ∷ (codes "number", cou
 
 -- the tree of a refusal
 abbrev pub refusal_tree : Refusal → Data
-refusal_tree (VerifyFailed violations) =
+refusal_tree (refusal.Draft (VerifyFailed violations)) =
     keys (
     (codes "count", count violations)
-    ∷ (codes "error", text (line_of (VerifyFailed violations)).name)
-    ∷ (codes "number", count (line_of (VerifyFailed violations)).number)
+    ∷ (codes "error", text (line_of (refusal.Draft (VerifyFailed violations))).name)
+    ∷ (codes "number", count (line_of (refusal.Draft (VerifyFailed violations))).number)
     ∷ []
     )
-refusal_tree (ImportRow at cause) =
+refusal_tree (refusal.ImportRow at cause) =
     keys (
     (codes "cause", count cause)
-    ∷ (codes "error", text (line_of (ImportRow at cause)).name)
-    ∷ (codes "number", count (line_of (ImportRow at cause)).number)
+    ∷ (codes "error", text (line_of (refusal.ImportRow at cause)).name)
+    ∷ (codes "number", count (line_of (refusal.ImportRow at cause)).number)
     ∷ (codes "record", count at)
     ∷ []
     )
-refusal_tree refusal = error_tree (line_of refusal)
+refusal_tree why = error_tree (line_of why)
 
 -- what State shows of an intersection
 abbrev pub state_tree : IntersectionState → Data
@@ -119,7 +120,7 @@ tree_of (Cabinet shown) = cabinet_tree shown.inspections shown.orders shown.line
 tree_of (OpenOrders numbers) = open_tree numbers
 tree_of (Stock parts) = stock_tree parts
 tree_of (Overdue rows) = overdue_tree rows
-tree_of (Refused refusal) = refusal_tree refusal
+tree_of (Refused why) = refusal_tree why
 
 -- a CSV text, as the one key of an object
 abbrev pub csv_tree : List ℕ → Data

@@ -10,6 +10,7 @@ use crate::csv_text::{write_cabinet_csv, write_timing_csv};
 use crate::lists::write_rows;
 use crate::writing::Scalar::{Null, Number, Text};
 use crate::writing::{Scalar, array, object, object_of_array};
+use draft_core::refusal::DraftRefusal;
 use draft_core::state::{DbState, Verdict};
 use json::Writer;
 use office_desk::refusal::Refusal;
@@ -46,7 +47,7 @@ fn write_refusal(alloc: Global, to: &mut Writer, refusal: Refusal) -> Result<(),
     let error = Text(refusal.name());
     let number = Number(u64::from(refusal.number()));
     match refusal {
-        Refusal::VerifyFailed(count) => object(
+        Refusal::Draft(DraftRefusal::VerifyFailed(count)) => object(
             alloc,
             to,
             &[

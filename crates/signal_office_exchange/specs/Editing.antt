@@ -5,6 +5,7 @@ use Rattle.office_tables_shelf.specs.Content.{Content}
 use Rattle.signal_records.specs.declared.record.Change.{Change}
 use Rattle.signal_rules.specs.declared.violation.Violation.{Violation}
 use Rattle.office_files.specs.Changes.{changes_of}
+use Rattle.draft_core.specs.declared.refusal.DraftRefusal.TheVariants.{NotNormal}
 use Rattle.office_desk.specs.declared.command.Command.{Command}
 use Rattle.office_desk.specs.declared.command.Command.TheVariants as command
 use Rattle.office_desk.specs.declared.refusal.Refusal.TheVariants as refusal
@@ -40,7 +41,7 @@ moved other = Err told.Store
 
 -- the same of the first step, where a transaction may be under way
 abbrev pub begun : Reply → Result Unit Fault
-begun (reply.Refused refusal.NotNormal) = Ok tt
+begun (reply.Refused (refusal.Draft NotNormal)) = Ok tt
 begun other = moved other
 
 -- the first two steps of an edit

@@ -1,5 +1,6 @@
 -- How the program tells what the office refused.
-use Rattle.std.specs.Prelude.{ℕ, ◌==◌, List, [], ◌∷◌, Option, Some, None, find}
+use Rattle.std.specs.Prelude.{ℕ, ◌==◌, List, [], ◌∷◌, Option, Some, None, find, map}
+use Rattle.cabinet_core.specs.declared.refusal.CabinetRefusal.TheVariants as cabinet
 use Rattle.office_desk.specs.Refusal.{line_of}
 use Rattle.office_desk.specs.declared.refusal.Refusal.{Refusal}
 use Rattle.office_desk.specs.declared.refusal.Refusal.TheVariants as refusal
@@ -9,10 +10,10 @@ use Rattle.signal_office_reports.specs.declared.fault.Fault.TheVariants as told
 -- what a record of the register may be refused for
 abbrev pub of_records : List Refusal
 of_records =
-    refusal.UnknownIntersection ∷ refusal.InspectionDiffers ∷ refusal.OrderDiffers
-    ∷ refusal.UnknownOrder
-    ∷ refusal.OrderClosed ∷ refusal.DayBeforeOpening ∷ refusal.NoStock ∷ refusal.StockFull
-    ∷ refusal.DeliveryDiffers ∷ refusal.LineDiffers ∷ refusal.CloseDiffers ∷ []
+    refusal.UnknownIntersection ∷ map (λ why. refusal.Cabinet why) (
+    cabinet.InspectionDiffers ∷ cabinet.OrderDiffers ∷ cabinet.UnknownOrder
+    ∷ cabinet.OrderClosed ∷ cabinet.DayBeforeOpening ∷ cabinet.NoStock ∷ cabinet.StockFull
+    ∷ cabinet.DeliveryDiffers ∷ cabinet.LineDiffers ∷ cabinet.CloseDiffers ∷ [])
 
 -- the first with a number
 abbrev pub with_number : ℕ → List Refusal → Option Refusal

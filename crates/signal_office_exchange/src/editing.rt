@@ -8,6 +8,7 @@ ghost use Rattle.signal_office_exchange.specs.Editing.{is_due, Does, EditsAs, Go
 
 use crate::refused::fault_of;
 use draft_core::changes::Changes;
+use draft_core::refusal::DraftRefusal;
 use office_desk::command::Command;
 use office_desk::office::Office;
 use office_desk::refusal::Refusal;
@@ -43,7 +44,7 @@ fn begun(reply: &Reply) -> Result<(), Fault>
     ensures { result ≡ begun reply.now }
 {
     match reply {
-        Reply::Refused(Refusal::NotNormal) => Ok(()),
+        Reply::Refused(Refusal::Draft(DraftRefusal::NotNormal)) => Ok(()),
         reply => moved(reply),
     }
 }

@@ -3,22 +3,23 @@
 ghost use Rattle.std.specs.Prelude.{◌≡◌};
 ghost use Rattle.signal_office_exchange.specs.Refused.{fault_of, record_refusal, with_number};
 
+use cabinet_core::CabinetRefusal;
 use office_desk::refusal::Refusal;
 use signal_office_reports::Fault;
 
 /// The refusals that a record of the register may get.
 const OF_RECORDS: [Refusal; 11] = [
     Refusal::UnknownIntersection,
-    Refusal::InspectionDiffers,
-    Refusal::OrderDiffers,
-    Refusal::UnknownOrder,
-    Refusal::OrderClosed,
-    Refusal::DayBeforeOpening,
-    Refusal::NoStock,
-    Refusal::StockFull,
-    Refusal::DeliveryDiffers,
-    Refusal::LineDiffers,
-    Refusal::CloseDiffers,
+    Refusal::Cabinet(CabinetRefusal::InspectionDiffers),
+    Refusal::Cabinet(CabinetRefusal::OrderDiffers),
+    Refusal::Cabinet(CabinetRefusal::UnknownOrder),
+    Refusal::Cabinet(CabinetRefusal::OrderClosed),
+    Refusal::Cabinet(CabinetRefusal::DayBeforeOpening),
+    Refusal::Cabinet(CabinetRefusal::NoStock),
+    Refusal::Cabinet(CabinetRefusal::StockFull),
+    Refusal::Cabinet(CabinetRefusal::DeliveryDiffers),
+    Refusal::Cabinet(CabinetRefusal::LineDiffers),
+    Refusal::Cabinet(CabinetRefusal::CloseDiffers),
 ];
 
 /// The first of some refusals that has a number.

@@ -1,6 +1,7 @@
 use Rattle.std.proofs.Common.{◌∙◌, ◌∷◌, [], ap, inl, refl}
 use Rattle.signal_records.specs.TimingSet.{after_changes}
-use Rattle.office_desk.specs.declared.refusal.Refusal.TheVariants.{NotTransaction}
+use Rattle.draft_core.specs.declared.refusal.DraftRefusal.TheVariants.{NotTransaction}
+use Rattle.office_desk.specs.declared.refusal.Refusal.TheVariants.{Draft}
 use Rattle.office_desk.proofs.Decisions.{refuses_so}
 use Rattle.office_desk.proofs.Shown.{draft_shows, no_draft_shows}
 use Rattle.office_desk.proofs.showing.draft_of.Goals as goal
@@ -12,7 +13,7 @@ pub returns-clause-shows : goal.returns-clause-shows
 returns-clause-shows c = λ side stands. draft_shows _ side c.in-Some.holder _ _ stands c.in-Some.is (c.in_ok-rows.ensures ∙ ap (after_changes c.args.found.timing.committed) c.as_slice.ensures) (c.new-violations.ensures ∙ c.in_ok-violations.ensures)
 
 pub returns-in_default-clause-named : goal.returns-in_default-clause-named
-returns-in_default-clause-named c = refuses_so (13 ∷ []) NotTransaction (inl refl)
+returns-in_default-clause-named c = refuses_so (13 ∷ []) (Draft NotTransaction) (inl refl)
 
 pub returns-clause-named : goal.returns-clause-named
 returns-clause-named c = λ why e. absurd cc
