@@ -1,6 +1,6 @@
 pub mod VersionLemmas
 mod StatementLemmas
-mod BlankLemmas
+pub mod BlankLemmas
 pub mod ArrangedLemmas
 pub mod OpenLemmas
 mod FoundLemmas

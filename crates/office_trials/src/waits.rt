@@ -14,8 +14,8 @@ use std::net::{Ipv4Addr, Shutdown, SocketAddr, TcpListener, TcpStream};
 
 /// An answer is written before the next request is asked for.
 pub(crate) fn serve_in_turn(alloc: Global) -> Result<(), Trouble> {
-    let taken = Cell::new(0);
-    let mut reader = Patient::new(&STREAM[..93], &STREAM[93..127], 89, &taken);
+    let (taken, stream) = (Cell::new(0), STREAM.as_slice());
+    let mut reader = Patient::new(&stream[..93], &stream[93..127], 89, &taken);
     let mut writer = Telling::new(&taken);
     let mut office = Office::new(MapShelf::new(alloc));
     let served = serve(alloc, &mut office, &mut reader, &mut writer, 9);
@@ -25,7 +25,8 @@ pub(crate) fn serve_in_turn(alloc: Global) -> Result<(), Trouble> {
 
 /// A stream without end is served to the limit.
 pub(crate) fn serve_without_end(alloc: Global) -> Result<(), Trouble> {
-    let mut reader = Endless::new(&STREAM[93..127]);
+    let stream = STREAM.as_slice();
+    let mut reader = Endless::new(&stream[93..127]);
     let mut writer = ToWrite::new(Vec::new(alloc));
     let mut office = Office::new(MapShelf::new(alloc));
     let served = serve(alloc, &mut office, &mut reader, &mut writer, 3);
@@ -60,7 +61,7 @@ fn send(rt: &HostRuntime, listener: &TcpListener) -> io::Result<TcpStream> {
 /// Two connections wait, and each gets its own two answers: the first adds the intersection, and
 /// the second finds it there.
 pub(crate) fn serve_two_connections(rt: &HostRuntime) -> Result<(), Trouble> {
-    let alloc = rt.alloc();
+    let (alloc, answers) = (rt.alloc(), ANSWERS.as_slice());
     let listener = TcpListener::bind(rt, SocketAddr::from((Ipv4Addr::LOCALHOST, 0)))?;
     let first = send(rt, &listener)?;
     let second = send(rt, &listener)?;
@@ -68,13 +69,9 @@ pub(crate) fn serve_two_connections(rt: &HostRuntime) -> Result<(), Trouble> {
     let is_served = serve_on(alloc, &listener, 2, &mut office).is_ok();
     holds(is_served, "two connections")?;
     let text = io::read_to_string(alloc, first)?;
-    compare(
-        alloc,
-        "the first connection",
-        &ANSWERS[..273],
-        text.as_bytes(),
-    )?;
+    let told = &answers[..273];
+    compare(alloc, "the first connection", told, text.as_bytes())?;
     let text = io::read_to_string(alloc, second)?;
     let rest = text.as_bytes().strip_prefix(SAME).unwrap_or(b"");
-    compare(alloc, "the second connection", &ANSWERS[89..273], rest)
+    compare(alloc, "the second connection", &answers[89..273], rest)
 }
