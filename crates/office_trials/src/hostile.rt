@@ -31,16 +31,24 @@ fn try_damage(rt: &HostRuntime) -> Result<(), Trouble> {
     Ok(())
 }
 
-/// Sends long bodies and drawn commands to new offices, and tells what these were.
-fn tell_requests<S: Shelf>(
+/// Serves long bodies and late days to a new office, and tells how many requests they are.
+fn served_long<S: Shelf + Drop>(alloc: Global, start: Office<S>) -> Result<u32, Trouble> {
+    let mut office = start;
+    serve_long(alloc, &mut office)
+}
+
+/// Has two new offices answer drawn commands, and tells what these were.
+fn drawn<S: Shelf + Drop>(
     alloc: Global,
-    long: &mut Office<S>,
-    run: &mut Office<S>,
-    served: &mut Office<S>,
+    first: Office<S>,
+    second: Office<S>,
 ) -> Result<String, Trouble> {
-    let requests = serve_long(alloc, long)?;
-    let tally = draw_all(alloc, run, served)?;
-    let tally = tally.as_str();
+    let (mut run, mut served) = (first, second);
+    draw_all(alloc, &mut run, &mut served)
+}
+
+/// What was sent, as it is printed.
+fn told(alloc: Global, requests: u32, tally: &str) -> Result<String, Trouble> {
     Ok(format!(in alloc;
         "{requests} requests with long bodies and late days: answered as any other\n\
         2000 drawn commands, and refusals by their numbers:{tally}"
@@ -52,20 +60,26 @@ fn over_maps(alloc: Global) -> Office<MapShelf> {
     Office::new(MapShelf::new(alloc))
 }
 
+/// Sends long bodies and drawn commands to offices over maps, and tells what these were.
+fn sent_to_maps(alloc: Global) -> Result<String, Trouble> {
+    let requests = served_long(alloc, over_maps(alloc))?;
+    let tally = drawn(alloc, over_maps(alloc), over_maps(alloc))?;
+    told(alloc, requests, tally.as_str())
+}
+
+/// Sends the same to offices over a database.
+fn sent_to_tables(alloc: Global) -> Result<String, Trouble> {
+    let requests = served_long(alloc, open_new(alloc)?)?;
+    let tally = drawn(alloc, open_new(alloc)?, open_new(alloc)?)?;
+    told(alloc, requests, tally.as_str())
+}
+
 /// Sends long bodies and drawn commands to offices over maps, and over a database.
 fn try_requests(rt: &HostRuntime) -> Result<(), Trouble> {
-    let alloc = rt.alloc();
-    let (mut long, mut run, mut served) = (over_maps(alloc), over_maps(alloc), over_maps(alloc));
-    let told = tell_requests(alloc, &mut long, &mut run, &mut served)?;
-    println!(rt; "{told}")?;
-    let (mut long, mut run, mut served) = (open_new(alloc)?, open_new(alloc)?, open_new(alloc)?);
-    let came = tell_requests(alloc, &mut long, &mut run, &mut served)?;
-    compare(
-        alloc,
-        "the same over a database",
-        told.as_bytes(),
-        came.as_bytes(),
-    )?;
+    let (wanted, what) = (sent_to_maps(rt.alloc())?, "the same over a database");
+    println!(rt; "{wanted}")?;
+    let came = sent_to_tables(rt.alloc())?;
+    compare(rt.alloc(), what, wanted.as_bytes(), came.as_bytes())?;
     println!(rt; "over a database in memory: answered the same")?;
     Ok(())
 }
