@@ -6,9 +6,8 @@ use draft_core::revision::Revision;
 use draft_core::state::{DbState, Holder, Stage, Verdict};
 use draft_core::timing::{Move, Timing, TimingChange};
 use draft_core::{overlay, verdict};
-use signal_records::Key;
+use signal_records::{Key, Words};
 use std::alloc::Global;
-use std::process::Abort;
 use std::test::Fail;
 
 /// The plan committed at a revision, with a draft that Ana holds at a stage, if there is one.
@@ -32,22 +31,63 @@ fn timing(alloc: Global, revision: u32, stage: Option<Stage>, draft: &str) -> Re
     })
 }
 
-/// The move leads to this revision and state with this verdict, and changes so many rows.
-fn leads(
-    rt: &impl Abort,
-    step: Result<Move, DraftRefusal>,
-    to: (u32, DbState, Verdict),
-    rows: usize,
-) -> Result<Vec<TimingChange>, Fail> {
-    let Move {
-        revision,
-        state,
-        verdict,
-        changes,
-    } = step.ok().ok_or("a move")?;
-    assert!(rt; (revision.get(), state, verdict) == to);
-    assert_eq!(rt; changes.len(), rows);
-    Ok(changes)
+/// A decision of the transaction.
+type Outcome = Result<Move, DraftRefusal>;
+
+/// A call of the transaction that only its clerk changes.
+#[derive(Clone, Copy)]
+enum Call {
+    Begin,
+    Verify,
+    Check,
+    Commit,
+    Reopen,
+    Abandon,
+}
+
+/// What a clerk is answered at a timing side.
+fn decided(alloc: Global, call: Call, timing: &Timing, clerk: &Words<40>) -> Outcome {
+    match call {
+        Call::Begin => begin(alloc, timing, clerk),
+        Call::Verify => verify(alloc, timing, clerk),
+        Call::Check => check(alloc, timing, clerk),
+        Call::Commit => commit(alloc, timing, clerk),
+        Call::Reopen => reopen(alloc, timing, clerk),
+        Call::Abandon => abandon(alloc, timing, clerk),
+    }
+}
+
+/// What a clerk is answered at a revision and a stage, with a draft of Ana's.
+fn asked(
+    alloc: Global,
+    call: Call,
+    clerk: &str,
+    (revision, stage, draft): (u32, Option<Stage>, &str),
+) -> Result<Outcome, Fail> {
+    let timing = timing(alloc, revision, stage, draft)?;
+    let clerk = words(alloc, clerk)?;
+    Ok(decided(alloc, call, &timing, &clerk))
+}
+
+/// What a clerk is answered who changes the draft at a stage.
+fn edited(alloc: Global, clerk: &str, stage: Option<Stage>) -> Result<Outcome, Fail> {
+    let (timing, clerk) = (timing(alloc, 7, stage, "")?, words(alloc, clerk)?);
+    let changes = changes(alloc, BROKEN)?;
+    Ok(edit(alloc, &timing, &clerk, &changes))
+}
+
+/// The move leads to this revision and state with this verdict.
+fn leads(outcome: Outcome, to: (u32, DbState, Verdict)) -> Option<Vec<TimingChange>> {
+    let step = outcome.ok()?;
+    if (step.revision.get(), step.state, step.verdict) == to {
+        return Some(step.changes);
+    }
+    None
+}
+
+/// The move leads there, and changes no row.
+fn only_leads(outcome: Outcome, to: (u32, DbState, Verdict)) -> bool {
+    leads(outcome, to).is_some_and(|changes| changes.is_empty())
 }
 
 /// A draft with a clean change of one row.
@@ -56,113 +96,104 @@ const CLEAN: &str = "remove,pattern,1";
 /// A draft of two rows that breaks a rule.
 const BROKEN: &str = "split,1,6,34,2,1;split,1,8,26,2,0";
 
+const BEGUN: Option<Stage> = Some(Stage::Transaction);
+
+const DONE: Option<Stage> = Some(Stage::Done);
+
 #[test]
 fn a_draft_is_begun_and_edited(rt: HostRuntime) -> Result<(), Fail> {
     let alloc = rt.alloc();
-    let ana = words(alloc, "Ana")?;
-    let bo = words(alloc, "Bo")?;
     let to = (7, DbState::Transaction, Verdict::NotDone);
-    let free = timing(alloc, 7, None, "")?;
-    leads(&rt, begin(alloc, &free, &ana), to, 0)?;
-    let begun = timing(alloc, 7, Some(Stage::Transaction), "")?;
-    let told = Some(DraftRefusal::NotNormal);
-    assert_eq!(rt; begin(alloc, &begun, &bo).err(), told);
-    let asked = changes(alloc, BROKEN)?;
-    let rows = leads(&rt, edit(alloc, &begun, &ana, &asked), to, 2)?;
+    assert!(rt; only_leads(asked(alloc, Call::Begin, "Ana", (7, None, ""))?, to));
+    let busy = asked(alloc, Call::Begin, "Bo", (7, BEGUN, ""))?.err();
+    assert_eq!(rt; busy, Some(DraftRefusal::NotNormal));
     assert!(rt;
         matches!(
-            rows.as_slice(),
-            [TimingChange::Drafted(_), TimingChange::Drafted(_)]
+            leads(edited(alloc, "Ana", BEGUN)?, to).as_deref(),
+            Some([TimingChange::Drafted(_), TimingChange::Drafted(_)])
         )
     );
-    let told = Some(DraftRefusal::NotOwner);
-    assert_eq!(rt; edit(alloc, &begun, &bo, &asked).err(), told);
-    let told = Some(DraftRefusal::NotTransaction);
-    assert_eq!(rt; edit(alloc, &free, &ana, &asked).err(), told);
+    assert_eq!(rt;
+        edited(alloc, "Bo", BEGUN)?.err(),
+        Some(DraftRefusal::NotOwner)
+    );
+    assert_eq!(rt;
+        edited(alloc, "Ana", None)?.err(),
+        Some(DraftRefusal::NotTransaction)
+    );
     Ok(())
+}
+
+/// A draft that waits is checked, and its verdict is this.
+fn is_found(alloc: Global, draft: &str, found: Verdict) -> Result<bool, Fail> {
+    let step = asked(alloc, Call::Check, "Ana", (7, Some(Stage::Verify), draft))?;
+    let done = timing(alloc, 7, DONE, draft)?;
+    Ok(only_leads(step, (7, DbState::Done, found)) && verdict(alloc, &done).ok() == Some(found))
 }
 
 #[test]
 fn a_draft_is_verified_and_checked(rt: HostRuntime) -> Result<(), Fail> {
     let alloc = rt.alloc();
-    let ana = words(alloc, "Ana")?;
-    let begun = timing(alloc, 7, Some(Stage::Transaction), BROKEN)?;
     let to = (7, DbState::Verify, Verdict::NotDone);
-    leads(&rt, verify(alloc, &begun, &ana), to, 0)?;
-    let told = Some(DraftRefusal::NotVerify);
-    assert_eq!(rt; check(alloc, &begun, &ana).err(), told);
-    for (draft, found) in [
-        (BROKEN, Verdict::DoneWithError),
-        (CLEAN, Verdict::DoneWithNoError),
-    ] {
-        let verified = timing(alloc, 7, Some(Stage::Verify), draft)?;
-        let to = (7, DbState::Done, found);
-        leads(&rt, check(alloc, &verified, &ana), to, 0)?;
-        let done = timing(alloc, 7, Some(Stage::Done), draft)?;
-        assert!(rt; verdict(alloc, &done).ok() == Some(found));
-    }
+    assert!(rt; only_leads(asked(alloc, Call::Verify, "Ana", (7, BEGUN, BROKEN))?, to));
+    let early = asked(alloc, Call::Check, "Ana", (7, BEGUN, BROKEN))?.err();
+    assert_eq!(rt; early, Some(DraftRefusal::NotVerify));
+    assert!(rt; is_found(alloc, BROKEN, Verdict::DoneWithError)?);
+    assert!(rt; is_found(alloc, CLEAN, Verdict::DoneWithNoError)?);
     Ok(())
 }
 
 #[test]
 fn a_draft_is_committed(rt: HostRuntime) -> Result<(), Fail> {
     let alloc = rt.alloc();
-    let ana = words(alloc, "Ana")?;
-    let done = timing(alloc, 7, Some(Stage::Done), CLEAN)?;
     let to = (8, DbState::Normal, Verdict::NotDone);
-    let rows = leads(&rt, commit(alloc, &done, &ana), to, 2)?;
+    let rows = leads(asked(alloc, Call::Commit, "Ana", (7, DONE, CLEAN))?, to);
     assert!(rt;
         matches!(
-            rows.as_slice(),
-            [_, TimingChange::DraftGone(Key::Pattern(_))]
-        ) || matches!(
-            rows.as_slice(),
-            [TimingChange::DraftGone(Key::Pattern(_)), _]
+            rows.as_deref(),
+            Some(
+                [_, TimingChange::DraftGone(Key::Pattern(_))]
+                    | [TimingChange::DraftGone(Key::Pattern(_)), _]
+            )
         )
     );
-    let broken = timing(alloc, 7, Some(Stage::Done), BROKEN)?;
-    let told = Some(DraftRefusal::VerifyFailed(1));
-    assert_eq!(rt; commit(alloc, &broken, &ana).err(), told);
-    let last = timing(alloc, 999_998, Some(Stage::Done), "")?;
     let to = (999_999, DbState::Normal, Verdict::NotDone);
-    leads(&rt, commit(alloc, &last, &ana), to, 0)?;
-    let full = timing(alloc, 999_999, Some(Stage::Done), "")?;
-    let told = Some(DraftRefusal::RevisionFull);
-    assert_eq!(rt; commit(alloc, &full, &ana).err(), told);
-    let both = timing(alloc, 999_999, Some(Stage::Done), BROKEN)?;
-    let told = Some(DraftRefusal::VerifyFailed(1));
-    assert_eq!(rt; commit(alloc, &both, &ana).err(), told);
+    assert!(rt; only_leads(asked(alloc, Call::Commit, "Ana", (999_998, DONE, ""))?, to));
+    for (revision, draft, told) in [
+        (7, BROKEN, DraftRefusal::VerifyFailed(1)),
+        (999_999, "", DraftRefusal::RevisionFull),
+        (999_999, BROKEN, DraftRefusal::VerifyFailed(1)),
+    ] {
+        let step = asked(alloc, Call::Commit, "Ana", (revision, DONE, draft))?;
+        assert_eq!(rt; step.err(), Some(told));
+    }
     Ok(())
 }
 
 #[test]
 fn a_draft_is_reopened_and_abandoned(rt: HostRuntime) -> Result<(), Fail> {
     let alloc = rt.alloc();
-    let ana = words(alloc, "Ana")?;
-    let bo = words(alloc, "Bo")?;
-    let done = timing(alloc, 7, Some(Stage::Done), BROKEN)?;
     let to = (7, DbState::Transaction, Verdict::NotDone);
-    leads(&rt, reopen(alloc, &done, &ana), to, 0)?;
-    let told = Some(DraftRefusal::NotOwner);
-    assert_eq!(rt; reopen(alloc, &done, &bo).err(), told);
+    assert!(rt; only_leads(asked(alloc, Call::Reopen, "Ana", (7, DONE, BROKEN))?, to));
+    let other = asked(alloc, Call::Reopen, "Bo", (7, DONE, BROKEN))?.err();
+    assert_eq!(rt; other, Some(DraftRefusal::NotOwner));
     let to = (7, DbState::Normal, Verdict::NotDone);
-    let rows = leads(&rt, abandon(alloc, &done, &bo), to, 2)?;
+    let rows = leads(asked(alloc, Call::Abandon, "Bo", (7, DONE, BROKEN))?, to);
     assert!(rt;
         matches!(
-            rows.as_slice(),
-            [TimingChange::DraftGone(_), TimingChange::DraftGone(_)]
+            rows.as_deref(),
+            Some([TimingChange::DraftGone(_), TimingChange::DraftGone(_)])
         )
     );
-    let free = timing(alloc, 7, None, "")?;
-    let told = Some(DraftRefusal::NotTransaction);
-    assert_eq!(rt; abandon(alloc, &free, &ana).err(), told);
+    let free = asked(alloc, Call::Abandon, "Ana", (7, None, ""))?.err();
+    assert_eq!(rt; free, Some(DraftRefusal::NotTransaction));
     Ok(())
 }
 
 #[test]
 fn a_draft_lies_over_the_committed_set(rt: HostRuntime) -> Result<(), Fail> {
     let alloc = rt.alloc();
-    let kept = timing(alloc, 7, Some(Stage::Transaction), CLEAN)?;
+    let kept = timing(alloc, 7, BEGUN, CLEAN)?;
     let draft = overlay(alloc, &kept.committed, kept.delta.as_slice())?;
     assert_eq!(rt; kept.committed.rows(alloc)?.len(), 11);
     assert_eq!(rt; draft.rows(alloc)?.len(), 10);

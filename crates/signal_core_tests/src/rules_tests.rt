@@ -1,5 +1,5 @@
 use crate::spelling::{changes, plan};
-use signal_records::{Change, Key, PatternNo, PhaseNo};
+use signal_records::{Change, Key, PatternNo, PhaseNo, TimingSet};
 use signal_rules::*;
 use std::alloc::Global;
 use std::fmt::Display;
@@ -49,20 +49,25 @@ fn text_of<T: Display>(alloc: Global, found: &[T]) -> Result<String, Fail> {
     Ok(text)
 }
 
+/// The violations of the touched subjects after changes of the plan, and the seconds that were
+/// compared for them.
+fn touched_by(alloc: Global, set: &TimingSet, text: &str) -> Result<(Vec<Violation>, u64), Fail> {
+    let keys = keys(alloc, &changes(alloc, text)?)?;
+    let mut tally = Tally::new();
+    let found = violations_touched(alloc, &plan(alloc, &[])?, set, &keys, &mut tally)?;
+    Ok((found, tally.seconds()))
+}
+
 #[test]
 fn touched_subjects_give_all_violations(rt: HostRuntime) -> Result<(), Fail> {
     let alloc = rt.alloc();
-    let base = plan(alloc, &[])?;
     for (text, expected, seconds) in CASES {
-        let changed = changes(alloc, text)?;
-        let set = plan(alloc, &changed)?;
+        let set = plan(alloc, &changes(alloc, text)?)?;
         let whole = violations(alloc, &set)?;
         assert_eq!(rt; text_of(alloc, &whole)?.as_str(), expected, "{text}");
-        let mut tally = Tally::new();
-        let keys = keys(alloc, &changed)?;
-        let found = violations_touched(alloc, &base, &set, &keys, &mut tally)?;
+        let (found, taken) = touched_by(alloc, &set, text)?;
         assert!(rt; found == whole, "touched for {text}");
-        assert_eq!(rt; tally.seconds(), seconds, "seconds for {text}");
+        assert_eq!(rt; taken, seconds, "seconds for {text}");
     }
     Ok(())
 }
