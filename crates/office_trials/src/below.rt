@@ -62,22 +62,22 @@ fn ask_overdue<S: Shelf>(alloc: Global, office: &mut Office<S>) -> Result<(), Tr
 
 /// What the lines of the script and more ask, with the forms of their answers.
 fn whole_list(alloc: Global) -> Result<(Vec<Command>, Vec<Form>), Trouble> {
-    let mut commands = Vec::new(alloc);
+    let mut list = Vec::new(alloc);
     let mut forms = Vec::new(alloc);
     for line in commands().iter().chain(more()) {
         let (command, form) = asked_by(alloc, line)?;
-        if commands.push(command).is_err() || forms.push(form).is_err() {
+        if list.push(command).is_err() || forms.push(form).is_err() {
             return Err(Trouble::NoMemory);
         }
     }
-    Ok((commands, forms))
+    Ok((list, forms))
 }
 
 /// Runs the whole list by one call, which is answered as its lines tell.
 fn run_list<S: Shelf + Drop>(alloc: Global, start: Office<S>) -> Result<Office<S>, Trouble> {
     let mut office = start;
-    let (commands, forms) = whole_list(alloc)?;
-    let Ok(replies) = office.run_all(alloc, &commands) else {
+    let (list, forms) = whole_list(alloc)?;
+    let Ok(replies) = office.run_all(alloc, &list) else {
         return Err(Trouble::NoMemory);
     };
     holds(replies.len() == forms.len(), "a reply to each command")?;
