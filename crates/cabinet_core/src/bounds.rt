@@ -2,8 +2,9 @@
 //! limits.
 
 ghost use Rattle.std.specs.Prelude.{IfSome};
-ghost use Rattle.cabinet_core.specs.Within.{IsInspectionWithin, IsOpeningWithin, IsClosingWithin, IsOrderWithin};
-ghost use Rattle.cabinet_core.specs.Within.{IsUsedLineWithin, IsDeliveryWithin, IsRecordWithin};
+ghost use Rattle.cabinet_core.specs.Within.{IsInspectionWithin, IsOpeningWithin, IsClosingWithin};
+ghost use Rattle.cabinet_core.specs.Within.{IsOrderWithin, IsUsedLineWithin, IsDeliveryWithin};
+ghost use Rattle.cabinet_core.specs.Within.{IsRecordWithin};
 
 use crate::command::RecordCommand;
 use crate::record::{Closing, Delivery, Inspection, Opening, Order, UsedLine};

@@ -9,7 +9,8 @@ ghost use Rattle.office_tables.specs.Migrate.{KeepNoVersion, IsChangedToday, IsS
 ghost use Rattle.office_tables.specs.Migrate.{MayBecome, WritesToday, WritesAllToday, Migrates};
 ghost use Rattle.office_tables.specs.Migrate.{Brings};
 ghost use Rattle.office_tables.specs.Migrate.{TellsVersion, TellsFormerDamage, TellsDamage};
-ghost use Rattle.office_tables_open.specs.Promises.{WasHonest, StaysReady, LeavesNoMore, KeepsTrees};
+ghost use Rattle.office_tables_open.specs.Promises.{WasHonest, StaysReady, LeavesNoMore};
+ghost use Rattle.office_tables_open.specs.Promises.{KeepsTrees};
 ghost use Rattle.office_tables_open.specs.Promises.{KeepsCommitted, Commits, EndsToday};
 ghost use Rattle.office_tables_open.specs.Promises.{IsArrangedIfClean};
 

@@ -9,8 +9,10 @@ ghost use Rattle.sqlite_trees.specs.View.{doubt};
 ghost use Rattle.office_tables_sql.specs.Schema.{no_schema};
 ghost use Rattle.office_tables_sql.specs.Calls.{IsHonest, IsOffice};
 ghost use Rattle.office_tables_open.specs.Version.{AreEmpty, HasRow};
-ghost use Rattle.office_tables_open.specs.Found.{HasOtherVersion, HasRowsAlone, IsOurs, IsUnclaimed};
-ghost use Rattle.office_tables_open.specs.Opening.{AreMade, AreMadeAnew, AreRun, IsRefused, IsSettled};
+ghost use Rattle.office_tables_open.specs.Found.{HasOtherVersion, HasRowsAlone, IsOurs};
+ghost use Rattle.office_tables_open.specs.Found.{IsUnclaimed};
+ghost use Rattle.office_tables_open.specs.Opening.{AreMade, AreMadeAnew, AreRun, IsRefused};
+ghost use Rattle.office_tables_open.specs.Opening.{IsSettled};
 ghost use Rattle.office_tables_open.specs.Opening.{MayBeTaken, OnlyReads};
 ghost use Rattle.office_tables_open.specs.Promises.{KeepsContent, LeavesContent, EndsToday};
 ghost use Rattle.office_tables_open.specs.Promises.{IsArrangedIfClean};
@@ -41,9 +43,9 @@ pub enum OpenFault {
 
 impl From<SqlFault> for OpenFault {
     ghost use Rattle.std.specs.Prelude.{◌≢◌};
-    ghost use Rattle.office_tables_open.specs.declared.open.OpenFault.TheVariants.{Version, Damaged};
+    ghost use Rattle.office_tables_open.specs.declared.open.OpenFault.TheVariants as open_fault;
 
-    ghost from_gives = { λ _ fault. (fault ≢ Version) × (fault ≢ Damaged) };
+    ghost from_gives = { λ _ fault. (fault ≢ open_fault.Version) × (fault ≢ open_fault.Damaged) };
 
     fn from(fault: SqlFault) -> OpenFault {
         match fault {
@@ -55,10 +57,11 @@ impl From<SqlFault> for OpenFault {
 
 impl From<ShelfFault> for OpenFault {
     ghost use Rattle.std.specs.Prelude.{◌≡◌, ◌≢◌};
-    ghost use Rattle.office_tables_open.specs.declared.open.OpenFault.TheVariants.{Version, Damaged};
+    ghost use Rattle.office_tables_open.specs.declared.open.OpenFault.TheVariants as open_fault;
     ghost use Rattle.office_tables_shelf.specs.declared.shelf.ShelfFault.TheVariants as shelf;
 
-    ghost from_gives = { λ why fault. (fault ≢ Version) × (fault ≡ Damaged → why ≡ shelf.Damaged) };
+    ghost from_gives = { λ why fault.
+        (fault ≢ open_fault.Version) × (fault ≡ open_fault.Damaged → why ≡ shelf.Damaged) };
 
     fn from(fault: ShelfFault) -> OpenFault {
         match fault {
