@@ -22,11 +22,11 @@ use crate::playing::{play, play_want_of_memory};
 use crate::reading::read_row;
 use crate::row::Row;
 use crate::way::Way;
+use office_script::trouble::Trouble;
+use office_stops::stops::try_stops;
 use office_trials::calls::try_calls;
 use office_trials::hostile::try_hostile;
 use office_trials::memory::try_memory;
-use office_trials::stops::try_stops;
-use office_trials::trouble::Trouble;
 use std::process::ExitCode;
 use std::{env, fs, io};
 

@@ -3,11 +3,6 @@
 
 use crate::database::open_new;
 use crate::more::more;
-use crate::running::{answers, asked, does};
-use crate::script::{Line, UNAVAILABLE, UNKNOWN, commands};
-use crate::state::{is_unchanged, state_of};
-use crate::talking::{told_answer, words};
-use crate::trouble::{Trouble, compare, holds};
 use cabinet_core::read_day;
 use office_desk::command::Command;
 use office_desk::office::Office;
@@ -16,6 +11,11 @@ use office_http::{
     Asked, Fault, Field, Form, Front, More, answer_of, fault_answer, next_request, unavailable,
 };
 use office_http_framing::laws::{one_front, one_list_of_requests};
+use office_script::running::{answers, asked, does};
+use office_script::script::{Line, UNAVAILABLE, UNKNOWN, commands};
+use office_script::state::{is_unchanged, state_of};
+use office_script::talking::{told_answer, words};
+use office_script::trouble::{Trouble, compare, holds};
 use office_tables_shelf::map_shelf::MapShelf;
 use office_tables_shelf::shelf::Shelf;
 use std::alloc::Global;

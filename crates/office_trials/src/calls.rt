@@ -2,10 +2,10 @@
 
 use crate::below::{answer_faults, ask_below, read_front, run_lists};
 use crate::database::open_new;
-use crate::trouble::Trouble;
 use crate::waits::{serve_in_turn, serve_two_connections, serve_without_end, wait_once};
 use crate::writes::count_writes;
 use office_desk::office::Office;
+use office_script::trouble::Trouble;
 use office_tables_shelf::map_shelf::MapShelf;
 
 /// Asks offices below the wire.

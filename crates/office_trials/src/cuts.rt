@@ -1,9 +1,9 @@
 //! A stream that breaks off after each of its bytes.
 
-use crate::script::{ANSWERS, STREAM};
-use crate::talking::serve_all;
-use crate::trouble::{Trouble, compare};
 use office_desk::office::Office;
+use office_script::script::{ANSWERS, STREAM};
+use office_script::talking::serve_all;
+use office_script::trouble::{Trouble, compare};
 use office_tables_shelf::map_shelf::MapShelf;
 use std::alloc::Global;
 

@@ -1,12 +1,12 @@
 //! Stored rows that are no records, each met by the requests that read it.
 
 use crate::database::{altered, open_new};
-use crate::running::{answers, does};
-use crate::script::{Line, commands, queries};
-use crate::state::counts;
-use crate::talking::{Words, answer};
-use crate::trouble::{Trouble, compare};
 use office_desk::office::Office;
+use office_script::running::{answers, does};
+use office_script::script::{Line, commands, queries};
+use office_script::state::counts;
+use office_script::talking::{Words, answer};
+use office_script::trouble::{Trouble, compare};
 use office_tables_shelf::map_shelf::MapShelf;
 use office_tables_shelf::shelf::Shelf;
 use std::alloc::Global;

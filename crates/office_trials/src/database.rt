@@ -1,7 +1,7 @@
 //! Offices over a database in memory.
 
-use crate::trouble::Trouble;
 use office_desk::office::Office;
+use office_script::trouble::Trouble;
 use office_tables::open::OpenFault;
 use office_tables::sql_shelf::SqlShelf;
 use sqlite::{Alter, Connection, MemStore};

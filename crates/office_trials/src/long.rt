@@ -1,9 +1,9 @@
 //! Long bodies and late days, which are answered as any other.
 
 use crate::talk::Talk;
-use crate::talking::Words;
-use crate::trouble::Trouble;
 use office_desk::office::Office;
+use office_script::talking::Words;
+use office_script::trouble::Trouble;
 use office_tables_shelf::shelf::Shelf;
 use std::alloc::{AllocError, Global};
 

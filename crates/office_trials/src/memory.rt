@@ -4,13 +4,13 @@
 
 use crate::database::open_new;
 use crate::more::more;
-use crate::running::is_run;
-use crate::script::{ANSWERS, STREAM, UNAVAILABLE, UNKNOWN, commands};
-use crate::state::{is_unchanged, state_of};
-use crate::talking::answer;
-use crate::trouble::{Trouble, compare};
 use office_desk::office::Office;
 use office_http::{FromRead, ServeFault, Served, ToWrite, serve};
+use office_script::running::is_run;
+use office_script::script::{ANSWERS, STREAM, UNAVAILABLE, UNKNOWN, commands};
+use office_script::state::{is_unchanged, state_of};
+use office_script::talking::answer;
+use office_script::trouble::{Trouble, compare};
 use office_tables_shelf::map_shelf::MapShelf;
 use office_tables_shelf::shelf::Shelf;
 use std::alloc::Global;

@@ -1,7 +1,7 @@
 //! Requests that are made after those of the script: queries, files taken out, and a transaction
 //! that is taken back and abandoned.
 
-use crate::script::Line;
+use office_script::script::Line;
 
 const OK: &str = "200 OK";
 

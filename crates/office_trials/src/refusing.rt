@@ -2,12 +2,12 @@
 
 ghost use Rattle.std.specs.Prelude.{◌≡◌, OnErr};
 
-use crate::script::{Line, commands};
-use crate::state::{is_unchanged, state_of};
-use crate::talking::is_done;
-use crate::trouble::Trouble;
 use cabinet_core::{Delivery, Hand, Inspection, Order, PartCode, UsedLine};
 use office_desk::office::Office;
+use office_script::script::{Line, commands};
+use office_script::state::{is_unchanged, state_of};
+use office_script::talking::is_done;
+use office_script::trouble::Trouble;
 use office_tables_shelf::map_shelf::MapShelf;
 use office_tables_shelf::rows::{IntersectionRow, RowChange, Table};
 use office_tables_shelf::shelf::{Shelf, ShelfFault};

@@ -1,10 +1,10 @@
 //! Drawn commands, each answered as the slow office answers it.
 
-use crate::running::answers;
 use crate::talk::Talk;
-use crate::talking::told_answer;
-use crate::trouble::Trouble;
 use office_desk::office::Office;
+use office_script::running::answers;
+use office_script::talking::told_answer;
+use office_script::trouble::Trouble;
 use office_slow::asking::{Dice, all_words};
 use office_slow::office::Slow;
 use office_tables_shelf::shelf::Shelf;

@@ -1,8 +1,8 @@
 //! Requests that are sent in one stream, and the answers that must come.
 
-use crate::talking::{Words, request_bytes, serve_all, told_answer};
-use crate::trouble::{Trouble, compare};
 use office_desk::office::Office;
+use office_script::talking::{Words, request_bytes, serve_all, told_answer};
+use office_script::trouble::{Trouble, compare};
 use office_tables_shelf::shelf::Shelf;
 use std::alloc::{AllocError, Global};
 

@@ -1,10 +1,10 @@
 //! The office at ends that wait for one another or never stop, and on two connections.
 
 use crate::ends::{Endless, Patient, Telling};
-use crate::script::{ANSWERS, STREAM};
-use crate::trouble::{Trouble, compare, holds};
 use office_desk::office::Office;
 use office_http::{Served, Sink, ToWrite, WaitsOnce, serve, serve_on};
+use office_script::script::{ANSWERS, STREAM};
+use office_script::trouble::{Trouble, compare, holds};
 use office_tables_shelf::map_shelf::MapShelf;
 use std::alloc::Global;
 use std::cell::Cell;

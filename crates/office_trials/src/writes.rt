@@ -1,11 +1,11 @@
 //! How many rows of the timing and draft tables a transaction writes: a draft is its changed rows,
 //! and nothing else of it is written, at the commit neither.
 
-use crate::running::does;
-use crate::script::{Line, commands};
-use crate::state::counts;
-use crate::trouble::{Trouble, holds};
 use office_desk::office::Office;
+use office_script::running::does;
+use office_script::script::{Line, commands};
+use office_script::state::counts;
+use office_script::trouble::{Trouble, holds};
 use office_tables_shelf::shelf::Shelf;
 use std::alloc::Global;
 

@@ -11,10 +11,7 @@ use office_tables_shelf::shelf::Shelf;
 use std::alloc::Global;
 
 /// What a request asks for; none where memory was refused.
-pub(crate) fn asked(
-    alloc: Global,
-    (method, path, body): Words<'_>,
-) -> Result<Option<Asked>, Trouble> {
+pub fn asked(alloc: Global, (method, path, body): Words<'_>) -> Result<Option<Asked>, Trouble> {
     let request = Request {
         method: method.as_bytes(),
         path: path.as_bytes(),
@@ -30,7 +27,7 @@ pub(crate) fn asked(
 
 /// Runs what a request asks for, and gives the answer to it; none where memory or the shelf
 /// refused.
-pub(crate) fn run<S: Shelf>(
+pub fn run<S: Shelf>(
     alloc: Global,
     office: &mut Office<S>,
     words: Words<'_>,
@@ -49,7 +46,7 @@ pub(crate) fn run<S: Shelf>(
 }
 
 /// Runs what a request asks for, which must be answered this.
-pub(crate) fn answers<S: Shelf>(
+pub fn answers<S: Shelf>(
     alloc: Global,
     office: &mut Office<S>,
     words: Words<'_>,
@@ -63,7 +60,7 @@ pub(crate) fn answers<S: Shelf>(
 
 /// Runs what a line asks for. It is answered as the line tells, or was refused; tells whether it
 /// was done.
-pub(crate) fn is_run<S: Shelf>(
+pub fn is_run<S: Shelf>(
     alloc: Global,
     office: &mut Office<S>,
     line: &Line,
@@ -77,11 +74,7 @@ pub(crate) fn is_run<S: Shelf>(
 }
 
 /// Runs what a line asks for, which is done as the line tells.
-pub(crate) fn does<S: Shelf>(
-    alloc: Global,
-    office: &mut Office<S>,
-    line: &Line,
-) -> Result<(), Trouble> {
+pub fn does<S: Shelf>(alloc: Global, office: &mut Office<S>, line: &Line) -> Result<(), Trouble> {
     if is_run(alloc, office, line)? {
         return Ok(());
     }

@@ -1,7 +1,7 @@
 //! A migration that is stopped at each call of a file, and what is found after it.
 
 use crate::files::{close, connect, crashed, found, stopping};
-use crate::trouble::Trouble;
+use office_script::trouble::Trouble;
 use office_tables::Migrated;
 use office_tables::open::OpenFault;
 use office_tables::sql_shelf::SqlShelf;
@@ -91,12 +91,20 @@ fn migrate<D: Disk + Drop>(alloc: Global, files: Files<D>) -> Option<(Files<D>, 
     Some((left, is_done, is_closed))
 }
 
-/// The tables of a new office, brought back to version 1.
-fn make_former<S: Alter + Drop>(alloc: Global, conn: Connection<S>) -> Option<Connection<S>> {
-    let Ok(shelf) = SqlShelf::open(alloc, conn) else {
-        return None;
-    };
-    let mut conn = shelf.into_conn();
+/// A database with the tables of a new office.
+pub(crate) fn with_tables<S: Alter + Drop>(
+    alloc: Global,
+    conn: Connection<S>,
+) -> Option<Connection<S>> {
+    match SqlShelf::open(alloc, conn) {
+        Ok(shelf) => Some(shelf.into_conn()),
+        Err(_) => None,
+    }
+}
+
+/// A database with the tables of a new office, brought back to version 1.
+fn with_former<S: Alter + Drop>(alloc: Global, conn: Connection<S>) -> Option<Connection<S>> {
+    let mut conn = with_tables(alloc, conn)?;
     match conn.execute_batch(FORMER) {
         Ok(()) => Some(conn),
         Err(_) => None,
@@ -105,7 +113,7 @@ fn make_former<S: Alter + Drop>(alloc: Global, conn: Connection<S>) -> Option<Co
 
 /// Puts tables of version 1 into these files.
 fn former<D: Disk + Drop>(alloc: Global, files: Files<D>) -> Option<Files<D>> {
-    let conn = make_former(alloc, connect(alloc, files)?)?;
+    let conn = with_former(alloc, connect(alloc, files)?)?;
     conn.close_files().ok()
 }
 

@@ -1,7 +1,7 @@
 //! Requests that are sent again and again, and what must be answered.
 
 /// A request by its method, path and body, and the status and the body of its answer.
-pub(crate) type Line = (&'static str, &'static str, &'static str);
+pub type Line = (&'static str, &'static str, &'static str);
 
 const OK: &str = "200 OK";
 
@@ -97,14 +97,14 @@ const QUERIES: [&str; 7] = [
 ];
 
 /// Adds intersection 12, asks for it, and begins a transaction: requests of 93, 34 and 76 bytes.
-pub(crate) const STREAM: &[u8; 203] = b"POST /intersections HTTP/1.1\r\nContent-Length: 41\r\n\r\n\
+pub const STREAM: &[u8; 203] = b"POST /intersections HTTP/1.1\r\nContent-Length: 41\r\n\r\n\
     {\"id\":12,\"interval\":365,\"name\":\"Main St\"}\
     GET /intersections/12 HTTP/1.1\r\n\r\n\
     POST /intersections/12/begin HTTP/1.1\r\nContent-Length: 15\r\n\r\n\
     {\"clerk\":\"Ana\"}";
 
 /// Its answers, of 89, 184 and 126 bytes.
-pub(crate) const ANSWERS: &[u8; 399] =
+pub const ANSWERS: &[u8; 399] =
     b"HTTP/1.1 200 OK\r\nContent-Type: application/json\r\nContent-Length: 18\r\n\r\n\
     {\"result\":\"added\"}\
     HTTP/1.1 200 OK\r\nContent-Type: application/json\r\nContent-Length: 112\r\n\r\n\
@@ -114,23 +114,23 @@ pub(crate) const ANSWERS: &[u8; 399] =
     {\"revision\":0,\"state\":\"transaction\",\"verify\":\"notDone\"}";
 
 /// The answer to what could not be done.
-pub(crate) const UNAVAILABLE: &[u8] =
+pub const UNAVAILABLE: &[u8] =
     b"HTTP/1.1 503 Service Unavailable\r\nContent-Type: application/json\r\n\
     Content-Length: 35\r\n\r\n\
     {\"error\":\"Unavailable\",\"number\":90}";
 
 /// The answer where there is no such intersection.
-pub(crate) const UNKNOWN: &[u8] = b"HTTP/1.1 404 Not Found\r\nContent-Type: application/json\r\n\
+pub const UNKNOWN: &[u8] = b"HTTP/1.1 404 Not Found\r\nContent-Type: application/json\r\n\
     Content-Length: 43\r\n\r\n\
     {\"error\":\"UnknownIntersection\",\"number\":10}";
 
 /// The commands, by one name for all: a constant that holds texts costs the check of each function
 /// that names it.
-pub(crate) fn commands() -> &'static [Line; 12] {
+pub fn commands() -> &'static [Line; 12] {
     &COMMANDS
 }
 
 /// The queries.
-pub(crate) fn queries() -> &'static [&'static str; 7] {
+pub fn queries() -> &'static [&'static str; 7] {
     &QUERIES
 }

@@ -1,6 +1,6 @@
 //! Database files in memory that stop after so many calls, and what is found in them then.
 
-use crate::trouble::Trouble;
+use office_script::trouble::Trouble;
 use sqlite::{Connection, FileStore, Options};
 use sqlite_disk::{Crash, Disk, Files, Fuse, Memory};
 use std::alloc::Global;

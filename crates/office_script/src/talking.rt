@@ -11,26 +11,23 @@ use std::alloc::{AllocError, Global};
 const STREAM_LIMIT: u32 = 10_000;
 
 /// A method, a path and a body.
-pub(crate) type Words<'a> = (&'a str, &'a str, &'a str);
+pub type Words<'a> = (&'a str, &'a str, &'a str);
 
 /// The method, the path and the body of a line's request.
-pub(crate) fn words(line: &Line) -> Words<'static> {
+pub fn words(line: &Line) -> Words<'static> {
     let (method, rest) = line.0.split_once(' ').unwrap_or((line.0, ""));
     let (path, body) = rest.split_once(' ').unwrap_or((rest, ""));
     (method, path, body)
 }
 
 /// The bytes of a request.
-pub(crate) fn request_bytes(
-    alloc: Global,
-    (method, path, body): Words<'_>,
-) -> Result<String, AllocError> {
+pub fn request_bytes(alloc: Global, (method, path, body): Words<'_>) -> Result<String, AllocError> {
     let length = body.len();
     format!(in alloc; "{method} {path} HTTP/1.1\r\nContent-Length: {length}\r\n\r\n{body}")
 }
 
 /// An answer with its head.
-pub(crate) fn told_answer(alloc: Global, status: &str, body: &str) -> Result<String, AllocError> {
+pub fn told_answer(alloc: Global, status: &str, body: &str) -> Result<String, AllocError> {
     let length = body.len();
     format!(in alloc;
         "HTTP/1.1 {status}\r\nContent-Type: application/json\r\n\
@@ -39,7 +36,7 @@ pub(crate) fn told_answer(alloc: Global, status: &str, body: &str) -> Result<Str
 }
 
 /// The answers to a stream, and how many requests were dealt with.
-pub(crate) fn serve_all<S: Shelf>(
+pub fn serve_all<S: Shelf>(
     alloc: Global,
     office: &mut Office<S>,
     bytes: &[u8],
@@ -53,7 +50,7 @@ pub(crate) fn serve_all<S: Shelf>(
 }
 
 /// The answer to one request.
-pub(crate) fn answer<S: Shelf>(
+pub fn answer<S: Shelf>(
     alloc: Global,
     office: &mut Office<S>,
     words: Words<'_>,
@@ -65,7 +62,7 @@ pub(crate) fn answer<S: Shelf>(
 
 /// Sends what a line asks. It is answered as the line tells, or is unavailable; tells whether it
 /// was done.
-pub(crate) fn is_done<S: Shelf>(
+pub fn is_done<S: Shelf>(
     alloc: Global,
     office: &mut Office<S>,
     line: &Line,

@@ -2,16 +2,16 @@
 //! line is printed for each thing tried.
 
 use crate::files::{close, connect, crashed, found, stopping};
-use crate::migrating::stop_migration;
-use crate::script::{ANSWERS, STREAM, UNAVAILABLE, UNKNOWN, commands};
-use crate::state::shown;
-use crate::talking::{is_done, serve_all};
-use crate::trouble::Trouble;
+use crate::migrating::{stop_migration, with_tables};
 use office_desk::office::Office;
+use office_script::script::{ANSWERS, STREAM, UNAVAILABLE, UNKNOWN, commands};
+use office_script::state::shown;
+use office_script::talking::{is_done, serve_all};
+use office_script::trouble::Trouble;
 use office_tables::sql_shelf::SqlShelf;
 use office_tables_shelf::map_shelf::MapShelf;
 use office_tables_shelf::shelf::Shelf;
-use sqlite::FileStore;
+use sqlite::{Alter, Connection};
 use sqlite_disk::{Disk, Files};
 use std::alloc::Global;
 
@@ -88,19 +88,36 @@ where
     Ok((office.into_shelf(), done))
 }
 
-/// What the office over a shelf shows.
-fn shown_of<S: Shelf + Drop>(alloc: Global, shelf: S) -> Result<Vec<u8>, Trouble> {
-    shown(alloc, &mut Office::new(shelf))
+/// Has the office over a database do its work. Gives the database and how much was done; None where
+/// its tables were not opened.
+fn worked<S: Alter + Drop>(
+    alloc: Global,
+    conn: Connection<S>,
+    is_stream: bool,
+) -> Result<Option<(Connection<S>, usize)>, Trouble> {
+    let Ok(shelf) = SqlShelf::open(alloc, conn) else {
+        return Ok(None);
+    };
+    let (shelf, done) = work(alloc, shelf, is_stream)?;
+    Ok(Some((shelf.into_conn(), done)))
 }
 
-/// The tables in these files.
-fn open<D: Disk + Drop>(alloc: Global, files: Files<D>) -> Option<SqlShelf<FileStore<D>>> {
-    SqlShelf::open(alloc, connect(alloc, files)?).ok()
+/// What the office over a database shows; None where its tables were not opened.
+fn shown_in<S: Alter + Drop>(
+    alloc: Global,
+    conn: Connection<S>,
+) -> Result<Option<Vec<u8>>, Trouble> {
+    let Ok(shelf) = SqlShelf::open(alloc, conn) else {
+        return Ok(None);
+    };
+    let seen = shown(alloc, &mut Office::new(shelf))?;
+    Ok(Some(seen))
 }
 
 /// Puts the tables of a new office into these files.
 fn prepare<D: Disk + Drop>(alloc: Global, files: Files<D>) -> Option<Files<D>> {
-    open(alloc, files)?.into_conn().close_files().ok()
+    let conn = with_tables(alloc, connect(alloc, files)?)?;
+    conn.close_files().ok()
 }
 
 /// Has an office over these files do its work, and closes them. Gives the files as they were left,
@@ -110,12 +127,24 @@ fn stop<D: Disk + Drop>(
     files: Files<D>,
     is_stream: bool,
 ) -> Result<Option<(Files<D>, usize, bool)>, Trouble> {
-    let Some(shelf) = open(alloc, files) else {
+    let Some(conn) = connect(alloc, files) else {
         return Ok(None);
     };
-    let (shelf, done) = work(alloc, shelf, is_stream)?;
-    let (left, is_closed) = close(shelf.into_conn());
+    let Some((conn, done)) = worked(alloc, conn, is_stream)? else {
+        return Ok(None);
+    };
+    let (left, is_closed) = close(conn);
     Ok(Some((left, done, is_closed)))
+}
+
+/// What the office over these files shows.
+fn seen_after<D: Disk + Drop>(alloc: Global, files: Files<D>) -> Result<Vec<u8>, Trouble> {
+    if let Some(conn) = connect(alloc, files) {
+        if let Some(seen) = shown_in(alloc, conn)? {
+            return Ok(seen);
+        }
+    }
+    Err(Trouble::Unprepared("the opening after a stop"))
 }
 
 /// The office over these files shows what it did before the command that was stopped, or after it.
@@ -125,10 +154,7 @@ fn reopens<D: Disk + Drop>(
     states: &[Vec<u8>],
     done: usize,
 ) -> Result<(), Trouble> {
-    let Some(shelf) = open(alloc, files) else {
-        return Err(Trouble::Unprepared("the opening after a stop"));
-    };
-    let seen = shown_of(alloc, shelf)?;
+    let seen = seen_after(alloc, files)?;
     for state in states.iter().skip(done).take(2) {
         if state.as_slice() == seen.as_slice() {
             return Ok(());

@@ -10,13 +10,13 @@ use std::alloc::Global;
 
 /// All that an office shows, and how often the rows of each table were written.
 #[derive(Drop)]
-pub(crate) struct State {
+pub struct State {
     seen: Vec<u8>,
     written: [u64; 8],
 }
 
 /// How often the rows of each table were written.
-pub(crate) fn counts<S: Shelf>(shelf: &S) -> [u64; 8] {
+pub fn counts<S: Shelf>(shelf: &S) -> [u64; 8] {
     [
         shelf.writes(Table::Intersection),
         shelf.writes(Table::Timing),
@@ -30,7 +30,7 @@ pub(crate) fn counts<S: Shelf>(shelf: &S) -> [u64; 8] {
 }
 
 /// All that an office shows of intersection 12, of the stock and of what is overdue.
-pub(crate) fn shown<S: Shelf>(alloc: Global, office: &mut Office<S>) -> Result<Vec<u8>, Trouble> {
+pub fn shown<S: Shelf>(alloc: Global, office: &mut Office<S>) -> Result<Vec<u8>, Trouble> {
     let mut seen = Vec::new(alloc);
     for path in queries() {
         let Some(answer) = run(alloc, office, ("GET", path, ""))? else {
@@ -42,7 +42,7 @@ pub(crate) fn shown<S: Shelf>(alloc: Global, office: &mut Office<S>) -> Result<V
 }
 
 /// The state of an office, and the office.
-pub(crate) fn state_of<S: Shelf + Drop>(
+pub fn state_of<S: Shelf + Drop>(
     alloc: Global,
     office: Office<S>,
 ) -> Result<(State, Office<S>), Trouble> {
@@ -54,7 +54,7 @@ pub(crate) fn state_of<S: Shelf + Drop>(
 }
 
 /// The office is in this state. It is given back.
-pub(crate) fn is_unchanged<S: Shelf + Drop>(
+pub fn is_unchanged<S: Shelf + Drop>(
     alloc: Global,
     office: Office<S>,
     before: &State,

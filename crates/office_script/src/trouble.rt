@@ -24,7 +24,7 @@ pub enum Trouble {
 
 impl Trouble {
     /// Something else came.
-    pub(crate) fn wrong(alloc: Global, what: &'static str, wanted: &[u8], came: &[u8]) -> Trouble {
+    pub fn wrong(alloc: Global, what: &'static str, wanted: &[u8], came: &[u8]) -> Trouble {
         let Ok(wanted) = String::from_utf8_lossy(alloc, wanted) else {
             return Trouble::NoMemory;
         };
@@ -36,7 +36,7 @@ impl Trouble {
 }
 
 /// Compares what came with what must come.
-pub(crate) fn compare(
+pub fn compare(
     alloc: Global,
     what: &'static str,
     wanted: &[u8],
@@ -49,7 +49,7 @@ pub(crate) fn compare(
 }
 
 /// What must hold does.
-pub(crate) fn holds(is_so: bool, what: &'static str) -> Result<(), Trouble> {
+pub fn holds(is_so: bool, what: &'static str) -> Result<(), Trouble> {
     if is_so {
         return Ok(());
     }
