@@ -3,7 +3,7 @@
 ghost use Rattle.std.specs.Prelude.{◌≡◌, ◌↔◌, IsSome, IfSome, IfOk};
 ghost use Rattle.signal_records.specs.Words.{AreWords};
 
-use crate::memory::NoMemory;
+use crate::NoMemory;
 use std::alloc::{AllocError, Global};
 use std::marker::Model;
 
