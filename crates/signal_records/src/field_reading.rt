@@ -7,8 +7,8 @@ ghost use Rattle.std.specs.Str.Parse.{digits_value};
 ghost use Rattle.signal_records.specs.declared.number.TheConstants.{PHASES};
 ghost use Rattle.signal_records.specs.Reading.{Gives, texts, is_numeral, parts, phases_in, number_at, flag_at, mode_at, list_of, list_at};
 
-use crate::fault::RowFault;
 use crate::NoMemory;
+use crate::fault::RowFault;
 use crate::number::{Number, PHASES};
 use crate::phase_list::{PhaseList, push_phase};
 use crate::record::SplitMode;
