@@ -112,10 +112,7 @@ pub(crate) fn answer(
     ensures wants { OnErr result (WantsMemory decision) }
 {
     match decision {
-        Ok(step) => match moved(alloc, id, clerk, found, step) {
-            Ok(decided) => return Ok(decided),
-            Err(NoMemory) => return Err(ShelfFault::NoMemory),
-        },
+        Ok(step) => Ok(moved(alloc, id, clerk, found, step)?),
         Err(DraftRefusal::NoMemory) => return Err(ShelfFault::NoMemory),
         Err(refusal) => {
             return Ok(Decided::unchanged(alloc, Reply::Refused(refused(refusal))));

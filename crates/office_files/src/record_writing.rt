@@ -10,9 +10,9 @@ use cabinet_core::{
 };
 use csv::ByteRecord;
 use signal_records::{InterId, NoMemory, RecordNo};
-use std::alloc::{AllocError, Global};
+use std::alloc::Global;
 
-fn number(alloc: Global, n: u32) -> Result<String, AllocError>
+fn number(alloc: Global, n: u32) -> Result<String, NoMemory>
     ensures { IfOk result (λ text. string_bytes text ≡ decimal n) }
 {
     format!(in alloc; "{n}")
@@ -32,7 +32,7 @@ fn inspection_record(alloc: Global, id: InterId, r: &Inspection) -> Result<ByteR
         r.clerk.as_str().as_bytes(),
         r.text.as_str().as_bytes(),
     ];
-    Ok(ByteRecord::from_fields(alloc, &fields)?)
+    ByteRecord::from_fields(alloc, &fields)
 }
 
 fn opening_record(alloc: Global, id: InterId, r: &Opening) -> Result<ByteRecord, NoMemory>
@@ -49,7 +49,7 @@ fn opening_record(alloc: Global, id: InterId, r: &Opening) -> Result<ByteRecord,
         r.clerk.as_str().as_bytes(),
         r.text.as_str().as_bytes(),
     ];
-    Ok(ByteRecord::from_fields(alloc, &fields)?)
+    ByteRecord::from_fields(alloc, &fields)
 }
 
 fn use_record(alloc: Global, id: InterId, r: &UsedLine) -> Result<ByteRecord, NoMemory>
@@ -67,7 +67,7 @@ fn use_record(alloc: Global, id: InterId, r: &UsedLine) -> Result<ByteRecord, No
         r.part.as_str().as_bytes(),
         count.as_bytes(),
     ];
-    Ok(ByteRecord::from_fields(alloc, &fields)?)
+    ByteRecord::from_fields(alloc, &fields)
 }
 
 fn close_record(
@@ -88,7 +88,7 @@ fn close_record(
         day.as_bytes(),
         r.closer.as_str().as_bytes(),
     ];
-    Ok(ByteRecord::from_fields(alloc, &fields)?)
+    ByteRecord::from_fields(alloc, &fields)
 }
 
 fn delivery_record(alloc: Global, r: &Delivery) -> Result<ByteRecord, NoMemory>
@@ -104,7 +104,7 @@ fn delivery_record(alloc: Global, r: &Delivery) -> Result<ByteRecord, NoMemory>
         day.as_bytes(),
         count.as_bytes(),
     ];
-    Ok(ByteRecord::from_fields(alloc, &fields)?)
+    ByteRecord::from_fields(alloc, &fields)
 }
 
 impl CsvRecord for RecordCommand {

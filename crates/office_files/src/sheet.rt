@@ -8,7 +8,7 @@ ghost use Rattle.office_files.specs.Sheet.{interval_columns, ped_columns, phases
 use crate::cells::{push_flag, push_list, push_number, push_tenths};
 use draft_core::revision::Revision;
 use signal_records::{InterId, NoMemory, Ped, Phase, PhaseNo, Row, SplitMode, TimingSet, Words};
-use std::alloc::{AllocError, Global};
+use std::alloc::Global;
 use std::fmt::Write;
 
 /// The code of a split mode, 2 to 7.
@@ -26,7 +26,7 @@ fn mode_code(mode: SplitMode) -> u32
 }
 
 /// Appends the six columns of a pedestrian part.
-fn push_ped(text: &mut String, ped: &Option<Ped>) -> Result<(), AllocError>
+fn push_ped(text: &mut String, ped: &Option<Ped>) -> Result<(), NoMemory>
     ensures { OnOk result (string_bytes text.new ≡ string_bytes text.old ++ ped_columns ped.now) }
 {
     let Some(ped) = ped else {
@@ -41,7 +41,7 @@ fn push_ped(text: &mut String, ped: &Option<Ped>) -> Result<(), AllocError>
 }
 
 /// Appends the columns of a phase up to its pedestrian part.
-fn push_intervals(text: &mut String, p: PhaseNo, phase: &Phase) -> Result<(), AllocError>
+fn push_intervals(text: &mut String, p: PhaseNo, phase: &Phase) -> Result<(), NoMemory>
     ensures { OnOk result (string_bytes text.new ≡ string_bytes text.old ++ interval_columns p phase.now) }
 {
     push_number(text, p.get())?;
@@ -54,7 +54,7 @@ fn push_intervals(text: &mut String, p: PhaseNo, phase: &Phase) -> Result<(), Al
 }
 
 /// Appends the line of a phase, and nothing for a row of another kind.
-fn push_phase(text: &mut String, row: &Row) -> Result<(), AllocError>
+fn push_phase(text: &mut String, row: &Row) -> Result<(), NoMemory>
     ensures { OnOk result (string_bytes text.new ≡ string_bytes text.old ++ phase_line row.now) }
 {
     let Row::Phase(p, phase) = row else {
@@ -67,7 +67,7 @@ fn push_phase(text: &mut String, row: &Row) -> Result<(), AllocError>
 }
 
 /// Appends the line of a sequence and ring, and nothing for a row of another kind.
-fn push_sequence(text: &mut String, row: &Row) -> Result<(), AllocError>
+fn push_sequence(text: &mut String, row: &Row) -> Result<(), NoMemory>
     ensures { OnOk result (string_bytes text.new ≡ string_bytes text.old ++ sequence_line row.now) }
 {
     let Row::Seq(n, ring, seq) = row else {
@@ -80,7 +80,7 @@ fn push_sequence(text: &mut String, row: &Row) -> Result<(), AllocError>
 }
 
 /// Appends the line of a split and phase, and nothing for a row of another kind.
-fn push_split(text: &mut String, row: &Row) -> Result<(), AllocError>
+fn push_split(text: &mut String, row: &Row) -> Result<(), NoMemory>
     ensures { OnOk result (string_bytes text.new ≡ string_bytes text.old ++ split_line row.now) }
 {
     let Row::Split(n, p, split) = row else {
@@ -95,7 +95,7 @@ fn push_split(text: &mut String, row: &Row) -> Result<(), AllocError>
 }
 
 /// Appends the line of a pattern, and nothing for a row of another kind.
-fn push_pattern(text: &mut String, row: &Row) -> Result<(), AllocError>
+fn push_pattern(text: &mut String, row: &Row) -> Result<(), NoMemory>
     ensures { OnOk result (string_bytes text.new ≡ string_bytes text.old ++ pattern_line row.now) }
 {
     let Row::Pattern(n, pattern) = row else {
@@ -109,7 +109,7 @@ fn push_pattern(text: &mut String, row: &Row) -> Result<(), AllocError>
     text.push_str("\n")
 }
 
-fn push_phases(text: &mut String, rows: &[Row]) -> Result<(), AllocError>
+fn push_phases(text: &mut String, rows: &[Row]) -> Result<(), NoMemory>
     ensures { OnOk result (string_bytes text.new ≡ string_bytes text.old ++ phases_section rows.now) }
 {
     text.push_str(
@@ -121,7 +121,7 @@ fn push_phases(text: &mut String, rows: &[Row]) -> Result<(), AllocError>
     Ok(())
 }
 
-fn push_sequences(text: &mut String, rows: &[Row]) -> Result<(), AllocError>
+fn push_sequences(text: &mut String, rows: &[Row]) -> Result<(), NoMemory>
     ensures { OnOk result (string_bytes text.new ≡ string_bytes text.old ++ sequences_section rows.now) }
 {
     text.push_str("Sequences\n    No  Ring Phases\n")?;
@@ -131,7 +131,7 @@ fn push_sequences(text: &mut String, rows: &[Row]) -> Result<(), AllocError>
     Ok(())
 }
 
-fn push_splits(text: &mut String, rows: &[Row]) -> Result<(), AllocError>
+fn push_splits(text: &mut String, rows: &[Row]) -> Result<(), NoMemory>
     ensures { OnOk result (string_bytes text.new ≡ string_bytes text.old ++ splits_section rows.now) }
 {
     text.push_str("Splits\n    No Phase  Time  Mode Coord\n")?;
@@ -141,7 +141,7 @@ fn push_splits(text: &mut String, rows: &[Row]) -> Result<(), AllocError>
     Ok(())
 }
 
-fn push_patterns(text: &mut String, rows: &[Row]) -> Result<(), AllocError>
+fn push_patterns(text: &mut String, rows: &[Row]) -> Result<(), NoMemory>
     ensures { OnOk result (string_bytes text.new ≡ string_bytes text.old ++ patterns_section rows.now) }
 {
     text.push_str("Patterns\n    No Cycle  Offs Split   Seq\n")?;
@@ -152,7 +152,7 @@ fn push_patterns(text: &mut String, rows: &[Row]) -> Result<(), AllocError>
 }
 
 /// Appends the four sections.
-fn push_sections(text: &mut String, rows: &[Row]) -> Result<(), AllocError>
+fn push_sections(text: &mut String, rows: &[Row]) -> Result<(), NoMemory>
     ensures { OnOk result (string_bytes text.new ≡ string_bytes text.old ++ sections rows.now) }
 {
     push_phases(text, rows)?;
@@ -167,7 +167,7 @@ fn push_title(
     id: InterId,
     name: &Words<120>,
     revision: Revision,
-) -> Result<(), AllocError>
+) -> Result<(), NoMemory>
     ensures { OnOk result (string_bytes text.new ≡ string_bytes text.old ++ title id name.now revision) }
 {
     let id = id.get();

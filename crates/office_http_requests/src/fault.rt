@@ -4,7 +4,7 @@ ghost use Rattle.office_http_requests.specs.declared.fault.AskFault.TheVariants.
 
 use crate::field::Field;
 use signal_records::{NoMemory, RowFault};
-use std::alloc::{AllocError, AllocFailed};
+use std::alloc::AllocFailed;
 
 /// Why a request asks nothing of the office.
 #[derive(Clone, Copy)]
@@ -30,14 +30,6 @@ impl From<NoMemory> for AskFault {
     ghost from_gives = { λ _ fault. fault ≡ OutOfMemory };
 
     fn from(_: NoMemory) -> AskFault {
-        AskFault::NoMemory
-    }
-}
-
-impl From<AllocError> for AskFault {
-    ghost from_gives = { λ _ fault. fault ≡ OutOfMemory };
-
-    fn from(_: AllocError) -> AskFault {
         AskFault::NoMemory
     }
 }

@@ -33,7 +33,7 @@ pub(crate) fn write_timing_csv(
 ) -> Result<(), AllocError>
     ensures { AddsTree result to.old to.new (csv_tree (timing_csv_text set.now)) }
 {
-    let csv = timing_csv(alloc, set).map_err(|_| AllocError)?;
+    let csv = timing_csv(alloc, set)?;
     write_csv(alloc, to, csv.as_slice())
 }
 
@@ -46,6 +46,6 @@ pub(crate) fn write_cabinet_csv(
 ) -> Result<(), AllocError>
     ensures { AddsTree result to.old to.new (csv_tree (records_csv_text id shown.now)) }
 {
-    let csv = records_csv(alloc, id, shown).map_err(|_| AllocError)?;
+    let csv = records_csv(alloc, id, shown)?;
     write_csv(alloc, to, csv.as_slice())
 }

@@ -12,7 +12,7 @@ use std::alloc::{AllocError, Global};
 pub(crate) fn day_in_json(alloc: Global, to: &mut Writer, day: Day) -> Result<(), AllocError>
     ensures { AddsTree result to.old to.new (day_tree day) }
 {
-    let text = write_day(alloc, day).map_err(|_| AllocError)?;
+    let text = write_day(alloc, day)?;
     to.string(text.as_str())
 }
 

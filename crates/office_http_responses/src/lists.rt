@@ -37,7 +37,7 @@ impl WriteJson for Row {
     ghost tree = { row_tree };
 
     fn write_json(&self, alloc: Global, to: &mut Writer) -> Result<(), AllocError> {
-        let fields = write_row(alloc, self).map_err(|_| AllocError)?;
+        let fields = write_row(alloc, self)?;
         texts(alloc, to, fields.as_slice())
     }
 }
@@ -46,7 +46,7 @@ impl WriteJson for Row {
 pub(crate) fn write_rows(alloc: Global, to: &mut Writer, set: &TimingSet) -> Result<(), AllocError>
     ensures { AddsTree result to.old to.new (rows_tree set.now) }
 {
-    let rows = set.rows(alloc).map_err(|_| AllocError)?;
+    let rows = set.rows(alloc)?;
     array(alloc, to, rows.as_slice())
 }
 

@@ -60,7 +60,7 @@ pub(crate) fn copied_intersections(
 ) -> Result<BTreeMap<InterId, IntersectionRow>, NoMemory>
     ensures { IfOk result (λ copy. copy.entries ≡ rows.now.entries) }
 {
-    Ok(rows.clone()?)
+    rows.clone()
 }
 
 /// Puts a committed row under its own key.
@@ -161,7 +161,7 @@ pub(crate) fn copied_drafts(
 ) -> Result<BTreeMap<Place, Option<Row>>, NoMemory>
     ensures { IfOk result (λ copy. copy.entries ≡ rows.now.entries) }
 {
-    Ok(rows.clone()?)
+    rows.clone()
 }
 
 /// The draft rows of an intersection, in the order of their keys.

@@ -5,17 +5,17 @@ ghost use Rattle.std.specs.List.{join_with_byte};
 ghost use Rattle.office_tables_shelf.specs.Rows.{body_of};
 
 use signal_records::{NoMemory, Row, write_row};
-use std::alloc::{AllocError, Global};
+use std::alloc::Global;
 
 /// The fields of the row with a comma between.
 pub fn write_body(alloc: Global, row: &Row) -> Result<String, NoMemory>
     ensures { IfOk result (λ text. string_bytes text ≡ body_of row.now) }
 {
     let fields = write_row(alloc, row)?;
-    Ok(joined(alloc, fields.as_slice())?)
+    joined(alloc, fields.as_slice())
 }
 
-fn joined(alloc: Global, fields: &[String]) -> Result<String, AllocError>
+fn joined(alloc: Global, fields: &[String]) -> Result<String, NoMemory>
     ensures { IfOk result (λ text. string_bytes text ≡ join_with_byte 44 (map string_bytes fields.now)) }
 {
     match fields {
@@ -24,7 +24,7 @@ fn joined(alloc: Global, fields: &[String]) -> Result<String, AllocError>
     }
 }
 
-fn joined_from(first: &String, rest: &[String]) -> Result<String, AllocError>
+fn joined_from(first: &String, rest: &[String]) -> Result<String, NoMemory>
     ensures { IfOk result (λ text. string_bytes text ≡ join_with_byte 44 (map string_bytes (first.now ∷ rest.now))) }
 {
     let mut text = first.clone()?;

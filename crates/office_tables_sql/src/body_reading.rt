@@ -8,7 +8,7 @@ ghost use Rattle.signal_records.specs.declared.record.Row.{Row};
 ghost use Rattle.office_tables_shelf.specs.Rows.{body_of};
 
 use signal_records::{NoMemory, Row, RowFault, read_row};
-use std::alloc::{AllocError, Global};
+use std::alloc::Global;
 
 /// The row within its limits whose fields, with a comma between, are these bytes, if there is one.
 pub fn row_of_body(alloc: Global, body: &[u8]) -> Result<Option<Row>, NoMemory>
@@ -26,7 +26,7 @@ pub fn row_of_body(alloc: Global, body: &[u8]) -> Result<Option<Row>, NoMemory>
 }
 
 /// The fields between commas; there is one at least.
-pub fn fields_of(alloc: Global, body: &[u8]) -> Result<Vec<&[u8]>, AllocError>
+pub fn fields_of(alloc: Global, body: &[u8]) -> Result<Vec<&[u8]>, NoMemory>
     ensures { IfOk result (λ fields. texts fields.items ≡ slice_split (λ b. b == 44) body.now) }
 {
     body.split(|b| *b == 44).collect(alloc)

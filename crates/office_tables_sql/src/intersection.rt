@@ -188,7 +188,7 @@ fn stage_of(state: u32) -> Option<Stage>
 fn copy_of(row: &IntersectionRow) -> Result<IntersectionRow, NoMemory>
     ensures { IfOk result (λ copy. copy ≡ row.now) }
 {
-    Ok(row.clone()?)
+    row.clone()
 }
 
 /// Puts the row of an intersection.

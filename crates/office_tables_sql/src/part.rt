@@ -126,7 +126,7 @@ pub fn hand<S: Alter>(
 fn copy_of(code: &PartCode) -> Result<PartCode, NoMemory>
     ensures { IfOk result (λ copy. copy ≡ code.now) }
 {
-    Ok(code.clone()?)
+    code.clone()
 }
 
 /// Puts how many of the part are on hand.

@@ -8,7 +8,6 @@ use office_http::{ServeFault, WriteFailed};
 use office_tables::open::OpenFault;
 use signal_records::NoMemory;
 use sqlite::{Error, ErrorCode};
-use std::alloc::AllocError;
 use std::fmt;
 
 /// Why the program ends with a fault, or refuses its words.
@@ -87,17 +86,6 @@ impl fmt::Display for Fault {
             Fault::Csv(fault) => write!(f, "fault: {fault}"),
             Fault::Words => f.write_str("the command line is not UTF-8"),
         }
-    }
-}
-
-impl From<AllocError> for Fault {
-    ghost use Rattle.std.specs.Prelude.{◌≡◌};
-    ghost use Rattle.signal_office_reports.specs.declared.fault.Fault.TheVariants as told;
-
-    ghost from_gives = { λ _ fault. fault ≡ told.Memory };
-
-    fn from(_: AllocError) -> Fault {
-        Fault::Memory
     }
 }
 
