@@ -208,13 +208,13 @@ shown_gone (Some i) said e = absurd (let f : false ≡ true = e in cc)
 -- a query on the cabinet of an intersection shows what it says only where that is there
 pub cabinet_answers : (tables : Content) (office : Office) (id : ℕ) (view : CabinetView) (said : Reply) (changes : List RowChange)
     → StandForSound tables office → IsKnownIn tables (Some id) true → ((r : Register) → RegisterStandsSound tables r → ShowsCabinet r id view)
-    → said ≡ reply.Cabinet (record { id = id; inspections = view.inspections.items; orders = view.orders.items; lines = view.lines.items }) → changes ≡ []
+    → said ≡ reply.Cabinet (record { id = id; view = view }) → changes ≡ []
     → Answers office (command.Cabinet id) said (changed_by tables changes)
 cabinet_answers tables office id view said changes stands there shows is none =
     let lists = shows office.register (register_of tables office stands) in
     query_answers tables office (command.Cabinet id) (reply.Cabinet (cabinet_shown office.register id)) said changes stands
     (λ k. (shown_there (get office.intersections id) (reply.Cabinet (cabinet_shown office.register id)) (there office stands) k, office))
-    (is ∙ (λ k. reply.Cabinet (record { id = id; inspections = lists.inspections k; orders = lists.orders k; lines = lists.lines k }))) none
+    (is ∙ (λ k. reply.Cabinet (record { id = id; view = record { inspections = lists.inspections k; orders = lists.orders k; lines = lists.lines k } }))) none
 
 pub cabinet_unknown : (tables : Content) (office : Office) (id : ℕ) (said : Reply) (changes : List RowChange)
     → StandForSound tables office → IsKnownIn tables (Some id) false → said ≡ reply.Refused refusal.UnknownIntersection → changes ≡ [] → Answers office (command.Cabinet id) said (changed_by tables changes)

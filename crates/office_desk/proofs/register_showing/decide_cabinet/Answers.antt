@@ -5,7 +5,6 @@ use Rattle.office_tables_shelf.specs.declared.shelf.ShelfFault.{ShelfFault}
 use Rattle.cabinet_core.specs.Register.{Register}
 use Rattle.office_desk_cabinet.specs.RegisterStands.{RegisterStandsSound}
 use Rattle.office_desk_cabinet.specs.Registers.{ShowsCabinet}
-use Rattle.office_desk.specs.Lists.{CabinetLists}
 use Rattle.office_desk.specs.declared.reply.Reply.TheVariants.{Cabinet}
 use Rattle.office_desk.proofs.Decisions.{fault_decides, told_decides, unknown_decides}
 use Rattle.office_desk.proofs.Recorded.{about_known, cabinet_answers, cabinet_unknown}
@@ -30,7 +29,7 @@ returns-clause-decides g c =
     cabinet_answers (g.S.Shelf.content c.args.shelf.now) office c.args.id view _ _ stands
     (about_known _ (Some c.args.id) (Some c.args.id) _ _ refl there (c.in_ok-is_known.ensures.known first))
     (subst (λ t. (r : Register) → RegisterStandsSound t r → ShowsCabinet r c.args.id view) same (c.in_ok-view.ensures.shows honest))
-    (c.unchanged.ensures.reply ∙ ap (λ (lists : CabinetLists). Cabinet lists) c.new-shown.ensures) c.unchanged.ensures.no_changes)
+    c.unchanged.ensures.reply c.unchanged.ensures.no_changes)
 
 pub returns-in_err-view-clause-decides : goal.returns-in_err-view-clause-decides
 returns-in_err-view-clause-decides g c =

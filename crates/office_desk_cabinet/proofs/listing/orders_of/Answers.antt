@@ -1,0 +1,13 @@
+use Rattle.std.proofs.Common.{sym, subst}
+use Rattle.office_tables_shelf.specs.CabinetReads.{ListsOrders}
+use Rattle.office_desk_cabinet.proofs.ListedRows.{orders_in_order, orders_whole}
+use Rattle.office_desk_cabinet.proofs.listing.orders_of.Goals as goal
+
+pub returns-clause-rows : goal.returns-clause-rows
+returns-clause-rows g c = λ honest.
+    let tables = g.S.Shelf.content c.args.shelf.now in
+    let lists = c.in_ok-list.ensures.rows honest in
+    subst (λ list. ListsOrders tables c.args.id list) (sym (c.new.ensures.same (orders_in_order tables c.args.id c.in_ok-list.list.items lists c.orders_are_within.ensures))) lists
+
+pub returns-clause-whole : goal.returns-clause-whole
+returns-clause-whole g c = λ honest. orders_whole (g.S.Shelf.content c.args.shelf.now) c.args.id c.in_ok-list.list.items (c.in_ok-list.ensures.rows honest) c.orders_are_within.ensures
