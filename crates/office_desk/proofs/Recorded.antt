@@ -27,7 +27,7 @@ use Rattle.office_desk_cabinet.specs.declared.registered.Registered.{Registered}
 use Rattle.office_desk_cabinet.specs.declared.registered.Registered.TheVariants.{Added, Same, Refused}
 use Rattle.office_desk.specs.Answers.{Answers}
 use Rattle.office_desk.specs.Changes.{IsRefused}
-use Rattle.office_desk.specs.Damage.{MeetsCabinetDamage}
+use Rattle.office_desk.specs.Damage.{MeetsAfter, MeetsCabinetDamage}
 use Rattle.office_desk.specs.Deciding.{IsDecision}
 use Rattle.office_desk.specs.Office.{Office, Intersection}
 use Rattle.office_desk.specs.Named.{RefusesBy, number_of, numbers_about, numbers_of}
@@ -129,11 +129,15 @@ pub meets_record : (tables : Content) (c : RecordCommand) (about : Option ℕ) �
 meets_record tables c None there damage = damage
 meets_record tables c (Some id) there damage = inr (sym there, damage)
 
+-- of an intersection that is not there nothing more is read
+pub gone_after : (tables : Content) (id : ℕ) (Later : Type 0) → TellsAbout tables (Some id) false → ¬ HasDamagedAbout tables (Some id) → ¬ MeetsAfter tables id Later
+gone_after tables id Later gone row (inl damage) = row damage
+gone_after tables id Later gone row (inr later) = absurd (let f : false ≡ true = gone ∙ later.0 in cc)
+
 -- no row that the command reads is no record: the intersection's, and where that is there, those of the register
 pub gone_whole : (tables : Content) (c : RecordCommand) (about : Option ℕ) → TellsAbout tables about false → ¬ HasDamagedAbout tables about → ¬ MeetsCabinetDamage tables c about
 gone_whole tables c None gone row damage = absurd (let f : false ≡ true = gone in cc)
-gone_whole tables c (Some id) gone row (inl damage) = row damage
-gone_whole tables c (Some id) gone row (inr later) = absurd (let f : false ≡ true = gone ∙ later.0 in cc)
+gone_whole tables c (Some id) gone row damage = gone_after tables id (MeetsRecordDamage tables c) gone row damage
 
 pub record_whole : (tables : Content) (c : RecordCommand) (about : Option ℕ) → ¬ HasDamagedAbout tables about → ¬ MeetsRecordDamage tables c → ¬ MeetsCabinetDamage tables c about
 record_whole tables c None row register damage = register damage

@@ -1,11 +1,11 @@
 -- Rows that were listed are in order, and none of them is damaged.
-use Rattle.std.proofs.Common.{◌≡◌, ◌⊎◌, inl, inr, ℕ, zero, suc, ◌+◌, ◌*◌, ◌<◌, ◌≤◌, ◌&&◌, Bool, true, false, cond, List, [], ◌∷◌, map, length, get_or, Option, Some, None, Ordering, Less, Equal, Greater, T, refl, ap, sym, subst, ◌∙◌, arith}
+use Rattle.std.proofs.Common.{◌≡◌, ◌⊎◌, inl, inr, ℕ, zero, suc, ◌+◌, ◌*◌, ◌<◌, ◌≤◌, ◌&&◌, Bool, true, false, cond, List, [], ◌∷◌, map, length, get_or, Some, None, Ordering, Less, Equal, Greater, T, refl, ap, sym, subst, ◌∙◌, arith}
 use Rattle.std.proofs.lemmas.Bool.{cases_Bool}
 use Rattle.std.proofs.lemmas.Cmp.{nat_cmp_total, ranked}
 use Rattle.std.specs.Cmp.{tied_itself}
 use Rattle.std.specs.FinMap as finite
 use Rattle.std.specs.FinMap.{get, entries, entries_sorted, get-entries}
-use Rattle.std.specs.FinMap.Entries.{find-where_key, is_sorted, below_all, where_key, is_sorted-where_key}
+use Rattle.std.specs.FinMap.Entries.{find-where_key, is_sorted, below_all, is_sorted-where_key}
 use Rattle.std.specs.List.{AllByRecursion}
 use Rattle.std.specs.List.Sorted.{IsNonDecreasingBy}
 use Rattle.std.specs.Ordering.{eq_by_cmp, is_lt, nat_cmp, ordering_then}

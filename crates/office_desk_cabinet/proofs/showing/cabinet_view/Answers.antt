@@ -1,4 +1,4 @@
-use Rattle.std.proofs.Common.{inl, inr, ◌∙◌, subst}
+use Rattle.std.proofs.Common.{◌∙◌, subst}
 use Rattle.office_tables_shelf.specs.CabinetReads.{HasDamagedOrder, HasDamagedUsed, ListsOrders, ListsUsed}
 use Rattle.office_desk_cabinet.proofs.ListedRecords.{inspections_listed, orders_listed, lines_listed}
 use Rattle.office_desk_cabinet.proofs.WholeRecords.{neither}
