@@ -9,7 +9,8 @@ use Rattle.office_tables_shelf.specs.Rows.{intersection_key}
 use Rattle.office_tables_shelf.specs.Shelf.{ReadsIntersection}
 use Rattle.office_tables_shelf.specs.declared.rows.IntersectionRow.{IntersectionRow}
 use Rattle.office_tables_shelf.specs.Damage.{HasDamagedIntersection, HasAnyDamagedIntersection, HasDamagedTiming, HasDamagedDraft}
-use Rattle.office_tables_shelf.specs.CabinetReads.{HasAnyDamagedInspection, HasDamagedOrder, HasDamagedPart}
+use Rattle.office_tables_shelf.specs.CabinetReads.{HasAnyDamagedInspection, HasDamagedOrder}
+use Rattle.office_tables_shelf.specs.CabinetReads.{HasDamagedPart}
 use Rattle.cabinet_core.specs.declared.command.RecordCommand.{RecordCommand}
 use Rattle.office_desk_cabinet.specs.RegisterDamage.{HasDamagedCabinet, MeetsRecordDamage}
 use Rattle.office_desk.specs.Changes.{IsRefused}
@@ -82,8 +83,8 @@ MeetsDamage tables (command.OpenOrders id) = MeetsAfter tables id (HasDamagedOrd
 MeetsDamage tables command.Stock = HasDamagedPart tables
 MeetsDamage tables (command.Overdue day) = HasAnyDamagedIntersection tables ⊎ HasAnyDamagedInspection tables
 
--- the same, but of the draft where the committed set is asked for, and of the rows that the report of overdue inspections reads: such a row keeps
--- the command from being answered otherwise
+-- the same, but of the draft where the committed set is asked for, and of the rows that the report
+-- of overdue inspections reads: such a row keeps the command from being answered otherwise
 abbrev pub IsBarred : Content → Command → Type 0
 IsBarred tables (command.Timing id) = MeetsAfter tables id (HasDamagedTiming tables id)
 IsBarred tables (command.Overdue day) = ⊥

@@ -127,7 +127,8 @@ pub(crate) fn parts_of<S: Shelf>(
 ) -> Result<Vec<(PartCode, Hand)>, ShelfFault>
     ensures rows { IfOk result (λ found. S.is_honest shelf.new →
         ListsParts (S.content shelf.old) found.items) }
-    ensures whole { IfOk result (λ _. S.is_honest shelf.new → ¬ HasDamagedPart (S.content shelf.old)) }
+    ensures whole { IfOk result (λ _. S.is_honest shelf.new →
+        ¬ HasDamagedPart (S.content shelf.old)) }
     ensures damaged { result ≡ Err ShelfFault.Damaged → S.is_honest shelf.new →
         HasDamagedPart (S.content shelf.old) }
     ensures kept { IsKept S.is_honest S.content S.written S.may_leave shelf.old shelf.new }

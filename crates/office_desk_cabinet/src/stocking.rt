@@ -125,7 +125,8 @@ pub(crate) fn decide_receive<S: Shelf>(
 pub fn stock<S: Shelf>(shelf: &mut S, alloc: Global) -> Result<Vec<(PartCode, Hand)>, ShelfFault>
     ensures shows { S.is_honest shelf.new → IfOk result (λ parts. (r : Register) →
         RegisterStandsSound (S.content shelf.old) r → parts.items ≡ stock_of r) }
-    ensures whole { IfOk result (λ _. S.is_honest shelf.new → ¬ HasDamagedPart (S.content shelf.old)) }
+    ensures whole { IfOk result (λ _. S.is_honest shelf.new →
+        ¬ HasDamagedPart (S.content shelf.old)) }
     ensures damaged { result ≡ Err ShelfFault.Damaged → S.is_honest shelf.new →
         HasDamagedPart (S.content shelf.old) }
     ensures kept { IsKept S.is_honest S.content S.written S.may_leave shelf.old shelf.new }

@@ -52,7 +52,8 @@ pub record IsInFileOrder (view : CabinetView) : Type 0 where
 
 -- what made a cabinet as it stands: its inspections, and then order by order
 abbrev pub view_commands : ℕ → CabinetView → List RecordCommand
-view_commands id view = map (command.Inspect id) view.inspections ++ flat_map (order_commands id view.lines) view.orders
+view_commands id view = map (command.Inspect id) view.inspections ++ flat_map
+    (order_commands id view.lines) view.orders
 
 -- a record for each of them
 abbrev pub records_csv_text : ℕ → CabinetView → List ℕ

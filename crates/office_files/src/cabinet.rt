@@ -7,8 +7,9 @@ ghost use Rattle.cabinet_core.specs.declared.command.RecordCommand.{RecordComman
 ghost use Rattle.office_files.specs.Csv.{csv_records};
 ghost use Rattle.office_files.specs.CsvFault.{NamesFault};
 ghost use Rattle.office_files.specs.RecordSpelling.{record_spelling};
-ghost use Rattle.office_files.specs.Records.{commands_of, AreRecordsWithin, is_line_of, opening_of};
-ghost use Rattle.office_files.specs.Records.{close_commands, order_commands, view_commands};
+ghost use Rattle.office_files.specs.Records.{commands_of, AreRecordsWithin};
+ghost use Rattle.office_files.specs.Records.{is_line_of, opening_of, close_commands};
+ghost use Rattle.office_files.specs.Records.{order_commands, view_commands};
 ghost use Rattle.office_files.specs.Records.{IsInFileOrder, records_csv_text};
 
 use crate::fault::CsvFault;
@@ -156,14 +157,19 @@ fn view_commands(
 {
     let mut commands = Vec::new(alloc);
     push_inspections(&mut commands, id, view.inspections.as_slice())?;
-    push_orders(&mut commands, id, view.lines.as_slice(), view.orders.as_slice())?;
+    push_orders(
+        &mut commands,
+        id,
+        view.lines.as_slice(),
+        view.orders.as_slice(),
+    )?;
     Ok(commands)
 }
 
 /// The CSV file of an intersection's cabinet: its inspections, and then for each order what
 /// opened it, the parts that were used for it, and what closed it. Inspections and orders stand by
-/// their numbers, and the parts of an order by their lines. It is UTF-8. Read, it gives the commands
-/// that made the cabinet so.
+/// their numbers, and the parts of an order by their lines. It is UTF-8. Read, it gives the
+/// commands that made the cabinet so.
 pub fn records_csv(alloc: Global, id: InterId, view: &CabinetView) -> Result<Vec<u8>, NoMemory>
     ensures text { IfOk result (λ text. text.items ≡ records_csv_text id view.now) }
     ensures in_order { IfOk result (λ _. IsInFileOrder view.now) }

@@ -5,4 +5,5 @@ use Rattle.office_desk_cabinet.proofs.listing.inspections_are_within.Given as go
 
 -- if what is left is within, all are
 abbrev pub invariant-loop-inspection : goal.invariant-loop-inspection
-invariant-loop-inspection l = AllByRecursion IsInspectionWithin (drop l.inspection-index l.list) → AllByRecursion IsInspectionWithin l.list
+invariant-loop-inspection l = AllByRecursion IsInspectionWithin (drop l.inspection-index l.list)
+    → AllByRecursion IsInspectionWithin l.list

@@ -5,4 +5,5 @@ use Rattle.office_desk_cabinet.proofs.listing.lines_are_within.Given as goal
 
 -- if what is left is within, all are
 abbrev pub invariant-loop-used : goal.invariant-loop-used
-invariant-loop-used l = AllByRecursion IsUsedLineWithin (drop l.used-index l.list) → AllByRecursion IsUsedLineWithin l.list
+invariant-loop-used l = AllByRecursion IsUsedLineWithin (drop l.used-index l.list)
+    → AllByRecursion IsUsedLineWithin l.list

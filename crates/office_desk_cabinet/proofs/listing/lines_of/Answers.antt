@@ -9,10 +9,15 @@ pub returns-clause-rows : goal.returns-clause-rows
 returns-clause-rows g c = λ honest.
     let tables = g.S.Shelf.content c.args.shelf.now in
     let lists = c.in_ok-list.ensures.rows honest in
-    let within = subst (AllByRecursion IsUsedLineWithin) c.as_slice.ensures.value c.lines_are_within.ensures in
-    subst (λ list. ListsUsed tables c.args.id list) (sym (c.new.ensures.same (lines_in_order tables c.args.id c.in_ok-list.list.items lists within))) lists
+    let within = subst (AllByRecursion IsUsedLineWithin) c.as_slice.ensures.value
+    c.lines_are_within.ensures in
+    subst (λ list. ListsUsed tables c.args.id list)
+    (sym (c.new.ensures.same (lines_in_order tables c.args.id c.in_ok-list.list.items lists
+    within))) lists
 
 pub returns-clause-whole : goal.returns-clause-whole
 returns-clause-whole g c = λ honest.
-    let within = subst (AllByRecursion IsUsedLineWithin) c.as_slice.ensures.value c.lines_are_within.ensures in
-    lines_whole (g.S.Shelf.content c.args.shelf.now) c.args.id c.in_ok-list.list.items (c.in_ok-list.ensures.rows honest) within
+    let within = subst (AllByRecursion IsUsedLineWithin) c.as_slice.ensures.value
+    c.lines_are_within.ensures in
+    lines_whole (g.S.Shelf.content c.args.shelf.now) c.args.id c.in_ok-list.list.items
+    (c.in_ok-list.ensures.rows honest) within

@@ -5,4 +5,5 @@ use Rattle.office_desk_cabinet.proofs.listing.orders_are_within.Given as goal
 
 -- if what is left is within, all are
 abbrev pub invariant-loop-order : goal.invariant-loop-order
-invariant-loop-order l = AllByRecursion IsOrderWithin (drop l.order-index l.list) → AllByRecursion IsOrderWithin l.list
+invariant-loop-order l = AllByRecursion IsOrderWithin (drop l.order-index l.list)
+    → AllByRecursion IsOrderWithin l.list
