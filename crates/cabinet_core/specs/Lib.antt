@@ -11,3 +11,4 @@ pub mod Step
 pub mod Changes
 pub mod Runs
 pub mod Refusal
+pub mod Places

@@ -3,6 +3,7 @@
 ghost use Rattle.std.specs.Prelude.{◌≡◌, option_map};
 
 use crate::day::Day;
+use crate::ordered::{Ordered, Placed};
 use crate::part::PartCode;
 use signal_records::{Amount, LineNo, RecordNo, Words};
 use std::alloc::AllocError;
@@ -69,12 +70,45 @@ pub struct Delivery {
     pub count: Amount,
 }
 
-/// What the register holds of an intersection, each list in the order of its numbers.
+/// What the register holds of an intersection.
 #[derive(Drop)]
 pub struct CabinetView {
-    pub inspections: Vec<Inspection>,
-    pub orders: Vec<Order>,
-    pub lines: Vec<UsedLine>,
+    /// By their numbers.
+    pub inspections: Ordered<Inspection>,
+    /// By their numbers.
+    pub orders: Ordered<Order>,
+    /// By their orders, and those of an order by their lines.
+    pub lines: Ordered<UsedLine>,
+}
+
+impl Placed for Inspection {
+    ghost use Rattle.cabinet_core.specs.Places.{inspection_place};
+
+    ghost place = { inspection_place };
+
+    fn place(&self) -> u32 {
+        self.number.get()
+    }
+}
+
+impl Placed for Order {
+    ghost use Rattle.cabinet_core.specs.Places.{order_place};
+
+    ghost place = { order_place };
+
+    fn place(&self) -> u32 {
+        self.number.get()
+    }
+}
+
+impl Placed for UsedLine {
+    ghost use Rattle.cabinet_core.specs.Places.{line_place};
+
+    ghost place = { line_place };
+
+    fn place(&self) -> u32 {
+        self.order.get() * 100 + u32::from(self.line.get())
+    }
 }
 
 impl Order {

@@ -27,7 +27,7 @@ use Rattle.office_desk_cabinet.specs.declared.registered.Registered.{Registered}
 use Rattle.office_desk_cabinet.specs.declared.registered.Registered.TheVariants.{Added, Same, Refused}
 use Rattle.office_desk.specs.Answers.{Answers}
 use Rattle.office_desk.specs.Changes.{IsRefused}
-use Rattle.office_desk.specs.Damage.{MeetsCabinetDamage}
+use Rattle.office_desk.specs.Damage.{MeetsAfter, MeetsCabinetDamage}
 use Rattle.office_desk.specs.Deciding.{IsDecision}
 use Rattle.office_desk.specs.Office.{Office, Intersection}
 use Rattle.office_desk.specs.Named.{RefusesBy, number_of, numbers_about, numbers_of}
@@ -129,11 +129,18 @@ pub meets_record : (tables : Content) (c : RecordCommand) (about : Option ℕ) �
 meets_record tables c None there damage = damage
 meets_record tables c (Some id) there damage = inr (sym there, damage)
 
+-- of an intersection that is not there nothing more is read
+pub gone_after : (tables : Content) (id : ℕ) (Later : Type 0) → TellsAbout tables (Some id) false
+    → ¬ HasDamagedAbout tables (Some id) → ¬ MeetsAfter tables id Later
+gone_after tables id Later gone row (inl damage) = row damage
+gone_after tables id Later gone row (inr later) =
+    absurd (let f : false ≡ true = gone ∙ later.0 in cc)
+
 -- no row that the command reads is no record: the intersection's, and where that is there, those of the register
 pub gone_whole : (tables : Content) (c : RecordCommand) (about : Option ℕ) → TellsAbout tables about false → ¬ HasDamagedAbout tables about → ¬ MeetsCabinetDamage tables c about
 gone_whole tables c None gone row damage = absurd (let f : false ≡ true = gone in cc)
-gone_whole tables c (Some id) gone row (inl damage) = row damage
-gone_whole tables c (Some id) gone row (inr later) = absurd (let f : false ≡ true = gone ∙ later.0 in cc)
+gone_whole tables c (Some id) gone row damage =
+    gone_after tables id (MeetsRecordDamage tables c) gone row damage
 
 pub record_whole : (tables : Content) (c : RecordCommand) (about : Option ℕ) → ¬ HasDamagedAbout tables about → ¬ MeetsRecordDamage tables c → ¬ MeetsCabinetDamage tables c about
 record_whole tables c None row register damage = register damage
@@ -208,13 +215,20 @@ shown_gone (Some i) said e = absurd (let f : false ≡ true = e in cc)
 -- a query on the cabinet of an intersection shows what it says only where that is there
 pub cabinet_answers : (tables : Content) (office : Office) (id : ℕ) (view : CabinetView) (said : Reply) (changes : List RowChange)
     → StandForSound tables office → IsKnownIn tables (Some id) true → ((r : Register) → RegisterStandsSound tables r → ShowsCabinet r id view)
-    → said ≡ reply.Cabinet (record { id = id; inspections = view.inspections.items; orders = view.orders.items; lines = view.lines.items }) → changes ≡ []
+    → said ≡ reply.Cabinet (record { id = id; view = view }) → changes ≡ []
     → Answers office (command.Cabinet id) said (changed_by tables changes)
 cabinet_answers tables office id view said changes stands there shows is none =
     let lists = shows office.register (register_of tables office stands) in
     query_answers tables office (command.Cabinet id) (reply.Cabinet (cabinet_shown office.register id)) said changes stands
     (λ k. (shown_there (get office.intersections id) (reply.Cabinet (cabinet_shown office.register id)) (there office stands) k, office))
-    (is ∙ (λ k. reply.Cabinet (record { id = id; inspections = lists.inspections k; orders = lists.orders k; lines = lists.lines k }))) none
+    (is ∙ (λ k. reply.Cabinet (record {
+      id = id;
+      view = record {
+        inspections = lists.inspections k;
+        orders = lists.orders k;
+        lines = lists.lines k;
+      };
+    }))) none
 
 pub cabinet_unknown : (tables : Content) (office : Office) (id : ℕ) (said : Reply) (changes : List RowChange)
     → StandForSound tables office → IsKnownIn tables (Some id) false → said ≡ reply.Refused refusal.UnknownIntersection → changes ≡ [] → Answers office (command.Cabinet id) said (changed_by tables changes)

@@ -80,11 +80,19 @@ damage_refuted tables (command.Draft id) damage = no_damage tables id damage
 damage_refuted tables (command.Record c) damage = record_refuted tables c (cabinet_of c) damage
 damage_refuted tables (command.Import records) damage = import_refuted tables records damage
 damage_refuted tables (command.Cabinet id) (inl row) = no_damage tables id (inl row)
-damage_refuted tables (command.Cabinet id) (inr (inl inspection)) = λ office stands. no_damaged_inspection tables office.register id (register_of tables office stands) inspection
-damage_refuted tables (command.Cabinet id) (inr (inr (inl order))) = λ office stands. no_damaged_order tables office.register id (register_of tables office stands) order
-damage_refuted tables (command.Cabinet id) (inr (inr (inr used))) = λ office stands. no_damaged_used tables office.register id (register_of tables office stands) used
+damage_refuted tables (command.Cabinet id) (inr (there, inl inspection)) =
+    λ office stands. no_damaged_inspection tables office.register id
+    (register_of tables office stands) inspection
+damage_refuted tables (command.Cabinet id) (inr (there, inr (inl order))) =
+    λ office stands. no_damaged_order tables office.register id
+    (register_of tables office stands) order
+damage_refuted tables (command.Cabinet id) (inr (there, inr (inr used))) =
+    λ office stands. no_damaged_used tables office.register id
+    (register_of tables office stands) used
 damage_refuted tables (command.OpenOrders id) (inl row) = no_damage tables id (inl row)
-damage_refuted tables (command.OpenOrders id) (inr order) = λ office stands. no_damaged_order tables office.register id (register_of tables office stands) order
+damage_refuted tables (command.OpenOrders id) (inr (there, order)) =
+    λ office stands. no_damaged_order tables office.register id
+    (register_of tables office stands) order
 damage_refuted tables command.Stock damage = λ office stands. no_damaged_part tables office.register (register_of tables office stands) damage
 damage_refuted tables (command.Overdue day) (inl row) = no_damaged_intersection tables row
 damage_refuted tables (command.Overdue day) (inr inspection) = λ office stands. no_damaged_inspection tables office.register inspection.0 (register_of tables office stands) inspection.1

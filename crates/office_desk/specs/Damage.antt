@@ -9,9 +9,10 @@ use Rattle.office_tables_shelf.specs.Rows.{intersection_key}
 use Rattle.office_tables_shelf.specs.Shelf.{ReadsIntersection}
 use Rattle.office_tables_shelf.specs.declared.rows.IntersectionRow.{IntersectionRow}
 use Rattle.office_tables_shelf.specs.Damage.{HasDamagedIntersection, HasAnyDamagedIntersection, HasDamagedTiming, HasDamagedDraft}
-use Rattle.office_tables_shelf.specs.CabinetReads.{HasAnyDamagedInspection, HasDamagedInspection, HasDamagedOrder, HasDamagedUsed, HasDamagedPart}
+use Rattle.office_tables_shelf.specs.CabinetReads.{HasAnyDamagedInspection, HasDamagedOrder}
+use Rattle.office_tables_shelf.specs.CabinetReads.{HasDamagedPart}
 use Rattle.cabinet_core.specs.declared.command.RecordCommand.{RecordCommand}
-use Rattle.office_desk_cabinet.specs.RegisterDamage.{MeetsRecordDamage}
+use Rattle.office_desk_cabinet.specs.RegisterDamage.{HasDamagedCabinet, MeetsRecordDamage}
 use Rattle.office_desk.specs.Changes.{IsRefused}
 use Rattle.office_desk.specs.Step.{cabinet_of}
 use Rattle.office_desk.specs.declared.command.Command.{Command}
@@ -77,17 +78,14 @@ MeetsDamage tables (command.Timing id) = HasDamage tables id
 MeetsDamage tables (command.Draft id) = HasDamage tables id
 MeetsDamage tables (command.Record c) = MeetsCabinetDamage tables c (cabinet_of c)
 MeetsDamage tables (command.Import records) = MeetsImportDamage tables records
-MeetsDamage tables (command.Cabinet id) = HasDamagedIntersection tables id ⊎ (HasDamagedInspection tables id ⊎ (HasDamagedOrder tables id ⊎ HasDamagedUsed tables id))
-MeetsDamage tables (command.OpenOrders id) = HasDamagedIntersection tables id ⊎ HasDamagedOrder tables id
+MeetsDamage tables (command.Cabinet id) = MeetsAfter tables id (HasDamagedCabinet tables id)
+MeetsDamage tables (command.OpenOrders id) = MeetsAfter tables id (HasDamagedOrder tables id)
 MeetsDamage tables command.Stock = HasDamagedPart tables
 MeetsDamage tables (command.Overdue day) = HasAnyDamagedIntersection tables ⊎ HasAnyDamagedInspection tables
 
--- the same, but of the draft where the committed set is asked for, and of what the queries of the register read in a list: such a row keeps the
--- command from being answered otherwise
+-- the same, but of the draft where the committed set is asked for, and of the rows that the report
+-- of overdue inspections reads: such a row keeps the command from being answered otherwise
 abbrev pub IsBarred : Content → Command → Type 0
 IsBarred tables (command.Timing id) = MeetsAfter tables id (HasDamagedTiming tables id)
-IsBarred tables (command.Cabinet id) = HasDamagedIntersection tables id
-IsBarred tables (command.OpenOrders id) = HasDamagedIntersection tables id
-IsBarred tables command.Stock = ⊥
 IsBarred tables (command.Overdue day) = ⊥
 IsBarred tables command = MeetsDamage tables command

@@ -1,5 +1,4 @@
 pub mod Refusal
-pub mod Lists
 pub use Rattle.office_tables_shelf.specs.Office
 pub mod Step
 pub use Rattle.office_tables_shelf.specs.StandFor

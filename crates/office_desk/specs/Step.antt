@@ -18,7 +18,7 @@ use Rattle.cabinet_core.specs.Orders.{open_at}
 use Rattle.cabinet_core.specs.Register.{Register, records_at}
 use Rattle.cabinet_core.specs.Step.{line_at, with_record, after_record}
 use Rattle.cabinet_core.specs.Stock.{stock_of}
-use Rattle.office_desk.specs.Lists.{CabinetLists}
+use Rattle.office_desk.specs.declared.reply.CabinetShown.{CabinetShown}
 use Rattle.office_desk.specs.declared.command.Command.{Command}
 use Rattle.office_desk.specs.declared.command.Command.TheVariants as command
 use Rattle.office_desk.specs.declared.reply.Reply.{Reply}
@@ -159,8 +159,15 @@ abbrev pub seen_of : Register → ℕ × Intersection → Seen
 seen_of r e = record { id = e.0; name = e.1.name; interval = e.1.interval; last = last_at r e.0 }
 
 -- all that the register holds of an intersection
-abbrev pub cabinet_shown : Register → ℕ → CabinetLists
-cabinet_shown r id = record { id = id; inspections = records_at id r.inspections; orders = records_at id r.orders; lines = records_at id r.lines }
+abbrev pub cabinet_shown : Register → ℕ → CabinetShown
+cabinet_shown r id = record {
+  id = id;
+  view = record {
+    inspections = records_at id r.inspections;
+    orders = records_at id r.orders;
+    lines = records_at id r.lines;
+  };
+}
 
 -- the intersections that are overdue on a day
 abbrev pub overdue_on : Office → ℕ → List Listed

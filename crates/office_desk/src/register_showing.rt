@@ -25,8 +25,8 @@ pub(crate) fn decide_cabinet<S: Shelf>(
         return Ok(Decided::refused(alloc, Refusal::UnknownIntersection));
     }
     let view = cabinet_view(shelf, alloc, id)?;
-    let shown = CabinetShown::new(id, view);
-    Ok(Decided::unchanged(alloc, Reply::Cabinet(shown)))
+    let shown = Reply::Cabinet(CabinetShown { id, view });
+    Ok(Decided::unchanged(alloc, shown))
 }
 
 /// Decides OpenOrders.

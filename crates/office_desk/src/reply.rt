@@ -85,46 +85,11 @@ pub struct OpenDraft {
     pub violations: Violations,
 }
 
-/// All that the register holds of an intersection. It is seen as its lists.
+/// All that the register holds of an intersection.
 #[derive(Drop)]
 pub struct CabinetShown {
-    id: InterId,
-    view: CabinetView,
-}
-
-impl Model for CabinetShown {
-    ghost use Rattle.office_desk.specs.Lists.{CabinetLists};
-
-    ghost Value = { CabinetLists };
-
-    ghost view = { λ s. record { id = s.id; inspections = s.view.inspections.items; orders = s.view.orders.items; lines = s.view.lines.items } };
-}
-
-impl CabinetShown {
-    ghost use Rattle.std.specs.Prelude.{◌≡◌};
-
-    /// What the register holds of the intersection with the number.
-    pub fn new(id: InterId, view: CabinetView) -> CabinetShown
-        ensures { result ≡ record { id = id; inspections = view.inspections.items; orders = view.orders.items; lines = view.lines.items } }
-    {
-        CabinetShown { id, view }
-    }
-
-    /// The number of the intersection.
-    pub fn id(&self) -> InterId
-        ensures { result ≡ self.now.id }
-    {
-        self.id
-    }
-
-    /// The lists.
-    pub fn view(&self) -> &CabinetView
-        ensures inspections { result.now.inspections.items ≡ self.now.inspections }
-        ensures orders { result.now.orders.items ≡ self.now.orders }
-        ensures lines { result.now.lines.items ≡ self.now.lines }
-    {
-        &self.view
-    }
+    pub id: InterId,
+    pub view: CabinetView,
 }
 
 /// Numbers of orders, ascending. They are seen as a list.

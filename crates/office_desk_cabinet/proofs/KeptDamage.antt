@@ -1,14 +1,15 @@
 -- Rows of the register that are put under keys where no damaged row stands leave those that are damaged.
-use Rattle.std.proofs.Common.{◌≡◌, ◌⊎◌, inl, inr, ℕ, true, false, cond, List, [], ◌∷◌, Option, None, Some, Result, Ok, Err, refl, ap, sym, subst, ◌∙◌}
+use Rattle.std.proofs.Common.{◌≡◌, ◌⊎◌, inl, inr, ℕ, true, false, cond, List, Option, None, Some}
+use Rattle.std.proofs.Common.{Result, Ok, Err, ap, sym, subst, ◌∙◌}
 use Rattle.std.proofs.lemmas.Bool.{cases_Bool}
 use Rattle.std.specs.FinMap.{get, insert, get-insert}
 use Rattle.std.specs.Ordering.{eq_by_cmp}
 use Rattle.std.specs.Prelude.{IfOk}
-use Rattle.cabinet_core.specs.Cabinet.{Line, added, same, refused, Records, close_changes, close_line, receive_changes, use_changes, with_closing}
+use Rattle.cabinet_core.specs.Cabinet.{Line, added, same, refused, Records, close_changes}
+use Rattle.cabinet_core.specs.Cabinet.{receive_changes, use_changes, with_closing}
 use Rattle.cabinet_core.specs.declared.command.RecordCommand.{RecordCommand}
 use Rattle.cabinet_core.specs.declared.command.RecordCommand.TheVariants.{Inspect, OpenOrder, UsePart, CloseOrder, Receive}
 use Rattle.cabinet_core.specs.declared.decide.CabinetChange.{CabinetChange}
-use Rattle.cabinet_core.specs.declared.decide.CabinetChange.TheVariants as change
 use Rattle.cabinet_core.specs.declared.decide.Recorded.{Recorded}
 use Rattle.cabinet_core.specs.declared.record.Closing.{Closing}
 use Rattle.cabinet_core.specs.declared.record.Delivery.{Delivery}

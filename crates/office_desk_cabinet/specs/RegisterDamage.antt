@@ -5,6 +5,8 @@ use Rattle.cabinet_core.specs.declared.command.RecordCommand.TheVariants.{Inspec
 use Rattle.office_tables_shelf.specs.Change.{changed_by}
 use Rattle.office_tables_shelf.specs.Content.{Content}
 use Rattle.office_tables_shelf.specs.declared.rows.RowChange.{RowChange}
+use Rattle.office_tables_shelf.specs.CabinetReads.{HasDamagedInspection, HasDamagedOrder}
+use Rattle.office_tables_shelf.specs.CabinetReads.{HasDamagedUsed}
 use Rattle.office_tables_shelf.specs.CabinetReads.{HasDamagedInspectionAt, HasDamagedOrderAt, HasDamagedUsedAt, HasDamagedDelivery, HasDamagedHand}
 
 -- a row that the command reads, under its own key, is no record
@@ -14,6 +16,11 @@ MeetsRecordDamage tables (OpenOrder id opening) = HasDamagedOrderAt tables id op
 MeetsRecordDamage tables (UsePart id line) = HasDamagedUsedAt tables id line.order line.line ⊎ (HasDamagedOrderAt tables id line.order ⊎ HasDamagedHand tables line.part)
 MeetsRecordDamage tables (CloseOrder id order closing) = HasDamagedOrderAt tables id order
 MeetsRecordDamage tables (Receive delivery) = HasDamagedDelivery tables delivery.part delivery.number ⊎ HasDamagedHand tables delivery.part
+
+-- a row of the intersection among its inspections, orders or used parts is no record
+abbrev pub HasDamagedCabinet : Content → ℕ → Type 0
+HasDamagedCabinet tables id =
+    HasDamagedInspection tables id ⊎ (HasDamagedOrder tables id ⊎ HasDamagedUsed tables id)
 
 -- once the pending rows are written, each row that the command reads is a record
 abbrev pub IsWhole : (stored : Content) (pending : List RowChange) → RecordCommand → Type 0

@@ -82,6 +82,6 @@ IsNamed c (refused why) = IsOneOf (refusals_of c) why
 
 -- what the register holds of an intersection
 pub record ShowsCabinet (r : Register) (id : ℕ) (view : CabinetView) : Type 0 where
-  pub inspections : view.inspections.items ≡ records_at id r.inspections
-  pub orders : view.orders.items ≡ records_at id r.orders
-  pub lines : view.lines.items ≡ records_at id r.lines
+  pub inspections : view.inspections ≡ records_at id r.inspections
+  pub orders : view.orders ≡ records_at id r.orders
+  pub lines : view.lines ≡ records_at id r.lines

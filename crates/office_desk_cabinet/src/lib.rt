@@ -2,6 +2,7 @@
 #![tactic(auto)]
 
 mod deciding;
+mod listing;
 mod pending;
 mod records;
 mod registered;

@@ -1,13 +1,15 @@
 //! What is asked of the register: the records of a cabinet, its open orders.
-ghost use Rattle.std.specs.Prelude.{◌≡◌, ◌⊎◌, IfOk, filter, map};
+ghost use Rattle.std.specs.Prelude.{◌≡◌, IfOk, filter, map};
 ghost use Rattle.cabinet_core.specs.Orders.{is_open, open_at};
 ghost use Rattle.cabinet_core.specs.Register.{Register};
 ghost use Rattle.cabinet_core.specs.declared.record.Order.{Order};
-ghost use Rattle.office_tables_shelf.specs.CabinetReads.{HasDamagedInspection, HasDamagedOrder, HasDamagedUsed};
+ghost use Rattle.office_tables_shelf.specs.CabinetReads.{HasDamagedOrder};
 ghost use Rattle.office_tables_shelf.specs.Shelf.{IsKept};
+ghost use Rattle.office_desk_cabinet.specs.RegisterDamage.{HasDamagedCabinet};
 ghost use Rattle.office_desk_cabinet.specs.RegisterStands.{RegisterStandsSound};
 ghost use Rattle.office_desk_cabinet.specs.Registers.{ShowsCabinet};
 
+use crate::listing::{inspections_of, lines_of, orders_of};
 use cabinet_core::{CabinetView, Order};
 use office_tables_shelf::shelf::{Shelf, ShelfFault};
 use signal_records::{InterId, NoMemory, RecordNo};
@@ -20,14 +22,17 @@ pub fn cabinet_view<S: Shelf>(
     alloc: Global,
     id: InterId,
 ) -> Result<CabinetView, ShelfFault>
-    ensures shows { S.is_honest shelf.new → IfOk result (λ view. (r : Register) → RegisterStandsSound (S.content shelf.old) r → ShowsCabinet r id view) }
+    ensures shows { S.is_honest shelf.new → IfOk result (λ view. (r : Register) →
+        RegisterStandsSound (S.content shelf.old) r → ShowsCabinet r id view) }
+    ensures whole { IfOk result (λ _. S.is_honest shelf.new →
+        ¬ HasDamagedCabinet (S.content shelf.old) id) }
     ensures damaged { result ≡ Err ShelfFault.Damaged → S.is_honest shelf.new →
-        HasDamagedInspection (S.content shelf.old) id ⊎ (HasDamagedOrder (S.content shelf.old) id ⊎ HasDamagedUsed (S.content shelf.old) id) }
+        HasDamagedCabinet (S.content shelf.old) id }
     ensures kept { IsKept S.is_honest S.content S.written S.may_leave shelf.old shelf.new }
 {
-    let inspections = shelf.inspections(alloc, id)?;
-    let orders = shelf.orders(alloc, id)?;
-    let lines = shelf.used_lines(alloc, id)?;
+    let inspections = inspections_of(shelf, alloc, id)?;
+    let orders = orders_of(shelf, alloc, id)?;
+    let lines = lines_of(shelf, alloc, id)?;
     Ok(CabinetView {
         inspections,
         orders,
@@ -55,11 +60,15 @@ pub fn open_orders<S: Shelf>(
     alloc: Global,
     id: InterId,
 ) -> Result<Vec<RecordNo>, ShelfFault>
-    ensures shows { S.is_honest shelf.new → IfOk result (λ numbers. (r : Register) → RegisterStandsSound (S.content shelf.old) r → numbers.items ≡ open_at r id) }
-    ensures damaged { result ≡ Err ShelfFault.Damaged → S.is_honest shelf.new → HasDamagedOrder (S.content shelf.old) id }
+    ensures shows { S.is_honest shelf.new → IfOk result (λ numbers. (r : Register) →
+        RegisterStandsSound (S.content shelf.old) r → numbers.items ≡ open_at r id) }
+    ensures whole { IfOk result (λ _. S.is_honest shelf.new →
+        ¬ HasDamagedOrder (S.content shelf.old) id) }
+    ensures damaged { result ≡ Err ShelfFault.Damaged → S.is_honest shelf.new →
+        HasDamagedOrder (S.content shelf.old) id }
     ensures kept { IsKept S.is_honest S.content S.written S.may_leave shelf.old shelf.new }
 {
-    let orders = shelf.orders(alloc, id)?;
+    let orders = orders_of(shelf, alloc, id)?;
     let numbers = open_numbers(alloc, orders.as_slice())?;
     Ok(numbers)
 }

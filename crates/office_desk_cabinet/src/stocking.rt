@@ -14,6 +14,7 @@ ghost use Rattle.office_desk_cabinet.specs.Registers.{IsNamed, LeavesTiming, Reg
 ghost use Rattle.office_desk_cabinet.specs.Stocking.{TellsStock, stock_row_of, stock_rows_of};
 ghost use Rattle.office_desk_cabinet.specs.Telling.{WantsMemory};
 
+use crate::listing::parts_of;
 use crate::pending::Pending;
 use crate::registered::Registered;
 use crate::rows::registered;
@@ -122,10 +123,14 @@ pub(crate) fn decide_receive<S: Shelf>(
 /// The parts that were ever delivered, with how many are on hand of each, in the order of their
 /// codes.
 pub fn stock<S: Shelf>(shelf: &mut S, alloc: Global) -> Result<Vec<(PartCode, Hand)>, ShelfFault>
-    ensures shows { S.is_honest shelf.new → IfOk result (λ parts. (r : Register) → RegisterStandsSound (S.content shelf.old) r → parts.items ≡ stock_of r) }
-    ensures damaged { result ≡ Err ShelfFault.Damaged → S.is_honest shelf.new → HasDamagedPart (S.content shelf.old) }
+    ensures shows { S.is_honest shelf.new → IfOk result (λ parts. (r : Register) →
+        RegisterStandsSound (S.content shelf.old) r → parts.items ≡ stock_of r) }
+    ensures whole { IfOk result (λ _. S.is_honest shelf.new →
+        ¬ HasDamagedPart (S.content shelf.old)) }
+    ensures damaged { result ≡ Err ShelfFault.Damaged → S.is_honest shelf.new →
+        HasDamagedPart (S.content shelf.old) }
     ensures kept { IsKept S.is_honest S.content S.written S.may_leave shelf.old shelf.new }
 {
-    let parts = shelf.parts(alloc)?;
+    let parts = parts_of(shelf, alloc)?;
     Ok(parts)
 }

@@ -1,7 +1,8 @@
 -- The commands that a CSV file spells, and the file of a cabinet.
 use Rattle.std.specs.Prelude.{ℕ, ◌==◌, List, [], ◌∷◌, ◌++◌, map, flat_map, Bool, All, Option, Some, None, Result}
 use Rattle.std.specs.List.{filter}
-use Rattle.cabinet_core.specs.declared.record.Inspection.{Inspection}
+use Rattle.std.specs.List.Sorted.{IsNonDecreasingBy}
+use Rattle.cabinet_core.specs.Places.{inspection_place, order_place, line_place}
 use Rattle.cabinet_core.specs.declared.record.Opening.{Opening}
 use Rattle.cabinet_core.specs.declared.record.Order.{Order}
 use Rattle.cabinet_core.specs.declared.record.UsedLine.{UsedLine}
@@ -42,18 +43,18 @@ abbrev pub order_commands : ℕ → List UsedLine → Order → List RecordComma
 order_commands id lines order =
     command.OpenOrder id (opening_of order) ∷ (map (command.UsePart id) (filter (is_line_of order.number) lines) ++ close_commands id order.number order.closing)
 
+-- the order of the file: inspections and orders stand by their numbers, and used parts by their
+-- orders, and those of an order by their lines
+pub record IsInFileOrder (view : CabinetView) : Type 0 where
+  pub inspections : IsNonDecreasingBy inspection_place view.inspections
+  pub orders : IsNonDecreasingBy order_place view.orders
+  pub lines : IsNonDecreasingBy line_place view.lines
+
 -- what made a cabinet as it stands: its inspections, and then order by order
-abbrev pub cabinet_commands : ℕ → List Inspection → List Order → List UsedLine → List RecordCommand
-cabinet_commands id inspections orders lines = map (command.Inspect id) inspections ++ flat_map (order_commands id lines) orders
+abbrev pub view_commands : ℕ → CabinetView → List RecordCommand
+view_commands id view = map (command.Inspect id) view.inspections ++ flat_map
+    (order_commands id view.lines) view.orders
 
 -- a record for each of them
-abbrev pub cabinet_csv_text : ℕ → List Inspection → List Order → List UsedLine → List ℕ
-cabinet_csv_text id inspections orders lines = csv_text (map record_spelling (cabinet_commands id inspections orders lines))
-
--- those of a view
-abbrev pub view_commands : ℕ → CabinetView → List RecordCommand
-view_commands id view = cabinet_commands id view.inspections.items view.orders.items view.lines.items
-
--- and its file
 abbrev pub records_csv_text : ℕ → CabinetView → List ℕ
-records_csv_text id view = cabinet_csv_text id view.inspections.items view.orders.items view.lines.items
+records_csv_text id view = csv_text (map record_spelling (view_commands id view))

@@ -1,12 +1,16 @@
 //! Records of the cabinet register as CSV files.
 
-ghost use Rattle.std.specs.Prelude.{◌≡◌, ◌≢◌, ◌++◌, map, List, IfOk, IfErr, OnOk, Ok, Err, IsUtf8, MatchResult};
+ghost use Rattle.std.specs.Prelude.{◌≡◌, ◌≢◌, ◌++◌, map, flat_map, List, IfOk, IfErr, OnOk};
+ghost use Rattle.std.specs.Prelude.{Ok, Err, IsUtf8, MatchResult};
 ghost use Rattle.std.specs.List.{filter};
 ghost use Rattle.cabinet_core.specs.declared.command.RecordCommand.{RecordCommand as Command};
 ghost use Rattle.office_files.specs.Csv.{csv_records};
 ghost use Rattle.office_files.specs.CsvFault.{NamesFault};
 ghost use Rattle.office_files.specs.RecordSpelling.{record_spelling};
-ghost use Rattle.office_files.specs.Records.{commands_of, AreRecordsWithin, is_line_of, opening_of, close_commands, order_commands, view_commands, records_csv_text};
+ghost use Rattle.office_files.specs.Records.{commands_of, AreRecordsWithin};
+ghost use Rattle.office_files.specs.Records.{is_line_of, opening_of, close_commands};
+ghost use Rattle.office_files.specs.Records.{order_commands, view_commands};
+ghost use Rattle.office_files.specs.Records.{IsInFileOrder, records_csv_text};
 
 use crate::fault::CsvFault;
 use crate::record_reading::read_record;
@@ -126,27 +130,49 @@ fn push_order(
     push_closing(commands, id, order.number, &order.closing)
 }
 
+/// Appends what made the orders as they stand.
+fn push_orders(
+    commands: &mut Vec<RecordCommand>,
+    id: InterId,
+    lines: &[UsedLine],
+    orders: &[Order],
+) -> Result<(), NoMemory>
+    ensures { OnOk result (commands.new.items ≡
+        commands.old.items ++ flat_map (order_commands id lines.now) orders.now) }
+{
+    for order in orders {
+        push_order(commands, id, lines, order)?;
+    }
+    Ok(())
+}
+
 /// What made a cabinet as it stands, in the order of its file.
 fn view_commands(
     alloc: Global,
     id: InterId,
     view: &CabinetView,
 ) -> Result<Vec<RecordCommand>, NoMemory>
-    ensures { IfOk result (λ commands. commands.items ≡ view_commands id view.now) }
+    ensures commands { IfOk result (λ commands. commands.items ≡ view_commands id view.now) }
+    ensures in_order { IfOk result (λ _. IsInFileOrder view.now) }
 {
     let mut commands = Vec::new(alloc);
-    push_inspections(&mut commands, id, &view.inspections)?;
-    for order in &view.orders {
-        push_order(&mut commands, id, &view.lines, order)?;
-    }
+    push_inspections(&mut commands, id, view.inspections.as_slice())?;
+    push_orders(
+        &mut commands,
+        id,
+        view.lines.as_slice(),
+        view.orders.as_slice(),
+    )?;
     Ok(commands)
 }
 
 /// The CSV file of an intersection's cabinet: its inspections, and then for each order what
-/// opened it, the parts that were used for it, and what closed it. All stand in the order in which
-/// the view has them. It is UTF-8. Read, it gives the commands that made the cabinet so.
+/// opened it, the parts that were used for it, and what closed it. Inspections and orders stand by
+/// their numbers, and the parts of an order by their lines. It is UTF-8. Read, it gives the
+/// commands that made the cabinet so.
 pub fn records_csv(alloc: Global, id: InterId, view: &CabinetView) -> Result<Vec<u8>, NoMemory>
     ensures text { IfOk result (λ text. text.items ≡ records_csv_text id view.now) }
+    ensures in_order { IfOk result (λ _. IsInFileOrder view.now) }
     ensures utf8 { IfOk result (λ text. IsUtf8 text.items) }
     ensures reads_back { IfOk result (λ text. commands_of text.items ≡ Ok (view_commands id view.now)) }
 {

@@ -18,7 +18,7 @@ use Rattle.office_desk.specs.declared.reply.RunningTiming.{RunningTiming}
 use Rattle.office_http_responses.specs.Json.{count, text, or_null, list, keys}
 use Rattle.office_http_requests.specs.declared.asked.Form.{Form}
 use Rattle.office_http_requests.specs.declared.asked.Form.TheVariants.{Json, Csv}
-use Rattle.office_files.specs.Records.{cabinet_csv_text}
+use Rattle.office_files.specs.Records.{records_csv_text}
 use Rattle.office_files.specs.Timing.{timing_csv_text}
 use Rattle.office_http_responses.specs.RegisterTrees.{cabinet_tree, open_tree, stock_tree, overdue_tree}
 use Rattle.signal_records.specs.Spelling.{spelling}
@@ -116,7 +116,7 @@ tree_of (Imported added same) = keys ((codes "added", count added) ∷ (codes "s
 tree_of (State shown) = state_tree shown
 tree_of (Timing shown) = timing_tree shown
 tree_of (Draft shown) = draft_tree shown
-tree_of (Cabinet shown) = cabinet_tree shown.inspections shown.orders shown.lines
+tree_of (Cabinet shown) = cabinet_tree shown.view.inspections shown.view.orders shown.view.lines
 tree_of (OpenOrders numbers) = open_tree numbers
 tree_of (Stock parts) = stock_tree parts
 tree_of (Overdue rows) = overdue_tree rows
@@ -129,7 +129,7 @@ csv_tree csv = keys ((codes "csv", text csv) ∷ [])
 -- the tree of a reply in CSV, which a timing set and a cabinet have; any other is as in JSON
 abbrev pub csv_tree_of : Reply → Data
 csv_tree_of (Timing shown) = csv_tree (timing_csv_text shown.rows)
-csv_tree_of (Cabinet shown) = csv_tree (cabinet_csv_text shown.id shown.inspections shown.orders shown.lines)
+csv_tree_of (Cabinet shown) = csv_tree (records_csv_text shown.id shown.view)
 csv_tree_of reply = tree_of reply
 
 -- the tree of a reply in a form

@@ -157,7 +157,7 @@ pub(crate) fn write_cabinet(
     shown: &CabinetView,
 ) -> Result<(), AllocError>
     ensures { AddsTree result to.old to.new
-        (cabinet_tree shown.now.inspections.items shown.now.orders.items shown.now.lines.items) }
+        (cabinet_tree shown.now.inspections shown.now.orders shown.now.lines) }
 {
     to.begin_object()?;
     to.key("inspections")?;

@@ -162,7 +162,7 @@ fn write_reply(alloc: Global, to: &mut Writer, reply: &Reply) -> Result<(), Allo
         Reply::State(shown) => write_state(alloc, to, shown),
         Reply::Timing(shown) => write_timing(alloc, to, shown),
         Reply::Draft(shown) => write_draft(alloc, to, shown),
-        Reply::Cabinet(shown) => write_cabinet(alloc, to, shown.view()),
+        Reply::Cabinet(shown) => write_cabinet(alloc, to, &shown.view),
         Reply::OpenOrders(numbers) => object_of_array(alloc, to, "open", numbers.as_slice()),
         Reply::Stock(parts) => object_of_array(alloc, to, "hand", parts.as_slice()),
         Reply::Overdue(rows) => write_overdue(alloc, to, rows),
@@ -176,7 +176,7 @@ fn write_in_csv(alloc: Global, to: &mut Writer, reply: &Reply) -> Result<(), All
 {
     match reply {
         Reply::Timing(shown) => write_timing_csv(alloc, to, &shown.rows),
-        Reply::Cabinet(shown) => write_cabinet_csv(alloc, to, shown.id(), shown.view()),
+        Reply::Cabinet(shown) => write_cabinet_csv(alloc, to, shown.id, &shown.view),
         _ => write_reply(alloc, to, reply),
     }
 }

@@ -10,6 +10,8 @@ mod draft_tests;
 #[cfg(test)]
 mod files_tests;
 #[cfg(test)]
+mod order_tests;
+#[cfg(test)]
 mod rules_tests;
 #[cfg(test)]
 mod spelling;

@@ -3,8 +3,8 @@ use Rattle.std.specs.Prelude.{◌≡◌, ℕ, List, Ok}
 use Rattle.signal_records.specs.TimingSet.{Rows}
 use Rattle.office_tables_shelf.specs.Content.{Content}
 use Rattle.office_files.specs.Timing.{timing_csv_text}
-use Rattle.office_files.specs.Records.{cabinet_csv_text}
-use Rattle.office_desk.specs.Lists.{CabinetLists}
+use Rattle.office_files.specs.Records.{records_csv_text}
+use Rattle.office_desk.specs.declared.reply.CabinetShown.{CabinetShown}
 use Rattle.signal_office_exchange.specs.Showing.{ShowsTiming, ShowsDraft, ShowsCabinet}
 
 -- the text is the CSV of the committed timing set
@@ -21,6 +21,6 @@ pub record ExportsDraft (tables : Content) (id : ℕ) (text : List ℕ) : Type 0
 
 -- that of the cabinet: the records that made it so
 pub record ExportsCabinet (tables : Content) (id : ℕ) (text : List ℕ) : Type 0 where
-  pub cabinet : CabinetLists
+  pub cabinet : CabinetShown
   pub shown : ShowsCabinet tables id (Ok cabinet)
-  pub text_is : text ≡ cabinet_csv_text cabinet.id cabinet.inspections cabinet.orders cabinet.lines
+  pub text_is : text ≡ records_csv_text cabinet.id cabinet.view

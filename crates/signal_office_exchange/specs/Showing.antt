@@ -2,7 +2,7 @@
 use Rattle.std.specs.Prelude.{ℕ, Result, Ok, Err}
 use Rattle.signal_records.specs.TimingSet.{Rows}
 use Rattle.office_tables_shelf.specs.Content.{Content}
-use Rattle.office_desk.specs.Lists.{CabinetLists}
+use Rattle.office_desk.specs.declared.reply.CabinetShown.{CabinetShown}
 use Rattle.office_desk.specs.declared.command.Command.TheVariants as command
 use Rattle.office_desk.specs.declared.reply.Reply.{Reply}
 use Rattle.office_desk.specs.declared.reply.Reply.TheVariants as reply
@@ -23,7 +23,7 @@ draft_shown (reply.Refused why) = Err (fault_of why)
 draft_shown other = Err told.Store
 
 -- the lists that it shows of a cabinet
-abbrev pub cabinet_shown : Reply → Result CabinetLists Fault
+abbrev pub cabinet_shown : Reply → Result CabinetShown Fault
 cabinet_shown (reply.Cabinet cabinet) = Ok cabinet
 cabinet_shown (reply.Refused why) = Err (fault_of why)
 cabinet_shown other = Err told.Store
@@ -36,5 +36,5 @@ ShowsTiming tables id rows = Answered timing_shown tables (command.Timing id) ta
 abbrev pub ShowsDraft : Content → ℕ → Result Rows Fault → Type 0
 ShowsDraft tables id rows = Answered draft_shown tables (command.Draft id) tables rows
 
-abbrev pub ShowsCabinet : Content → ℕ → Result CabinetLists Fault → Type 0
+abbrev pub ShowsCabinet : Content → ℕ → Result CabinetShown Fault → Type 0
 ShowsCabinet tables id lists = Answered cabinet_shown tables (command.Cabinet id) tables lists

@@ -59,5 +59,5 @@ pub fn cabinet_csv_of<S: Shelf>(
         ShowsCabinet (S.content office.old) id (Err why)) }
 {
     let cabinet = cabinet_in(alloc, office, id)?;
-    Ok(records_csv(alloc, cabinet.id(), cabinet.view())?)
+    Ok(records_csv(alloc, cabinet.id, &cabinet.view)?)
 }

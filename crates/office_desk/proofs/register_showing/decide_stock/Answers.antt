@@ -6,6 +6,8 @@ use Rattle.office_desk.proofs.register_showing.decide_stock.Goals as goal
 
 pub returns-clause-decides : goal.returns-clause-decides
 returns-clause-decides g c =
-    told_decides _ _ _ _ _ c.unchanged.ensures.reply (λ e. cc) (λ why e. absurd cc) c.unchanged.ensures.no_changes (λ honest damaged. damaged) (λ honest office stands.
+    told_decides _ _ _ _ _ c.unchanged.ensures.reply (λ e. cc)
+    (λ why e. absurd cc) c.unchanged.ensures.no_changes c.in_ok-list.ensures.whole
+    (λ honest office stands.
     stock_answers (g.S.Shelf.content c.args.shelf.now) office c.in_ok-list.list.items _ _ stands (c.in_ok-list.ensures.shows honest)
     (c.unchanged.ensures.reply ∙ ap (λ (parts : List (List ℕ × ℕ)). Stock parts) c.new-parts.ensures) c.unchanged.ensures.no_changes)

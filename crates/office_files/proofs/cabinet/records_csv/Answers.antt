@@ -12,4 +12,6 @@ returns-clause-utf8 c =
 
 pub returns-clause-reads_back : goal.returns-clause-reads_back
 returns-clause-reads_back c =
-    given_reads_back (λ text. text.items) c.write_records.result _ _ (c.deref.ensures.value ∙ c.in_ok-commands.ensures) c.write_records.ensures.text c.write_records.ensures.within
+    given_reads_back (λ text. text.items) c.write_records.result _ _
+    (c.deref.ensures.value ∙ c.in_ok-commands.ensures.commands) c.write_records.ensures.text
+    c.write_records.ensures.within
