@@ -17,6 +17,7 @@ use Rattle.office_http_requests.specs.declared.fault.AskFault.TheVariants.{BadRo
 use Rattle.office_http_requests.specs.declared.field.Field.TheVariants.{Rows as FieldRows}
 use Rattle.office_files.specs.Changes.{changes_of as csv_changes_of}
 use Rattle.office_files.specs.Records.{commands_of}
+use Rattle.office_files.specs.CsvFault.{bad_row as bad_record}
 use Rattle.office_files.specs.declared.fault.CsvFault.{CsvFault}
 use Rattle.office_files.specs.declared.fault.CsvFault.TheVariants as file
 use Rattle.office_http_requests.specs.Fields.{field_name}
@@ -63,7 +64,11 @@ changes_of-next rows i row change done within is reads =
     rw (next, here, reads) (before-cons done change (changes_of (i + 1 + 1) (drop (suc i) (rows_seen rows))))
 
 -- the changes stop at a row
-pub changes_of-stop : (rows : List RowRefs) (i : ℕ) (row : RowRefs) (fault : RowFault) (done : List Change) → i < length rows → row ≡ get_or rows i row → change_at current_limits (texts row.items) ≡ Err fault → before done (changes_of (i + 1) (drop i (rows_seen rows))) ≡ Err (BadRow (i + 1) fault)
+pub changes_of-stop : (rows : List RowRefs) (i : ℕ) (row : RowRefs) (fault : RowFault)
+    (done : List Change) → i < length rows → row ≡ get_or rows i row
+    → change_at current_limits (texts row.items) ≡ Err fault
+    → before done (changes_of (i + 1) (drop i (rows_seen rows)))
+    ≡ Err (BadRow (bad_record (i + 1) fault))
 changes_of-stop rows i row fault done within is reads =
     let at = row-at rows i row within is in
     let more : i < length (rows_seen rows) = rw length-map within in
@@ -167,7 +172,7 @@ changes_want body found = by_rows (rows_in body) found
 
 csv_want : {A : Type 0} (read : Result A CsvFault) → MayWant (or_bad_record read)
 csv_want (Ok x) = tt
-csv_want (Err (file.Row at fault)) = tt
+csv_want (Err (file.Row bad)) = tt
 csv_want (Err file.NoMemory) = tt
 
 -- a CSV text gives changes, or a bad record
@@ -181,7 +186,7 @@ csv_records_want body csv is = rw is (csv_want (commands_of csv))
 
 -- a row that was not kept is bad, where no want of memory was told
 pub bad_row : (at : ℕ) (read wanted : Result Change RowFault) (told : AskFault) → RowGives read wanted → IsRowFault at read told → told ≢ NoMemory
-    → (fault : RowFault) × (wanted ≡ Err fault) × (told ≡ BadRow at fault)
+    → (fault : RowFault) × (wanted ≡ Err fault) × (told ≡ BadRow (bad_record at fault))
 bad_row at (Ok change) wanted told gives is other = absurd (other is)
 bad_row at (Err row.NoMemory) wanted told gives is other = absurd (other is)
 bad_row at (Err row.Kind) wanted told gives is other = (row.Kind, gives (λ e. cc), is)

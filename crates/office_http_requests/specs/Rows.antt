@@ -7,12 +7,12 @@ use Rattle.serde_json.specs.Find.{get, as_array, as_str}
 use Rattle.signal_records.specs.Reading.{change_at, texts}
 use Rattle.signal_records.specs.Within.{current_limits}
 use Rattle.signal_records.specs.declared.fault.RowFault.{RowFault}
-use Rattle.signal_records.specs.declared.fault.RowFault.TheVariants as row
 use Rattle.signal_records.specs.declared.record.Change.{Change}
+use Rattle.office_files.specs.CsvFault.{bad_row, fault_at}
 use Rattle.office_http_requests.specs.declared.fault.AskFault.{AskFault}
 use Rattle.office_http_requests.specs.declared.fault.AskFault.TheVariants.{BadRow, NoMemory}
 use Rattle.office_http_requests.specs.declared.field.Field.TheVariants.{Rows}
-use Rattle.office_http_requests.specs.Asks.{◌>>=◌, or_field}
+use Rattle.office_http_requests.specs.Asks.{◌>>=◌, ask_fault, or_field}
 use Rattle.office_http_requests.specs.Fields.{field_name}
 
 -- the items of an array, as a list
@@ -40,14 +40,13 @@ rows_in body = option_and_then (each texts_in) (option_and_then list_in (get (fi
 -- a change, or the fault of the row at a place
 abbrev pub or_bad_row : ℕ → Result Change RowFault → Result Change AskFault
 or_bad_row at (Ok change) = Ok change
-or_bad_row at (Err fault) = Err (BadRow at fault)
+or_bad_row at (Err fault) = Err (BadRow (bad_row at fault))
 
--- what may be told of a row that was read so and not kept: want of memory where its reader told it, or where a good row found
--- no room; else that the row is bad
+-- what may be told of a row that was read so and not kept: want of memory where its reader told
+-- it, or where a good row found no room; else that the row is bad
 abbrev pub IsRowFault : ℕ → Result Change RowFault → AskFault → Type 0
 IsRowFault at (Ok change) told = told ≡ NoMemory
-IsRowFault at (Err row.NoMemory) told = told ≡ NoMemory
-IsRowFault at (Err fault) told = told ≡ BadRow at fault
+IsRowFault at (Err fault) told = told ≡ ask_fault (fault_at at fault)
 
 -- the changes that rows spell, or the first bad row, counted from a number
 abbrev pub changes_of : ℕ → List (List (List ℕ)) → Result (List Change) AskFault
