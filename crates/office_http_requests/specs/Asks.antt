@@ -11,6 +11,11 @@ abbrev pub ask_fault : CsvFault → AskFault
 ask_fault (file.Row bad) = BadRow bad
 ask_fault file.NoMemory = NoMemory
 
+-- what a text or rows spell, or the first bad one
+abbrev pub or_bad_row : {A : Type 0} → Result A CsvFault → Result A AskFault
+or_bad_row (Ok x) = Ok x
+or_bad_row (Err fault) = Err (ask_fault fault)
+
 -- the result is the wanted one, or says that there was no memory
 abbrev pub Gives : {A : Type 0} → Result A AskFault → Result A AskFault → Type 0
 Gives (Ok x) wanted = wanted ≡ Ok x

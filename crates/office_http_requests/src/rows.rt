@@ -78,7 +78,7 @@ fn keep(
 
 // The changes that rows spell, counted from 1.
 fn changes(alloc: Global, rows: &[Vec<&[u8]>]) -> Result<Changes, AskFault>
-    ensures { Gives result (changes_of 1 (rows_seen rows.now)) }
+    ensures { Gives result (changes_of (rows_seen rows.now)) }
 {
     let mut changes = Vec::with_capacity(alloc, rows.len())?;
     for (index, fields) in rows.iter().enumerate() {
