@@ -5,7 +5,7 @@ use Rattle.std.proofs.Common.{append_assoc}
 use Rattle.signal_records.specs.declared.fault.RowFault.{RowFault}
 use Rattle.office_files.specs.declared.fault.CsvFault.{CsvFault}
 use Rattle.office_files.specs.declared.fault.CsvFault.TheVariants as file
-use Rattle.office_files.specs.CsvFault.{fault_at, NamesFault}
+use Rattle.office_files.specs.CsvFault.{bad_row, fault_at, NamesFault}
 use Rattle.office_files.specs.CsvRow.{rows_from, rows_of, add_row}
 use Rattle.signal_records.specs.declared.fault.RowFault.TheVariants as row
 
@@ -38,14 +38,20 @@ rows_from-more reading at (first ∷ front) row rows x all one =
     add_row-ok at (reading first) _ a.first (a.others ++ x ∷ []) a.row_is more ∙ ap (λ ys. Ok (ys ++ x ∷ [])) (sym a.all_is)
 
 -- the first record that spells nothing
-pub rows_from-fault : {T : Type 0} (reading : List (List ℕ) → Result T RowFault) (at : ℕ) (front : List (List (List ℕ))) (row : List (List ℕ)) (rest : List (List (List ℕ))) (rows : List T) (fault : RowFault) → rows_from reading at front ≡ Ok rows → reading row ≡ Err fault → rows_from reading at (front ++ row ∷ rest) ≡ Err (file.Row (at + length front) fault)
+pub rows_from-fault : {T : Type 0} (reading : List (List ℕ) → Result T RowFault) (at : ℕ)
+    (front : List (List (List ℕ))) (row : List (List ℕ)) (rest : List (List (List ℕ)))
+    (rows : List T) (fault : RowFault) → rows_from reading at front ≡ Ok rows
+    → reading row ≡ Err fault
+    → rows_from reading at (front ++ row ∷ rest)
+    ≡ Err (file.Row (bad_row (at + length front) fault))
 unfolding rows_from
 rows_from-fault reading at [] row rest rows fault all one = let same : at + 0 ≡ at = omega arith in rw (one, same) refl
 rows_from-fault reading at (first ∷ front) row rest rows fault all one =
     let a = added at (reading first) (rows_from reading (at + 1) front) rows all in
     let more = rows_from-fault reading (at + 1) front row rest a.others fault a.rest_is one in
     let place : at + 1 + length front ≡ at + length (first ∷ front) = omega arith in
-    add_row-err at (reading first) _ a.first _ a.row_is more ∙ ap (λ n. Err (file.Row n fault)) place
+    add_row-err at (reading first) _ a.first _ a.row_is more
+    ∙ ap (λ n. Err (file.Row (bad_row n fault))) place
 
 -- the same of the records of a list, by their places
 pub rows_of-next : {T R : Type 0} (reading : List (List ℕ) → Result T RowFault) (fields : R → List (List ℕ)) (records : List R) (i : ℕ) (record_at : R) (rows : List T) (x : T) → i < length records → record_at ≡ get_or records i record_at → rows_of reading (map fields (take i records)) ≡ Ok rows → reading (fields record_at) ≡ Ok x → rows_of reading (map fields (take (i + 1) records)) ≡ Ok (rows ++ x ∷ [])
@@ -53,16 +59,24 @@ rows_of-next reading fields records i record_at rows x low at so_far one =
     let next : take (i + 1) records ≡ take i records ++ record_at ∷ [] = take_more records i record_at low ∙ ap (λ s. take i records ++ s ∷ []) (sym at) in
     rw (next, map-append) (rows_from-more reading 1 (map fields (take i records)) (fields record_at) rows x so_far one)
 
-pub rows_of-fault : {T R : Type 0} (reading : List (List ℕ) → Result T RowFault) (fields : R → List (List ℕ)) (records : List R) (i : ℕ) (record_at : R) (rows : List T) (fault : RowFault) → i < length records → record_at ≡ get_or records i record_at → rows_of reading (map fields (take i records)) ≡ Ok rows → reading (fields record_at) ≡ Err fault → rows_of reading (map fields records) ≡ Err (file.Row (i + 1) fault)
+pub rows_of-fault : {T R : Type 0} (reading : List (List ℕ) → Result T RowFault)
+    (fields : R → List (List ℕ)) (records : List R) (i : ℕ) (record_at : R) (rows : List T)
+    (fault : RowFault) → i < length records → record_at ≡ get_or records i record_at
+    → rows_of reading (map fields (take i records)) ≡ Ok rows
+    → reading (fields record_at) ≡ Err fault
+    → rows_of reading (map fields records) ≡ Err (file.Row (bad_row (i + 1) fault))
 rows_of-fault reading fields records i record_at rows fault low at so_far one =
     let next : take (i + 1) records ≡ take i records ++ record_at ∷ [] = take_more records i record_at low ∙ ap (λ s. take i records ++ s ∷ []) (sym at) in
     let all : records ≡ take i records ++ record_at ∷ drop (i + 1) records = sym (take-append-drop (i + 1) records) ∙ ap (λ t. t ++ drop (i + 1) records) next ∙ append_assoc (take i records) (record_at ∷ []) (drop (i + 1) records) in
     let size : 1 + length (map fields (take i records)) ≡ i + 1 = simp length-map (omega (arith, length-take-le i records (omega arith))) in
     let split : map fields records ≡ map fields (take i records) ++ fields record_at ∷ map fields (drop (i + 1) records) = ap (map fields) all ∙ map-append fields (take i records) (record_at ∷ drop (i + 1) records) in
-    rw split (rows_from-fault reading 1 (map fields (take i records)) (fields record_at) (map fields (drop (i + 1) records)) rows fault so_far one) ∙ ap (λ n. Err (file.Row n fault)) size
+    rw split (rows_from-fault reading 1 (map fields (take i records)) (fields record_at)
+    (map fields (drop (i + 1) records)) rows fault so_far one)
+    ∙ ap (λ n. Err (file.Row (bad_row n fault))) size
 
 -- what is named has a fault of its own, which was the record's
-pub fault_at-row : (at : ℕ) (fault : RowFault) → fault_at at fault ≢ file.NoMemory → (fault ≢ row.NoMemory) × (fault_at at fault ≡ file.Row at fault)
+pub fault_at-row : (at : ℕ) (fault : RowFault) → fault_at at fault ≢ file.NoMemory
+    → (fault ≢ row.NoMemory) × (fault_at at fault ≡ file.Row (bad_row at fault))
 fault_at-row at row.NoMemory h = absurd (h refl)
 fault_at-row at row.Kind h = (λ e. cc, refl)
 fault_at-row at row.Count h = (λ e. cc, refl)

@@ -40,5 +40,6 @@ module _ {T : Type 0} (reading : List (List ℕ) → Result T RowFault) (spellin
   given_only items (Ok v) text read bad rows within spelled =
       same_ok (rows_of reading (csv_records text)) (items v) rows read (file_only text rows within spelled)
   given_only items (Err file.NoMemory) text read bad rows within spelled = refl
-  given_only items (Err (file.Row at fault)) text read bad rows within spelled =
-      absurd (not_both (rows_of reading (csv_records text)) rows (file.Row at fault) (file_only text rows within spelled) (bad (λ e. cc)))
+  given_only items (Err (file.Row bad_at)) text read bad rows within spelled =
+      absurd (not_both (rows_of reading (csv_records text)) rows (file.Row bad_at)
+      (file_only text rows within spelled) (bad (λ e. cc)))

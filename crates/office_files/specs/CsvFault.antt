@@ -4,17 +4,22 @@ use Rattle.std.specs.Fmt.{decimal}
 use Rattle.signal_records.specs.declared.fault.RowFault.{RowFault}
 use Rattle.signal_records.specs.declared.fault.RowFault.TheVariants as row
 use Rattle.signal_records.specs.RowFault.{fault_name, fault_field}
+use Rattle.office_files.specs.declared.fault.BadRow.{BadRow}
 use Rattle.office_files.specs.declared.fault.CsvFault.{CsvFault}
 use Rattle.office_files.specs.declared.fault.CsvFault.TheVariants as file
+
+-- the record with this number, and its fault
+abbrev pub bad_row : ℕ → RowFault → BadRow
+bad_row at fault = record { at = at; fault = fault }
 
 -- the fault of the record with this number
 abbrev pub fault_at : ℕ → RowFault → CsvFault
 fault_at at row.NoMemory = file.NoMemory
-fault_at at fault = file.Row at fault
+fault_at at fault = file.Row (bad_row at fault)
 
 -- the fault of a record that is named is never want of memory
 abbrev pub NamesFault : CsvFault → Type 0
-NamesFault (file.Row at fault) = fault ≢ row.NoMemory
+NamesFault (file.Row bad) = bad.fault ≢ row.NoMemory
 NamesFault file.NoMemory = Unit
 
 -- ` 3` for field 3
@@ -23,6 +28,12 @@ field_text None = []
 field_text (Some field) = codes " " ++ decimal field
 
 -- `record 4: Count`, `record 4: Number 3`
+abbrev pub bad_row_text : BadRow → List ℕ
+bad_row_text bad =
+    codes "record " ++ decimal bad.at ++ codes ": " ++ fault_name bad.fault
+    ++ field_text (fault_field bad.fault)
+
+-- the bad record, or `memory`
 abbrev pub fault_text : CsvFault → List ℕ
-fault_text (file.Row at fault) = codes "record " ++ decimal at ++ codes ": " ++ fault_name fault ++ field_text (fault_field fault)
+fault_text (file.Row bad) = bad_row_text bad
 fault_text file.NoMemory = codes "memory"

@@ -1,12 +1,13 @@
 -- What the records of a file spell.
 use Rattle.std.specs.Prelude.{ℕ, ◌+◌, List, [], ◌∷◌, Result, Ok, Err}
 use Rattle.signal_records.specs.declared.fault.RowFault.{RowFault}
+use Rattle.office_files.specs.CsvFault.{bad_row}
 use Rattle.office_files.specs.declared.fault.CsvFault.{CsvFault}
 use Rattle.office_files.specs.declared.fault.CsvFault.TheVariants as file
 
 -- what a record of this number adds to what the records after it spell
 abbrev pub add_row : {T : Type 0} → ℕ → Result T RowFault → Result (List T) CsvFault → Result (List T) CsvFault
-add_row at (Err fault) rest = Err (file.Row at fault)
+add_row at (Err fault) rest = Err (file.Row (bad_row at fault))
 add_row at (Ok row) (Ok rows) = Ok (row ∷ rows)
 add_row at (Ok row) (Err fault) = Err fault
 

@@ -7,24 +7,32 @@ use signal_records::{NoMemory, RowFault};
 use std::alloc::AllocFailed;
 use std::fmt;
 
+/// A record that spells nothing.
+#[derive(Clone, Copy, Debug, PartialEq, Eq)]
+pub struct BadRow {
+    /// Which record, counted from 1. Empty lines are no records.
+    pub at: usize,
+    /// What is wrong with it, which is never `NoMemory`.
+    pub fault: RowFault,
+}
+
 /// Why a CSV file was not read.
 #[derive(Clone, Copy, Debug, PartialEq, Eq)]
 pub enum CsvFault {
-    /// The first record that spells nothing, counted from 1. Empty lines are no records. Its
-    /// fault is never `NoMemory`.
-    Row { at: usize, fault: RowFault },
+    /// The first record that spells nothing.
+    Row(BadRow),
     /// A growth was refused. It may stand in place of any other answer.
     NoMemory,
 }
 
 impl CsvFault {
-    /// The fault of the record with that number.
-    pub(crate) fn of_record(at: usize, fault: RowFault) -> CsvFault
+    /// The fault of the record with that number, counted from 1.
+    pub fn of_record(at: usize, fault: RowFault) -> CsvFault
         ensures { result ≡ fault_at at fault }
     {
         match fault {
             RowFault::NoMemory => CsvFault::NoMemory,
-            fault => CsvFault::Row { at, fault },
+            fault => CsvFault::Row(BadRow { at, fault }),
         }
     }
 }
@@ -51,8 +59,25 @@ impl<T: Drop> From<AllocFailed<T>> for CsvFault {
     }
 }
 
-/// Writes the record and its fault with the field that it names, as `record 4: Number 3`, or
-/// `memory`.
+/// Writes the record and its fault with the field that it names, as `record 4: Number 3`.
+impl fmt::Display for BadRow {
+    ghost use Rattle.std.specs.Prelude.{Some};
+    ghost use Rattle.office_files.specs.CsvFault.{bad_row_text};
+
+    ghost output = { λ bad. Some (bad_row_text bad) };
+
+    fn fmt<W: fmt::Write>(&self, f: &mut fmt::Formatter<W>) -> fmt::Result {
+        let at = self.at;
+        let name = self.fault.name();
+        write!(f, "record {at}: {name}")?;
+        match self.fault.field() {
+            None => Ok(()),
+            Some(field) => write!(f, " {field}"),
+        }
+    }
+}
+
+/// Writes the bad record, or `memory`.
 impl fmt::Display for CsvFault {
     ghost use Rattle.std.specs.Prelude.{Some};
     ghost use Rattle.office_files.specs.CsvFault.{fault_text};
@@ -62,14 +87,7 @@ impl fmt::Display for CsvFault {
     fn fmt<W: fmt::Write>(&self, f: &mut fmt::Formatter<W>) -> fmt::Result {
         match self {
             CsvFault::NoMemory => f.write_str("memory"),
-            CsvFault::Row { at, fault } => {
-                let name = fault.name();
-                write!(f, "record {at}: {name}")?;
-                match fault.field() {
-                    None => Ok(()),
-                    Some(field) => write!(f, " {field}"),
-                }
-            }
+            CsvFault::Row(bad) => write!(f, "{bad}"),
         }
     }
 }

@@ -21,7 +21,7 @@ mod writing;
 pub use cabinet::{read_records_csv, records_csv};
 pub use change_writing::changes_csv;
 pub use changes::read_timing_csv;
-pub use fault::CsvFault;
+pub use fault::{BadRow, CsvFault};
 pub use overdue::overdue_text;
 pub use sheet::timing_sheet;
 pub use timing::timing_csv;

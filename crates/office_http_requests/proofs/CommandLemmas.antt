@@ -82,7 +82,8 @@ module _ (ask : Result Data AskFault → Result Asked AskFault) where
   gives-read (Err Method) w unread gives = subst (λ k. Gives (ask (Err Method)) (ask k)) (sym (gives (λ e. cc))) (gives-refl _)
   gives-read (Err Json) w unread gives = subst (λ k. Gives (ask (Err Json)) (ask k)) (sym (gives (λ e. cc))) (gives-refl _)
   gives-read (Err (Field field)) w unread gives = subst (λ k. Gives (ask (Err (Field field))) (ask k)) (sym (gives (λ e. cc))) (gives-refl _)
-  gives-read (Err (BadRow at fault)) w unread gives = subst (λ k. Gives (ask (Err (BadRow at fault))) (ask k)) (sym (gives (λ e. cc))) (gives-refl _)
+  gives-read (Err (BadRow bad)) w unread gives =
+      subst (λ k. Gives (ask (Err (BadRow bad))) (ask k)) (sym (gives (λ e. cc))) (gives-refl _)
 
   -- want of memory is told in place of what is asked by the body, or it was told of the body
   pub wants-read : (told : Result Value AskFault) (w : Result Data AskFault) (P : Type 0) → Gives (data_of told) w → WantsMemoryOnlyIf told P → MayWant (ask (data_of told))
@@ -93,7 +94,8 @@ module _ (ask : Result Data AskFault → Result Asked AskFault) where
   wants-read (Err Method) w P gives only wants = inl (subst (λ k. MayWant (ask k)) (sym (gives (λ e. cc))) wants)
   wants-read (Err Json) w P gives only wants = inl (subst (λ k. MayWant (ask k)) (sym (gives (λ e. cc))) wants)
   wants-read (Err (Field field)) w P gives only wants = inl (subst (λ k. MayWant (ask k)) (sym (gives (λ e. cc))) wants)
-  wants-read (Err (BadRow at fault)) w P gives only wants = inl (subst (λ k. MayWant (ask k)) (sym (gives (λ e. cc))) wants)
+  wants-read (Err (BadRow bad)) w P gives only wants =
+      inl (subst (λ k. MayWant (ask k)) (sym (gives (λ e. cc))) wants)
 
 -- a request with a route and its method asks what its endpoint does
 pub command_with-at : (method path : List ℕ) (endpoint : Endpoint) (read : Result Data AskFault) → or_no_route (endpoint_of path) ≡ Ok endpoint → bytes_eq method (method_of endpoint) ≡ true

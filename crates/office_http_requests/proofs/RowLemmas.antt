@@ -17,12 +17,14 @@ use Rattle.office_http_requests.specs.declared.fault.AskFault.TheVariants.{BadRo
 use Rattle.office_http_requests.specs.declared.field.Field.TheVariants.{Rows as FieldRows}
 use Rattle.office_files.specs.Changes.{changes_of as csv_changes_of}
 use Rattle.office_files.specs.Records.{commands_of}
+use Rattle.office_files.specs.CsvFault.{bad_row as bad_record}
+use Rattle.office_files.specs.CsvRow.{rows_of}
 use Rattle.office_files.specs.declared.fault.CsvFault.{CsvFault}
 use Rattle.office_files.specs.declared.fault.CsvFault.TheVariants as file
 use Rattle.office_http_requests.specs.Fields.{field_name}
-use Rattle.office_http_requests.specs.Asks.{◌>>=◌, or_field, MayWant, WantsMemoryOnlyIf}
-use Rattle.office_http_requests.specs.CsvBodies.{csv_in, csv_changes_in, csv_records_in, or_bad_row as or_bad_record}
-use Rattle.office_http_requests.specs.Rows.{RowRefs, rows_seen, list_of, list_in, each, texts_in, rows_in, or_bad_row, changes_of, changes_in, IsRowFault}
+use Rattle.office_http_requests.specs.Asks.{◌>>=◌, or_bad_row, or_field, MayWant, WantsMemoryOnlyIf}
+use Rattle.office_http_requests.specs.CsvBodies.{csv_in, csv_changes_in, csv_records_in}
+use Rattle.office_http_requests.specs.Rows.{RowRefs, rows_seen, list_of, list_in, each, texts_in, rows_in, changes_of, changes_in, IsRowFault}
 
 -- what is done, before what the rest gives
 abbrev pub onto : {B : Type 0} → List B → Option (List B) → Option (List B)
@@ -37,44 +39,6 @@ each-next f xs i d y done within value = rw (add-one, drop-cons xs i d, value) (
 
 pub each-stop : {A B : Type 0} (f : A → Option B) (xs : List A) (i : ℕ) (d : A) (done : List B) → i < length xs → f (get_or xs i d) ≡ None → onto done (each f (drop i xs)) ≡ None
 each-stop f xs i d done within value = rw (drop-cons xs i d, value)
-
--- changes so far, before those of the rest
-abbrev pub before : List Change → Result (List Change) AskFault → Result (List Change) AskFault
-before done rest = rest >>= (λ changes. Ok (done ++ changes))
-
-before-cons : (done : List Change) (change : Change) (rest : Result (List Change) AskFault) → before (done ++ change ∷ []) rest ≡ before done (rest >>= (λ changes. Ok (change ∷ changes)))
-before-cons done change (Err fault) = refl
-before-cons done change (Ok changes) = rw append_assoc
-
-pub before-nil : (rest : Result (List Change) AskFault) → before [] rest ≡ rest
-before-nil (Err fault) = refl
-before-nil (Ok changes) = refl
-
-row-at : (rows : List RowRefs) (i : ℕ) (row : RowRefs) → i < length rows → row ≡ get_or rows i row → get_or (rows_seen rows) i (texts row.items) ≡ texts row.items
-row-at rows i row within is = get_or-map (λ r. texts r.items) rows i row (texts row.items) within ∙ ap (λ (r : RowRefs). texts r.items) (sym is)
-
--- the changes go on past a row
-pub changes_of-next : (rows : List RowRefs) (i : ℕ) (row : RowRefs) (change : Change) (done : List Change) → i < length rows → row ≡ get_or rows i row → change_at current_limits (texts row.items) ≡ Ok change → before (done ++ change ∷ []) (changes_of (i + 1 + 1) (drop (i + 1) (rows_seen rows))) ≡ before done (changes_of (i + 1) (drop i (rows_seen rows)))
-changes_of-next rows i row change done within is reads =
-    let at = row-at rows i row within is in
-    let more : i < length (rows_seen rows) = rw length-map within in
-    let here : drop i (rows_seen rows) ≡ texts row.items ∷ drop (suc i) (rows_seen rows) = drop-cons (rows_seen rows) i (texts row.items) more ∙ ap (λ r. r ∷ drop (suc i) (rows_seen rows)) at in
-    let next : drop (i + 1) (rows_seen rows) ≡ drop (suc i) (rows_seen rows) = rw add-one in
-    rw (next, here, reads) (before-cons done change (changes_of (i + 1 + 1) (drop (suc i) (rows_seen rows))))
-
--- the changes stop at a row
-pub changes_of-stop : (rows : List RowRefs) (i : ℕ) (row : RowRefs) (fault : RowFault) (done : List Change) → i < length rows → row ≡ get_or rows i row → change_at current_limits (texts row.items) ≡ Err fault → before done (changes_of (i + 1) (drop i (rows_seen rows))) ≡ Err (BadRow (i + 1) fault)
-changes_of-stop rows i row fault done within is reads =
-    let at = row-at rows i row within is in
-    let more : i < length (rows_seen rows) = rw length-map within in
-    let here : drop i (rows_seen rows) ≡ texts row.items ∷ drop (suc i) (rows_seen rows) = drop-cons (rows_seen rows) i (texts row.items) more ∙ ap (λ r. r ∷ drop (suc i) (rows_seen rows)) at in
-    rw (here, reads)
-
--- the changes end
-pub changes_of-end : (rows : List RowRefs) (done : List Change) → before done (changes_of (length rows + 1) (drop (length rows) (rows_seen rows))) ≡ Ok done
-changes_of-end rows done =
-    let nothing : drop (length rows) (rows_seen rows) ≡ [] = rw (← length-map rows (λ r. texts r.items)) (drop-length (rows_seen rows)) in
-    rw (nothing, append-nil)
 
 pub onto-nil : {B : Type 0} (rest : Option (List B)) → onto [] rest ≡ rest
 onto-nil None = refl
@@ -145,43 +109,34 @@ each_passes f shown (x ∷ xs) = sym (one_is_some (f (shown x)) (each f (map sho
 
 -- ---- what may be told of rows and of CSV texts
 
--- rows give changes, or a bad row
-rows_want : (at : ℕ) (rows : List (List (List ℕ))) → MayWant (changes_of at rows)
-rows_want at [] = tt
-rows_want at (row ∷ rows) = one (change_at current_limits row) (changes_of (at + 1) rows) (rows_want (at + 1) rows)
-  where
-    one : (read : Result Change RowFault) (rest : Result (List Change) AskFault) → MayWant rest
-        → MayWant (or_bad_row at read >>= (λ change. rest >>= (λ changes. Ok (change ∷ changes))))
-    one (Err fault) rest wants = tt
-    one (Ok change) (Ok changes) wants = tt
-    one (Ok change) (Err fault) wants = wants
+-- a text or rows give what they spell, or a bad row
+spelled_want : {A : Type 0} (read : Result A CsvFault) → MayWant (or_bad_row read)
+spelled_want (Ok x) = tt
+spelled_want (Err (file.Row bad)) = tt
+spelled_want (Err file.NoMemory) = tt
 
 -- rows that are such give changes, or a bad row
 pub changes_want : (body : Data) → is_some (rows_in body) ≡ true → MayWant (changes_in body)
 unfolding changes_in
 changes_want body found = by_rows (rows_in body) found
   where
-    by_rows : (rows : Option (List (List (List ℕ)))) → is_some rows ≡ true → MayWant (or_field FieldRows rows >>= (λ rows. changes_of 1 rows))
+    by_rows : (rows : Option (List (List (List ℕ)))) → is_some rows ≡ true
+        → MayWant (or_field FieldRows rows >>= (λ rows. changes_of rows))
     by_rows None found = cc
-    by_rows (Some rows) found = rows_want 1 rows
-
-csv_want : {A : Type 0} (read : Result A CsvFault) → MayWant (or_bad_record read)
-csv_want (Ok x) = tt
-csv_want (Err (file.Row at fault)) = tt
-csv_want (Err file.NoMemory) = tt
+    by_rows (Some rows) found = spelled_want (rows_of (change_at current_limits) rows)
 
 -- a CSV text gives changes, or a bad record
 pub csv_changes_want : (body : Data) (csv : List ℕ) → csv_in body ≡ Ok csv → MayWant (csv_changes_in body)
 unfolding csv_changes_in
-csv_changes_want body csv is = rw is (csv_want (csv_changes_of csv))
+csv_changes_want body csv is = rw is (spelled_want (csv_changes_of csv))
 
 pub csv_records_want : (body : Data) (csv : List ℕ) → csv_in body ≡ Ok csv → MayWant (csv_records_in body)
 unfolding csv_records_in
-csv_records_want body csv is = rw is (csv_want (commands_of csv))
+csv_records_want body csv is = rw is (spelled_want (commands_of csv))
 
 -- a row that was not kept is bad, where no want of memory was told
 pub bad_row : (at : ℕ) (read wanted : Result Change RowFault) (told : AskFault) → RowGives read wanted → IsRowFault at read told → told ≢ NoMemory
-    → (fault : RowFault) × (wanted ≡ Err fault) × (told ≡ BadRow at fault)
+    → (fault : RowFault) × (wanted ≡ Err fault) × (told ≡ BadRow (bad_record at fault))
 bad_row at (Ok change) wanted told gives is other = absurd (other is)
 bad_row at (Err row.NoMemory) wanted told gives is other = absurd (other is)
 bad_row at (Err row.Kind) wanted told gives is other = (row.Kind, gives (λ e. cc), is)

@@ -1,8 +1,20 @@
 -- What a request asks, as a chain of steps of which each may find a fault.
 use Rattle.std.specs.Prelude.{◌≡◌, ◌≢◌, Option, Some, None, Result, Ok, Err, ⊤}
+use Rattle.office_files.specs.declared.fault.CsvFault.{CsvFault}
+use Rattle.office_files.specs.declared.fault.CsvFault.TheVariants as file
 use Rattle.office_http_requests.specs.declared.fault.AskFault.{AskFault}
 use Rattle.office_http_requests.specs.declared.fault.AskFault.TheVariants.{NoRoute, Method, Json, Field as FieldFault, BadRow, NoMemory}
 use Rattle.office_http_requests.specs.declared.field.Field.{Field}
+
+-- the fault of a CSV text as one of the request
+abbrev pub ask_fault : CsvFault → AskFault
+ask_fault (file.Row bad) = BadRow bad
+ask_fault file.NoMemory = NoMemory
+
+-- what a text or rows spell, or the first bad one
+abbrev pub or_bad_row : {A : Type 0} → Result A CsvFault → Result A AskFault
+or_bad_row (Ok x) = Ok x
+or_bad_row (Err fault) = Err (ask_fault fault)
 
 -- the result is the wanted one, or says that there was no memory
 abbrev pub Gives : {A : Type 0} → Result A AskFault → Result A AskFault → Type 0
@@ -19,7 +31,7 @@ WantsMemoryOnlyIf (Err fault) P = fault ≡ NoMemory → P
 abbrev pub MayWant : {A : Type 0} → Result A AskFault → Type 0
 MayWant (Ok x) = Unit {0}
 MayWant (Err NoMemory) = Unit {0}
-MayWant (Err (BadRow at fault)) = Unit {0}
+MayWant (Err (BadRow bad)) = Unit {0}
 MayWant (Err NoRoute) = ⊥
 MayWant (Err Method) = ⊥
 MayWant (Err Json) = ⊥

@@ -6,27 +6,15 @@ use Rattle.cabinet_core.specs.declared.command.RecordCommand.{RecordCommand}
 use Rattle.signal_records.specs.declared.record.Change.{Change}
 use Rattle.office_files.specs.Changes.{changes_of}
 use Rattle.office_files.specs.Records.{commands_of}
-use Rattle.office_files.specs.declared.fault.CsvFault.{CsvFault}
-use Rattle.office_files.specs.declared.fault.CsvFault.TheVariants as file
-use Rattle.office_http_requests.specs.Asks.{◌>>=◌, or_field}
+use Rattle.office_http_requests.specs.Asks.{◌>>=◌, or_bad_row, or_field}
 use Rattle.office_http_requests.specs.Bodies.{text_in}
 use Rattle.office_http_requests.specs.declared.fault.AskFault.{AskFault}
-use Rattle.office_http_requests.specs.declared.fault.AskFault.TheVariants.{BadRow, NoMemory}
+use Rattle.office_http_requests.specs.declared.fault.AskFault.TheVariants.{NoMemory}
 use Rattle.office_http_requests.specs.declared.field.Field.TheVariants.{Csv}
 
 -- the CSV text under its key
 abbrev pub csv_in : Data → Result (List ℕ) AskFault
 csv_in body = or_field Csv (text_in body Csv)
-
--- the fault of a CSV text as one of the request
-abbrev pub ask_fault : CsvFault → AskFault
-ask_fault (file.Row at fault) = BadRow at fault
-ask_fault file.NoMemory = NoMemory
-
--- what a CSV text spells, or its first bad record
-abbrev pub or_bad_row : {A : Type 0} → Result A CsvFault → Result A AskFault
-or_bad_row (Ok x) = Ok x
-or_bad_row (Err fault) = Err (ask_fault fault)
 
 -- the changes of the CSV text under its key
 unfoldable pub csv_changes_in : Data → Result (List Change) AskFault

@@ -1,5 +1,5 @@
 -- The rows of a body, and the changes that they spell.
-use Rattle.std.specs.Prelude.{◌≡◌, ℕ, ◌+◌, List, [], ◌∷◌, map, Vec, Option, Some, None, option_map, option_and_then, Result, Ok, Err}
+use Rattle.std.specs.Prelude.{◌≡◌, ℕ, List, [], ◌∷◌, map, Vec, Option, Some, None, option_map, option_and_then, Result, Ok, Err}
 use Rattle.std.specs.Borrow.{Bor}
 use Rattle.std.specs.declared.alloc.Global.{Global}
 use Rattle.serde_json.specs.Data.{Data, Items, no_items, item}
@@ -7,12 +7,13 @@ use Rattle.serde_json.specs.Find.{get, as_array, as_str}
 use Rattle.signal_records.specs.Reading.{change_at, texts}
 use Rattle.signal_records.specs.Within.{current_limits}
 use Rattle.signal_records.specs.declared.fault.RowFault.{RowFault}
-use Rattle.signal_records.specs.declared.fault.RowFault.TheVariants as row
 use Rattle.signal_records.specs.declared.record.Change.{Change}
+use Rattle.office_files.specs.CsvFault.{fault_at}
+use Rattle.office_files.specs.CsvRow.{rows_of}
 use Rattle.office_http_requests.specs.declared.fault.AskFault.{AskFault}
-use Rattle.office_http_requests.specs.declared.fault.AskFault.TheVariants.{BadRow, NoMemory}
+use Rattle.office_http_requests.specs.declared.fault.AskFault.TheVariants.{NoMemory}
 use Rattle.office_http_requests.specs.declared.field.Field.TheVariants.{Rows}
-use Rattle.office_http_requests.specs.Asks.{◌>>=◌, or_field}
+use Rattle.office_http_requests.specs.Asks.{◌>>=◌, ask_fault, or_bad_row, or_field}
 use Rattle.office_http_requests.specs.Fields.{field_name}
 
 -- the items of an array, as a list
@@ -37,31 +38,21 @@ texts_in d = option_and_then (each as_str) (list_in d)
 unfoldable pub rows_in : Data → Option (List (List (List ℕ)))
 rows_in body = option_and_then (each texts_in) (option_and_then list_in (get (field_name Rows) body))
 
--- a change, or the fault of the row at a place
-abbrev pub or_bad_row : ℕ → Result Change RowFault → Result Change AskFault
-or_bad_row at (Ok change) = Ok change
-or_bad_row at (Err fault) = Err (BadRow at fault)
-
--- what may be told of a row that was read so and not kept: want of memory where its reader told it, or where a good row found
--- no room; else that the row is bad
+-- what may be told of a row that was read so and not kept: want of memory where its reader told
+-- it, or where a good row found no room; else that the row is bad
 abbrev pub IsRowFault : ℕ → Result Change RowFault → AskFault → Type 0
 IsRowFault at (Ok change) told = told ≡ NoMemory
-IsRowFault at (Err row.NoMemory) told = told ≡ NoMemory
-IsRowFault at (Err fault) told = told ≡ BadRow at fault
+IsRowFault at (Err fault) told = told ≡ ask_fault (fault_at at fault)
 
--- the changes that rows spell, or the first bad row, counted from a number
-abbrev pub changes_of : ℕ → List (List (List ℕ)) → Result (List Change) AskFault
-changes_of at [] = Ok []
-changes_of at (row ∷ rows) = do
-  change ← or_bad_row at (change_at current_limits row)
-  changes ← changes_of (at + 1) rows
-  Ok (change ∷ changes)
+-- the changes that rows spell, or the first bad row, as the records of a CSV file are read
+abbrev pub changes_of : List (List (List ℕ)) → Result (List Change) AskFault
+changes_of rows = or_bad_row (rows_of (change_at current_limits) rows)
 
 -- the changes of a body
 unfoldable pub changes_in : Data → Result (List Change) AskFault
 changes_in body = do
   rows ← or_field Rows (rows_in body)
-  changes_of 1 rows
+  changes_of rows
 
 -- the fields of a row, as references to texts
 abbrev pub RowRefs : Type 0

@@ -3,26 +3,17 @@ ghost use Rattle.std.specs.Prelude.{◌≡◌};
 ghost use Rattle.std.specs.Result.{result_map_both};
 ghost use Rattle.serde_json.specs.View.{view};
 ghost use Rattle.office_http_requests.specs.Asks.{MayWant, WantsMemoryOnlyIf};
-ghost use Rattle.office_http_requests.specs.CsvBodies.{csv_in, csv_changes_in, csv_records_in, ask_fault, GivesList};
+ghost use Rattle.office_http_requests.specs.CsvBodies.{csv_in, csv_changes_in, csv_records_in};
+ghost use Rattle.office_http_requests.specs.CsvBodies.{GivesList};
 
 use crate::body;
 use crate::fault::AskFault;
 use crate::field::Field;
 use cabinet_core::RecordCommand;
-use office_files::{CsvFault, read_records_csv, read_timing_csv};
+use office_files::{read_records_csv, read_timing_csv};
 use serde_json::Value;
 use signal_records::Change;
 use std::alloc::Global;
-
-// The fault of a CSV text as one of the request.
-fn of_file(fault: CsvFault) -> AskFault
-    ensures { result ≡ ask_fault fault }
-{
-    match fault {
-        CsvFault::Row { at, fault } => AskFault::BadRow { at, fault },
-        CsvFault::NoMemory => AskFault::NoMemory,
-    }
-}
 
 // The CSV text under its key.
 fn text(body: &Value) -> Result<&str, AskFault>
@@ -37,7 +28,7 @@ pub(crate) fn changes(alloc: Global, body: &Value) -> Result<Vec<Change>, AskFau
     ensures gives { GivesList result (csv_changes_in (view body.now)) }
     ensures memory { WantsMemoryOnlyIf result (MayWant (csv_changes_in (view body.now))) }
 {
-    read_timing_csv(alloc, text(body)?.as_bytes()).map_err(of_file)
+    Ok(read_timing_csv(alloc, text(body)?.as_bytes())?)
 }
 
 /// The commands of the register that the records of the CSV text under its key spell.
@@ -46,5 +37,5 @@ pub(crate) fn records(alloc: Global, body: &Value) -> Result<Vec<RecordCommand>,
     ensures gives { GivesList result (csv_records_in (view body.now)) }
     ensures memory { WantsMemoryOnlyIf result (MayWant (csv_records_in (view body.now))) }
 {
-    read_records_csv(alloc, text(body)?.as_bytes()).map_err(of_file)
+    Ok(read_records_csv(alloc, text(body)?.as_bytes())?)
 }

@@ -3,7 +3,8 @@ ghost use Rattle.std.specs.Prelude.{◌≡◌};
 ghost use Rattle.office_http_requests.specs.declared.fault.AskFault.TheVariants.{NoMemory as OutOfMemory};
 
 use crate::field::Field;
-use signal_records::{NoMemory, RowFault};
+use office_files::{BadRow, CsvFault};
+use signal_records::NoMemory;
 use std::alloc::AllocFailed;
 
 /// Why a request asks nothing of the office.
@@ -18,11 +19,7 @@ pub enum AskFault {
     /// A field is missing, of another kind or out of its range.
     Field(Field),
     /// A row of the body, or a record of its CSV text, spells nothing that the request may have.
-    BadRow {
-        /// Which row, counted from 1.
-        at: usize,
-        fault: RowFault,
-    },
+    BadRow(BadRow),
     NoMemory,
 }
 
@@ -39,5 +36,19 @@ impl<T: Drop> From<AllocFailed<T>> for AskFault {
 
     fn from(_: AllocFailed<T>) -> AskFault {
         AskFault::NoMemory
+    }
+}
+
+/// A bad record of a CSV text is one of the request.
+impl From<CsvFault> for AskFault {
+    ghost use Rattle.office_http_requests.specs.Asks.{ask_fault};
+
+    ghost from_gives = { λ fault told. told ≡ ask_fault fault };
+
+    fn from(fault: CsvFault) -> AskFault {
+        match fault {
+            CsvFault::Row(bad) => AskFault::BadRow(bad),
+            CsvFault::NoMemory => AskFault::NoMemory,
+        }
     }
 }

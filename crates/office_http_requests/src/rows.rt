@@ -10,6 +10,7 @@ ghost use Rattle.office_http_requests.specs.Rows.{texts_in, rows_in, changes_of,
 use crate::fault::AskFault;
 use crate::field::Field;
 use draft_core::changes::Changes;
+use office_files::CsvFault;
 use serde_json::Value;
 use signal_records::{Change, RowFault, read_change};
 use std::alloc::{AllocError, Global};
@@ -70,15 +71,14 @@ fn keep(
 {
     match read {
         Ok(change) => changes.push(change)?,
-        Err(RowFault::NoMemory) => return Err(AskFault::NoMemory),
-        Err(fault) => return Err(AskFault::BadRow { at, fault }),
+        Err(fault) => return Err(AskFault::from(CsvFault::of_record(at, fault))),
     }
     Ok(())
 }
 
 // The changes that rows spell, counted from 1.
 fn changes(alloc: Global, rows: &[Vec<&[u8]>]) -> Result<Changes, AskFault>
-    ensures { Gives result (changes_of 1 (rows_seen rows.now)) }
+    ensures { Gives result (changes_of (rows_seen rows.now)) }
 {
     let mut changes = Vec::with_capacity(alloc, rows.len())?;
     for (index, fields) in rows.iter().enumerate() {

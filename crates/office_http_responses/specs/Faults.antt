@@ -47,7 +47,7 @@ kind_numbered n = first_numbered n (
 abbrev pub IsFault : ℕ → More → Type 0
 IsFault n Nothing = (1 ≤ n) × (n ≤ 8)
 IsFault n (FieldMore field) = n ≡ 9
-IsFault n (RowMore at fault) = n ≡ 31
+IsFault n (RowMore bad) = n ≡ 31
 
 -- the tree of a fault
 abbrev pub fault_tree : FaultKind → More → Data
@@ -59,13 +59,13 @@ fault_tree k (FieldMore field) =
     ∷ (codes "number", count (line_of k).number)
     ∷ []
     )
-fault_tree k (RowMore at fault) =
+fault_tree k (RowMore bad) =
     keys (
     (codes "error", text (line_of k).name)
-    ∷ (codes "fault", text (fault_name fault))
-    ∷ (codes "field", count (unwrap_or (fault_field fault) 0))
+    ∷ (codes "fault", text (fault_name bad.fault))
+    ∷ (codes "field", count (unwrap_or (fault_field bad.fault) 0))
     ∷ (codes "number", count (line_of k).number)
-    ∷ (codes "record", count at)
+    ∷ (codes "record", count bad.at)
     ∷ []
     )
 
@@ -91,5 +91,5 @@ ask_fault_text ask.NoRoute = fault_bytes kind.NoRoute Nothing
 ask_fault_text ask.Method = fault_bytes kind.Method Nothing
 ask_fault_text ask.Json = fault_bytes kind.Json Nothing
 ask_fault_text (ask.Field field) = fault_bytes kind.Field (FieldMore field)
-ask_fault_text (ask.BadRow at fault) = fault_bytes kind.BadRow (RowMore at fault)
+ask_fault_text (ask.BadRow bad) = fault_bytes kind.BadRow (RowMore bad)
 ask_fault_text ask.NoMemory = unavailable_bytes

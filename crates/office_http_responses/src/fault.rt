@@ -11,9 +11,9 @@ use crate::writing::Scalar::{Number, Text};
 use crate::writing::object;
 use http::StatusCode;
 use json::Writer;
+use office_files::BadRow;
 use office_http_framing::front::Fault;
 use office_http_requests::{AskFault, Field};
-use signal_records::RowFault;
 use std::alloc::{AllocError, Global};
 
 /// What the answer of a fault shows beside its name and number.
@@ -21,12 +21,8 @@ use std::alloc::{AllocError, Global};
 pub enum More {
     Nothing,
     Field(Field),
-    /// What is wrong with a row.
-    Row {
-        /// Which row, counted from 1.
-        at: usize,
-        fault: RowFault,
-    },
+    /// Which row is bad, and what is wrong with it.
+    Row(BadRow),
 }
 
 /// A fault of a request: of its framing, or of what it asks.
@@ -132,15 +128,15 @@ fn write_fault(
                 ("number", shown),
             ],
         ),
-        More::Row { at, fault } => object(
+        More::Row(bad) => object(
             alloc,
             to,
             &[
                 ("error", error),
-                ("fault", Text(fault.name())),
-                ("field", Number(u64::from(fault.field().unwrap_or(0)))),
+                ("fault", Text(bad.fault.name())),
+                ("field", Number(u64::from(bad.fault.field().unwrap_or(0)))),
                 ("number", shown),
-                ("record", Number(at as u64)),
+                ("record", Number(bad.at as u64)),
             ],
         ),
     }
@@ -181,9 +177,7 @@ pub fn ask_fault_answer(alloc: Global, fault: AskFault) -> Result<Vec<u8>, Alloc
         AskFault::Method => kind_answer(alloc, FaultKind::Method, More::Nothing),
         AskFault::Json => kind_answer(alloc, FaultKind::Json, More::Nothing),
         AskFault::Field(field) => kind_answer(alloc, FaultKind::Field, More::Field(field)),
-        AskFault::BadRow { at, fault } => {
-            kind_answer(alloc, FaultKind::BadRow, More::Row { at, fault })
-        }
+        AskFault::BadRow(bad) => kind_answer(alloc, FaultKind::BadRow, More::Row(bad)),
         AskFault::NoMemory => Err(AllocError),
     }
 }

@@ -1,7 +1,10 @@
-use Rattle.std.proofs.Common.{◌≡◌, ◌+◌, drop}
-use Rattle.office_http_requests.specs.Rows.{changes_of, rows_seen}
-use Rattle.office_http_requests.proofs.RowLemmas.{before}
+use Rattle.std.proofs.Common.{◌≡◌, Ok, take}
+use Rattle.signal_records.specs.Reading.{change_at}
+use Rattle.signal_records.specs.Within.{current_limits}
+use Rattle.office_files.specs.CsvRow.{rows_of}
+use Rattle.office_http_requests.specs.Rows.{rows_seen}
 use Rattle.office_http_requests.proofs.rows.changes.Given as goal
 
 abbrev pub invariant-loop-index : goal.invariant-loop-index
-invariant-loop-index l = before l.changes.items (changes_of (l.index + 1) (drop l.index (rows_seen l.rows))) ≡ changes_of 1 (rows_seen l.rows)
+invariant-loop-index l =
+    rows_of (change_at current_limits) (rows_seen (take l.index l.rows)) ≡ Ok l.changes.items
