@@ -7,80 +7,88 @@ use Rattle.draft_core.specs.declared.revision.TheConstants.{LAST_REVISION}
 use Rattle.draft_core.specs.declared.state.Stage.{Stage}
 use Rattle.draft_core.specs.declared.state.Holder.{Holder}
 use Rattle.draft_core.specs.declared.timing.Timing.{Timing}
+use Rattle.draft_core.specs.declared.timing.Reach.{Reach}
 use Rattle.draft_core.specs.declared.timing.Move.{Move}
 use Rattle.draft_core.specs.declared.refusal.DraftRefusal.{DraftRefusal}
 use Rattle.draft_core.specs.declared.refusal.DraftRefusal.TheVariants.{RevisionFull, VerifyFailed}
 use Rattle.draft_core.specs.Transaction.{TimingSide, Draft, holder_of, refused_by, unless, owned, committed_with}
-use Rattle.draft_core.specs.DraftRows.{TimingStands}
+use Rattle.draft_core.specs.DraftRows.{RowsByKey, Stands}
 use Rattle.draft_core.specs.Moves.{Makes, Follows}
 use Rattle.draft_core.specs.Writes.{next_revision}
 
--- the tests refuse
-pub owned_refused : (timing : Timing) (side : TimingSide) (stage : Stage) (wrong : DraftRefusal) (clerk : List ℕ) (step : Draft → Result TimingSide DraftRefusal) (refusal : DraftRefusal)
-    → TimingStands timing side → refused_by timing.holder stage wrong clerk ≡ Some refusal → owned side stage wrong clerk step ≡ Err refusal
-owned_refused timing side stage wrong clerk step refusal stands is =
-    ap (λ r. unless r side.draft wrong step) (ap (λ h. refused_by h stage wrong clerk) (sym stands.same_holder) ∙ is)
+module _ {reach : Reach} {timing : Timing} {rows : RowsByKey} {side : TimingSide}
+    (stands : Stands reach timing rows side) where
+  -- the tests pass, and the draft's step is followed
+  pub owned_moves : (stage : Stage) (wrong : DraftRefusal) (clerk : List ℕ) (step : Draft
+      → Result TimingSide DraftRefusal) (move : Move)
+      → refused_by timing.holder stage wrong clerk ≡ None
+      → ((draft : Draft) → side.draft ≡ Some draft
+          → Follows rows side clerk (Ok move) (step draft))
+      → Follows rows side clerk (Ok move) (owned side stage wrong clerk step)
+  owned_moves stage wrong clerk step move is goes =
+      let passed : refused_by (option_map holder_of side.draft) stage wrong clerk ≡ None =
+          ap (λ h. refused_by h stage wrong clerk) (sym stands.same_holder) ∙ is in
+      subst (λ r. Follows rows side clerk (Ok move) (unless r side.draft wrong step)) (sym passed)
+      (elim side.draft as (λ d. refused_by (option_map holder_of d) stage wrong clerk ≡ None
+          → ((draft : Draft) → d ≡ Some draft → Follows rows side clerk (Ok move) (step draft))
+          → Follows rows side clerk (Ok move) (unless None d wrong step)) [
+        | None ↦ λ p goes. absurd (let q : Some wrong ≡ None = p in cc)
+        | Some draft ↦ λ p goes. goes draft refl
+      ] passed goes)
 
--- the tests pass, and the draft's step is followed
-pub owned_passes : (timing : Timing) (side : TimingSide) (stage : Stage) (wrong : DraftRefusal) (clerk : List ℕ) (step : Draft → Result TimingSide DraftRefusal) (result : Result Move DraftRefusal)
-    → TimingStands timing side → refused_by timing.holder stage wrong clerk ≡ None
-    → ((draft : Draft) → side.draft ≡ Some draft → Follows timing clerk result (step draft))
-    → Follows timing clerk result (owned side stage wrong clerk step)
-owned_passes timing side stage wrong clerk step result stands is goes =
-    let passed : refused_by (option_map holder_of side.draft) stage wrong clerk ≡ None = ap (λ h. refused_by h stage wrong clerk) (sym stands.same_holder) ∙ is in
-    subst (λ r. Follows timing clerk result (unless r side.draft wrong step)) (sym passed)
-    (elim side.draft as (λ d. refused_by (option_map holder_of d) stage wrong clerk ≡ None → ((draft : Draft) → d ≡ Some draft → Follows timing clerk result (step draft)) → Follows timing clerk result (unless None d wrong step)) [
-      | None ↦ λ p goes. absurd (let q : Some wrong ≡ None = p in cc)
-      | Some draft ↦ λ p goes. goes draft refl
-    ] passed goes)
+  -- somebody holds the draft
+  pub held_by : (holder : Holder) (P : Option Draft → Type 0) → timing.holder ≡ Some holder
+      → ((draft : Draft) → side.draft ≡ Some draft → holder_of draft ≡ holder → P (Some draft))
+          → P side.draft
+  held_by holder P is goes =
+      elim side.draft as (λ d. option_map holder_of d ≡ Some holder
+          → ((draft : Draft) → d ≡ Some draft → holder_of draft ≡ holder → P (Some draft)) → P d) [
+        | None ↦ λ e goes. absurd (let f : None ≡ Some holder = e in cc)
+        | Some draft ↦ λ e goes. goes draft refl (let f : Some (holder_of draft) ≡ Some holder =
+            e in cc)
+      ] (sym stands.same_holder ∙ is) goes
 
--- the same, of a move
-pub owned_moves : (timing : Timing) (side : TimingSide) (stage : Stage) (wrong : DraftRefusal) (clerk : List ℕ) (step : Draft → Result TimingSide DraftRefusal) (move : Move)
-    → TimingStands timing side → refused_by timing.holder stage wrong clerk ≡ None
-    → ((draft : Draft) → side.draft ≡ Some draft → Follows timing clerk (Ok move) (step draft))
-    → Follows timing clerk (Ok move) (owned side stage wrong clerk step)
-owned_moves timing side stage wrong clerk step move = owned_passes timing side stage wrong clerk step (Ok move)
+  -- the same, where only that is known
+  pub held : (P : Option Draft → Type 0) → is_some timing.holder ≡ true
+      → ((draft : Draft) → side.draft ≡ Some draft → P (Some draft)) → P side.draft
+  held P is goes =
+      elim side.draft as (λ d. is_some (option_map holder_of d) ≡ true
+          → ((draft : Draft) → d ≡ Some draft → P (Some draft)) → P d) [
+        | None ↦ λ e goes. absurd (let f : false ≡ true = e in cc)
+        | Some draft ↦ λ e goes. goes draft refl
+      ] (ap is_some (sym stands.same_holder) ∙ is) goes
 
--- somebody holds the draft
-pub held_by : (timing : Timing) (side : TimingSide) (holder : Holder) (P : Option Draft → Type 0)
-    → TimingStands timing side → timing.holder ≡ Some holder → ((draft : Draft) → side.draft ≡ Some draft → holder_of draft ≡ holder → P (Some draft)) → P side.draft
-held_by timing side holder P stands is goes =
-    elim side.draft as (λ d. option_map holder_of d ≡ Some holder → ((draft : Draft) → d ≡ Some draft → holder_of draft ≡ holder → P (Some draft)) → P d) [
-      | None ↦ λ e goes. absurd (let f : None ≡ Some holder = e in cc)
-      | Some draft ↦ λ e goes. goes draft refl (let f : Some (holder_of draft) ≡ Some holder = e in cc)
-    ] (sym stands.same_holder ∙ is) goes
-
--- the same, where only that is known
-pub held : (timing : Timing) (side : TimingSide) (P : Option Draft → Type 0)
-    → TimingStands timing side → is_some timing.holder ≡ true → ((draft : Draft) → side.draft ≡ Some draft → P (Some draft)) → P side.draft
-held timing side P stands is goes =
-    elim side.draft as (λ d. is_some (option_map holder_of d) ≡ true → ((draft : Draft) → d ≡ Some draft → P (Some draft)) → P d) [
-      | None ↦ λ e goes. absurd (let f : false ≡ true = e in cc)
-      | Some draft ↦ λ e goes. goes draft refl
-    ] (ap is_some (sym stands.same_holder) ∙ is) goes
-
--- nobody holds it
-pub free_of : (timing : Timing) (side : TimingSide) (P : Option Draft → Type 0)
-    → TimingStands timing side → timing.holder ≡ None → (side.draft ≡ None → P None) → P side.draft
-free_of timing side P stands is goes =
-    elim side.draft as (λ d. option_map holder_of d ≡ None → (d ≡ None → P None) → P d) [
-      | None ↦ λ e goes. goes refl
-      | Some draft ↦ λ e goes. absurd (let f : Some (holder_of draft) ≡ None = e in cc)
-    ] (sym stands.same_holder ∙ is) goes
+  -- nobody holds it
+  pub free_of : (P : Option Draft → Type 0) → timing.holder ≡ None → (side.draft ≡ None → P None)
+      → P side.draft
+  free_of P is goes =
+      elim side.draft as (λ d. option_map holder_of d ≡ None → (d ≡ None → P None) → P d) [
+        | None ↦ λ e goes. goes refl
+        | Some draft ↦ λ e goes. absurd (let f : Some (holder_of draft) ≡ None = e in cc)
+      ] (sym stands.same_holder ∙ is) goes
 
 pub nobody : (holder : Option Holder) → is_some holder ≡ false → holder ≡ None
 nobody None e = refl
 nobody (Some holder) e = absurd (let f : true ≡ false = e in cc)
 
 -- a commit at the next revision follows its line
-pub commit_follows : (timing : Timing) (side : TimingSide) (draft : Draft) (clerk : List ℕ) (move : Move) (revision : ℕ) (violations : List Violation)
-    → Ok revision ≡ next_revision side.revision violations → Makes timing clerk move (record { revision = revision; committed = draft.set; draft = None })
-    → Follows timing clerk (Ok move) (committed_with side draft violations)
-commit_follows timing side draft clerk move revision (v ∷ vs) e makes = absurd (let f : Ok revision ≡ next_revision side.revision (v ∷ vs) = e in cc)
-commit_follows timing side draft clerk move revision [] e makes =
-    elim (side.revision == LAST_REVISION) as (λ b. Ok revision ≡ cond b (Err RevisionFull) (Ok (side.revision + 1)) → Follows timing clerk (Ok move) (cond b (Err RevisionFull) (Ok (record { revision = side.revision + 1; committed = draft.set; draft = None })))) [
+pub commit_follows : (rows : RowsByKey) (side : TimingSide) (draft : Draft) (clerk : List ℕ)
+    (move : Move) (revision : ℕ) (violations : List Violation)
+    → Ok revision ≡ next_revision side.revision violations
+        → Makes rows side clerk move (record { revision = revision; committed = draft.set; draft =
+        None })
+    → Follows rows side clerk (Ok move) (committed_with side draft violations)
+commit_follows rows side draft clerk move revision (v ∷ vs) e makes =
+    absurd (let f : Ok revision ≡ next_revision side.revision (v ∷ vs) = e in cc)
+commit_follows rows side draft clerk move revision [] e makes =
+    elim (side.revision == LAST_REVISION) as (λ b. Ok revision
+        ≡ cond b (Err RevisionFull) (Ok (side.revision + 1))
+        → Follows rows side clerk (Ok move) (cond b (Err RevisionFull)
+        (Ok (record { revision = side.revision + 1; committed = draft.set; draft = None })))) [
       | true ↦ λ f. absurd (let g : Ok revision ≡ Err RevisionFull = f in cc)
-      | false ↦ λ f. let same : revision ≡ side.revision + 1 = cc in subst (λ n. Makes timing clerk move (record { revision = n; committed = draft.set; draft = None })) same makes
+      | false ↦ λ f. let same : revision ≡ side.revision + 1 = cc in
+          subst (λ n. Makes rows side clerk move (record { revision = n; committed = draft.set;
+          draft = None })) same makes
     ] e
 
 -- where there is no next revision, the line refuses for the same reason
@@ -97,7 +105,10 @@ commit_refuses side draft refusal [] e =
     ] e
 
 -- a refusal that the line has follows it
-pub refusal_follows : (timing : Timing) (clerk : List ℕ) (result : Result Move DraftRefusal) (line : Result TimingSide DraftRefusal) (refusal : DraftRefusal)
-    → IsErrAnd result (λ r. r ≡ refusal) → line ≡ Err refusal → Follows timing clerk result line
-refusal_follows timing clerk (Ok move) line refusal is e = absurd is
-refusal_follows timing clerk (Err r) line refusal is e = inr (e ∙ ap (λ (x : DraftRefusal). Err x) (sym is))
+pub refusal_follows : (rows : RowsByKey) (side : TimingSide) (clerk : List ℕ)
+    (result : Result Move DraftRefusal) (line : Result TimingSide DraftRefusal)
+    (refusal : DraftRefusal)
+    → IsErrAnd result (λ r. r ≡ refusal) → line ≡ Err refusal → Follows rows side clerk result line
+refusal_follows rows side clerk (Ok move) line refusal is e = absurd is
+refusal_follows rows side clerk (Err r) line refusal is e =
+    inr (e ∙ ap (λ (x : DraftRefusal). Err x) (sym is))

@@ -17,8 +17,11 @@ use Rattle.signal_rules.specs.declared.violation.Violation.{Violation}
 use Rattle.signal_rules.specs.Difference.{DiffersAtMost}
 use Rattle.signal_rules.specs.Violations.{violations_of}
 use Rattle.draft_core.specs.declared.timing.Timing.{Timing}
+use Rattle.draft_core.specs.declared.timing.Reach.{Reach}
+use Rattle.draft_core.specs.declared.timing.Reach.TheVariants as reach
 use Rattle.draft_core.specs.Transaction.{TimingSide, Draft}
-use Rattle.draft_core.specs.DraftRows.{TimingStands, RowStands, changed_key, left_by, said_at, row_at, overlaid}
+use Rattle.draft_core.specs.DraftRows.{RowsByKey, RowStands, Stands, changed_key, left_by, said_at}
+use Rattle.draft_core.specs.DraftRows.{row_at, overlaid}
 
 over : (b : Bool) (row committed : Option Row) → cond b row committed ≡ overlaid committed (cond b (Some row) None)
 over true row committed = refl
@@ -41,26 +44,35 @@ get-after_changes (change ∷ changes) set key =
     ∙ overlaid-overlaid (get set key) (row_at changes key) (said_at change key)
 
 -- the draft's row at a key
-pub draft_row : (timing : Timing) (side : TimingSide) (draft : Draft) → TimingStands timing side → side.draft ≡ Some draft
-    → (key : Key) → get draft.set key ≡ overlaid (get side.committed key) (row_at timing.delta key)
-draft_row timing side draft stands held key = subst (λ d. RowStands (get side.committed key) (row_at timing.delta key) d key) held (stands.rows key)
+pub draft_row : {reach : Reach} {timing : Timing} {rows : RowsByKey} {side : TimingSide}
+    → Stands reach timing rows side
+    → (draft : Draft) → side.draft ≡ Some draft → (key : Key)
+        → get draft.set key ≡ overlaid (get side.committed key) (rows key)
+draft_row {rows = rows} {side = side} stands draft held key =
+    subst (λ d. RowStands (get side.committed key) (rows key) d key) held (stands.draft key)
 
--- the draft is the committed set with the draft rows over it
-pub draft_is : (timing : Timing) (side : TimingSide) (draft : Draft) → TimingStands timing side → side.draft ≡ Some draft
-    → after_changes timing.committed timing.delta ≡ draft.set
-draft_is timing side draft stands held = same_map key_total key_exact _ _ (λ key.
-    get-after_changes timing.delta timing.committed key
-    ∙ ap (λ set. overlaid (get set key) (row_at timing.delta key)) stands.same_committed
-    ∙ sym (draft_row timing side draft stands held key))
+module _ {timing : Timing} {rows : RowsByKey} {side : TimingSide}
+    (stands : Stands reach.Plan timing rows side) (draft : Draft)
+    (held : side.draft ≡ Some draft) where
+  -- the draft is the committed set with the draft rows over it
+  pub draft_is : after_changes timing.committed timing.delta ≡ draft.set
+  draft_is = same_map key_total key_exact _ _ (λ key.
+      get-after_changes timing.delta timing.committed key
+      ∙ ap (λ set. overlaid (get set key) (row_at timing.delta key)) stands.read.1
+      ∙ ap (overlaid (get side.committed key)) (stands.read.0 key)
+      ∙ sym (draft_row stands draft held key))
 
--- what is found in the committed set with the draft rows is the draft's, where the committed set has no violation
-pub draft_violations : (timing : Timing) (side : TimingSide) (draft : Draft) (found : List Violation) (changes : List Change)
-    → TimingStands timing side → side.draft ≡ Some draft → violations_of side.committed ≡ [] → changes ≡ timing.delta
-    → (violations_of timing.committed ≡ [] → found ≡ violations_of (after_changes timing.committed changes)) → found ≡ violations_of draft.set
-draft_violations timing side draft found changes stands held sound same finds =
-    finds (ap violations_of stands.same_committed ∙ sound)
-    ∙ ap (λ list. violations_of (after_changes timing.committed list)) same
-    ∙ ap violations_of (draft_is timing side draft stands held)
+  -- what is found in the committed set with the draft rows is the draft's, where the committed set
+  -- has no violation
+  pub draft_violations : (found : List Violation) (changes : List Change)
+      → violations_of side.committed ≡ [] → changes ≡ timing.delta
+      → (violations_of timing.committed ≡ [] → found
+          ≡ violations_of (after_changes timing.committed changes))
+          → found ≡ violations_of draft.set
+  draft_violations found changes sound same finds =
+      finds (ap violations_of stands.read.1 ∙ sound)
+      ∙ ap (λ list. violations_of (after_changes timing.committed list)) same
+      ∙ ap violations_of draft_is
 
 contains_later : (k key : Key) (keys : List Key) → Contains keys key → Contains (k ∷ keys) key
 contains_later k key keys h = (h.0 + 1, omega (arith, h.1), rw add-one h.2)

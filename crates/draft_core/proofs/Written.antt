@@ -7,7 +7,8 @@ use Rattle.signal_records.specs.declared.record.Row.{Row}
 use Rattle.signal_records.specs.declared.record.Change.{Change}
 use Rattle.signal_records.specs.Key.{key_cmp}
 use Rattle.draft_core.specs.DraftRows.{changed_key, left_by, said_at, row_at, overlaid}
-use Rattle.draft_core.specs.Moves.{committed_after, row_after, timing_writes, draft_writes}
+use Rattle.draft_core.specs.Moves.{committed_after, drafted_in, row_after, timing_writes}
+use Rattle.draft_core.specs.Moves.{draft_writes}
 use Rattle.draft_core.specs.Writes.{drafting, settling, dropping}
 use Rattle.draft_core.proofs.Overlaid.{overlaid-overlaid}
 
@@ -58,7 +59,19 @@ row_after-dropping [] key row h = h refl
 row_after-dropping (change ∷ changes) key row h =
     row_after-dropping changes key _ (gone_step (eq_by_cmp key_cmp key (changed_key change)) (row_at changes key) row (left_by change) h)
 
--- ---- how many rows are written
+-- ---- which draft rows are written, and how many rows
+
+pub drafted_in-drafting : (changes : List Change) → drafted_in (drafting changes) ≡ changes
+drafted_in-drafting [] = refl
+drafted_in-drafting (change ∷ changes) = ap (λ list. change ∷ list) (drafted_in-drafting changes)
+
+pub drafted_in-settling : (changes : List Change) → drafted_in (settling changes) ≡ []
+drafted_in-settling [] = refl
+drafted_in-settling (change ∷ changes) = drafted_in-settling changes
+
+pub drafted_in-dropping : (changes : List Change) → drafted_in (dropping changes) ≡ []
+drafted_in-dropping [] = refl
+drafted_in-dropping (change ∷ changes) = drafted_in-dropping changes
 
 pub drafting_writes : (changes : List Change) → (timing_writes (drafting changes) ≡ 0) × (draft_writes (drafting changes) ≤ length changes)
 drafting_writes [] = (refl, omega arith)

@@ -11,6 +11,8 @@ use Rattle.signal_records.specs.declared.record.Change.{Change}
 use Rattle.signal_records.specs.declared.record.Change.TheVariants.{Put, Remove}
 use Rattle.draft_core.specs.Transaction.{Draft, TimingSide, holder_of}
 use Rattle.draft_core.specs.declared.timing.Timing.{Timing}
+use Rattle.draft_core.specs.declared.timing.Reach.{Reach}
+use Rattle.draft_core.specs.declared.timing.Reach.TheVariants as reach
 
 -- the key that a change names
 abbrev pub changed_key : Change → Key
@@ -41,9 +43,22 @@ abbrev pub RowStands : Option Row → Option (Option Row) → Option Draft → K
 RowStands committed row None key = row ≡ None
 RowStands committed row (Some draft) key = get draft.set key ≡ overlaid committed row
 
--- what is kept stands for the timing side of an intersection
-pub record TimingStands (timing : Timing) (side : TimingSide) : Type 0 where
+-- the draft rows of an intersection, each with what it leaves at its key
+abbrev pub RowsByKey : Type 0
+RowsByKey = Key → Option (Option Row)
+
+-- what a step reads of a timing side beside its revision and its holder
+abbrev pub IsRead : Reach → Timing → RowsByKey → TimingSide → Type 0
+IsRead reach.Row timing rows side = Unit {0}
+IsRead reach.Drafts timing rows side = (key : Key) → row_at timing.delta key ≡ rows key
+IsRead reach.Plan timing rows side =
+    ((key : Key) → row_at timing.delta key ≡ rows key) × (timing.committed ≡ side.committed)
+
+-- draft rows stand for the draft of an intersection's timing side, and what a step reads is that
+-- side's
+pub record Stands (reach : Reach) (timing : Timing) (rows : RowsByKey)
+    (side : TimingSide) : Type 0 where
   pub same_revision : timing.revision ≡ side.revision
-  pub same_committed : timing.committed ≡ side.committed
   pub same_holder : timing.holder ≡ option_map holder_of side.draft
-  pub rows : (key : Key) → RowStands (get side.committed key) (row_at timing.delta key) side.draft key
+  pub draft : (key : Key) → RowStands (get side.committed key) (rows key) side.draft key
+  pub read : IsRead reach timing rows side

@@ -1,3 +1,4 @@
+pub mod Within
 pub mod Transaction
 pub mod DraftRows
 pub mod Moves

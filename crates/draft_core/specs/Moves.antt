@@ -6,18 +6,21 @@ use Rattle.std.specs.Ordering.{eq_by_cmp}
 use Rattle.signal_records.specs.Key.{key_cmp}
 use Rattle.signal_records.specs.declared.key.Key.{Key}
 use Rattle.signal_records.specs.declared.record.Row.{Row}
+use Rattle.signal_records.specs.declared.record.Change.{Change}
 use Rattle.signal_rules.specs.Violations.{violations_of}
 use Rattle.draft_core.specs.declared.state.DbState.{DbState}
 use Rattle.draft_core.specs.declared.state.DbState.TheVariants.{Normal, Transaction as InTransaction, Verify as InVerify, Done as InDone}
 use Rattle.draft_core.specs.declared.state.Stage.TheVariants.{Transaction, Verify, Done}
 use Rattle.draft_core.specs.declared.state.Holder.{Holder}
 use Rattle.draft_core.specs.declared.timing.Timing.{Timing}
+use Rattle.draft_core.specs.declared.timing.Reach.{Reach}
 use Rattle.draft_core.specs.declared.timing.Move.{Move}
 use Rattle.draft_core.specs.declared.timing.TimingChange.{TimingChange}
 use Rattle.draft_core.specs.declared.timing.TimingChange.TheVariants.{Committed, Drafted, DraftGone}
 use Rattle.draft_core.specs.declared.refusal.DraftRefusal.{DraftRefusal}
 use Rattle.draft_core.specs.declared.refusal.DraftRefusal.TheVariants.{NotNormal, NotTransaction, NotOwner, NotVerify, NotDone, VerifyFailed, RevisionFull, NoMemory}
-use Rattle.draft_core.specs.DraftRows.{TimingStands, RowStands, row_at, said_at, changed_key, left_by, overlaid}
+use Rattle.draft_core.specs.DraftRows.{RowsByKey, RowStands, Stands, said_at, changed_key, left_by}
+use Rattle.draft_core.specs.DraftRows.{overlaid}
 use Rattle.draft_core.specs.Transaction.{TimingSide, holder_of, state_of, verdict_of}
 
 -- ---- what a list of changes makes of the rows
@@ -50,6 +53,13 @@ draft_writes (Committed change ∷ changes) = draft_writes changes
 draft_writes (Drafted change ∷ changes) = draft_writes changes + 1
 draft_writes (DraftGone gone ∷ changes) = draft_writes changes + 1
 
+-- the changes that are kept as draft rows, in their order
+abbrev pub drafted_in : List TimingChange → List Change
+drafted_in [] = []
+drafted_in (Committed change ∷ changes) = drafted_in changes
+drafted_in (Drafted change ∷ changes) = change ∷ drafted_in changes
+drafted_in (DraftGone gone ∷ changes) = drafted_in changes
+
 -- ---- a move, and the line of the table that it follows
 
 -- who owned the draft before, or the clerk who begins one
@@ -64,28 +74,40 @@ next_holder holder clerk InTransaction = Some (record { stage = Transaction; own
 next_holder holder clerk InVerify = Some (record { stage = Verify; owner = owner_after holder clerk })
 next_holder holder clerk InDone = Some (record { stage = Done; owner = owner_after holder clerk })
 
--- a move shows the next timing side, and its changes make it
-pub record Makes (timing : Timing) (clerk : List ℕ) (move : Move) (next : TimingSide) : Type 0 where
+-- a move shows the next timing side, and its changes make it of a side with these draft rows
+pub record Makes (rows : RowsByKey) (side : TimingSide) (clerk : List ℕ) (move : Move)
+    (next : TimingSide) : Type 0 where
   pub same_revision : move.revision ≡ next.revision
   pub same_state : move.state ≡ state_of next.draft
   pub same_verdict : move.verdict ≡ verdict_of next.draft
-  pub same_holder : next_holder timing.holder clerk move.state ≡ option_map holder_of next.draft
-  pub committed : (key : Key) → get next.committed key ≡ committed_after move.changes.items key (get timing.committed key)
-  pub rows : (key : Key) → RowStands (get next.committed key) (row_after move.changes.items key (row_at timing.delta key)) next.draft key
+  pub same_holder : next_holder (option_map holder_of side.draft) clerk move.state
+      ≡ option_map holder_of next.draft
+  pub committed : (key : Key) →
+      get next.committed key ≡ committed_after move.changes key (get side.committed key)
+  pub draft : (key : Key) →
+      RowStands (get next.committed key) (row_after move.changes key (rows key)) next.draft key
 
 -- a decision follows its line of the table, or found no memory
-abbrev pub Follows : Timing → List ℕ → Result Move DraftRefusal → Result TimingSide DraftRefusal → Type 0
-Follows timing clerk (Ok move) (Ok next) = Makes timing clerk move next
-Follows timing clerk (Ok move) (Err refusal) = ⊥
-Follows timing clerk (Err refusal) line = (refusal ≡ NoMemory) ⊎ (line ≡ Err refusal)
+abbrev pub Follows : RowsByKey → TimingSide → List ℕ → Result Move DraftRefusal
+    → Result TimingSide DraftRefusal → Type 0
+Follows rows side clerk (Ok move) (Ok next) = Makes rows side clerk move next
+Follows rows side clerk (Ok move) (Err refusal) = ⊥
+Follows rows side clerk (Err refusal) line = (refusal ≡ NoMemory) ⊎ (line ≡ Err refusal)
 
--- whichever timing side is stood for
-abbrev pub FollowsLine : Timing → List ℕ → Result Move DraftRefusal → (TimingSide → Result TimingSide DraftRefusal) → Type 0
-FollowsLine timing clerk result line = (side : TimingSide) → TimingStands timing side → Follows timing clerk result (line side)
+-- THE LAW OF READING. What is decided on as much as is read follows the line of the table, for
+-- whichever timing side that is read of, and whichever draft rows stand for its draft.
+abbrev pub FollowsLine : Reach → Timing → List ℕ → Result Move DraftRefusal
+    → (TimingSide → Result TimingSide DraftRefusal) → Type 0
+FollowsLine reach timing clerk result line =
+    (rows : RowsByKey) (side : TimingSide) → Stands reach timing rows side →
+    Follows rows side clerk result (line side)
 
--- whichever timing side is stood for, if its committed set breaks no rule
-abbrev pub FollowsSoundLine : Timing → List ℕ → Result Move DraftRefusal → (TimingSide → Result TimingSide DraftRefusal) → Type 0
-FollowsSoundLine timing clerk result line = (side : TimingSide) → TimingStands timing side → violations_of side.committed ≡ [] → Follows timing clerk result (line side)
+-- the same, if the committed set breaks no rule
+abbrev pub FollowsSoundLine : Reach → Timing → List ℕ → Result Move DraftRefusal
+    → (TimingSide → Result TimingSide DraftRefusal) → Type 0
+FollowsSoundLine reach timing clerk result line =
+    (rows : RowsByKey) (side : TimingSide) → Stands reach timing rows side →
+    violations_of side.committed ≡ [] → Follows rows side clerk result (line side)
 
 -- ---- refusals, whichever timing side is stood for, or none
 

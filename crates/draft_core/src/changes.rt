@@ -1,6 +1,8 @@
 //! A list of changes of a timing set.
 
-use signal_records::Change;
+ghost use Rattle.draft_core.specs.Within.{AreChangesWithin};
+
+use signal_records::{Change, change_is_within};
 use std::marker::Model;
 
 /// Changes of a timing set, in their order: what an edit asks for, or the rows of a draft. It is
@@ -13,25 +15,41 @@ pub struct Changes {
 impl Model for Changes {
     ghost use Rattle.std.specs.Prelude.{List};
     ghost use Rattle.signal_records.specs.declared.record.Change.{Change};
+    ghost use Rattle.draft_core.specs.Within.{AreChangesWithin};
 
     ghost Value = { List Change };
 
     ghost view = { λ c. c.list.items };
+
+    ghost invariant = { λ c. AreChangesWithin c.list.items };
+}
+
+/// Every change is within its limits, as its type says.
+fn are_within(changes: &[Change])
+    ensures { AreChangesWithin changes.now }
+{
+    for change in changes {
+        change_is_within(change);
+    }
 }
 
 impl Changes {
     ghost use Rattle.std.specs.Prelude.{◌≡◌};
+    ghost use Rattle.draft_core.specs.Within.{AreChangesWithin};
 
     /// The changes of a list.
     pub fn new(list: Vec<Change>) -> Changes
-        ensures { result ≡ list.items }
+        ensures list { result ≡ list.items }
+        ensures within { AreChangesWithin result }
     {
+        are_within(list.as_slice());
         Changes { list }
     }
 
-    /// The changes.
+    /// The changes, each of them within its limits.
     pub fn as_slice(&self) -> &[Change]
-        ensures { result.now ≡ self.now }
+        ensures list { result.now ≡ self.now }
+        ensures within { AreChangesWithin self.now }
     {
         self.list.as_slice()
     }

@@ -4,15 +4,17 @@ ghost use Rattle.std.specs.Prelude.{◌≡◌, ◌≤◌, [], length, Some, IfEr
 ghost use Rattle.signal_rules.specs.Violations.{violations_of};
 ghost use Rattle.draft_core.specs.Transaction as table;
 ghost use Rattle.draft_core.specs.Transaction.{TimingSide, Draft};
-ghost use Rattle.draft_core.specs.DraftRows.{TimingStands};
-ghost use Rattle.draft_core.specs.Moves.{Follows, FollowsLine, FollowsSoundLine, IsMemory, IsUnsettled, Never, RefusesFirst, timing_writes, draft_writes};
+ghost use Rattle.draft_core.specs.DraftRows.{RowsByKey, Stands};
+ghost use Rattle.draft_core.specs.Moves.{Follows, FollowsLine, FollowsSoundLine, IsMemory};
+ghost use Rattle.draft_core.specs.Moves.{IsUnsettled, Never, RefusesFirst};
+ghost use Rattle.draft_core.specs.Moves.{drafted_in, draft_writes, timing_writes};
 
 use crate::holding::refused_by;
 use crate::judging::{next_revision, verdict_on};
 use crate::overlaying::violations_after;
 use crate::refusal::DraftRefusal;
 use crate::state::{DbState, Stage, Verdict};
-use crate::timing::{Move, Timing};
+use crate::timing::{Move, Reach, Timing, TimingChanges};
 use crate::writes::{drafting, dropping, settling};
 use signal_records::{Change, Words};
 use std::alloc::Global;
@@ -22,13 +24,13 @@ fn stays(alloc: Global, timing: &Timing, state: DbState, verdict: Verdict) -> Mo
     ensures revision { result.revision ≡ timing.now.revision }
     ensures state { result.state ≡ state }
     ensures verdict { result.verdict ≡ verdict }
-    ensures changes { result.changes.items ≡ [] }
+    ensures changes { result.changes ≡ [] }
 {
     Move {
         revision: timing.revision,
         state,
         verdict,
-        changes: Vec::new(alloc),
+        changes: TimingChanges::new(Vec::new(alloc)),
     }
 }
 
@@ -36,9 +38,10 @@ fn stays(alloc: Global, timing: &Timing, state: DbState, verdict: Verdict) -> Mo
 ///
 /// `NotNormal` in each state but Normal.
 pub fn begin(alloc: Global, timing: &Timing, _clerk: &Words<40>) -> Result<Move, DraftRefusal>
-    ensures line { FollowsLine timing.now _clerk.now result (λ side. table.begun side _clerk.now) }
+    ensures line { FollowsLine Reach.Row timing.now _clerk.now result
+        (λ side. table.begun side _clerk.now) }
     ensures refuses { RefusesFirst (table.refused_if_held timing.now.holder) Never result }
-    ensures bounds { IfOk result (λ move. move.changes.items ≡ []) }
+    ensures bounds { IfOk result (λ move. move.changes ≡ []) }
 {
     if timing.holder.is_some() {
         return Err(DraftRefusal::NotNormal);
@@ -56,9 +59,12 @@ pub fn edit(
     clerk: &Words<40>,
     changes: &[Change],
 ) -> Result<Move, DraftRefusal>
-    ensures line { FollowsLine timing.now clerk.now result (λ side. table.edited side clerk.now changes.now) }
+    ensures line { FollowsLine Reach.Row timing.now clerk.now result
+        (λ side. table.edited side clerk.now changes.now) }
     ensures refuses { RefusesFirst (table.refused_by timing.now.holder Stage.Transaction DraftRefusal.NotTransaction clerk.now) IsMemory result }
-    ensures bounds { IfOk result (λ move. (timing_writes move.changes.items ≡ 0) × (draft_writes move.changes.items ≤ length changes.now)) }
+    ensures drafts { IfOk result (λ move. drafted_in move.changes ≡ changes.now) }
+    ensures bounds { IfOk result (λ move. (timing_writes move.changes ≡ 0)
+        × (draft_writes move.changes ≤ length changes.now)) }
 {
     let wrong = DraftRefusal::NotTransaction;
     if let Some(refusal) = refused_by(&timing.holder, Stage::Transaction, wrong, clerk) {
@@ -76,9 +82,10 @@ pub fn edit(
 ///
 /// `NotTransaction` in each state but Transaction, and then `NotOwner` for another clerk.
 pub fn verify(alloc: Global, timing: &Timing, clerk: &Words<40>) -> Result<Move, DraftRefusal>
-    ensures line { FollowsLine timing.now clerk.now result (λ side. table.verified side clerk.now) }
+    ensures line { FollowsLine Reach.Row timing.now clerk.now result
+        (λ side. table.verified side clerk.now) }
     ensures refuses { RefusesFirst (table.refused_by timing.now.holder Stage.Transaction DraftRefusal.NotTransaction clerk.now) Never result }
-    ensures bounds { IfOk result (λ move. move.changes.items ≡ []) }
+    ensures bounds { IfOk result (λ move. move.changes ≡ []) }
 {
     let wrong = DraftRefusal::NotTransaction;
     if let Some(refusal) = refused_by(&timing.holder, Stage::Transaction, wrong, clerk) {
@@ -91,9 +98,10 @@ pub fn verify(alloc: Global, timing: &Timing, clerk: &Words<40>) -> Result<Move,
 ///
 /// `NotVerify` in each state but Verify, and then `NotOwner` for another clerk.
 pub fn check(alloc: Global, timing: &Timing, clerk: &Words<40>) -> Result<Move, DraftRefusal>
-    ensures line { FollowsSoundLine timing.now clerk.now result (λ side. table.checked side clerk.now) }
+    ensures line { FollowsSoundLine Reach.Plan timing.now clerk.now result
+        (λ side. table.checked side clerk.now) }
     ensures refuses { RefusesFirst (table.refused_by timing.now.holder Stage.Verify DraftRefusal.NotVerify clerk.now) IsMemory result }
-    ensures bounds { IfOk result (λ move. move.changes.items ≡ []) }
+    ensures bounds { IfOk result (λ move. move.changes ≡ []) }
 {
     let wrong = DraftRefusal::NotVerify;
     if let Some(refusal) = refused_by(&timing.holder, Stage::Verify, wrong, clerk) {
@@ -109,9 +117,12 @@ pub fn check(alloc: Global, timing: &Timing, clerk: &Words<40>) -> Result<Move, 
 /// `NotDone` in each state but Done, `NotOwner` for another clerk, `VerifyFailed` for a draft that
 /// breaks rules, and `RevisionFull` at the last revision, in this order.
 pub fn commit(alloc: Global, timing: &Timing, clerk: &Words<40>) -> Result<Move, DraftRefusal>
-    ensures line { FollowsSoundLine timing.now clerk.now result (λ side. table.committed side clerk.now) }
+    ensures line { FollowsSoundLine Reach.Plan timing.now clerk.now result
+        (λ side. table.committed side clerk.now) }
     ensures refuses { RefusesFirst (table.refused_by timing.now.holder Stage.Done DraftRefusal.NotDone clerk.now) IsUnsettled result }
-    ensures bounds { IfOk result (λ move. (timing_writes move.changes.items ≤ length timing.now.delta) × (draft_writes move.changes.items ≤ length timing.now.delta)) }
+    ensures drafts { IfOk result (λ move. drafted_in move.changes ≡ []) }
+    ensures bounds { IfOk result (λ move. (timing_writes move.changes ≤ length timing.now.delta)
+        × (draft_writes move.changes ≤ length timing.now.delta)) }
 {
     let wrong = DraftRefusal::NotDone;
     if let Some(refusal) = refused_by(&timing.holder, Stage::Done, wrong, clerk) {
@@ -122,10 +133,14 @@ pub fn commit(alloc: Global, timing: &Timing, clerk: &Words<40>) -> Result<Move,
 
 /// Commits a draft that its owner may commit.
 fn settled(alloc: Global, timing: &Timing) -> Result<Move, DraftRefusal>
-    ensures line { (side : TimingSide) → (draft : Draft) → (clerk : List ℕ) → TimingStands timing.now side → side.draft ≡ Some draft → violations_of side.committed ≡ [] →
-        Follows timing.now clerk result (table.committed_with side draft (violations_of draft.set)) }
+    ensures line { (rows : RowsByKey) (side : TimingSide) (draft : Draft) (clerk : List ℕ) →
+        Stands Reach.Plan timing.now rows side → side.draft ≡ Some draft →
+        violations_of side.committed ≡ [] → Follows rows side clerk result
+        (table.committed_with side draft (violations_of draft.set)) }
     ensures refuses { IfErr result IsUnsettled }
-    ensures bounds { IfOk result (λ move. (timing_writes move.changes.items ≤ length timing.now.delta) × (draft_writes move.changes.items ≤ length timing.now.delta)) }
+    ensures drafts { IfOk result (λ move. drafted_in move.changes ≡ []) }
+    ensures bounds { IfOk result (λ move. (timing_writes move.changes ≤ length timing.now.delta)
+        × (draft_writes move.changes ≤ length timing.now.delta)) }
 {
     let found = violations_after(alloc, &timing.committed, timing.delta.as_slice())?;
     let revision = next_revision(timing.revision, found.as_slice())?;
@@ -141,9 +156,10 @@ fn settled(alloc: Global, timing: &Timing) -> Result<Move, DraftRefusal>
 ///
 /// `NotDone` in each state but Done, and then `NotOwner` for another clerk.
 pub fn reopen(alloc: Global, timing: &Timing, clerk: &Words<40>) -> Result<Move, DraftRefusal>
-    ensures line { FollowsLine timing.now clerk.now result (λ side. table.reopened side clerk.now) }
+    ensures line { FollowsLine Reach.Row timing.now clerk.now result
+        (λ side. table.reopened side clerk.now) }
     ensures refuses { RefusesFirst (table.refused_by timing.now.holder Stage.Done DraftRefusal.NotDone clerk.now) Never result }
-    ensures bounds { IfOk result (λ move. move.changes.items ≡ []) }
+    ensures bounds { IfOk result (λ move. move.changes ≡ []) }
 {
     let wrong = DraftRefusal::NotDone;
     if let Some(refusal) = refused_by(&timing.holder, Stage::Done, wrong, clerk) {
@@ -156,9 +172,11 @@ pub fn reopen(alloc: Global, timing: &Timing, clerk: &Words<40>) -> Result<Move,
 ///
 /// `NotTransaction` in state Normal.
 pub fn abandon(alloc: Global, timing: &Timing, _clerk: &Words<40>) -> Result<Move, DraftRefusal>
-    ensures line { FollowsLine timing.now _clerk.now result table.abandoned }
+    ensures line { FollowsLine Reach.Drafts timing.now _clerk.now result table.abandoned }
     ensures refuses { RefusesFirst (table.refused_if_free timing.now.holder) IsMemory result }
-    ensures bounds { IfOk result (λ move. (timing_writes move.changes.items ≡ 0) × (draft_writes move.changes.items ≤ length timing.now.delta)) }
+    ensures drafts { IfOk result (λ move. drafted_in move.changes ≡ []) }
+    ensures bounds { IfOk result (λ move. (timing_writes move.changes ≡ 0)
+        × (draft_writes move.changes ≤ length timing.now.delta)) }
 {
     if timing.holder.is_none() {
         return Err(DraftRefusal::NotTransaction);

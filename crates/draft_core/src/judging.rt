@@ -4,7 +4,7 @@ ghost use Rattle.std.specs.Prelude.{◌≡◌, [], IfOk};
 ghost use Rattle.signal_rules.specs.Violations.{violations_of};
 ghost use Rattle.draft_core.specs.Transaction as table;
 ghost use Rattle.draft_core.specs.Transaction.{TimingSide};
-ghost use Rattle.draft_core.specs.DraftRows.{TimingStands};
+ghost use Rattle.draft_core.specs.DraftRows.{RowsByKey, Stands};
 ghost use Rattle.draft_core.specs.Writes as writes;
 ghost use Rattle.draft_core.specs.declared.state.Stage.TheVariants as stage;
 
@@ -12,7 +12,7 @@ use crate::overlaying::violations_after;
 use crate::refusal::DraftRefusal;
 use crate::revision::Revision;
 use crate::state::{Holder, Stage, Verdict};
-use crate::timing::Timing;
+use crate::timing::{Reach, Timing};
 use signal_records::NoMemory;
 use signal_rules::Violation;
 use std::alloc::Global;
@@ -20,7 +20,9 @@ use std::alloc::Global;
 /// The verdict on the draft of an intersection whose committed set breaks no rule. It is read
 /// from the draft each time, and never kept; a draft that was not checked is not judged.
 pub fn verdict(alloc: Global, timing: &Timing) -> Result<Verdict, NoMemory>
-    ensures { (side : TimingSide) → TimingStands timing.now side → violations_of side.committed ≡ [] → IfOk result (λ verdict. verdict ≡ table.verdict_of side.draft) }
+    ensures { (rows : RowsByKey) (side : TimingSide) → Stands Reach.Plan timing.now rows side →
+        violations_of side.committed ≡ [] →
+        IfOk result (λ verdict. verdict ≡ table.verdict_of side.draft) }
 {
     match &timing.holder {
         None => return Ok(Verdict::NotDone),

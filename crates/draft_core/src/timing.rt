@@ -4,6 +4,7 @@ use crate::changes::Changes;
 use crate::revision::Revision;
 use crate::state::{DbState, Holder, Verdict};
 use signal_records::{Change, Key, TimingSet};
+use std::marker::Model;
 
 /// The timing side of an intersection, as it is kept: the draft as its changed rows.
 #[derive(Drop)]
@@ -18,6 +19,17 @@ pub struct Timing {
     pub delta: Changes,
 }
 
+/// How much of a timing side a step of the transaction reads. The rest may be left out.
+#[derive(Clone, Copy, PartialEq, Eq)]
+pub enum Reach {
+    /// The revision and the holder, which stand in the intersection's own row.
+    Row,
+    /// The draft rows too.
+    Drafts,
+    /// The draft rows and the committed set too.
+    Plan,
+}
+
 /// A row that a decision changes.
 #[derive(Drop)]
 pub enum TimingChange {
@@ -29,6 +41,40 @@ pub enum TimingChange {
     DraftGone(Key),
 }
 
+/// Rows that a decision changes, in their order. They are seen as a list.
+#[derive(Drop)]
+pub struct TimingChanges {
+    list: Vec<TimingChange>,
+}
+
+impl Model for TimingChanges {
+    ghost use Rattle.std.specs.Prelude.{List};
+    ghost use Rattle.draft_core.specs.declared.timing.TimingChange.{TimingChange};
+
+    ghost Value = { List TimingChange };
+
+    ghost view = { λ c. c.list.items };
+}
+
+impl TimingChanges {
+    ghost use Rattle.std.specs.Prelude.{◌≡◌};
+
+    /// The changes of a list.
+    pub fn new(list: Vec<TimingChange>) -> TimingChanges
+        ensures { result ≡ list.items }
+    {
+        TimingChanges { list }
+    }
+
+    /// The list of them, without memory.
+    pub fn into_vec(self) -> Vec<TimingChange>
+        ensures { result.items ≡ self }
+    {
+        let TimingChanges { list } = self;
+        list
+    }
+}
+
 /// A step of the transaction.
 #[derive(Drop)]
 pub struct Move {
@@ -36,5 +82,5 @@ pub struct Move {
     pub state: DbState,
     pub verdict: Verdict,
     /// The rows to be changed, in their order.
-    pub changes: Vec<TimingChange>,
+    pub changes: TimingChanges,
 }

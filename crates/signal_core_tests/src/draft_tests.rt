@@ -80,7 +80,7 @@ fn edited(alloc: Global, clerk: &str, stage: Option<Stage>) -> Result<Outcome, F
 fn leads(outcome: Outcome, to: (u32, DbState, Verdict)) -> Option<Vec<TimingChange>> {
     let step = outcome.ok()?;
     if (step.revision.get(), step.state, step.verdict) == to {
-        return Some(step.changes);
+        return Some(step.changes.into_vec());
     }
     None
 }

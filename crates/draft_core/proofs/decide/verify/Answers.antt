@@ -5,5 +5,8 @@ use Rattle.draft_core.proofs.Makes.{stays_makes}
 use Rattle.draft_core.proofs.decide.verify.Goals as goal
 
 pub returns-clause-line : goal.returns-clause-line
-returns-clause-line c = λ side stands. owned_moves _ side _ _ _ _ _ stands (sym c.in_default.ensures) (λ draft held.
-    stays_makes _ side draft (record draft { stage = Verify }) c.args.clerk.now _ stands held refl refl c.stays.ensures.revision c.stays.ensures.state c.stays.ensures.verdict c.stays.ensures.changes)
+returns-clause-line c = λ rows side stands. owned_moves stands _ _ _ _ _ (sym c.in_default.ensures)
+    (λ draft held.
+    stays_makes stands draft (record draft { stage = Verify }) c.args.clerk.now _ held refl refl
+        c.stays.ensures.revision c.stays.ensures.state c.stays.ensures.verdict
+        c.stays.ensures.changes)

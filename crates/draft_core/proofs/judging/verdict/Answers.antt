@@ -8,7 +8,10 @@ use Rattle.draft_core.proofs.Overlaid.{draft_violations}
 use Rattle.draft_core.proofs.judging.verdict.Goals as goal
 
 pub returns-in-Done : goal.returns-in-Done
-returns-in-Done c = λ side stands sound. held_by _ side c.in-Some.holder (λ d. c.verdict_on.result ≡ verdict_of d) stands c.in-Some.is (λ draft held same.
+returns-in-Done c = λ rows side stands sound. held_by stands c.in-Some.holder
+    (λ d. c.verdict_on.result ≡ verdict_of d) c.in-Some.is (λ draft held same.
     c.verdict_on.ensures
-    ∙ ap (verdict_on Done) (c.as_slice-in-Done.ensures.value ∙ draft_violations _ side draft _ _ stands held sound c.as_slice.ensures c.in_ok-found-in-Done.ensures)
+    ∙ ap (verdict_on Done) (c.as_slice-in-Done.ensures.value
+        ∙ draft_violations stands draft held _ _ sound c.as_slice.ensures.list
+        c.in_ok-found-in-Done.ensures)
     ∙ sym (ap (λ stage. verdict_on stage (violations_of draft.set)) (ap (λ (h : Holder). h.stage) same ∙ c.in-Done.is)))

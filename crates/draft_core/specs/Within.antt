@@ -1,0 +1,9 @@
+-- Changes within their limits.
+use Rattle.std.specs.Prelude.{List}
+use Rattle.std.specs.List.{AllByRecursion}
+use Rattle.signal_records.specs.Within.{IsChangeWithin, current_limits}
+use Rattle.signal_records.specs.declared.record.Change.{Change}
+
+-- each change is within its limits
+abbrev pub AreChangesWithin : List Change → Type 0
+AreChangesWithin = AllByRecursion (IsChangeWithin current_limits)
