@@ -23,15 +23,15 @@ module _ {reach : Reach} {timing : Timing} {rows : RowsByKey} {side : TimingSide
       → Result TimingSide DraftRefusal) (move : Move)
       → refused_by timing.holder stage wrong clerk ≡ None
       → ((draft : Draft) → side.draft ≡ Some draft
-          → Follows rows side clerk (Ok move) (step draft))
+      → Follows rows side clerk (Ok move) (step draft))
       → Follows rows side clerk (Ok move) (owned side stage wrong clerk step)
   owned_moves stage wrong clerk step move is goes =
       let passed : refused_by (option_map holder_of side.draft) stage wrong clerk ≡ None =
-          ap (λ h. refused_by h stage wrong clerk) (sym stands.same_holder) ∙ is in
+      ap (λ h. refused_by h stage wrong clerk) (sym stands.same_holder) ∙ is in
       subst (λ r. Follows rows side clerk (Ok move) (unless r side.draft wrong step)) (sym passed)
       (elim side.draft as (λ d. refused_by (option_map holder_of d) stage wrong clerk ≡ None
-          → ((draft : Draft) → d ≡ Some draft → Follows rows side clerk (Ok move) (step draft))
-          → Follows rows side clerk (Ok move) (unless None d wrong step)) [
+      → ((draft : Draft) → d ≡ Some draft → Follows rows side clerk (Ok move) (step draft))
+      → Follows rows side clerk (Ok move) (unless None d wrong step)) [
         | None ↦ λ p goes. absurd (let q : Some wrong ≡ None = p in cc)
         | Some draft ↦ λ p goes. goes draft refl
       ] passed goes)
@@ -39,10 +39,10 @@ module _ {reach : Reach} {timing : Timing} {rows : RowsByKey} {side : TimingSide
   -- somebody holds the draft
   pub held_by : (holder : Holder) (P : Option Draft → Type 0) → timing.holder ≡ Some holder
       → ((draft : Draft) → side.draft ≡ Some draft → holder_of draft ≡ holder → P (Some draft))
-          → P side.draft
+      → P side.draft
   held_by holder P is goes =
       elim side.draft as (λ d. option_map holder_of d ≡ Some holder
-          → ((draft : Draft) → d ≡ Some draft → holder_of draft ≡ holder → P (Some draft)) → P d) [
+      → ((draft : Draft) → d ≡ Some draft → holder_of draft ≡ holder → P (Some draft)) → P d) [
         | None ↦ λ e goes. absurd (let f : None ≡ Some holder = e in cc)
         | Some draft ↦ λ e goes. goes draft refl (let f : Some (holder_of draft) ≡ Some holder =
             e in cc)
@@ -53,7 +53,7 @@ module _ {reach : Reach} {timing : Timing} {rows : RowsByKey} {side : TimingSide
       → ((draft : Draft) → side.draft ≡ Some draft → P (Some draft)) → P side.draft
   held P is goes =
       elim side.draft as (λ d. is_some (option_map holder_of d) ≡ true
-          → ((draft : Draft) → d ≡ Some draft → P (Some draft)) → P d) [
+      → ((draft : Draft) → d ≡ Some draft → P (Some draft)) → P d) [
         | None ↦ λ e goes. absurd (let f : false ≡ true = e in cc)
         | Some draft ↦ λ e goes. goes draft refl
       ] (ap is_some (sym stands.same_holder) ∙ is) goes
@@ -75,20 +75,27 @@ nobody (Some holder) e = absurd (let f : true ≡ false = e in cc)
 pub commit_follows : (rows : RowsByKey) (side : TimingSide) (draft : Draft) (clerk : List ℕ)
     (move : Move) (revision : ℕ) (violations : List Violation)
     → Ok revision ≡ next_revision side.revision violations
-        → Makes rows side clerk move (record { revision = revision; committed = draft.set; draft =
-        None })
+    → Makes rows side clerk move (record {
+      revision = revision;
+      committed = draft.set;
+      draft =
+          None;
+    })
     → Follows rows side clerk (Ok move) (committed_with side draft violations)
 commit_follows rows side draft clerk move revision (v ∷ vs) e makes =
     absurd (let f : Ok revision ≡ next_revision side.revision (v ∷ vs) = e in cc)
 commit_follows rows side draft clerk move revision [] e makes =
     elim (side.revision == LAST_REVISION) as (λ b. Ok revision
-        ≡ cond b (Err RevisionFull) (Ok (side.revision + 1))
-        → Follows rows side clerk (Ok move) (cond b (Err RevisionFull)
-        (Ok (record { revision = side.revision + 1; committed = draft.set; draft = None })))) [
+    ≡ cond b (Err RevisionFull) (Ok (side.revision + 1))
+    → Follows rows side clerk (Ok move) (cond b (Err RevisionFull)
+    (Ok (record { revision = side.revision + 1; committed = draft.set; draft = None })))) [
       | true ↦ λ f. absurd (let g : Ok revision ≡ Err RevisionFull = f in cc)
       | false ↦ λ f. let same : revision ≡ side.revision + 1 = cc in
-          subst (λ n. Makes rows side clerk move (record { revision = n; committed = draft.set;
-          draft = None })) same makes
+          subst (λ n. Makes rows side clerk move (record {
+            revision = n;
+            committed = draft.set;
+            draft = None;
+          })) same makes
     ] e
 
 -- where there is no next revision, the line refuses for the same reason

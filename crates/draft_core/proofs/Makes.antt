@@ -29,7 +29,7 @@ next_holder-in_stage holder clerk Done = refl
 keeps_owner : (side : TimingSide) (draft next : Draft) (clerk : List ℕ) (move : Move)
     → side.draft ≡ Some draft → next.owner ≡ draft.owner → move.state ≡ state_of (Some next)
     → next_holder (option_map holder_of side.draft) clerk move.state
-        ≡ option_map holder_of (Some next)
+    ≡ option_map holder_of (Some next)
 keeps_owner side draft next clerk move held owner state =
     ap (λ d. next_holder (option_map holder_of d) clerk move.state) held
     ∙ ap (next_holder (Some (holder_of draft)) clerk) state
@@ -42,7 +42,7 @@ module _ {reach : Reach} {timing : Timing} {rows : RowsByKey} {side : TimingSide
   pub stays_makes : (draft next : Draft) (clerk : List ℕ) (move : Move)
       → side.draft ≡ Some draft → next.set ≡ draft.set → next.owner ≡ draft.owner
       → move.revision ≡ timing.revision → move.state ≡ state_of (Some next)
-          → move.verdict ≡ verdict_of (Some next) → move.changes ≡ []
+      → move.verdict ≡ verdict_of (Some next) → move.changes ≡ []
       → Makes rows side clerk move (with_draft side next)
   stays_makes draft next clerk move held same_set owner revision state verdict made = record {
     same_revision = revision ∙ stands.same_revision;
@@ -52,14 +52,14 @@ module _ {reach : Reach} {timing : Timing} {rows : RowsByKey} {side : TimingSide
     committed = λ key. sym (ap (λ list. committed_after list key (get side.committed key)) made);
     draft = λ key. ap (λ set. get set key) same_set ∙ draft_row stands draft held key
         ∙ sym (ap (λ list. overlaid (get side.committed key) (row_after list key (rows key)))
-            made);
+        made);
   }
 
   pub begin_makes : (clerk : List ℕ) (move : Move) → side.draft ≡ None
       → move.revision ≡ timing.revision → move.state ≡ InTransaction → move.verdict ≡ NotJudged
-          → move.changes ≡ []
+      → move.changes ≡ []
       → Makes rows side clerk move (with_draft side
-          (record { stage = Transaction; owner = clerk; set = side.committed }))
+      (record { stage = Transaction; owner = clerk; set = side.committed }))
   begin_makes clerk move no_draft revision state verdict made = record {
     same_revision = revision ∙ stands.same_revision;
     same_state = state;
@@ -70,28 +70,31 @@ module _ {reach : Reach} {timing : Timing} {rows : RowsByKey} {side : TimingSide
     draft = λ key. sym (ap (λ list. overlaid (get side.committed key)
         (row_after list key (rows key))) made
         ∙ ap (overlaid (get side.committed key)) (subst
-            (λ d. RowStands (get side.committed key) (rows key) d key) no_draft
-            (stands.draft key)));
+        (λ d. RowStands (get side.committed key) (rows key) d key) no_draft
+        (stands.draft key)));
   }
 
   pub edit_makes : (draft : Draft) (clerk : List ℕ) (move : Move) (changes : List Change)
       → side.draft ≡ Some draft
       → move.revision ≡ timing.revision → move.state ≡ InTransaction → move.verdict ≡ NotJudged
-          → move.changes ≡ drafting changes
+      → move.changes ≡ drafting changes
       → Makes rows side clerk move (with_draft side
-          (record draft { stage = Transaction; set = after_changes draft.set changes }))
+      (record draft { stage = Transaction; set = after_changes draft.set changes }))
   edit_makes draft clerk move changes held revision state verdict made = record {
     same_revision = revision ∙ stands.same_revision;
     same_state = state;
     same_verdict = verdict;
-    same_holder = keeps_owner side draft (record draft { stage = Transaction; set =
-        after_changes draft.set changes }) clerk move held refl state;
+    same_holder = keeps_owner side draft (record draft {
+      stage = Transaction;
+      set =
+          after_changes draft.set changes;
+    }) clerk move held refl state;
     committed = λ key. sym (ap (λ list. committed_after list key (get side.committed key)) made
         ∙ committed_after-drafting changes key _);
     draft = λ key. get-after_changes changes draft.set key
         ∙ ap (λ o. overlaid o (row_at changes key)) (draft_row stands draft held key)
         ∙ sym (ap (λ list. overlaid (get side.committed key) (row_after list key (rows key))) made
-            ∙ row_after-drafting changes key (get side.committed key) (rows key));
+        ∙ row_after-drafting changes key (get side.committed key) (rows key));
   }
 
   -- where the draft rows were read, none is left
@@ -99,9 +102,13 @@ module _ {reach : Reach} {timing : Timing} {rows : RowsByKey} {side : TimingSide
     pub commit_makes : (draft : Draft) (clerk : List ℕ) (move : Move) (revision : ℕ)
         → side.draft ≡ Some draft
         → move.revision ≡ revision → move.state ≡ Normal → move.verdict ≡ NotJudged
-            → move.changes ≡ settling timing.delta
-        → Makes rows side clerk move (record { revision = revision; committed = draft.set; draft =
-            None })
+        → move.changes ≡ settling timing.delta
+        → Makes rows side clerk move (record {
+          revision = revision;
+          committed = draft.set;
+          draft =
+              None;
+        })
     commit_makes draft clerk move revision held is state verdict made = record {
       same_revision = is;
       same_state = state;
@@ -110,14 +117,14 @@ module _ {reach : Reach} {timing : Timing} {rows : RowsByKey} {side : TimingSide
       committed = λ key. draft_row stands draft held key
           ∙ ap (overlaid (get side.committed key)) (sym (read key))
           ∙ sym (ap (λ list. committed_after list key (get side.committed key)) made
-              ∙ committed_after-settling timing.delta key _);
+          ∙ committed_after-settling timing.delta key _);
       draft = λ key. ap (λ list. row_after list key (rows key)) made
           ∙ row_after-settling timing.delta key _ (λ e. sym (read key) ∙ e);
     }
 
     pub abandon_makes : (clerk : List ℕ) (move : Move)
         → move.revision ≡ timing.revision → move.state ≡ Normal → move.verdict ≡ NotJudged
-            → move.changes ≡ dropping timing.delta
+        → move.changes ≡ dropping timing.delta
         → Makes rows side clerk move (record side { draft = None })
     abandon_makes clerk move revision state verdict made = record {
       same_revision = revision ∙ stands.same_revision;

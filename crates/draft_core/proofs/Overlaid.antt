@@ -47,7 +47,7 @@ get-after_changes (change ∷ changes) set key =
 pub draft_row : {reach : Reach} {timing : Timing} {rows : RowsByKey} {side : TimingSide}
     → Stands reach timing rows side
     → (draft : Draft) → side.draft ≡ Some draft → (key : Key)
-        → get draft.set key ≡ overlaid (get side.committed key) (rows key)
+    → get draft.set key ≡ overlaid (get side.committed key) (rows key)
 draft_row {rows = rows} {side = side} stands draft held key =
     subst (λ d. RowStands (get side.committed key) (rows key) d key) held (stands.draft key)
 
@@ -67,8 +67,8 @@ module _ {timing : Timing} {rows : RowsByKey} {side : TimingSide}
   pub draft_violations : (found : List Violation) (changes : List Change)
       → violations_of side.committed ≡ [] → changes ≡ timing.delta
       → (violations_of timing.committed ≡ [] → found
-          ≡ violations_of (after_changes timing.committed changes))
-          → found ≡ violations_of draft.set
+      ≡ violations_of (after_changes timing.committed changes))
+      → found ≡ violations_of draft.set
   draft_violations found changes sound same finds =
       finds (ap violations_of stands.read.1 ∙ sound)
       ∙ ap (λ list. violations_of (after_changes timing.committed list)) same

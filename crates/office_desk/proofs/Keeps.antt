@@ -16,6 +16,7 @@ use Rattle.signal_records.specs.declared.record.Change.{Change}
 use Rattle.signal_records.specs.declared.record.Change.TheVariants.{Put, Remove}
 use Rattle.signal_rules.specs.Violations.{violations_of}
 use Rattle.draft_core.specs.Transaction.{TimingSide, Draft, with_draft, begun_from, edited, verified, checked, committed, reopened, abandoned_from}
+use Rattle.draft_core.specs.Within.{AreChangesWithin}
 use Rattle.draft_core.specs.declared.revision.TheConstants.{LAST_REVISION}
 use Rattle.draft_core.specs.declared.refusal.DraftRefusal.{DraftRefusal}
 use Rattle.draft_core.specs.declared.refusal.DraftRefusal.TheVariants.{NotNormal, NotTransaction, NotVerify, NotDone}
@@ -23,7 +24,6 @@ use Rattle.draft_core.specs.declared.state.Stage.TheVariants.{Transaction, Verif
 use Rattle.draft_core.proofs.Sound.{owned_inverts, committed_inverts}
 use Rattle.office_tables_shelf.proofs.CellLemmas.{tied}
 use Rattle.office_desk.specs.Office.{Intersection, IsSoundIntersection, IsSoundDraft, AreRecords}
-use Rattle.office_desk.specs.Reading.{AreChangesWithin}
 use Rattle.office_desk.specs.Transacting.{line_of, IsAskWithin}
 use Rattle.office_desk.specs.declared.transacting.Ask.{Ask}
 use Rattle.office_desk.specs.declared.transacting.Ask.TheVariants.{Begin, Edit, Verify as AskVerify, Check, Commit, Reopen, Abandon}

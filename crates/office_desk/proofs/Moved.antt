@@ -13,11 +13,13 @@ use Rattle.signal_records.specs.declared.key.Key.{Key}
 use Rattle.signal_records.specs.declared.record.Row.{Row}
 use Rattle.signal_records.specs.declared.record.Change.{Change}
 use Rattle.signal_records.specs.declared.record.Change.TheVariants.{Put, Remove}
-use Rattle.signal_records.specs.TimingSet as set
-use Rattle.draft_core.specs.DraftRows.{row_at, said_at, overlaid, changed_key, left_by}
-use Rattle.draft_core.specs.Moves.{Makes, committed_after, row_after}
+use Rattle.signal_records.specs.Within.{IsChangeWithin, current_limits}
+use Rattle.draft_core.specs.DraftRows.{RowsByKey, said_at, overlaid, changed_key, left_by}
+use Rattle.draft_core.specs.Moves.{Makes, committed_after, drafted_in, next_holder, row_after}
 use Rattle.draft_core.specs.Transaction.{TimingSide}
+use Rattle.draft_core.specs.Within.{AreChangesWithin}
 use Rattle.draft_core.specs.declared.timing.Move.{Move}
+use Rattle.draft_core.specs.declared.timing.Reach.{Reach}
 use Rattle.draft_core.specs.declared.timing.TimingChange.{TimingChange}
 use Rattle.draft_core.specs.declared.timing.TimingChange.TheVariants.{Committed, Drafted, DraftGone}
 use Rattle.office_tables_shelf.specs.Cells.{Cell, Rows, cells_cmp}
@@ -27,16 +29,16 @@ use Rattle.office_tables_shelf.specs.Rows.{intersection_key, intersection_column
 use Rattle.office_tables_shelf.specs.declared.rows.IntersectionRow.{IntersectionRow}
 use Rattle.office_tables_shelf.specs.declared.rows.RowChange.TheVariants.{PutIntersection}
 use Rattle.office_tables_shelf.proofs.CellLemmas.{cells_total, cells_exact, tied}
-use Rattle.office_tables_shelf.proofs.KeyLemmas.{timing_key_tells, get_listed_draft}
+use Rattle.office_tables_shelf.proofs.KeyLemmas.{timing_key_tells}
 use Rattle.office_tables_shelf.proofs.TreeLemmas.{timing_ties}
 use Rattle.office_desk.specs.declared.reading.Found.{Found}
-use Rattle.office_desk.specs.Moving.{row_change_of, row_changes_of, moved_row, IsDraftedWithin, AreDraftedWithin}
-use Rattle.office_desk.specs.Office.{Office, Intersection, side_at, side_of}
-use Rattle.office_desk.specs.Reading.{FoundStands}
+use Rattle.office_desk.specs.Moving.{row_change_of, row_changes_of, moved_row}
+use Rattle.office_desk.specs.Office.{Office, Intersection, side_of}
+use Rattle.office_desk.specs.Reading.{FoundStands, drafts_at}
 use Rattle.office_desk.specs.StandFor.{StandFor, HasTimingKeys, IsLeft, row_of}
 use Rattle.office_desk.specs.Step.{with_intersection}
 use Rattle.office_desk.proofs.KeptRegister.{KeepsRegister, kept_twice}
-use Rattle.office_desk.proofs.ReadBack.{left_at, left_within}
+use Rattle.office_desk.proofs.ReadBack.{left_at}
 use Rattle.office_desk.proofs.Stands.{stand_after}
 
 -- ---- what a table has under the keys of an intersection after one change
@@ -178,7 +180,8 @@ draft_after id (DraftGone k ∷ changes) tables key row e =
     draft_after id changes (changed tables (row_change_of id (DraftGone k))) key (cond (eq_by_cmp key_cmp key k) None row)
     (get-gone tables.draft id k key ∙ ap (cond (eq_by_cmp key_cmp key k) None) e ∙ gone_draft (eq_by_cmp key_cmp key k) row)
 
-drafted_left : (change : Change) (key : Key) (row : Option (Option Row)) → IsDraftedWithin (Drafted change) → IfSome row (IsLeft key)
+drafted_left : (change : Change) (key : Key) (row : Option (Option Row))
+    → IsChangeWithin current_limits change → IfSome row (IsLeft key)
     → IfSome (cond (eq_by_cmp key_cmp key (changed_key change)) (Some (left_by change)) row) (IsLeft key)
 drafted_left change key row within left =
     elim (eq_by_cmp key_cmp key (changed_key change)) as (λ b. eq_by_cmp key_cmp key (changed_key change) ≡ b → IfSome (cond b (Some (left_by change)) row) (IsLeft key)) [
@@ -190,43 +193,63 @@ gone_left : (b : Bool) (key : Key) (row : Option (Option Row)) → IfSome row (I
 gone_left true key row left = tt
 gone_left false key row left = left
 
-left_after : (changes : List TimingChange) (key : Key) (row : Option (Option Row)) → AreDraftedWithin changes → IfSome row (IsLeft key) → IfSome (row_after changes key row) (IsLeft key)
+left_after : (changes : List TimingChange) (key : Key) (row : Option (Option Row))
+    → AreChangesWithin (drafted_in changes) → IfSome row (IsLeft key)
+    → IfSome (row_after changes key row) (IsLeft key)
 left_after [] key row within left = left
-left_after (Committed change ∷ changes) key row within left = left_after changes key row within.1 left
+left_after (Committed change ∷ changes) key row within left =
+    left_after changes key row within left
 left_after (Drafted change ∷ changes) key row within left = left_after changes key _ within.1 (drafted_left change key row within.0 left)
-left_after (DraftGone k ∷ changes) key row within left = left_after changes key _ within.1 (gone_left (eq_by_cmp key_cmp key k) key row left)
+left_after (DraftGone k ∷ changes) key row within left =
+    left_after changes key _ within (gone_left (eq_by_cmp key_cmp key k) key row left)
 
 -- ---- the tables after a move
 
 abbrev pub with_timing_side : Intersection → TimingSide → Intersection
 with_timing_side i next = record i { timing = next }
 
-row_is : (tables : Content) (id : ℕ) (i : Intersection) (found : Found) (clerk : List ℕ) (move : Move) (next : TimingSide) → FoundStands tables id i found → Makes found.timing clerk move next
+row_is : {reach : Reach} {rows : RowsByKey} (i : Intersection) (found : Found) (clerk : List ℕ)
+    (move : Move) (next : TimingSide) → FoundStands reach rows i found
+    → Makes rows i.timing clerk move next
     → moved_row found clerk move ≡ row_of (with_timing_side i next)
-row_is tables id i found clerk move next stands makes =
-    λ k. record { name = stands.same_name k; interval = stands.same_interval k; revision = makes.same_revision k; holder = makes.same_holder k }
+row_is i found clerk move next stands makes = λ k. record {
+  name = stands.same_name k;
+  interval = stands.same_interval k;
+  revision = makes.same_revision k;
+  holder = (ap (λ h. next_holder h clerk move.state) stands.timing_stands.same_holder
+      ∙ makes.same_holder) k;
+}
 
-pub move_stands : (tables : Content) (office : Office) (id : ℕ) (i : Intersection) (found : Found) (clerk : List ℕ) (move : Move) (next : TimingSide)
-    → StandFor tables office → get office.intersections id ≡ Some i → FoundStands tables id i found → AreDraftedWithin move.changes.items → Makes found.timing clerk move next
-    → StandFor (changed_by tables (PutIntersection id (moved_row found clerk move) ∷ row_changes_of id move.changes.items)) (with_intersection office id (with_timing_side i next))
+pub move_stands : {reach : Reach} (tables : Content) (office : Office) (id : ℕ) (i : Intersection)
+    (found : Found) (clerk : List ℕ) (move : Move) (next : TimingSide)
+    → (stand : StandFor tables office) → get office.intersections id ≡ Some i
+    → FoundStands reach (drafts_at stand id) i found
+    → AreChangesWithin (drafted_in move.changes)
+    → Makes (drafts_at stand id) i.timing clerk move next
+    → StandFor (changed_by tables (PutIntersection id
+    (moved_row found clerk move) ∷ row_changes_of id move.changes))
+    (with_intersection office id (with_timing_side i next))
 move_stands tables office id i found clerk move next stand there stands within makes =
     let first : Content = changed tables (PutIntersection id (moved_row found clerk move)) in
-    let changes = move.changes.items in
+    let changes = move.changes in
     let rest = all_stay id changes first in
-    let side : side_at office id ≡ i.timing = ap side_of there in
-    let timing_now : (key : Key) → get tables.timing (timing_key id key) ≡ option_map timing_columns (get found.timing.committed key) = λ key.
-    stand.timing id key ∙ ap (λ (s : TimingSide). option_map timing_columns (get s.committed key)) side
-    ∙ ap (λ (rows : set.Rows). option_map timing_columns (get rows key)) (sym stands.timing_stands.same_committed) in
+    let timing_now : (key : Key) → get tables.timing (timing_key id key)
+    ≡ option_map timing_columns (get i.timing.committed key) = λ key.
+    stand.timing id key ∙ ap (λ (o : Option Intersection). option_map timing_columns
+    (get (side_of o).committed key)) there in
     stand_after tables (changed_by first (row_changes_of id changes)) office id (with_timing_side i next) stand (record {
-      intersection = rest.intersection ∙ ap (λ (row : IntersectionRow). insert tables.intersection (intersection_key id) (intersection_columns row)) (row_is tables id i found clerk move next stands makes);
-      timing_here = λ key. timing_after id changes first key (get found.timing.committed key) (timing_now key) ∙ ap (option_map timing_columns) (sym (makes.committed key));
+      intersection = rest.intersection ∙ ap (λ (row : IntersectionRow). insert tables.intersection
+          (intersection_key id) (intersection_columns row))
+          (row_is i found clerk move next stands makes);
+      timing_here = λ key. timing_after id changes first key (get i.timing.committed key)
+          (timing_now key) ∙ ap (option_map timing_columns) (sym (makes.committed key));
       timing_elsewhere = rest.timing;
       timing_keys = rest.timing_keys stand.timing_keys;
-      draft_here = λ key. record {
-        row = row_after changes key (row_at found.timing.delta key);
-        stored = draft_after id changes first key (row_at found.timing.delta key) (get_listed_draft tables id found.timing.delta stands.listed key);
-        stands = makes.rows key;
-        within = left_after changes key (row_at found.timing.delta key) within (left_within found.timing.delta key stands.within);
+      draft_here = λ key. let held = stand.draft id key in record {
+        row = row_after changes key held.row;
+        stored = draft_after id changes first key held.row held.stored;
+        stands = makes.draft key;
+        within = left_after changes key held.row within held.within;
       };
       draft_elsewhere = rest.draft;
       draft_keys = rest.draft_keys stand.draft_keys;

@@ -12,9 +12,12 @@ use Rattle.signal_records.specs.declared.key.Key.{Key}
 use Rattle.signal_records.specs.declared.record.Row.{Row}
 use Rattle.signal_records.specs.declared.record.Change.{Change}
 use Rattle.signal_records.specs.declared.record.Change.TheVariants.{Put, Remove}
-use Rattle.draft_core.specs.DraftRows.{TimingStands, RowStands, row_at, said_at, left_by, changed_key}
+use Rattle.draft_core.specs.DraftRows.{IsRead, RowStands, row_at, said_at, left_by, changed_key}
 use Rattle.draft_core.specs.Transaction.{TimingSide}
+use Rattle.draft_core.specs.Within.{AreChangesWithin}
 use Rattle.draft_core.specs.declared.timing.Timing.{Timing}
+use Rattle.draft_core.specs.declared.timing.Reach.{Reach}
+use Rattle.draft_core.specs.declared.timing.Reach.TheVariants as reach
 use Rattle.office_tables_shelf.specs.Content.{Content}
 use Rattle.office_tables_shelf.specs.Rows.{timing_columns, left_columns}
 use Rattle.office_tables_shelf.specs.Shelf.{ReadsIntersection, ListsTiming, ListsDraft}
@@ -24,7 +27,8 @@ use Rattle.office_tables_shelf.proofs.KeyLemmas.{row_in, timing_keys_rise, get_s
 use Rattle.office_tables_shelf.proofs.RowLemmas.{timing_columns_tell, left_columns_tell}
 use Rattle.office_desk.specs.declared.reading.Found.{Found}
 use Rattle.office_desk.specs.Office.{Office, Intersection, side_at, side_of}
-use Rattle.office_desk.specs.Reading.{AreWithin, AreChangesWithin, IsMadeOf, Finds, set_of_rows}
+use Rattle.office_desk.specs.Reading.{AreWithin, IsMadeOf, Finds, ListsPlan, drafts_at}
+use Rattle.office_desk.specs.Reading.{set_of_rows}
 use Rattle.office_desk.specs.StandFor.{StandForSound, IsLeft, row_of}
 use Rattle.office_desk.proofs.Stands.{row_read, records_at}
 
@@ -107,28 +111,31 @@ drafts_tell key (Some x) (Some y) e in_a in_b =
     let same : left_columns x ≡ left_columns y = cc in
     ap (λ (left : Option Row). Some left) (left_columns_tell x y (is_within key x in_a) (is_within key y in_b) same)
 
--- ---- the timing side
+-- ---- what was read of the plan
 
-drafts_read : (tables : Content) (office : Office) (id : ℕ) (changes : List Change) → StandForSound tables office → ListsDraft tables id changes → AreChangesWithin changes
-    → (key : Key) → RowStands (get (side_at office id).committed key) (row_at changes key) (side_at office id).draft key
+drafts_read : (tables : Content) (office : Office) (id : ℕ) (changes : List Change)
+    (stands : StandForSound tables office) → ListsDraft tables id changes
+    → AreChangesWithin changes
+    → (key : Key) → row_at changes key ≡ drafts_at stands.stand id key
 drafts_read tables office id changes stands drafts within key =
     let held = stands.stand.draft id key in
-    let same : held.row ≡ row_at changes key = drafts_tell key held.row (row_at changes key) (sym held.stored ∙ get_listed_draft tables id changes drafts key) held.within (left_within changes key within) in
-    subst (λ row. RowStands (get (side_at office id).committed key) row (side_at office id).draft key) same held.stands
+    drafts_tell key (row_at changes key) held.row (sym
+    (get_listed_draft tables id changes drafts key) ∙ held.stored)
+    (left_within changes key within) held.within
 
--- what was read of an intersection stands for its timing side
-pub timing_read : (tables : Content) (office : Office) (id : ℕ) (row : IntersectionRow) (i : Intersection) (rows : List Row) (changes : List Change)
-    → StandForSound tables office → get office.intersections id ≡ Some i → row ≡ row_of i
-    → ListsTiming tables id rows → AreWithin rows → ListsDraft tables id changes → AreChangesWithin changes
-    → TimingStands (record { revision = row.revision; holder = row.holder; committed = set_of_rows rows; delta = changes }) i.timing
-timing_read tables office id row i rows changes stands there is lists rows_in drafts changes_in =
-    let side : side_at office id ≡ i.timing = ap side_of there in
-    record {
-      same_revision = ap (λ (r : IntersectionRow). r.revision) is;
-      same_committed = committed_read tables office id rows stands lists rows_in ∙ ap (λ (s : TimingSide). s.committed) side;
-      same_holder = ap (λ (r : IntersectionRow). r.holder) is;
-      rows = λ key. subst (λ (s : TimingSide). RowStands (get s.committed key) (row_at changes key) s.draft key) side (drafts_read tables office id changes stands drafts changes_in key);
-    }
+plan_read : (reach : Reach) (tables : Content) (office : Office) (id : ℕ) (rows : List Row)
+    (timing : Timing) (stands : StandForSound tables office)
+    → ListsPlan reach tables id rows timing.delta → AreWithin rows → AreChangesWithin timing.delta
+    → timing.committed ≡ set_of_rows rows
+    → IsRead reach timing (drafts_at stands.stand id) (side_at office id)
+plan_read reach.Row tables office id rows timing stands lists rows_in changes_in made = tt
+plan_read reach.Drafts tables office id rows timing stands lists rows_in changes_in made =
+    drafts_read tables office id timing.delta stands lists changes_in
+plan_read reach.Plan tables office id rows timing stands lists rows_in changes_in made = (
+  drafts_read tables office id timing.delta stands lists.1 changes_in,
+  made
+      ∙ committed_read tables office id rows stands lists.0 rows_in,
+)
 
 -- ---- what was found
 
@@ -139,28 +146,40 @@ not_there (Some i) e = cc
 pub none_found : (tables : Content) (office : Office) (id : ℕ) → StandForSound tables office → ReadsIntersection tables id None → get office.intersections id ≡ None
 none_found tables office id stands reads = not_there _ (row_read tables office id None stands.stand reads)
 
-pub finds_none : (tables : Content) (office : Office) (id : ℕ) → StandForSound tables office → ReadsIntersection tables id None → Finds tables id (get office.intersections id) None
-finds_none tables office id stands reads = subst (λ o. Finds tables id o None) (sym (none_found tables office id stands reads)) tt
+pub finds_none : (reach : Reach) (tables : Content) (office : Office) (id : ℕ)
+    (stands : StandForSound tables office) → ReadsIntersection tables id None
+    → Finds reach (drafts_at stands.stand id) (get office.intersections id) None
+finds_none reach tables office id stands reads = subst
+    (λ o. Finds reach (drafts_at stands.stand id) o None)
+    (sym (none_found tables office id stands reads)) tt
 
-same_timing : (row : IntersectionRow) (rows : List Row) (changes : List Change) (found : Found) → IsMadeOf row rows changes found
-    → (let timing : Timing = record { revision = row.revision; holder = row.holder; committed = set_of_rows rows; delta = changes } in timing) ≡ found.timing
-same_timing row rows changes found made =
-    λ k. record { revision = sym made.same_revision k; holder = sym made.same_holder k; committed = sym made.same_committed k; delta = sym made.same_delta k }
-
-pub finds_some : (tables : Content) (office : Office) (id : ℕ) (row : IntersectionRow) (rows : List Row) (changes : List Change) (found : Found)
-    → StandForSound tables office → ReadsIntersection tables id (Some row) → ListsTiming tables id rows → ListsDraft tables id changes → IsMadeOf row rows changes found
-    → Finds tables id (get office.intersections id) (Some found)
-finds_some tables office id row rows changes found stands reads lists drafts made =
-    elim (get office.intersections id) as (λ o. get office.intersections id ≡ o → Some row ≡ option_map row_of o → Finds tables id o (Some found)) [
+pub finds_some : (reach : Reach) (tables : Content) (office : Office) (id : ℕ)
+    (row : IntersectionRow) (rows : List Row) (changes : List Change) (found : Found)
+    (stands : StandForSound tables office)
+    → ReadsIntersection tables id (Some row) → ListsPlan reach tables id rows changes
+    → IsMadeOf row rows changes found
+    → Finds reach (drafts_at stands.stand id) (get office.intersections id) (Some found)
+finds_some reach tables office id row rows changes found stands reads lists made =
+    elim (get office.intersections id) as (λ o. get office.intersections id ≡ o
+    → Some row ≡ option_map row_of o → Finds reach (drafts_at stands.stand id) o (Some found)) [
       | None ↦ λ there e. absurd (let f : Some row ≡ None = e in cc)
       | Some i ↦ λ there e.
           let is : row ≡ row_of i = cc in
+          let side : side_at office id ≡ i.timing = ap side_of there in
           record {
             same_name = made.same_name ∙ ap (λ (r : IntersectionRow). r.name) is;
             same_interval = made.same_interval ∙ ap (λ (r : IntersectionRow). r.interval) is;
-            timing_stands = subst (λ (t : Timing). TimingStands t i.timing) (same_timing row rows changes found made)
-                (timing_read tables office id row i rows changes stands there is lists made.rows_within drafts made.changes_within);
-            listed = subst (ListsDraft tables id) (sym made.same_delta) drafts;
-            within = subst AreChangesWithin (sym made.same_delta) made.changes_within;
+            timing_stands = record {
+              same_revision = made.same_revision ∙ ap (λ (r : IntersectionRow). r.revision) is;
+              same_holder = made.same_holder ∙ ap (λ (r : IntersectionRow). r.holder) is;
+              draft = λ key. subst (λ (s : TimingSide). RowStands (get s.committed key)
+                  (drafts_at stands.stand id key) s.draft key) side
+                  (stands.stand.draft id key).stands;
+              read = subst (IsRead reach found.timing (drafts_at stands.stand id)) side
+                  (plan_read reach tables office id rows found.timing stands
+                  (subst (ListsPlan reach tables id rows) (sym made.same_delta) lists)
+                  made.rows_within (subst AreChangesWithin
+                  (sym made.same_delta) made.changes_within) made.same_committed);
+            };
           }
     ] refl (row_read tables office id (Some row) stands.stand reads)

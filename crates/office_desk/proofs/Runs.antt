@@ -2,6 +2,7 @@
 use Rattle.std.proofs.Common.{◌≡◌, ◌≢◌, ◌≤◌, ◌+◌, ◌⊎◌, List, [], ◌∷◌, ◌++◌, ℕ, Option, Some, None, refl, ap, sym, subst, ◌∙◌, inl, inr, length, true, arith}
 use Rattle.std.specs.Prelude.{◌==◌}
 use Rattle.std.proofs.lemmas.Bool.Decides.{nat_tests}
+use Rattle.draft_core.specs.declared.timing.Reach.TheVariants as reach
 use Rattle.office_tables_shelf.specs.Change.{changed_by}
 use Rattle.office_tables_shelf.specs.Content.{Content}
 use Rattle.office_tables_shelf.specs.Counts.{counts_after, writes_in}
@@ -56,7 +57,8 @@ reply_answers tables command reply told changes answers r e office stands =
 
 record_refuted : (tables : Content) (c : RecordCommand) (about : Option ℕ) → MeetsCabinetDamage tables c about → (office : Office) → StandForSound tables office → ⊥
 record_refuted tables c None damage office stands = undamaged_record tables office.register c (register_of tables office stands) damage
-record_refuted tables c (Some id) (inl row) office stands = no_damage tables id (inl row) office stands
+record_refuted tables c (Some id) (inl row) office stands =
+    no_damage reach.Row tables id (inl row) office stands
 record_refuted tables c (Some id) (inr (there, damage)) office stands = undamaged_record tables office.register c (register_of tables office stands) damage
 
 import_refuted : (tables : Content) (records : List RecordCommand) → MeetsImportDamage tables records → (office : Office) → StandForSound tables office → ⊥
@@ -65,21 +67,25 @@ import_refuted tables (c ∷ cs) (inl damage) office stands = record_refuted tab
 import_refuted tables (c ∷ cs) (inr damage) office stands = import_refuted tables cs damage office stands
 
 damage_refuted : (tables : Content) (command : Command) → MeetsDamage tables command → (office : Office) → StandForSound tables office → ⊥
-damage_refuted tables (command.AddIntersection id interval name) damage = no_damage tables id (inl damage)
-damage_refuted tables (command.Begin id clerk) damage = no_damage tables id damage
-damage_refuted tables (command.Edit id clerk changes) damage = no_damage tables id damage
-damage_refuted tables (command.Verify id clerk) damage = no_damage tables id damage
-damage_refuted tables (command.Check id clerk) damage = no_damage tables id damage
-damage_refuted tables (command.Commit id clerk) damage = no_damage tables id damage
-damage_refuted tables (command.Reopen id clerk) damage = no_damage tables id damage
-damage_refuted tables (command.Abandon id clerk) damage = no_damage tables id damage
-damage_refuted tables (command.State id) (inl row) = no_damage tables id (inl row)
-damage_refuted tables (command.State id) (inr judged) = no_damage tables id judged.damage
-damage_refuted tables (command.Timing id) damage = no_damage tables id damage
-damage_refuted tables (command.Draft id) damage = no_damage tables id damage
+damage_refuted tables (command.AddIntersection id interval name) damage =
+    no_damage reach.Row tables id (inl damage)
+damage_refuted tables (command.Begin id clerk) damage = no_damage reach.Row tables id damage
+damage_refuted tables (command.Edit id clerk changes) damage = no_damage reach.Row tables id damage
+damage_refuted tables (command.Verify id clerk) damage = no_damage reach.Row tables id damage
+damage_refuted tables (command.Check id clerk) damage = no_damage reach.Plan tables id damage
+damage_refuted tables (command.Commit id clerk) damage = no_damage reach.Plan tables id damage
+damage_refuted tables (command.Reopen id clerk) damage = no_damage reach.Row tables id damage
+damage_refuted tables (command.Abandon id clerk) damage = no_damage reach.Drafts tables id damage
+damage_refuted tables (command.State id) (inl row) = no_damage reach.Row tables id (inl row)
+damage_refuted tables (command.State id) (inr judged) =
+    no_damage reach.Plan tables id judged.damage
+damage_refuted tables (command.Timing id) (inl row) = no_damage reach.Row tables id (inl row)
+damage_refuted tables (command.Timing id) (inr (there, timing)) =
+    no_damage reach.Plan tables id (inr (there, inl timing))
+damage_refuted tables (command.Draft id) damage = no_damage reach.Plan tables id damage
 damage_refuted tables (command.Record c) damage = record_refuted tables c (cabinet_of c) damage
 damage_refuted tables (command.Import records) damage = import_refuted tables records damage
-damage_refuted tables (command.Cabinet id) (inl row) = no_damage tables id (inl row)
+damage_refuted tables (command.Cabinet id) (inl row) = no_damage reach.Row tables id (inl row)
 damage_refuted tables (command.Cabinet id) (inr (there, inl inspection)) =
     λ office stands. no_damaged_inspection tables office.register id
     (register_of tables office stands) inspection
@@ -89,7 +95,7 @@ damage_refuted tables (command.Cabinet id) (inr (there, inr (inl order))) =
 damage_refuted tables (command.Cabinet id) (inr (there, inr (inr used))) =
     λ office stands. no_damaged_used tables office.register id
     (register_of tables office stands) used
-damage_refuted tables (command.OpenOrders id) (inl row) = no_damage tables id (inl row)
+damage_refuted tables (command.OpenOrders id) (inl row) = no_damage reach.Row tables id (inl row)
 damage_refuted tables (command.OpenOrders id) (inr (there, order)) =
     λ office stands. no_damaged_order tables office.register id
     (register_of tables office stands) order

@@ -8,10 +8,11 @@ use Rattle.std.specs.Prelude.{IfSome}
 use Rattle.signal_rules.specs.Violations.{violations_of}
 use Rattle.signal_rules.specs.declared.violation.Violation.{Violation}
 use Rattle.draft_core.specs.Transaction.{Draft, state_of, state_of_holder, TimingSide, holder_of, verdict_on, verdict_of}
-use Rattle.draft_core.specs.DraftRows.{TimingStands}
+use Rattle.draft_core.specs.DraftRows.{RowsByKey, Stands}
 use Rattle.draft_core.proofs.Overlaid.{draft_is}
 use Rattle.draft_core.specs.declared.state.Holder.{Holder}
 use Rattle.draft_core.specs.declared.timing.Timing.{Timing}
+use Rattle.draft_core.specs.declared.timing.Reach.TheVariants as reach
 use Rattle.draft_core.specs.declared.state.Verdict.{Verdict}
 use Rattle.draft_core.specs.declared.state.Verdict.TheVariants.{NotDone}
 use Rattle.office_tables_shelf.specs.Content.{Content}
@@ -22,7 +23,8 @@ use Rattle.office_tables_shelf.specs.declared.rows.RowChange.{RowChange}
 use Rattle.office_desk.specs.Answers.{Answers}
 use Rattle.office_desk.specs.Decisions.{row_shown, IsVerdictOf, ShowsDraft}
 use Rattle.office_desk.specs.Office.{Office, Intersection, IsSoundIntersection, side_of}
-use Rattle.office_desk.specs.Reading.{AreWithin, FoundStands, Finds, FindsAny, set_of_rows}
+use Rattle.office_desk.specs.Reading.{AreWithin, FoundStands, Finds, FindsAny, drafts_at}
+use Rattle.office_desk.specs.Reading.{set_of_rows}
 use Rattle.office_desk.specs.StandFor.{StandForSound, row_of}
 use Rattle.office_desk.specs.Step.{answered, shown, state_shown, draft_shown}
 use Rattle.office_desk.specs.declared.command.Command.{Command}
@@ -123,18 +125,24 @@ verdict_unjudged tables id row holder held unjudged office i stands there is =
 -- ---- what was found
 
 -- the intersection that was found is there
-pub found_there : (tables : Content) (office : Office) (id : ℕ) (found : Found) → StandForSound tables office → FindsAny tables id (Some found)
-    → (i : Intersection) × (get office.intersections id ≡ Some i) × FoundStands tables id i found
+pub found_there : (tables : Content) (office : Office) (id : ℕ) (found : Found)
+    (stands : StandForSound tables office) → FindsAny reach.Plan tables id (Some found)
+    → (i : Intersection) × (get office.intersections id ≡ Some i)
+    × FoundStands reach.Plan (drafts_at stands.stand id) i found
 found_there tables office id found stands finds = go (get office.intersections id) refl (finds office stands)
   where
-    go : (o : Option Intersection) → get office.intersections id ≡ o → Finds tables id o (Some found) → (i : Intersection) × (get office.intersections id ≡ Some i) × FoundStands tables id i found
+    go : (o : Option Intersection) → get office.intersections id ≡ o
+        → Finds reach.Plan (drafts_at stands.stand id) o (Some found)
+        → (i : Intersection) × (get office.intersections id ≡ Some i)
+        × FoundStands reach.Plan (drafts_at stands.stand id) i found
     go None is f = absurd f
     go (Some i) is f = (i, is, f)
 
-pub found_none : (tables : Content) (office : Office) (id : ℕ) → StandForSound tables office → FindsAny tables id None → get office.intersections id ≡ None
+pub found_none : (tables : Content) (office : Office) (id : ℕ) → StandForSound tables office
+    → FindsAny reach.Plan tables id None → get office.intersections id ≡ None
 found_none tables office id stands finds = go (get office.intersections id) (finds office stands)
   where
-    go : (o : Option Intersection) → Finds tables id o None → o ≡ None
+    go : (o : Option Intersection) → Finds reach.Plan (drafts_at stands.stand id) o None → o ≡ None
     go None f = refl
     go (Some i) f = absurd f
 
@@ -142,14 +150,20 @@ pub sound_there : (tables : Content) (office : Office) (id : ℕ) (i : Intersect
 sound_there tables office id i stands is = subst (λ o. IfSome o IsSoundIntersection) is (stands.sound.intersections id)
 
 -- the verdict that draft_core reads from what was found
-pub verdict_found : (tables : Content) (id : ℕ) (row : IntersectionRow) (found : Found) (verdict : Verdict) → FindsAny tables id (Some found)
-    → ((side : TimingSide) → TimingStands found.timing side → violations_of side.committed ≡ [] → verdict ≡ verdict_of side.draft) → IsVerdictOf tables id row verdict
+pub verdict_found : (tables : Content) (id : ℕ) (row : IntersectionRow) (found : Found)
+    (verdict : Verdict) → FindsAny reach.Plan tables id (Some found)
+    → ((rows : RowsByKey) (side : TimingSide) → Stands reach.Plan found.timing rows side
+    → violations_of side.committed ≡ [] → verdict ≡ verdict_of side.draft)
+    → IsVerdictOf tables id row verdict
 verdict_found tables id row found verdict finds reads office i stands there is =
     let at = found_there tables office id found stands finds in
     let same : at.0 ≡ i = let f : Some at.0 ≡ Some i = sym at.1 ∙ there in cc in
-    subst (λ (j : Intersection). verdict ≡ verdict_of j.timing.draft) same (reads at.0.timing at.2.timing_stands (sound_there tables office id at.0 stands at.1).no_violations)
+    subst (λ (j : Intersection). verdict ≡ verdict_of j.timing.draft) same
+    (reads (drafts_at stands.stand id) at.0.timing at.2.timing_stands
+    (sound_there tables office id at.0 stands at.1).no_violations)
 
-pub no_verdict : (tables : Content) (id : ℕ) (row : IntersectionRow) (verdict : Verdict) → FindsAny tables id None → IsVerdictOf tables id row verdict
+pub no_verdict : (tables : Content) (id : ℕ) (row : IntersectionRow) (verdict : Verdict)
+    → FindsAny reach.Plan tables id None → IsVerdictOf tables id row verdict
 no_verdict tables id row verdict finds office i stands there is =
     absurd (let f : Some i ≡ None = sym there ∙ found_none tables office id stands finds in let g : Some i ≡ None = f in cc)
 
@@ -174,15 +188,19 @@ unknown_timing tables office id told changes stands reads is none =
 -- ---- Draft
 
 -- the draft is shown whole, with what it breaks
-pub draft_shows : (timing : Timing) (side : TimingSide) (holder : Holder) (rows : Rows) (violations : List Violation)
-    → TimingStands timing side → timing.holder ≡ Some holder → rows ≡ after_changes timing.committed timing.delta → violations ≡ violations_of rows
+pub draft_shows : {draft_rows : RowsByKey} (timing : Timing) (side : TimingSide) (holder : Holder)
+    (rows : Rows) (violations : List Violation)
+    → Stands reach.Plan timing draft_rows side → timing.holder ≡ Some holder
+    → rows ≡ after_changes timing.committed timing.delta → violations ≡ violations_of rows
     → reply.Draft (record { owner = holder.owner; rows = rows; violations = violations }) ≡ draft_shown side.draft
 draft_shows timing side holder rows violations stands held made judged =
     let at = held_draft side.draft holder (sym held ∙ stands.same_holder) in
-    let same : rows ≡ at.0.set = made ∙ draft_is timing side at.0 stands at.1 in
+    let same : rows ≡ at.0.set = made ∙ draft_is stands at.0 at.1 in
     (λ k. reply.Draft (record { owner = (sym at.2 k).owner; rows = same k; violations = (judged ∙ ap violations_of same) k })) ∙ sym (ap draft_shown at.1)
 
-pub no_draft_shows : (timing : Timing) (side : TimingSide) → TimingStands timing side → timing.holder ≡ None → reply.Refused (refusal.Draft draft.NotTransaction) ≡ draft_shown side.draft
+pub no_draft_shows : {draft_rows : RowsByKey} (timing : Timing) (side : TimingSide)
+    → Stands reach.Plan timing draft_rows side → timing.holder ≡ None
+    → reply.Refused (refusal.Draft draft.NotTransaction) ≡ draft_shown side.draft
 no_draft_shows timing side stands free = go side.draft (sym free ∙ stands.same_holder)
   where
     go : (d : Option Draft) → None ≡ option_map holder_of d → reply.Refused (refusal.Draft draft.NotTransaction) ≡ draft_shown d
@@ -190,13 +208,18 @@ no_draft_shows timing side stands free = go side.draft (sym free ∙ stands.same
     go (Some draft) e = absurd (let f : None ≡ Some (holder_of draft) = e in cc)
 
 pub draft_answers : (tables : Content) (office : Office) (id : ℕ) (found : Found) (told said : Reply) (changes : List RowChange)
-    → StandForSound tables office → FindsAny tables id (Some found) → ShowsDraft found said → told ≡ said → changes ≡ [] → Answers office (command.Draft id) told (changed_by tables changes)
+    → StandForSound tables office → FindsAny reach.Plan tables id (Some found)
+    → ShowsDraft found said → told ≡ said → changes ≡ []
+    → Answers office (command.Draft id) told (changed_by tables changes)
 draft_answers tables office id found told said changes stands finds shows is none =
     let at = found_there tables office id found stands finds in
     query_answers tables office (command.Draft id) (draft_shown at.0.timing.draft) told changes stands
-    (ap (λ o. (shown o (λ j. draft_shown j.timing.draft), office)) at.1) (is ∙ shows at.0.timing at.2.timing_stands) none
+    (ap (λ o. (shown o (λ j. draft_shown j.timing.draft), office)) at.1) (is
+    ∙ shows (drafts_at stands.stand id) at.0.timing at.2.timing_stands) none
 
 pub unknown_draft : (tables : Content) (office : Office) (id : ℕ) (told : Reply) (changes : List RowChange)
-    → StandForSound tables office → FindsAny tables id None → told ≡ reply.Refused refusal.UnknownIntersection → changes ≡ [] → Answers office (command.Draft id) told (changed_by tables changes)
+    → StandForSound tables office → FindsAny reach.Plan tables id None
+    → told ≡ reply.Refused refusal.UnknownIntersection → changes ≡ []
+    → Answers office (command.Draft id) told (changed_by tables changes)
 unknown_draft tables office id told changes stands finds is none =
     query_answers tables office (command.Draft id) _ told changes stands (ap (λ o. (shown o (λ j. draft_shown j.timing.draft), office)) (found_none tables office id stands finds)) is none

@@ -25,7 +25,9 @@ use Rattle.office_tables_shelf.specs.Damage.{HasDamagedIntersection, HasDamagedT
 use Rattle.office_tables_shelf.specs.Rows.{intersection_key, intersection_columns, timing_key, timing_columns, left_columns, IsIntersectionRow}
 use Rattle.office_tables_shelf.specs.Shelf.{ReadsIntersection, is_of}
 use Rattle.office_tables_shelf.specs.declared.rows.IntersectionRow.{IntersectionRow}
-use Rattle.office_desk.specs.Damage.{HasDamage}
+use Rattle.draft_core.specs.declared.timing.Reach.{Reach}
+use Rattle.draft_core.specs.declared.timing.Reach.TheVariants as reach
+use Rattle.office_desk.specs.Damage.{HasDamageIn, HasDamagedPlan}
 use Rattle.office_desk.specs.Office.{Office, Intersection, IsSound, IsSoundIntersection, IsSoundDraft, AreRecords, side_at, side_of}
 use Rattle.office_desk.specs.StandFor.{StandFor, StandForSound, DraftRowStands, HasTimingKeys, IsLeft, row_of, columns_of}
 use Rattle.office_desk.specs.Step.{with_intersection}
@@ -119,11 +121,18 @@ no_damaged_draft tables id damaged office stands =
         let same : damaged.columns ≡ left_columns (Some row) = cc in
         damaged.no_row (Put row) within.0 (here ∙ ap (timing_key id) (sym within.1)) same
 
+no_damaged_plan : (reach : Reach) (tables : Content) (id : ℕ) → HasDamagedPlan reach tables id
+    → (office : Office) → StandForSound tables office → ⊥
+no_damaged_plan reach.Row tables id damage = λ office stands. damage
+no_damaged_plan reach.Drafts tables id draft = no_damaged_draft tables id draft
+no_damaged_plan reach.Plan tables id (inl timing) = no_damaged_timing tables id timing
+no_damaged_plan reach.Plan tables id (inr draft) = no_damaged_draft tables id draft
+
 -- where the tables stand for a sound office, each row of an intersection is a record
-pub no_damage : (tables : Content) (id : ℕ) → HasDamage tables id → (office : Office) → StandForSound tables office → ⊥
-no_damage tables id (inl row) = no_damaged_row tables id row
-no_damage tables id (inr (there, inl timing)) = no_damaged_timing tables id timing
-no_damage tables id (inr (there, inr draft)) = no_damaged_draft tables id draft
+pub no_damage : (reach : Reach) (tables : Content) (id : ℕ) → HasDamageIn reach tables id
+    → (office : Office) → StandForSound tables office → ⊥
+no_damage reach tables id (inl row) = no_damaged_row tables id row
+no_damage reach tables id (inr (there, plan)) = no_damaged_plan reach tables id plan
 
 -- ---- another timing side of an intersection
 

@@ -6,9 +6,13 @@ use Rattle.std.specs.Int.{IsInRange}
 use Rattle.std.specs.Str.{bytes_eq}
 use Rattle.std.proofs.lemmas.List.{length-map}
 use Rattle.signal_records.specs.Words.{AreWords}
+use Rattle.signal_records.specs.declared.record.Change.{Change}
 use Rattle.signal_records.specs.declared.record.Change.TheVariants.{Put, Remove}
-use Rattle.draft_core.specs.Moves.{Follows, FollowsSoundLine, IsUnsettled, Makes, RefusesFirst, timing_writes, draft_writes}
+use Rattle.draft_core.specs.Moves.{Follows, FollowsSoundLine, IsUnsettled, Makes, RefusesFirst}
+use Rattle.draft_core.specs.Moves.{drafted_in, timing_writes, draft_writes}
+use Rattle.draft_core.specs.DraftRows.{RowsByKey}
 use Rattle.draft_core.specs.Transaction.{TimingSide, is_stage, refused_by}
+use Rattle.draft_core.specs.Within.{AreChangesWithin}
 use Rattle.draft_core.specs.declared.refusal.DraftRefusal.{DraftRefusal}
 use Rattle.draft_core.specs.declared.refusal.DraftRefusal.TheVariants as draft
 use Rattle.draft_core.specs.declared.state.Holder.{Holder}
@@ -31,15 +35,17 @@ use Rattle.office_desk_cabinet.specs.Registers.{IsOneOf}
 use Rattle.office_desk.specs.Answers.{Answers, AnswersAny}
 use Rattle.office_desk.specs.Changes.{IsQuery, IsRefused, most_intersection_writes, most_writes}
 use Rattle.office_tables_shelf.specs.Counts.{is_same_table, writes_in}
-use Rattle.office_desk.specs.Damage.{HasDamage, IsBarred, MeetsDamage}
+use Rattle.office_desk.specs.Damage.{HasDamageIn, IsBarred, MeetsDamage}
 use Rattle.office_desk.specs.Deciding.{Decides, IsDecision}
 use Rattle.office_desk.specs.Moving.{WritesMove, WritesDecision, moved_row, row_changes_of}
 use Rattle.office_desk.specs.Named.{RefusesBy, number_of, numbers_of}
 use Rattle.office_desk.specs.Office.{Office, Intersection, IsSoundIntersection}
-use Rattle.office_desk.specs.Reading.{FoundStands, Finds, FindsAny}
+use Rattle.office_desk.specs.Reading.{FoundStands, Finds, FindsAny, ListsFound, drafts_at}
 use Rattle.office_desk.specs.StandFor.{StandForSound}
 use Rattle.office_desk.specs.Step.{answered, transacted, moved, moved_to, refusal_of_draft, with_intersection}
-use Rattle.office_desk.specs.Transacting.{command_of, first_refusal, line_of, IsAskWithin, IsBounded, IsLater, most_committed, most_drafted}
+use Rattle.office_desk.specs.Transacting.{command_of, first_refusal, line_of, reach_of}
+use Rattle.office_desk.specs.Transacting.{IsAskWithin, IsBounded, IsLater, most_committed}
+use Rattle.office_desk.specs.Transacting.{most_drafted}
 use Rattle.office_desk.specs.declared.decided.Decided.{Decided}
 use Rattle.office_desk.specs.declared.reading.Found.{Found}
 use Rattle.office_desk.specs.declared.refusal.Refusal.TheVariants as refusal
@@ -69,17 +75,23 @@ answered_at ask office id clerk i l there line = by_line ask office id clerk ∙
 
 -- an accepted command
 accepted : (tables : Content) (office : Office) (id : ℕ) (clerk : List ℕ) (ask : Ask) (i : Intersection) (found : Found) (move : Move) (next : TimingSide) (reply : Reply) (changes : List RowChange)
-    → StandForSound tables office → get office.intersections id ≡ Some i → IsSoundIntersection i → FoundStands tables id i found → AreWords 40 clerk → IsAskWithin ask
-    → line_of ask clerk i.timing ≡ Ok next → Makes found.timing clerk move next → WritesMove id clerk found move reply changes
+    → (stands : StandForSound tables office) → get office.intersections id ≡ Some i
+    → IsSoundIntersection i → FoundStands (reach_of ask) (drafts_at stands.stand id) i found
+    → AreWords 40 clerk → IsAskWithin ask → AreChangesWithin (drafted_in move.changes)
+    → line_of ask clerk i.timing ≡ Ok next → Makes
+    (drafts_at stands.stand id) i.timing clerk move next
+    → WritesMove id clerk found move reply changes
     → Answers office (command_of id clerk ask) reply (changed_by tables changes)
-accepted tables office id clerk ask i found move next reply changes stands there sound here words within line makes writes =
+accepted tables office id clerk ask i found move next reply changes stands there sound here words
+    within drafts line makes writes =
     let told : reply ≡ moved_to next = writes.told ∙ (λ k. Moved (makes.same_revision k) (makes.same_state k) (makes.same_verdict k)) in
     let after = with_intersection office id (with_timing_side i next) in
     record {
       next = after;
       step = inr (answered_at ask office id clerk i (Ok next) there line ∙ (λ k. (sym told k, after)));
       stand = subst (λ list. StandForSound (changed_by tables list) after) (sym writes.rows) (record {
-        stand = move_stands tables office id i found clerk move next stands.stand there here writes.within makes;
+        stand = move_stands tables office id i found clerk move next stands.stand there here drafts
+            makes;
         sound = sound_with office id (with_timing_side i next) (subst (λ o. IfSome o (λ _. IsInRange 1 9999 id)) there (stands.sound.numbers id)) stands.sound (sound_intersection i next sound (line_keeps ask clerk i.timing next words within (side_sound i sound) line));
       });
     }
@@ -95,38 +107,63 @@ turned_down tables office id clerk ask i why reply changes stands there line tol
 }
 
 -- one on an intersection that is not there
-unknown_answers : (tables : Content) (id : ℕ) (clerk : List ℕ) (ask : Ask) (reply : Reply) (changes : List RowChange) → FindsAny tables id None
+unknown_answers : (tables : Content) (id : ℕ) (clerk : List ℕ) (ask : Ask) (reply : Reply)
+    (changes : List RowChange) → FindsAny (reach_of ask) tables id None
     → reply ≡ Refused refusal.UnknownIntersection → changes ≡ [] → AnswersAny tables (command_of id clerk ask) reply (changed_by tables changes)
 unknown_answers tables id clerk ask reply changes finds told none office stands = record {
   next = office;
-  step = inr (by_line ask office id clerk ∙ ap (transacted office id (line_of ask clerk)) (absent (get office.intersections id) (finds office stands)) ∙ (λ k. (sym told k, office)));
+  step = inr (by_line ask office id clerk ∙ ap (transacted office id (line_of ask clerk))
+      (absent (drafts_at stands.stand id) (get office.intersections id) (finds office stands))
+      ∙ (λ k. (sym told k, office)));
   stand = subst (λ list. StandForSound (changed_by tables list) office) (sym none) stands;
 }
   where
-    absent : (o : Option Intersection) → Finds tables id o None → o ≡ None
-    absent None h = refl
-    absent (Some i) h = absurd h
+    absent : (rows : RowsByKey) (o : Option Intersection) → Finds (reach_of ask) rows o None
+        → o ≡ None
+    absent rows None h = refl
+    absent rows (Some i) h = absurd h
 
 settled : (tables : Content) (office : Office) (id : ℕ) (clerk : List ℕ) (ask : Ask) (i : Intersection) (found : Found) (decision : Result Move DraftRefusal) (l : Result TimingSide DraftRefusal) (reply : Reply) (changes : List RowChange)
-    → StandForSound tables office → get office.intersections id ≡ Some i → IsSoundIntersection i → FoundStands tables id i found → AreWords 40 clerk → IsAskWithin ask
-    → line_of ask clerk i.timing ≡ l → Follows found.timing clerk decision l → WritesDecision id clerk found decision reply changes
+    → (stands : StandForSound tables office) → get office.intersections id ≡ Some i
+    → IsSoundIntersection i → FoundStands (reach_of ask) (drafts_at stands.stand id) i found
+    → AreWords 40 clerk → IsAskWithin ask → IfOk decision
+    (λ move. AreChangesWithin (drafted_in move.changes))
+    → line_of ask clerk i.timing ≡ l → Follows (drafts_at stands.stand id) i.timing clerk decision
+    l → WritesDecision id clerk found decision reply changes
     → Answers office (command_of id clerk ask) reply (changed_by tables changes)
-settled tables office id clerk ask i found (Ok move) (Ok next) reply changes stands there sound here words within line follows writes =
-    accepted tables office id clerk ask i found move next reply changes stands there sound here words within line follows writes
-settled tables office id clerk ask i found (Ok move) (Err why) reply changes stands there sound here words within line follows writes = absurd follows
-settled tables office id clerk ask i found (Err why) l reply changes stands there sound here words within line (inl memory) writes = absurd (writes.0 memory)
-settled tables office id clerk ask i found (Err why) l reply changes stands there sound here words within line (inr same) writes =
+settled tables office id clerk ask i found (Ok move)
+    (Ok next) reply changes stands there sound here words within drafts line follows writes =
+    accepted tables office id clerk ask i found move next reply changes stands there sound here
+    words within drafts line follows writes
+settled tables office id clerk ask i found (Ok move)
+    (Err why) reply changes stands there sound here words within drafts line follows writes =
+    absurd follows
+settled tables office id clerk ask i found (Err why) l reply changes stands there sound here words
+    within drafts line (inl memory) writes = absurd (writes.0 memory)
+settled tables office id clerk ask i found (Err why) l reply changes stands there sound here words
+    within drafts line (inr same) writes =
     turned_down tables office id clerk ask i why reply changes stands there (line ∙ same) writes.1 writes.2
 
 move_answers : (tables : Content) (id : ℕ) (clerk : List ℕ) (ask : Ask) (found : Found) (decision : Result Move DraftRefusal) (reply : Reply) (changes : List RowChange)
-    → AreWords 40 clerk → IsAskWithin ask → FindsAny tables id (Some found) → FollowsSoundLine found.timing clerk decision (λ side. line_of ask clerk side)
+    → AreWords 40 clerk → IsAskWithin ask → IfOk decision
+    (λ move. AreChangesWithin (drafted_in move.changes))
+    → FindsAny (reach_of ask) tables id (Some found)
+    → FollowsSoundLine (reach_of ask) found.timing clerk decision
+    (λ side. line_of ask clerk side)
     → WritesDecision id clerk found decision reply changes → AnswersAny tables (command_of id clerk ask) reply (changed_by tables changes)
-move_answers tables id clerk ask found decision reply changes words within finds follows writes office stands =
-    elim (get office.intersections id) as (λ o. get office.intersections id ≡ o → Finds tables id o (Some found) → IfSome o IsSoundIntersection → Answers office (command_of id clerk ask) reply (changed_by tables changes)) [
+move_answers tables id clerk ask found decision reply changes words within drafts finds follows
+    writes office stands =
+    elim (get office.intersections id) as (λ o. get office.intersections id ≡ o
+    → Finds (reach_of ask) (drafts_at stands.stand id) o (Some found)
+    → IfSome o IsSoundIntersection → Answers office (command_of id clerk ask) reply
+    (changed_by tables changes)) [
       | None ↦ λ there here sound. absurd here
       | Some i ↦ λ there here sound.
-          settled tables office id clerk ask i found decision (line_of ask clerk i.timing) reply changes stands there sound here words within refl
-          (follows i.timing here.timing_stands sound.no_violations) writes
+          settled tables office id clerk ask i found decision
+          (line_of ask clerk i.timing) reply changes stands there sound here words within
+          drafts refl
+          (follows (drafts_at stands.stand id) i.timing here.timing_stands sound.no_violations)
+          writes
     ] refl (finds office stands) (stands.sound.intersections id)
 
 -- ---- replies
@@ -167,23 +204,33 @@ none_written other t d id (Committed (Remove key) ∷ changes) = let later = non
 none_written other t d id (Drafted change ∷ changes) = let later = none_written other t d id changes in rw d (omega (arith, later))
 none_written other t d id (DraftGone key ∷ changes) = let later = none_written other t d id changes in rw d (omega (arith, later))
 
-timing_bound : (tables : Content) (id : ℕ) (clerk : List ℕ) (ask : Ask) → most_writes tables (command_of id clerk ask) table.Timing ≡ most_committed ask (length (rows_of id tables.draft))
-timing_bound tables id clerk Begin = refl
-timing_bound tables id clerk (Edit changes) = refl
-timing_bound tables id clerk Verify = refl
-timing_bound tables id clerk Check = refl
-timing_bound tables id clerk Commit = refl
-timing_bound tables id clerk Reopen = refl
-timing_bound tables id clerk Abandon = refl
+-- the bounds, of the draft rows that were read
+listed_many : (tables : Content) (id : ℕ) (changes : List Change) → ListsDraft tables id changes
+    → length (rows_of id tables.draft) ≡ length changes
+listed_many tables id changes lists = sym (ap length lists) ∙ length-map changes _
 
-draft_bound : (tables : Content) (id : ℕ) (clerk : List ℕ) (ask : Ask) → most_writes tables (command_of id clerk ask) table.Draft ≡ most_drafted ask (length (rows_of id tables.draft))
-draft_bound tables id clerk Begin = refl
-draft_bound tables id clerk (Edit changes) = refl
-draft_bound tables id clerk Verify = refl
-draft_bound tables id clerk Check = refl
-draft_bound tables id clerk Commit = refl
-draft_bound tables id clerk Reopen = refl
-draft_bound tables id clerk Abandon = refl
+module _ (tables : Content) (id : ℕ) (clerk : List ℕ) (found : Found) where
+  timing_bound : (ask : Ask) → ListsFound (reach_of ask) tables id found
+      → most_writes tables (command_of id clerk ask) table.Timing
+      ≡ most_committed ask (length found.timing.delta)
+  timing_bound Begin lists = refl
+  timing_bound (Edit changes) lists = refl
+  timing_bound Verify lists = refl
+  timing_bound Check lists = refl
+  timing_bound Commit lists = listed_many tables id found.timing.delta lists.1.1
+  timing_bound Reopen lists = refl
+  timing_bound Abandon lists = refl
+
+  draft_bound : (ask : Ask) → ListsFound (reach_of ask) tables id found
+      → most_writes tables (command_of id clerk ask) table.Draft
+      ≡ most_drafted ask (length found.timing.delta)
+  draft_bound Begin lists = refl
+  draft_bound (Edit changes) lists = refl
+  draft_bound Verify lists = refl
+  draft_bound Check lists = refl
+  draft_bound Commit lists = listed_many tables id found.timing.delta lists.1.1
+  draft_bound Reopen lists = refl
+  draft_bound Abandon lists = listed_many tables id found.timing.delta lists.1
 
 intersection_bound : (id : ℕ) (clerk : List ℕ) (ask : Ask) → most_intersection_writes (command_of id clerk ask) ≡ 1
 intersection_bound id clerk Begin = refl
@@ -201,23 +248,40 @@ one_more : (written : ℕ) → written ≡ 0 → 1 + written ≤ 1
 one_more written none = omega arith
 
 -- the rows of a move are within the command's bounds
-move_writes : (tables : Content) (id : ℕ) (clerk : List ℕ) (ask : Ask) (row : _) (rows : ℕ) (changes : List TimingChange) (other : Table) → rows ≡ length (rows_of id tables.draft) → IsBounded ask rows changes
-    → writes_in other (PutIntersection id row ∷ row_changes_of id changes) ≤ most_writes tables (command_of id clerk ask) other
-move_writes tables id clerk ask row rows changes table.Intersection many bounds = rw (intersection_bound id clerk ask) (one_more _ (none_written table.Intersection refl refl id changes))
-move_writes tables id clerk ask row rows changes table.Timing many bounds = rw (timing_bound tables id clerk ask, ← many) (no_more _ _ _ (timing_written id changes) bounds.timing)
-move_writes tables id clerk ask row rows changes table.Draft many bounds = rw (draft_bound tables id clerk ask, ← many) (no_more _ _ _ (draft_written id changes) bounds.draft)
-move_writes tables id clerk ask row rows changes table.Inspection many bounds = no_more _ 0 _ (none_written table.Inspection refl refl id changes) (omega arith)
-move_writes tables id clerk ask row rows changes table.WorkOrder many bounds = no_more _ 0 _ (none_written table.WorkOrder refl refl id changes) (omega arith)
-move_writes tables id clerk ask row rows changes table.Part many bounds = no_more _ 0 _ (none_written table.Part refl refl id changes) (omega arith)
-move_writes tables id clerk ask row rows changes table.Delivery many bounds = no_more _ 0 _ (none_written table.Delivery refl refl id changes) (omega arith)
-move_writes tables id clerk ask row rows changes table.UsedPart many bounds = no_more _ 0 _ (none_written table.UsedPart refl refl id changes) (omega arith)
+move_writes : (tables : Content) (id : ℕ) (clerk : List ℕ) (ask : Ask) (row : _) (found : Found)
+    (changes : List TimingChange) (other : Table) → ListsFound (reach_of ask) tables id found
+    → IsBounded ask (length found.timing.delta) changes
+    → writes_in other (PutIntersection id row ∷ row_changes_of id changes)
+    ≤ most_writes tables (command_of id clerk ask) other
+move_writes tables id clerk ask row found changes table.Intersection lists bounds =
+    rw (intersection_bound id clerk ask) (one_more _
+    (none_written table.Intersection refl refl id changes))
+move_writes tables id clerk ask row found changes table.Timing lists bounds =
+    rw (timing_bound tables id clerk found ask lists)
+    (no_more _ _ _ (timing_written id changes) bounds.timing)
+move_writes tables id clerk ask row found changes table.Draft lists bounds =
+    rw (draft_bound tables id clerk found ask lists)
+    (no_more _ _ _ (draft_written id changes) bounds.draft)
+move_writes tables id clerk ask row found changes table.Inspection lists bounds =
+    no_more _ 0 _ (none_written table.Inspection refl refl id changes) (omega arith)
+move_writes tables id clerk ask row found changes table.WorkOrder lists bounds =
+    no_more _ 0 _ (none_written table.WorkOrder refl refl id changes) (omega arith)
+move_writes tables id clerk ask row found changes table.Part lists bounds =
+    no_more _ 0 _ (none_written table.Part refl refl id changes) (omega arith)
+move_writes tables id clerk ask row found changes table.Delivery lists bounds =
+    no_more _ 0 _ (none_written table.Delivery refl refl id changes) (omega arith)
+move_writes tables id clerk ask row found changes table.UsedPart lists bounds =
+    no_more _ 0 _ (none_written table.UsedPart refl refl id changes) (omega arith)
 
 transact_writes : (tables : Content) (id : ℕ) (clerk : List ℕ) (ask : Ask) (found : Found) (decision : Result Move DraftRefusal) (reply : Reply) (changes : List RowChange)
-    → WritesDecision id clerk found decision reply changes → IfOk decision (λ move. IsBounded ask (length found.timing.delta) move.changes.items) → ListsDraft tables id found.timing.delta
+    → WritesDecision id clerk found decision reply changes
+    → IfOk decision (λ move. IsBounded ask (length found.timing.delta) move.changes)
+    → ListsFound (reach_of ask) tables id found
     → (other : Table) → writes_in other changes ≤ most_writes tables (command_of id clerk ask) other
 transact_writes tables id clerk ask found (Ok move) reply changes writes bounds lists other =
     subst (λ list. writes_in other list ≤ most_writes tables (command_of id clerk ask) other) (sym writes.rows)
-    (move_writes tables id clerk ask (moved_row found clerk move) (length found.timing.delta) move.changes.items other (sym (length-map found.timing.delta _) ∙ ap length lists) bounds)
+    (move_writes tables id clerk ask (moved_row found clerk move) found move.changes other lists
+    bounds)
 transact_writes tables id clerk ask found (Err why) reply changes writes bounds lists other =
     subst (λ list. writes_in other list ≤ most_writes tables (command_of id clerk ask) other) (sym writes.2) (omega arith)
 
@@ -293,7 +357,8 @@ never_query id clerk Commit query = query
 never_query id clerk Reopen query = query
 never_query id clerk Abandon query = query
 
-names_row : (tables : Content) (id : ℕ) (clerk : List ℕ) (ask : Ask) → IsBarred tables (command_of id clerk ask) → HasDamage tables id
+names_row : (tables : Content) (id : ℕ) (clerk : List ℕ) (ask : Ask)
+    → IsBarred tables (command_of id clerk ask) → HasDamageIn (reach_of ask) tables id
 names_row tables id clerk Begin damaged = damaged
 names_row tables id clerk (Edit changes) damaged = damaged
 names_row tables id clerk Verify damaged = damaged
@@ -313,31 +378,43 @@ unknown_named id clerk Abandon = inl refl
 
 -- on what was found
 pub transact_decides : (is_honest : Type 0) (tables : Content) (id : ℕ) (clerk : List ℕ) (ask : Ask) (found : Found) (decision : Result Move DraftRefusal) (result : Result Decided ShelfFault)
-    → AreWords 40 clerk → IsAskWithin ask → (is_honest → FindsAny tables id (Some found)) → (is_honest → ListsDraft tables id found.timing.delta)
-    → FollowsSoundLine found.timing clerk decision (λ side. line_of ask clerk side) → IfOk decision (λ move. IsBounded ask (length found.timing.delta) move.changes.items)
-    → RefusesFirst (first_refusal ask found.timing.holder clerk) (IsLater ask) decision → (is_honest → ¬ HasDamage tables id)
+    → AreWords 40 clerk → IsAskWithin ask → IfOk decision
+    (λ move. AreChangesWithin (drafted_in move.changes))
+    → (is_honest → FindsAny (reach_of ask) tables id (Some found))
+    → (is_honest → ListsFound (reach_of ask) tables id found)
+    → FollowsSoundLine (reach_of ask) found.timing clerk decision (λ side. line_of ask clerk side)
+    → IfOk decision (λ move. IsBounded ask (length found.timing.delta) move.changes)
+    → RefusesFirst (first_refusal ask found.timing.holder clerk) (IsLater ask) decision
+    → (is_honest → ¬ HasDamageIn (reach_of ask) tables id)
     → IfOk result (λ decided. WritesDecision id clerk found decision decided.reply decided.changes.items) → OnErr result (result ≡ Err NoMemory)
     → Decides is_honest tables (command_of id clerk ask) result
-transact_decides is_honest tables id clerk ask found decision (Ok decided) words within finds lists follows bounds refuses whole writes fault = record {
-  step = λ honest. move_answers tables id clerk ask found decision decided.reply decided.changes.items words within (finds honest) follows writes;
-  writes = λ honest. transact_writes tables id clerk ask found decision decided.reply decided.changes.items writes bounds (lists honest);
-  refused = refused_unchanged id clerk found decision decided.reply decided.changes.items writes;
-  query = λ query. absurd (never_query id clerk ask query);
-  named = reply_named ask id clerk found decision decided.reply decided.changes.items refuses writes;
-  undamaged = reply_undamaged id clerk found decision decided.reply decided.changes.items writes;
-  whole = λ honest damaged. absurd (whole honest (names_row tables id clerk ask damaged));
-}
-transact_decides is_honest tables id clerk ask found decision (Err other) words within finds lists follows bounds refuses whole writes fault =
+transact_decides is_honest tables id clerk ask found decision
+    (Ok decided) words within drafts finds lists follows bounds refuses whole writes fault =
+    record {
+      step = λ honest. move_answers tables id clerk ask found decision decided.reply
+          decided.changes.items words within drafts (finds honest) follows writes;
+      writes = λ honest. transact_writes tables id clerk ask found decision decided.reply decided.changes.items writes bounds (lists honest);
+      refused = refused_unchanged id clerk found decision decided.reply decided.changes.items writes;
+      query = λ query. absurd (never_query id clerk ask query);
+      named = reply_named ask id clerk found decision decided.reply decided.changes.items refuses writes;
+      undamaged = reply_undamaged id clerk found decision decided.reply decided.changes.items writes;
+      whole = λ honest damaged. absurd (whole honest (names_row tables id clerk ask damaged));
+    }
+transact_decides is_honest tables id clerk ask found decision
+    (Err other) words within drafts finds lists follows bounds refuses whole writes fault =
     λ damaged. absurd (let f : Err other ≡ Err NoMemory = fault in cc)
 
 -- on an intersection that is not there
-pub absent_decides : (is_honest : Type 0) (tables : Content) (id : ℕ) (clerk : List ℕ) (ask : Ask) (decided : Decided) → (is_honest → FindsAny tables id None) → (is_honest → ¬ HasDamage tables id)
+pub absent_decides : (is_honest : Type 0) (tables : Content) (id : ℕ) (clerk : List ℕ) (ask : Ask)
+    (decided : Decided) → (is_honest → FindsAny (reach_of ask) tables id None)
+    → (is_honest → ¬ HasDamageIn (reach_of ask) tables id)
     → decided.reply ≡ Refused refusal.UnknownIntersection → decided.changes.items ≡ [] → IsDecision is_honest tables (command_of id clerk ask) decided
 absent_decides is_honest tables id clerk ask decided finds whole told none =
     unknown_decides is_honest tables (command_of id clerk ask) decided told (unknown_named id clerk ask) none (λ honest damaged. whole honest (names_row tables id clerk ask damaged)) (λ honest. unknown_answers tables id clerk ask decided.reply decided.changes.items (finds honest) told none)
 
 -- where a row that is read is no record
-pub meets : (tables : Content) (id : ℕ) (clerk : List ℕ) (ask : Ask) → HasDamage tables id → MeetsDamage tables (command_of id clerk ask)
+pub meets : (tables : Content) (id : ℕ) (clerk : List ℕ) (ask : Ask)
+    → HasDamageIn (reach_of ask) tables id → MeetsDamage tables (command_of id clerk ask)
 meets tables id clerk Begin damage = damage
 meets tables id clerk (Edit changes) damage = damage
 meets tables id clerk Verify damage = damage

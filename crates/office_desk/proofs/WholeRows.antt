@@ -11,6 +11,9 @@ use Rattle.signal_records.specs.Row.{key_of}
 use Rattle.signal_records.specs.Within.{IsChangeWithin, IsRowWithin, current_limits}
 use Rattle.signal_records.specs.declared.record.Change.{Change}
 use Rattle.signal_records.specs.declared.record.Row.{Row}
+use Rattle.draft_core.specs.Within.{AreChangesWithin}
+use Rattle.draft_core.specs.declared.timing.Reach.{Reach}
+use Rattle.draft_core.specs.declared.timing.Reach.TheVariants as reach
 use Rattle.draft_core.specs.declared.state.Holder.{Holder}
 use Rattle.draft_core.specs.declared.state.Stage.{Stage}
 use Rattle.draft_core.specs.declared.state.Stage.TheVariants.{Transaction, Verify, Done}
@@ -21,8 +24,9 @@ use Rattle.office_tables_shelf.specs.Damage.{HasDamagedDraft, HasDamagedIntersec
 use Rattle.office_tables_shelf.specs.Rows.{IsIntersectionRow, draft_columns, draft_key, intersection_columns, intersection_key, state_number, timing_columns, timing_key}
 use Rattle.office_tables_shelf.specs.Shelf.{ListsDraft, ListsTiming, ReadsIntersection, is_of, rows_of}
 use Rattle.office_tables_shelf.specs.declared.rows.IntersectionRow.{IntersectionRow}
-use Rattle.office_desk.specs.Damage.{HasDamage, HasJudgedDamage, IsDone, IsThere, MeetsAfter}
-use Rattle.office_desk.specs.Reading.{AreChangesWithin, AreWithin}
+use Rattle.office_desk.specs.Damage.{HasDamage, HasDamagedPlan, HasJudgedDamage, IsDone, IsThere}
+use Rattle.office_desk.specs.Damage.{MeetsAfter}
+use Rattle.office_desk.specs.Reading.{AreWithin, ListsPlan}
 
 -- ---- the row of an intersection
 
@@ -91,12 +95,18 @@ draft_whole tables id changes lists within damaged =
     let is = listed_row (draft_key id) draft_columns (IsChangeWithin current_limits) tables.draft id changes damaged.key damaged.columns lists within damaged.of damaged.stored in
     damaged.no_row is.0 is.1 is.2 is.3
 
--- the intersection, its committed set and its draft
-pub plan_whole : (tables : Content) (id : ℕ) (rows : List Row) (changes : List Change) → ¬ HasDamagedIntersection tables id → ListsTiming tables id rows → AreWithin rows
-    → ListsDraft tables id changes → AreChangesWithin changes → ¬ HasDamage tables id
-plan_whole tables id rows changes row timing rows_within draft changes_within (inl damaged) = row damaged
-plan_whole tables id rows changes row timing rows_within draft changes_within (inr (there, inl damaged)) = timing_whole tables id rows timing rows_within damaged
-plan_whole tables id rows changes row timing rows_within draft changes_within (inr (there, inr damaged)) = draft_whole tables id changes draft changes_within damaged
+-- what was read of the plan
+pub plan_whole : (reach : Reach) (tables : Content) (id : ℕ) (rows : List Row)
+    (changes : List Change) → ListsPlan reach tables id rows changes → AreWithin rows
+    → AreChangesWithin changes
+    → ¬ HasDamagedPlan reach tables id
+plan_whole reach.Row tables id rows changes lists rows_in changes_in damaged = damaged
+plan_whole reach.Drafts tables id rows changes lists rows_in changes_in damaged =
+    draft_whole tables id changes lists changes_in damaged
+plan_whole reach.Plan tables id rows changes lists rows_in changes_in (inl damaged) =
+    timing_whole tables id rows lists.0 rows_in damaged
+plan_whole reach.Plan tables id rows changes lists rows_in changes_in (inr damaged) =
+    draft_whole tables id changes lists.1 changes_in damaged
 
 -- ---- a draft that is judged
 

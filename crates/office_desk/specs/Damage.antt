@@ -3,6 +3,8 @@ use Rattle.std.specs.Prelude.{◌≡◌, ◌⊎◌, ℕ, List, [], ◌∷◌, Op
 use Rattle.std.specs.FinMap.{get}
 use Rattle.std.specs.Option.{option_map}
 use Rattle.draft_core.specs.declared.state.Holder.{Holder}
+use Rattle.draft_core.specs.declared.timing.Reach.{Reach}
+use Rattle.draft_core.specs.declared.timing.Reach.TheVariants as reach
 use Rattle.draft_core.specs.declared.state.Stage.TheVariants.{Done}
 use Rattle.office_tables_shelf.specs.Content.{Content}
 use Rattle.office_tables_shelf.specs.Rows.{intersection_key}
@@ -15,6 +17,9 @@ use Rattle.cabinet_core.specs.declared.command.RecordCommand.{RecordCommand}
 use Rattle.office_desk_cabinet.specs.RegisterDamage.{HasDamagedCabinet, MeetsRecordDamage}
 use Rattle.office_desk.specs.Changes.{IsRefused}
 use Rattle.office_desk.specs.Step.{cabinet_of}
+use Rattle.office_desk.specs.Transacting.{edit_of, reach_of}
+use Rattle.office_desk.specs.declared.transacting.Ask.{Ask}
+use Rattle.office_desk.specs.declared.transacting.Ask.TheVariants as ask
 use Rattle.office_desk.specs.declared.command.Command.{Command}
 use Rattle.office_desk.specs.declared.command.Command.TheVariants as command
 use Rattle.office_desk.specs.declared.refusal.Refusal.TheVariants as refusal
@@ -38,9 +43,23 @@ IsThere tables id = IsSome (get tables.intersection (intersection_key id))
 abbrev pub MeetsAfter : Content → ℕ → Type 0 → Type 0
 MeetsAfter tables id Later = HasDamagedIntersection tables id ⊎ (IsThere tables id × Later)
 
+-- a row of the intersection's plan is no record, of those that are read
+abbrev pub HasDamagedPlan : Reach → Content → ℕ → Type 0
+HasDamagedPlan reach.Row tables id = ⊥
+HasDamagedPlan reach.Drafts tables id = HasDamagedDraft tables id
+HasDamagedPlan reach.Plan tables id = HasDamagedTiming tables id ⊎ HasDamagedDraft tables id
+
+-- a row of the intersection or of its plan is no record, of those that are read
+abbrev pub HasDamageIn : Reach → Content → ℕ → Type 0
+HasDamageIn reach tables id = MeetsAfter tables id (HasDamagedPlan reach tables id)
+
 -- a row of the intersection, of its committed set or of its draft is no record
 abbrev pub HasDamage : Content → ℕ → Type 0
-HasDamage tables id = MeetsAfter tables id (HasDamagedTiming tables id ⊎ HasDamagedDraft tables id)
+HasDamage = HasDamageIn reach.Plan
+
+-- the same of the rows that a step of the transaction reads
+abbrev pub MeetsStepDamage : Content → ℕ → Ask → Type 0
+MeetsStepDamage tables id ask = HasDamageIn (reach_of ask) tables id
 
 -- the row has a draft in state Done
 abbrev pub IsDone : IntersectionRow → Type 0
@@ -66,15 +85,15 @@ MeetsImportDamage tables (c ∷ cs) = MeetsCabinetDamage tables c (cabinet_of c)
 -- a row that the command reads is no record
 abbrev pub MeetsDamage : Content → Command → Type 0
 MeetsDamage tables (command.AddIntersection id interval name) = HasDamagedIntersection tables id
-MeetsDamage tables (command.Begin id clerk) = HasDamage tables id
-MeetsDamage tables (command.Edit id clerk changes) = HasDamage tables id
-MeetsDamage tables (command.Verify id clerk) = HasDamage tables id
-MeetsDamage tables (command.Check id clerk) = HasDamage tables id
-MeetsDamage tables (command.Commit id clerk) = HasDamage tables id
-MeetsDamage tables (command.Reopen id clerk) = HasDamage tables id
-MeetsDamage tables (command.Abandon id clerk) = HasDamage tables id
+MeetsDamage tables (command.Begin id clerk) = MeetsStepDamage tables id ask.Begin
+MeetsDamage tables (command.Edit id clerk changes) = MeetsStepDamage tables id (edit_of changes)
+MeetsDamage tables (command.Verify id clerk) = MeetsStepDamage tables id ask.Verify
+MeetsDamage tables (command.Check id clerk) = MeetsStepDamage tables id ask.Check
+MeetsDamage tables (command.Commit id clerk) = MeetsStepDamage tables id ask.Commit
+MeetsDamage tables (command.Reopen id clerk) = MeetsStepDamage tables id ask.Reopen
+MeetsDamage tables (command.Abandon id clerk) = MeetsStepDamage tables id ask.Abandon
 MeetsDamage tables (command.State id) = HasDamagedIntersection tables id ⊎ HasJudgedDamage tables id
-MeetsDamage tables (command.Timing id) = HasDamage tables id
+MeetsDamage tables (command.Timing id) = MeetsAfter tables id (HasDamagedTiming tables id)
 MeetsDamage tables (command.Draft id) = HasDamage tables id
 MeetsDamage tables (command.Record c) = MeetsCabinetDamage tables c (cabinet_of c)
 MeetsDamage tables (command.Import records) = MeetsImportDamage tables records
@@ -83,9 +102,8 @@ MeetsDamage tables (command.OpenOrders id) = MeetsAfter tables id (HasDamagedOrd
 MeetsDamage tables command.Stock = HasDamagedPart tables
 MeetsDamage tables (command.Overdue day) = HasAnyDamagedIntersection tables ⊎ HasAnyDamagedInspection tables
 
--- the same, but of the draft where the committed set is asked for, and of the rows that the report
--- of overdue inspections reads: such a row keeps the command from being answered otherwise
+-- the same, but of the rows that the report of overdue inspections reads: such a row keeps the
+-- command from being answered otherwise
 abbrev pub IsBarred : Content → Command → Type 0
-IsBarred tables (command.Timing id) = MeetsAfter tables id (HasDamagedTiming tables id)
 IsBarred tables (command.Overdue day) = ⊥
 IsBarred tables command = MeetsDamage tables command

@@ -3,8 +3,9 @@ use Rattle.std.specs.Prelude.{◌≡◌, ℕ, Some}
 use Rattle.std.specs.Option.{option_map}
 use Rattle.draft_core.specs.declared.state.Holder.{Holder}
 use Rattle.draft_core.specs.declared.state.Verdict.{Verdict}
+use Rattle.draft_core.specs.declared.timing.Reach.TheVariants.{Plan}
 use Rattle.draft_core.specs.Transaction.{TimingSide, state_of_holder, verdict_of}
-use Rattle.draft_core.specs.DraftRows.{TimingStands}
+use Rattle.draft_core.specs.DraftRows.{RowsByKey, Stands}
 use Rattle.office_tables_shelf.specs.declared.rows.IntersectionRow.{IntersectionRow}
 use Rattle.office_tables_shelf.specs.declared.shelf.ShelfFault.{ShelfFault}
 use Rattle.office_tables_shelf.specs.declared.shelf.ShelfFault.TheVariants.{NoMemory, Store, Damaged as StoredDamaged}
@@ -44,4 +45,6 @@ IsVerdictOf tables id row verdict = (office : Office) (i : Intersection) → Sta
 
 -- what Draft shows of the timing side that was found
 abbrev pub ShowsDraft : Found → Reply → Type 0
-ShowsDraft found reply = (side : TimingSide) → TimingStands found.timing side → reply ≡ draft_shown side.draft
+ShowsDraft found reply =
+    (rows : RowsByKey) (side : TimingSide) → Stands Plan found.timing rows side →
+    reply ≡ draft_shown side.draft

@@ -1,7 +1,5 @@
 -- What a step of the transaction writes.
 use Rattle.std.specs.Prelude.{◌≡◌, ◌≢◌, ℕ, List, [], ◌∷◌, map, Result, Ok, Err}
-use Rattle.std.specs.List.{AllByRecursion}
-use Rattle.signal_records.specs.Within.{IsChangeWithin, current_limits}
 use Rattle.signal_records.specs.declared.record.Change.TheVariants.{Put, Remove}
 use Rattle.draft_core.specs.Moves.{next_holder}
 use Rattle.draft_core.specs.declared.timing.Move.{Move}
@@ -27,15 +25,6 @@ row_change_of id (DraftGone key) = RemoveDraft id key
 abbrev pub row_changes_of : ℕ → List TimingChange → List RowChange
 row_changes_of id = map (row_change_of id)
 
--- a draft row that is written is within its limits
-abbrev pub IsDraftedWithin : TimingChange → Type 0
-IsDraftedWithin (Committed change) = Unit {0}
-IsDraftedWithin (Drafted change) = IsChangeWithin current_limits change
-IsDraftedWithin (DraftGone key) = Unit {0}
-
-abbrev pub AreDraftedWithin : List TimingChange → Type 0
-AreDraftedWithin = AllByRecursion IsDraftedWithin
-
 -- the intersection's row after a move
 abbrev pub moved_row : Found → List ℕ → Move → IntersectionRow
 moved_row found clerk move = record { name = found.name; interval = found.interval; revision = move.revision; holder = next_holder found.timing.holder clerk move.state }
@@ -43,8 +32,8 @@ moved_row found clerk move = record { name = found.name; interval = found.interv
 -- the reply shows the move, and the rows are the intersection's own and those of the move
 pub record WritesMove (id : ℕ) (clerk : List ℕ) (found : Found) (move : Move) (reply : Reply) (changes : List RowChange) : Type 0 where
   pub told : reply ≡ Moved move.revision move.state move.verdict
-  pub rows : changes ≡ PutIntersection id (moved_row found clerk move) ∷ row_changes_of id move.changes.items
-  pub within : AreDraftedWithin move.changes.items
+  pub rows : changes
+      ≡ PutIntersection id (moved_row found clerk move) ∷ row_changes_of id move.changes
 
 -- only a move wants memory, unless the decision itself found none
 abbrev pub WantsMemory : Result Move DraftRefusal → Type 0

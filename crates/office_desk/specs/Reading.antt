@@ -3,26 +3,25 @@ use Rattle.std.specs.Prelude.{◌≡◌, ℕ, List, map, Option, Some, None}
 use Rattle.std.specs.FinMap.{get, empty}
 use Rattle.std.specs.List.{AllByRecursion}
 use Rattle.signal_records.specs.TimingSet.{after_changes}
-use Rattle.signal_records.specs.Within.{IsRowWithin, IsChangeWithin, current_limits}
+use Rattle.signal_records.specs.Within.{IsRowWithin, current_limits}
 use Rattle.signal_records.specs.declared.record.Row.{Row}
 use Rattle.signal_records.specs.declared.record.Change.{Change}
 use Rattle.signal_records.specs.declared.record.Change.TheVariants.{Put}
 use Rattle.signal_records.specs.TimingSet.{Rows}
-use Rattle.draft_core.specs.DraftRows.{TimingStands}
+use Rattle.draft_core.specs.DraftRows.{RowsByKey, Stands}
+use Rattle.draft_core.specs.Within.{AreChangesWithin}
+use Rattle.draft_core.specs.declared.timing.Reach.{Reach}
+use Rattle.draft_core.specs.declared.timing.Reach.TheVariants as reach
 use Rattle.office_tables_shelf.specs.Content.{Content}
-use Rattle.office_tables_shelf.specs.Shelf.{ListsDraft}
+use Rattle.office_tables_shelf.specs.Shelf.{ListsDraft, ListsTiming}
 use Rattle.office_tables_shelf.specs.declared.rows.IntersectionRow.{IntersectionRow}
 use Rattle.office_desk.specs.declared.reading.Found.{Found}
 use Rattle.office_desk.specs.Office.{Intersection, Office}
-use Rattle.office_desk.specs.StandFor.{StandForSound}
+use Rattle.office_desk.specs.StandFor.{StandFor, StandForSound}
 
 -- each row is within its limits
 abbrev pub AreWithin : List Row → Type 0
 AreWithin = AllByRecursion (IsRowWithin current_limits)
-
--- each change is within its limits
-abbrev pub AreChangesWithin : List Change → Type 0
-AreChangesWithin = AllByRecursion (IsChangeWithin current_limits)
 
 -- the set of these rows
 abbrev pub set_of_rows : List Row → Rows
@@ -39,21 +38,39 @@ pub record IsMadeOf (row : IntersectionRow) (rows : List Row) (changes : List Ch
   pub rows_within : AreWithin rows
   pub changes_within : AreChangesWithin changes
 
--- what was found stands for the intersection
-pub record FoundStands (tables : Content) (id : ℕ) (i : Intersection) (found : Found) : Type 0 where
+-- the rows of an intersection's plan are those of the lists, as far as they are read
+abbrev pub ListsPlan : Reach → Content → ℕ → List Row → List Change → Type 0
+ListsPlan reach.Row tables id rows changes = Unit {0}
+ListsPlan reach.Drafts tables id rows changes = ListsDraft tables id changes
+ListsPlan reach.Plan tables id rows changes =
+    ListsTiming tables id rows × ListsDraft tables id changes
+
+-- the draft rows that were found are those that stand, as far as they are read
+abbrev pub ListsFound : Reach → Content → ℕ → Found → Type 0
+ListsFound reach tables id found =
+    (rows : List Row) × ListsPlan reach tables id rows found.timing.delta
+
+-- the draft rows of an intersection, in tables that stand for an office
+abbrev pub drafts_at : {tables : Content} {office : Office} → StandFor tables office → ℕ
+    → RowsByKey
+drafts_at stand id key = (stand.draft id key).row
+
+-- what was found stands, with draft rows, for the intersection, as far as it was read
+pub record FoundStands (reach : Reach) (rows : RowsByKey) (i : Intersection)
+    (found : Found) : Type 0 where
   pub same_name : found.name ≡ i.name
   pub same_interval : found.interval ≡ i.interval
-  pub timing_stands : TimingStands found.timing i.timing
-  pub listed : ListsDraft tables id found.timing.delta
-  pub within : AreChangesWithin found.timing.delta
+  pub timing_stands : Stands reach found.timing rows i.timing
 
 -- an intersection is found where there is one
-abbrev pub Finds : Content → ℕ → Option Intersection → Option Found → Type 0
-Finds tables id None None = Unit {0}
-Finds tables id (Some i) (Some found) = FoundStands tables id i found
-Finds tables id None (Some found) = ⊥
-Finds tables id (Some i) None = ⊥
+abbrev pub Finds : Reach → RowsByKey → Option Intersection → Option Found → Type 0
+Finds reach rows None None = Unit {0}
+Finds reach rows (Some i) (Some found) = FoundStands reach rows i found
+Finds reach rows None (Some found) = ⊥
+Finds reach rows (Some i) None = ⊥
 
 -- for whichever sound office the tables stand for
-abbrev pub FindsAny : Content → ℕ → Option Found → Type 0
-FindsAny tables id found = (office : Office) → StandForSound tables office → Finds tables id (get office.intersections id) found
+abbrev pub FindsAny : Reach → Content → ℕ → Option Found → Type 0
+FindsAny reach tables id found =
+    (office : Office) (stands : StandForSound tables office) →
+    Finds reach (drafts_at stands.stand id) (get office.intersections id) found

@@ -1,17 +1,20 @@
 -- The commands of the transaction on one intersection.
 use Rattle.std.specs.Prelude.{ℕ, ◌≤◌, List, length, Option, Result}
+use Rattle.signal_records.specs.declared.record.Change.{Change}
 use Rattle.draft_core.specs.Moves.{IsMemory, IsUnsettled, Never, timing_writes, draft_writes}
 use Rattle.draft_core.specs.Transaction.{TimingSide, begun, edited, verified, checked, committed, reopened, abandoned, refused_by, refused_if_held, refused_if_free}
+use Rattle.draft_core.specs.Within.{AreChangesWithin}
 use Rattle.draft_core.specs.declared.refusal.DraftRefusal.{DraftRefusal}
 use Rattle.draft_core.specs.declared.refusal.DraftRefusal.TheVariants.{NotTransaction, NotVerify, NotDone}
 use Rattle.draft_core.specs.declared.state.Holder.{Holder}
 use Rattle.draft_core.specs.declared.state.Stage.TheVariants as stage
+use Rattle.draft_core.specs.declared.timing.Reach.{Reach}
+use Rattle.draft_core.specs.declared.timing.Reach.TheVariants as reach
 use Rattle.draft_core.specs.declared.timing.TimingChange.{TimingChange}
 use Rattle.office_desk.specs.declared.command.Command.{Command}
 use Rattle.office_desk.specs.declared.command.Command.TheVariants as command
 use Rattle.office_desk.specs.declared.transacting.Ask.{Ask}
 use Rattle.office_desk.specs.declared.transacting.Ask.TheVariants.{Begin, Edit, Verify, Check, Commit, Reopen, Abandon}
-use Rattle.office_desk.specs.Reading.{AreChangesWithin}
 
 -- the command that asks it
 abbrev pub command_of : ℕ → List ℕ → Ask → Command
@@ -22,6 +25,18 @@ command_of id clerk Check = command.Check id clerk
 command_of id clerk Commit = command.Commit id clerk
 command_of id clerk Reopen = command.Reopen id clerk
 command_of id clerk Abandon = command.Abandon id clerk
+
+-- an edit that asks for these changes, wherever they lie
+abbrev pub edit_of : List Change → Ask
+edit_of changes = Edit (record { ref_ptr = (0, 0); now = changes })
+
+-- how much of the timing side it reads: the check and the commit judge the draft, the abandon
+-- drops its rows
+abbrev pub reach_of : Ask → Reach
+reach_of Check = reach.Plan
+reach_of Commit = reach.Plan
+reach_of Abandon = reach.Drafts
+reach_of _ = reach.Row
 
 -- its line of the transaction table
 abbrev pub line_of : Ask → List ℕ → TimingSide → Result TimingSide DraftRefusal

@@ -42,7 +42,7 @@ pub(crate) fn try_decide<S: Shelf>(
         }
         Command::Begin { id, clerk } => transact(shelf, alloc, *id, clerk, Ask::Begin),
         Command::Edit { id, clerk, changes } => {
-            transact(shelf, alloc, *id, clerk, Ask::Edit(changes.as_slice()))
+            transact(shelf, alloc, *id, clerk, Ask::Edit(changes))
         }
         Command::Verify { id, clerk } => transact(shelf, alloc, *id, clerk, Ask::Verify),
         Command::Check { id, clerk } => transact(shelf, alloc, *id, clerk, Ask::Check),

@@ -1,46 +1,30 @@
 //! What a step of the transaction is answered, and the rows that it writes.
 ghost use Rattle.std.specs.Prelude.{◌≡◌, ◌∷◌, IfOk, OnErr};
-ghost use Rattle.office_desk.specs.Moving.{AreDraftedWithin, IsDraftedWithin, WantsMemory, WritesDecision, WritesMove, row_change_of, row_changes_of};
+ghost use Rattle.office_desk.specs.Moving.{WantsMemory, WritesDecision, WritesMove};
+ghost use Rattle.office_desk.specs.Moving.{row_change_of, row_changes_of};
 ghost use Rattle.office_desk.specs.Step.{refusal_of_draft};
 
 use crate::decided::Decided;
 use crate::reading::Found;
 use crate::refusal::Refusal;
 use crate::reply::Reply;
+use draft_core::next_holder;
 use draft_core::refusal::DraftRefusal;
-use draft_core::timing::{Move, TimingChange};
-use draft_core::{copy_change, next_holder};
+use draft_core::timing::{Move, TimingChange, TimingChanges};
 use office_tables_shelf::rows::{IntersectionRow, RowChange};
 use office_tables_shelf::shelf::ShelfFault;
-use signal_records::{Change, InterId, NoMemory, Words, change_is_within};
+use signal_records::{Change, InterId, NoMemory, Words};
 use std::alloc::Global;
 
 /// A change of an intersection's timing side, as a row.
-fn row_change(id: InterId, change: &TimingChange) -> Result<RowChange, NoMemory>
-    ensures { IfOk result (λ made. made ≡ row_change_of id change.now) }
+fn row_change(id: InterId, change: TimingChange) -> RowChange
+    ensures { result ≡ row_change_of id change }
 {
-    Ok(match change {
-        TimingChange::Committed(Change::Put(row)) => RowChange::PutTiming(id, row.clone()?),
-        TimingChange::Committed(Change::Remove(key)) => RowChange::RemoveTiming(id, *key),
-        TimingChange::Drafted(change) => RowChange::PutDraft(id, copy_change(change)?),
-        TimingChange::DraftGone(key) => RowChange::RemoveDraft(id, *key),
-    })
-}
-
-fn draft_is_within(change: &TimingChange)
-    ensures { IsDraftedWithin change.now }
-{
-    if let TimingChange::Drafted(change) = change {
-        change_is_within(change);
-    }
-}
-
-/// Every draft row that is written is within its limits, as its type says.
-fn drafts_are_within(changes: &[TimingChange])
-    ensures { AreDraftedWithin changes.now }
-{
-    for change in changes {
-        draft_is_within(change);
+    match change {
+        TimingChange::Committed(Change::Put(row)) => RowChange::PutTiming(id, row),
+        TimingChange::Committed(Change::Remove(key)) => RowChange::RemoveTiming(id, key),
+        TimingChange::Drafted(change) => RowChange::PutDraft(id, change),
+        TimingChange::DraftGone(key) => RowChange::RemoveDraft(id, key),
     }
 }
 
@@ -49,14 +33,15 @@ fn row_changes(
     alloc: Global,
     id: InterId,
     row: IntersectionRow,
-    changes: &[TimingChange],
+    changes: TimingChanges,
 ) -> Result<Vec<RowChange>, NoMemory>
-    ensures { IfOk result (λ made. made.items ≡ RowChange.PutIntersection id row ∷ row_changes_of id changes.now) }
+    ensures { IfOk result (λ made. made.items
+        ≡ RowChange.PutIntersection id row ∷ row_changes_of id changes) }
 {
     let mut made = Vec::new(alloc);
     made.push(RowChange::PutIntersection(id, row))?;
-    for change in changes {
-        made.push(row_change(id, change)?)?;
+    for change in changes.into_vec() {
+        made.push(row_change(id, change))?;
     }
     Ok(made)
 }
@@ -71,20 +56,24 @@ fn moved(
 ) -> Result<Decided, NoMemory>
     ensures { IfOk result (λ decided. WritesMove id clerk.now found step decided.reply decided.changes.items) }
 {
-    drafts_are_within(step.changes.as_slice());
-    let revision = step.revision;
-    let holder = next_holder(alloc, &found.timing.holder, clerk, step.state)?;
+    let Move {
+        revision,
+        state,
+        verdict,
+        changes,
+    } = step;
+    let holder = next_holder(alloc, &found.timing.holder, clerk, state)?;
     let row = IntersectionRow {
         name: found.name,
         interval: found.interval,
         revision,
         holder,
     };
-    let changes = row_changes(alloc, id, row, step.changes.as_slice())?;
+    let changes = row_changes(alloc, id, row, changes)?;
     let reply = Reply::Moved {
         revision,
-        state: step.state,
-        verdict: step.verdict,
+        state,
+        verdict,
     };
     Ok(Decided { reply, changes })
 }

@@ -2,19 +2,18 @@
 ghost use Rattle.std.specs.Prelude.{◌≡◌, IfOk, IfSome, map};
 ghost use Rattle.office_tables_shelf.specs.Damage.{HasDamagedIntersection, HasDamagedTiming};
 ghost use Rattle.office_tables_shelf.specs.Rows.{IsIntersectionRow};
-ghost use Rattle.office_tables_shelf.specs.Shelf.{IsKept, ListsDraft, ReadsIntersection};
-ghost use Rattle.office_desk.specs.Damage.{HasDamage};
+ghost use Rattle.office_tables_shelf.specs.Shelf.{IsKept, ReadsIntersection};
+ghost use Rattle.office_desk.specs.Damage.{HasDamageIn, HasDamagedPlan};
 ghost use Rattle.office_desk.specs.Office.{Office, side_at};
-ghost use Rattle.office_desk.specs.Reading.{AreWithin, AreChangesWithin, IsMadeOf, FindsAny, set_of_rows};
+ghost use Rattle.office_desk.specs.Reading.{AreWithin, FindsAny, IsMadeOf};
+ghost use Rattle.office_desk.specs.Reading.{ListsFound, ListsPlan, set_of_rows};
 ghost use Rattle.office_desk.specs.StandFor.{StandForSound};
 
 use draft_core::changes::Changes;
-use draft_core::timing::Timing;
+use draft_core::timing::{Reach, Timing};
 use office_tables_shelf::rows::IntersectionRow;
 use office_tables_shelf::shelf::{Shelf, ShelfFault};
-use signal_records::{
-    Change, InterId, Interval, NoMemory, Row, TimingSet, Words, change_is_within, row_is_within,
-};
+use signal_records::{Change, InterId, Interval, NoMemory, Row, TimingSet, Words, row_is_within};
 use std::alloc::Global;
 
 /// An intersection as it is kept.
@@ -24,15 +23,6 @@ pub struct Found {
     /// Days from one inspection of its cabinet to the next.
     pub interval: Interval,
     pub timing: Timing,
-}
-
-/// Every change is within its limits, as its type says.
-pub(crate) fn changes_are_within(changes: &[Change])
-    ensures { AreChangesWithin changes.now }
-{
-    for change in changes {
-        change_is_within(change);
-    }
 }
 
 /// The changes that put rows, each of which is within its limits, as its type says.
@@ -83,7 +73,7 @@ fn made_of(
 ) -> Result<Found, NoMemory>
     ensures { IfOk result (λ found. IsMadeOf row rows.items changes.items found) }
 {
-    changes_are_within(changes.as_slice());
+    let delta = Changes::new(changes);
     let committed = set_of(alloc, rows)?;
     let IntersectionRow {
         name,
@@ -98,7 +88,7 @@ fn made_of(
             revision,
             holder,
             committed,
-            delta: Changes::new(changes),
+            delta,
         },
     })
 }
@@ -132,24 +122,51 @@ pub(crate) fn intersection_row<S: Shelf>(
     Ok(Some(row))
 }
 
-/// Reads an intersection, its committed set and its draft rows.
+/// The committed rows and the draft rows of an intersection, as far as is asked for; none past
+/// that.
+fn plan_rows<S: Shelf>(
+    shelf: &mut S,
+    alloc: Global,
+    id: InterId,
+    reach: Reach,
+) -> Result<(Vec<Row>, Vec<Change>), ShelfFault>
+    ensures lists { IfOk result (λ read. S.is_honest shelf.new →
+        ListsPlan reach (S.content shelf.old) id read.0.items read.1.items) }
+    ensures damaged { result ≡ Err ShelfFault.Damaged → S.is_honest shelf.new →
+        HasDamagedPlan reach (S.content shelf.old) id }
+    ensures kept { IsKept S.is_honest S.content S.written S.may_leave shelf.old shelf.new }
+{
+    match reach {
+        Reach::Row => return Ok((Vec::new(alloc), Vec::new(alloc))),
+        Reach::Drafts => return Ok((Vec::new(alloc), shelf.draft_rows(alloc, id)?)),
+        Reach::Plan => {}
+    }
+    let rows = shelf.timing_rows(alloc, id)?;
+    let changes = shelf.draft_rows(alloc, id)?;
+    Ok((rows, changes))
+}
+
+/// Reads an intersection, and of its plan as much as is asked for; the rest of it is left out.
 pub(crate) fn find<S: Shelf>(
     shelf: &mut S,
     alloc: Global,
     id: InterId,
+    reach: Reach,
 ) -> Result<Option<Found>, ShelfFault>
-    ensures found { IfOk result (λ found. S.is_honest shelf.new → FindsAny (S.content shelf.old) id found) }
-    ensures listed { IfOk result (λ found. S.is_honest shelf.new → IfSome found (λ found. ListsDraft (S.content shelf.old) id found.timing.delta)) }
+    ensures found { IfOk result (λ found. S.is_honest shelf.new →
+        FindsAny reach (S.content shelf.old) id found) }
+    ensures listed { IfOk result (λ found. S.is_honest shelf.new →
+        IfSome found (ListsFound reach (S.content shelf.old) id)) }
     ensures whole { IfOk result (λ _. S.is_honest shelf.new →
-        ¬ HasDamage (S.content shelf.old) id) }
-    ensures damaged { result ≡ Err ShelfFault.Damaged → S.is_honest shelf.new → HasDamage (S.content shelf.old) id }
+        ¬ HasDamageIn reach (S.content shelf.old) id) }
+    ensures damaged { result ≡ Err ShelfFault.Damaged → S.is_honest shelf.new →
+        HasDamageIn reach (S.content shelf.old) id }
     ensures kept { IsKept S.is_honest S.content S.written S.may_leave shelf.old shelf.new }
 {
     let Some(row) = intersection_row(shelf, alloc, id)? else {
         return Ok(None);
     };
-    let rows = shelf.timing_rows(alloc, id)?;
-    let changes = shelf.draft_rows(alloc, id)?;
+    let (rows, changes) = plan_rows(shelf, alloc, id, reach)?;
     let found = made_of(alloc, row, rows, changes)?;
     Ok(Some(found))
 }

@@ -14,7 +14,7 @@ use crate::refusal::Refusal;
 use crate::reply::{IntersectionState, OpenDraft, Reply, RunningTiming, Violations};
 use draft_core::refusal::DraftRefusal;
 use draft_core::state::{DbState, Holder, Stage, Verdict};
-use draft_core::timing::Timing;
+use draft_core::timing::{Reach, Timing};
 use draft_core::{overlay, verdict};
 use office_tables_shelf::rows::IntersectionRow;
 use office_tables_shelf::shelf::{Shelf, ShelfFault};
@@ -74,7 +74,7 @@ fn verdict_at<S: Shelf>(
         Stage::Transaction | Stage::Verify => return Ok(Verdict::NotDone),
         Stage::Done => {}
     }
-    let Some(found) = find(shelf, alloc, id)? else {
+    let Some(found) = find(shelf, alloc, id, Reach::Plan)? else {
         return Ok(Verdict::NotDone);
     };
     Ok(verdict(alloc, &found.timing)?)
@@ -152,7 +152,7 @@ pub(crate) fn decide_draft<S: Shelf>(
     ensures decides { Decides (S.is_honest shelf.new) (S.content shelf.old) (Command.Draft id) result }
     ensures kept { IsKept S.is_honest S.content S.written S.may_leave shelf.old shelf.new }
 {
-    let Some(found) = find(shelf, alloc, id)? else {
+    let Some(found) = find(shelf, alloc, id, Reach::Plan)? else {
         return Ok(Decided::refused(alloc, Refusal::UnknownIntersection));
     };
     Ok(Decided::unchanged(alloc, draft_of(alloc, found)?))

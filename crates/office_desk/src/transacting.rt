@@ -1,19 +1,22 @@
 //! The commands of the transaction.
-ghost use Rattle.std.specs.Prelude.{length, IfOk};
-ghost use Rattle.draft_core.specs.Moves.{FollowsSoundLine, RefusesFirst};
+ghost use Rattle.std.specs.Prelude.{◌≡◌, length, IfOk};
+ghost use Rattle.draft_core.specs.Moves.{FollowsSoundLine, RefusesFirst, drafted_in};
+ghost use Rattle.draft_core.specs.Within.{AreChangesWithin};
 ghost use Rattle.office_tables_shelf.specs.Shelf.{IsKept};
 ghost use Rattle.office_desk.specs.Deciding.{Decides};
-ghost use Rattle.office_desk.specs.Transacting.{IsAskWithin, IsBounded, IsLater, command_of, first_refusal, line_of};
+ghost use Rattle.office_desk.specs.Transacting.{IsAskWithin, IsBounded, IsLater, command_of};
+ghost use Rattle.office_desk.specs.Transacting.{first_refusal, line_of, reach_of};
 
 use crate::decided::Decided;
 use crate::moving::answer;
-use crate::reading::{changes_are_within, find};
+use crate::reading::find;
 use crate::refusal::Refusal;
+use draft_core::changes::Changes;
 use draft_core::decide::{abandon, begin, check, commit, edit, reopen, verify};
 use draft_core::refusal::DraftRefusal;
-use draft_core::timing::{Move, Timing};
+use draft_core::timing::{Move, Reach, Timing};
 use office_tables_shelf::shelf::{Shelf, ShelfFault};
-use signal_records::{Change, InterId, Words};
+use signal_records::{InterId, Words};
 use std::alloc::Global;
 
 /// What a clerk asks of the transaction.
@@ -21,7 +24,7 @@ use std::alloc::Global;
 pub enum Ask<'a> {
     Begin,
     /// Changes of the draft, in their order.
-    Edit(&'a [Change]),
+    Edit(&'a Changes),
     Verify,
     Check,
     Commit,
@@ -29,29 +32,35 @@ pub enum Ask<'a> {
     Abandon,
 }
 
-/// The changes that are asked for are within their limits, as their type says.
-fn ask_is_within(ask: Ask)
-    ensures { IsAskWithin ask.entry }
+/// How much of the timing side a step reads.
+fn reach(ask: Ask) -> Reach
+    ensures { result ≡ reach_of ask.entry }
 {
-    if let Ask::Edit(changes) = ask {
-        changes_are_within(changes);
+    match ask {
+        Ask::Begin | Ask::Edit(_) | Ask::Verify | Ask::Reopen => Reach::Row,
+        Ask::Abandon => Reach::Drafts,
+        Ask::Check | Ask::Commit => Reach::Plan,
     }
 }
 
-/// The decision on a timing side.
+/// The decision on a timing side, of which no more is known than the step reads.
 fn decision(
     alloc: Global,
     timing: &Timing,
     clerk: &Words<40>,
     ask: Ask,
 ) -> Result<Move, DraftRefusal>
-    ensures line { FollowsSoundLine timing.now clerk.now result (λ side. line_of ask.entry clerk.now side) }
+    ensures line { FollowsSoundLine (reach_of ask.entry) timing.now clerk.now result
+        (λ side. line_of ask.entry clerk.now side) }
     ensures refuses { RefusesFirst (first_refusal ask.entry timing.now.holder clerk.now) (IsLater ask.entry) result }
-    ensures bounds { IfOk result (λ move. IsBounded ask.entry (length timing.now.delta) move.changes.items) }
+    ensures within { IsAskWithin ask.entry }
+    ensures drafts { IfOk result (λ move. AreChangesWithin (drafted_in move.changes)) }
+    ensures bounds { IfOk result (λ move.
+        IsBounded ask.entry (length timing.now.delta) move.changes) }
 {
     match ask {
         Ask::Begin => begin(alloc, timing, clerk),
-        Ask::Edit(changes) => edit(alloc, timing, clerk, changes),
+        Ask::Edit(changes) => edit(alloc, timing, clerk, changes.as_slice()),
         Ask::Verify => verify(alloc, timing, clerk),
         Ask::Check => check(alloc, timing, clerk),
         Ask::Commit => commit(alloc, timing, clerk),
@@ -71,9 +80,8 @@ pub(crate) fn transact<S: Shelf>(
     ensures decides { Decides (S.is_honest shelf.new) (S.content shelf.old) (command_of id clerk.now ask.entry) result }
     ensures kept { IsKept S.is_honest S.content S.written S.may_leave shelf.old shelf.new }
 {
-    ask_is_within(ask);
     let _name = clerk.as_str();
-    let Some(found) = find(shelf, alloc, id)? else {
+    let Some(found) = find(shelf, alloc, id, reach(ask))? else {
         return Ok(Decided::refused(alloc, Refusal::UnknownIntersection));
     };
     let decision = decision(alloc, &found.timing, clerk, ask);

@@ -14,12 +14,17 @@ use Rattle.draft_core.proofs.decide.abandon.Goals as goal
 pub returns-clause-line : goal.returns-clause-line
 returns-clause-line c = λ rows side stands.
     let clerk = c.args._clerk.now in
-    let made : Move = record { revision = c.args.timing.now.revision; state = Normal; verdict =
-        NotDone; changes = c.in_ok-dropping.field-0 } in
+    let made : Move = record {
+      revision = c.args.timing.now.revision;
+      state = Normal;
+      verdict =
+          NotDone;
+      changes = c.in_ok-dropping.field-0;
+    } in
     held stands (λ d. Follows rows side clerk (Ok made) (abandoned_from side d)) (c.is_none.ensures
-        ∙ ap not c.if-is_none.false) (λ draft is.
+    ∙ ap not c.if-is_none.false) (λ draft is.
     abandon_makes stands stands.read clerk made refl refl refl (c.in_ok-dropping.ensures
-        ∙ ap dropping c.as_slice.ensures.list))
+    ∙ ap dropping c.as_slice.ensures.list))
 
 pub returns-clause-drafts : goal.returns-clause-drafts
 returns-clause-drafts c = ap drafted_in c.in_ok-dropping.ensures

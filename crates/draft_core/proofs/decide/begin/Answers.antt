@@ -10,8 +10,8 @@ pub returns-clause-line : goal.returns-clause-line
 returns-clause-line c = λ rows side stands.
     let clerk = c.args._clerk.now in
     let free : c.args.timing.now.holder ≡ None = nobody _ (sym c.is_some.ensures
-        ∙ c.if-is_some.false) in
+    ∙ c.if-is_some.false) in
     free_of stands (λ d. Follows rows side clerk (Ok c.stays.result) (begun_from side clerk d))
-        free (λ no_draft.
+    free (λ no_draft.
     begin_makes stands clerk c.stays.result no_draft c.stays.ensures.revision c.stays.ensures.state
-        c.stays.ensures.verdict c.stays.ensures.changes)
+    c.stays.ensures.verdict c.stays.ensures.changes)

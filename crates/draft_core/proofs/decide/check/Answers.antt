@@ -10,9 +10,9 @@ pub returns-clause-line : goal.returns-clause-line
 returns-clause-line c = λ rows side stands sound. owned_moves stands _ _ _ _ _
     (sym c.in_default.ensures) (λ draft held.
     stays_makes stands draft (record draft { stage = Done }) c.args.clerk.now _ held refl refl
-        c.stays.ensures.revision c.stays.ensures.state
+    c.stays.ensures.revision c.stays.ensures.state
     (c.stays.ensures.verdict ∙ c.verdict_on-verdict.ensures
     ∙ ap (verdict_on Done) (c.as_slice-2.ensures.value
-        ∙ draft_violations stands draft held _ _ sound c.as_slice.ensures.list
-        c.in_ok-found.ensures))
+    ∙ draft_violations stands draft held _ _ sound c.as_slice.ensures.list
+    c.in_ok-found.ensures))
     c.stays.ensures.changes)

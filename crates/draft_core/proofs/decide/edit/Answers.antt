@@ -9,7 +9,7 @@ pub returns-clause-line : goal.returns-clause-line
 returns-clause-line c = λ rows side stands. owned_moves stands _ _ _ _ _ (sym c.in_default.ensures)
     (λ draft held.
     edit_makes stands draft c.args.clerk.now _ c.args.changes.now held refl refl refl
-        c.in_ok-drafting.ensures)
+    c.in_ok-drafting.ensures)
 
 pub returns-clause-drafts : goal.returns-clause-drafts
 returns-clause-drafts c = ap drafted_in c.in_ok-drafting.ensures

@@ -8,5 +8,5 @@ pub returns-clause-line : goal.returns-clause-line
 returns-clause-line c = λ rows side stands. owned_moves stands _ _ _ _ _ (sym c.in_default.ensures)
     (λ draft held.
     stays_makes stands draft (record draft { stage = Transaction }) c.args.clerk.now _ held refl
-        refl c.stays.ensures.revision c.stays.ensures.state c.stays.ensures.verdict
-        c.stays.ensures.changes)
+    refl c.stays.ensures.revision c.stays.ensures.state c.stays.ensures.verdict
+    c.stays.ensures.changes)

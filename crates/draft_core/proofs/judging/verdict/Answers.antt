@@ -12,6 +12,6 @@ returns-in-Done c = λ rows side stands sound. held_by stands c.in-Some.holder
     (λ d. c.verdict_on.result ≡ verdict_of d) c.in-Some.is (λ draft held same.
     c.verdict_on.ensures
     ∙ ap (verdict_on Done) (c.as_slice-in-Done.ensures.value
-        ∙ draft_violations stands draft held _ _ sound c.as_slice.ensures.list
-        c.in_ok-found-in-Done.ensures)
+    ∙ draft_violations stands draft held _ _ sound c.as_slice.ensures.list
+    c.in_ok-found-in-Done.ensures)
     ∙ sym (ap (λ stage. verdict_on stage (violations_of draft.set)) (ap (λ (h : Holder). h.stage) same ∙ c.in-Done.is)))

@@ -36,5 +36,7 @@ returns-in_err-rows-clause-decides g c =
     let first = c.timing_rows.ensures.kept.honest_before honest in
     inr (
       row_there tables c.args.id c.in-Some.row (subst (ReadsIntersection tables c.args.id) c.in-Some.is (c.in_ok-row.ensures.row first)),
-      inl (subst (λ t. HasDamagedTiming t c.args.id) (c.intersection_row.ensures.kept.same_content first) (c.timing_rows.ensures.damaged (c.in_err-rows.was ∙ ap (λ (f : ShelfFault). Err f) damaged) honest)),
+      subst (λ t. HasDamagedTiming t c.args.id) (c.intersection_row.ensures.kept.same_content
+          first) (c.timing_rows.ensures.damaged (c.in_err-rows.was
+          ∙ ap (λ (f : ShelfFault). Err f) damaged) honest),
     ))

@@ -1,8 +1,10 @@
-use Rattle.std.proofs.Common.{◌∙◌, Err, Option, ap, subst}
+use Rattle.std.proofs.Common.{◌∙◌, Err, Option, Some, None, ap, subst}
 use Rattle.std.specs.Prelude.{IfSome}
-use Rattle.office_tables_shelf.specs.Shelf.{ListsDraft}
 use Rattle.office_tables_shelf.specs.declared.shelf.ShelfFault.{ShelfFault}
-use Rattle.office_desk.specs.Reading.{FindsAny}
+use Rattle.draft_core.specs.declared.timing.Reach.{Reach}
+use Rattle.office_desk.specs.Damage.{HasDamageIn}
+use Rattle.office_desk.specs.Reading.{FindsAny, ListsFound}
+use Rattle.office_desk.specs.Transacting.{reach_of}
 use Rattle.office_desk.specs.declared.reading.Found.{Found}
 use Rattle.office_desk.proofs.Decisions.{fault_decides}
 use Rattle.office_desk.proofs.Transactions.{absent_decides, meets, transact_decides}
@@ -10,18 +12,37 @@ use Rattle.office_desk.proofs.transacting.transact.Goals as goal
 
 pub returns-in_err-found-clause-decides : goal.returns-in_err-found-clause-decides
 returns-in_err-found-clause-decides g c =
+    let tables = g.S.Shelf.content c.args.shelf.now in
     fault_decides _ _ _ c.in_err-found.field-0.0 _ c.from_residual.ensures.1
-    (λ damaged honest. meets _ _ _ c.args.ask (c.find.ensures.damaged (c.in_err-found.was ∙ ap (λ (f : ShelfFault). Err f) damaged) honest))
+    (λ damaged honest. meets _ _ _ c.args.ask (subst
+    (λ (r : Reach). HasDamageIn r tables c.args.id) c.reach.ensures
+    (c.find.ensures.damaged (c.in_err-found.was
+    ∙ ap (λ (f : ShelfFault). Err f) damaged) honest)))
 
 pub returns-in_default-clause-decides : goal.returns-in_default-clause-decides
 returns-in_default-clause-decides g c =
-    absent_decides _ _ _ _ c.args.ask _ (λ honest. subst (FindsAny (g.S.Shelf.content c.args.shelf.now) c.args.id) c.in_default.is (c.in_ok-found.ensures.found honest)) c.in_ok-found.ensures.whole
+    let tables = g.S.Shelf.content c.args.shelf.now in
+    absent_decides _ _ _ _ c.args.ask _ (λ honest. subst
+    (λ (r : Reach). FindsAny r tables c.args.id None) c.reach.ensures
+    (subst (FindsAny c.reach.result tables c.args.id) c.in_default.is
+    (c.in_ok-found.ensures.found honest)))
+    (λ honest. subst (λ (r : Reach). ¬ HasDamageIn r tables c.args.id) c.reach.ensures
+    (c.in_ok-found.ensures.whole honest))
     c.refused.ensures.reply c.refused.ensures.no_changes
 
 pub returns-clause-decides : goal.returns-clause-decides
 returns-clause-decides g c =
     let tables = g.S.Shelf.content c.args.shelf.now in
-    transact_decides _ _ _ _ c.args.ask c.in-Some.found _ c.answer.result c.as_str-name.ensures.words c.ask_is_within.ensures
-    (λ honest. subst (FindsAny tables c.args.id) c.in-Some.is (c.in_ok-found.ensures.found honest))
-    (λ honest. subst (λ (o : Option Found). IfSome o (λ found. ListsDraft tables c.args.id found.timing.delta)) c.in-Some.is (c.in_ok-found.ensures.listed honest))
-    c.decision-decision.ensures.line c.decision-decision.ensures.bounds c.decision-decision.ensures.refuses c.in_ok-found.ensures.whole c.answer.ensures.writes c.answer.ensures.fault
+    transact_decides _ _ _ _ c.args.ask c.in-Some.found _ c.answer.result
+    c.as_str-name.ensures.words c.decision-decision.ensures.within
+    c.decision-decision.ensures.drafts
+    (λ honest. subst (λ (r : Reach). FindsAny r tables c.args.id (Some c.in-Some.found))
+    c.reach.ensures (subst (FindsAny c.reach.result tables c.args.id) c.in-Some.is
+    (c.in_ok-found.ensures.found honest)))
+    (λ honest. subst (λ (r : Reach). ListsFound r tables c.args.id c.in-Some.found) c.reach.ensures
+    (subst (λ (o : Option Found). IfSome o (ListsFound c.reach.result tables c.args.id))
+    c.in-Some.is (c.in_ok-found.ensures.listed honest)))
+    c.decision-decision.ensures.line c.decision-decision.ensures.bounds
+    c.decision-decision.ensures.refuses
+    (λ honest. subst (λ (r : Reach). ¬ HasDamageIn r tables c.args.id) c.reach.ensures
+    (c.in_ok-found.ensures.whole honest)) c.answer.ensures.writes c.answer.ensures.fault

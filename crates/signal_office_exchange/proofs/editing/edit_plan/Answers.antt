@@ -20,7 +20,7 @@ returns-clause-edits g c = λ honest.
         middle = middle;
         edit =
             subst (λ changes. Ran edit_told old (commands changes) middle (Ok violations))
-            c.new-changes.ensures
+            c.new-changes.ensures.list
             (was_run violations told.Memory (c.in_ok-violations.ensures.does before));
         goes =
             subst (λ due. Goes due c.args.id c.args.clerk.now middle new (Ok tt))
@@ -48,7 +48,7 @@ returns-in_err-commit_where_due-clause-edits g c = λ honest.
         middle = middle;
         edit =
             subst (λ changes. Ran edit_told old (commands changes) middle (Ok violations))
-            c.new-changes.ensures
+            c.new-changes.ensures.list
             (was_run violations told.Memory (c.in_ok-violations.ensures.does before));
         goes =
             subst (λ due. Goes due c.args.id c.args.clerk.now middle new (Err fault))
