@@ -20,8 +20,10 @@ pub record AreThoseOf (image : Image) (trees : Trees) : Type 0 where
   pub reads : AreFoundIn image trees
 
 -- where the connection came back and the disk is honest, this held of the trees
-abbrev pub TreesWere : {S : Type 0} → (Held S → State) → (Trees → Type 0) → Held S → Option (Held S) → Type 0
-TreesWere state_of so conn back = IfSome back (λ c. IsHonest (state_of c) → so (state_of conn).committed.trees)
+abbrev pub TreesWere : {S : Type 0} → (Held S → State) → (Trees → Type 0)
+    → Held S → Option (Held S) → Type 0
+TreesWere state_of so conn back =
+    IfSome back (λ c. IsHonest (state_of c) → so (state_of conn).committed.trees)
 
 -- the tables in the files stand for the office
 abbrev pub StandInFiles : Image → Office → Type 0
