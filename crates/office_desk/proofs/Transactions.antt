@@ -395,13 +395,13 @@ transact_decides is_honest tables id clerk ask found decision
           decided.changes.items words within drafts (finds honest) follows writes;
       writes = λ honest. transact_writes tables id clerk ask found decision decided.reply
           decided.changes.items writes bounds (lists honest);
-      refused = refused_unchanged id clerk found decision decided.reply
-          decided.changes.items writes;
+      refused = refused_unchanged id clerk found decision decided.reply decided.changes.items
+          writes;
       query = λ query. absurd (never_query id clerk ask query);
-      named = reply_named ask id clerk found decision decided.reply
-          decided.changes.items refuses writes;
-      undamaged = reply_undamaged id clerk found decision decided.reply
-          decided.changes.items writes;
+      named = reply_named ask id clerk found decision decided.reply decided.changes.items refuses
+          writes;
+      undamaged = reply_undamaged id clerk found decision decided.reply decided.changes.items
+          writes;
       whole = λ honest damaged. absurd (whole honest (names_row tables id clerk ask damaged));
     }
 transact_decides is_honest tables id clerk ask found decision
