@@ -7,7 +7,7 @@ use Rattle.serde_json.specs.View.{view, items_of, items_view}
 use Rattle.serde_json.specs.declared.value.Value.{Value}
 use Rattle.std.proofs.Math.Seq.{drop-length}
 use Rattle.std.proofs.lemmas.List.{get_or-map, length-map, append-nil}
-use Rattle.signal_records.specs.Reading.{change_at, texts, Gives as RowGives}
+use Rattle.signal_records.specs.Reading.{change_at, Gives as RowGives}
 use Rattle.signal_records.specs.Within.{current_limits}
 use Rattle.signal_records.specs.declared.fault.RowFault.{RowFault}
 use Rattle.signal_records.specs.declared.fault.RowFault.TheVariants as row
@@ -24,8 +24,7 @@ use Rattle.office_files.specs.declared.fault.CsvFault.TheVariants as file
 use Rattle.office_http_requests.specs.Fields.{field_name}
 use Rattle.office_http_requests.specs.Asks.{◌>>=◌, or_bad_row, or_field, MayWant, WantsMemoryOnlyIf}
 use Rattle.office_http_requests.specs.CsvBodies.{csv_in, csv_changes_in, csv_records_in}
-use Rattle.office_http_requests.specs.Rows.{RowRefs, IsRowFault, rows_seen, list_of, list_in}
-use Rattle.office_http_requests.specs.Rows.{each, texts_in, rows_in, changes_of, changes_in}
+use Rattle.office_http_requests.specs.Rows.{list_of, list_in, each, texts_in, rows_in, changes_of, changes_in, IsRowFault}
 
 -- what is done, before what the rest gives
 abbrev pub onto : {B : Type 0} → List B → Option (List B) → Option (List B)

@@ -1,5 +1,4 @@
-use Rattle.std.proofs.Common.{◌≡◌, true, sym, subst, bytes_eq}
-use Rattle.office_http_requests.specs.Asks.{Gives}
+use Rattle.std.proofs.Common.{◌≡◌, true, sym, bytes_eq}
 use Rattle.office_http_requests.specs.Commands.{asked_at, command_at}
 use Rattle.office_http_requests.specs.Routes.{method_of}
 use Rattle.office_http_requests.proofs.CommandLemmas.{asked-unread, command_with-at, gives-read, gives-trans}
