@@ -24,7 +24,8 @@ use Rattle.office_files.specs.declared.fault.CsvFault.TheVariants as file
 use Rattle.office_http_requests.specs.Fields.{field_name}
 use Rattle.office_http_requests.specs.Asks.{◌>>=◌, or_bad_row, or_field, MayWant, WantsMemoryOnlyIf}
 use Rattle.office_http_requests.specs.CsvBodies.{csv_in, csv_changes_in, csv_records_in}
-use Rattle.office_http_requests.specs.Rows.{list_of, list_in, each, texts_in, rows_in, changes_of, changes_in, IsRowFault}
+use Rattle.office_http_requests.specs.Rows.{list_of, list_in, each, texts_in, rows_in}
+use Rattle.office_http_requests.specs.Rows.{changes_of, changes_in, IsRowFault}
 
 -- what is done, before what the rest gives
 abbrev pub onto : {B : Type 0} → List B → Option (List B) → Option (List B)
