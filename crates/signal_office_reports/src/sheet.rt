@@ -8,6 +8,7 @@ ghost use Rattle.office_desk.specs.StandFor.{StandForSound};
 ghost use Rattle.office_desk.specs.declared.command.Command.TheVariants as command;
 ghost use Rattle.signal_office_reports.specs.Fault.{IsFaultOfQuery, TellsUnknown};
 ghost use Rattle.signal_office_reports.specs.Sheet.{IsNameOf, IsSheetOf, IsTimingOf};
+ghost use Rattle.signal_office_reports.specs.Sheet.{MeetsSheetDamage};
 
 use crate::asking::ask;
 use crate::fault::Fault;
@@ -74,7 +75,8 @@ pub fn sheet_of<S: Shelf>(
         IsSheetOf before id text.items) }
     // Where it fails, the intersection is unknown, memory or the database refused, or a row of it is no record.
     ensures refused { IfErr result IsFaultOfQuery }
-    ensures damaged { result ≡ Err Fault.Damaged → S.is_honest office.new → MeetsDamage (S.content office.old) (command.Timing id) }
+    ensures damaged { result ≡ Err Fault.Damaged → S.is_honest office.new →
+        MeetsSheetDamage (S.content office.old) id }
     // An unknown intersection is told where the office has none, and only there.
     ensures fault { IfErr result (λ fault. S.is_honest office.new → (before : OfficeState) → StandForSound (S.content office.old) before →
         TellsUnknown before id fault) }
