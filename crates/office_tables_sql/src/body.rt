@@ -12,7 +12,7 @@ pub fn write_body(alloc: Global, row: &Row) -> Result<String, NoMemory>
     ensures { IfOk result (λ text. string_bytes text ≡ body_of row.now) }
 {
     let fields = write_row(alloc, row)?;
-    joined(alloc, fields.as_slice())
+    Ok(joined(alloc, fields.as_slice())?)
 }
 
 fn joined(alloc: Global, fields: &[String]) -> Result<String, NoMemory>

@@ -1,6 +1,8 @@
 //! The file of a cabinet whose records were given in no order.
 
-use cabinet_core::{CabinetView, Closing, Opening, Order, Ordered, RecordCommand};
+use cabinet_core::{
+    CabinetView, Closing, Inspection, Opening, Order, Ordered, RecordCommand, UsedLine,
+};
 use office_files::{read_records_csv, records_csv};
 use signal_records::InterId;
 use std::alloc::Global;
@@ -31,7 +33,7 @@ close,12,7,2026-05-02,Bo
 ";
 
 /// An order that was closed as soon as it was opened.
-fn closed(opening: Opening) -> Result<Order, Fail> {
+fn closed(opening: &Opening) -> Result<Order, Fail> {
     let closing = Closing {
         day: opening.day,
         closer: opening.clerk.clone()?,
@@ -39,29 +41,54 @@ fn closed(opening: Opening) -> Result<Order, Fail> {
     Ok(Order {
         number: opening.number,
         opened: opening.day,
-        clerk: opening.clerk,
-        text: opening.text,
+        clerk: opening.clerk.clone()?,
+        text: opening.text.clone()?,
         closing: Some(closing),
     })
 }
 
-/// What is held of a cabinet after these records, whose orders are closed.
-fn view_of(alloc: Global, records: Vec<RecordCommand>) -> Result<CabinetView, Fail> {
-    let mut inspections = Vec::new(alloc);
-    let mut orders = Vec::new(alloc);
-    let mut lines = Vec::new(alloc);
-    for read in records {
-        match read {
-            RecordCommand::Inspect { inspection, .. } => inspections.push(inspection)?,
-            RecordCommand::OpenOrder { opening, .. } => orders.push(closed(opening)?)?,
-            RecordCommand::UsePart { line, .. } => lines.push(line)?,
-            _ => {}
+/// The inspections among records.
+fn inspections_in(alloc: Global, records: &[RecordCommand]) -> Result<Ordered<Inspection>, Fail> {
+    let mut found = Vec::new(alloc);
+    for record in records {
+        if let RecordCommand::Inspect { inspection, .. } = record {
+            found.push(inspection.clone()?)?;
         }
     }
+    Ok(Ordered::new(found))
+}
+
+/// The orders that records open, each of them closed.
+fn orders_in(alloc: Global, records: &[RecordCommand]) -> Result<Ordered<Order>, Fail> {
+    let mut found = Vec::new(alloc);
+    for record in records {
+        if let RecordCommand::OpenOrder { opening, .. } = record {
+            found.push(closed(opening)?)?;
+        }
+    }
+    Ok(Ordered::new(found))
+}
+
+/// The used parts among records.
+fn lines_in(alloc: Global, records: &[RecordCommand]) -> Result<Ordered<UsedLine>, Fail> {
+    let mut found = Vec::new(alloc);
+    for record in records {
+        if let RecordCommand::UsePart { line, .. } = record {
+            found.push(line.clone()?)?;
+        }
+    }
+    Ok(Ordered::new(found))
+}
+
+/// What is held of a cabinet after these records, whose orders are closed.
+fn view_of(alloc: Global, records: &[RecordCommand]) -> Result<CabinetView, Fail> {
+    let inspections = inspections_in(alloc, records)?;
+    let orders = orders_in(alloc, records)?;
+    let lines = lines_in(alloc, records)?;
     Ok(CabinetView {
-        inspections: Ordered::new(inspections),
-        orders: Ordered::new(orders),
-        lines: Ordered::new(lines),
+        inspections,
+        orders,
+        lines,
     })
 }
 
@@ -69,7 +96,8 @@ fn view_of(alloc: Global, records: Vec<RecordCommand>) -> Result<CabinetView, Fa
 fn the_file_of_a_cabinet_is_in_order(rt: HostRuntime) -> Result<(), Fail> {
     let alloc = rt.alloc();
     let id = InterId::new(12).ok_or("an intersection")?;
-    let view = view_of(alloc, read_records_csv(alloc, BACKWARDS.as_bytes())?)?;
+    let records = read_records_csv(alloc, BACKWARDS.as_bytes())?;
+    let view = view_of(alloc, &records)?;
     let file = records_csv(alloc, id, &view)?;
     assert_eq!(rt; file.as_slice(), IN_ORDER.as_bytes());
     Ok(())
