@@ -1,11 +1,10 @@
 -- The office over the tables of a file.
-use Rattle.std.specs.Prelude.{◌≡◌, Option, IfSome}
+use Rattle.std.specs.Prelude.{◌≡◌}
 use Rattle.sqlite.specs.Files.{HoldsDatabase, AreFoundIn}
 use Rattle.sqlite.specs.Recovery.{Image}
 use Rattle.sqlite.specs.Tree.{Trees}
 use Rattle.sqlite.specs.Held.{Held}
 use Rattle.sqlite.specs.State.{State}
-use Rattle.office_tables.specs.Calls.{IsHonest}
 use Rattle.office_tables.specs.Content.{Content}
 use Rattle.office_tables_open.specs.SqlShelf.{MayLeave, SqlView}
 use Rattle.office_tables.specs.Stored.{content_now, content_of}
@@ -18,12 +17,6 @@ use Rattle.office_http_framing.specs.Stops.{Storage}
 pub record AreThoseOf (image : Image) (trees : Trees) : Type 0 where
   pub holds : (db : Trees) → HoldsDatabase image db → trees ≡ db
   pub reads : AreFoundIn image trees
-
--- where the connection came back and the disk is honest, this held of the trees
-abbrev pub TreesWere : {S : Type 0} → (Held S → State) → (Trees → Type 0)
-    → Held S → Option (Held S) → Type 0
-TreesWere state_of so conn back =
-    IfSome back (λ c. IsHonest (state_of c) → so (state_of conn).committed.trees)
 
 -- the tables in the files stand for the office
 abbrev pub StandInFiles : Image → Office → Type 0

@@ -1,6 +1,6 @@
 //! The office over the tables of a database in a file.
 
-ghost use Rattle.std.specs.Prelude.{◌≡◌, ◌≢◌, ◌≤◌, ◌+◌, ◌*◌, ℕ, List, None, Ok, IfOk, IfErr};
+ghost use Rattle.std.specs.Prelude.{◌≡◌, ◌≢◌, ◌≤◌, ◌+◌, ◌*◌, ℕ, List, None, Ok, IfOk, IfErr, IfSome};
 ghost use Rattle.sqlite.specs.Closing.{IsCopied};
 ghost use Rattle.sqlite.specs.Files.{file_state};
 ghost use Rattle.sqlite.specs.Held.{state};
@@ -21,7 +21,7 @@ ghost use Rattle.office_http_framing.specs.Limits.{longest_request};
 ghost use Rattle.office_http_framing.specs.Protocol.{Run as ProtocolRun};
 ghost use Rattle.office_http_framing.specs.Serve.{Did, TellsFault};
 ghost use Rattle.office_http_framing.specs.Stops.{Leaves, LeavesRead};
-ghost use Rattle.signal_office_run.specs.File.{AreOpenedFor, StandInFiles, TreesWere, sql_storage};
+ghost use Rattle.signal_office_run.specs.File.{AreOpenedFor, StandInFiles, sql_storage};
 
 use office_desk::office::Office;
 use office_http::{ServeFault, Served, Sink, Source, serve};
@@ -43,10 +43,8 @@ fn open_tables<S: Alter + Drop>(
     requires { IsArrangedIfClean (state S.Store conn) }
     ensures opened { IfOk result (λ office. IsOpened S.Store conn office) }
     ensures unreached { IfErr result (λ e. e.1 ≡ None → (e.0 ≢ Fault.Version) × (e.0 ≢ Fault.Damaged)) }
-    ensures version { IfErr result (λ e. e.0 ≡ Fault.Version →
-        TreesWere (state S.Store) HasOtherVersion conn e.1) }
-    ensures damaged { IfErr result (λ e. e.0 ≡ Fault.Damaged →
-        TreesWere (state S.Store) HasRowsAlone conn e.1) }
+    ensures version { IfErr result (λ e. e.0 ≡ Fault.Version → IfSome e.1 (λ c. IsHonest (state S.Store c) → HasOtherVersion (state S.Store conn).committed.trees)) }
+    ensures damaged { IfErr result (λ e. e.0 ≡ Fault.Damaged → IfSome e.1 (λ c. IsHonest (state S.Store c) → HasRowsAlone (state S.Store conn).committed.trees)) }
 {
     match SqlShelf::open_arranged(alloc, conn) {
         Ok(shelf) => Ok(Office::new(shelf)),
