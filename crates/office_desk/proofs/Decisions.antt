@@ -10,7 +10,7 @@ use Rattle.office_tables_shelf.specs.declared.shelf.ShelfFault.TheVariants.{Dama
 use Rattle.office_desk_cabinet.specs.Registers.{IsOneOf}
 use Rattle.office_desk.specs.Answers.{AnswersAny}
 use Rattle.office_desk.specs.Changes.{most_writes}
-use Rattle.office_desk.specs.Damage.{IsBarred, MeetsDamage}
+use Rattle.office_desk.specs.Damage.{MeetsDamage}
 use Rattle.office_desk.specs.Deciding.{Decides, IsDecision}
 use Rattle.office_desk.specs.Named.{RefusesBy, number_of, numbers_of}
 use Rattle.office_desk.specs.declared.command.Command.{Command}
@@ -26,7 +26,7 @@ refuses_so numbers told among why e = subst (λ w. IsOneOf numbers (number_of w)
 
 -- a decision without a row to write: a refusal, or what a query shows
 pub told_decides : (is_honest : Type 0) (tables : Content) (command : Command) (said : Reply) (decided : Decided) → decided.reply ≡ said → said ≢ Refused refusal.Damaged → RefusesBy (numbers_of command) said → decided.changes.items ≡ []
-    → (is_honest → ¬ IsBarred tables command) → (is_honest → AnswersAny tables command decided.reply (changed_by tables decided.changes.items)) → IsDecision is_honest tables command decided
+    → (is_honest → ¬ MeetsDamage tables command) → (is_honest → AnswersAny tables command decided.reply (changed_by tables decided.changes.items)) → IsDecision is_honest tables command decided
 told_decides is_honest tables command said decided is never named none whole step = record {
   step = step;
   writes = λ honest table. subst (λ (list : List RowChange). writes_in table list ≤ most_writes tables command table) (sym none) (omega arith);
@@ -39,7 +39,7 @@ told_decides is_honest tables command said decided is never named none whole ste
 
 -- of an intersection that is not there
 pub unknown_decides : (is_honest : Type 0) (tables : Content) (command : Command) (decided : Decided) → decided.reply ≡ Refused refusal.UnknownIntersection → IsOneOf (numbers_of command) 10 → decided.changes.items ≡ []
-    → (is_honest → ¬ IsBarred tables command) → (is_honest → AnswersAny tables command decided.reply (changed_by tables decided.changes.items)) → IsDecision is_honest tables command decided
+    → (is_honest → ¬ MeetsDamage tables command) → (is_honest → AnswersAny tables command decided.reply (changed_by tables decided.changes.items)) → IsDecision is_honest tables command decided
 unknown_decides is_honest tables command decided is known none whole step =
     told_decides is_honest tables command (Refused refusal.UnknownIntersection) decided is (λ e. cc) (refuses_so (numbers_of command) refusal.UnknownIntersection known) none whole step
 

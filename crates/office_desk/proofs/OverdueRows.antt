@@ -76,20 +76,24 @@ fewer day [] = omega arith
 fewer day (one ∷ seen) = one_more (lateness day one) (overdue_list day seen) (length seen) (fewer day seen)
 
 -- no more are overdue than there are intersections
-pub all_overdue : (office : Office) (day : ℕ) → IsSound office → take 9999 (overdue_on office day) ≡ overdue_on office day
-all_overdue office day sound =
+pub all_overdue : (office : Office) (day most : ℕ) → 9999 ≤ most → IsSound office
+    → take most (overdue_on office day) ≡ overdue_on office day
+all_overdue office day most many sound =
     let es = entries office.intersections in
     let seen = map (seen_of office.register) es in
     let count = at_most_9999 office sound in
     let same = length-map es (seen_of office.register) in
     let few = fewer day seen in
-    take_all 9999 (overdue_list day seen) (omega arith)
+    take_all most (overdue_list day seen) (omega arith)
 
 -- ---- the query
 
-pub overdue_answers : (tables : Content) (office : Office) (day : ℕ) (found : List OverdueRow) (said : Reply) (changes : List RowChange)
-    → StandForSound tables office → ListsOverdue tables day 9999 found
+pub overdue_answers : (tables : Content) (office : Office) (day most : ℕ) (found : List OverdueRow)
+    (said : Reply) (changes : List RowChange) → 9999 ≤ most
+    → StandForSound tables office → ListsOverdue tables day most found
     → said ≡ reply.Overdue (map listed found) → changes ≡ [] → Answers office (command.Overdue day) said (changed_by tables changes)
-overdue_answers tables office day found said changes stands lists is none =
+overdue_answers tables office day most found said changes many stands lists is none =
     query_answers tables office (command.Overdue day) (reply.Overdue (overdue_on office day)) said changes stands refl
-    (is ∙ ap (λ (list : List Listed). reply.Overdue list) (first_overdue tables office day 9999 found stands lists ∙ all_overdue office day stands.sound)) none
+    (is ∙ ap (λ (list : List Listed). reply.Overdue list)
+    (first_overdue tables office day most found stands lists
+    ∙ all_overdue office day most many stands.sound)) none

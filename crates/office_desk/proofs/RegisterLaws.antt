@@ -9,7 +9,6 @@ use Rattle.cabinet_core.specs.Orders.{open_at}
 use Rattle.cabinet_core.specs.Register.{Register}
 use Rattle.cabinet_core.specs.Runs.{AreAccepted}
 use Rattle.cabinet_core.specs.Step.{line_at, with_record, after_line}
-use Rattle.cabinet_core.specs.Stock.{stock_of}
 use Rattle.cabinet_core.proofs.RecordLaws.{open_law, stock_law}
 use Rattle.office_desk.specs.Office.{Office, Intersection, IsSound}
 use Rattle.office_desk.proofs.Imports.{import_goes_on}
@@ -19,9 +18,9 @@ use Rattle.office_desk.specs.Step.{Step, Run, answered, added, moved, shown, tra
 use Rattle.office_desk.specs.declared.command.Command.{Command}
 use Rattle.office_desk.specs.declared.command.Command.TheVariants as command
 use Rattle.office_desk.specs.declared.refusal.Refusal.{Refusal}
-use Rattle.office_desk.specs.declared.refusal.Refusal.TheVariants.{Unavailable, UnknownIntersection}
+use Rattle.office_desk.specs.declared.refusal.Refusal.TheVariants.{Unavailable}
 use Rattle.office_desk.specs.declared.reply.Reply.{Reply}
-use Rattle.office_desk.specs.declared.reply.Reply.TheVariants.{OpenOrders, Stock, Refused}
+use Rattle.office_desk.specs.declared.reply.Reply.TheVariants.{OpenOrders, Refused}
 
 -- ---- one step
 

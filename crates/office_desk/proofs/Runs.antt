@@ -12,7 +12,7 @@ use Rattle.office_tables_shelf.specs.declared.rows.RowChange.{RowChange}
 use Rattle.office_tables_shelf.specs.declared.shelf.ShelfFault.{ShelfFault}
 use Rattle.office_tables_shelf.specs.declared.shelf.ShelfFault.TheVariants.{NoMemory, Store, Damaged}
 use Rattle.office_desk.specs.Answers.{AnswersAny, Answers, IsAfterStep, RunsAny, RunsTo}
-use Rattle.office_desk.specs.Changes.{IsRefused, RiseAtMost, most_writes}
+use Rattle.office_desk.specs.Changes.{IsRefused, most_writes}
 use Rattle.office_desk.specs.Deciding.{IsAnswered, IsDecision}
 use Rattle.office_desk.specs.Running.{AreRun, IsRun}
 use Rattle.office_desk.specs.declared.decided.Decided.{Decided}
@@ -101,7 +101,9 @@ damage_refuted tables (command.OpenOrders id) (inr (there, order)) =
     (register_of tables office stands) order
 damage_refuted tables command.Stock damage = λ office stands. no_damaged_part tables office.register (register_of tables office stands) damage
 damage_refuted tables (command.Overdue day) (inl row) = no_damaged_intersection tables row
-damage_refuted tables (command.Overdue day) (inr inspection) = λ office stands. no_damaged_inspection tables office.register inspection.0 (register_of tables office stands) inspection.1
+damage_refuted tables (command.Overdue day) (inr inspection) =
+    λ office stands. no_damaged_inspection tables office.register inspection.0
+    (register_of tables office stands) inspection.2
 
 -- a fault of the shelf, answered as its refusal
 fault_answers : (tables : Content) (command : Command) (fault : ShelfFault) (reply : Reply) (changes : List RowChange) → (fault ≡ Damaged → MeetsDamage tables command) → reply ≡ Refused (refusal_of fault) → changes ≡ [] → AnswersAny tables command reply (changed_by tables changes)

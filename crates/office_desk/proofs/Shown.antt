@@ -26,7 +26,7 @@ use Rattle.office_desk.specs.Office.{Office, Intersection, IsSoundIntersection, 
 use Rattle.office_desk.specs.Reading.{AreWithin, FoundStands, Finds, FindsAny, drafts_at}
 use Rattle.office_desk.specs.Reading.{set_of_rows}
 use Rattle.office_desk.specs.StandFor.{StandForSound, row_of}
-use Rattle.office_desk.specs.Step.{answered, shown, state_shown, draft_shown}
+use Rattle.office_desk.specs.Step.{answered, shown, state_shown, draft_shown, timing_shown}
 use Rattle.office_desk.specs.declared.command.Command.{Command}
 use Rattle.office_desk.specs.declared.command.Command.TheVariants as command
 use Rattle.office_desk.specs.declared.reading.Found.{Found}
@@ -171,19 +171,26 @@ no_verdict tables id row verdict finds office i stands there is =
 
 pub timing_answers : (tables : Content) (office : Office) (id : ℕ) (row : IntersectionRow) (rows : List Row) (set : Rows) (told : Reply) (changes : List RowChange)
     → StandForSound tables office → ReadsIntersection tables id (Some row) → ListsTiming tables id rows → AreWithin rows → set ≡ set_of_rows rows
-    → told ≡ reply.Timing (record { revision = row.revision; rows = set }) → changes ≡ [] → Answers office (command.Timing id) told (changed_by tables changes)
+    → told ≡ reply.Timing (record { name = row.name; revision = row.revision; rows = set })
+    → changes ≡ [] → Answers office (command.Timing id) told (changed_by tables changes)
 timing_answers tables office id row rows set told changes stands reads lists within made is none =
     let at = there tables office id row stands reads in
     let i = at.0 in
     let same : set ≡ i.timing.committed = made ∙ (committed_read tables office id rows stands lists within ∙ ap (λ (o : Option Intersection). (side_of o).committed) at.1) in
-    query_answers tables office (command.Timing id) (reply.Timing (record { revision = i.timing.revision; rows = i.timing.committed })) told changes stands
-    (ap (λ o. (shown o (λ j. reply.Timing (record { revision = j.timing.revision; rows = j.timing.committed })), office)) at.1)
-    (is ∙ (λ k. reply.Timing (record { revision = (at.2 k).revision; rows = same k }))) none
+    query_answers tables office (command.Timing id) (reply.Timing (timing_shown i)) told changes stands
+    (ap (λ o. (shown o (λ j. reply.Timing (timing_shown j)), office)) at.1)
+    (is ∙ (λ k. reply.Timing (record {
+      name = (at.2 k).name;
+      revision = (at.2 k).revision;
+      rows = same k;
+    }))) none
 
 pub unknown_timing : (tables : Content) (office : Office) (id : ℕ) (told : Reply) (changes : List RowChange)
     → StandForSound tables office → ReadsIntersection tables id None → told ≡ reply.Refused refusal.UnknownIntersection → changes ≡ [] → Answers office (command.Timing id) told (changed_by tables changes)
 unknown_timing tables office id told changes stands reads is none =
-    query_answers tables office (command.Timing id) _ told changes stands (ap (λ o. (shown o (λ j. reply.Timing (record { revision = j.timing.revision; rows = j.timing.committed })), office)) (absent tables office id stands reads)) is none
+    query_answers tables office (command.Timing id) _ told changes stands
+    (ap (λ o. (shown o (λ j. reply.Timing (timing_shown j)), office))
+    (absent tables office id stands reads)) is none
 
 -- ---- Draft
 

@@ -23,7 +23,6 @@ use Rattle.draft_core.specs.declared.timing.TimingChange.{TimingChange}
 use Rattle.draft_core.specs.declared.timing.TimingChange.TheVariants.{Committed, Drafted, DraftGone}
 use Rattle.office_tables_shelf.specs.Change.{changed_by}
 use Rattle.office_tables_shelf.specs.Content.{Content}
-use Rattle.office_tables_shelf.specs.Damage.{HasDamagedIntersection}
 use Rattle.office_tables_shelf.specs.Shelf.{ListsDraft, rows_of}
 use Rattle.office_tables_shelf.specs.declared.rows.RowChange.{RowChange}
 use Rattle.office_tables_shelf.specs.declared.rows.RowChange.TheVariants.{PutIntersection}
@@ -35,7 +34,7 @@ use Rattle.office_desk_cabinet.specs.Registers.{IsOneOf}
 use Rattle.office_desk.specs.Answers.{Answers, AnswersAny}
 use Rattle.office_desk.specs.Changes.{IsQuery, IsRefused, most_intersection_writes, most_writes}
 use Rattle.office_tables_shelf.specs.Counts.{is_same_table, writes_in}
-use Rattle.office_desk.specs.Damage.{HasDamageIn, IsBarred, MeetsDamage}
+use Rattle.office_desk.specs.Damage.{HasDamageIn, MeetsDamage}
 use Rattle.office_desk.specs.Deciding.{Decides, IsDecision}
 use Rattle.office_desk.specs.Moving.{WritesMove, WritesDecision, moved_row, row_changes_of}
 use Rattle.office_desk.specs.Named.{RefusesBy, number_of, numbers_of}
@@ -358,7 +357,7 @@ never_query id clerk Reopen query = query
 never_query id clerk Abandon query = query
 
 names_row : (tables : Content) (id : ℕ) (clerk : List ℕ) (ask : Ask)
-    → IsBarred tables (command_of id clerk ask) → HasDamageIn (reach_of ask) tables id
+    → MeetsDamage tables (command_of id clerk ask) → HasDamageIn (reach_of ask) tables id
 names_row tables id clerk Begin damaged = damaged
 names_row tables id clerk (Edit changes) damaged = damaged
 names_row tables id clerk Verify damaged = damaged

@@ -1,11 +1,6 @@
 -- Rows that were read, or none, are no damaged ones.
-use Rattle.std.proofs.Common.{◌≡◌, ◌≢◌, ◌⊎◌, inl, inr, ℕ, Bool, true, false, cond, List, [], ◌∷◌, map, Option, Some, None, option_map, is_some, refl, ap, sym, subst, ◌∙◌}
-use Rattle.std.proofs.lemmas.Bool.{cases_Bool}
-use Rattle.std.specs.FinMap as finite
-use Rattle.std.specs.FinMap.{get, entries, get-entries}
-use Rattle.std.specs.FinMap.Entries.{find-where_key}
-use Rattle.std.specs.List.{AllByRecursion}
-use Rattle.std.specs.Ordering.{eq_by_cmp}
+use Rattle.std.proofs.Common.{◌≡◌, ◌≢◌, ◌⊎◌, inl, inr, ℕ, true, false, List, Option, Some, None}
+use Rattle.std.proofs.Common.{option_map, is_some, refl, ap, sym, subst, ◌∙◌}
 use Rattle.std.specs.Prelude.{IsSome}
 use Rattle.signal_records.specs.Row.{key_of}
 use Rattle.signal_records.specs.Within.{IsChangeWithin, IsRowWithin, current_limits}
@@ -17,14 +12,14 @@ use Rattle.draft_core.specs.declared.timing.Reach.TheVariants as reach
 use Rattle.draft_core.specs.declared.state.Holder.{Holder}
 use Rattle.draft_core.specs.declared.state.Stage.{Stage}
 use Rattle.draft_core.specs.declared.state.Stage.TheVariants.{Transaction, Verify, Done}
-use Rattle.office_tables_shelf.proofs.CellLemmas.{cells_exact, tied}
-use Rattle.office_tables_shelf.specs.Cells.{Cell, Rows, cells_cmp}
+use Rattle.office_tables_shelf.specs.Cells.{Cell}
 use Rattle.office_tables_shelf.specs.Content.{Content}
 use Rattle.office_tables_shelf.specs.Damage.{HasDamagedDraft, HasDamagedIntersection, HasDamagedTiming}
-use Rattle.office_tables_shelf.specs.Rows.{IsIntersectionRow, draft_columns, draft_key, intersection_columns, intersection_key, state_number, timing_columns, timing_key}
-use Rattle.office_tables_shelf.specs.Shelf.{ListsDraft, ListsTiming, ReadsIntersection, is_of, rows_of}
+use Rattle.office_tables_shelf.specs.Rows.{IsIntersectionRow, draft_columns, draft_key, intersection_columns, state_number, timing_columns, timing_key}
+use Rattle.office_tables_shelf.proofs.ListedRows.{listed_row}
+use Rattle.office_tables_shelf.specs.Shelf.{IsThere, ListsDraft, ListsTiming, ReadsIntersection}
 use Rattle.office_tables_shelf.specs.declared.rows.IntersectionRow.{IntersectionRow}
-use Rattle.office_desk.specs.Damage.{HasDamage, HasDamagedPlan, HasJudgedDamage, IsDone, IsThere}
+use Rattle.office_desk.specs.Damage.{HasDamage, HasDamagedPlan, HasJudgedDamage, IsDone}
 use Rattle.office_desk.specs.Damage.{MeetsAfter}
 use Rattle.office_desk.specs.Reading.{AreWithin, ListsPlan}
 
@@ -55,35 +50,6 @@ row_after tables id Later row rest (inl damaged) = row damaged
 row_after tables id Later row rest (inr later) = rest later.1
 
 -- ---- rows that are listed
-
-module _ {X : Type 0} (key columns : X → List Cell) (Within : X → Type 0) where
-  abbrev entry : X → List Cell × List Cell
-  entry x = (key x, columns x)
-
-  -- what stands under a key is one of the rows
-  found_row : (xs : List X) (q cells : List Cell) → AllByRecursion Within xs → finite.find cells_cmp q (map entry xs) ≡ Some cells → (x : X) × Within x × (q ≡ key x) × (cells ≡ columns x)
-  found_row [] q cells each is = absurd (let f : None ≡ Some cells = is in cc)
-  found_row (x ∷ xs) q cells each is = go (cases_Bool (eq_by_cmp cells_cmp q (key x))) (found_row xs q cells each.1)
-    where
-      go : (eq_by_cmp cells_cmp q (key x) ≡ true) ⊎ (eq_by_cmp cells_cmp q (key x) ≡ false)
-          → (finite.find cells_cmp q (map entry xs) ≡ Some cells → (y : X) × Within y × (q ≡ key y) × (cells ≡ columns y)) → (y : X) × Within y × (q ≡ key y) × (cells ≡ columns y)
-      go (inl hit) later = (
-        x,
-        each.0,
-        cells_exact q (key x) (tied _ hit),
-        same_columns _ _ (sym is ∙ ap (λ b. cond b (Some (columns x)) (finite.find cells_cmp q (map entry xs))) hit),
-      )
-      go (inr miss) later = later (sym (ap (λ b. cond b (Some (columns x)) (finite.find cells_cmp q (map entry xs))) miss) ∙ is)
-
-  -- of the rows of an intersection, those of the list are all
-  pub listed_row : (rows : Rows) (id : ℕ) (xs : List X) (q cells : List Cell) → map entry xs ≡ rows_of id rows → AllByRecursion Within xs → is_of id q ≡ true → get rows q ≡ Some cells
-      → (x : X) × Within x × (q ≡ key x) × (cells ≡ columns x)
-  listed_row rows id xs q cells lists each of stored =
-      found_row xs q cells each (
-      ap (finite.find cells_cmp q) lists
-      ∙ find-where_key cells_cmp (is_of id) q (λ other tie. ap (is_of id) (sym (cells_exact q other tie))) (entries rows)
-      ∙ ap (λ b. cond b (finite.find cells_cmp q (entries rows)) None) of
-      ∙ sym (get-entries rows q) ∙ stored)
 
 pub timing_whole : (tables : Content) (id : ℕ) (rows : List Row) → ListsTiming tables id rows → AreWithin rows → ¬ HasDamagedTiming tables id
 timing_whole tables id rows lists within damaged =

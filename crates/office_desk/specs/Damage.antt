@@ -1,18 +1,16 @@
 -- When a stored row keeps a command from being answered.
-use Rattle.std.specs.Prelude.{◌≡◌, ◌⊎◌, ℕ, List, [], ◌∷◌, Option, Some, None, IsSome}
-use Rattle.std.specs.FinMap.{get}
+use Rattle.std.specs.Prelude.{◌≡◌, ◌⊎◌, ℕ, List, [], ◌∷◌, Option, Some, None}
 use Rattle.std.specs.Option.{option_map}
 use Rattle.draft_core.specs.declared.state.Holder.{Holder}
 use Rattle.draft_core.specs.declared.timing.Reach.{Reach}
 use Rattle.draft_core.specs.declared.timing.Reach.TheVariants as reach
 use Rattle.draft_core.specs.declared.state.Stage.TheVariants.{Done}
 use Rattle.office_tables_shelf.specs.Content.{Content}
-use Rattle.office_tables_shelf.specs.Rows.{intersection_key}
-use Rattle.office_tables_shelf.specs.Shelf.{ReadsIntersection}
+use Rattle.office_tables_shelf.specs.Overdue.{HasOverdueDamage}
+use Rattle.office_tables_shelf.specs.Shelf.{IsThere, ReadsIntersection}
 use Rattle.office_tables_shelf.specs.declared.rows.IntersectionRow.{IntersectionRow}
-use Rattle.office_tables_shelf.specs.Damage.{HasDamagedIntersection, HasAnyDamagedIntersection, HasDamagedTiming, HasDamagedDraft}
-use Rattle.office_tables_shelf.specs.CabinetReads.{HasAnyDamagedInspection, HasDamagedOrder}
-use Rattle.office_tables_shelf.specs.CabinetReads.{HasDamagedPart}
+use Rattle.office_tables_shelf.specs.Damage.{HasDamagedIntersection, HasDamagedTiming, HasDamagedDraft}
+use Rattle.office_tables_shelf.specs.CabinetReads.{HasDamagedOrder, HasDamagedPart}
 use Rattle.cabinet_core.specs.declared.command.RecordCommand.{RecordCommand}
 use Rattle.office_desk_cabinet.specs.RegisterDamage.{HasDamagedCabinet, MeetsRecordDamage}
 use Rattle.office_desk.specs.Changes.{IsRefused}
@@ -34,10 +32,6 @@ IsImport _ = ⊥
 -- a record before the row's
 abbrev pub IsTurnedAway : Command → Reply → Type 0
 IsTurnedAway command reply = ((reply ≡ Refused refusal.Damaged) ⊎ (reply ≡ Refused refusal.Unavailable)) ⊎ (IsImport command × IsRefused reply)
-
--- an intersection stands under the number
-abbrev pub IsThere : Content → ℕ → Type 0
-IsThere tables id = IsSome (get tables.intersection (intersection_key id))
 
 -- its row is no record; or it is there, and something that is read after it is none
 abbrev pub MeetsAfter : Content → ℕ → Type 0 → Type 0
@@ -100,10 +94,4 @@ MeetsDamage tables (command.Import records) = MeetsImportDamage tables records
 MeetsDamage tables (command.Cabinet id) = MeetsAfter tables id (HasDamagedCabinet tables id)
 MeetsDamage tables (command.OpenOrders id) = MeetsAfter tables id (HasDamagedOrder tables id)
 MeetsDamage tables command.Stock = HasDamagedPart tables
-MeetsDamage tables (command.Overdue day) = HasAnyDamagedIntersection tables ⊎ HasAnyDamagedInspection tables
-
--- the same, but of the rows that the report of overdue inspections reads: such a row keeps the
--- command from being answered otherwise
-abbrev pub IsBarred : Content → Command → Type 0
-IsBarred tables (command.Overdue day) = ⊥
-IsBarred tables command = MeetsDamage tables command
+MeetsDamage tables (command.Overdue day) = HasOverdueDamage tables

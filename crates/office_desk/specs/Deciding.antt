@@ -12,7 +12,7 @@ use Rattle.office_desk.specs.declared.refusal.Refusal.TheVariants.{Damaged}
 use Rattle.office_desk.specs.declared.reply.Reply.TheVariants.{Refused}
 use Rattle.office_desk.specs.Answers.{AnswersAny}
 use Rattle.office_desk.specs.Changes.{IsRefused, IsQuery, most_writes}
-use Rattle.office_desk.specs.Damage.{IsBarred, IsImport, IsTurnedAway, MeetsDamage}
+use Rattle.office_desk.specs.Damage.{IsImport, IsTurnedAway, MeetsDamage}
 use Rattle.office_desk.specs.Named.{IsNamedFor, RefusesBy, numbers_of}
 
 -- The reply and what the rows make of the tables are one step; the rows are at most those of the kind of command, and none where it is refused or only asks;
@@ -24,7 +24,7 @@ pub record IsDecision (is_honest : Type 0) (tables : Content) (command : Command
   pub query : IsQuery command → decided.changes.items ≡ []
   pub named : RefusesBy (numbers_of command) decided.reply
   pub undamaged : decided.reply ≢ Refused Damaged
-  pub whole : is_honest → IsBarred tables command → IsImport command × IsRefused decided.reply
+  pub whole : is_honest → MeetsDamage tables command → IsImport command × IsRefused decided.reply
 
 -- What is answered, where a fault is told as its refusal: Unavailable, or Damaged where a row that the command reads is no record.
 pub record IsAnswered (is_honest : Type 0) (tables : Content) (command : Command) (decided : Decided) : Type 0 where
@@ -34,7 +34,7 @@ pub record IsAnswered (is_honest : Type 0) (tables : Content) (command : Command
   pub query : IsQuery command → decided.changes.items ≡ []
   pub named : IsNamedFor command decided.reply
   pub damaged : decided.reply ≡ Refused Damaged → is_honest → MeetsDamage tables command
-  pub turned_away : is_honest → IsBarred tables command → IsTurnedAway command decided.reply
+  pub turned_away : is_honest → MeetsDamage tables command → IsTurnedAway command decided.reply
 
 -- The command is decided, or a fault is told: Damaged only where a row that it reads is no record.
 abbrev pub Decides : Type 0 → Content → Command → Result Decided ShelfFault → Type 0

@@ -4,7 +4,7 @@ use Rattle.office_tables_shelf.specs.Content.{Content}
 use Rattle.office_tables_shelf.specs.declared.counts.WriteCounts.{WriteCounts}
 use Rattle.office_desk.specs.Answers.{AnswersAny, IsAfterStep}
 use Rattle.office_desk.specs.Changes.{IsRefused, RiseAtMost}
-use Rattle.office_desk.specs.Damage.{IsBarred, IsTurnedAway, MeetsDamage}
+use Rattle.office_desk.specs.Damage.{IsTurnedAway, MeetsDamage}
 use Rattle.office_desk.specs.Named.{IsNamedFor}
 use Rattle.office_desk.specs.declared.command.Command.{Command}
 use Rattle.office_desk.specs.declared.refusal.Refusal.TheVariants.{Damaged, Unavailable}
@@ -23,7 +23,7 @@ pub record IsRun {S : Type 0} (is_honest : S → Type 0) (content : S → Conten
   pub writes : is_honest new → RiseAtMost (content old) command (written old) (written new)
   pub named : IsNamedFor command reply
   pub damaged : reply ≡ Refused Damaged → is_honest new → MeetsDamage (content old) command
-  pub turned_away : is_honest new → IsBarred (content old) command → IsTurnedAway command reply
+  pub turned_away : is_honest new → MeetsDamage (content old) command → IsTurnedAway command reply
   pub crash : (tables : Content) → may_leave new tables → may_leave old tables ⊎ (is_honest old × IsAfterStep (content old) command tables)
   pub settled : is_honest new → reply ≢ Refused Unavailable → content new ≢ content old → (tables : Content) → may_leave new tables → tables ≡ content new
   pub made : reply ≢ Refused Unavailable → written new ≢ written old → (tables : Content) → may_leave new tables → tables ≡ content new

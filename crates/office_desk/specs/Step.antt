@@ -24,6 +24,7 @@ use Rattle.office_desk.specs.declared.command.Command.TheVariants as command
 use Rattle.office_desk.specs.declared.reply.Reply.{Reply}
 use Rattle.office_desk.specs.declared.reply.Reply.TheVariants.{Added, Same, Moved, Imported, State as Shown, Timing as Running, Draft as Drafted, Cabinet, OpenOrders, Stock, Overdue, Refused}
 use Rattle.office_desk.specs.declared.reply.IntersectionState.{IntersectionState}
+use Rattle.office_desk.specs.declared.reply.RunningTiming.{RunningTiming}
 use Rattle.office_desk.specs.declared.refusal.Refusal.{Refusal}
 use Rattle.office_desk.specs.declared.refusal.Refusal.TheVariants as refusal
 use Rattle.office_desk.specs.Office.{Office, Intersection, IsSound, no_timing}
@@ -76,6 +77,14 @@ state_shown id i = record {
   rows = len i.timing.committed;
   state = state_of i.timing.draft;
   verify = verdict_of i.timing.draft;
+}
+
+-- the set that runs, with the intersection's name
+abbrev pub timing_shown : Intersection → RunningTiming
+timing_shown i = record {
+  name = i.name;
+  revision = i.timing.revision;
+  rows = i.timing.committed;
 }
 
 abbrev pub draft_shown : Option Draft → Reply
@@ -186,7 +195,7 @@ answered office (command.Commit id clerk) = transacted office id (λ side. commi
 answered office (command.Reopen id clerk) = transacted office id (λ side. reopened side clerk) (get office.intersections id)
 answered office (command.Abandon id clerk) = transacted office id abandoned (get office.intersections id)
 answered office (command.State id) = (shown (get office.intersections id) (λ i. Shown (state_shown id i)), office)
-answered office (command.Timing id) = (shown (get office.intersections id) (λ i. Running (record { revision = i.timing.revision; rows = i.timing.committed })), office)
+answered office (command.Timing id) = (shown (get office.intersections id) (λ i. Running (timing_shown i)), office)
 answered office (command.Draft id) = (shown (get office.intersections id) (λ i. draft_shown i.timing.draft), office)
 answered office (command.Record c) = recorded_at office (cabinet_of c) (recorded office c)
 answered office (command.Import records) = imported office (import_from 1 0 0 office records)

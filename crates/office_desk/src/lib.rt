@@ -6,6 +6,7 @@ pub mod command;
 pub mod decided;
 mod deciding;
 mod importing;
+pub mod listing;
 mod moving;
 pub mod office;
 mod overdue;

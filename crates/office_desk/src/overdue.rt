@@ -9,8 +9,8 @@ use cabinet_core::Day;
 use office_tables_shelf::shelf::{Shelf, ShelfFault};
 use std::alloc::Global;
 
-/// No more intersections than this can be there: their numbers are 1 to 9999.
-const MOST_INTERSECTIONS: usize = 9_999;
+/// As many as there are: more than any list holds.
+const ALL: usize = usize::MAX;
 
 /// Decides Overdue.
 pub(crate) fn decide_overdue<S: Shelf>(
@@ -21,7 +21,7 @@ pub(crate) fn decide_overdue<S: Shelf>(
     ensures decides { Decides (S.is_honest shelf.new) (S.content shelf.old) (Command.Overdue day) result }
     ensures kept { IsKept S.is_honest S.content S.written S.may_leave shelf.old shelf.new }
 {
-    let late = shelf.overdue_rows(alloc, day, MOST_INTERSECTIONS)?;
+    let late = shelf.overdue_rows(alloc, day, ALL)?;
     let found = OverdueList::new(late);
     Ok(Decided::unchanged(alloc, Reply::Overdue(found)))
 }

@@ -1,7 +1,6 @@
 //! What is read of an intersection.
 ghost use Rattle.std.specs.Prelude.{◌≡◌, IfOk, IfSome, map};
 ghost use Rattle.office_tables_shelf.specs.Damage.{HasDamagedIntersection, HasDamagedTiming};
-ghost use Rattle.office_tables_shelf.specs.Rows.{IsIntersectionRow};
 ghost use Rattle.office_tables_shelf.specs.Shelf.{IsKept, ReadsIntersection};
 ghost use Rattle.office_desk.specs.Damage.{HasDamageIn, HasDamagedPlan};
 ghost use Rattle.office_desk.specs.Office.{Office, side_at};
@@ -11,6 +10,7 @@ ghost use Rattle.office_desk.specs.StandFor.{StandForSound};
 
 use draft_core::changes::Changes;
 use draft_core::timing::{Reach, Timing};
+use office_tables_shelf::bounds::intersection_is_within;
 use office_tables_shelf::rows::IntersectionRow;
 use office_tables_shelf::shelf::{Shelf, ShelfFault};
 use signal_records::{Change, InterId, Interval, NoMemory, Row, TimingSet, Words, row_is_within};
@@ -93,17 +93,6 @@ fn made_of(
     })
 }
 
-/// The row of an intersection is within its limits, as its type says.
-fn intersection_is_within(row: &IntersectionRow)
-    ensures { IsIntersectionRow row.now }
-{
-    let _name = row.name.as_str();
-    let _numbers = (row.interval.get(), row.revision.get());
-    if let Some(holder) = &row.holder {
-        let _owner = holder.owner.as_str();
-    }
-}
-
 /// The row of an intersection, if there is one. A row that is no record is neither.
 pub(crate) fn intersection_row<S: Shelf>(
     shelf: &mut S,
@@ -118,7 +107,7 @@ pub(crate) fn intersection_row<S: Shelf>(
     let Some(row) = shelf.intersection(alloc, id)? else {
         return Ok(None);
     };
-    intersection_is_within(&row);
+    intersection_is_within(id, &row);
     Ok(Some(row))
 }
 

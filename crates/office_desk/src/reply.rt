@@ -1,5 +1,6 @@
 //! What the office answers.
 
+use crate::listing::Listing;
 use crate::refusal::Refusal;
 use cabinet_core::{CabinetView, Hand, OverdueRow, PartCode};
 use draft_core::revision::Revision;
@@ -25,54 +26,19 @@ pub struct IntersectionState {
     pub verify: Verdict,
 }
 
-/// The committed timing set as the query Timing shows it.
+/// The committed timing set as the query Timing shows it. The name is there for a sheet, which is
+/// made of this reply alone; an answer in JSON has no name.
 #[derive(Drop)]
 pub struct RunningTiming {
+    /// The intersection's name.
+    pub name: Words<120>,
     /// How often it was committed.
     pub revision: Revision,
     pub rows: TimingSet,
 }
 
-/// Violations of the timing rules, in their order. They are seen as a list.
-#[derive(Drop)]
-pub struct Violations {
-    list: Vec<Violation>,
-}
-
-impl Model for Violations {
-    ghost use Rattle.std.specs.Prelude.{List};
-    ghost use Rattle.signal_rules.specs.declared.violation.Violation.{Violation};
-
-    ghost Value = { List Violation };
-
-    ghost view = { λ v. v.list.items };
-}
-
-impl Violations {
-    ghost use Rattle.std.specs.Prelude.{◌≡◌};
-
-    /// The violations of a list.
-    pub fn new(list: Vec<Violation>) -> Violations
-        ensures { result ≡ list.items }
-    {
-        Violations { list }
-    }
-
-    /// The violations.
-    pub fn as_slice(&self) -> &[Violation]
-        ensures { result.now ≡ self.now }
-    {
-        self.list.as_slice()
-    }
-
-    /// The list of them, without memory.
-    pub fn into_vec(self) -> Vec<Violation>
-        ensures { result.items ≡ self }
-    {
-        let Violations { list } = self;
-        list
-    }
-}
+/// Violations of the timing rules, in their order.
+pub type Violations = Listing<Violation>;
 
 /// A draft as the query Draft shows it.
 #[derive(Drop)]
@@ -92,85 +58,11 @@ pub struct CabinetShown {
     pub view: CabinetView,
 }
 
-/// Numbers of orders, ascending. They are seen as a list.
-#[derive(Drop)]
-pub struct OrderNumbers {
-    list: Vec<RecordNo>,
-}
+/// Numbers of orders, ascending.
+pub type OrderNumbers = Listing<RecordNo>;
 
-impl Model for OrderNumbers {
-    ghost use Rattle.std.specs.Prelude.{ℕ, List};
-
-    ghost Value = { List ℕ };
-
-    ghost view = { λ n. n.list.items };
-}
-
-impl OrderNumbers {
-    ghost use Rattle.std.specs.Prelude.{◌≡◌};
-
-    /// The numbers of a list.
-    pub fn new(list: Vec<RecordNo>) -> OrderNumbers
-        ensures { result ≡ list.items }
-    {
-        OrderNumbers { list }
-    }
-
-    /// The numbers.
-    pub fn as_slice(&self) -> &[RecordNo]
-        ensures { result.now ≡ self.now }
-    {
-        self.list.as_slice()
-    }
-
-    /// The list of them, without memory.
-    pub fn into_vec(self) -> Vec<RecordNo>
-        ensures { result.items ≡ self }
-    {
-        let OrderNumbers { list } = self;
-        list
-    }
-}
-
-/// Parts by their codes, each with how many are on hand. They are seen as a list.
-#[derive(Drop)]
-pub struct Stock {
-    list: Vec<(PartCode, Hand)>,
-}
-
-impl Model for Stock {
-    ghost use Rattle.std.specs.Prelude.{ℕ, List};
-
-    ghost Value = { List (List ℕ × ℕ) };
-
-    ghost view = { λ s. s.list.items };
-}
-
-impl Stock {
-    ghost use Rattle.std.specs.Prelude.{◌≡◌};
-
-    /// The parts of a list.
-    pub fn new(list: Vec<(PartCode, Hand)>) -> Stock
-        ensures { result ≡ list.items }
-    {
-        Stock { list }
-    }
-
-    /// The parts.
-    pub fn as_slice(&self) -> &[(PartCode, Hand)]
-        ensures { result.now ≡ self.now }
-    {
-        self.list.as_slice()
-    }
-
-    /// The list of them, without memory.
-    pub fn into_vec(self) -> Vec<(PartCode, Hand)>
-        ensures { result.items ≡ self }
-    {
-        let Stock { list } = self;
-        list
-    }
-}
+/// Parts by their codes, each with how many are on hand.
+pub type Stock = Listing<(PartCode, Hand)>;
 
 /// Intersections whose inspection is overdue, by their numbers. They are seen as the list of what each row says.
 #[derive(Drop)]

@@ -1,5 +1,5 @@
 //! The queries State, Timing and Draft.
-ghost use Rattle.std.specs.Prelude.{◌≡◌, ◌≢◌, ◌∷◌, [], map, Some, IfOk};
+ghost use Rattle.std.specs.Prelude.{◌≡◌, ◌≢◌, ◌∷◌, [], Some, IfOk};
 ghost use Rattle.draft_core.specs.Transaction.{state_of_holder};
 ghost use Rattle.office_tables_shelf.specs.Shelf.{IsKept};
 ghost use Rattle.office_desk.specs.Deciding.{Decides};
@@ -112,6 +112,7 @@ pub(crate) fn decide_timing<S: Shelf>(
     let rows = shelf.timing_rows(alloc, id)?;
     let set = set_of(alloc, rows)?;
     let timing = RunningTiming {
+        name: row.name,
         revision: row.revision,
         rows: set,
     };

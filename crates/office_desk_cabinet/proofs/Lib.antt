@@ -9,6 +9,6 @@ pub mod Undamaged
 pub mod WholeRecords
 pub mod KeptDamage
 pub mod ListedRecords
-pub mod ListedRows
+pub mod InOrder
 pub mod ShowingLemmas
 pub mod EmptyRegister

@@ -8,7 +8,7 @@ use Rattle.json.specs.Lex.{Lexeme, token, comma, colon, between, quote, backslas
 use Rattle.json.specs.Ascii as ascii
 use Rattle.json.specs.Word.{is_space, head, after_number, word, literal, number_before}
 use Rattle.json.specs.Json as json
-use Rattle.serde_json.specs.Data.{Data, Num, Items, Members}
+use Rattle.serde_json.specs.Data.{Num, Items}
 use Rattle.serde_json.specs.Data as read_data
 use Rattle.serde_json.specs.Read.{read, of_json, number_of, of_items}
 use Rattle.office_http_requests.specs.Bodies.{object_in, opens_object}

@@ -1,8 +1,8 @@
 -- What a migration makes of the tables, and which office they then stand for.
-use Rattle.std.proofs.Common.{◌≡◌, ◌⊎◌, inl, inr, ℕ, Bool, true, false, T, Some, Result, Ok, Err, option_map, map, List, [], ◌∷◌, ◌++◌, length, refl, sym, ap, subst, ◌∙◌, true≢false}
+use Rattle.std.proofs.Common.{◌≡◌, ◌⊎◌, inl, inr, ℕ, true, false, T, Some, Result, Ok, Err, option_map, map, List, [], ◌∷◌, ◌++◌, length, refl, sym, ap, subst, ◌∙◌, true≢false}
 use Rattle.std.proofs.lemmas.Bool.{cases_Bool}
 use Rattle.std.specs.FinMap as finite
-use Rattle.std.specs.FinMap.{get, entries, entries_sorted, get-entries, is_sorted}
+use Rattle.std.specs.FinMap.{get, entries_sorted, get-entries, is_sorted}
 use Rattle.std.specs.List.{list_all}
 use Rattle.std.specs.Prelude.{IfOk, OnOk}
 use Rattle.sqlite_rules.specs.Lists.{Has}
@@ -11,7 +11,7 @@ use Rattle.signal_records.specs.Within.{version_1_limits}
 use Rattle.signal_records.specs.declared.record.Change.{Change}
 use Rattle.signal_records.specs.declared.record.Change.TheVariants.{Put, Remove}
 use Rattle.draft_core.specs.DraftRows.{left_by}
-use Rattle.office_tables_shelf.specs.Cells.{Cell, Rows, cells_cmp, null}
+use Rattle.office_tables_shelf.specs.Cells.{Rows, cells_cmp, null}
 use Rattle.office_tables_shelf.specs.Rows.{left_columns_in}
 use Rattle.office_tables_sql.specs.Calls.{IsHonest, Keeps}
 use Rattle.office_tables_shelf.proofs.CellLemmas.{find_entry}
@@ -29,7 +29,7 @@ use Rattle.office_tables_sql.specs.Stored.{content_of, content_now}
 use Rattle.office_tables_former.specs.Migration.{IsMigrated, StandAnew, kept_key}
 use Rattle.office_tables_former.specs.declared.puts.Migrated.{Migrated}
 use Rattle.office_tables_former.proofs.Migration.{migrated, stand_anew}
-use Rattle.office_tables.specs.Migrate.{HoldsToday, IsBrought, IsToday, IsAnew}
+use Rattle.office_tables.specs.Migrate.{HoldsToday, IsBrought}
 use Rattle.office_tables_open.specs.Version.{version_in, current_version, first_version}
 
 -- changes after changes

@@ -1,5 +1,5 @@
 -- The query of all rows of a table that is keyed as `timing` is, and what it shows.
-use Rattle.std.proofs.Common.{◌≡◌, ℕ, List, [], ◌∷◌, ◌++◌, true, map, length, Some, refl, sym, subst, ap, ◌∙◌}
+use Rattle.std.proofs.Common.{◌≡◌, ℕ, List, [], ◌++◌, true, map, length, Some, refl, sym, subst, ap, ◌∙◌}
 use Rattle.std.specs.FinMap.{entries, get}
 use Rattle.std.specs.List.{IsDistinct, AllByRecursion}
 use Rattle.std.specs.Ordering.{eq_by_cmp}
@@ -11,14 +11,14 @@ use Rattle.sqlite.specs.Program.{overlay}
 use Rattle.sqlite.specs.Query.{IsAnswer}
 use Rattle.sqlite_rules.proofs.ListLemmas.{all_from}
 use Rattle.sqlite_rules.specs.Lists.{Has}
-use Rattle.office_tables_shelf.specs.Cells.{Cell, Rows, cells_cmp}
+use Rattle.office_tables_shelf.specs.Cells.{Cell, cells_cmp}
 use Rattle.office_tables_shelf.specs.declared.rows.Table.{Table}
 use Rattle.office_tables_shelf.specs.declared.rows.Table.TheVariants as table
 use Rattle.office_tables_sql.specs.Calls.{AreOrdered, Reads}
 use Rattle.office_tables_sql.specs.Listed.{shown_key, shown_body}
 use Rattle.office_tables_sql.specs.Schema.{office_schema}
 use Rattle.office_tables_sql.specs.Stored.{cells_at, rows_in, content_of}
-use Rattle.office_tables_sql.specs.Tables.{rows_at, layout_at, schema_at, key_shown, columns_shown, row_shown, listed_by, places_from}
+use Rattle.office_tables_sql.specs.Tables.{rows_at, layout_at, key_shown, columns_shown, row_shown, listed_by, places_from}
 use Rattle.office_tables_sql.proofs.KeyReads.{where_all}
 use Rattle.office_tables_sql.proofs.ListedLemmas.{IsListing, listing, shown_width, stands}
 use Rattle.office_tables_sql.proofs.StoredLemmas.{HaveKeys}

@@ -1,22 +1,20 @@
 -- The tables after the rows were put in their place, and the office that they stand for.
-use Rattle.std.proofs.Common.{◌≡◌, ◌⊎◌, inl, inr, ℕ, suc, ◌≤◌, Bool, true, false, ◌&&◌, T, List, [], ◌∷◌, ◌++◌, map, find, filter, length, cond, if◌then◌else◌, Option, Some, None, option_map, refl, sym, ap, subst, ◌∙◌, arith, true≢false}
+use Rattle.std.proofs.Common.{◌≡◌, ◌⊎◌, inl, inr, ℕ, suc, Bool, true, false, ◌&&◌, T, List, [], ◌∷◌, map, find, filter, length, cond, if◌then◌else◌, Option, Some, None, option_map, refl, sym, ap, subst, ◌∙◌, arith, true≢false}
 use Rattle.std.proofs.lemmas.Bool.{cases_Bool, and_parts, and_from}
 use Rattle.std.proofs.lemmas.Bool.Decides.{nat_tests}
 use Rattle.std.specs.FinMap as finite
-use Rattle.std.specs.FinMap.{get, insert, entries, entries_sorted, get-entries, get-insert, get-empty, same_map, is_sorted}
-use Rattle.std.specs.Int.{IsInRange}
+use Rattle.std.specs.FinMap.{get, insert, entries_sorted, get-entries, get-insert, get-empty, same_map, is_sorted}
 use Rattle.std.specs.List.{AllByRecursion, list_all}
 use Rattle.std.specs.Ordering.{is_eq, is_lt}
 use Rattle.std.specs.FinMap.Entries.{below_all}
 use Rattle.std.specs.declared.cmp.Ordering.{Ordering}
 use Rattle.std.specs.declared.cmp.Ordering.TheVariants.{Less, Equal, Greater}
 use Rattle.std.specs.Prelude.{IfSome, IsTrue}
-use Rattle.sqlite_rules.specs.Lists.{Has}
 use Rattle.sqlite_rules.proofs.ListLemmas.{all_has}
 use Rattle.signal_records.specs.PhaseList.{is_phase, is_distinct, is_phase_list}
 use Rattle.signal_records.specs.Row.{key_of}
 use Rattle.signal_records.specs.TimingSet.{Rows as Set}
-use Rattle.signal_records.specs.Within.{AreLimits, current_limits, version_1_limits, IsAnyPedWithin, IsRowWithin, IsKeyWithin, IsChangeWithin}
+use Rattle.signal_records.specs.Within.{current_limits, version_1_limits, IsAnyPedWithin, IsRowWithin, IsKeyWithin, IsChangeWithin}
 use Rattle.signal_records.specs.Key.{key_cmp}
 use Rattle.signal_records.specs.declared.key.Key.{Key}
 use Rattle.signal_records.specs.declared.limits.Limits.{Limits}
@@ -29,7 +27,7 @@ use Rattle.signal_records.specs.declared.record.Row.{Row}
 use Rattle.signal_records.specs.declared.record.Row.TheVariants as row
 use Rattle.signal_records.proofs.RowLaws.{are_version_1}
 use Rattle.signal_rules.specs.BeforeLead.{HasNoLead, violations_before_lead}
-use Rattle.signal_rules.specs.Lookup.{phase_at, the_phase}
+use Rattle.signal_rules.specs.Lookup.{the_phase}
 use Rattle.signal_rules.specs.Violations.{violations_of}
 use Rattle.signal_rules.proofs.BeforeLead.{same_violations}
 use Rattle.draft_core.specs.DraftRows.{left_by, changed_key}
@@ -37,14 +35,14 @@ use Rattle.draft_core.specs.Transaction.{Draft}
 use Rattle.office_tables_shelf.specs.Cells.{Cell, text, Rows, cells_cmp, rows_by}
 use Rattle.office_tables_shelf.specs.Change.{changed_by}
 use Rattle.office_tables_shelf.specs.Content.{Content}
-use Rattle.office_tables_shelf.specs.Office.{Office, Intersection, side_at, side_of, AreRecordsIn, IsSoundIn, IsSoundIntersectionIn, IsSoundDraftIn, today, version_1}
+use Rattle.office_tables_shelf.specs.Office.{Office, Intersection, side_at, side_of, AreRecordsIn, IsSoundIntersectionIn, IsSoundDraftIn, today, version_1}
 use Rattle.office_tables_shelf.specs.Rows.{timing_key, timing_columns_in, left_columns_in, body_in}
-use Rattle.office_tables_shelf.specs.StandFor.{IsTimingKey, HasTimingKeys, IsLeftIn, DraftRowStandsIn, StandForIn, StandForSoundIn}
+use Rattle.office_tables_shelf.specs.StandFor.{IsTimingKey, HasTimingKeys, IsLeftIn, StandForSoundIn}
 use Rattle.office_tables_shelf.specs.RegisterStands.{RegisterStands}
 use Rattle.office_tables_shelf.proofs.CellLemmas.{cells_total, cells_exact, is_under, find_entry, get_by, tied}
 use Rattle.office_tables_sql.proofs.BodyReading.{same_row}
 use Rattle.office_tables_sql.proofs.ListLemmas.{found_has}
-use Rattle.office_tables_former.specs.Former.{former_cells, AreKept, has_ped, is_row, timing_put, timing_puts, draft_put, draft_puts}
+use Rattle.office_tables_former.specs.Former.{former_cells, AreKept, has_ped, is_row, timing_puts, draft_puts}
 use Rattle.office_tables_former.specs.Migration.{kept_key, kept_columns, IsSpelledAnew, IsMigrated, IsJudgedAlike, StandAnew}
 use Rattle.office_tables_former.specs.declared.puts.Migrated.{Migrated}
 

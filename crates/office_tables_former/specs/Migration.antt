@@ -1,6 +1,5 @@
 -- What becomes of the tables of version 1: each row is spelled as today, and nothing else changes.
-use Rattle.std.specs.Prelude.{◌≡◌, ℕ, Bool, true, List, filter, length, IfSome}
-use Rattle.std.specs.FinMap.{get}
+use Rattle.std.specs.Prelude.{◌≡◌, ℕ, true, List, filter, length, IfSome}
 use Rattle.std.specs.List.{list_all}
 use Rattle.signal_records.specs.TimingSet.{Rows as Set}
 use Rattle.signal_records.specs.declared.record.Change.{Change}

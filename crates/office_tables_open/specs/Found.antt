@@ -1,6 +1,5 @@
 -- What trees hold of an office whatever the layout of its tables: in another order, without STRICT, or with some of them missing.
-use Rattle.std.specs.Prelude.{◌≡◌, ◌≢◌, ◌⊎◌, ℕ, List, [], ◌∷◌, map, Option, None, Some}
-use Rattle.std.specs.FinMap.{get}
+use Rattle.std.specs.Prelude.{◌≡◌, ◌≢◌, ◌⊎◌, ℕ, List, [], ◌∷◌, map, None, Some}
 use Rattle.std.specs.List.{AllByRecursion}
 use Rattle.sqlite.specs.Effect.{IsDatabase}
 use Rattle.sqlite.specs.State.{State}

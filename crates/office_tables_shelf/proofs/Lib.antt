@@ -10,3 +10,4 @@ pub mod KeptLemmas
 pub mod OverdueLemmas
 pub mod StoredMaps
 pub mod KeyCells
+pub mod ListedRows

@@ -1,5 +1,6 @@
 -- A list in key order of the rows that pass a test of their keys is the list of the map's entries that pass it.
 use Rattle.std.proofs.Common.{◌≡◌, ◌⊎◌, inl, inr, ℕ, ◌+◌, suc, Bool, true, false, ◌&&◌, List, [], ◌∷◌, map, filter, find, cond, Option, None, Some, option_map, Ordering, Less, Equal, Greater, T, refl, sym, ap, subst, subst₂, ◌∙◌, arith, true≢false, slice_index_or}
+use Rattle.std.proofs.Common.{◌++◌}
 use Rattle.std.proofs.lemmas.Bool.{cases_Bool}
 use Rattle.std.proofs.lemmas.List.Elements.{All-head, All-tail, All-from_recursion}
 use Rattle.std.proofs.lemmas.List.Sorted.{IsPermutation-sym, All-permutation}
@@ -35,6 +36,12 @@ each_in {X} P xs each = All-from_recursion P xs (go xs each)
 
 pub permuted : {X : Type 0} (xs ys : List X) → IsPermutation xs ys → (y : X) → IsIn ys y → IsIn xs y
 permuted xs ys same y there = all_in (IsIn xs) ys y (All-permutation (IsIn xs) xs ys same (each_in (IsIn xs) xs (λ x h. h))) there
+
+-- what holds of each of a list and of one more holds of each with that one at the end
+pub all_more : {X : Type 0} (P : X → Type 0) (xs : List X) (x : X) → AllByRecursion P xs → P x
+    → AllByRecursion P (xs ++ x ∷ [])
+all_more P [] x all one = (one, tt)
+all_more P (y ∷ xs) x all one = (all.0, all_more P xs x all.1 one)
 
 -- ---- a list in key order
 

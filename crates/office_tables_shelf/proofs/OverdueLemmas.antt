@@ -1,17 +1,25 @@
 -- How the list of overdue intersections grows row by row, until enough are found or all were seen.
 use Rattle.std.proofs.Common.{◌≡◌, ◌<◌, ◌≤◌, ◌+◌, ◌++◌, ℕ, zero, suc, List, [], ◌∷◌, map, length, get_or, take, drop, max, Option, Some, None, refl, ap, sym, subst, ◌∙◌, arith, length-append}
+use Rattle.std.proofs.Common.{inl, inr}
 use Rattle.std.proofs.Math.Seq.{take-append_seam}
-use Rattle.std.specs.List.{cons_option}
+use Rattle.std.specs.FinMap.{get}
+use Rattle.std.specs.List.{AllByRecursion, cons_option}
+use Rattle.std.specs.Option.{IsSome}
 use Rattle.std.proofs.lemmas.List.{take_more, take_all, take-append-drop, length-map}
 use Rattle.std.proofs.lemmas.List.Elements.{filter_map-append}
 use Rattle.cabinet_core.specs.Overdue.{Listed, greater, latest_day, listed, lateness, overdue_list}
 use Rattle.cabinet_core.specs.declared.inspections.OverdueRow.{OverdueRow}
 use Rattle.cabinet_core.specs.declared.inspections.Seen.{Seen}
 use Rattle.cabinet_core.specs.declared.record.Inspection.{Inspection}
-use Rattle.office_tables_shelf.specs.CabinetReads.{ListsInspections}
+use Rattle.office_tables_shelf.specs.CabinetReads.{HasDamagedInspection, ListsInspections}
 use Rattle.office_tables_shelf.specs.Content.{Content}
-use Rattle.office_tables_shelf.specs.Overdue.{ReadsLast, seen_row, AreSeenOf}
+use Rattle.office_tables_shelf.specs.Overdue.{HasOverdueDamage, ReadsLast, seen_row, AreSeenOf}
+use Rattle.office_tables_shelf.specs.Rows.{intersection_columns, intersection_key}
+use Rattle.office_tables_shelf.specs.Shelf.{IsIntersectionWithin, ListsIntersections}
 use Rattle.office_tables_shelf.specs.declared.rows.IntersectionRow.{IntersectionRow}
+use Rattle.office_tables_shelf.proofs.ListLemmas.{all_more}
+use Rattle.office_tables_shelf.proofs.ListedRows.{inspections_whole, intersections_whole}
+use Rattle.office_tables_shelf.proofs.ListedRows.{table_row}
 
 -- ---- the latest day
 
@@ -107,3 +115,48 @@ all_found day most i seen found so_far all short =
     let same : map listed found ≡ overdue_list day seen = so_far ∙ ap (overdue_list day) (take_all i seen all) in
     let count = length-map found listed in
     sym (take_all most (map listed found) (omega arith)) ∙ ap (take most) same
+
+-- ---- rows that were read are whole
+
+-- where an intersection's latest day was read, none of its inspections is damaged
+pub read_whole : (tables : Content) (id : ℕ) (last : Option ℕ) → ReadsLast tables id last
+    → ¬ HasDamagedInspection tables id
+read_whole tables id last reads =
+    inspections_whole tables id reads.inspections reads.lists reads.within
+
+-- no inspection of these intersections is damaged
+abbrev pub AreWhole : Content → List (ℕ × IntersectionRow) → Type 0
+AreWhole tables = AllByRecursion (λ e. ¬ HasDamagedInspection tables e.0)
+
+-- nor one of the next intersection
+pub whole_more : (tables : Content) (rows : List (ℕ × IntersectionRow)) (i : ℕ)
+    (e : ℕ × IntersectionRow) (last : Option ℕ) → i < length rows → e ≡ get_or rows i e
+    → ReadsLast tables e.0 last → AreWhole tables (take i rows)
+    → AreWhole tables (take (i + 1) rows)
+whole_more tables rows i e last low at reads whole =
+    let next : take (i + 1) rows ≡ take i rows ++ e ∷ [] =
+    take_more rows i e low ∙ ap (λ x. take i rows ++ x ∷ []) (sym at) in
+    subst (AreWhole tables) (sym next)
+    (all_more (λ x. ¬ HasDamagedInspection tables x.0) (take i rows) e whole
+    (read_whole tables e.0 last reads))
+
+some_here : {X : Type 0} (o : Option X) → IsSome o → (x : X) × (o ≡ Some x)
+some_here None is = absurd cc
+some_here (Some x) is = (x, refl)
+
+same_number : (a b : ℕ) → intersection_key a ≡ intersection_key b → a ≡ b
+same_number a b same = cc
+
+-- where all were read, nothing that is read for the list is damaged
+pub all_whole : (tables : Content) (rows : List (ℕ × IntersectionRow)) (i : ℕ)
+    → ListsIntersections tables rows → AllByRecursion IsIntersectionWithin rows
+    → AreWhole tables (take i rows) → length rows ≤ i → ¬ HasOverdueDamage tables
+all_whole tables rows i lists within whole all (inl damaged) =
+    intersections_whole tables rows lists within damaged
+all_whole tables rows i lists within whole all (inr damaged) =
+    let id = damaged.0 in
+    let stored = some_here (get tables.intersection (intersection_key id)) damaged.1 in
+    let is = table_row (λ e. intersection_key e.0) (λ e. intersection_columns e.1)
+    (λ e. ¬ HasDamagedInspection tables e.0) tables.intersection rows (intersection_key id)
+    stored.0 lists (subst (AreWhole tables) (take_all i rows all) whole) stored.1 in
+    is.1 (subst (HasDamagedInspection tables) (same_number id is.0.0 is.2) damaged.2)

@@ -34,6 +34,10 @@ pub record HasDamagedHand (tables : Content) (code : List ℕ) : Type 0 where
 abbrev pub ListsParts : Content → List (List ℕ × ℕ) → Type 0
 ListsParts tables parts = map (λ part. (part_key part.0, part_columns part.1)) parts ≡ entries tables.part
 
+-- it is the code of a part, with so many as can be on hand
+abbrev pub IsPartWithin : List ℕ × ℕ → Type 0
+IsPartWithin part = IsPartCode part.0 × IsHand part.1
+
 -- cells stand in the table that are those of no code and count on hand
 pub record HasDamagedPart (tables : Content) : Type 0 where
   pub key : List Cell
@@ -79,10 +83,6 @@ pub record HasDamagedInspection (tables : Content) (id : ℕ) : Type 0 where
   pub of : is_of id key ≡ true
   pub stored : get tables.inspection key ≡ Some columns
   pub no_row : (inspection : Inspection) → IsInspectionWithin inspection → key ≡ inspection_key id inspection.number → columns ≢ inspection_columns inspection
-
--- an inspection of some intersection is no record
-abbrev pub HasAnyDamagedInspection : Content → Type 0
-HasAnyDamagedInspection tables = (id : ℕ) × HasDamagedInspection tables id
 
 -- ---- used parts
 

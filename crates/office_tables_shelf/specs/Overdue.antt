@@ -1,18 +1,22 @@
 -- The intersections that are overdue on a day, as the tables hold them.
-use Rattle.std.specs.Prelude.{◌≡◌, ℕ, List, [], ◌∷◌, map, take, Option}
+use Rattle.std.specs.Prelude.{◌≡◌, ◌⊎◌, ℕ, List, [], ◌∷◌, map, take, Option}
+use Rattle.std.specs.List.{AllByRecursion}
 use Rattle.cabinet_core.specs.Overdue.{latest_day, listed, overdue_list}
+use Rattle.cabinet_core.specs.Within.{IsInspectionWithin}
 use Rattle.cabinet_core.specs.declared.inspections.OverdueRow.{OverdueRow}
 use Rattle.cabinet_core.specs.declared.inspections.Seen.{Seen}
 use Rattle.cabinet_core.specs.declared.record.Inspection.{Inspection}
-use Rattle.office_tables_shelf.specs.CabinetReads.{ListsInspections}
+use Rattle.office_tables_shelf.specs.CabinetReads.{HasDamagedInspection, ListsInspections}
 use Rattle.office_tables_shelf.specs.Content.{Content}
-use Rattle.office_tables_shelf.specs.Shelf.{ListsIntersections}
+use Rattle.office_tables_shelf.specs.Damage.{HasAnyDamagedIntersection}
+use Rattle.office_tables_shelf.specs.Shelf.{IsThere, ListsIntersections}
 use Rattle.office_tables_shelf.specs.declared.rows.IntersectionRow.{IntersectionRow}
 
 -- what the tables hold of the intersection's inspections are inspections, and this is the latest day of them
 pub record ReadsLast (tables : Content) (id : ℕ) (last : Option ℕ) : Type 0 where
   pub inspections : List Inspection
   pub lists : ListsInspections tables id inspections
+  pub within : AllByRecursion IsInspectionWithin inspections
   pub latest : last ≡ latest_day inspections
 
 -- ---- what is seen
@@ -41,3 +45,10 @@ AreSeen tables seen = (rows : List (ℕ × IntersectionRow)) → ListsIntersecti
 -- The rows are the first so many of those that are overdue. What is known of a row that is no record may be anything, so they rest on no such row.
 abbrev pub ListsOverdue : Content → ℕ → ℕ → List OverdueRow → Type 0
 ListsOverdue tables day most found = (seen : List Seen) → AreSeen tables seen → map listed found ≡ take most (overdue_list day seen)
+
+-- ---- damage
+
+-- the row of an intersection is no record; or an inspection of one is none
+abbrev pub HasOverdueDamage : Content → Type 0
+HasOverdueDamage tables =
+    HasAnyDamagedIntersection tables ⊎ ((id : ℕ) × IsThere tables id × HasDamagedInspection tables id)

@@ -1,5 +1,6 @@
 -- What the clauses of a shelf cite.
-use Rattle.std.specs.Prelude.{◌≡◌, ℕ, pos, Bool, false, List, [], ◌∷◌, map, length, Option}
+use Rattle.std.specs.Prelude.{◌≡◌, ℕ, pos, Bool, false, List, [], ◌∷◌, map, length, Option, IsSome}
+use Rattle.std.specs.Int.{IsInRange}
 use Rattle.std.specs.Option.{option_map}
 use Rattle.std.specs.Ordering.{eq_by_cmp}
 use Rattle.std.specs.FinMap.{get, entries}
@@ -9,7 +10,8 @@ use Rattle.signal_records.specs.declared.record.Row.{Row}
 use Rattle.signal_records.specs.declared.record.Change.{Change}
 use Rattle.office_tables_shelf.specs.Cells.{Cell, Rows, number, cell_cmp, cells_cmp}
 use Rattle.office_tables_shelf.specs.Content.{Content}
-use Rattle.office_tables_shelf.specs.Rows.{intersection_key, intersection_columns, timing_key, timing_columns, draft_key, draft_columns}
+use Rattle.office_tables_shelf.specs.Rows.{intersection_key, intersection_columns, IsIntersectionRow}
+use Rattle.office_tables_shelf.specs.Rows.{timing_key, timing_columns, draft_key, draft_columns}
 use Rattle.office_tables_shelf.specs.declared.rows.IntersectionRow.{IntersectionRow}
 use Rattle.office_tables_shelf.specs.declared.counts.WriteCounts.{WriteCounts}
 
@@ -33,6 +35,14 @@ is_of id (cell ∷ cells) = eq_by_cmp cell_cmp (number (pos id)) cell
 -- the rows of an intersection in a table, by their keys
 abbrev pub rows_of : ℕ → Rows → List (List Cell × List Cell)
 rows_of id rows = where_key cells_cmp (is_of id) (entries rows)
+
+-- an intersection stands under the number
+abbrev pub IsThere : Content → ℕ → Type 0
+IsThere tables id = IsSome (get tables.intersection (intersection_key id))
+
+-- the number is one of intersections, and the row is one within its limits
+abbrev pub IsIntersectionWithin : ℕ × IntersectionRow → Type 0
+IsIntersectionWithin e = IsInRange 1 9999 e.0 × IsIntersectionRow e.1
 
 -- the rows of the table, in the order of their keys, are those of the list
 abbrev pub ListsIntersections : Content → List (ℕ × IntersectionRow) → Type 0

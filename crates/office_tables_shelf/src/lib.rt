@@ -1,6 +1,7 @@
 //! The tables of the office as a trait, and an implementation in memory.
 #![tactic(auto)]
 
+pub mod bounds;
 pub mod counts;
 mod map_cabinet;
 mod map_overdue;

@@ -1,14 +1,22 @@
 //! The cabinet's tables in memory as trees of records: a row put, found, and the rows listed.
 ghost use Rattle.std.specs.Prelude.{◌≡◌, OnOk, IfOk, IfSome};
 ghost use Rattle.std.specs.FinMap as finite;
+ghost use Rattle.std.specs.List.{AllByRecursion};
 ghost use Rattle.std.specs.Option.{option_map};
+ghost use Rattle.cabinet_core.specs.Within.{IsInspectionWithin, IsOrderWithin};
+ghost use Rattle.cabinet_core.specs.Within.{IsUsedLineWithin};
 ghost use Rattle.office_tables_shelf.specs.Content.{no_content};
 ghost use Rattle.office_tables_shelf.specs.CabinetRows.{inspection_key, inspection_columns, order_key, order_columns, used_key, used_columns, part_key, part_columns, delivery_key, delivery_columns};
 ghost use Rattle.office_tables_shelf.specs.CabinetReads.{ReadsInspection, ListsInspections, ReadsOrder, ListsOrders, ReadsUsed, ListsUsed, ListsParts, ReadsDelivery};
+ghost use Rattle.office_tables_shelf.specs.CabinetReads.{IsPartWithin};
 ghost use Rattle.office_tables_shelf.specs.MapCabinet.{inspection_rows, order_rows, used_rows, part_rows, delivery_rows, AreInspectionsPlaced, AreOrdersPlaced, AreUsedPlaced, AreDeliveriesPlaced};
 
+use crate::bounds::part_is_within;
 use crate::place::{DeliveryPlace, LinePlace, RecordPlace};
-use cabinet_core::{Delivery, Hand, Inspection, Order, PartCode, UsedLine};
+use cabinet_core::{
+    Delivery, Hand, Inspection, Order, PartCode, UsedLine, inspection_is_within, order_is_within,
+    used_line_is_within,
+};
 use signal_records::{InterId, LineNo, NoMemory, RecordNo};
 use std::alloc::Global;
 use std::collections::BTreeMap;
@@ -47,11 +55,13 @@ pub(crate) fn inspections_of(
     rows: &BTreeMap<RecordPlace, Inspection>,
     inter: InterId,
 ) -> Result<Vec<Inspection>, NoMemory>
-    ensures { IfOk result (λ list. AreInspectionsPlaced rows.now.entries → ListsInspections (record no_content { inspection = inspection_rows rows.now.entries }) inter list.items) }
+    ensures rows { IfOk result (λ list. AreInspectionsPlaced rows.now.entries → ListsInspections (record no_content { inspection = inspection_rows rows.now.entries }) inter list.items) }
+    ensures within { IfOk result (λ list. AllByRecursion IsInspectionWithin list.items) }
 {
     let mut list = Vec::new(alloc);
     for (place, inspection) in rows {
         if place.inter == inter {
+            inspection_is_within(inspection);
             list.push(inspection.clone()?)?;
         }
     }
@@ -92,11 +102,13 @@ pub(crate) fn orders_of(
     rows: &BTreeMap<RecordPlace, Order>,
     inter: InterId,
 ) -> Result<Vec<Order>, NoMemory>
-    ensures { IfOk result (λ list. AreOrdersPlaced rows.now.entries → ListsOrders (record no_content { work_order = order_rows rows.now.entries }) inter list.items) }
+    ensures rows { IfOk result (λ list. AreOrdersPlaced rows.now.entries → ListsOrders (record no_content { work_order = order_rows rows.now.entries }) inter list.items) }
+    ensures within { IfOk result (λ list. AllByRecursion IsOrderWithin list.items) }
 {
     let mut list = Vec::new(alloc);
     for (place, order) in rows {
         if place.inter == inter {
+            order_is_within(order);
             list.push(order.clone()?)?;
         }
     }
@@ -138,11 +150,13 @@ pub(crate) fn lines_of(
     rows: &BTreeMap<LinePlace, UsedLine>,
     inter: InterId,
 ) -> Result<Vec<UsedLine>, NoMemory>
-    ensures { IfOk result (λ list. AreUsedPlaced rows.now.entries → ListsUsed (record no_content { used_part = used_rows rows.now.entries }) inter list.items) }
+    ensures rows { IfOk result (λ list. AreUsedPlaced rows.now.entries → ListsUsed (record no_content { used_part = used_rows rows.now.entries }) inter list.items) }
+    ensures within { IfOk result (λ list. AllByRecursion IsUsedLineWithin list.items) }
 {
     let mut list = Vec::new(alloc);
     for (place, used) in rows {
         if place.inter == inter {
+            used_line_is_within(used);
             list.push(used.clone()?)?;
         }
     }
@@ -173,10 +187,12 @@ pub(crate) fn all_parts(
     alloc: Global,
     rows: &BTreeMap<PartCode, Hand>,
 ) -> Result<Vec<(PartCode, Hand)>, NoMemory>
-    ensures { IfOk result (λ list. ListsParts (record no_content { part = part_rows rows.now.entries }) list.items) }
+    ensures rows { IfOk result (λ list. ListsParts (record no_content { part = part_rows rows.now.entries }) list.items) }
+    ensures within { IfOk result (λ list. AllByRecursion IsPartWithin list.items) }
 {
     let mut list = Vec::new(alloc);
     for (part, hand) in rows {
+        part_is_within(part, *hand);
         list.push((part.clone()?, *hand))?;
     }
     Ok(list)

@@ -1,15 +1,15 @@
 //! The overdue intersections of the tables in memory.
-ghost use Rattle.std.specs.Prelude.{◌≡◌, IfOk};
+ghost use Rattle.std.specs.Prelude.{◌≡◌, ◌<◌, IfOk, vec_len};
 ghost use Rattle.office_tables_shelf.specs.Content.{Content, no_content};
 ghost use Rattle.office_tables_shelf.specs.MapCabinet.{inspection_rows, AreInspectionsPlaced};
 ghost use Rattle.office_tables_shelf.specs.MapShelf.{intersection_rows};
-ghost use Rattle.office_tables_shelf.specs.Overdue.{ReadsLast, ListsOverdue};
+ghost use Rattle.office_tables_shelf.specs.Overdue.{ReadsLast, ListsOverdue, HasOverdueDamage};
 
 use crate::map_rows::all_intersections;
 use crate::overdue::{add_overdue, later};
 use crate::place::RecordPlace;
 use crate::rows::IntersectionRow;
-use cabinet_core::{Day, Inspection, OverdueRow};
+use cabinet_core::{Day, Inspection, OverdueRow, inspection_is_within};
 use signal_records::{InterId, NoMemory};
 use std::alloc::Global;
 use std::collections::BTreeMap;
@@ -21,6 +21,7 @@ pub(crate) fn last_of(rows: &BTreeMap<RecordPlace, Inspection>, inter: InterId) 
     let mut last = None;
     for (place, inspection) in rows {
         if place.inter == inter {
+            inspection_is_within(inspection);
             last = Some(later(inspection.day, last));
         }
     }
@@ -35,7 +36,12 @@ pub(crate) fn overdue_of(
     day: Day,
     most: usize,
 ) -> Result<Vec<OverdueRow>, NoMemory>
-    ensures { IfOk result (λ found. AreInspectionsPlaced inspections.now.entries → (tables : Content) → tables.intersection ≡ intersection_rows rows.now.entries → tables.inspection ≡ inspection_rows inspections.now.entries → ListsOverdue tables day most found.items) }
+    ensures rows { IfOk result (λ found. AreInspectionsPlaced inspections.now.entries → (tables : Content) → tables.intersection ≡ intersection_rows rows.now.entries → tables.inspection ≡ inspection_rows inspections.now.entries → ListsOverdue tables day most found.items) }
+    ensures whole { IfOk result (λ found.
+        AreInspectionsPlaced inspections.now.entries → (tables : Content)
+        → tables.intersection ≡ intersection_rows rows.now.entries
+        → tables.inspection ≡ inspection_rows inspections.now.entries
+        → vec_len found < most → ¬ HasOverdueDamage tables) }
 {
     let list = all_intersections(alloc, rows)?;
     let mut found = Vec::new(alloc);

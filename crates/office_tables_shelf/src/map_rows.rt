@@ -1,14 +1,17 @@
 //! The tables in memory as trees of records: a row put, removed, found, and the rows listed.
 ghost use Rattle.std.specs.Prelude.{◌≡◌, OnOk, IfOk};
 ghost use Rattle.std.specs.FinMap as finite;
+ghost use Rattle.std.specs.List.{AllByRecursion};
 ghost use Rattle.std.specs.Option.{option_map};
 ghost use Rattle.signal_records.specs.Row.{key_of};
 ghost use Rattle.draft_core.specs.DraftRows.{changed_key, left_by};
 ghost use Rattle.office_tables_shelf.specs.Rows.{intersection_key, intersection_columns, timing_key, timing_columns, draft_key, draft_columns};
 ghost use Rattle.office_tables_shelf.specs.Content.{no_content};
 ghost use Rattle.office_tables_shelf.specs.Shelf.{ListsIntersections, ListsTiming, ListsDraft};
+ghost use Rattle.office_tables_shelf.specs.Shelf.{IsIntersectionWithin};
 ghost use Rattle.office_tables_shelf.specs.MapShelf.{intersection_rows, timing_rows, draft_rows, change_at as left_at, AreRowsPlaced, AreLeftPlaced};
 
+use crate::bounds::intersection_is_within;
 use crate::place::Place;
 use crate::rows::IntersectionRow;
 use signal_records::{Change, InterId, Key, NoMemory, Row};
@@ -45,10 +48,12 @@ pub(crate) fn all_intersections(
     alloc: Global,
     rows: &BTreeMap<InterId, IntersectionRow>,
 ) -> Result<Vec<(InterId, IntersectionRow)>, NoMemory>
-    ensures { IfOk result (λ list. ListsIntersections (record no_content { intersection = intersection_rows rows.now.entries }) list.items) }
+    ensures rows { IfOk result (λ list. ListsIntersections (record no_content { intersection = intersection_rows rows.now.entries }) list.items) }
+    ensures within { IfOk result (λ list. AllByRecursion IsIntersectionWithin list.items) }
 {
     let mut list = Vec::new(alloc);
     for (id, row) in rows {
+        intersection_is_within(*id, row);
         list.push((*id, row.clone()?))?;
     }
     Ok(list)

@@ -219,12 +219,17 @@ impl MapShelf {
 }
 
 impl Shelf for MapShelf {
-    ghost use Rattle.std.specs.Prelude.{◌≡◌, OnOk, OnErr, IfOk};
+    ghost use Rattle.std.specs.Prelude.{◌≡◌, ◌<◌, OnOk, OnErr, IfOk, vec_len};
+    ghost use Rattle.std.specs.List.{AllByRecursion};
+    ghost use Rattle.cabinet_core.specs.Within.{IsInspectionWithin, IsOrderWithin};
+    ghost use Rattle.cabinet_core.specs.Within.{IsUsedLineWithin};
     ghost use Rattle.office_tables_shelf.specs.Change.{changed_by};
     ghost use Rattle.office_tables_shelf.specs.Counts.{count_of, counts_after};
     ghost use Rattle.office_tables_shelf.specs.CabinetReads.{ReadsInspection, ListsInspections, ReadsOrder, ListsOrders, ReadsUsed, ListsUsed, ReadsDelivery, ReadsHand, ListsParts};
+    ghost use Rattle.office_tables_shelf.specs.CabinetReads.{IsPartWithin};
     ghost use Rattle.office_tables_shelf.specs.Shelf.{ReadsIntersection, ListsIntersections, ListsTiming, CountsTiming, ListsDraft};
-    ghost use Rattle.office_tables_shelf.specs.Overdue.{ReadsLast, ListsOverdue};
+    ghost use Rattle.office_tables_shelf.specs.Shelf.{IsIntersectionWithin};
+    ghost use Rattle.office_tables_shelf.specs.Overdue.{ReadsLast, ListsOverdue, HasOverdueDamage};
     ghost use Rattle.office_tables_shelf.specs.MapShelf.{IsFreeOfStore};
 
     ghost content = { λ s. s.tables };
@@ -252,6 +257,7 @@ impl Shelf for MapShelf {
         alloc: Global,
     ) -> Result<Vec<(InterId, IntersectionRow)>, ShelfFault>
         ensures rows { IfOk result (λ rows. ListsIntersections self.old.tables rows.items) }
+        ensures within { IfOk result (λ rows. AllByRecursion IsIntersectionWithin rows.items) }
         ensures unchanged { self.new ≡ self.old }
         ensures sound { IsFreeOfStore result }
     {
@@ -298,6 +304,7 @@ impl Shelf for MapShelf {
 
     fn inspections(&mut self, alloc: Global, id: InterId) -> Result<Vec<Inspection>, ShelfFault>
         ensures rows { IfOk result (λ found. ListsInspections self.old.tables id found.items) }
+        ensures within { IfOk result (λ found. AllByRecursion IsInspectionWithin found.items) }
         ensures unchanged { self.new ≡ self.old }
         ensures sound { IsFreeOfStore result }
     {
@@ -319,6 +326,8 @@ impl Shelf for MapShelf {
         most: usize,
     ) -> Result<Vec<OverdueRow>, ShelfFault>
         ensures rows { IfOk result (λ found. ListsOverdue self.old.tables day most found.items) }
+        ensures whole { IfOk result (λ found.
+            vec_len found < most → ¬ HasOverdueDamage self.old.tables) }
         ensures unchanged { self.new ≡ self.old }
         ensures sound { IsFreeOfStore result }
     {
@@ -341,6 +350,7 @@ impl Shelf for MapShelf {
 
     fn orders(&mut self, alloc: Global, id: InterId) -> Result<Vec<Order>, ShelfFault>
         ensures rows { IfOk result (λ found. ListsOrders self.old.tables id found.items) }
+        ensures within { IfOk result (λ found. AllByRecursion IsOrderWithin found.items) }
         ensures unchanged { self.new ≡ self.old }
         ensures sound { IsFreeOfStore result }
     {
@@ -363,6 +373,7 @@ impl Shelf for MapShelf {
 
     fn used_lines(&mut self, alloc: Global, id: InterId) -> Result<Vec<UsedLine>, ShelfFault>
         ensures rows { IfOk result (λ found. ListsUsed self.old.tables id found.items) }
+        ensures within { IfOk result (λ found. AllByRecursion IsUsedLineWithin found.items) }
         ensures unchanged { self.new ≡ self.old }
         ensures sound { IsFreeOfStore result }
     {
@@ -392,6 +403,7 @@ impl Shelf for MapShelf {
 
     fn parts(&mut self, alloc: Global) -> Result<Vec<(PartCode, Hand)>, ShelfFault>
         ensures rows { IfOk result (λ found. ListsParts self.old.tables found.items) }
+        ensures within { IfOk result (λ found. AllByRecursion IsPartWithin found.items) }
         ensures unchanged { self.new ≡ self.old }
         ensures sound { IsFreeOfStore result }
     {

@@ -1,5 +1,6 @@
 -- What a query leaves of a connection where its rows are read one at a time, and what the rows so far are.
 use Rattle.std.proofs.Common.{◌≡◌, ◌⊎◌, inl, inr, ℕ, ◌≤◌, false, List, [], ◌∷◌, ◌++◌, map, Ok, IsTrue, refl, sym, ap, subst, ◌∙◌, arith}
+use Rattle.std.specs.List.{AllByRecursion}
 use Rattle.std.proofs.lemmas.List.{map-append}
 use Rattle.sqlite.specs.declared.error.Error.{Error}
 use Rattle.sqlite.specs.Clock.{timed}
@@ -20,8 +21,11 @@ use Rattle.office_tables_shelf.specs.Cells.{Cell}
 use Rattle.office_tables_sql.specs.Tables.{IsListText, row_shown, stored_for}
 
 -- what was gathered is of the records that the rows given so far show
-abbrev pub HasGathered : {X G : Type 0} → (G → List X → Type 0) → Table → (ℕ → X → List Cell) → (X → List Cell) → ℕ → List Row → G → Type 0
-HasGathered {X} holds t key columns id given found = (records : List X) × holds found records × (map (stored_for key columns id) records ≡ map (row_shown t) given)
+abbrev pub HasGathered : {X G : Type 0} → (G → List X → Type 0) → Table → (X → Type 0)
+    → (ℕ → X → List Cell) → (X → List Cell) → ℕ → List Row → G → Type 0
+HasGathered {X} holds t within key columns id given found =
+    (records : List X) × holds found records × AllByRecursion within records
+    × (map (stored_for key columns id) records ≡ map (row_shown t) given)
 
 same_self : (s : State) → IsTrue s.is_open → IsUnchanged s s
 same_self s opened = (record { was_open = opened; is_open = opened; now_is = refl; committed_is = refl; mode = refl }, record { changes = refl; last_rowid = refl }, refl)

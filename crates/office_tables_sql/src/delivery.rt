@@ -2,7 +2,7 @@
 
 use crate::stored_row::StoredRow;
 use crate::value::{code_at, day_at, ranged_at};
-use cabinet_core::Delivery;
+use cabinet_core::{Delivery, delivery_is_within};
 use office_tables_shelf::shelf::ShelfFault;
 use signal_records::NoMemory;
 use sqlite::Row;
@@ -68,6 +68,10 @@ impl StoredRow for Delivery {
 
     fn insert_text() -> &'static str {
         INSERT
+    }
+
+    fn is_within(&self) {
+        delivery_is_within(self);
     }
 
     fn read(alloc: Global, _of: (), row: &Row) -> Result<Delivery, ShelfFault> {

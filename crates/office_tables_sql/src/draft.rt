@@ -11,7 +11,7 @@ use crate::body::write_body;
 use crate::listed::{body_at, check_key, read_key};
 use crate::stored_row::{StoredRow, TimingKeyed};
 use office_tables_shelf::shelf::ShelfFault;
-use signal_records::{Change, InterId, Key, NoMemory};
+use signal_records::{Change, InterId, Key, NoMemory, change_is_within};
 use sqlite::Row as SqlRow;
 use sqlite::types::{ToSql, ValueRef};
 use std::alloc::Global;
@@ -107,6 +107,10 @@ impl StoredRow for Change {
 
     fn insert_text() -> &'static str {
         INSERT
+    }
+
+    fn is_within(&self) {
+        change_is_within(self);
     }
 
     /// Without a body it removes what is under its key.

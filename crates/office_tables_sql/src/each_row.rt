@@ -1,6 +1,7 @@
 //! Rows of a table, read one at a time.
 
 ghost use Rattle.std.specs.Prelude.{◌≡◌, ◌≢◌, List, [], ◌∷◌, ◌++◌, pos, IfOk, OnOk, IsTrue};
+ghost use Rattle.std.specs.List.{AllByRecursion};
 ghost use Rattle.sqlite.specs.State.{HasCleanDisk, Survives};
 ghost use Rattle.sqlite.specs.Held.{state};
 ghost use Rattle.sqlite.specs.Values.{bound};
@@ -67,6 +68,8 @@ pub fn list<T: StoredRow<Of = InterId>, S: Alter>(
     requires office { IsOffice (state S.Store conn.old) }
     requires params { params_of T.table (T.number id) ≡ Int (pos id) ∷ [] }
     ensures rows { IfOk result (λ found. IsHonest (state S.Store conn.new) → ListsRows T.table T.key T.columns (content_now (state S.Store conn.old)) (T.number id) found.items) }
+    ensures within { IfOk result (λ found. IsHonest (state S.Store conn.new) →
+        AllByRecursion T.is_within found.items) }
     ensures damaged { result ≡ Err ShelfFault.Damaged → IsHonest (state S.Store conn.new) → HasDamagedRow T.table T.is_within T.key T.columns (content_now (state S.Store conn.old)) (T.number id) }
     ensures kept { Keeps (state S.Store conn.old) (state S.Store conn.new) }
     ensures crash { Survives (state S.Store conn.old) (state S.Store conn.new) (λ _. ⊥) }
@@ -82,6 +85,8 @@ pub fn list_all<T: StoredRow<Of = ()>, S: Alter>(
     requires office { IsOffice (state S.Store conn.old) }
     requires params { params_of T.table (T.number tt) ≡ [] }
     ensures rows { IfOk result (λ found. IsHonest (state S.Store conn.new) → ListsRows T.table T.key T.columns (content_now (state S.Store conn.old)) (T.number tt) found.items) }
+    ensures within { IfOk result (λ found. IsHonest (state S.Store conn.new) →
+        AllByRecursion T.is_within found.items) }
     ensures damaged { result ≡ Err ShelfFault.Damaged → IsHonest (state S.Store conn.new) → HasDamagedRow T.table T.is_within T.key T.columns (content_now (state S.Store conn.old)) (T.number tt) }
     ensures kept { Keeps (state S.Store conn.old) (state S.Store conn.new) }
     ensures crash { Survives (state S.Store conn.old) (state S.Store conn.new) (λ _. ⊥) }
@@ -102,7 +107,7 @@ pub(crate) fn gathered<T: StoredRow, G: Gather<T>, S: Alter>(
     requires office { IsOffice (state S.Store conn.old) }
     requires begun { G.holds begun [] }
     ensures rows { IfOk result (λ found. IsHonest (state S.Store conn.new) →
-        Gathers G.holds T.table T.key T.columns (content_now (state S.Store conn.old))
+        Gathers G.holds T.table T.is_within T.key T.columns (content_now (state S.Store conn.old))
         (T.number of) found) }
     ensures damaged { result ≡ Err ShelfFault.Damaged → IsHonest (state S.Store conn.new) →
         HasDamagedRow T.table T.is_within T.key T.columns (content_now (state S.Store conn.old))
@@ -129,7 +134,7 @@ fn gather_each<T: StoredRow, G: Gather<T>, S: Alter>(
     requires opened { HasCleanDisk (state S.Store conn.old) → IsTrue (state S.Store conn.old).is_open }
     requires begun { G.holds begun [] }
     ensures rows { IfOk result (λ found. IsHonest (state S.Store conn.new) →
-        Gathers G.holds T.table T.key T.columns (content_now (state S.Store conn.old))
+        Gathers G.holds T.table T.is_within T.key T.columns (content_now (state S.Store conn.old))
         (T.number of) found) }
     ensures damaged { result ≡ Err ShelfFault.Damaged → IsHonest (state S.Store conn.new) → HasDamagedRow T.table T.is_within T.key T.columns (content_now (state S.Store conn.old)) (T.number of) }
     ensures kept { Keeps (state S.Store conn.old) (state S.Store conn.new) }
@@ -148,6 +153,7 @@ fn gather_each<T: StoredRow, G: Gather<T>, S: Alter>(
             return Ok(found);
         };
         let record = T::read(alloc, of, row)?;
+        record.is_within();
         found.take(record)?;
     }
     Err(ShelfFault::Store)

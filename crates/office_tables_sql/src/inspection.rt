@@ -14,7 +14,7 @@ use crate::each_row::{Gather, gathered};
 use crate::listed::check_number;
 use crate::stored_row::StoredRow;
 use crate::value::{day_at, ranged_at, words_at};
-use cabinet_core::{Day, Inspection};
+use cabinet_core::{Day, Inspection, inspection_is_within};
 use office_tables_shelf::overdue::later;
 use office_tables_shelf::shelf::ShelfFault;
 use signal_records::{InterId, NoMemory};
@@ -84,6 +84,10 @@ impl StoredRow for Inspection {
 
     fn insert_text() -> &'static str {
         INSERT
+    }
+
+    fn is_within(&self) {
+        inspection_is_within(self);
     }
 
     fn read(alloc: Global, id: InterId, row: &Row) -> Result<Inspection, ShelfFault> {

@@ -1,6 +1,6 @@
 //! The table `intersection`, whose key is the rowid.
 
-ghost use Rattle.std.specs.Prelude.{◌≡◌, ◌≢◌, ◌≤◌, ◌+◌, ℕ, pos, [], ◌∷◌, length, Option, IfOk, IfSome, OnOk};
+ghost use Rattle.std.specs.Prelude.{◌≡◌, ◌≢◌, pos, [], length, Option, IfOk, IfSome, OnOk};
 ghost use Rattle.std.specs.FinMap.{insert};
 ghost use Rattle.sqlite.specs.Order.{column};
 ghost use Rattle.sqlite.specs.State.{HasCleanDisk, Survives};
@@ -11,11 +11,11 @@ ghost use Rattle.signal_records.specs.Words.{AreWords};
 ghost use Rattle.draft_core.specs.declared.state.Holder.{Holder};
 ghost use Rattle.draft_core.specs.declared.state.Stage.{Stage};
 ghost use Rattle.office_tables_shelf.specs.Cells.{number};
-ghost use Rattle.office_tables_shelf.specs.Rows.{stage_number, state_number, owner_cell, intersection_key, intersection_columns, IsIntersectionRow};
+ghost use Rattle.office_tables_shelf.specs.Rows.{stage_number, state_number, owner_cell, intersection_key, intersection_columns};
 ghost use Rattle.office_tables_shelf.specs.Shelf.{ReadsIntersection};
 ghost use Rattle.office_tables_shelf.specs.Damage.{HasDamagedIntersection};
 ghost use Rattle.office_tables_shelf.specs.declared.rows.IntersectionRow.{IntersectionRow};
-ghost use Rattle.office_tables_sql.specs.Stored.{cell_of, cells_at, content_now};
+ghost use Rattle.office_tables_sql.specs.Stored.{cell_of, content_now};
 ghost use Rattle.office_tables_sql.specs.Calls.{IsHonest, IsOffice, IsReady, Keeps, StandsOn};
 ghost use Rattle.office_tables_sql.specs.Tables.{value_of};
 
@@ -23,6 +23,7 @@ use crate::statement::SqlFault;
 use crate::stored_row::{self, StoredRow};
 use crate::value::{number_at, ranged_at, revision_at, words_at, words_or_null_at};
 use draft_core::state::{Holder, Stage};
+use office_tables_shelf::bounds::intersection_is_within;
 use office_tables_shelf::rows::IntersectionRow;
 use office_tables_shelf::shelf::ShelfFault;
 use signal_records::{InterId, NoMemory, Words};
@@ -41,8 +42,8 @@ const INSERT: &str =
     "INSERT INTO intersection (id, name, days, revision, state, owner) VALUES (?1, ?2, ?3, ?4, ?5, ?6)";
 
 impl StoredRow for (InterId, IntersectionRow) {
-    ghost use Rattle.std.specs.Int.{IsInRange};
-    ghost use Rattle.office_tables_shelf.specs.Rows.{intersection_key, intersection_columns, IsIntersectionRow};
+    ghost use Rattle.office_tables_shelf.specs.Rows.{intersection_key, intersection_columns};
+    ghost use Rattle.office_tables_shelf.specs.Shelf.{IsIntersectionWithin};
     ghost use Rattle.office_tables_shelf.specs.declared.rows.Table.TheVariants as table;
     ghost use Rattle.office_tables_sql.specs.declared.intersection.TheConstants.{LIST, FIND, UPDATE, INSERT};
     ghost use Rattle.office_tables_sql.specs.IntersectionTexts as texts;
@@ -57,7 +58,7 @@ impl StoredRow for (InterId, IntersectionRow) {
 
     ghost columns = { λ found. intersection_columns found.1 };
 
-    ghost is_within = { λ found. IsInRange 1 9999 found.0 × IsIntersectionRow found.1 };
+    ghost is_within = { IsIntersectionWithin };
 
     ghost list_text = { LIST.now };
 
@@ -91,6 +92,10 @@ impl StoredRow for (InterId, IntersectionRow) {
 
     fn insert_text() -> &'static str {
         INSERT
+    }
+
+    fn is_within(&self) {
+        intersection_is_within(self.0, &self.1);
     }
 
     fn read(alloc: Global, _of: (), row: &Row) -> Result<(InterId, IntersectionRow), ShelfFault> {

@@ -13,7 +13,7 @@ ghost use Rattle.office_tables_sql.specs.Tables.{value_of};
 use crate::listed::check_number;
 use crate::stored_row::StoredRow;
 use crate::value::{check_null, day_at, ranged_at, words_at, words_or_null_at};
-use cabinet_core::{Closing, Order};
+use cabinet_core::{Closing, Order, order_is_within};
 use office_tables_shelf::shelf::ShelfFault;
 use signal_records::{InterId, NoMemory, Words};
 use sqlite::Row;
@@ -82,6 +82,10 @@ impl StoredRow for Order {
 
     fn insert_text() -> &'static str {
         INSERT
+    }
+
+    fn is_within(&self) {
+        order_is_within(self);
     }
 
     fn read(alloc: Global, id: InterId, row: &Row) -> Result<Order, ShelfFault> {

@@ -13,6 +13,7 @@ use crate::statement::SqlFault;
 use crate::stored_row::{self, StoredRow};
 use crate::value::{code_at, ranged_at};
 use cabinet_core::{Hand, PartCode};
+use office_tables_shelf::bounds::part_is_within;
 use office_tables_shelf::shelf::ShelfFault;
 use signal_records::NoMemory;
 use sqlite::types::{ToSql, ValueRef};
@@ -28,8 +29,7 @@ const UPDATE: &str = "UPDATE part SET hand = ?2 WHERE code = ?1";
 const INSERT: &str = "INSERT INTO part (code, hand) VALUES (?1, ?2)";
 
 impl StoredRow for (PartCode, Hand) {
-    ghost use Rattle.cabinet_core.specs.Part.{IsPartCode};
-    ghost use Rattle.office_tables_shelf.specs.CabinetReads.{IsHand};
+    ghost use Rattle.office_tables_shelf.specs.CabinetReads.{IsPartWithin};
     ghost use Rattle.office_tables_shelf.specs.CabinetRows.{part_key, part_columns};
     ghost use Rattle.office_tables_shelf.specs.declared.rows.Table.TheVariants as table;
     ghost use Rattle.office_tables_sql.specs.declared.part.TheConstants.{LIST, FIND, UPDATE, INSERT};
@@ -45,7 +45,7 @@ impl StoredRow for (PartCode, Hand) {
 
     ghost columns = { λ part. part_columns part.1 };
 
-    ghost is_within = { λ part. IsPartCode part.0 × IsHand part.1 };
+    ghost is_within = { IsPartWithin };
 
     ghost list_text = { LIST.now };
 
@@ -79,6 +79,10 @@ impl StoredRow for (PartCode, Hand) {
 
     fn insert_text() -> &'static str {
         INSERT
+    }
+
+    fn is_within(&self) {
+        part_is_within(&self.0, self.1);
     }
 
     fn read(alloc: Global, _of: (), row: &Row) -> Result<(PartCode, Hand), ShelfFault> {

@@ -54,6 +54,10 @@ pub trait StoredRow: Sized + Drop {
     fn insert_text() -> &'static str
         ensures { result.now ≡ insert_text };
 
+    /// Every one is within its limits, as its type says.
+    fn is_within(&self)
+        ensures { is_within self.now };
+
     /// What a row of the list stands for.
     fn read(alloc: Global, of: Self::Of, row: &Row) -> Result<Self, ShelfFault>
         ensures key { IfOk result (λ x. key (number of) x ≡ key_shown table row.now) }

@@ -13,7 +13,7 @@ use crate::statement::{SqlFault, select_one};
 use crate::stored_row::{StoredRow, TimingKeyed};
 use crate::value::number_at;
 use office_tables_shelf::shelf::ShelfFault;
-use signal_records::{InterId, NoMemory, Row};
+use signal_records::{InterId, NoMemory, Row, row_is_within};
 use sqlite::types::{ToSql, ValueRef};
 use sqlite::{Alter, Connection, Row as SqlRow, params};
 use std::alloc::Global;
@@ -101,6 +101,10 @@ impl StoredRow for Row {
 
     fn insert_text() -> &'static str {
         INSERT
+    }
+
+    fn is_within(&self) {
+        row_is_within(self);
     }
 
     /// Its body is a row, and the columns before it are that row's key.

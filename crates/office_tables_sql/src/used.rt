@@ -5,7 +5,7 @@ ghost use Rattle.office_tables_shelf.specs.CabinetRows.{used_key, used_columns};
 use crate::listed::check_number;
 use crate::stored_row::StoredRow;
 use crate::value::{code_at, ranged_at};
-use cabinet_core::UsedLine;
+use cabinet_core::{UsedLine, used_line_is_within};
 use office_tables_shelf::shelf::ShelfFault;
 use signal_records::{InterId, NoMemory};
 use sqlite::Row;
@@ -74,6 +74,10 @@ impl StoredRow for UsedLine {
 
     fn insert_text() -> &'static str {
         INSERT
+    }
+
+    fn is_within(&self) {
+        used_line_is_within(self);
     }
 
     fn read(alloc: Global, id: InterId, row: &Row) -> Result<UsedLine, ShelfFault> {

@@ -1,6 +1,6 @@
 //! The check of a timing plan that stands in a file.
 
-ghost use Rattle.std.specs.Prelude.{◌≡◌, ◌≢◌, List, Ok, Err, IfOk, IfErr};
+ghost use Rattle.std.specs.Prelude.{◌≡◌, ◌≢◌, Ok, Err, IfOk, IfErr};
 ghost use Rattle.office_files.specs.Changes.{changes_of};
 ghost use Rattle.signal_office_reports.specs.Plan.{AreOfPlan};
 

@@ -1,4 +1,4 @@
-//! The timing sheet of an intersection, by the queries of the office.
+//! The timing sheet of an intersection, by one query of the office.
 
 ghost use Rattle.std.specs.Prelude.{◌≡◌, Err, IfOk, IfErr};
 ghost use Rattle.office_tables_shelf.specs.Shelf.{IsKept};
@@ -7,8 +7,7 @@ ghost use Rattle.office_desk.specs.Office.{Office as OfficeState};
 ghost use Rattle.office_desk.specs.StandFor.{StandForSound};
 ghost use Rattle.office_desk.specs.declared.command.Command.TheVariants as command;
 ghost use Rattle.signal_office_reports.specs.Fault.{IsFaultOfQuery, TellsUnknown};
-ghost use Rattle.signal_office_reports.specs.Sheet.{IsNameOf, IsSheetOf, IsTimingOf};
-ghost use Rattle.signal_office_reports.specs.Sheet.{MeetsSheetDamage};
+ghost use Rattle.signal_office_reports.specs.Sheet.{IsSheetOf, IsTimingOf};
 
 use crate::asking::ask;
 use crate::fault::Fault;
@@ -17,43 +16,23 @@ use office_desk::office::Office;
 use office_desk::reply::{Reply, RunningTiming};
 use office_files::timing_sheet;
 use office_tables_shelf::shelf::Shelf;
-use signal_records::{InterId, Words};
+use signal_records::InterId;
 use std::alloc::Global;
 
-/// The name of an intersection.
-fn name_in<S: Shelf>(
-    alloc: Global,
-    office: &mut Office<S>,
-    id: InterId,
-) -> Result<Words<120>, Fault>
-    ensures kept { IsKept S.is_honest S.content S.written S.may_leave office.old office.new }
-    ensures name { IfOk result (λ name. S.is_honest office.new → (before : OfficeState) → StandForSound (S.content office.old) before →
-        IsNameOf before id name) }
-    ensures refused { IfErr result IsFaultOfQuery }
-    ensures damaged { result ≡ Err Fault.Damaged → S.is_honest office.new → MeetsDamage (S.content office.old) (command.State id) }
-    ensures fault { IfErr result (λ fault. S.is_honest office.new → (before : OfficeState) → StandForSound (S.content office.old) before →
-        TellsUnknown before id fault) }
-{
-    match ask(alloc, office, Command::State { id }) {
-        Reply::State(state) => Ok(state.name),
-        Reply::Refused(refusal) => Err(Fault::from(refusal)),
-        _ => Err(Fault::Store),
-    }
-}
-
-/// The committed timing set of an intersection, and how often it was committed.
+/// The committed timing set of an intersection with its name, and how often it was committed.
 fn timing_in<S: Shelf>(
     alloc: Global,
     office: &mut Office<S>,
     id: InterId,
 ) -> Result<RunningTiming, Fault>
     ensures kept { IsKept S.is_honest S.content S.written S.may_leave office.old office.new }
-    ensures timing { IfOk result (λ timing. S.is_honest office.new → (before : OfficeState) → StandForSound (S.content office.old) before →
-        IsTimingOf before id timing) }
+    ensures timing { IfOk result (λ timing. S.is_honest office.new → (before : OfficeState) →
+        StandForSound (S.content office.old) before → IsTimingOf before id timing) }
     ensures refused { IfErr result IsFaultOfQuery }
-    ensures damaged { result ≡ Err Fault.Damaged → S.is_honest office.new → MeetsDamage (S.content office.old) (command.Timing id) }
-    ensures fault { IfErr result (λ fault. S.is_honest office.new → (before : OfficeState) → StandForSound (S.content office.old) before →
-        TellsUnknown before id fault) }
+    ensures damaged { result ≡ Err Fault.Damaged → S.is_honest office.new →
+        MeetsDamage (S.content office.old) (command.Timing id) }
+    ensures fault { IfErr result (λ fault. S.is_honest office.new → (before : OfficeState) →
+        StandForSound (S.content office.old) before → TellsUnknown before id fault) }
 {
     match ask(alloc, office, Command::Timing { id }) {
         Reply::Timing(timing) => Ok(timing),
@@ -76,12 +55,11 @@ pub fn sheet_of<S: Shelf>(
     // Where it fails, the intersection is unknown, memory or the database refused, or a row of it is no record.
     ensures refused { IfErr result IsFaultOfQuery }
     ensures damaged { result ≡ Err Fault.Damaged → S.is_honest office.new →
-        MeetsSheetDamage (S.content office.old) id }
+        MeetsDamage (S.content office.old) (command.Timing id) }
     // An unknown intersection is told where the office has none, and only there.
     ensures fault { IfErr result (λ fault. S.is_honest office.new → (before : OfficeState) → StandForSound (S.content office.old) before →
         TellsUnknown before id fault) }
 {
-    let name = name_in(alloc, office, id)?;
     let timing = timing_in(alloc, office, id)?;
-    Ok(timing_sheet(alloc, id, &name, timing.revision, &timing.rows)?)
+    Ok(timing_sheet(alloc, id, &timing.name, timing.revision, &timing.rows)?)
 }

@@ -7,7 +7,7 @@ ghost use Rattle.sqlite.specs.Held.{state};
 ghost use Rattle.sqlite.specs.WalFiles.{image_at};
 ghost use Rattle.sqlite.specs.WalReads.{AreClean};
 ghost use Rattle.office_tables.specs.Calls.{IsHonest};
-ghost use Rattle.office_tables.specs.Stored.{content_now, content_of};
+ghost use Rattle.office_tables.specs.Stored.{content_now};
 ghost use Rattle.office_tables_open.specs.SqlShelf.{SqlView};
 ghost use Rattle.office_tables_open.specs.Opening.{HasOtherVersion, HasRowsAlone, IsOpened};
 ghost use Rattle.office_tables_open.specs.Promises.{IsArrangedIfClean};

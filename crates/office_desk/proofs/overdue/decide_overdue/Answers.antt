@@ -1,4 +1,4 @@
-use Rattle.std.proofs.Common.{◌∙◌, List, ap}
+use Rattle.std.proofs.Common.{◌∙◌, ◌<◌, List, ap, arith}
 use Rattle.cabinet_core.specs.Overdue.{Listed}
 use Rattle.office_desk.specs.declared.reply.Reply.TheVariants.{Overdue}
 use Rattle.office_desk.proofs.Decisions.{told_decides}
@@ -7,7 +7,14 @@ use Rattle.office_desk.proofs.overdue.decide_overdue.Goals as goal
 
 pub returns-clause-decides : goal.returns-clause-decides
 returns-clause-decides g c =
-    told_decides _ _ _ _ _ c.unchanged.ensures.reply (λ e. cc) (λ why e. absurd cc) c.unchanged.ensures.no_changes (λ honest damaged. damaged) (λ honest office stands.
-    overdue_answers (g.S.Shelf.content c.args.shelf.now) office c.args.day c.in_ok-late.late.items _ _ stands
-    (c.in_ok-late.ensures.rows honest)
-    (c.unchanged.ensures.reply ∙ ap (λ (list : List Listed). Overdue list) c.new-found.ensures) c.unchanged.ensures.no_changes)
+    told_decides _ _ _ _ _ c.unchanged.ensures.reply (λ e. cc) (λ why e. absurd cc)
+    c.unchanged.ensures.no_changes
+    (λ honest. c.in_ok-late.ensures.whole honest
+    (let few : c.in_ok-late.late.len < 18_446_744_073_709_551_615 =
+    omega (arith, c.in_ok-late.late.ok.1, c.in_ok-late.late.small) in few))
+    (λ honest office stands.
+    overdue_answers (g.S.Shelf.content c.args.shelf.now) office c.args.day
+    18_446_744_073_709_551_615
+    c.in_ok-late.late.items _ _ (omega arith) stands (c.in_ok-late.ensures.rows honest)
+    (c.unchanged.ensures.reply ∙ ap (λ (list : List Listed). Overdue list) c.new-found.ensures)
+    c.unchanged.ensures.no_changes)

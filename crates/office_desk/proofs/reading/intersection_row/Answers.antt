@@ -9,4 +9,4 @@ returns-in_default-clause-whole g c = λ honest.
 
 pub returns-clause-whole : goal.returns-clause-whole
 returns-clause-whole g c = λ honest.
-    row_whole (g.S.Shelf.content c.args.shelf.now) c.args.id c.in-Some.row (subst (ReadsIntersection (g.S.Shelf.content c.args.shelf.now) c.args.id) c.in-Some.is (c.in_ok-row.ensures.row honest)) c.intersection_is_within.ensures
+    row_whole (g.S.Shelf.content c.args.shelf.now) c.args.id c.in-Some.row (subst (ReadsIntersection (g.S.Shelf.content c.args.shelf.now) c.args.id) c.in-Some.is (c.in_ok-row.ensures.row honest)) c.intersection_is_within.ensures.1

@@ -4,7 +4,6 @@ use Rattle.office_tables_shelf.specs.declared.shelf.ShelfFault.{ShelfFault}
 use Rattle.draft_core.specs.declared.timing.Reach.{Reach}
 use Rattle.office_desk.specs.Damage.{HasDamageIn}
 use Rattle.office_desk.specs.Reading.{FindsAny, ListsFound}
-use Rattle.office_desk.specs.Transacting.{reach_of}
 use Rattle.office_desk.specs.declared.reading.Found.{Found}
 use Rattle.office_desk.proofs.Decisions.{fault_decides}
 use Rattle.office_desk.proofs.Transactions.{absent_decides, meets, transact_decides}

@@ -4,10 +4,13 @@ use Rattle.office_tables_shelf.specs.CabinetRows.{inspection_key, inspection_col
 use Rattle.office_tables_shelf.proofs.CabinetLemmas.{records_under, record_inter, inspections_listed}
 use Rattle.office_tables_shelf.proofs.map_cabinet.inspections_of.Goals as goal
 
-pub returns : goal.returns
-returns c = λ placed.
+pub returns-clause-rows : goal.returns-clause-rows
+returns-clause-rows c = λ placed.
     let es = c.args.rows.now.entries in
     let found = c.loop-place.list.items in
+    let ended = sym c.in-None.ensures.steps.0 in
     let items : found ≡ records_under record_inter c.args.inter es =
-    sym (append-nil found) ∙ ap (λ rest. found ++ records_under record_inter c.args.inter rest) (sym c.in-None.ensures.steps.0) ∙ c.loop-place.invariant in
+    sym (append-nil found)
+    ∙ ap (λ rest. found ++ records_under record_inter c.args.inter rest) ended
+    ∙ c.loop-place.invariant.so_far in
     ap (map (λ inspection. (inspection_key c.args.inter inspection.number, inspection_columns inspection))) items ∙ inspections_listed c.args.inter es c.into_iter-place-iterator.ensures.into_iter_gives.5 placed

@@ -5,10 +5,12 @@ use Rattle.office_tables_shelf.proofs.ListLemmas.{tree_entries}
 use Rattle.office_tables_shelf.proofs.TreeLemmas.{ranged_cmp, number_cells_order}
 use Rattle.office_tables_shelf.proofs.map_rows.all_intersections.Goals as goal
 
-pub returns : goal.returns
-returns c =
+pub returns-clause-rows : goal.returns-clause-rows
+returns-clause-rows c =
     let es = c.args.rows.now.entries in
     let found = c.loop-id.list.items in
-    let items : found ≡ es = sym (append-nil found) ∙ ap (λ rest. found ++ rest) (sym c.in-None.ensures.steps.0) ∙ c.loop-id.invariant in
+    let items : found ≡ es =
+    sym (append-nil found) ∙ ap (λ rest. found ++ rest) (sym c.in-None.ensures.steps.0)
+    ∙ c.loop-id.invariant.so_far in
     ap (map (λ e. (intersection_key e.0, intersection_columns e.1))) items
     ∙ sym (tree_entries ranged_cmp intersection_key intersection_columns number_cells_order es c.into_iter-id-iterator.ensures.into_iter_gives.5)

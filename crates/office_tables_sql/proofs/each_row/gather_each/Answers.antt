@@ -5,6 +5,7 @@ use Rattle.sqlite.specs.Order.{Row}
 use Rattle.sqlite.specs.State.{HasCleanDisk, Survives}
 use Rattle.sqlite.specs.Held.{state}
 use Rattle.sqlite.proofs.Callers.{given_begin, begun_plain, unchanged_then}
+use Rattle.office_tables_shelf.proofs.ListLemmas.{all_more}
 use Rattle.office_tables_shelf.specs.declared.shelf.ShelfFault.TheVariants.{Damaged}
 use Rattle.office_tables_sql.specs.Calls.{IsHonest, Keeps, Reads}
 use Rattle.office_tables_sql.specs.Stored.{content_now}
@@ -42,7 +43,7 @@ rows-init g c =
       mode,
       λ clean.
           let begun = begun_plain g.S.Store text params c.args.conn.now c.in-Ok.rows.conn.now (plain_at sql text params query old c.requires.office c.requires.opened c.requires.text (omega (arith, clean, survives.clean))) (made.begun clean) in
-          (begun.1, [], begun.0, ([], c.requires.begun, refl)),
+          (begun.1, [], begun.0, ([], c.requires.begun, tt, refl)),
     )
 
 pub returns-in-Err-advance-clause-kept : goal.returns-in-Err-advance-clause-kept
@@ -74,13 +75,18 @@ returns-in_default-get-clause-rows g c =
     let mode = step.mode inv.2 in
     let unchanged = λ (clean : HasCleanDisk new). unchanged_then old mid new (inv.3 (omega (arith, clean, step.survives.clean))).0 (step.same clean) in
     let none : row_if c.advance.new.self.has_row c.advance.new.self.conn.now ≡ None = sym c.get.ensures ∙ ap option_copied c.in_default-get.is in
-    let told : IsHonest new → Gathers g.G.Gather.holds g.T.StoredRow.table g.T.StoredRow.key g.T.StoredRow.columns (content_now old) (g.T.StoredRow.number c.args.of) c.rows.found = λ honest.
+    let told : IsHonest new → Gathers g.G.Gather.holds g.T.StoredRow.table g.T.StoredRow.is_within
+    g.T.StoredRow.key g.T.StoredRow.columns (content_now old)
+    (g.T.StoredRow.number c.args.of) c.rows.found = λ honest.
     let before = c.requires.office.schema in
     let now = inv.3 (omega (arith, honest.0, step.survives.clean)) in
     let shown = λ (clean : HasCleanDisk new). subst (GivesOn g.S.Store text params c.rows.rows.conn.now c.advance.new.self.conn.now now.1) none (step.ok clean text params now.1 now.2) in
     let reads : Reads sql params old.now now.1 = all_read sql text params means.query old c.requires.office c.requires.opened c.requires.text mid inv.1 inv.2 (λ clean. (inv.3 clean).0) new step.survives mode now.1 shown honest in
     let was : IsHonest old = (still_keeps sql text params means.query old c.requires.office c.requires.opened c.requires.text new survives mode unchanged).honest honest in
-    record { records = now.3.0; held = now.3.1; lists = now.3.2 ∙ lists g.T.StoredRow.table old.now (c.requires.office.schema was) (c.requires.office.sound was) (c.requires.office.ordered was) sql means (g.T.StoredRow.number c.args.of) now.1 reads } in
+    let listed = lists g.T.StoredRow.table old.now (c.requires.office.schema was)
+    (c.requires.office.sound was) (c.requires.office.ordered was) sql means
+    (g.T.StoredRow.number c.args.of) now.1 reads in
+    record { records = now.3.0; held = now.3.1; within = now.3.2; lists = now.3.3 ∙ listed } in
     search rules
 
 pub returns-in_default-get-clause-kept : goal.returns-in_default-get-clause-kept
@@ -183,6 +189,13 @@ rows-preserved g c =
             unchanged clean,
             now.1 ++ c.in-Some.row.now ∷ [],
             given,
-            (now.3.0 ++ read ∷ [], c.in_ok-take.ensures now.3.0 now.3.1, one_more (stored_for g.T.StoredRow.key g.T.StoredRow.columns (g.T.StoredRow.number c.args.of)) (row_shown g.T.StoredRow.table) now.3.0 now.1 read c.in-Some.row.now now.3.2 (λ i. (key i, columns i))),
+            (
+              now.3.0 ++ read ∷ [],
+              c.in_ok-take.ensures now.3.0 now.3.1,
+              all_more g.T.StoredRow.is_within now.3.0 read now.3.2 c.is_within.ensures,
+              one_more (stored_for g.T.StoredRow.key g.T.StoredRow.columns
+                  (g.T.StoredRow.number c.args.of)) (row_shown g.T.StoredRow.table) now.3.0 now.1
+                  read c.in-Some.row.now now.3.3 (λ i. (key i, columns i)),
+            ),
           ),
     )

@@ -1,7 +1,6 @@
 use Rattle.std.proofs.Common.{◌≡◌, Err, rules, refl}
 use Rattle.sqlite.specs.Held.{state}
-use Rattle.cabinet_core.specs.Part.{IsPartCode}
-use Rattle.office_tables_shelf.specs.CabinetReads.{IsHand}
+use Rattle.office_tables_shelf.specs.CabinetReads.{IsPartWithin}
 use Rattle.office_tables_shelf.specs.CabinetRows.{part_key, part_columns}
 use Rattle.office_tables_shelf.specs.declared.rows.Table.TheVariants as table
 use Rattle.office_tables_shelf.specs.declared.shelf.ShelfFault.TheVariants.{Damaged}
@@ -16,5 +15,7 @@ pub returns-in_err-found-clause-damaged : goal.returns-in_err-found-clause-damag
 returns-in_err-found-clause-damaged g c is honest =
     let tables = content_now (state g.S.Store c.args.conn.now) in
     let bad : c.find.result ≡ Err Damaged = search rules in
-    let d : HasDamagedUnder table.Part (λ part. IsPartCode part.0 × IsHand part.1) (λ _ part. part_key part.0) (λ part. part_columns part.1) tables 0 (part_key c.args.code.now) = rw (c.params-to_sql.ensures, c.as_str.ensures.text) at (c.find.ensures.damaged bad honest) in
+    let d : HasDamagedUnder table.Part IsPartWithin (λ _ part. part_key part.0)
+    (λ part. part_columns part.1) tables 0 (part_key c.args.code.now) =
+    rw (c.params-to_sql.ensures, c.as_str.ensures.text) at (c.find.ensures.damaged bad honest) in
     record { columns = d.columns; stored = d.stored; no_row = λ hand within. d.no_row (c.args.code.now, hand) (c.as_str.ensures.code, within) refl }

@@ -1,5 +1,3 @@
-use Rattle.std.proofs.Common.{Result, Ok, Err}
-use Rattle.std.specs.Prelude.{IfOk, OnOk}
 use Rattle.sqlite.specs.Held.{state}
 use Rattle.office_tables.proofs.MigrateLemmas.{brought_stands, if_on}
 use Rattle.office_tables.proofs.sql_shelf.SqlShelf.migrate.Goals as goal

@@ -6,4 +6,13 @@ use Rattle.office_tables_shelf.proofs.map_shelf.MapShelfShelf.overdue_rows.Goals
 pub returns-clause-rows : goal.returns-clause-rows
 returns-clause-rows c =
     let viewed : the_view c.self.inside ≡ c.args.self.now = search rules in
-    c.in_ok-found.ensures c.self.invariant.1.1.0 c.args.self.now.tables (sym (ap (λ (v : ShelfView). v.tables.intersection) viewed)) (sym (ap (λ (v : ShelfView). v.tables.inspection) viewed))
+    let stored = sym (ap (λ (v : ShelfView). v.tables.intersection) viewed) in
+    let held = sym (ap (λ (v : ShelfView). v.tables.inspection) viewed) in
+    c.in_ok-found.ensures.rows c.self.invariant.1.1.0 c.args.self.now.tables stored held
+
+pub returns-clause-whole : goal.returns-clause-whole
+returns-clause-whole c =
+    let viewed : the_view c.self.inside ≡ c.args.self.now = search rules in
+    let stored = sym (ap (λ (v : ShelfView). v.tables.intersection) viewed) in
+    let held = sym (ap (λ (v : ShelfView). v.tables.inspection) viewed) in
+    c.in_ok-found.ensures.whole c.self.invariant.1.1.0 c.args.self.now.tables stored held

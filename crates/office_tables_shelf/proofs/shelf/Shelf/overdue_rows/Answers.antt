@@ -1,20 +1,26 @@
 use Rattle.std.proofs.Common.{◌≡◌, ◌++◌, [], ◌∷◌, Err, inr, List, ap, arith, length, map, subst, sym}
 use Rattle.std.proofs.lemmas.Result.{err_from_is_err_and}
+use Rattle.std.specs.List.{AllByRecursion}
 use Rattle.cabinet_core.specs.Overdue.{listed, overdue_list}
 use Rattle.cabinet_core.specs.declared.inspections.OverdueRow.{OverdueRow}
 use Rattle.office_tables_shelf.specs.CabinetReads.{HasDamagedInspection}
 use Rattle.office_tables_shelf.specs.Overdue.{ReadsLast, seen_row}
-use Rattle.office_tables_shelf.specs.Shelf.{ListsIntersections}
+use Rattle.office_tables_shelf.specs.Shelf.{IsIntersectionWithin, ListsIntersections}
 use Rattle.office_tables_shelf.specs.declared.shelf.ShelfFault.TheVariants.{Damaged}
 use Rattle.office_tables_shelf.proofs.KeptLemmas.{kept_on}
+use Rattle.office_tables_shelf.proofs.ListedRows.{listed_is_there}
 use Rattle.office_tables_shelf.proofs.OverdueLemmas.{seen_length, seen_at, overdue_more, still_short, enough_found, all_found}
+use Rattle.office_tables_shelf.proofs.OverdueLemmas.{whole_more, all_whole}
 use Rattle.office_tables_shelf.proofs.shelf.Shelf.overdue_rows.Goals as goal
 use Rattle.office_tables_shelf.proofs.shelf.Shelf.overdue_rows.Goals.{else-loop-id-test, then-loop-id-test+then-len-most}
 
 pub loop-id-init : goal.loop-id-init
 loop-id-init g c = record {
   read = λ honest. subst (ListsIntersections (g.Self.Shelf.content c.args.self.now)) (sym c.as_slice-id-items.ensures.value) (c.in_ok-rows.ensures.rows honest);
+  within = λ honest. subst (AllByRecursion IsIntersectionWithin)
+      (sym c.as_slice-id-items.ensures.value) (c.in_ok-rows.ensures.within honest);
   rows = λ honest seen all. ap (λ (found : List OverdueRow). map listed found) c.new-found.ensures.items;
+  whole = λ honest. tt;
   short = omega (arith, ap (λ (found : List OverdueRow). length found) c.new-found.ensures.items);
   kept = c.intersections.ensures.kept;
 }
@@ -27,7 +33,16 @@ returns-in_err-last-clause-damaged g c = λ is honest.
     let damaged : c.in_err-last.field-0.0 ≡ Damaged = cc in
     let before = c.last_inspection.ensures.kept.honest_before honest in
     let found = c.in_err-last.ensures.damaged (ap Err damaged) honest in
-    inr (c.loop-id-item.result.0, subst (λ t. HasDamagedInspection t c.loop-id-item.result.0) (c.loop-id.invariant.kept.same_content before) found)
+    let e = c.loop-id-item.result in
+    let there = listed_is_there (g.Self.Shelf.content c.args.self.now)
+    c.as_slice-id-items.result.now c.loop-id.id-index e (c.loop-id.invariant.read before)
+    c.loop-id-test.true c.loop-id-item.is in
+    inr (
+      e.0,
+      there,
+      subst (λ t. HasDamagedInspection t e.0)
+          (c.loop-id.invariant.kept.same_content before) found,
+    )
 
 pub returns-in_err-last-clause-kept : goal.returns-in_err-last-clause-kept
 returns-in_err-last-clause-kept g c =
@@ -51,14 +66,22 @@ loop-id-preserved g c =
     let new = c.add_overdue.new.found.items in
     let added : map listed new ≡ map listed old ++ overdue_list c.args.day (next ∷ []) =
     c.in_ok-add_overdue.ensures in
+    let before = c.last_inspection.ensures.kept.honest_before in
+    let reads : shelf.is_honest c.last_inspection.new.self → ReadsLast tables e.0 last =
+    λ honest. subst (λ t. ReadsLast t e.0 last)
+    (c.loop-id.invariant.kept.same_content (before honest)) (c.in_ok-last.ensures.day honest) in
     record {
-      read = λ honest. c.loop-id.invariant.read (c.last_inspection.ensures.kept.honest_before honest);
+      read = λ honest. c.loop-id.invariant.read (before honest);
+      within = λ honest. c.loop-id.invariant.within (before honest);
       rows = λ honest seen all.
-          let before = c.last_inspection.ensures.kept.honest_before honest in
-          let reads = subst (λ t. ReadsLast t e.0 last) (c.loop-id.invariant.kept.same_content before) (c.in_ok-last.ensures.day honest) in
           let count = seen_length tables rows seen all in
           overdue_more c.args.day seen c.loop-id.id-index next old new (omega arith)
-          (seen_at tables rows seen c.loop-id.id-index e last all c.loop-id-test.true c.loop-id-item.is reads) (c.loop-id.invariant.rows before seen all) added;
+          (seen_at tables rows seen c.loop-id.id-index e last all c.loop-id-test.true
+          c.loop-id-item.is (reads honest))
+          (c.loop-id.invariant.rows (before honest) seen all) added;
+      whole = λ honest.
+          whole_more tables rows c.loop-id.id-index e last c.loop-id-test.true
+          c.loop-id-item.is (reads honest) (c.loop-id.invariant.whole (before honest));
       short = still_short c.args.day c.args.most next old new (omega arith) added;
       kept = kept_on shelf.is_honest shelf.content shelf.written shelf.may_leave c.args.self.now c.loop-id.self c.last_inspection.new.self c.loop-id.invariant.kept c.last_inspection.ensures.kept;
     }
@@ -73,6 +96,17 @@ returns-clause-rows g c = λ honest seen all.
     elim c.loop-id-test.branch [
       | else-loop-id-test w ↦ all_found c.args.day c.args.most c.loop-id.id-index seen c.loop-id.found.items found (omega arith) c.loop-id.invariant.short
       | then-loop-id-test+then-len-most w ↦ enough_found c.args.day c.args.most c.loop-id.id-index seen c.loop-id.found.items found (omega arith)
+    ]
+
+pub returns-clause-whole : goal.returns-clause-whole
+returns-clause-whole g c = λ honest fewer.
+    let rows = c.as_slice-id-items.result.now in
+    let tables = g.Self.Shelf.content c.args.self.now in
+    elim c.loop-id-test.branch [
+      | else-loop-id-test w ↦
+          all_whole tables rows c.loop-id.id-index (c.loop-id.invariant.read honest)
+          (c.loop-id.invariant.within honest) (c.loop-id.invariant.whole honest) (omega arith)
+      | then-loop-id-test+then-len-most w ↦ absurd (omega arith)
     ]
 
 pub returns-clause-kept : goal.returns-clause-kept

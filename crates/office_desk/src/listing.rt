@@ -1,0 +1,43 @@
+//! Lists in replies.
+
+use std::marker::Model;
+
+/// What a query lists. It is seen as a list.
+#[derive(Drop)]
+pub struct Listing<T> {
+    list: Vec<T>,
+}
+
+impl<T> Model for Listing<T> {
+    ghost use Rattle.std.specs.Prelude.{List};
+
+    ghost Value = { List T };
+
+    ghost view = { λ listing. listing.list.items };
+}
+
+impl<T> Listing<T> {
+    ghost use Rattle.std.specs.Prelude.{◌≡◌};
+
+    /// What a list holds.
+    pub fn new(list: Vec<T>) -> Listing<T>
+        ensures { result ≡ list.items }
+    {
+        Listing { list }
+    }
+
+    /// What is listed.
+    pub fn as_slice(&self) -> &[T]
+        ensures { result.now ≡ self.now }
+    {
+        self.list.as_slice()
+    }
+
+    /// The list of it, without memory.
+    pub fn into_vec(self) -> Vec<T>
+        ensures { result.items ≡ self }
+    {
+        let Listing { list } = self;
+        list
+    }
+}

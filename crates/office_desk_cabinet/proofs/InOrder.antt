@@ -1,0 +1,104 @@
+-- Rows that were listed are in order.
+use Rattle.std.proofs.Common.{◌≡◌, ℕ, zero, suc, ◌+◌, ◌*◌, ◌<◌, ◌≤◌}
+use Rattle.std.proofs.Common.{List, [], ◌∷◌, map, length, get_or}
+use Rattle.std.proofs.Common.{Ordering, Less, Equal, Greater, T, ap, sym, subst, ◌∙◌, arith, refl}
+use Rattle.std.proofs.lemmas.Cmp.{nat_cmp_total, ranked}
+use Rattle.std.specs.Cmp.{tied_itself}
+use Rattle.std.specs.FinMap.{entries, entries_sorted}
+use Rattle.std.specs.FinMap.Entries.{is_sorted, below_all, is_sorted-where_key}
+use Rattle.std.specs.List.{AllByRecursion}
+use Rattle.std.specs.List.Sorted.{IsNonDecreasingBy}
+use Rattle.std.specs.Ordering.{nat_cmp, ordering_then}
+use Rattle.cabinet_core.specs.Places.{inspection_place, order_place, line_place}
+use Rattle.cabinet_core.specs.Within.{IsInspectionWithin, IsOrderWithin, IsUsedLineWithin}
+use Rattle.cabinet_core.specs.declared.record.Inspection.{Inspection}
+use Rattle.cabinet_core.specs.declared.record.Order.{Order}
+use Rattle.cabinet_core.specs.declared.record.UsedLine.{UsedLine}
+use Rattle.office_tables_shelf.proofs.KeyCells.{record_order, line_order}
+use Rattle.office_tables_shelf.proofs.ListLemmas.{less, parts}
+use Rattle.office_tables_shelf.proofs.ListedRows.{entry}
+use Rattle.office_tables_shelf.specs.CabinetReads.{ListsInspections, ListsOrders, ListsUsed}
+use Rattle.office_tables_shelf.specs.CabinetRows.{inspection_columns, inspection_key}
+use Rattle.office_tables_shelf.specs.CabinetRows.{order_columns, order_key}
+use Rattle.office_tables_shelf.specs.CabinetRows.{used_columns, used_key}
+use Rattle.office_tables_shelf.specs.Cells.{Cell, Rows, cells_cmp}
+use Rattle.office_tables_shelf.specs.Content.{Content}
+use Rattle.office_tables_shelf.specs.Shelf.{is_of, rows_of}
+
+module _ {X : Type 0} (key columns : X → List Cell) (Within : X → Type 0) (place : X → ℕ)
+    (rises : (x y : X) → Within x → Within y → cells_cmp (key x) (key y) ≡ Less
+    → place x ≤ place y) where
+  above : (x : X) → Within x → (ys : List X) → AllByRecursion Within ys
+      → T (below_all cells_cmp (key x) (map (entry key columns Within) ys)) → (j : ℕ) (d : X)
+      → j < length ys → place x ≤ place (get_or ys j d)
+  above x one [] each below j d low = absurd (omega arith)
+  above x one (y ∷ ys) each below zero d low =
+      rises x y one each.0 (less _ (parts _ _ below).0)
+  above x one (y ∷ ys) each below (suc j) d low =
+      above x one ys each.1 (parts _ _ below).1 j d (omega arith)
+
+  rising : (xs : List X) → AllByRecursion Within xs
+      → T (is_sorted cells_cmp (map (entry key columns Within) xs)) → IsNonDecreasingBy place xs
+  rising [] each sorted i j d le low = absurd (omega arith)
+  rising (x ∷ xs) each sorted zero zero d le low = omega arith
+  rising (x ∷ xs) each sorted zero (suc j) d le low =
+      above x each.0 xs each.1 (parts _ _ sorted).0 j d (omega arith)
+  rising (x ∷ xs) each sorted (suc i) zero d le low = absurd (omega arith)
+  rising (x ∷ xs) each sorted (suc i) (suc j) d le low =
+      rising xs each.1 (parts _ _ sorted).1 i j d (omega arith) (omega arith)
+
+  listed_in_order : (rows : Rows) (id : ℕ) (xs : List X)
+      → map (entry key columns Within) xs ≡ rows_of id rows → AllByRecursion Within xs
+      → IsNonDecreasingBy place xs
+  listed_in_order rows id xs lists each =
+      rising xs each (subst (λ es. T (is_sorted cells_cmp es)) (sym lists)
+      (is_sorted-where_key cells_cmp (is_of id) (entries rows) (entries_sorted rows)))
+
+-- of keys of one intersection the rest decides
+rest_decides : (id : ℕ) (rest : Ordering) → ordering_then (nat_cmp id id) rest ≡ Less → rest ≡ Less
+rest_decides id rest under = ap (λ o. ordering_then o rest) (sym (tied_itself nat_cmp_total id))
+    ∙ under
+
+under_same : (id m n : ℕ) → ordering_then (nat_cmp id id) (nat_cmp m n) ≡ Less → m ≤ n
+under_same id m n under = let below : m < n =
+    ranked m n Less (sym (rest_decides id (nat_cmp m n) under)) in omega arith
+
+pub inspections_in_order : (tables : Content) (id : ℕ) (list : List Inspection)
+    → ListsInspections tables id list → AllByRecursion IsInspectionWithin list
+    → IsNonDecreasingBy inspection_place list
+inspections_in_order tables id list lists within =
+    listed_in_order (λ x. inspection_key id x.number) inspection_columns IsInspectionWithin
+    inspection_place
+    (λ x y one other under. under_same id x.number y.number
+    (sym (record_order (id, x.number) (id, y.number)) ∙ under))
+    tables.inspection id list lists within
+
+pub orders_in_order : (tables : Content) (id : ℕ) (list : List Order) → ListsOrders tables id list
+    → AllByRecursion IsOrderWithin list → IsNonDecreasingBy order_place list
+orders_in_order tables id list lists within =
+    listed_in_order (λ x. order_key id x.number) order_columns IsOrderWithin order_place
+    (λ x y one other under. under_same id x.number y.number
+    (sym (record_order (id, x.number) (id, y.number)) ∙ under))
+    tables.work_order id list lists within
+
+line_rises : (id a b m n : ℕ) → m ≤ 99
+    → ordering_then (nat_cmp id id) (ordering_then (nat_cmp a b) (nat_cmp m n)) ≡ Less
+    → a * 100 + m ≤ b * 100 + n
+line_rises id a b m n most under = go (nat_cmp a b) refl
+    (rest_decides id (ordering_then (nat_cmp a b) (nat_cmp m n)) under)
+  where
+    go : (o : Ordering) → o ≡ nat_cmp a b → ordering_then o (nat_cmp m n) ≡ Less
+        → a * 100 + m ≤ b * 100 + n
+    go Less is rest = let below : a < b = ranked a b Less is in omega arith
+    go Equal is rest = let same : a ≡ b = ranked a b Equal is in
+        let below : m < n = ranked m n Less (sym rest) in omega arith
+    go Greater is rest = absurd cc
+
+pub lines_in_order : (tables : Content) (id : ℕ) (list : List UsedLine) → ListsUsed tables id list
+    → AllByRecursion IsUsedLineWithin list → IsNonDecreasingBy line_place list
+lines_in_order tables id list lists within =
+    listed_in_order (λ x. used_key id x.order x.line) used_columns IsUsedLineWithin line_place
+    (λ x y one other under. let most = one.line.1 in
+    line_rises id x.order y.order x.line y.line most
+    (sym (line_order (id, (x.order, x.line)) (id, (y.order, y.line))) ∙ under))
+    tables.used_part id list lists within
