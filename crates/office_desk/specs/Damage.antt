@@ -9,7 +9,8 @@ use Rattle.office_tables_shelf.specs.Content.{Content}
 use Rattle.office_tables_shelf.specs.Overdue.{HasOverdueDamage}
 use Rattle.office_tables_shelf.specs.Shelf.{IsThere, ReadsIntersection}
 use Rattle.office_tables_shelf.specs.declared.rows.IntersectionRow.{IntersectionRow}
-use Rattle.office_tables_shelf.specs.Damage.{HasDamagedIntersection, HasDamagedTiming, HasDamagedDraft}
+use Rattle.office_tables_shelf.specs.Damage.{HasDamagedIntersection, HasDamagedTiming}
+use Rattle.office_tables_shelf.specs.Damage.{HasDamagedDraft}
 use Rattle.office_tables_shelf.specs.CabinetReads.{HasDamagedOrder, HasDamagedPart}
 use Rattle.cabinet_core.specs.declared.command.RecordCommand.{RecordCommand}
 use Rattle.office_desk_cabinet.specs.RegisterDamage.{HasDamagedCabinet, MeetsRecordDamage}

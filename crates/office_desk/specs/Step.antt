@@ -195,7 +195,8 @@ answered office (command.Commit id clerk) = transacted office id (λ side. commi
 answered office (command.Reopen id clerk) = transacted office id (λ side. reopened side clerk) (get office.intersections id)
 answered office (command.Abandon id clerk) = transacted office id abandoned (get office.intersections id)
 answered office (command.State id) = (shown (get office.intersections id) (λ i. Shown (state_shown id i)), office)
-answered office (command.Timing id) = (shown (get office.intersections id) (λ i. Running (timing_shown i)), office)
+answered office (command.Timing id) =
+    (shown (get office.intersections id) (λ i. Running (timing_shown i)), office)
 answered office (command.Draft id) = (shown (get office.intersections id) (λ i. draft_shown i.timing.draft), office)
 answered office (command.Record c) = recorded_at office (cabinet_of c) (recorded office c)
 answered office (command.Import records) = imported office (import_from 1 0 0 office records)

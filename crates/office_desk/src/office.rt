@@ -137,6 +137,8 @@ impl<S: Shelf> Office<S> {
         most: usize,
     ) -> Result<Vec<OverdueRow>, Refusal>
         ensures rows { IfOk result (λ found. S.is_honest self.new → (office : OfficeState) → StandForSound (S.content self.old) office → map listed found.items ≡ take most (overdue_on office day)) }
+        ensures whole { IfOk result (λ found. S.is_honest self.new → vec_len found < most →
+            ¬ MeetsDamage (S.content self.old) (Command.Overdue day)) }
         ensures refused { IfErr result (λ why. (why ≡ Refusal.Unavailable) ⊎ (why ≡ Refusal.Damaged)) }
         ensures damaged { result ≡ Err Refusal.Damaged → S.is_honest self.new → MeetsDamage (S.content self.old) (Command.Overdue day) }
         ensures kept { IsKept S.is_honest S.content S.written S.may_leave self.old self.new }

@@ -6,6 +6,9 @@ use Rattle.cabinet_core.specs.declared.record.Order.{Order}
 use Rattle.cabinet_core.specs.declared.record.UsedLine.{UsedLine}
 use Rattle.cabinet_core.specs.declared.record.Delivery.{Delivery}
 use Rattle.office_tables_shelf.specs.Cells.{Cell, Rows, tree_rows}
+use Rattle.office_tables_shelf.specs.Content.{Content, no_content}
+use Rattle.office_tables_shelf.specs.MapShelf.{intersection_rows}
+use Rattle.office_tables_shelf.specs.declared.rows.IntersectionRow.{IntersectionRow}
 use Rattle.office_tables_shelf.specs.CabinetRows.{inspection_key, inspection_columns, order_key, order_columns, used_key, used_columns, part_key, part_columns, delivery_key, delivery_columns}
 use Rattle.office_tables_shelf.specs.declared.place.RecordPlace.{RecordPlace}
 use Rattle.office_tables_shelf.specs.declared.place.LinePlace.{LinePlace}
@@ -41,6 +44,29 @@ part_rows = tree_rows part_key part_columns
 
 abbrev pub delivery_rows : List (DeliveryPlace × Delivery) → Rows
 delivery_rows = tree_rows delivery_place_key delivery_columns
+
+-- tables that have these rows, and no others
+abbrev pub with_inspections : List (RecordPlace × Inspection) → Content
+with_inspections es = record no_content { inspection = inspection_rows es }
+
+abbrev pub with_orders : List (RecordPlace × Order) → Content
+with_orders es = record no_content { work_order = order_rows es }
+
+abbrev pub with_used : List (LinePlace × UsedLine) → Content
+with_used es = record no_content { used_part = used_rows es }
+
+abbrev pub with_parts : List (List ℕ × ℕ) → Content
+with_parts es = record no_content { part = part_rows es }
+
+abbrev pub with_deliveries : List (DeliveryPlace × Delivery) → Content
+with_deliveries es = record no_content { delivery = delivery_rows es }
+
+-- it holds of all tables that have these intersections and inspections, and any others
+abbrev pub OfTables : List (ℕ × IntersectionRow) → List (RecordPlace × Inspection)
+    → (Content → Type 0) → Type 0
+OfTables rows inspections Holds =
+    (tables : Content) → tables.intersection ≡ intersection_rows rows
+    → tables.inspection ≡ inspection_rows inspections → Holds tables
 
 -- ---- each record stands under its own key
 

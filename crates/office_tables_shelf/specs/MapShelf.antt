@@ -8,7 +8,7 @@ use Rattle.signal_records.specs.declared.record.Row.{Row}
 use Rattle.signal_records.specs.declared.record.Change.{Change}
 use Rattle.signal_records.specs.declared.record.Change.TheVariants.{Put, Remove}
 use Rattle.office_tables_shelf.specs.Cells.{Cell, Rows, tree_rows}
-use Rattle.office_tables_shelf.specs.Content.{Content, content_code}
+use Rattle.office_tables_shelf.specs.Content.{Content, content_code, no_content}
 use Rattle.office_tables_shelf.specs.Counts.{counts_code}
 use Rattle.office_tables_shelf.specs.Rows.{intersection_key, intersection_columns, timing_key, timing_columns, left_columns}
 use Rattle.office_tables_shelf.specs.declared.counts.WriteCounts.{WriteCounts}
@@ -35,6 +35,16 @@ timing_rows = tree_rows place_key timing_columns
 
 abbrev pub draft_rows : List (Place × Option Row) → Rows
 draft_rows = tree_rows place_key left_columns
+
+-- tables that have these rows, and no others
+abbrev pub with_intersections : List (ℕ × IntersectionRow) → Content
+with_intersections es = record no_content { intersection = intersection_rows es }
+
+abbrev pub with_timing : List (Place × Row) → Content
+with_timing es = record no_content { timing = timing_rows es }
+
+abbrev pub with_drafts : List (Place × Option Row) → Content
+with_drafts es = record no_content { draft = draft_rows es }
 
 -- each row stands under its own key
 abbrev pub AreRowsPlaced : List (Place × Row) → Type 0

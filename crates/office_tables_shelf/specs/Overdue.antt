@@ -51,4 +51,5 @@ ListsOverdue tables day most found = (seen : List Seen) → AreSeen tables seen 
 -- the row of an intersection is no record; or an inspection of one is none
 abbrev pub HasOverdueDamage : Content → Type 0
 HasOverdueDamage tables =
-    HasAnyDamagedIntersection tables ⊎ ((id : ℕ) × IsThere tables id × HasDamagedInspection tables id)
+    HasAnyDamagedIntersection tables
+    ⊎ ((id : ℕ) × IsThere tables id × HasDamagedInspection tables id)

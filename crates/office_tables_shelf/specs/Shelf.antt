@@ -10,7 +10,8 @@ use Rattle.signal_records.specs.declared.record.Row.{Row}
 use Rattle.signal_records.specs.declared.record.Change.{Change}
 use Rattle.office_tables_shelf.specs.Cells.{Cell, Rows, number, cell_cmp, cells_cmp}
 use Rattle.office_tables_shelf.specs.Content.{Content}
-use Rattle.office_tables_shelf.specs.Rows.{intersection_key, intersection_columns, IsIntersectionRow}
+use Rattle.office_tables_shelf.specs.Rows.{intersection_key, intersection_columns}
+use Rattle.office_tables_shelf.specs.Rows.{IsIntersectionRow}
 use Rattle.office_tables_shelf.specs.Rows.{timing_key, timing_columns, draft_key, draft_columns}
 use Rattle.office_tables_shelf.specs.declared.rows.IntersectionRow.{IntersectionRow}
 use Rattle.office_tables_shelf.specs.declared.counts.WriteCounts.{WriteCounts}

@@ -1,15 +1,24 @@
 //! The cabinet's tables in memory as trees of records: a row put, found, and the rows listed.
-ghost use Rattle.std.specs.Prelude.{◌≡◌, OnOk, IfOk, IfSome};
+ghost use Rattle.std.specs.Prelude.{◌≡◌, OnOk, IfOk};
 ghost use Rattle.std.specs.FinMap as finite;
 ghost use Rattle.std.specs.List.{AllByRecursion};
 ghost use Rattle.std.specs.Option.{option_map};
 ghost use Rattle.cabinet_core.specs.Within.{IsInspectionWithin, IsOrderWithin};
 ghost use Rattle.cabinet_core.specs.Within.{IsUsedLineWithin};
-ghost use Rattle.office_tables_shelf.specs.Content.{no_content};
-ghost use Rattle.office_tables_shelf.specs.CabinetRows.{inspection_key, inspection_columns, order_key, order_columns, used_key, used_columns, part_key, part_columns, delivery_key, delivery_columns};
-ghost use Rattle.office_tables_shelf.specs.CabinetReads.{ReadsInspection, ListsInspections, ReadsOrder, ListsOrders, ReadsUsed, ListsUsed, ListsParts, ReadsDelivery};
+ghost use Rattle.office_tables_shelf.specs.CabinetRows.{inspection_key, inspection_columns};
+ghost use Rattle.office_tables_shelf.specs.CabinetRows.{order_key, order_columns, used_key};
+ghost use Rattle.office_tables_shelf.specs.CabinetRows.{used_columns, part_key, part_columns};
+ghost use Rattle.office_tables_shelf.specs.CabinetRows.{delivery_key, delivery_columns};
+ghost use Rattle.office_tables_shelf.specs.CabinetReads.{ReadsInspection, ListsInspections};
+ghost use Rattle.office_tables_shelf.specs.CabinetReads.{ReadsOrder, ListsOrders, ReadsUsed};
+ghost use Rattle.office_tables_shelf.specs.CabinetReads.{ListsUsed, ListsParts, ReadsDelivery};
 ghost use Rattle.office_tables_shelf.specs.CabinetReads.{IsPartWithin};
-ghost use Rattle.office_tables_shelf.specs.MapCabinet.{inspection_rows, order_rows, used_rows, part_rows, delivery_rows, AreInspectionsPlaced, AreOrdersPlaced, AreUsedPlaced, AreDeliveriesPlaced};
+ghost use Rattle.office_tables_shelf.specs.MapCabinet.{inspection_rows, order_rows, used_rows};
+ghost use Rattle.office_tables_shelf.specs.MapCabinet.{part_rows, delivery_rows};
+ghost use Rattle.office_tables_shelf.specs.MapCabinet.{with_inspections, with_orders, with_used};
+ghost use Rattle.office_tables_shelf.specs.MapCabinet.{with_parts, with_deliveries};
+ghost use Rattle.office_tables_shelf.specs.MapCabinet.{AreInspectionsPlaced, AreOrdersPlaced};
+ghost use Rattle.office_tables_shelf.specs.MapCabinet.{AreUsedPlaced, AreDeliveriesPlaced};
 
 use crate::bounds::part_is_within;
 use crate::place::{DeliveryPlace, LinePlace, RecordPlace};
@@ -41,7 +50,8 @@ pub(crate) fn inspection_at(
     inter: InterId,
     number: RecordNo,
 ) -> Result<Option<Inspection>, NoMemory>
-    ensures { IfOk result (λ found. AreInspectionsPlaced rows.now.entries → ReadsInspection (record no_content { inspection = inspection_rows rows.now.entries }) inter number found) }
+    ensures { IfOk result (λ found. AreInspectionsPlaced rows.now.entries →
+        ReadsInspection (with_inspections rows.now.entries) inter number found) }
 {
     match rows.get(&RecordPlace { inter, number }) {
         Some(inspection) => Ok(Some(inspection.clone()?)),
@@ -55,7 +65,8 @@ pub(crate) fn inspections_of(
     rows: &BTreeMap<RecordPlace, Inspection>,
     inter: InterId,
 ) -> Result<Vec<Inspection>, NoMemory>
-    ensures rows { IfOk result (λ list. AreInspectionsPlaced rows.now.entries → ListsInspections (record no_content { inspection = inspection_rows rows.now.entries }) inter list.items) }
+    ensures rows { IfOk result (λ list. AreInspectionsPlaced rows.now.entries →
+        ListsInspections (with_inspections rows.now.entries) inter list.items) }
     ensures within { IfOk result (λ list. AllByRecursion IsInspectionWithin list.items) }
 {
     let mut list = Vec::new(alloc);
@@ -88,7 +99,8 @@ pub(crate) fn order_at(
     inter: InterId,
     number: RecordNo,
 ) -> Result<Option<Order>, NoMemory>
-    ensures { IfOk result (λ found. AreOrdersPlaced rows.now.entries → ReadsOrder (record no_content { work_order = order_rows rows.now.entries }) inter number found) }
+    ensures { IfOk result (λ found. AreOrdersPlaced rows.now.entries →
+        ReadsOrder (with_orders rows.now.entries) inter number found) }
 {
     match rows.get(&RecordPlace { inter, number }) {
         Some(order) => Ok(Some(order.clone()?)),
@@ -102,7 +114,8 @@ pub(crate) fn orders_of(
     rows: &BTreeMap<RecordPlace, Order>,
     inter: InterId,
 ) -> Result<Vec<Order>, NoMemory>
-    ensures rows { IfOk result (λ list. AreOrdersPlaced rows.now.entries → ListsOrders (record no_content { work_order = order_rows rows.now.entries }) inter list.items) }
+    ensures rows { IfOk result (λ list. AreOrdersPlaced rows.now.entries →
+        ListsOrders (with_orders rows.now.entries) inter list.items) }
     ensures within { IfOk result (λ list. AllByRecursion IsOrderWithin list.items) }
 {
     let mut list = Vec::new(alloc);
@@ -136,7 +149,8 @@ pub(crate) fn line_at(
     order: RecordNo,
     line: LineNo,
 ) -> Result<Option<UsedLine>, NoMemory>
-    ensures { IfOk result (λ found. AreUsedPlaced rows.now.entries → ReadsUsed (record no_content { used_part = used_rows rows.now.entries }) inter order line found) }
+    ensures { IfOk result (λ found. AreUsedPlaced rows.now.entries →
+        ReadsUsed (with_used rows.now.entries) inter order line found) }
 {
     match rows.get(&LinePlace { inter, order, line }) {
         Some(used) => Ok(Some(used.clone()?)),
@@ -150,7 +164,8 @@ pub(crate) fn lines_of(
     rows: &BTreeMap<LinePlace, UsedLine>,
     inter: InterId,
 ) -> Result<Vec<UsedLine>, NoMemory>
-    ensures rows { IfOk result (λ list. AreUsedPlaced rows.now.entries → ListsUsed (record no_content { used_part = used_rows rows.now.entries }) inter list.items) }
+    ensures rows { IfOk result (λ list. AreUsedPlaced rows.now.entries →
+        ListsUsed (with_used rows.now.entries) inter list.items) }
     ensures within { IfOk result (λ list. AllByRecursion IsUsedLineWithin list.items) }
 {
     let mut list = Vec::new(alloc);
@@ -187,7 +202,7 @@ pub(crate) fn all_parts(
     alloc: Global,
     rows: &BTreeMap<PartCode, Hand>,
 ) -> Result<Vec<(PartCode, Hand)>, NoMemory>
-    ensures rows { IfOk result (λ list. ListsParts (record no_content { part = part_rows rows.now.entries }) list.items) }
+    ensures rows { IfOk result (λ list. ListsParts (with_parts rows.now.entries) list.items) }
     ensures within { IfOk result (λ list. AllByRecursion IsPartWithin list.items) }
 {
     let mut list = Vec::new(alloc);
@@ -227,7 +242,8 @@ pub(crate) fn delivery_at(
     part: &PartCode,
     number: RecordNo,
 ) -> Result<Option<Delivery>, NoMemory>
-    ensures { IfOk result (λ found. AreDeliveriesPlaced rows.now.entries → ReadsDelivery (record no_content { delivery = delivery_rows rows.now.entries }) part.now number found) }
+    ensures { IfOk result (λ found. AreDeliveriesPlaced rows.now.entries →
+        ReadsDelivery (with_deliveries rows.now.entries) part.now number found) }
 {
     let part = part.clone()?;
     match rows.get(&DeliveryPlace { part, number }) {

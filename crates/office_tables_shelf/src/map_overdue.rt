@@ -1,8 +1,7 @@
 //! The overdue intersections of the tables in memory.
-ghost use Rattle.std.specs.Prelude.{◌≡◌, ◌<◌, IfOk, vec_len};
-ghost use Rattle.office_tables_shelf.specs.Content.{Content, no_content};
-ghost use Rattle.office_tables_shelf.specs.MapCabinet.{inspection_rows, AreInspectionsPlaced};
-ghost use Rattle.office_tables_shelf.specs.MapShelf.{intersection_rows};
+ghost use Rattle.std.specs.Prelude.{◌<◌, IfOk, vec_len};
+ghost use Rattle.office_tables_shelf.specs.MapCabinet.{AreInspectionsPlaced, OfTables};
+ghost use Rattle.office_tables_shelf.specs.MapCabinet.{with_inspections};
 ghost use Rattle.office_tables_shelf.specs.Overdue.{ReadsLast, ListsOverdue, HasOverdueDamage};
 
 use crate::map_rows::all_intersections;
@@ -16,7 +15,8 @@ use std::collections::BTreeMap;
 
 /// The day of an intersection's latest inspection, if there is one.
 pub(crate) fn last_of(rows: &BTreeMap<RecordPlace, Inspection>, inter: InterId) -> Option<Day>
-    ensures { AreInspectionsPlaced rows.now.entries → ReadsLast (record no_content { inspection = inspection_rows rows.now.entries }) inter result }
+    ensures { AreInspectionsPlaced rows.now.entries →
+        ReadsLast (with_inspections rows.now.entries) inter result }
 {
     let mut last = None;
     for (place, inspection) in rows {
@@ -36,12 +36,12 @@ pub(crate) fn overdue_of(
     day: Day,
     most: usize,
 ) -> Result<Vec<OverdueRow>, NoMemory>
-    ensures rows { IfOk result (λ found. AreInspectionsPlaced inspections.now.entries → (tables : Content) → tables.intersection ≡ intersection_rows rows.now.entries → tables.inspection ≡ inspection_rows inspections.now.entries → ListsOverdue tables day most found.items) }
-    ensures whole { IfOk result (λ found.
-        AreInspectionsPlaced inspections.now.entries → (tables : Content)
-        → tables.intersection ≡ intersection_rows rows.now.entries
-        → tables.inspection ≡ inspection_rows inspections.now.entries
-        → vec_len found < most → ¬ HasOverdueDamage tables) }
+    ensures rows { IfOk result (λ found. AreInspectionsPlaced inspections.now.entries →
+        OfTables rows.now.entries inspections.now.entries
+        (λ tables. ListsOverdue tables day most found.items)) }
+    ensures whole { IfOk result (λ found. AreInspectionsPlaced inspections.now.entries →
+        OfTables rows.now.entries inspections.now.entries
+        (λ tables. vec_len found < most → ¬ HasOverdueDamage tables)) }
 {
     let list = all_intersections(alloc, rows)?;
     let mut found = Vec::new(alloc);

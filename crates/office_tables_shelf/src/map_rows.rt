@@ -5,11 +5,15 @@ ghost use Rattle.std.specs.List.{AllByRecursion};
 ghost use Rattle.std.specs.Option.{option_map};
 ghost use Rattle.signal_records.specs.Row.{key_of};
 ghost use Rattle.draft_core.specs.DraftRows.{changed_key, left_by};
-ghost use Rattle.office_tables_shelf.specs.Rows.{intersection_key, intersection_columns, timing_key, timing_columns, draft_key, draft_columns};
-ghost use Rattle.office_tables_shelf.specs.Content.{no_content};
+ghost use Rattle.office_tables_shelf.specs.Rows.{intersection_key, intersection_columns};
+ghost use Rattle.office_tables_shelf.specs.Rows.{timing_key, timing_columns, draft_key};
+ghost use Rattle.office_tables_shelf.specs.Rows.{draft_columns};
 ghost use Rattle.office_tables_shelf.specs.Shelf.{ListsIntersections, ListsTiming, ListsDraft};
 ghost use Rattle.office_tables_shelf.specs.Shelf.{IsIntersectionWithin};
-ghost use Rattle.office_tables_shelf.specs.MapShelf.{intersection_rows, timing_rows, draft_rows, change_at as left_at, AreRowsPlaced, AreLeftPlaced};
+ghost use Rattle.office_tables_shelf.specs.MapShelf.{intersection_rows, timing_rows, draft_rows};
+ghost use Rattle.office_tables_shelf.specs.MapShelf.{change_at as left_at, AreRowsPlaced};
+ghost use Rattle.office_tables_shelf.specs.MapShelf.{AreLeftPlaced, with_intersections};
+ghost use Rattle.office_tables_shelf.specs.MapShelf.{with_timing, with_drafts};
 
 use crate::bounds::intersection_is_within;
 use crate::place::Place;
@@ -48,7 +52,8 @@ pub(crate) fn all_intersections(
     alloc: Global,
     rows: &BTreeMap<InterId, IntersectionRow>,
 ) -> Result<Vec<(InterId, IntersectionRow)>, NoMemory>
-    ensures rows { IfOk result (λ list. ListsIntersections (record no_content { intersection = intersection_rows rows.now.entries }) list.items) }
+    ensures rows { IfOk result (λ list.
+        ListsIntersections (with_intersections rows.now.entries) list.items) }
     ensures within { IfOk result (λ list. AllByRecursion IsIntersectionWithin list.items) }
 {
     let mut list = Vec::new(alloc);
@@ -96,7 +101,8 @@ pub(crate) fn timing_of(
     rows: &BTreeMap<Place, Row>,
     inter: InterId,
 ) -> Result<Vec<Row>, NoMemory>
-    ensures { IfOk result (λ list. AreRowsPlaced rows.now.entries → ListsTiming (record no_content { timing = timing_rows rows.now.entries }) inter list.items) }
+    ensures { IfOk result (λ list. AreRowsPlaced rows.now.entries →
+        ListsTiming (with_timing rows.now.entries) inter list.items) }
 {
     let mut list = Vec::new(alloc);
     for (place, row) in rows {
@@ -175,7 +181,8 @@ pub(crate) fn draft_of(
     rows: &BTreeMap<Place, Option<Row>>,
     inter: InterId,
 ) -> Result<Vec<Change>, NoMemory>
-    ensures { IfOk result (λ list. AreLeftPlaced rows.now.entries → ListsDraft (record no_content { draft = draft_rows rows.now.entries }) inter list.items) }
+    ensures { IfOk result (λ list. AreLeftPlaced rows.now.entries →
+        ListsDraft (with_drafts rows.now.entries) inter list.items) }
 {
     let mut list = Vec::new(alloc);
     for (place, left) in rows {

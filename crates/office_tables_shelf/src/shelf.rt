@@ -6,9 +6,21 @@ ghost use Rattle.cabinet_core.specs.Within.{IsUsedLineWithin};
 ghost use Rattle.office_tables_shelf.specs.Content.{Content};
 ghost use Rattle.office_tables_shelf.specs.Change.{changed_by};
 ghost use Rattle.office_tables_shelf.specs.Counts.{count_of, counts_after};
-ghost use Rattle.office_tables_shelf.specs.Shelf.{IsKept, ReadsIntersection, ListsIntersections, IsIntersectionWithin, ListsTiming, CountsTiming, ListsDraft};
-ghost use Rattle.office_tables_shelf.specs.Damage.{HasDamagedIntersection, HasAnyDamagedIntersection, HasDamagedTiming, HasDamagedDraft};
-ghost use Rattle.office_tables_shelf.specs.CabinetReads.{ReadsInspection, HasDamagedInspectionAt, ListsInspections, HasDamagedInspection, ReadsOrder, HasDamagedOrderAt, ListsOrders, HasDamagedOrder, ReadsUsed, HasDamagedUsedAt, ListsUsed, HasDamagedUsed, ReadsDelivery, HasDamagedDelivery, ReadsHand, HasDamagedHand, ListsParts, IsPartWithin, HasDamagedPart};
+ghost use Rattle.office_tables_shelf.specs.Shelf.{IsKept, ReadsIntersection, ListsIntersections};
+ghost use Rattle.office_tables_shelf.specs.Shelf.{IsIntersectionWithin, ListsTiming};
+ghost use Rattle.office_tables_shelf.specs.Shelf.{CountsTiming, ListsDraft};
+ghost use Rattle.office_tables_shelf.specs.Damage.{HasDamagedIntersection};
+ghost use Rattle.office_tables_shelf.specs.Damage.{HasAnyDamagedIntersection, HasDamagedTiming};
+ghost use Rattle.office_tables_shelf.specs.Damage.{HasDamagedDraft};
+ghost use Rattle.office_tables_shelf.specs.CabinetReads.{ReadsInspection, HasDamagedInspectionAt};
+ghost use Rattle.office_tables_shelf.specs.CabinetReads.{ListsInspections, HasDamagedInspection};
+ghost use Rattle.office_tables_shelf.specs.CabinetReads.{ReadsOrder, HasDamagedOrderAt};
+ghost use Rattle.office_tables_shelf.specs.CabinetReads.{ListsOrders, HasDamagedOrder, ReadsUsed};
+ghost use Rattle.office_tables_shelf.specs.CabinetReads.{HasDamagedUsedAt, ListsUsed};
+ghost use Rattle.office_tables_shelf.specs.CabinetReads.{HasDamagedUsed, ReadsDelivery};
+ghost use Rattle.office_tables_shelf.specs.CabinetReads.{HasDamagedDelivery, ReadsHand};
+ghost use Rattle.office_tables_shelf.specs.CabinetReads.{HasDamagedHand, ListsParts};
+ghost use Rattle.office_tables_shelf.specs.CabinetReads.{IsPartWithin, HasDamagedPart};
 ghost use Rattle.office_tables_shelf.specs.Overdue.{ReadsLast, ListsOverdue, HasOverdueDamage};
 ghost use Rattle.office_tables_shelf.specs.declared.counts.WriteCounts.{WriteCounts};
 
@@ -71,7 +83,8 @@ pub trait Shelf {
         alloc: Global,
     ) -> Result<Vec<(InterId, IntersectionRow)>, ShelfFault>
         ensures rows { IfOk result (λ rows. is_honest self.new → ListsIntersections (content self.old) rows.items) }
-        ensures within { IfOk result (λ rows. is_honest self.new → AllByRecursion IsIntersectionWithin rows.items) }
+        ensures within { IfOk result (λ rows. is_honest self.new →
+            AllByRecursion IsIntersectionWithin rows.items) }
         ensures damaged { result ≡ Err ShelfFault.Damaged → is_honest self.new → HasAnyDamagedIntersection (content self.old) }
         ensures kept { IsKept is_honest content written may_leave self.old self.new };
 
@@ -107,7 +120,8 @@ pub trait Shelf {
     /// The inspections of an intersection's cabinet, in the order of their numbers.
     fn inspections(&mut self, alloc: Global, id: InterId) -> Result<Vec<Inspection>, ShelfFault>
         ensures rows { IfOk result (λ found. is_honest self.new → ListsInspections (content self.old) id found.items) }
-        ensures within { IfOk result (λ found. is_honest self.new → AllByRecursion IsInspectionWithin found.items) }
+        ensures within { IfOk result (λ found. is_honest self.new →
+            AllByRecursion IsInspectionWithin found.items) }
         ensures damaged { result ≡ Err ShelfFault.Damaged → is_honest self.new → HasDamagedInspection (content self.old) id }
         ensures kept { IsKept is_honest content written may_leave self.old self.new };
 
@@ -132,7 +146,8 @@ pub trait Shelf {
         ensures rows { IfOk result (λ found. is_honest self.new → ListsOverdue (content self.old) day most found.items) }
         ensures whole { IfOk result (λ found. is_honest self.new →
             vec_len found < most → ¬ HasOverdueDamage (content self.old)) }
-        ensures damaged { result ≡ Err ShelfFault.Damaged → is_honest self.new → HasOverdueDamage (content self.old) }
+        ensures damaged { result ≡ Err ShelfFault.Damaged → is_honest self.new →
+            HasOverdueDamage (content self.old) }
         ensures kept { IsKept is_honest content written may_leave self.old self.new }
     {
         let rows = self.intersections(alloc)?;
@@ -161,7 +176,8 @@ pub trait Shelf {
     /// The orders on an intersection, in the order of their numbers.
     fn orders(&mut self, alloc: Global, id: InterId) -> Result<Vec<Order>, ShelfFault>
         ensures rows { IfOk result (λ found. is_honest self.new → ListsOrders (content self.old) id found.items) }
-        ensures within { IfOk result (λ found. is_honest self.new → AllByRecursion IsOrderWithin found.items) }
+        ensures within { IfOk result (λ found. is_honest self.new →
+            AllByRecursion IsOrderWithin found.items) }
         ensures damaged { result ≡ Err ShelfFault.Damaged → is_honest self.new → HasDamagedOrder (content self.old) id }
         ensures kept { IsKept is_honest content written may_leave self.old self.new };
 
@@ -180,7 +196,8 @@ pub trait Shelf {
     /// The parts used for the orders on an intersection, in the order of orders and lines.
     fn used_lines(&mut self, alloc: Global, id: InterId) -> Result<Vec<UsedLine>, ShelfFault>
         ensures rows { IfOk result (λ found. is_honest self.new → ListsUsed (content self.old) id found.items) }
-        ensures within { IfOk result (λ found. is_honest self.new → AllByRecursion IsUsedLineWithin found.items) }
+        ensures within { IfOk result (λ found. is_honest self.new →
+            AllByRecursion IsUsedLineWithin found.items) }
         ensures damaged { result ≡ Err ShelfFault.Damaged → is_honest self.new → HasDamagedUsed (content self.old) id }
         ensures kept { IsKept is_honest content written may_leave self.old self.new };
 
@@ -204,7 +221,8 @@ pub trait Shelf {
     /// The parts with how many are on hand, in the order of their codes.
     fn parts(&mut self, alloc: Global) -> Result<Vec<(PartCode, Hand)>, ShelfFault>
         ensures rows { IfOk result (λ found. is_honest self.new → ListsParts (content self.old) found.items) }
-        ensures within { IfOk result (λ found. is_honest self.new → AllByRecursion IsPartWithin found.items) }
+        ensures within { IfOk result (λ found. is_honest self.new →
+            AllByRecursion IsPartWithin found.items) }
         ensures damaged { result ≡ Err ShelfFault.Damaged → is_honest self.new → HasDamagedPart (content self.old) }
         ensures kept { IsKept is_honest content written may_leave self.old self.new };
 

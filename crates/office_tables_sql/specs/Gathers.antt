@@ -6,8 +6,11 @@ use Rattle.office_tables_shelf.specs.Content.{Content}
 use Rattle.office_tables_shelf.specs.declared.rows.Table.{Table}
 use Rattle.office_tables_sql.specs.Tables.{ListsRows}
 
--- the rows of the list in the table, in the order of their keys, are those of records, and it holds what is to be known of these
-pub record Gathers {X G : Type 0} (holds : G → List X → Type 0) (t : Table) (IsWithin : X → Type 0) (key_of : ℕ → X → List Cell) (columns_of : X → List Cell) (tables : Content) (id : ℕ) (found : G) : Type 0 where
+-- the rows of the list in the table, in the order of their keys, are those of records, each within
+-- its limits, and it holds what is to be known of these
+pub record Gathers {X G : Type 0} (holds : G → List X → Type 0) (t : Table)
+    (IsWithin : X → Type 0) (key_of : ℕ → X → List Cell) (columns_of : X → List Cell)
+    (tables : Content) (id : ℕ) (found : G) : Type 0 where
   pub records : List X
   pub held : holds found records
   pub within : AllByRecursion IsWithin records
