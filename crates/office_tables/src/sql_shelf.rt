@@ -147,11 +147,14 @@ impl<S: Alter> SqlShelf<S> {
 
 impl<S: Alter> Shelf for SqlShelf<S> {
     ghost use Rattle.sqlite.specs.Held.{state};
+    ghost use Rattle.sqlite.specs.State.{HasCleanDisk};
     ghost use Rattle.office_tables_sql.specs.Stored.{content_now};
     ghost use Rattle.office_tables_sql.specs.Calls.{IsHonest};
     ghost use Rattle.office_tables_open.specs.SqlShelf.{MayLeave};
 
     ghost content = { λ s. content_now (state S.Store s.conn) };
+
+    ghost is_clean = { λ s. HasCleanDisk (state S.Store s.conn) };
 
     ghost is_honest = { λ s. IsHonest (state S.Store s.conn) };
 

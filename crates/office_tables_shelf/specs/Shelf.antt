@@ -1,5 +1,5 @@
 -- What the clauses of a shelf cite.
-use Rattle.std.specs.Prelude.{◌≡◌, ℕ, pos, Bool, false, List, [], ◌∷◌, map, length, Option, IsSome}
+use Rattle.std.specs.Prelude.{◌≡◌, ℕ, pos, Bool, false, List, [], ◌∷◌, map, length, Option, IsSome, Result, Ok, Err, ⊤}
 use Rattle.std.specs.Int.{IsInRange}
 use Rattle.std.specs.Option.{option_map}
 use Rattle.std.specs.Ordering.{eq_by_cmp}
@@ -15,6 +15,8 @@ use Rattle.office_tables_shelf.specs.Rows.{IsIntersectionRow}
 use Rattle.office_tables_shelf.specs.Rows.{timing_key, timing_columns, draft_key, draft_columns}
 use Rattle.office_tables_shelf.specs.declared.rows.IntersectionRow.{IntersectionRow}
 use Rattle.office_tables_shelf.specs.declared.counts.WriteCounts.{WriteCounts}
+use Rattle.office_tables_shelf.specs.declared.shelf.ShelfFault.{ShelfFault}
+use Rattle.office_tables_shelf.specs.declared.shelf.ShelfFault.TheVariants.{Damaged}
 
 -- A call that only reads: the disk is no more honest than it was, and the tables, the counts and what a crash may leave stay.
 -- What a crash may leave stays also where a failure shut the database.
@@ -23,6 +25,17 @@ pub record IsKept {S : Type 0} (is_honest : S → Type 0) (content : S → Conte
   pub same_content : is_honest new → content new ≡ content old
   pub same_counts : written new ≡ written old
   pub same_outcomes : (tables : Content) → may_leave new tables → may_leave old tables
+
+-- the call answered, or told that a stored row is no record
+abbrev pub IsTold : {A : Type 0} → Result A ShelfFault → Type 0
+IsTold (Ok found) = ⊤
+IsTold (Err Damaged) = ⊤
+IsTold (Err why) = ⊥
+
+-- Nothing makes a disk clean again. What answers, or tells a damaged row, was open and stays so; with `IsKept`, one that a failure has shut refuses each later read.
+pub record AnswersOpen {S A : Type 0} (is_clean is_honest : S → Type 0) (result : Result A ShelfFault) (old new : S) : Type 0 where
+  pub clean_before : is_clean new → is_clean old
+  pub told : is_clean new → IsTold result → is_honest new
 
 -- the cells that stand under a number are those of the row
 abbrev pub ReadsIntersection : Content → ℕ → Option IntersectionRow → Type 0

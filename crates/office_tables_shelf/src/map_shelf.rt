@@ -234,6 +234,8 @@ impl Shelf for MapShelf {
 
     ghost content = { λ s. s.tables };
 
+    ghost is_clean = { λ _. Unit {0} };
+
     ghost is_honest = { λ _. Unit {0} };
 
     ghost may_leave = { λ s tables. tables ≡ s.tables };

@@ -6,7 +6,8 @@ ghost use Rattle.cabinet_core.specs.Within.{IsUsedLineWithin};
 ghost use Rattle.office_tables_shelf.specs.Content.{Content};
 ghost use Rattle.office_tables_shelf.specs.Change.{changed_by};
 ghost use Rattle.office_tables_shelf.specs.Counts.{count_of, counts_after};
-ghost use Rattle.office_tables_shelf.specs.Shelf.{IsKept, ReadsIntersection, ListsIntersections};
+ghost use Rattle.office_tables_shelf.specs.Shelf.{AnswersOpen, IsKept};
+ghost use Rattle.office_tables_shelf.specs.Shelf.{ReadsIntersection, ListsIntersections};
 ghost use Rattle.office_tables_shelf.specs.Shelf.{IsIntersectionWithin, ListsTiming};
 ghost use Rattle.office_tables_shelf.specs.Shelf.{CountsTiming, ListsDraft};
 ghost use Rattle.office_tables_shelf.specs.Damage.{HasDamagedIntersection};
@@ -54,13 +55,17 @@ impl From<NoMemory> for ShelfFault {
 
 /// The tables of an office, as they are stored.
 ///
-/// Every clause on what the tables hold rests on an honest disk after the call, and every call hands
-/// that back to before: so one premise on the last state serves a whole run. What a crash may leave
-/// rests on the disk alone: the clauses on it hold also where a failure has shut the database.
+/// Two things are told apart: the disk has returned what was written (`is_clean`), and no failure of
+/// it has shut the database besides (`is_honest`). A call that answers, or tells a damaged row, was
+/// made on an open database and left it so (`open`): what it says rests on a clean disk alone. One
+/// that is shut stays shut, and each later call on it is refused. A refusal leaves the content where
+/// the database is still open. What a crash may leave rests on the disk alone.
 pub trait Shelf {
     /// What is stored, whether or not it is a record.
     ghost content: { Self → Content };
-    /// The disk has returned what was written, so far, and no failure of it has shut the database.
+    /// The disk has returned what was written, so far: it is clean.
+    ghost is_clean: { Self → Type 0 };
+    /// The disk is clean, and no failure of it has shut the database.
     ghost is_honest: { Self → Type 0 };
     /// The disk has returned what was written, so far, and a crash at this moment may leave this.
     ghost may_leave: { Self → Content → Type 0 };
@@ -75,7 +80,8 @@ pub trait Shelf {
     ) -> Result<Option<IntersectionRow>, ShelfFault>
         ensures row { IfOk result (λ row. is_honest self.new → ReadsIntersection (content self.old) id row) }
         ensures damaged { result ≡ Err ShelfFault.Damaged → is_honest self.new → HasDamagedIntersection (content self.old) id }
-        ensures kept { IsKept is_honest content written may_leave self.old self.new };
+        ensures kept { IsKept is_honest content written may_leave self.old self.new }
+        ensures open { AnswersOpen is_clean is_honest result self.old self.new };
 
     /// The rows of all intersections, by their numbers.
     fn intersections(
@@ -86,25 +92,29 @@ pub trait Shelf {
         ensures within { IfOk result (λ rows. is_honest self.new →
             AllByRecursion IsIntersectionWithin rows.items) }
         ensures damaged { result ≡ Err ShelfFault.Damaged → is_honest self.new → HasAnyDamagedIntersection (content self.old) }
-        ensures kept { IsKept is_honest content written may_leave self.old self.new };
+        ensures kept { IsKept is_honest content written may_leave self.old self.new }
+        ensures open { AnswersOpen is_clean is_honest result self.old self.new };
 
     /// The committed rows of an intersection, in the order of their keys.
     fn timing_rows(&mut self, alloc: Global, id: InterId) -> Result<Vec<Row>, ShelfFault>
         ensures rows { IfOk result (λ rows. is_honest self.new → ListsTiming (content self.old) id rows.items) }
         ensures damaged { result ≡ Err ShelfFault.Damaged → is_honest self.new → HasDamagedTiming (content self.old) id }
-        ensures kept { IsKept is_honest content written may_leave self.old self.new };
+        ensures kept { IsKept is_honest content written may_leave self.old self.new }
+        ensures open { AnswersOpen is_clean is_honest result self.old self.new };
 
     /// How many committed rows an intersection has, whether or not each of them is a record.
     fn committed_count(&mut self, alloc: Global, id: InterId) -> Result<usize, ShelfFault>
         ensures count { IfOk result (λ count. is_honest self.new → CountsTiming (content self.old) id count) }
         ensures undamaged { result ≢ Err ShelfFault.Damaged }
-        ensures kept { IsKept is_honest content written may_leave self.old self.new };
+        ensures kept { IsKept is_honest content written may_leave self.old self.new }
+        ensures open { AnswersOpen is_clean is_honest result self.old self.new };
 
     /// The draft rows of an intersection, in the order of their keys.
     fn draft_rows(&mut self, alloc: Global, id: InterId) -> Result<Vec<Change>, ShelfFault>
         ensures rows { IfOk result (λ rows. is_honest self.new → ListsDraft (content self.old) id rows.items) }
         ensures damaged { result ≡ Err ShelfFault.Damaged → is_honest self.new → HasDamagedDraft (content self.old) id }
-        ensures kept { IsKept is_honest content written may_leave self.old self.new };
+        ensures kept { IsKept is_honest content written may_leave self.old self.new }
+        ensures open { AnswersOpen is_clean is_honest result self.old self.new };
 
     /// The inspection of an intersection's cabinet with a number, if there is one.
     fn inspection(
@@ -115,7 +125,8 @@ pub trait Shelf {
     ) -> Result<Option<Inspection>, ShelfFault>
         ensures row { IfOk result (λ found. is_honest self.new → ReadsInspection (content self.old) id number found) }
         ensures damaged { result ≡ Err ShelfFault.Damaged → is_honest self.new → HasDamagedInspectionAt (content self.old) id number }
-        ensures kept { IsKept is_honest content written may_leave self.old self.new };
+        ensures kept { IsKept is_honest content written may_leave self.old self.new }
+        ensures open { AnswersOpen is_clean is_honest result self.old self.new };
 
     /// The inspections of an intersection's cabinet, in the order of their numbers.
     fn inspections(&mut self, alloc: Global, id: InterId) -> Result<Vec<Inspection>, ShelfFault>
@@ -123,13 +134,15 @@ pub trait Shelf {
         ensures within { IfOk result (λ found. is_honest self.new →
             AllByRecursion IsInspectionWithin found.items) }
         ensures damaged { result ≡ Err ShelfFault.Damaged → is_honest self.new → HasDamagedInspection (content self.old) id }
-        ensures kept { IsKept is_honest content written may_leave self.old self.new };
+        ensures kept { IsKept is_honest content written may_leave self.old self.new }
+        ensures open { AnswersOpen is_clean is_honest result self.old self.new };
 
     /// The day of an intersection's latest inspection, if there is one.
     fn last_inspection(&mut self, alloc: Global, id: InterId) -> Result<Option<Day>, ShelfFault>
         ensures day { IfOk result (λ last. is_honest self.new → ReadsLast (content self.old) id last) }
         ensures damaged { result ≡ Err ShelfFault.Damaged → is_honest self.new → HasDamagedInspection (content self.old) id }
         ensures kept { IsKept is_honest content written may_leave self.old self.new }
+        ensures open { AnswersOpen is_clean is_honest result self.old self.new }
     {
         let inspections = self.inspections(alloc, id)?;
         Ok(latest(inspections.as_slice()))
@@ -149,6 +162,7 @@ pub trait Shelf {
         ensures damaged { result ≡ Err ShelfFault.Damaged → is_honest self.new →
             HasOverdueDamage (content self.old) }
         ensures kept { IsKept is_honest content written may_leave self.old self.new }
+        ensures open { AnswersOpen is_clean is_honest result self.old self.new }
     {
         let rows = self.intersections(alloc)?;
         let mut found = Vec::new(alloc);
@@ -171,7 +185,8 @@ pub trait Shelf {
     ) -> Result<Option<Order>, ShelfFault>
         ensures row { IfOk result (λ found. is_honest self.new → ReadsOrder (content self.old) id number found) }
         ensures damaged { result ≡ Err ShelfFault.Damaged → is_honest self.new → HasDamagedOrderAt (content self.old) id number }
-        ensures kept { IsKept is_honest content written may_leave self.old self.new };
+        ensures kept { IsKept is_honest content written may_leave self.old self.new }
+        ensures open { AnswersOpen is_clean is_honest result self.old self.new };
 
     /// The orders on an intersection, in the order of their numbers.
     fn orders(&mut self, alloc: Global, id: InterId) -> Result<Vec<Order>, ShelfFault>
@@ -179,7 +194,8 @@ pub trait Shelf {
         ensures within { IfOk result (λ found. is_honest self.new →
             AllByRecursion IsOrderWithin found.items) }
         ensures damaged { result ≡ Err ShelfFault.Damaged → is_honest self.new → HasDamagedOrder (content self.old) id }
-        ensures kept { IsKept is_honest content written may_leave self.old self.new };
+        ensures kept { IsKept is_honest content written may_leave self.old self.new }
+        ensures open { AnswersOpen is_clean is_honest result self.old self.new };
 
     /// The part used for an order on an intersection in a line, if there is one.
     fn used_line(
@@ -191,7 +207,8 @@ pub trait Shelf {
     ) -> Result<Option<UsedLine>, ShelfFault>
         ensures row { IfOk result (λ found. is_honest self.new → ReadsUsed (content self.old) id order line found) }
         ensures damaged { result ≡ Err ShelfFault.Damaged → is_honest self.new → HasDamagedUsedAt (content self.old) id order line }
-        ensures kept { IsKept is_honest content written may_leave self.old self.new };
+        ensures kept { IsKept is_honest content written may_leave self.old self.new }
+        ensures open { AnswersOpen is_clean is_honest result self.old self.new };
 
     /// The parts used for the orders on an intersection, in the order of orders and lines.
     fn used_lines(&mut self, alloc: Global, id: InterId) -> Result<Vec<UsedLine>, ShelfFault>
@@ -199,7 +216,8 @@ pub trait Shelf {
         ensures within { IfOk result (λ found. is_honest self.new →
             AllByRecursion IsUsedLineWithin found.items) }
         ensures damaged { result ≡ Err ShelfFault.Damaged → is_honest self.new → HasDamagedUsed (content self.old) id }
-        ensures kept { IsKept is_honest content written may_leave self.old self.new };
+        ensures kept { IsKept is_honest content written may_leave self.old self.new }
+        ensures open { AnswersOpen is_clean is_honest result self.old self.new };
 
     /// The delivery of a part with a number, if there is one.
     fn delivery(
@@ -210,13 +228,15 @@ pub trait Shelf {
     ) -> Result<Option<Delivery>, ShelfFault>
         ensures row { IfOk result (λ found. is_honest self.new → ReadsDelivery (content self.old) part.now number found) }
         ensures damaged { result ≡ Err ShelfFault.Damaged → is_honest self.new → HasDamagedDelivery (content self.old) part.now number }
-        ensures kept { IsKept is_honest content written may_leave self.old self.new };
+        ensures kept { IsKept is_honest content written may_leave self.old self.new }
+        ensures open { AnswersOpen is_clean is_honest result self.old self.new };
 
     /// How many of a part are on hand, if there ever was a delivery of it.
     fn hand(&mut self, alloc: Global, part: &PartCode) -> Result<Option<Hand>, ShelfFault>
         ensures row { IfOk result (λ found. is_honest self.new → ReadsHand (content self.old) part.now found) }
         ensures damaged { result ≡ Err ShelfFault.Damaged → is_honest self.new → HasDamagedHand (content self.old) part.now }
-        ensures kept { IsKept is_honest content written may_leave self.old self.new };
+        ensures kept { IsKept is_honest content written may_leave self.old self.new }
+        ensures open { AnswersOpen is_clean is_honest result self.old self.new };
 
     /// The parts with how many are on hand, in the order of their codes.
     fn parts(&mut self, alloc: Global) -> Result<Vec<(PartCode, Hand)>, ShelfFault>
@@ -224,11 +244,14 @@ pub trait Shelf {
         ensures within { IfOk result (λ found. is_honest self.new →
             AllByRecursion IsPartWithin found.items) }
         ensures damaged { result ≡ Err ShelfFault.Damaged → is_honest self.new → HasDamagedPart (content self.old) }
-        ensures kept { IsKept is_honest content written may_leave self.old self.new };
+        ensures kept { IsKept is_honest content written may_leave self.old self.new }
+        ensures open { AnswersOpen is_clean is_honest result self.old self.new };
 
     /// Makes the changes in their order, all or none. Refused, it answers NoMemory or Store.
     fn apply(&mut self, alloc: Global, changes: &[RowChange]) -> Result<(), ShelfFault>
+        ensures clean { is_clean self.new → is_clean self.old }
         ensures honest { is_honest self.new → is_honest self.old }
+        ensures open { is_clean self.new → OnOk result (changes.now ≢ [] → is_honest self.new) }
         ensures ok { OnOk result (is_honest self.new → content self.new ≡ changed_by (content self.old) changes.now) }
         ensures err { OnErr result (is_honest self.new → content self.new ≡ content self.old) }
         ensures undamaged { result ≢ Err ShelfFault.Damaged }
