@@ -3,7 +3,7 @@
 holds, that can't be written, a full disk, outputs that are closed, and random bytes. Each run must end by itself within
 30 seconds with its status and its line on standard error, never by a signal, and what it refused must stay byte for byte.
 
-    tests/hostile.py PROGRAM
+    tests/hostile.py [PROGRAM]      the program is the one that ./office runs, where none is named
 
 Needs Python 3.8 or later; as root it also tries a file without leave to write and a full disk. Prints a line a case, and ok."""
 import os
@@ -16,13 +16,17 @@ import subprocess
 import sys
 import tempfile
 
-PROGRAM = os.path.abspath(sys.argv[1])
+TOP = os.path.dirname(os.path.dirname(os.path.abspath(__file__)))
+BUILT = os.path.join(TOP, "crates", "signal_office", "out", "signal_office")
+PROGRAM = os.path.abspath(sys.argv[1]) if len(sys.argv) > 1 else BUILT
+if not os.access(PROGRAM, os.X_OK):
+    sys.exit(f"hostile.py: there is no program {PROGRAM}: ./office builds it")
 ADD = (
     b"POST /intersections HTTP/1.1\r\nContent-Length: 41\r\n\r\n"
     b'{"id":12,"interval":365,"name":"Main St"}'
 )
 STATE = b"GET /intersections/12 HTTP/1.1\r\n\r\n"
-PLAN = os.path.join(os.path.dirname(os.path.abspath(__file__)), "..", "bench", "plan.csv")
+PLAN = os.path.join(TOP, "bench", "plan.csv")
 ON_FILES = (
     ["batch"],
     ["sheet", "12"],
@@ -59,14 +63,25 @@ def held(path):
         return file.read()
 
 
-def refused(name, path, line=b"fault: store\n", migrate=None, **how):
-    """The commands on a file refuse it with the same line, `migrate` perhaps with its own, and leave it as it was."""
+def refused(name, path, line=b"fault: store\n", migrate=None, making=None, **how):
+    """The commands on a file refuse it with the same line, `migrate` and those that make a file perhaps with
+    another, and leave it as it was."""
     before = held(path)
     for words in ON_FILES:
         status, out, err = run([words[0], "--db", path, *words[1:]], ADD, **how)
-        wanted = migrate or line if words == ["migrate"] else line
-        case(f"{name}, {words[0]}", (status, out, err), (1, b"", wanted))
+        other = {"migrate": migrate, "batch": making, "import": making}.get(words[0])
+        case(f"{name}, {words[0]}", (status, out, err), (1, b"", other or line))
     case(f"{name}, the file", held(path), before)
+
+
+def makes_none(name, path):
+    """The commands that make no file tell that there is none, and leave what is there."""
+    before = held(path)
+    for words in ON_FILES:
+        if words[0] not in ("batch", "import"):
+            told = b"fault: version\n" if words == ["migrate"] else b"fault: file\n"
+            case(f"{name}, {words[0]}", run([words[0], "--db", path, *words[1:]]), (1, b"", told))
+    case(f"{name}, the file", (held(path), os.path.exists(path + "-wal")), (before, False))
 
 
 def office(folder, name):
@@ -107,7 +122,11 @@ def stored(path):
 
 def other_files(folder):
     refused("a directory", folder)
-    refused("a file in a folder that is not there", os.path.join(folder, "none", "office.db"), migrate=b"fault: version\n")
+    refused(
+        "a file in a folder that is not there", os.path.join(folder, "none", "office.db"),
+        b"fault: file\n", migrate=b"fault: version\n", making=b"fault: store\n",
+    )
+    makes_none("a file that is not there", os.path.join(folder, "typo.db"))
     text = os.path.join(folder, "text.db")
     with open(text, "wb") as file:
         file.write(b"phase,2,1,8,20,40,40,15\n" * 400)
@@ -124,6 +143,7 @@ def other_files(folder):
     refused("another's database", others, migrate=b"fault: version\n")
     empty = os.path.join(folder, "empty.db")
     open(empty, "wb").close()
+    makes_none("an empty file", empty)
     status, out, err = run(["batch", "--db", empty], ADD + STATE)
     case("an empty file", (status, out.count(b"200 OK"), err), (0, 2, b""))
 

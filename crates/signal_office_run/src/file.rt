@@ -29,7 +29,8 @@ use office_tables::sql_shelf::SqlShelf;
 use signal_office_reports::Fault;
 use sqlite::{Alter, Connection, Error, FileFrom, FileStore, Start};
 use sqlite_disk::{Disk, Files};
-use std::alloc::Global;
+use std::alloc::{AllocError, Global};
+use std::fs;
 
 /// An office over tables in files, of which `S` says what they held.
 pub type FileOffice<S> = Office<SqlShelf<FileStore<FileFrom<S>>>>;
@@ -70,6 +71,24 @@ fn office_over<S: Alter + Drop>(
 pub(crate) fn unopened<L: Drop>(refused: (Error, L)) -> Fault {
     let (error, _) = refused;
     Fault::from(error)
+}
+
+/// Whether a file has no byte.
+fn is_empty(rt: &HostRuntime, path: &str) -> bool {
+    match fs::metadata(rt, path) {
+        Ok(found) => found.is_file() && found.len() == 0,
+        Err(_) => false,
+    }
+}
+
+/// Whether there is no such file, or an empty one without a log beside it, which has no tables.
+/// Where the system does not tell, opening it does.
+pub(crate) fn is_missing(rt: &HostRuntime, alloc: Global, path: &str) -> Result<bool, AllocError> {
+    if matches!(fs::exists(rt, path), Ok(false)) {
+        return Ok(true);
+    }
+    let log = format!(in alloc; "{path}-wal")?;
+    Ok(is_empty(rt, path) && !matches!(fs::exists(rt, log.as_str()), Ok(true)))
 }
 
 /// The office over the tables of a file, which is made where there is none.

@@ -10,36 +10,17 @@ ghost use Rattle.signal_office_run.specs.Migrating.{BringsToday, LeavesEither};
 ghost use Rattle.signal_office_run.specs.Migrating.{BringsFilesToday, KeepsFiles};
 ghost use Rattle.signal_office_run.specs.Migrating.{LeavesEitherOfFiles, StandTodayInBoth};
 
-use crate::file::{close_after, unopened};
+use crate::file::{close_after, is_missing, unopened};
 use office_tables::Migrated;
 use office_tables::open::OpenFault;
 use office_tables::sql_shelf::SqlShelf;
 use signal_office_reports::Fault;
 use sqlite::{Alter, Connection, FileFrom, FileStore, Start};
 use sqlite_disk::{Disk, Files};
-use std::alloc::{AllocError, Global};
-use std::fs;
+use std::alloc::Global;
 
 /// The database in files, of which `S` says what they held.
 pub type FileConnection<S> = Connection<FileStore<FileFrom<S>>>;
-
-/// Whether a file has no byte.
-fn is_empty(rt: &HostRuntime, path: &str) -> bool {
-    match fs::metadata(rt, path) {
-        Ok(found) => found.is_file() && found.len() == 0,
-        Err(_) => false,
-    }
-}
-
-/// Whether there is no such file, or an empty one without a log beside it, which has no tables.
-/// Where the system does not tell, opening it does.
-fn is_missing(rt: &HostRuntime, alloc: Global, path: &str) -> Result<bool, AllocError> {
-    if matches!(fs::exists(rt, path), Ok(false)) {
-        return Ok(true);
-    }
-    let log = format!(in alloc; "{path}-wal")?;
-    Ok(is_empty(rt, path) && !matches!(fs::exists(rt, log.as_str()), Ok(true)))
-}
 
 /// Brings the tables of a database to today's version, with what is told of its last commit.
 fn migrate_tables<S: Alter>(alloc: Global, conn: &mut Connection<S>) -> Result<Migrated, OpenFault>
