@@ -183,25 +183,45 @@ def without_leave(folder):
     refused("a file without leave to write", path, user=65534, group=65534, extra_groups=[])
 
 
+def additions(count):
+    """Requests that add so many intersections."""
+    bodies = (b'{"id":%d,"interval":365,"name":"%s"}' % (n, b"x" * 100) for n in range(1, count + 1))
+    return b"".join(b"POST /intersections HTTP/1.1\r\nContent-Length: %d\r\n\r\n%s" % (len(body), body) for body in bodies)
+
+
+def statuses(out):
+    """The status of each answer."""
+    return [int(answer[:3]) for answer in out.split(b"HTTP/1.1 ")[1:]]
+
+
+def refused_for_room(name, path, left, **how):
+    """A stream of additions meets a refusal for want of room in its middle: all answers before it, then 503 and nothing else;
+    and what is left of the file holds the office of the last answer that was no 503, or of the first that was."""
+    status, out, err = run(["batch", "--db", path], additions(3999), **how)
+    told = statuses(out)
+    done = told.index(503) if 503 in told else len(told)
+    case(f"{name}, the answers", told, [200] * done + [503] * (3999 - done))
+    case(f"{name}, the end", (0 < done < 3999, status in (0, 1), err in (b"", b"fault: store\n")), (True, True, True))
+    asked = b"".join(b"GET /intersections/%d HTTP/1.1\r\n\r\n" % n for n in range(1, done + 3))
+    status, out, err = run(["batch", "--db", left()], asked)
+    found = statuses(out)
+    case(f"{name}, what is left", (status, found[:done], found[done] in (200, 404), found[done + 1 :], err), (0, [200] * done, True, [404], b""))
+
+
 def full_disk(folder):
     disk = os.path.join(folder, "disk")
     os.mkdir(disk)
     if subprocess.run(["mount", "-t", "tmpfs", "-o", "size=400k", "none", disk], stderr=subprocess.DEVNULL).returncode:
         print("a full disk: not tried, since nothing can be mounted here")
         return
-    try:
-        path = os.path.join(disk, "office.db")
-        asked = b"".join(
-            b'POST /intersections HTTP/1.1\r\nContent-Length: %d\r\n\r\n%s' % (len(body), body)
-            for body in (b'{"id":%d,"interval":365,"name":"%s"}' % (n, b"x" * 100) for n in range(1, 4000))
-        )
-        status, out, err = run(["batch", "--db", path], asked)
-        added = out.count(b'{"result":"added"}')
-        case("a full disk", (status in (0, 1), out.count(b"503 ") + added, err in (b"", b"fault: store\n")), (True, 3999, True))
+
+    def left():
         copy = os.path.join(folder, "copy")
         shutil.copytree(disk, copy)
-        status, out, _ = run(["batch", "--db", os.path.join(copy, "office.db")], b"GET /intersections/%d HTTP/1.1\r\n\r\n" % added)
-        case("what was answered on a full disk is there", (status, out.count(b'"id":')), (0, 1))
+        return os.path.join(copy, "office.db")
+
+    try:
+        refused_for_room("a full disk", os.path.join(disk, "office.db"), left)
     finally:
         subprocess.run(["umount", disk], check=True)
 
@@ -213,13 +233,7 @@ def largest_file(folder):
         resource.setrlimit(resource.RLIMIT_FSIZE, (262144, 262144))
 
     path = os.path.join(folder, "limited.db")
-    asked = b"".join(
-        b'POST /intersections HTTP/1.1\r\nContent-Length: %d\r\n\r\n%s' % (len(body), body)
-        for body in (b'{"id":%d,"interval":365,"name":"%s"}' % (n, b"x" * 100) for n in range(1, 4000))
-    )
-    status, out, err = run(["batch", "--db", path], asked, preexec_fn=limit)
-    answers = out.count(b"503 ") + out.count(b'{"result":"added"}')
-    case("a file at the limit of file sizes", (status in (0, 1), answers, err in (b"", b"fault: store\n")), (True, 3999, True))
+    refused_for_room("a file at the limit of file sizes", path, lambda: path, preexec_fn=limit)
 
 
 def outputs(folder):
