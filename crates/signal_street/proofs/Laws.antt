@@ -1,6 +1,6 @@
 -- A timing set without violations keeps the laws of the street.
 use Rattle.std.proofs.Common.{◌≡◌, ◌↔◌, ℕ, ◌+◌, ◌*◌, ◌<◌, ◌≤◌, true, [], Option, Some, None, IfSome, ◌⊎◌, inl, inr, refl, sym, ap, subst, ◌∙◌, arith}
-use Rattle.std.proofs.lemmas.Bool.{cases_eq}
+use Rattle.std.proofs.lemmas.Bool.{cases_eq, cases_lt}
 use Rattle.std.specs.Int.{IsInRange}
 use Rattle.signal_records.specs.declared.number.TheConstants.{RINGS}
 use Rattle.signal_records.specs.declared.record.Pattern.{Pattern}
@@ -13,7 +13,7 @@ use Rattle.signal_rules.specs.SplitRule.{time_is_right}
 use Rattle.signal_rules.specs.Violations.{violations_of}
 use Rattle.signal_street.specs.Timing.{HasPhase, HasPattern, order, time_or_none, split_time, BeginsIn, TimesIn, IsTiming}
 use Rattle.signal_street.specs.Intervals.{clear_end, WalkersCross}
-use Rattle.signal_street.specs.StreetLaws.{AreConcurrent, OnlyConcurrentPhasesTime, TimesOnce, FillsCycle, WalkersHaveTheStreet, StreetLaws}
+use Rattle.signal_street.specs.StreetLaws.{AreConcurrent, OnlyConcurrentPhasesTime, TimesOnce, ConflictsAreCleared, FillsCycle, WalkersHaveTheStreet, StreetLaws}
 use Rattle.signal_street.proofs.Clean.{IsClean, is_clean, phase_rules}
 use Rattle.signal_street.proofs.Places.{places, begin_at, ends_within, times_within, alone_at, filled_at, begins_once, has_place, ordered_at}
 use Rattle.signal_street.proofs.Within.{none_where_omitted, not_omitted, room, crosses, crosses_from_setback, within_split}
@@ -106,6 +106,21 @@ module _ (set : Rows) (clean : IsClean set) (n : ℕ) (pattern : Pattern) (has :
           in_cycle : (second sum cycle : ℕ) → sum ≡ cycle → second < sum → second < cycle
           in_cycle second sum cycle e lt = omega arith
 
+    pub conflicts_cleared : ConflictsAreCleared set pattern p phase
+    conflicts_cleared split fits begin q second row begins apart conflict t after = by_place (cases_lt second (begin + split.time)) where
+      start : (phase.ring ≡ phase.ring) × (begin ≡ begin_at (split_time set pattern) (order set pattern phase.ring) p)
+      start = begins_there phase.ring begin of_p.0.ring begins
+
+      shifted : (begin at second time : ℕ) → begin ≡ at → begin ≤ second → second < begin + time → (at ≤ second) × (second < at + time)
+      shifted begin at second time e le lt = (omega arith, omega arith)
+
+      over : (begin green yellow red time second : ℕ) → green + yellow + red ≡ 10 * time → begin + time ≤ second → 10 * begin + green + yellow + red ≤ 10 * second
+      over begin green yellow red time second e le = omega arith
+
+      by_place : (second < begin + split.time) ⊎ (begin + split.time ≤ second) → 10 * begin + fits.green_end + phase.yellow + phase.red ≤ 10 * second
+      by_place (inl lt) = absurd (conflict (concurrent p q second apart ((times_there split row second).1 (shifted begin _ second split.time start.1 after lt)) t))
+      by_place (inr le) = over begin fits.green_end phase.yellow phase.red split.time second fits.cleared le
+
     pub walkers : (ped : Ped) → phase.ped ≡ Some ped → WalkersHaveTheStreet set pattern p phase ped
     walkers ped is split begin left now second row calls begins by crossing lies =
         let own = has_split set clean n pattern has p phase of_p in
@@ -140,6 +155,7 @@ street_laws set none =
     record {
       concurrent = λ n pattern has. concurrent set clean n pattern has;
       stretches = λ n pattern has p phase of_p. stretch set clean n pattern has p phase of_p;
+      cleared = λ n pattern has p phase of_p. conflicts_cleared set clean n pattern has p phase of_p;
       rings = λ n pattern has p phase of_p. ring_filled set clean n pattern has p phase of_p;
       crossings = λ p phase of_p. where_some phase.ped (WalkersCross phase) (walkers_cross set clean p phase of_p);
       walkers = λ n pattern has p phase of_p. where_some phase.ped (WalkersHaveTheStreet set pattern p phase) (walkers set clean n pattern has p phase of_p);

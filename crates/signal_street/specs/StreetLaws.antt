@@ -67,6 +67,15 @@ WalkersHaveTheStreet set pattern p phase ped =
     → BeginsIn set pattern phase.ring p begin → left ≤ 10 * ped.walk → IsCrossing ped left now
     → LiesIn (10 * begin + now) second → HasTheStreet set pattern p second
 
+-- a phase that times after another has begun that it is not concurrent with, times when all of the
+-- other's yellow and red are over
+abbrev pub ConflictsAreCleared : Rows → Pattern → ℕ → Phase → Type 0
+ConflictsAreCleared set pattern p phase =
+    (split : Split) (fits : FitsSplit phase split) (begin q second : ℕ)
+    → split_at set pattern.split p ≡ Some split → BeginsIn set pattern phase.ring p begin
+    → p ≢ q → ¬ AreConcurrent set p q → IsTiming set pattern q second → begin ≤ second
+    → 10 * begin + fits.green_end + phase.yellow + phase.red ≤ 10 * second
+
 abbrev pub InEachPattern : Rows → (Pattern → Type 0) → Type 0
 InEachPattern set Law = (n : ℕ) (pattern : Pattern) → HasPattern set n pattern → Law pattern
 
@@ -77,6 +86,7 @@ OfEachPhase set Law = (p : ℕ) (phase : Phase) → HasPhase set p phase → Law
 pub record StreetLaws (set : Rows) : Type 0 where
   pub concurrent : InEachPattern set (OnlyConcurrentPhasesTime set)
   pub stretches : InEachPattern set (λ pattern. OfEachPhase set (TimesOnce set pattern))
+  pub cleared : InEachPattern set (λ pattern. OfEachPhase set (ConflictsAreCleared set pattern))
   pub rings : InEachPattern set (λ pattern. OfEachPhase set (λ p phase. FillsCycle set pattern phase.ring))
   pub crossings : OfEachPhase set (λ p phase. IfSome phase.ped (WalkersCross phase))
   pub walkers : InEachPattern set (λ pattern. OfEachPhase set (λ p phase. IfSome phase.ped (WalkersHaveTheStreet set pattern p phase)))
