@@ -1,5 +1,5 @@
 -- What a phase shows while it times, and who crosses then. Moments are in tenths of a second from
--- where the phase begins, as its walk does.
+-- where the phase begins; its walk begins there too.
 use Rattle.std.specs.Prelude.{◌≡◌, ℕ, ◌+◌, ◌-◌, ◌*◌, ◌<◌, ◌≤◌, ◌⊎◌, IfSome}
 use Rattle.signal_records.specs.declared.record.Ped.{Ped}
 use Rattle.signal_records.specs.declared.record.Phase.{Phase}
@@ -16,8 +16,8 @@ pub record FitsCrossing (phase : Phase) (ped : Ped) (green_end : ℕ) : Type 0 w
   pub lead_and_green : 10 * (ped.lead + phase.min_green) ≤ green_end
   pub walk_and_clearance : 10 * (ped.walk + ped.clear) ≤ green_end
 
--- green ends so that all of yellow and red fit behind it, and by then the minimum green is over and
--- so is a walk that is called
+-- green ends so early that all of yellow and red follow it within the split, and so late that the
+-- minimum green is over, and a walk that is called with its clearance
 pub record FitsSplit (phase : Phase) (split : Split) : Type 0 where
   pub green_end : ℕ
   pub cleared : green_end + phase.yellow + phase.red ≡ 10 * split.time

@@ -9,7 +9,7 @@ use Rattle.signal_records.specs.TimingSet.{Rows}
 use Rattle.signal_records.specs.Within.{current_limits, IsPhaseWithin, IsPatternWithin}
 use Rattle.signal_rules.specs.Lookup.{phase_at, sequence_at, split_at, pattern_at}
 
--- the set has the phase, whose numbers are in their ranges, as those of each row of a program are
+-- the set has the phase, with its numbers in the ranges that they have in each row of a program
 abbrev pub HasPhase : Rows → ℕ → Phase → Type 0
 HasPhase set p phase = IsPhaseWithin current_limits p phase × (phase_at set p ≡ Some phase)
 
@@ -40,7 +40,7 @@ pub record Begins (time : ℕ → ℕ) (row : List ℕ) (p begin : ℕ) : Type 0
   pub placed : row ≡ before ++ p ∷ after
   pub over : begin ≡ sum_by time before
 
--- it times at each second from there on, as many as its own time
+-- and times from there on, for as many seconds as its own time
 pub record Times (time : ℕ → ℕ) (row : List ℕ) (p second : ℕ) : Type 0 where
   pub begin : ℕ
   pub begins : Begins time row p begin
