@@ -12,6 +12,7 @@ use Rattle.office_tables_shelf.specs.declared.rows.RowChange.{RowChange}
 use Rattle.office_tables_shelf.specs.declared.shelf.ShelfFault.{ShelfFault}
 use Rattle.office_tables_shelf.specs.declared.shelf.ShelfFault.TheVariants.{NoMemory, Store, Damaged}
 use Rattle.office_desk.specs.Answers.{AnswersAny, Answers, IsAfterStep, RunsAny, RunsTo}
+use Rattle.office_desk.specs.Blaming.{BlamesRightly}
 use Rattle.office_desk.specs.Changes.{IsRefused, most_writes}
 use Rattle.office_desk.specs.Deciding.{IsAnswered, IsDecision}
 use Rattle.office_desk.specs.Running.{AreRun, IsRun}
@@ -34,6 +35,7 @@ use Rattle.office_desk.specs.declared.reply.Reply.TheVariants.{Refused}
 use Rattle.office_desk.proofs.IntersectionTable.{no_damaged_intersection}
 use Rattle.office_desk.proofs.Recorded.{register_of}
 use Rattle.office_desk.proofs.Stands.{no_damage}
+use Rattle.office_desk.proofs.Blames.{blames_later, fault_blames, unavailable_blames}
 use Rattle.office_desk.proofs.RegisterLaws.{runs_register}
 use Rattle.office_desk.proofs.Repeats.{runs_repeat}
 use Rattle.office_desk.proofs.TimingLaw.{runs_timing}
@@ -141,13 +143,14 @@ no_items [] e = refl
 no_items (x ∷ xs) e = absurd (grind (arith, nat_tests))
 
 -- a command that was decided is answered so
-pub decided_answers : (is_honest : Type 0) (tables : Content) (command : Command) (decided : Decided) → IsDecision is_honest tables command decided → IsAnswered is_honest tables command decided
-decided_answers is_honest tables command decided is = record {
+pub decided_answers : (is_honest : Type 0) (tables : Content) (command : Command) (decided : Decided) → IsDecision is_honest tables command decided → BlamesRightly is_honest tables command decided.reply → IsAnswered is_honest tables command decided
+decided_answers is_honest tables command decided is blames = record {
   step = is.step;
   writes = is.writes;
   refused = is.refused;
   query = is.query;
   named = named_more command decided.reply is.named;
+  blames = blames;
   damaged = λ told. absurd (is.undamaged told);
   turned_away = λ honest damaged. inr (is.whole honest damaged);
 }
@@ -161,6 +164,7 @@ fault_is_answered is_honest tables command fault decided meets told none = recor
   refused = λ _. none;
   query = λ _. none;
   named = fault_named command fault decided.reply told;
+  blames = fault_blames is_honest tables command fault decided.reply told;
   damaged = λ said. meets (fault_damaged fault (sym told ∙ said));
   turned_away = λ honest damaged. inl (turned_away fault decided.reply told);
 }
@@ -191,6 +195,7 @@ module _ {S : Type 0} (is_honest : S → Type 0) (content : S → Content) (writ
     unwritten = λ refused. kept.same_counts;
     writes = λ honest. no_rise (content old) command _ _ kept.same_counts;
     named = is.named;
+    blames = is.blames;
     damaged = is.damaged;
     turned_away = is.turned_away;
     crash = λ tables left. inl (kept.same_outcomes tables left);
@@ -220,6 +225,7 @@ module _ {S : Type 0} (is_honest : S → Type 0) (content : S → Content) (writ
       unwritten = λ refused. absurd (some (is.refused refused));
       writes = λ now. rise_at_most (content old) command decided.changes.items (written old) (written new) (is.writes (honest now)) (counted ∙ ap (λ counts. counts_after counts decided.changes.items) kept.same_counts);
       named = is.named;
+      blames = blames_later _ _ _ _ _ honest is.blames;
       damaged = λ told now. is.damaged told (honest now);
       turned_away = λ now. is.turned_away (honest now);
       crash = left_by;
@@ -236,6 +242,7 @@ module _ {S : Type 0} (is_honest : S → Type 0) (content : S → Content) (writ
       unwritten = λ refused. uncounted ∙ kept.same_counts;
       writes = λ now. no_rise (content old) command _ _ (uncounted ∙ kept.same_counts);
       named = unavailable_named command;
+      blames = unavailable_blames _ _ command _ refl;
       damaged = λ told. absurd (let f : Refused Unavailable ≡ Refused refusal.Damaged = told in cc);
       turned_away = λ now damaged. inl (inr refl);
       crash = left_by;

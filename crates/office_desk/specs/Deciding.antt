@@ -14,6 +14,7 @@ use Rattle.office_desk.specs.Answers.{AnswersAny}
 use Rattle.office_desk.specs.Changes.{IsRefused, IsQuery, most_writes}
 use Rattle.office_desk.specs.Damage.{IsImport, IsTurnedAway, MeetsDamage}
 use Rattle.office_desk.specs.Named.{IsNamedFor, RefusesBy, numbers_of}
+use Rattle.office_desk.specs.Blaming.{BlamesRightly}
 
 -- The reply and what the rows make of the tables are one step; the rows are at most those of the kind of command, and none where it is refused or only asks;
 -- a refusal is one of the command's table; and a row that is no record is told as a fault, never as a reply, and none that the command reads was found to be such, unless an import was refused before it.
@@ -33,6 +34,7 @@ pub record IsAnswered (is_honest : Type 0) (tables : Content) (command : Command
   pub refused : IsRefused decided.reply → decided.changes.items ≡ []
   pub query : IsQuery command → decided.changes.items ≡ []
   pub named : IsNamedFor command decided.reply
+  pub blames : BlamesRightly is_honest tables command decided.reply
   pub damaged : decided.reply ≡ Refused Damaged → is_honest → MeetsDamage tables command
   pub turned_away : is_honest → MeetsDamage tables command → IsTurnedAway command decided.reply
 

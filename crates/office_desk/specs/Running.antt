@@ -6,6 +6,7 @@ use Rattle.office_desk.specs.Answers.{AnswersAny, IsAfterStep}
 use Rattle.office_desk.specs.Changes.{IsRefused, RiseAtMost}
 use Rattle.office_desk.specs.Damage.{IsTurnedAway, MeetsDamage}
 use Rattle.office_desk.specs.Named.{IsNamedFor}
+use Rattle.office_desk.specs.Blaming.{BlamesRightly}
 use Rattle.office_desk.specs.declared.command.Command.{Command}
 use Rattle.office_desk.specs.declared.refusal.Refusal.TheVariants.{Damaged, Unavailable}
 use Rattle.office_desk.specs.declared.reply.Reply.{Reply}
@@ -22,6 +23,7 @@ pub record IsRun {S : Type 0} (is_honest : S → Type 0) (content : S → Conten
   pub unwritten : IsRefused reply → written new ≡ written old
   pub writes : is_honest new → RiseAtMost (content old) command (written old) (written new)
   pub named : IsNamedFor command reply
+  pub blames : BlamesRightly (is_honest new) (content old) command reply
   pub damaged : reply ≡ Refused Damaged → is_honest new → MeetsDamage (content old) command
   pub turned_away : is_honest new → MeetsDamage (content old) command → IsTurnedAway command reply
   pub crash : (tables : Content) → may_leave new tables → may_leave old tables ⊎ (is_honest old × IsAfterStep (content old) command tables)

@@ -1,6 +1,7 @@
 //! How a command is decided over a shelf.
-ghost use Rattle.std.specs.Prelude.{◌≡◌};
+ghost use Rattle.std.specs.Prelude.{◌≡◌, IfOk};
 ghost use Rattle.office_tables_shelf.specs.Shelf.{IsKept};
+ghost use Rattle.office_desk.specs.Blaming.{BlamesRightly};
 ghost use Rattle.office_desk.specs.Deciding.{Decides};
 ghost use Rattle.office_desk.specs.Decisions.{refusal_of};
 
@@ -34,6 +35,8 @@ pub(crate) fn try_decide<S: Shelf>(
     command: &Command,
 ) -> Result<Decided, ShelfFault>
     ensures decides { Decides (S.is_honest shelf.new) (S.content shelf.old) command.now result }
+    ensures blames { IfOk result (λ decided. BlamesRightly (S.is_honest shelf.new)
+        (S.content shelf.old) command.now decided.reply) }
     ensures kept { IsKept S.is_honest S.content S.written S.may_leave shelf.old shelf.new }
 {
     match command {

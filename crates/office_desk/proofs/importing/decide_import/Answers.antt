@@ -1,18 +1,20 @@
 use Rattle.std.proofs.Common.{◌≡◌, ◌+◌, ◌≤◌, ◌<◌, ◌∙◌, List, length, drop, get_or, Err, inl, inr, ap, sym, refl, subst, arith}
 use Rattle.std.specs.Prelude.{◌⊎◌}
-use Rattle.std.proofs.lemmas.List.{drop_all}
+use Rattle.std.proofs.lemmas.List.{drop_all, take_all}
 use Rattle.cabinet_core.specs.declared.command.RecordCommand.{RecordCommand}
 use Rattle.office_tables_shelf.specs.Change.{changed_by}
 use Rattle.office_tables_shelf.specs.declared.rows.RowChange.{RowChange}
 use Rattle.office_tables_shelf.specs.declared.shelf.ShelfFault.{ShelfFault}
 use Rattle.office_desk_cabinet.specs.RegisterDamage.{KeepsDamage}
 use Rattle.office_desk_cabinet.proofs.KeptDamage.{kept_after, nothing_kept}
-use Rattle.office_desk.specs.Damage.{MeetsCabinetDamage}
+use Rattle.office_desk.specs.Damage.{MeetsCabinetDamage, MeetsImportDamage}
 use Rattle.office_desk.specs.Step.{cabinet_of}
-use Rattle.office_desk.specs.Importing.{ImportsAny, LeavesAnyTiming, TakesRecord}
+use Rattle.office_desk.specs.Importing.{ImportsAny, IsNamedTaken, LeavesAnyTiming, TakesRecord}
 use Rattle.office_desk.specs.declared.importing.Taken.TheVariants.{Added, Same}
+use Rattle.office_desk.specs.declared.reply.Reply.TheVariants.{Imported}
 use Rattle.office_desk.proofs.Decisions.{fault_decides}
-use Rattle.office_desk.proofs.Imports.{counted_on, damage_of_record, import_decides, imports_on, imports_start, next_left, still_left, was_taken, whole_stored, nothing_leaves, nothing_written, refused_decides, same_stored, writes_left, writes_whole}
+use Rattle.office_desk.proofs.Blames.{blames_next, none_through, taken_blames}
+use Rattle.office_desk.proofs.Imports.{counted_on, damage_of_record, import_decides, imports_on, imports_start, never_met, next_left, whole_stored, nothing_leaves, nothing_written, refused_decides, same_stored, writes_left, writes_whole}
 use Rattle.office_tables_shelf.proofs.KeptLemmas.{kept_on}
 use Rattle.office_desk.proofs.importing.decide_import.Goals as goal
 use Rattle.office_desk.proofs.importing.decide_import.Goals.{in-Added, in-Same}
@@ -68,6 +70,23 @@ returns-in-Refused-clause-decides g c =
     (same_stored before item _ after (c.loop-index.invariant.kept.same_content (c.take_record.ensures.kept.honest_before honest)) (c.in_ok-taken.ensures.step honest)))
     c.number-cause.ensures c.refused.ensures.reply c.refused.ensures.no_changes
 
+pub returns-in-Refused-clause-blames : goal.returns-in-Refused-clause-blames
+returns-in-Refused-clause-blames g c =
+    let stored = g.S.Shelf.content c.args.shelf.now in
+    let all = c.args.records.now in
+    let index = c.loop-index.index in
+    let item = c.command-item.result in
+    let before = c.loop-index.pending in
+    let after = c.in_ok-taken.next in
+    let low = subst (λ (list : List RecordCommand). index < length list) c.as_slice-command-items.ensures c.loop-index-test.true in
+    let at = subst (λ (list : List RecordCommand). item ≡ get_or list index item) c.as_slice-command-items.ensures c.command-item.is in
+    blames_next _ stored all index _ _ item c.in-Refused.refusal _ (next_left all index item low at) refl c.number-cause.ensures c.refused.ensures.reply
+    (subst (IsNamedTaken item) c.in-Refused.is c.in_ok-taken.ensures.named)
+    (λ honest.
+    let first = c.take_record.ensures.kept.honest_before honest in
+    let now = whole_stored before item after (c.loop-index.invariant.kept.same_content first) (c.in_ok-taken.ensures.whole honest) in
+    none_through stored all index item low at (c.loop-index.invariant.whole first) (never_met stored before item after (c.loop-index.invariant.spares first) now))
+
 pub loop-index-preserved : goal.loop-index-preserved
 loop-index-preserved g c =
     let shelf = g.S.Shelf in
@@ -91,16 +110,19 @@ loop-index-preserved g c =
           (same_stored before item t after (c.loop-index.invariant.kept.same_content first) (c.in_ok-taken.ensures.step honest));
       spares = λ honest.
           let first = c.take_record.ensures.kept.honest_before honest in
-          let now = whole_stored before item t after (c.loop-index.invariant.kept.same_content first) (c.in_ok-taken.ensures.whole honest) in
+          let now = whole_stored before item after (c.loop-index.invariant.kept.same_content first) (c.in_ok-taken.ensures.whole honest) in
           kept_after stored (changed_by stored before) (changed_by stored after) (c.loop-index.invariant.spares first) now.spares;
-      whole = λ honest damaged.
+      whole = λ honest.
           let first = c.take_record.ensures.kept.honest_before honest in
-          let now = whole_stored before item t after (c.loop-index.invariant.kept.same_content first) (c.in_ok-taken.ensures.whole honest) in
-          still_left stored (drop index all) item (drop (index + 1) all) before after t (next_left all index item low at) (was_taken t came) (c.loop-index.invariant.spares first) now (c.loop-index.invariant.whole first damaged);
+          let now = whole_stored before item after (c.loop-index.invariant.kept.same_content first) (c.in_ok-taken.ensures.whole honest) in
+          none_through stored all index item low at (c.loop-index.invariant.whole first) (never_met stored before item after (c.loop-index.invariant.spares first) now);
       leaves = c.in_ok-taken.ensures.leaves c.loop-index.invariant.leaves;
       writes = λ table. writes_left table all index item _ _ _ low at (c.loop-index.invariant.writes table) (c.in_ok-taken.ensures.writes table);
       kept = kept_on shelf.is_honest shelf.content shelf.written shelf.may_leave c.args.shelf.now c.loop-index.shelf c.take_record.new.shelf c.loop-index.invariant.kept c.take_record.ensures.kept;
     }
+
+pub returns-clause-blames : goal.returns-clause-blames
+returns-clause-blames g c = taken_blames _ _ _ _ (Imported c.loop-index.added c.loop-index.same) refl (λ why e. cc)
 
 pub returns-clause-decides : goal.returns-clause-decides
 returns-clause-decides g c =
@@ -108,5 +130,6 @@ returns-clause-decides g c =
     let index = c.loop-index.index in
     let high = subst (λ (list : List RecordCommand). length list ≤ index) c.as_slice-command-items.ensures c.loop-index-test.false in
     import_decides _ (g.S.Shelf.content c.args.shelf.now) all (drop index all) (index + 1) c.loop-index.added c.loop-index.same c.loop-index.pending _
-    (drop_all index all high) c.loop-index.invariant.imports c.loop-index.invariant.whole c.loop-index.invariant.leaves
+    (drop_all index all high) c.loop-index.invariant.imports
+    (λ honest. subst (λ (list : List RecordCommand). ¬ MeetsImportDamage (g.S.Shelf.content c.args.shelf.now) list) (take_all index all high) (c.loop-index.invariant.whole honest)) c.loop-index.invariant.leaves
     (λ table. writes_whole table all index _ _ high (c.loop-index.invariant.writes table)) refl c.into_changes.ensures

@@ -1,4 +1,4 @@
-use Rattle.std.proofs.Common.{◌≡◌, ◌+◌, ◌≤◌, drop}
+use Rattle.std.proofs.Common.{◌≡◌, ◌+◌, ◌≤◌, drop, take}
 use Rattle.office_tables_shelf.specs.Change.{changed_by}
 use Rattle.office_tables_shelf.specs.Counts.{writes_in}
 use Rattle.office_tables_shelf.specs.Shelf.{IsKept}
@@ -17,7 +17,7 @@ invariant-loop-index g l =
       counted : l.added + l.same ≡ l.index;
       imports : shelf.is_honest l.shelf → ImportsAny (shelf.content l.fn.shelf) l.records (drop l.index l.records) (l.index + 1) l.added l.same l.pending;
       spares : shelf.is_honest l.shelf → KeepsDamage (shelf.content l.fn.shelf) (changed_by (shelf.content l.fn.shelf) l.pending);
-      whole : shelf.is_honest l.shelf → MeetsImportDamage (shelf.content l.fn.shelf) l.records → MeetsImportDamage (shelf.content l.fn.shelf) (drop l.index l.records);
+      whole : shelf.is_honest l.shelf → ¬ MeetsImportDamage (shelf.content l.fn.shelf) (take l.index l.records);
       leaves : LeavesAnyTiming l.pending;
       writes : (table : Table) → writes_in table l.pending + most_import_writes (drop l.index l.records) table ≤ most_import_writes l.records table;
       kept : IsKept shelf.is_honest shelf.content shelf.written shelf.may_leave l.fn.shelf l.shelf;

@@ -1,8 +1,11 @@
-use Rattle.std.proofs.Common.{◌≡◌, true, ap, refl, subst, arith}
+use Rattle.std.proofs.Common.{◌≡◌, ◌∙◌, ℕ, Bool, true, false, Option, Ok, ap, refl, subst, arith}
+use Rattle.std.specs.Prelude.{IsSome}
+use Rattle.cabinet_core.specs.Cabinet.{Line}
 use Rattle.office_desk.specs.Recording.{HasDamagedAbout}
-use Rattle.office_desk_cabinet.specs.Registers.{line_told, rows_told}
-use Rattle.office_desk.proofs.Imports.{added_whole, few_more, leaves_more, record_added, refused_whole, same_whole}
-use Rattle.office_desk.proofs.Recorded.{about_known}
+use Rattle.office_desk_cabinet.specs.Registers.{IsNamed, line_told, rows_told}
+use Rattle.office_desk.proofs.Imports.{added_whole, few_more, leaves_more, record_added, same_whole, unknown_whole}
+use Rattle.office_desk.specs.Step.{cabinet_of}
+use Rattle.office_desk.proofs.Recorded.{about_known, refused_named, tells_about, unknown_named}
 use Rattle.office_desk.proofs.importing.take_record.Goals as goal
 
 pub returns-in_ok-next-in-Added-clause-step : goal.returns-in_ok-next-in-Added-clause-step
@@ -24,7 +27,20 @@ returns-in_ok-next-in-Added-clause-writes g c = λ table.
     few_more table c.args.pending c.in-Added.rows.items _ _ _ (ap rows_told c.in-Added.is) c.in_ok-next-in-Added.ensures (c.in_ok-rows.ensures.writes table)
 
 pub returns-then-not-branch-clause-whole : goal.returns-then-not-branch-clause-whole
-returns-then-not-branch-clause-whole g c = λ honest. refused_whole _ c.args.pending c.args.command.now _
+returns-then-not-branch-clause-whole g c = λ honest.
+    let stored = g.S.Shelf.content c.args.shelf.now in
+    let test = c.if-not-branch.true in
+    let gone : c.in_ok-is_known.field-0 ≡ false = first_of (cc, grind arith) in
+    unknown_whole stored c.args.pending c.args.command.now
+    (subst (λ about. ¬ HasDamagedAbout stored about) c.cabinet_of.ensures (c.in_ok-is_known.ensures.whole honest))
+    (tells_about stored _ _ _ _ c.cabinet_of.ensures gone (c.in_ok-is_known.ensures.tells honest))
+
+pub returns-then-not-branch-clause-named : goal.returns-then-not-branch-clause-named
+returns-then-not-branch-clause-named g c =
+    let test = c.if-not-branch.true in
+    let gone : c.in_ok-is_known.field-0 ≡ false = first_of (cc, grind arith) in
+    unknown_named (cabinet_of c.args.command.now) _ (subst (λ (about : Option ℕ). IsSome about) c.cabinet_of.ensures
+    (c.is_known.ensures.asked (c.in_ok-is_known.was ∙ ap (λ (b : Bool). Ok b) gone)))
 
 pub returns-in_ok-next-in-Added-clause-whole : goal.returns-in_ok-next-in-Added-clause-whole
 returns-in_ok-next-in-Added-clause-whole g c = λ honest.
@@ -43,4 +59,14 @@ returns-in-Same-clause-whole g c = λ honest.
     (c.in_ok-rows.ensures.whole honest)
 
 pub returns-in-Refused-clause-whole : goal.returns-in-Refused-clause-whole
-returns-in-Refused-clause-whole g c = λ honest. refused_whole _ c.args.pending c.args.command.now _
+returns-in-Refused-clause-whole g c = λ honest.
+    let first = c.decide_record.ensures.kept.honest_before honest in
+    same_whole (g.S.Shelf.content c.args.shelf.now) (g.S.Shelf.content c.is_known.new.shelf) c.args.pending c.args.command.now
+    (c.is_known.ensures.kept.same_content first)
+    (subst (λ about. ¬ HasDamagedAbout (g.S.Shelf.content c.args.shelf.now) about) c.cabinet_of.ensures (c.in_ok-is_known.ensures.whole first))
+    (c.in_ok-rows.ensures.whole honest)
+
+pub returns-in-Refused-clause-named : goal.returns-in-Refused-clause-named
+returns-in-Refused-clause-named g c =
+    refused_named c.args.command.now c.in-Refused.refusal _ c.refused.ensures
+    (subst (λ (line : Line). IsNamed c.args.command.now line) (ap line_told c.in-Refused.is) c.in_ok-rows.ensures.named)
