@@ -57,6 +57,7 @@ pub(crate) fn decide_add<S: Shelf>(
 ) -> Result<Decided, ShelfFault>
     ensures decides { Decides (S.is_honest shelf.new) (S.content shelf.old) (Command.AddIntersection id interval name.now) result }
     ensures kept { IsKept S.is_honest S.content S.written S.may_leave shelf.old shelf.new }
+    ensures open { AnswersOpen S.is_clean S.is_honest result shelf.old shelf.new }
 {
     let row = intersection_row(shelf, alloc, id)?;
     let decided = added(alloc, id, interval, name, &row)?;

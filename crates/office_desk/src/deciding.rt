@@ -38,6 +38,8 @@ pub(crate) fn try_decide<S: Shelf>(
     ensures blames { IfOk result (λ decided. BlamesRightly (S.is_honest shelf.new)
         (S.content shelf.old) command.now decided.reply) }
     ensures kept { IsKept S.is_honest S.content S.written S.may_leave shelf.old shelf.new }
+    ensures open { StaysOpen S.is_clean S.is_honest (command.now ≢ Command.Import []) result shelf.old shelf.new }
+    ensures nothing { command.now ≡ Command.Import [] → IsOkAnd result AddsNothing }
 {
     match command {
         Command::AddIntersection { id, interval, name } => {

@@ -48,6 +48,7 @@ fn take_record<S: Shelf>(
     ensures leaves { IfOk result (λ taken. LeavesAnyTiming pending → LeavesAnyTiming taken.1) }
     ensures writes { IfOk result (λ taken. (table : Table) → writes_in table taken.1 ≤ writes_in table pending + most_record_writes command.now table) }
     ensures kept { IsKept S.is_honest S.content S.written S.may_leave shelf.old shelf.new }
+    ensures open { StaysOpen S.is_clean S.is_honest (pending ≡ []) result shelf.old shelf.new }
 {
     if !is_known(shelf, alloc, cabinet_of(command))? {
         return Ok((Taken::Refused(Refusal::UnknownIntersection), pending));
@@ -73,6 +74,8 @@ pub(crate) fn decide_import<S: Shelf>(
     ensures blames { IfOk result (λ decided. BlamesRightly (S.is_honest shelf.new)
         (S.content shelf.old) (Command.Import records.now) decided.reply) }
     ensures kept { IsKept S.is_honest S.content S.written S.may_leave shelf.old shelf.new }
+    ensures open { StaysOpen S.is_clean S.is_honest (records.now ≢ []) result shelf.old shelf.new }
+    ensures nothing { records.now ≡ [] → IsOkAnd result AddsNothing }
 {
     let mut pending = Pending::new(alloc);
     let mut added: usize = 0;

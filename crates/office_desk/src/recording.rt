@@ -43,6 +43,7 @@ pub(crate) fn is_known<S: Shelf>(
     ensures whole { IfOk result (λ _. S.is_honest shelf.new → ¬ HasDamagedAbout (S.content shelf.old) about) }
     ensures damaged { result ≡ Err ShelfFault.Damaged → S.is_honest shelf.new → HasDamagedAbout (S.content shelf.old) about }
     ensures kept { IsKept S.is_honest S.content S.written S.may_leave shelf.old shelf.new }
+    ensures open { StaysOpen S.is_clean S.is_honest (IsSome about) result shelf.old shelf.new }
 {
     let Some(id) = about else {
         return Ok(true);
@@ -84,6 +85,7 @@ pub(crate) fn decide_record_command<S: Shelf>(
 ) -> Result<Decided, ShelfFault>
     ensures decides { Decides (S.is_honest shelf.new) (S.content shelf.old) (Command.Record command.now) result }
     ensures kept { IsKept S.is_honest S.content S.written S.may_leave shelf.old shelf.new }
+    ensures open { AnswersOpen S.is_clean S.is_honest result shelf.old shelf.new }
 {
     if !is_known(shelf, alloc, cabinet_of(command))? {
         return Ok(Decided::refused(alloc, Refusal::UnknownIntersection));

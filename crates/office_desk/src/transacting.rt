@@ -79,6 +79,7 @@ pub(crate) fn transact<S: Shelf>(
 ) -> Result<Decided, ShelfFault>
     ensures decides { Decides (S.is_honest shelf.new) (S.content shelf.old) (command_of id clerk.now ask.entry) result }
     ensures kept { IsKept S.is_honest S.content S.written S.may_leave shelf.old shelf.new }
+    ensures open { AnswersOpen S.is_clean S.is_honest result shelf.old shelf.new }
 {
     let _name = clerk.as_str();
     let Some(found) = find(shelf, alloc, id, reach(ask))? else {

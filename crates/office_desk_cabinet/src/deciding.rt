@@ -32,6 +32,7 @@ pub fn decide_record<S: Shelf>(
     ensures writes { IfOk result (λ told. (table : Table) → writes_in table (rows_told told) ≤ most_record_writes command.now table) }
     ensures named { IfOk result (λ told. IsNamed command.now (line_told told)) }
     ensures kept { IsKept S.is_honest S.content S.written S.may_leave shelf.old shelf.new }
+    ensures open { StaysOpen S.is_clean S.is_honest (pending.now ≡ []) result shelf.old shelf.new }
 {
     match command {
         RecordCommand::Inspect { id, inspection } => {

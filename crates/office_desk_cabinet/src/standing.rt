@@ -41,6 +41,7 @@ pub(crate) fn inspection_at<S: Shelf>(
         ¬ HasDamagedInspectionAt (changed_by (S.content shelf.old) pending.now) id number) }
     ensures damaged { result ≡ Err ShelfFault.Damaged → S.is_honest shelf.new → HasDamagedInspectionAt (S.content shelf.old) id number }
     ensures kept { IsKept S.is_honest S.content S.written S.may_leave shelf.old shelf.new }
+    ensures open { StaysOpen S.is_clean S.is_honest (pending.now ≡ []) result shelf.old shelf.new }
 {
     if let Some(put) = pending.inspection(id, number)? {
         inspection_is_within(&put);
@@ -73,6 +74,7 @@ pub(crate) fn order_at<S: Shelf>(
         ¬ HasDamagedOrderAt (changed_by (S.content shelf.old) pending.now) id number) }
     ensures damaged { result ≡ Err ShelfFault.Damaged → S.is_honest shelf.new → HasDamagedOrderAt (S.content shelf.old) id number }
     ensures kept { IsKept S.is_honest S.content S.written S.may_leave shelf.old shelf.new }
+    ensures open { StaysOpen S.is_clean S.is_honest (pending.now ≡ []) result shelf.old shelf.new }
 {
     if let Some(put) = pending.order(id, number)? {
         order_is_within(&put);
@@ -106,6 +108,7 @@ pub(crate) fn line_at<S: Shelf>(
         ¬ HasDamagedUsedAt (changed_by (S.content shelf.old) pending.now) id order line) }
     ensures damaged { result ≡ Err ShelfFault.Damaged → S.is_honest shelf.new → HasDamagedUsedAt (S.content shelf.old) id order line }
     ensures kept { IsKept S.is_honest S.content S.written S.may_leave shelf.old shelf.new }
+    ensures open { StaysOpen S.is_clean S.is_honest (pending.now ≡ []) result shelf.old shelf.new }
 {
     if let Some(put) = pending.line(id, order, line)? {
         used_line_is_within(&put);
@@ -138,6 +141,7 @@ pub(crate) fn hand_at<S: Shelf>(
         ¬ HasDamagedHand (changed_by (S.content shelf.old) pending.now) part.now) }
     ensures damaged { result ≡ Err ShelfFault.Damaged → S.is_honest shelf.new → HasDamagedHand (S.content shelf.old) part.now }
     ensures kept { IsKept S.is_honest S.content S.written S.may_leave shelf.old shelf.new }
+    ensures open { StaysOpen S.is_clean S.is_honest (pending.now ≡ []) result shelf.old shelf.new }
 {
     if let Some(put) = pending.hand(part) {
         let there = Some(put);
@@ -171,6 +175,7 @@ pub(crate) fn delivery_at<S: Shelf>(
         ¬ HasDamagedDelivery (changed_by (S.content shelf.old) pending.now) part.now number) }
     ensures damaged { result ≡ Err ShelfFault.Damaged → S.is_honest shelf.new → HasDamagedDelivery (S.content shelf.old) part.now number }
     ensures kept { IsKept S.is_honest S.content S.written S.may_leave shelf.old shelf.new }
+    ensures open { StaysOpen S.is_clean S.is_honest (pending.now ≡ []) result shelf.old shelf.new }
 {
     if let Some(put) = pending.delivery(part, number)? {
         delivery_is_within(&put);

@@ -45,6 +45,7 @@ pub(crate) fn decide_use_part<S: Shelf>(
     ensures writes { IfOk result (λ told. (table : Table) → writes_in table (rows_told told) ≤ most_record_writes (RecordCommand.UsePart id line.now) table) }
     ensures named { IfOk result (λ told. IsNamed (RecordCommand.UsePart id line.now) (line_told told)) }
     ensures kept { IsKept S.is_honest S.content S.written S.may_leave shelf.old shelf.new }
+    ensures open { StaysOpen S.is_clean S.is_honest (pending.now ≡ []) result shelf.old shelf.new }
 {
     let hand = hand_at(shelf, alloc, pending, &line.part)?;
     let there = line_at(shelf, alloc, pending, id, line.order, line.line)?;
@@ -113,6 +114,7 @@ pub(crate) fn decide_receive<S: Shelf>(
     ensures writes { IfOk result (λ told. (table : Table) → writes_in table (rows_told told) ≤ most_record_writes (RecordCommand.Receive delivery.now) table) }
     ensures named { IfOk result (λ told. IsNamed (RecordCommand.Receive delivery.now) (line_told told)) }
     ensures kept { IsKept S.is_honest S.content S.written S.may_leave shelf.old shelf.new }
+    ensures open { StaysOpen S.is_clean S.is_honest (pending.now ≡ []) result shelf.old shelf.new }
 {
     let hand = hand_at(shelf, alloc, pending, &delivery.part)?;
     let there = delivery_at(shelf, alloc, pending, &delivery.part, delivery.number)?;
@@ -130,6 +132,7 @@ pub fn stock<S: Shelf>(shelf: &mut S, alloc: Global) -> Result<Vec<(PartCode, Ha
     ensures damaged { result ≡ Err ShelfFault.Damaged → S.is_honest shelf.new →
         HasDamagedPart (S.content shelf.old) }
     ensures kept { IsKept S.is_honest S.content S.written S.may_leave shelf.old shelf.new }
+    ensures open { AnswersOpen S.is_clean S.is_honest result shelf.old shelf.new }
 {
     let parts = parts_of(shelf, alloc)?;
     Ok(parts)
