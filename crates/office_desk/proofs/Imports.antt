@@ -1,5 +1,5 @@
 -- The records of an import, one after the other.
-use Rattle.std.proofs.Common.{◌≡◌, ◌+◌, ◌++◌, ◌≤◌, ◌<◌, ℕ, Bool, true, false, List, [], ◌∷◌, Option, Some, None, Result, Ok, length, drop, get_or, zero, suc, refl, ap, sym, subst, ◌∙◌, inl, inr, arith}
+use Rattle.std.proofs.Common.{◌≡◌, ◌+◌, ◌++◌, ◌≤◌, ◌<◌, ◌≢◌, ℕ, Bool, true, false, List, [], ◌∷◌, Option, Some, None, Result, Ok, length, drop, get_or, zero, suc, refl, ap, sym, subst, ◌∙◌, inl, inr, arith}
 use Rattle.std.proofs.Math.Seq.{drop-cons}
 use Rattle.std.specs.Prelude.{◌⊎◌}
 use Rattle.cabinet_core.specs.Cabinet.{Line, added as added_line, same as same_line, refused as refused_line}
@@ -7,6 +7,9 @@ use Rattle.cabinet_core.specs.declared.command.RecordCommand.{RecordCommand}
 use Rattle.office_tables_shelf.specs.Change.{changed_by}
 use Rattle.office_tables_shelf.specs.Content.{Content}
 use Rattle.office_tables_shelf.specs.Counts.{writes_in}
+use Rattle.office_tables_shelf.specs.Shelf.{IsTold}
+use Rattle.office_tables_shelf.specs.declared.shelf.ShelfFault.{ShelfFault}
+use Rattle.office_desk_cabinet.specs.Open.{StaysOpen}
 use Rattle.office_tables_shelf.specs.declared.rows.RowChange.{RowChange}
 use Rattle.office_tables_shelf.specs.declared.rows.Table.{Table}
 use Rattle.cabinet_core.specs.Register.{Register}
@@ -247,6 +250,29 @@ nothing_written table pending records none = let zero_writes = ap (writes_in tab
 -- a record that was taken on the tables as they were stored
 pub same_stored : (before : List RowChange) (c : RecordCommand) (t : Taken) (after : List RowChange) {stored seen : Content} → seen ≡ stored → TakesRecord seen before c t after → TakesRecord stored before c t after
 same_stored before c t after same takes = subst (λ s. TakesRecord s before c t after) same takes
+
+-- ---- on a clean disk
+
+first_or_later : (n : ℕ) → (n ≡ 0) ⊎ (n ≢ 0)
+first_or_later zero = inl refl
+first_or_later (suc n) = inr (λ e. let never : ⊥ = omega (arith, e) in never)
+
+-- the first record is read, and a later one leaves open what was open
+pub taken_open : {S A : Type 0} (is_clean is_honest : S → Type 0) (pending : List RowChange) (index : ℕ) (result : Result A ShelfFault) (old new : S) → (index ≡ 0 → pending ≡ []) → (is_clean old → index ≢ 0 → is_honest old)
+    → StaysOpen is_clean is_honest (pending ≡ []) result old new → is_clean new → IsTold result → is_honest new
+taken_open is_clean is_honest pending index result old new fresh read open clean told =
+    elim (first_or_later index) [
+      | inl start ↦ open.read (fresh start) clean told
+      | inr later ↦ open.stays clean told (read (open.clean_before clean) later)
+    ]
+
+pub none_next : (records : List RecordCommand) (n : ℕ) → n < length records → records ≢ []
+none_next records n low none = let few = ap (λ (list : List RecordCommand). length list) none in omega (arith, low, few)
+
+-- after the last of some records, some were read
+pub some_read : (records : List RecordCommand) (n : ℕ) → length records ≤ n → records ≢ [] → n ≢ 0
+some_read [] n high some = absurd (some refl)
+some_read (c ∷ cs) n high some = λ e. let never : ⊥ = omega (arith, high, e) in never
 
 -- ---- the decision
 

@@ -215,9 +215,11 @@ fault_shut is_honest command NoMemory decided reads some told none = inr (record
 fault_shut is_honest command Store decided reads some told none = inr (record { idle = inl told; no_changes = none })
 fault_shut is_honest command Damaged decided reads some told none = inl (reads refl some)
 
--- an import of no records meets no fault
-pub never_fails : (command : Command) (fault : ShelfFault) (result : Result Decided ShelfFault) → result ≡ Err fault → (command ≡ command.Import [] → IsOkAnd result AddsNothing) → command ≢ command.Import []
-never_fails command fault result failed nothing none = subst (λ (r : Result Decided ShelfFault). IsOkAnd r AddsNothing) failed (nothing none)
+-- a fault as a refusal
+pub refusal_shut : {A : Type 0} (is_honest : Type 0) (fault : ShelfFault) (result : Result A Refusal) → (fault ≡ Damaged → is_honest) → result ≡ Err (refusal_of fault) → is_honest ⊎ (result ≡ Err Unavailable)
+refusal_shut is_honest NoMemory result told is = inr is
+refusal_shut is_honest Store result told is = inr is
+refusal_shut is_honest Damaged result told is = inl (told refl)
 
 -- what is answered on a clean disk alone
 pub answered_clean : (is_clean is_honest : Type 0) (tables : Content) (command : Command) (decided : Decided) → (is_clean → is_honest ⊎ DecidesIdly command decided)

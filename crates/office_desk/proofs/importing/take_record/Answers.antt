@@ -70,3 +70,16 @@ pub returns-in-Refused-clause-named : goal.returns-in-Refused-clause-named
 returns-in-Refused-clause-named g c =
     refused_named c.args.command.now c.in-Refused.refusal _ c.refused.ensures
     (subst (λ (line : Line). IsNamed c.args.command.now line) (ap line_told c.in-Refused.is) c.in_ok-rows.ensures.named)
+
+-- ---- on a clean disk
+
+pub returns-then-not-branch-clause-open : goal.returns-then-not-branch-clause-open
+returns-then-not-branch-clause-open g c =
+    let test = c.if-not-branch.true in
+    let gone : c.in_ok-is_known.field-0 ≡ false = first_of (cc, grind arith) in
+    let asked = c.is_known.ensures.asked (c.in_ok-is_known.was ∙ ap (λ (b : Bool). Ok b) gone) in
+    record {
+      clean_before = c.in_ok-is_known.ensures.open.clean_before;
+      stays = λ clean told honest. c.in_ok-is_known.ensures.open.read asked clean tt;
+      read = λ none clean told. c.in_ok-is_known.ensures.open.read asked clean tt;
+    }
