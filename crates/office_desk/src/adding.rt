@@ -1,6 +1,6 @@
 //! The command AddIntersection.
 ghost use Rattle.std.specs.Prelude.{IfOk};
-ghost use Rattle.office_tables_shelf.specs.Shelf.{IsKept};
+ghost use Rattle.office_tables_shelf.specs.Shelf.{AnswersOpen, IsKept};
 ghost use Rattle.office_desk.specs.Adding.{AddsRow};
 ghost use Rattle.office_desk.specs.Deciding.{Decides};
 

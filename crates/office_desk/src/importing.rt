@@ -1,11 +1,12 @@
 //! Imports: records of the register decided in turn, each after those before it.
-ghost use Rattle.std.specs.Prelude.{◌≡◌, ◌≤◌, ◌+◌, IfOk};
+ghost use Rattle.std.specs.Prelude.{◌≡◌, ◌≤◌, ◌+◌, IfOk, ◌≢◌, [], IsOkAnd};
 ghost use Rattle.office_tables_shelf.specs.Counts.{writes_in};
 ghost use Rattle.office_tables_shelf.specs.Shelf.{IsKept};
+ghost use Rattle.office_desk_cabinet.specs.Open.{StaysOpen};
 ghost use Rattle.office_tables_shelf.specs.declared.rows.Table.{Table};
 ghost use Rattle.office_desk_cabinet.specs.Registers.{most_record_writes};
 ghost use Rattle.office_desk.specs.Blaming.{BlamesRightly};
-ghost use Rattle.office_desk.specs.Deciding.{Decides};
+ghost use Rattle.office_desk.specs.Deciding.{AddsNothing, Decides};
 ghost use Rattle.office_desk.specs.Damage.{MeetsCabinetDamage};
 ghost use Rattle.office_desk.specs.Importing.{IsNamedTaken, LeavesAnyTiming};
 ghost use Rattle.office_desk.specs.Importing.{TakesRecord, TakesWhole};
@@ -48,7 +49,8 @@ fn take_record<S: Shelf>(
     ensures leaves { IfOk result (λ taken. LeavesAnyTiming pending → LeavesAnyTiming taken.1) }
     ensures writes { IfOk result (λ taken. (table : Table) → writes_in table taken.1 ≤ writes_in table pending + most_record_writes command.now table) }
     ensures kept { IsKept S.is_honest S.content S.written S.may_leave shelf.old shelf.new }
-    ensures open { StaysOpen S.is_clean S.is_honest (pending ≡ []) result shelf.old shelf.new }
+    ensures open { StaysOpen S.is_clean S.is_honest (pending ≡ [])
+        result shelf.old shelf.new }
 {
     if !is_known(shelf, alloc, cabinet_of(command))? {
         return Ok((Taken::Refused(Refusal::UnknownIntersection), pending));
@@ -74,7 +76,8 @@ pub(crate) fn decide_import<S: Shelf>(
     ensures blames { IfOk result (λ decided. BlamesRightly (S.is_honest shelf.new)
         (S.content shelf.old) (Command.Import records.now) decided.reply) }
     ensures kept { IsKept S.is_honest S.content S.written S.may_leave shelf.old shelf.new }
-    ensures open { StaysOpen S.is_clean S.is_honest (records.now ≢ []) result shelf.old shelf.new }
+    ensures open { StaysOpen S.is_clean S.is_honest (records.now ≢ [])
+        result shelf.old shelf.new }
     ensures nothing { records.now ≡ [] → IsOkAnd result AddsNothing }
 {
     let mut pending = Pending::new(alloc);

@@ -1,7 +1,8 @@
 //! What is read of an intersection.
-ghost use Rattle.std.specs.Prelude.{◌≡◌, IfOk, IfSome, map};
+ghost use Rattle.std.specs.Prelude.{◌≡◌, IfOk, IfSome, map, ◌≢◌};
 ghost use Rattle.office_tables_shelf.specs.Damage.{HasDamagedIntersection, HasDamagedTiming};
-ghost use Rattle.office_tables_shelf.specs.Shelf.{IsKept, ReadsIntersection};
+ghost use Rattle.office_tables_shelf.specs.Shelf.{AnswersOpen, IsKept, ReadsIntersection};
+ghost use Rattle.office_desk_cabinet.specs.Open.{StaysOpen};
 ghost use Rattle.office_desk.specs.Damage.{HasDamageIn, HasDamagedPlan};
 ghost use Rattle.office_desk.specs.Office.{Office, side_at};
 ghost use Rattle.office_desk.specs.Reading.{AreWithin, FindsAny, IsMadeOf};
@@ -126,7 +127,8 @@ fn plan_rows<S: Shelf>(
     ensures damaged { result ≡ Err ShelfFault.Damaged → S.is_honest shelf.new →
         HasDamagedPlan reach (S.content shelf.old) id }
     ensures kept { IsKept S.is_honest S.content S.written S.may_leave shelf.old shelf.new }
-    ensures open { StaysOpen S.is_clean S.is_honest (reach ≢ Reach.Row) result shelf.old shelf.new }
+    ensures open { StaysOpen S.is_clean S.is_honest (reach ≢ Reach.Row)
+        result shelf.old shelf.new }
 {
     match reach {
         Reach::Row => return Ok((Vec::new(alloc), Vec::new(alloc))),

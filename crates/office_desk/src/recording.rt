@@ -1,6 +1,7 @@
 //! The commands of the register.
 ghost use Rattle.std.specs.Prelude.{◌≡◌, false, IfOk, IsSome, Ok, Err};
-ghost use Rattle.office_tables_shelf.specs.Shelf.{IsKept};
+ghost use Rattle.office_tables_shelf.specs.Shelf.{AnswersOpen, IsKept};
+ghost use Rattle.office_desk_cabinet.specs.Open.{StaysOpen};
 ghost use Rattle.office_desk_cabinet.specs.Registers.{line_told, rows_told};
 ghost use Rattle.office_desk.specs.Deciding.{Decides};
 ghost use Rattle.office_desk.specs.Recording.{IsKnownIn, HasDamagedAbout, TellsAbout};
@@ -43,7 +44,8 @@ pub(crate) fn is_known<S: Shelf>(
     ensures whole { IfOk result (λ _. S.is_honest shelf.new → ¬ HasDamagedAbout (S.content shelf.old) about) }
     ensures damaged { result ≡ Err ShelfFault.Damaged → S.is_honest shelf.new → HasDamagedAbout (S.content shelf.old) about }
     ensures kept { IsKept S.is_honest S.content S.written S.may_leave shelf.old shelf.new }
-    ensures open { StaysOpen S.is_clean S.is_honest (IsSome about) result shelf.old shelf.new }
+    ensures open { StaysOpen S.is_clean S.is_honest (IsSome about)
+        result shelf.old shelf.new }
 {
     let Some(id) = about else {
         return Ok(true);

@@ -1,5 +1,5 @@
 //! The queries Cabinet, OpenOrders and Stock.
-ghost use Rattle.office_tables_shelf.specs.Shelf.{IsKept};
+ghost use Rattle.office_tables_shelf.specs.Shelf.{AnswersOpen, IsKept};
 ghost use Rattle.office_desk.specs.Deciding.{Decides};
 
 use crate::command::Command;

@@ -1,7 +1,8 @@
 //! The queries State, Timing and Draft.
 ghost use Rattle.std.specs.Prelude.{◌≡◌, ◌≢◌, ◌∷◌, [], Some, IfOk};
 ghost use Rattle.draft_core.specs.Transaction.{state_of_holder};
-ghost use Rattle.office_tables_shelf.specs.Shelf.{IsKept};
+ghost use Rattle.office_tables_shelf.specs.Shelf.{AnswersOpen, IsKept};
+ghost use Rattle.office_desk_cabinet.specs.Open.{StaysOpen};
 ghost use Rattle.office_desk.specs.Deciding.{Decides};
 ghost use Rattle.office_desk.specs.Damage.{HasDamage, IsDone};
 ghost use Rattle.office_desk.specs.Decisions.{row_shown, IsVerdictOf, ShowsDraft};
@@ -66,7 +67,8 @@ fn verdict_at<S: Shelf>(
         IsDone row.now → ¬ HasDamage (S.content shelf.old) id) }
     ensures damaged { result ≡ Err ShelfFault.Damaged → S.is_honest shelf.new → IsDone row.now × HasDamage (S.content shelf.old) id }
     ensures kept { IsKept S.is_honest S.content S.written S.may_leave shelf.old shelf.new }
-    ensures open { StaysOpen S.is_clean S.is_honest (IsDone row.now) result shelf.old shelf.new }
+    ensures open { StaysOpen S.is_clean S.is_honest (IsDone row.now)
+        result shelf.old shelf.new }
 {
     let Some(holder) = &row.holder else {
         return Ok(Verdict::NotDone);

@@ -2,7 +2,7 @@
 ghost use Rattle.std.specs.Prelude.{◌≡◌, length, IfOk};
 ghost use Rattle.draft_core.specs.Moves.{FollowsSoundLine, RefusesFirst, drafted_in};
 ghost use Rattle.draft_core.specs.Within.{AreChangesWithin};
-ghost use Rattle.office_tables_shelf.specs.Shelf.{IsKept};
+ghost use Rattle.office_tables_shelf.specs.Shelf.{AnswersOpen, IsKept};
 ghost use Rattle.office_desk.specs.Deciding.{Decides};
 ghost use Rattle.office_desk.specs.Transacting.{IsAskWithin, IsBounded, IsLater, command_of};
 ghost use Rattle.office_desk.specs.Transacting.{first_refusal, line_of, reach_of};

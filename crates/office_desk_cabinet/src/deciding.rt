@@ -1,8 +1,9 @@
 //! The commands of the register, decided.
-ghost use Rattle.std.specs.Prelude.{◌≤◌, IfOk};
+ghost use Rattle.std.specs.Prelude.{◌≤◌, IfOk, ◌≡◌, []};
 ghost use Rattle.office_tables_shelf.specs.Content.{Content};
 ghost use Rattle.office_tables_shelf.specs.Counts.{writes_in};
 ghost use Rattle.office_tables_shelf.specs.Shelf.{IsKept};
+ghost use Rattle.office_desk_cabinet.specs.Open.{StaysOpen};
 ghost use Rattle.office_tables_shelf.specs.declared.rows.Table.{Table};
 ghost use Rattle.office_desk_cabinet.specs.RegisterDamage.{IsWhole, SparesDamage};
 ghost use Rattle.office_desk_cabinet.specs.Registers.{IsNamed, LeavesTiming, Registers, line_told, most_record_writes, rows_told};
@@ -32,7 +33,8 @@ pub fn decide_record<S: Shelf>(
     ensures writes { IfOk result (λ told. (table : Table) → writes_in table (rows_told told) ≤ most_record_writes command.now table) }
     ensures named { IfOk result (λ told. IsNamed command.now (line_told told)) }
     ensures kept { IsKept S.is_honest S.content S.written S.may_leave shelf.old shelf.new }
-    ensures open { StaysOpen S.is_clean S.is_honest (pending.now ≡ []) result shelf.old shelf.new }
+    ensures open { StaysOpen S.is_clean S.is_honest (pending.now ≡ [])
+        result shelf.old shelf.new }
 {
     match command {
         RecordCommand::Inspect { id, inspection } => {

@@ -4,7 +4,7 @@ ghost use Rattle.office_tables_shelf.specs.CabinetReads.{ListsInspections, HasDa
 ghost use Rattle.office_tables_shelf.specs.CabinetReads.{ListsOrders, HasDamagedOrder};
 ghost use Rattle.office_tables_shelf.specs.CabinetReads.{ListsUsed, HasDamagedUsed};
 ghost use Rattle.office_tables_shelf.specs.CabinetReads.{ListsParts, HasDamagedPart};
-ghost use Rattle.office_tables_shelf.specs.Shelf.{IsKept};
+ghost use Rattle.office_tables_shelf.specs.Shelf.{AnswersOpen, IsKept};
 
 use cabinet_core::{Hand, Inspection, Order, Ordered, PartCode, UsedLine};
 use office_tables_shelf::shelf::{Shelf, ShelfFault};

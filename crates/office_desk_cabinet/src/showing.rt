@@ -4,7 +4,7 @@ ghost use Rattle.cabinet_core.specs.Orders.{is_open, open_at};
 ghost use Rattle.cabinet_core.specs.Register.{Register};
 ghost use Rattle.cabinet_core.specs.declared.record.Order.{Order};
 ghost use Rattle.office_tables_shelf.specs.CabinetReads.{HasDamagedOrder};
-ghost use Rattle.office_tables_shelf.specs.Shelf.{IsKept};
+ghost use Rattle.office_tables_shelf.specs.Shelf.{AnswersOpen, IsKept};
 ghost use Rattle.office_desk_cabinet.specs.RegisterDamage.{HasDamagedCabinet};
 ghost use Rattle.office_desk_cabinet.specs.RegisterStands.{RegisterStandsSound};
 ghost use Rattle.office_desk_cabinet.specs.Registers.{ShowsCabinet};
