@@ -3,4 +3,5 @@ pub mod RegisterDamage
 pub mod Puts
 pub mod Registers
 pub mod Telling
+pub mod Lines
 pub mod Stocking
