@@ -1,4 +1,5 @@
 -- Which record of an import is blamed.
+use Rattle.std.specs.Prelude.{◌⊎◌}
 use Rattle.std.proofs.Common.{◌≡◌, ◌≢◌, ◌+◌, ◌++◌, ◌<◌, ℕ, List, [], ◌∷◌, drop, get_or, take, length, ap, inl, inr, sym, subst, ◌∙◌}
 use Rattle.std.proofs.lemmas.List.{take_more}
 use Rattle.cabinet_core.specs.declared.command.RecordCommand.{RecordCommand}
@@ -6,15 +7,17 @@ use Rattle.office_tables_shelf.specs.Content.{Content}
 use Rattle.office_tables_shelf.specs.declared.shelf.ShelfFault.{ShelfFault}
 use Rattle.office_tables_shelf.specs.declared.shelf.ShelfFault.TheVariants.{NoMemory, Store, Damaged}
 use Rattle.office_desk_cabinet.specs.Registers.{IsOneOf}
-use Rattle.office_desk.specs.Blaming.{Blames, BlamesRightly}
+use Rattle.office_tables_shelf.specs.declared.rows.RowChange.{RowChange}
+use Rattle.office_desk.specs.Blaming.{AreTaken, Blames, BlamesRightly, IsFirstRefused, IsTakenAfter}
 use Rattle.office_desk.specs.Damage.{MeetsCabinetDamage, MeetsImportDamage}
 use Rattle.office_desk.specs.Decisions.{refusal_of}
-use Rattle.office_desk.specs.Importing.{IsNamedTaken}
+use Rattle.office_desk.specs.Importing.{IsNamedTaken, TakesLine}
 use Rattle.office_desk.specs.Named.{number_of, numbers_of}
 use Rattle.office_desk.specs.Refusal.{line_of}
 use Rattle.office_desk.specs.Step.{cabinet_of}
 use Rattle.office_desk.specs.declared.command.Command.{Command}
 use Rattle.office_desk.specs.declared.command.Command.TheVariants as command
+use Rattle.office_desk.specs.declared.importing.Taken.{Taken}
 use Rattle.office_desk.specs.declared.importing.Taken.TheVariants as taken
 use Rattle.office_desk.specs.declared.refusal.Refusal.{Refusal}
 use Rattle.office_desk.specs.declared.refusal.Refusal.TheVariants as refusal
@@ -62,39 +65,56 @@ blames_later now first tables command said earlier blames records at cause asked
       stands = is.stands;
       place = is.place;
       named = is.named;
-      whole = λ honest. is.whole (earlier honest);
+      first = λ honest. is.first (earlier honest);
     }
 
 -- one record more that meets no damaged row
-none_met : (tables : Content) (before : List RecordCommand) (c : RecordCommand) → ¬ MeetsImportDamage tables before → ¬ MeetsCabinetDamage tables c (cabinet_of c) → ¬ MeetsImportDamage tables (before ++ c ∷ [])
+pub none_met : (tables : Content) (before : List RecordCommand) (c : RecordCommand) → ¬ MeetsImportDamage tables before → ¬ MeetsCabinetDamage tables c (cabinet_of c) → ¬ MeetsImportDamage tables (before ++ c ∷ [])
 none_met tables [] c none never (inl damage) = never damage
 none_met tables [] c none never (inr damage) = damage
 none_met tables (b ∷ bs) c none never (inl damage) = none (inl damage)
 none_met tables (b ∷ bs) c none never (inr later) = none_met tables bs c (λ damage. none (inr damage)) never later
 
-pub none_through : (tables : Content) (records : List RecordCommand) (n : ℕ) (c : RecordCommand) → n < length records → c ≡ get_or records n c
-    → ¬ MeetsImportDamage tables (take n records) → ¬ MeetsCabinetDamage tables c (cabinet_of c) → ¬ MeetsImportDamage tables (take (n + 1) records)
-none_through tables records n c low at none never =
-    subst (λ list. ¬ MeetsImportDamage tables list) (sym (take_more records n c low ∙ ap (λ x. take n records ++ x ∷ []) (sym at)))
-    (none_met tables (take n records) c none never)
+-- one more that is taken
+pub taken_more : (stored : Content) (first mid after : List RowChange) (before : List RecordCommand) (c : RecordCommand) (rows : List RowChange) → AreTaken stored first before mid → IsTakenAfter stored mid c rows → after ≡ mid ++ rows
+    → AreTaken stored first (before ++ c ∷ []) after
+taken_more stored first mid after [] c rows taken now list =
+    let same : mid ≡ first = taken in
+    (rows, subst (λ (m : List RowChange). IsTakenAfter stored m c rows) same now, list ∙ ap (λ (m : List RowChange). m ++ rows) same)
+taken_more stored first mid after (b ∷ bs) c rows taken now list = (taken.0, taken.1, taken_more stored (first ++ taken.0) mid after bs c rows taken.2 now list)
+
+pub taken_next : (stored : Content) (before : List RowChange) (c : RecordCommand) (t : Taken) (after : List RowChange) (records : List RecordCommand) (added_now added same_now same : ℕ)
+    → (((t ≡ taken.Added) × (added_now ≡ added + 1) × (same_now ≡ same)) ⊎ ((t ≡ taken.Same) × (added_now ≡ added) × (same_now ≡ same + 1)))
+    → TakesLine stored before c t after → AreTaken stored [] records before → AreTaken stored [] (records ++ c ∷ []) after
+taken_next stored before c t after records added_now added same_now same (inl new) takes so_far =
+    let now = subst (λ (k : Taken). TakesLine stored before c k after) new.0 takes in
+    taken_more stored [] before after records c now.0 so_far (inl now.1) now.2
+taken_next stored before c t after records added_now added same_now same (inr old) takes so_far =
+    let now = subst (λ (k : Taken). TakesLine stored before c k after) old.0 takes in
+    taken_more stored [] before after records c now.0 so_far (inr now.1) now.2
+
+-- the records up to the next one
+pub one_further : (records : List RecordCommand) (n : ℕ) (c : RecordCommand) → n < length records → c ≡ get_or records n c → take (n + 1) records ≡ take n records ++ c ∷ []
+one_further records n c low at = take_more records n c low ∙ ap (λ (x : RecordCommand). take n records ++ x ∷ []) (sym at)
 
 -- the record that is refused is the next one
 pub blames_next : (is_honest : Type 0) (tables : Content) (all : List RecordCommand) (index at cause : ℕ) (c : RecordCommand) (why : Refusal) (said : Reply) → drop index all ≡ c ∷ drop (index + 1) all
     → at ≡ index + 1 → cause ≡ (line_of why).number → said ≡ Refused (ImportRow at cause) → IsNamedTaken c (taken.Refused why)
-    → (is_honest → ¬ MeetsImportDamage tables (take (index + 1) all)) → BlamesRightly is_honest tables (command.Import all) said
-blames_next is_honest tables all index at cause c why said next place number is named whole records told other asked refused =
+    → (is_honest → IsFirstRefused tables (take index all) c (number_of why)) → BlamesRightly is_honest tables (command.Import all) said
+blames_next is_honest tables all index at cause c why said next place number is named first records told other asked refused =
     let imports : command.Import all ≡ command.Import records = asked in
     let same : all ≡ records = cc in
     let both : Refused (ImportRow at cause) ≡ Refused (ImportRow told other) = sym is ∙ refused in
     let places : at ≡ told = cc in
     let causes : cause ≡ other = cc in
+    let numbers : (line_of why).number ≡ other = sym number ∙ causes in
     record {
       before = index;
       blamed = c;
       after = drop (index + 1) all;
       stands = subst (λ (list : List RecordCommand). drop index list ≡ c ∷ drop (index + 1) all) same next;
       place = sym places ∙ place;
-      named = subst (IsOneOf (numbers_of (command.Record c))) (sym number ∙ causes) named;
-      whole = λ honest. subst (λ (list : List RecordCommand). ¬ MeetsImportDamage tables (take told list)) same
-          (subst (λ n. ¬ MeetsImportDamage tables (take n all)) (sym place ∙ places) (whole honest));
+      named = subst (IsOneOf (numbers_of (command.Record c))) numbers named;
+      first = λ honest. subst (λ (list : List RecordCommand). IsFirstRefused tables (take index list) c other) same
+          (subst (λ (n : ℕ). IsFirstRefused tables (take index all) c n) numbers (first honest));
     }

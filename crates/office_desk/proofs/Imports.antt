@@ -1,5 +1,5 @@
 -- The records of an import, one after the other.
-use Rattle.std.proofs.Common.{◌≡◌, ◌+◌, ◌++◌, ◌≤◌, ◌<◌, ◌≢◌, ℕ, Bool, true, false, List, [], ◌∷◌, Option, Some, None, Result, Ok, length, drop, get_or, zero, suc, refl, ap, sym, subst, ◌∙◌, inl, inr, arith}
+use Rattle.std.proofs.Common.{◌≡◌, ◌+◌, ◌++◌, ◌≤◌, ◌<◌, ◌≢◌, ℕ, Bool, true, false, List, [], ◌∷◌, Option, Some, None, Result, Ok, length, drop, get_or, zero, suc, refl, ap, sym, subst, ◌∙◌, inl, inr, arith, subst₂, append-nil}
 use Rattle.std.proofs.Math.Seq.{drop-cons}
 use Rattle.std.specs.Prelude.{◌⊎◌}
 use Rattle.cabinet_core.specs.Cabinet.{Line, added as added_line, same as same_line, refused as refused_line}
@@ -18,18 +18,23 @@ use Rattle.office_desk_cabinet.proofs.KeptDamage.{meets_still, nothing_kept}
 use Rattle.office_desk_cabinet.specs.RegisterDamage.{KeepsDamage, MeetsRecordDamage, SparesDamage}
 use Rattle.office_desk_cabinet.specs.Registers.{RegistersFrom, line_told, most_record_writes, rows_told}
 use Rattle.office_desk_cabinet.specs.RegisterStands.{RegisterStandsSound}
+use Rattle.office_desk_cabinet.specs.Lines.{TellsLine}
 use Rattle.office_desk_cabinet.specs.declared.registered.Registered.{Registered}
+use Rattle.office_desk_cabinet.specs.declared.registered.Registered.TheVariants as registered
+use Rattle.cabinet_core.specs.declared.refusal.CabinetRefusal.{CabinetRefusal}
 use Rattle.office_desk_cabinet.proofs.PendingLemmas.{changed_append}
 use Rattle.office_desk.specs.Answers.{AnswersAny}
 use Rattle.office_desk.specs.Changes.{IsRefused, most_import_writes, most_writes}
 use Rattle.office_desk.specs.Damage.{MeetsCabinetDamage, MeetsImportDamage}
 use Rattle.office_desk.specs.Deciding.{IsDecision}
-use Rattle.office_desk.specs.Importing.{ImportsAny, LeavesAnyTiming, TakesFrom, TakesRecord, TakesWhole, goes_on}
+use Rattle.office_desk.specs.Importing.{ImportsAny, LeavesAnyTiming, TakesFrom, TakesLine, TakesRecord, TakesWhole, goes_on}
 use Rattle.office_desk.specs.Office.{Office}
 use Rattle.office_desk.specs.Recording.{HasDamagedAbout, TellsAbout}
 use Rattle.office_desk.specs.Refusal.{line_of}
 use Rattle.office_desk.specs.StandFor.{StandForSound}
-use Rattle.office_desk.specs.Step.{cabinet_of, import_by, import_from, imported, is_known}
+use Rattle.office_desk.specs.Blaming.{IsRefusedAfter}
+use Rattle.office_desk.specs.Named.{number_of}
+use Rattle.office_desk.specs.Step.{cabinet_of, import_by, import_from, imported, is_known, refusal_of_record}
 use Rattle.office_desk.specs.declared.command.Command.TheVariants as command
 use Rattle.office_desk.specs.declared.decided.Decided.{Decided}
 use Rattle.office_desk.specs.declared.importing.Taken.{Taken}
@@ -238,6 +243,33 @@ never_met stored before c after spared takes = go takes.whole
     go : TellsAbout stored (cabinet_of c) false ⊎ (¬ MeetsRecordDamage (changed_by stored before) c) → ¬ MeetsCabinetDamage stored c (cabinet_of c)
     go (inl gone) = gone_whole stored c (cabinet_of c) gone takes.about
     go (inr whole) = record_whole stored c (cabinet_of c) takes.about (λ met. whole (meets_still stored (changed_by stored before) c spared met))
+
+-- ---- the line, on the rows under a record's keys
+
+pub line_added : (stored seen : Content) (before rows after : List RowChange) (told : Registered) (c : RecordCommand) → seen ≡ stored → TellsAbout stored (cabinet_of c) true
+    → line_told told ≡ added_line → rows_told told ≡ rows → TellsLine (changed_by seen before) c (line_told told) (rows_told told) → after ≡ before ++ rows → TakesLine stored before c taken.Added after
+line_added stored seen before rows after told c same there is those line list = (
+  rows,
+  (there, subst (λ (t : Content). TellsLine (changed_by t before) c added_line rows) same (subst₂ (λ (l : Line) (r : List RowChange). TellsLine (changed_by seen before) c l r) is those line)),
+  list,
+)
+
+pub line_same : (stored seen : Content) (before : List RowChange) (told : Registered) (c : RecordCommand) → seen ≡ stored → TellsAbout stored (cabinet_of c) true
+    → told ≡ registered.Same → TellsLine (changed_by seen before) c (line_told told) (rows_told told) → TakesLine stored before c taken.Same before
+line_same stored seen before told c same there is line = (
+  [],
+  (there, subst (λ (t : Content). TellsLine (changed_by t before) c same_line []) same (subst (λ (d : Registered). TellsLine (changed_by seen before) c (line_told d) (rows_told d)) is line)),
+  sym (append-nil before),
+)
+
+pub line_refused : (stored seen : Content) (before : List RowChange) (told : Registered) (c : RecordCommand) (why : CabinetRefusal) (said : Refusal) → seen ≡ stored → TellsAbout stored (cabinet_of c) true
+    → told ≡ registered.Refused why → said ≡ refusal_of_record why → TellsLine (changed_by seen before) c (line_told told) (rows_told told) → IsRefusedAfter stored before c (number_of said)
+line_refused stored seen before told c why said same there is those line =
+    inr (
+      why,
+      (there, subst (λ (t : Content). TellsLine (changed_by t before) c (refused_line why) []) same (subst (λ (d : Registered). TellsLine (changed_by seen before) c (line_told d) (rows_told d)) is line)),
+      ap (λ (w : Refusal). number_of w) those,
+    )
 
 -- ---- the ends of the loop
 

@@ -1,15 +1,17 @@
 -- What comes of a record of an import, after those before it.
-use Rattle.std.specs.Prelude.{◌≡◌, ◌⊎◌, ℕ, false, List, Result, Err}
+use Rattle.std.specs.Prelude.{◌≡◌, ◌⊎◌, ℕ, false, List, ◌++◌, Result, Err}
 use Rattle.cabinet_core.specs.declared.command.RecordCommand.{RecordCommand}
 use Rattle.office_tables_shelf.specs.Change.{changed_by}
 use Rattle.office_tables_shelf.specs.Content.{Content}
 use Rattle.office_tables_shelf.specs.declared.rows.RowChange.{RowChange}
 use Rattle.cabinet_core.specs.Register.{Register}
 use Rattle.cabinet_core.specs.Step.{line_at, with_record}
+use Rattle.cabinet_core.specs.Cabinet.{added, same}
 use Rattle.office_desk_cabinet.specs.Registers.{IsOneOf, LeavesTiming}
 use Rattle.office_desk_cabinet.specs.RegisterStands.{RegisterStandsSound}
 use Rattle.office_desk.specs.Office.{Office}
 use Rattle.office_desk_cabinet.specs.RegisterDamage.{KeepsDamage, MeetsRecordDamage}
+use Rattle.office_desk.specs.Blaming.{FollowsLine, IsRefusedAfter}
 use Rattle.office_desk.specs.Named.{number_of, numbers_of}
 use Rattle.office_desk.specs.Recording.{HasDamagedAbout, TellsAbout}
 use Rattle.office_desk.specs.Refusal.{line_of}
@@ -57,6 +59,12 @@ pub record TakesWhole (stored : Content) (before : List RowChange) (c : RecordCo
   pub about : ¬ HasDamagedAbout stored (cabinet_of c)
   pub whole : TellsAbout stored (cabinet_of c) false ⊎ (¬ MeetsRecordDamage (changed_by stored before) c)
   pub spares : KeepsDamage (changed_by stored before) (changed_by stored after)
+
+-- how a record is taken, on the rows that stand under its keys, whatever else is stored
+abbrev pub TakesLine : (stored : Content) (before : List RowChange) → RecordCommand → Taken → (after : List RowChange) → Type 0
+TakesLine stored before c Added after = (rows : List RowChange) × FollowsLine stored before c added rows × (after ≡ before ++ rows)
+TakesLine stored before c Same after = (rows : List RowChange) × FollowsLine stored before c same rows × (after ≡ before ++ rows)
+TakesLine stored before c (Refused why) after = IsRefusedAfter stored before c (number_of why)
 
 -- from an office: the pending rows made a register, and the import of all the records goes on from there with those that are left
 pub record ImportsFrom (stored : Content) (all rest : List RecordCommand) (at added same : ℕ) (pending : List RowChange) (office : Office) : Type 0 where

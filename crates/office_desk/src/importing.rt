@@ -9,7 +9,7 @@ ghost use Rattle.office_desk.specs.Blaming.{BlamesRightly};
 ghost use Rattle.office_desk.specs.Deciding.{AddsNothing, Decides};
 ghost use Rattle.office_desk.specs.Damage.{MeetsCabinetDamage};
 ghost use Rattle.office_desk.specs.Importing.{IsNamedTaken, LeavesAnyTiming};
-ghost use Rattle.office_desk.specs.Importing.{TakesRecord, TakesWhole};
+ghost use Rattle.office_desk.specs.Importing.{TakesLine, TakesRecord, TakesWhole};
 ghost use Rattle.office_desk.specs.Step.{cabinet_of as about_of};
 
 use crate::command::Command;
@@ -45,6 +45,8 @@ fn take_record<S: Shelf>(
     ensures damaged { result ≡ Err ShelfFault.Damaged → S.is_honest shelf.new → MeetsCabinetDamage (S.content shelf.old) command.now (about_of command.now) }
     ensures whole { IfOk result (λ taken. S.is_honest shelf.new →
         TakesWhole (S.content shelf.old) pending command.now taken.1) }
+    ensures line { IfOk result (λ taken. S.is_honest shelf.new →
+        TakesLine (S.content shelf.old) pending command.now taken.0 taken.1) }
     ensures named { IfOk result (λ taken. IsNamedTaken command.now taken.0) }
     ensures leaves { IfOk result (λ taken. LeavesAnyTiming pending → LeavesAnyTiming taken.1) }
     ensures writes { IfOk result (λ taken. (table : Table) → writes_in table taken.1 ≤ writes_in table pending + most_record_writes command.now table) }

@@ -4,4 +4,5 @@ pub mod Puts
 pub mod Registers
 pub mod Telling
 pub mod Open
+pub mod Lines
 pub mod Stocking

@@ -1,4 +1,4 @@
-use Rattle.std.proofs.Common.{◌≡◌, ◌+◌, ◌≤◌, ◌<◌, ◌∙◌, List, length, drop, get_or, Err, inl, inr, ap, sym, refl, subst, arith}
+use Rattle.std.proofs.Common.{◌≡◌, ◌+◌, ◌≤◌, ◌<◌, ◌∙◌, List, [], length, drop, take, get_or, Err, inl, inr, ap, sym, refl, subst, arith}
 use Rattle.std.specs.Prelude.{◌⊎◌}
 use Rattle.std.proofs.lemmas.List.{drop_all, take_all}
 use Rattle.cabinet_core.specs.declared.command.RecordCommand.{RecordCommand}
@@ -11,11 +11,13 @@ use Rattle.office_desk_cabinet.proofs.KeptDamage.{kept_after, nothing_kept}
 use Rattle.office_desk_cabinet.proofs.Opened.{handed_told}
 use Rattle.office_desk.specs.Damage.{MeetsCabinetDamage, MeetsImportDamage}
 use Rattle.office_desk.specs.Step.{cabinet_of}
-use Rattle.office_desk.specs.Importing.{ImportsAny, IsNamedTaken, LeavesAnyTiming, TakesRecord}
-use Rattle.office_desk.specs.declared.importing.Taken.TheVariants.{Added, Same}
+use Rattle.office_desk.specs.Blaming.{AreTaken}
+use Rattle.office_desk.specs.Importing.{ImportsAny, IsNamedTaken, LeavesAnyTiming, TakesLine, TakesRecord}
+use Rattle.office_desk.specs.declared.importing.Taken.{Taken}
+use Rattle.office_desk.specs.declared.importing.Taken.TheVariants.{Added, Same, Refused}
 use Rattle.office_desk.specs.declared.reply.Reply.TheVariants.{Imported}
 use Rattle.office_desk.proofs.Decisions.{fault_decides}
-use Rattle.office_desk.proofs.Blames.{blames_next, none_through, taken_blames}
+use Rattle.office_desk.proofs.Blames.{blames_next, taken_blames, none_met, one_further, taken_next}
 use Rattle.office_desk.proofs.Imports.{counted_on, damage_of_record, import_decides, imports_on, imports_start, never_met, next_left, none_next, some_read, taken_open, whole_stored, nothing_leaves, nothing_written, refused_decides, same_stored, writes_left, writes_whole}
 use Rattle.office_tables_shelf.proofs.KeptLemmas.{kept_on}
 use Rattle.office_desk.proofs.importing.decide_import.Goals as goal
@@ -33,6 +35,7 @@ loop-index-init g c =
       clean = λ clean. clean;
       stays = λ clean honest. honest;
       read = λ clean later. absurd (later refl);
+      taken = λ honest. none;
       leaves = subst LeavesAnyTiming (sym none) nothing_leaves;
       writes = λ table. nothing_written table c.new-pending.result c.args.records.now none;
       kept = record { honest_before = λ honest. honest; same_content = λ honest. refl; same_counts = refl; same_outcomes = λ tables left. left };
@@ -90,8 +93,15 @@ returns-in-Refused-clause-blames g c =
     (subst (IsNamedTaken item) c.in-Refused.is c.in_ok-taken.ensures.named)
     (λ honest.
     let first = c.take_record.ensures.kept.honest_before honest in
-    let now = whole_stored before item after (c.loop-index.invariant.kept.same_content first) (c.in_ok-taken.ensures.whole honest) in
-    none_through stored all index item low at (c.loop-index.invariant.whole first) (never_met stored before item after (c.loop-index.invariant.spares first) now))
+    let same = c.loop-index.invariant.kept.same_content first in
+    let now = whole_stored before item after same (c.in_ok-taken.ensures.whole honest) in
+    record {
+      pending = before;
+      taken = c.loop-index.invariant.taken first;
+      refused = subst (λ s. TakesLine s before item (Refused c.in-Refused.refusal) after) same
+          (subst (λ (t : Taken). TakesLine (g.S.Shelf.content c.loop-index.shelf) before item t after) c.in-Refused.is (c.in_ok-taken.ensures.line honest));
+      whole = none_met stored (take index all) item (c.loop-index.invariant.whole first) (never_met stored before item after (c.loop-index.invariant.spares first) now);
+    })
 
 pub loop-index-preserved : goal.loop-index-preserved
 loop-index-preserved g c =
@@ -123,7 +133,14 @@ loop-index-preserved g c =
       whole = λ honest.
           let first = c.take_record.ensures.kept.honest_before honest in
           let now = whole_stored before item after (c.loop-index.invariant.kept.same_content first) (c.in_ok-taken.ensures.whole honest) in
-          none_through stored all index item low at (c.loop-index.invariant.whole first) (never_met stored before item after (c.loop-index.invariant.spares first) now);
+          subst (λ (list : List RecordCommand). ¬ MeetsImportDamage stored list) (sym (one_further all index item low at))
+          (none_met stored (take index all) item (c.loop-index.invariant.whole first) (never_met stored before item after (c.loop-index.invariant.spares first) now));
+      taken = λ honest.
+          let first = c.take_record.ensures.kept.honest_before honest in
+          subst (λ (list : List RecordCommand). AreTaken stored [] list after) (sym (one_further all index item low at))
+          (taken_next stored before item t after (take index all) _ _ _ _ came
+          (subst (λ s. TakesLine s before item t after) (c.loop-index.invariant.kept.same_content first) (c.in_ok-taken.ensures.line honest))
+          (c.loop-index.invariant.taken first));
       fresh = λ start. absurd (let e : index + 1 ≡ 0 = start in let never : ⊥ = omega (arith, e) in never);
       clean = λ clean. c.loop-index.invariant.clean (c.in_ok-taken.ensures.open.clean_before clean);
       stays = λ clean honest. now_open clean;

@@ -4,6 +4,7 @@ use Rattle.office_tables_shelf.specs.Counts.{writes_in}
 use Rattle.office_tables_shelf.specs.Shelf.{IsKept}
 use Rattle.office_tables_shelf.specs.declared.rows.Table.{Table}
 use Rattle.office_desk_cabinet.specs.RegisterDamage.{KeepsDamage}
+use Rattle.office_desk.specs.Blaming.{AreTaken}
 use Rattle.office_desk.specs.Changes.{most_import_writes}
 use Rattle.office_desk.specs.Damage.{MeetsImportDamage}
 use Rattle.office_desk.specs.Importing.{ImportsAny, LeavesAnyTiming}
@@ -22,6 +23,7 @@ invariant-loop-index g l =
       clean : shelf.is_clean l.shelf → shelf.is_clean l.fn.shelf;
       stays : shelf.is_clean l.shelf → shelf.is_honest l.fn.shelf → shelf.is_honest l.shelf;
       read : shelf.is_clean l.shelf → l.index ≢ 0 → shelf.is_honest l.shelf;
+      taken : shelf.is_honest l.shelf → AreTaken (shelf.content l.fn.shelf) [] (take l.index l.records) l.pending;
       leaves : LeavesAnyTiming l.pending;
       writes : (table : Table) → writes_in table l.pending + most_import_writes (drop l.index l.records) table ≤ most_import_writes l.records table;
       kept : IsKept shelf.is_honest shelf.content shelf.written shelf.may_leave l.fn.shelf l.shelf;

@@ -3,7 +3,7 @@ use Rattle.std.specs.Prelude.{IsSome}
 use Rattle.cabinet_core.specs.Cabinet.{Line}
 use Rattle.office_desk.specs.Recording.{HasDamagedAbout}
 use Rattle.office_desk_cabinet.specs.Registers.{IsNamed, line_told, rows_told}
-use Rattle.office_desk.proofs.Imports.{added_whole, few_more, leaves_more, record_added, same_whole, unknown_whole}
+use Rattle.office_desk.proofs.Imports.{added_whole, few_more, leaves_more, line_added, line_refused, line_same, record_added, same_whole, unknown_whole}
 use Rattle.office_desk.specs.Step.{cabinet_of}
 use Rattle.office_desk.proofs.Recorded.{about_known, refused_named, tells_about, unknown_named}
 use Rattle.office_desk.proofs.importing.take_record.Goals as goal
@@ -83,3 +83,41 @@ returns-then-not-branch-clause-open g c =
       stays = λ clean told honest. c.in_ok-is_known.ensures.open.read asked clean tt;
       read = λ none clean told. c.in_ok-is_known.ensures.open.read asked clean tt;
     }
+
+-- ---- the line, on the rows under the record's keys
+
+pub returns-then-not-branch-clause-line : goal.returns-then-not-branch-clause-line
+returns-then-not-branch-clause-line g c = λ honest.
+    let test = c.if-not-branch.true in
+    let gone : c.in_ok-is_known.field-0 ≡ false = first_of (cc, grind arith) in
+    inl (tells_about (g.S.Shelf.content c.args.shelf.now) _ _ _ _ c.cabinet_of.ensures gone (c.in_ok-is_known.ensures.tells honest), refl)
+
+pub returns-in_ok-next-in-Added-clause-line : goal.returns-in_ok-next-in-Added-clause-line
+returns-in_ok-next-in-Added-clause-line g c = λ honest.
+    let first = c.decide_record.ensures.kept.honest_before honest in
+    let test = c.if-not-branch.false in
+    let there : c.in_ok-is_known.field-0 ≡ true = first_of (cc, grind arith) in
+    line_added (g.S.Shelf.content c.args.shelf.now) (g.S.Shelf.content c.is_known.new.shelf) c.args.pending c.in-Added.rows.items _ _ c.args.command.now
+    (c.is_known.ensures.kept.same_content first)
+    (tells_about (g.S.Shelf.content c.args.shelf.now) _ _ _ _ c.cabinet_of.ensures there (c.in_ok-is_known.ensures.tells first))
+    (ap line_told c.in-Added.is) (ap rows_told c.in-Added.is) (c.in_ok-rows.ensures.line honest) c.in_ok-next-in-Added.ensures
+
+pub returns-in-Same-clause-line : goal.returns-in-Same-clause-line
+returns-in-Same-clause-line g c = λ honest.
+    let first = c.decide_record.ensures.kept.honest_before honest in
+    let test = c.if-not-branch.false in
+    let there : c.in_ok-is_known.field-0 ≡ true = first_of (cc, grind arith) in
+    line_same (g.S.Shelf.content c.args.shelf.now) (g.S.Shelf.content c.is_known.new.shelf) c.args.pending _ c.args.command.now
+    (c.is_known.ensures.kept.same_content first)
+    (tells_about (g.S.Shelf.content c.args.shelf.now) _ _ _ _ c.cabinet_of.ensures there (c.in_ok-is_known.ensures.tells first))
+    c.in-Same.is (c.in_ok-rows.ensures.line honest)
+
+pub returns-in-Refused-clause-line : goal.returns-in-Refused-clause-line
+returns-in-Refused-clause-line g c = λ honest.
+    let first = c.decide_record.ensures.kept.honest_before honest in
+    let test = c.if-not-branch.false in
+    let there : c.in_ok-is_known.field-0 ≡ true = first_of (cc, grind arith) in
+    line_refused (g.S.Shelf.content c.args.shelf.now) (g.S.Shelf.content c.is_known.new.shelf) c.args.pending _ c.args.command.now c.in-Refused.refusal _
+    (c.is_known.ensures.kept.same_content first)
+    (tells_about (g.S.Shelf.content c.args.shelf.now) _ _ _ _ c.cabinet_of.ensures there (c.in_ok-is_known.ensures.tells first))
+    c.in-Refused.is c.refused.ensures (c.in_ok-rows.ensures.line honest)
