@@ -292,10 +292,10 @@ first_or_later (suc n) = inr (λ e. let never : ⊥ = omega (arith, e) in never)
 -- the first record is read, and a later one leaves open what was open
 pub taken_open : {S A : Type 0} (is_clean is_honest : S → Type 0) (pending : List RowChange) (index : ℕ) (result : Result A ShelfFault) (old new : S) → (index ≡ 0 → pending ≡ []) → (is_clean old → index ≢ 0 → is_honest old)
     → StaysOpen is_clean is_honest (pending ≡ []) result old new → is_clean new → IsTold result → is_honest new
-taken_open is_clean is_honest pending index result old new fresh read open clean told =
+taken_open is_clean is_honest pending index result old new fresh read opens clean told =
     elim (first_or_later index) [
-      | inl start ↦ open.read (fresh start) clean told
-      | inr later ↦ open.stays clean told (read (open.clean_before clean) later)
+      | inl start ↦ opens.read (fresh start) clean told
+      | inr later ↦ opens.stays clean told (read (opens.clean_before clean) later)
     ]
 
 pub none_next : (records : List RecordCommand) (n : ℕ) → n < length records → records ≢ []

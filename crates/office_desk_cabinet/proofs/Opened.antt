@@ -29,43 +29,43 @@ memory_untold (Err why) failed told = let f : NoMemory ≡ Damaged = sym failed 
 module _ {S : Type 0} (is_clean is_honest : S → Type 0) where
   -- a call that reads, whatever it rests on
   pub reads_open : {A : Type 0} (reads : Type 0) (result : Result A ShelfFault) (old new : S) → AnswersOpen is_clean is_honest result old new → StaysOpen is_clean is_honest reads result old new
-  reads_open reads result old new open = record {
-    clean_before = open.clean_before;
-    stays = λ clean told honest. open.told clean told;
-    read = λ reading clean told. open.told clean told;
+  reads_open reads result old new is = record {
+    clean_before = is.clean_before;
+    stays = λ clean told honest. is.told clean told;
+    read = λ reading clean told. is.told clean told;
   }
 
   -- a call after one that answered
   pub then_stays : {A B C : Type 0} (reads : Type 0) (first : Result A ShelfFault) (last : Result B ShelfFault) (result : Result C ShelfFault) (old mid new : S) → StaysOpen is_clean is_honest reads first old mid → IsTold first
       → StaysOpen is_clean is_honest reads last mid new → (IsTold result → IsTold last) → StaysOpen is_clean is_honest reads result old new
-  then_stays reads first last result old mid new before answered open same = record {
-    clean_before = λ clean. before.clean_before (open.clean_before clean);
-    stays = λ clean told honest. open.stays clean (same told) (before.stays (open.clean_before clean) answered honest);
-    read = λ reading clean told. open.read reading clean (same told);
+  then_stays reads first last result old mid new before answered is same = record {
+    clean_before = λ clean. before.clean_before (is.clean_before clean);
+    stays = λ clean told honest. is.stays clean (same told) (before.stays (is.clean_before clean) answered honest);
+    read = λ reading clean told. is.read reading clean (same told);
   }
 
   -- the last call alone
   pub so_stays : {A B : Type 0} (reads : Type 0) (last : Result A ShelfFault) (result : Result B ShelfFault) (old new : S) → StaysOpen is_clean is_honest reads last old new → (IsTold result → IsTold last)
       → StaysOpen is_clean is_honest reads result old new
-  so_stays reads last result old new open same = record {
-    clean_before = open.clean_before;
-    stays = λ clean told honest. open.stays clean (same told) honest;
-    read = λ reading clean told. open.read reading clean (same told);
+  so_stays reads last result old new is same = record {
+    clean_before = is.clean_before;
+    stays = λ clean told honest. is.stays clean (same told) honest;
+    read = λ reading clean told. is.read reading clean (same told);
   }
 
   pub so_answers : {A B : Type 0} (last : Result A ShelfFault) (result : Result B ShelfFault) (old mid new : S) → (is_clean mid → is_clean old) → AnswersOpen is_clean is_honest last mid new → (IsTold result → IsTold last)
       → AnswersOpen is_clean is_honest result old new
-  so_answers last result old mid new before open same = record {
-    clean_before = λ clean. before (open.clean_before clean);
-    told = λ clean told. open.told clean (same told);
+  so_answers last result old mid new before is same = record {
+    clean_before = λ clean. before (is.clean_before clean);
+    told = λ clean told. is.told clean (same told);
   }
 
   -- a call that may not read, after one that did
   pub then_answers : {A B C : Type 0} (reads : Type 0) (first : Result A ShelfFault) (last : Result B ShelfFault) (result : Result C ShelfFault) (old mid new : S) → AnswersOpen is_clean is_honest first old mid → IsTold first
       → StaysOpen is_clean is_honest reads last mid new → (IsTold result → IsTold last) → AnswersOpen is_clean is_honest result old new
-  then_answers reads first last result old mid new before answered open same = record {
-    clean_before = λ clean. before.clean_before (open.clean_before clean);
-    told = λ clean told. open.stays clean (same told) (before.told (open.clean_before clean) answered);
+  then_answers reads first last result old mid new before answered is same = record {
+    clean_before = λ clean. before.clean_before (is.clean_before clean);
+    told = λ clean told. is.stays clean (same told) (before.told (is.clean_before clean) answered);
   }
 
   -- nothing was read

@@ -36,7 +36,7 @@ pub fn decide_record<S: Shelf>(
     ensures named { IfOk result (λ told. IsNamed command.now (line_told told)) }
     ensures line { IfOk result (λ told. S.is_honest shelf.new →
         TellsLine (changed_by (S.content shelf.old) pending.now) command.now
-            (line_told told) (rows_told told)) }
+        (line_told told) (rows_told told)) }
     ensures kept { IsKept S.is_honest S.content S.written S.may_leave shelf.old shelf.new }
     ensures open { StaysOpen S.is_clean S.is_honest (pending.now ≡ [])
         result shelf.old shelf.new }

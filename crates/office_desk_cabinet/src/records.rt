@@ -38,7 +38,7 @@ pub(crate) fn decide_inspect<S: Shelf>(
     ensures named { IfOk result (λ told. IsNamed (RecordCommand.Inspect id inspection.now) (line_told told)) }
     ensures line { IfOk result (λ told. S.is_honest shelf.new →
         TellsLine (changed_by (S.content shelf.old) pending.now) (RecordCommand.Inspect id inspection.now)
-            (line_told told) (rows_told told)) }
+        (line_told told) (rows_told told)) }
     ensures kept { IsKept S.is_honest S.content S.written S.may_leave shelf.old shelf.new }
     ensures open { StaysOpen S.is_clean S.is_honest (pending.now ≡ [])
         result shelf.old shelf.new }
@@ -66,7 +66,7 @@ pub(crate) fn decide_open_order<S: Shelf>(
     ensures named { IfOk result (λ told. IsNamed (RecordCommand.OpenOrder id opening.now) (line_told told)) }
     ensures line { IfOk result (λ told. S.is_honest shelf.new →
         TellsLine (changed_by (S.content shelf.old) pending.now) (RecordCommand.OpenOrder id opening.now)
-            (line_told told) (rows_told told)) }
+        (line_told told) (rows_told told)) }
     ensures kept { IsKept S.is_honest S.content S.written S.may_leave shelf.old shelf.new }
     ensures open { StaysOpen S.is_clean S.is_honest (pending.now ≡ [])
         result shelf.old shelf.new }
@@ -95,7 +95,7 @@ pub(crate) fn decide_close_order<S: Shelf>(
     ensures named { IfOk result (λ told. IsNamed (RecordCommand.CloseOrder id order closing.now) (line_told told)) }
     ensures line { IfOk result (λ told. S.is_honest shelf.new →
         TellsLine (changed_by (S.content shelf.old) pending.now) (RecordCommand.CloseOrder id order closing.now)
-            (line_told told) (rows_told told)) }
+        (line_told told) (rows_told told)) }
     ensures kept { IsKept S.is_honest S.content S.written S.may_leave shelf.old shelf.new }
     ensures open { StaysOpen S.is_clean S.is_honest (pending.now ≡ [])
         result shelf.old shelf.new }

@@ -82,8 +82,7 @@ returns-clause-line g c =
     told_line 0 line _ c.receive-decision.result c.received.result (λ told rows. g.S.Shelf.is_honest c.delivery_at.new.shelf → TellsLine tables (Receive asked) told rows) c.receive-decision.ensures.line
     (received_tells 0 asked line hand c.receive-decision.result c.received.result c.receive-decision.ensures.line c.received.ensures.tells)
     (λ honest.
-    let at_hand = c.delivery_at.ensures.kept.honest_before honest in
-    (
+    let at_hand = c.delivery_at.ensures.kept.honest_before honest in (
       c.in_ok-there.there,
       hand,
       subst (λ t. ReadsDelivery (changed_by t pending) asked.part asked.number c.in_ok-there.there) (c.hand_at.ensures.kept.same_content at_hand) (c.in_ok-there.ensures.row honest),

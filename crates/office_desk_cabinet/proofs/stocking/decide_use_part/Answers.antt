@@ -70,8 +70,7 @@ returns-clause-line g c =
     let at_line = c.order_at.ensures.kept.honest_before honest in
     let at_hand = c.line_at.ensures.kept.honest_before at_line in
     let first = c.hand_at.ensures.kept.same_content at_hand in
-    let second = c.line_at.ensures.kept.same_content at_line ∙ first in
-    (
+    let second = c.line_at.ensures.kept.same_content at_line ∙ first in (
       c.in_ok-there.there,
       c.in_ok-order.order,
       c.in_ok-hand.hand,
