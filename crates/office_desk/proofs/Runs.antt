@@ -27,6 +27,7 @@ use Rattle.office_desk.specs.StandFor.{StandForSound}
 use Rattle.office_desk.specs.Step.{AreSound, Step, Run, answered, cabinet_of}
 use Rattle.office_desk.specs.declared.command.Command.{Command}
 use Rattle.office_desk.specs.declared.command.Command.TheVariants as command
+use Rattle.office_desk.specs.declared.command.Command.TheVariants.{Import}
 use Rattle.office_desk.specs.declared.refusal.Refusal.{Refusal}
 use Rattle.office_desk.specs.declared.refusal.Refusal.TheVariants as refusal
 use Rattle.office_desk.specs.declared.refusal.Refusal.TheVariants.{Unavailable}
@@ -35,7 +36,7 @@ use Rattle.office_desk.specs.declared.reply.Reply.TheVariants.{Imported, Refused
 use Rattle.office_desk.proofs.IntersectionTable.{no_damaged_intersection}
 use Rattle.office_desk.proofs.Recorded.{register_of}
 use Rattle.office_desk.proofs.Stands.{no_damage}
-use Rattle.office_desk.proofs.Blames.{blames_later, fault_blames, taken_blames, unavailable_blames}
+use Rattle.office_desk.proofs.Blames.{blames_later, fault_blames, unavailable_blames}
 use Rattle.office_desk.proofs.RegisterLaws.{runs_register}
 use Rattle.office_desk.proofs.Repeats.{runs_repeat}
 use Rattle.office_desk.proofs.TimingLaw.{runs_timing}
@@ -189,27 +190,28 @@ idle_turned_away : (tables : Content) (command : Command) (reply : Reply) → Is
 idle_turned_away tables command reply (inl unavailable) damage = inl (inr unavailable)
 idle_turned_away tables command reply (inr nothing) damage = absurd (subst (MeetsDamage tables) nothing.0 damage)
 
-idle_blames : (is_clean : Type 0) (tables : Content) (command : Command) (reply : Reply) → IsIdle command reply → BlamesRightly is_clean tables command reply
-idle_blames is_clean tables command reply (inl unavailable) = unavailable_blames is_clean tables command reply unavailable
-idle_blames is_clean tables command reply (inr nothing) = taken_blames is_clean tables command reply (Imported 0 0) nothing.1 (λ why e. cc)
+-- and blames no record
+idle_blameless : (command : Command) (reply : Reply) → IsIdle command reply → (at cause : ℕ) → reply ≢ Refused (refusal.ImportRow at cause)
+idle_blameless command reply (inl unavailable) at cause refused = let f : Refused Unavailable ≡ Refused (refusal.ImportRow at cause) = sym unavailable ∙ refused in cc
+idle_blameless command reply (inr nothing) at cause refused = let f : Imported 0 0 ≡ Refused (refusal.ImportRow at cause) = sym nothing.1 ∙ refused in cc
 
 -- either an import of no records is asked for, or not
-asks_nothing : (command : Command) → (command ≡ command.Import []) ⊎ (command ≢ command.Import [])
-asks_nothing (command.Import []) = inl refl
-asks_nothing (command.Import (c ∷ cs)) = inr (λ e. cc)
+asks_nothing : (command : Command) → (command ≡ Import []) ⊎ (command ≢ Import [])
+asks_nothing (Import []) = inl refl
+asks_nothing (Import (c ∷ cs)) = inr (λ e. cc)
 asks_nothing _ = inr (λ e. cc)
 
 -- what is decided, on a database that is open or was shut
-pub decided_shut : (is_honest : Type 0) (command : Command) (decided : Decided) → (command ≢ command.Import [] → is_honest) → (command ≡ command.Import [] → AddsNothing decided)
+pub decided_shut : (is_honest : Type 0) (command : Command) (decided : Decided) → (command ≢ Import [] → is_honest) → (command ≡ Import [] → AddsNothing decided)
     → is_honest ⊎ DecidesIdly command decided
 decided_shut is_honest command decided reads nothing = go (asks_nothing command)
   where
-    go : (command ≡ command.Import []) ⊎ (command ≢ command.Import []) → is_honest ⊎ DecidesIdly command decided
+    go : (command ≡ Import []) ⊎ (command ≢ Import []) → is_honest ⊎ DecidesIdly command decided
     go (inl none) = inr (record { idle = inr (none, (nothing none).0); no_changes = (nothing none).1 })
     go (inr some) = inl (reads some)
 
 -- and of a fault: what tells a damaged row was open
-pub fault_shut : (is_honest : Type 0) (command : Command) (fault : ShelfFault) (decided : Decided) → (fault ≡ Damaged → command ≢ command.Import [] → is_honest) → command ≢ command.Import []
+pub fault_shut : (is_honest : Type 0) (command : Command) (fault : ShelfFault) (decided : Decided) → (fault ≡ Damaged → command ≢ Import [] → is_honest) → command ≢ Import []
     → decided.reply ≡ Refused (refusal_of fault) → decided.changes.items ≡ [] → is_honest ⊎ DecidesIdly command decided
 fault_shut is_honest command NoMemory decided reads some told none = inr (record { idle = inl told; no_changes = none })
 fault_shut is_honest command Store decided reads some told none = inr (record { idle = inl told; no_changes = none })
@@ -236,7 +238,20 @@ answered_clean is_clean is_honest tables command decided shut is = record {
   refused = is.refused;
   query = is.query;
   named = is.named;
-  blames = λ records at cause asked refused. clean_blames records at cause asked refused;
+  blames = λ records at cause asked refused.
+      let blamed = is.blames records at cause asked refused in
+      record {
+        before = blamed.before;
+        blamed = blamed.blamed;
+        after = blamed.after;
+        stands = blamed.stands;
+        place = blamed.place;
+        named = blamed.named;
+        first = λ clean. elim (shut clean) [
+          | inl honest ↦ blamed.first honest
+          | inr idle ↦ absurd (idle_blameless command decided.reply idle.idle at cause refused)
+        ];
+      };
   damaged = λ told clean. elim (shut clean) [
     | inl honest ↦ is.damaged told honest
     | inr idle ↦ absurd (idle_undamaged command decided.reply idle.idle told)

@@ -6,7 +6,7 @@ use Rattle.office_tables_shelf.specs.Content.{Content}
 use Rattle.office_tables_shelf.specs.declared.rows.RowChange.{RowChange}
 use Rattle.cabinet_core.specs.Register.{Register}
 use Rattle.cabinet_core.specs.Step.{line_at, with_record}
-use Rattle.cabinet_core.specs.Cabinet.{added, same}
+use Rattle.cabinet_core.specs.Cabinet.{added as added_line, same as same_line}
 use Rattle.office_desk_cabinet.specs.Registers.{IsOneOf, LeavesTiming}
 use Rattle.office_desk_cabinet.specs.RegisterStands.{RegisterStandsSound}
 use Rattle.office_desk.specs.Office.{Office}
@@ -62,8 +62,8 @@ pub record TakesWhole (stored : Content) (before : List RowChange) (c : RecordCo
 
 -- how a record is taken, on the rows that stand under its keys, whatever else is stored
 abbrev pub TakesLine : (stored : Content) (before : List RowChange) → RecordCommand → Taken → (after : List RowChange) → Type 0
-TakesLine stored before c Added after = (rows : List RowChange) × FollowsLine stored before c added rows × (after ≡ before ++ rows)
-TakesLine stored before c Same after = (rows : List RowChange) × FollowsLine stored before c same rows × (after ≡ before ++ rows)
+TakesLine stored before c Added after = (rows : List RowChange) × FollowsLine stored before c added_line rows × (after ≡ before ++ rows)
+TakesLine stored before c Same after = (rows : List RowChange) × FollowsLine stored before c same_line rows × (after ≡ before ++ rows)
 TakesLine stored before c (Refused why) after = IsRefusedAfter stored before c (number_of why)
 
 -- from an office: the pending rows made a register, and the import of all the records goes on from there with those that are left

@@ -1,5 +1,5 @@
 //! The commands of the register.
-ghost use Rattle.std.specs.Prelude.{◌≡◌, false, IfOk, IsSome, Ok, Err};
+ghost use Rattle.std.specs.Prelude.{◌≡◌, false, IfOk, IsSome, OnErr, Ok, Err};
 ghost use Rattle.office_tables_shelf.specs.Shelf.{AnswersOpen, IsKept};
 ghost use Rattle.office_desk_cabinet.specs.Open.{StaysOpen};
 ghost use Rattle.office_desk_cabinet.specs.Registers.{line_told, rows_told};
@@ -41,6 +41,7 @@ pub(crate) fn is_known<S: Shelf>(
     ensures tells { IfOk result (λ known. S.is_honest shelf.new →
         TellsAbout (S.content shelf.old) about known) }
     ensures asked { result ≡ Ok false → IsSome about }
+    ensures fault { OnErr result (IsSome about) }
     ensures whole { IfOk result (λ _. S.is_honest shelf.new → ¬ HasDamagedAbout (S.content shelf.old) about) }
     ensures damaged { result ≡ Err ShelfFault.Damaged → S.is_honest shelf.new → HasDamagedAbout (S.content shelf.old) about }
     ensures kept { IsKept S.is_honest S.content S.written S.may_leave shelf.old shelf.new }

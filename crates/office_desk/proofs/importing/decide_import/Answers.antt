@@ -207,7 +207,9 @@ returns-in-Refused-clause-nothing g c = λ none.
 pub returns-clause-nothing : goal.returns-clause-nothing
 returns-clause-nothing g c = λ none.
     let index = c.loop-index.index in
-    let most : index ≤ 0 = first_of (omega (arith, ap (λ (list : List RecordCommand). length list) none, ap (λ (list : List RecordCommand). length list) c.as_slice-command-items.ensures, c.loop-index.auto.index-end), search rules) in
+    let listed : c.as_slice-command-items.result.now ≡ [] = c.as_slice-command-items.ensures ∙ none in
+    let size : length c.as_slice-command-items.result.now ≡ 0 = ap (λ (list : List RecordCommand). length list) listed in
+    let most : index ≤ 0 = omega (arith, size, c.loop-index.auto.index-end) in
     let counted = c.loop-index.invariant.counted in
     let start : index ≡ 0 = omega (arith, most) in
     let none_added : c.loop-index.added ≡ 0 = omega (arith, counted, start) in

@@ -1,8 +1,10 @@
-use Rattle.std.proofs.Common.{◌≡◌, ◌∙◌, ℕ, Bool, true, false, Option, Ok, ap, refl, subst, arith}
+use Rattle.std.proofs.Common.{◌≡◌, ◌∙◌, ℕ, Bool, true, false, Option, Ok, inl, ap, refl, subst, arith}
 use Rattle.std.specs.Prelude.{IsSome}
 use Rattle.cabinet_core.specs.Cabinet.{Line}
+use Rattle.office_tables_shelf.specs.Shelf.{IsTold}
 use Rattle.office_desk.specs.Recording.{HasDamagedAbout}
 use Rattle.office_desk_cabinet.specs.Registers.{IsNamed, line_told, rows_told}
+use Rattle.office_desk_cabinet.proofs.Opened.{handed_told}
 use Rattle.office_desk.proofs.Imports.{added_whole, few_more, leaves_more, line_added, line_refused, line_same, record_added, same_whole, unknown_whole}
 use Rattle.office_desk.specs.Step.{cabinet_of}
 use Rattle.office_desk.proofs.Recorded.{about_known, refused_named, tells_about, unknown_named}
@@ -121,3 +123,14 @@ returns-in-Refused-clause-line g c = λ honest.
     (c.is_known.ensures.kept.same_content first)
     (tells_about (g.S.Shelf.content c.args.shelf.now) _ _ _ _ c.cabinet_of.ensures there (c.in_ok-is_known.ensures.tells first))
     c.in-Refused.is c.refused.ensures (c.in_ok-rows.ensures.line honest)
+
+pub returns-in_err-is_known-clause-open : goal.returns-in_err-is_known-clause-open
+returns-in_err-is_known-clause-open g c =
+    let reads = λ (clean : g.S.Shelf.is_clean c.is_known.new.shelf) (told : IsTold c.from_residual.result).
+        c.is_known.ensures.open.read c.in_err-is_known.ensures.fault clean
+            (handed_told c.from_residual.result c.is_known.result c.in_err-is_known.field-0.0 c.in_err-is_known.was c.from_residual.ensures.1 told) in
+    record {
+      clean_before = c.is_known.ensures.open.clean_before;
+      stays = λ clean told honest. reads clean told;
+      read = λ none clean told. reads clean told;
+    }
