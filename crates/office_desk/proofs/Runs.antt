@@ -1,6 +1,6 @@
 -- From a decision to a step that was made, and from steps to runs.
-use Rattle.std.proofs.Common.{◌≡◌, ◌≢◌, ◌≤◌, ◌+◌, ◌⊎◌, List, [], ◌∷◌, ◌++◌, ℕ, Option, Some, None, refl, ap, sym, subst, ◌∙◌, inl, inr, length, true, arith}
-use Rattle.std.specs.Prelude.{◌==◌, IsOkAnd, Result, Err}
+use Rattle.std.proofs.Common.{◌≡◌, ◌≢◌, ◌≤◌, ◌⊎◌, List, [], ◌∷◌, ◌++◌, ℕ, Option, Some, None, refl, ap, sym, subst, ◌∙◌, inl, inr, length, true, arith}
+use Rattle.std.specs.Prelude.{◌==◌, Result, Err}
 use Rattle.std.proofs.lemmas.Bool.Decides.{nat_tests}
 use Rattle.draft_core.specs.declared.timing.Reach.TheVariants as reach
 use Rattle.office_tables_shelf.specs.Change.{changed_by}
@@ -15,7 +15,7 @@ use Rattle.office_desk.specs.Answers.{AnswersAny, Answers, EndsIn, IsAfterStep, 
 use Rattle.office_desk.specs.Blaming.{BlamesRightly}
 use Rattle.office_desk.specs.Changes.{IsRefused, RiseAtMost, most_writes}
 use Rattle.office_desk.specs.Deciding.{AddsNothing, DecidesIdly, IsAnswered, IsDecision, IsIdle}
-use Rattle.office_desk.specs.Running.{AreRun, IsReply, IsRun, WasIdle}
+use Rattle.office_desk.specs.Running.{AreRun, IsRun}
 use Rattle.office_desk.specs.declared.decided.Decided.{Decided}
 use Rattle.cabinet_core.specs.declared.command.RecordCommand.{RecordCommand}
 use Rattle.office_desk_cabinet.proofs.Undamaged.{no_damaged_inspection, no_damaged_order, no_damaged_used, no_damaged_part, undamaged_record}

@@ -123,10 +123,10 @@ impl<S: Shelf> Office<S> {
         ensures run { IfOk result (λ replies. S.is_honest self.new → RunsAny (S.content self.old) commands.now replies.items (S.content self.new)) }
         ensures ends { IfOk result (λ replies. S.is_clean self.new →
             EndsIn (S.is_honest self.new) (S.content self.new)
-                (RunsAny (S.content self.old) commands.now replies.items)) }
+            (RunsAny (S.content self.old) commands.now replies.items)) }
         ensures each { IfOk result (λ replies.
             AreRun S.is_clean S.is_honest S.content S.written S.may_leave
-                commands.now replies.items self.old self.new) }
+            commands.now replies.items self.old self.new) }
         ensures clean { S.is_clean self.new → S.is_clean self.old }
         ensures honest { S.is_honest self.new → S.is_honest self.old }
         ensures err { OnErr result (self.new ≡ self.old) }

@@ -116,7 +116,7 @@ loop-index-preserved g c =
     let low = subst (λ (list : List RecordCommand). index < length list) c.as_slice-command-items.ensures c.loop-index-test.true in
     let at = subst (λ (list : List RecordCommand). item ≡ get_or list index item) c.as_slice-command-items.ensures c.command-item.is in
     let now_open = λ (clean : shelf.is_clean c.take_record.new.shelf).
-        taken_open shelf.is_clean shelf.is_honest before index _ c.loop-index.shelf c.take_record.new.shelf c.loop-index.invariant.fresh c.loop-index.invariant.read c.in_ok-taken.ensures.open clean tt in
+    taken_open shelf.is_clean shelf.is_honest before index _ c.loop-index.shelf c.take_record.new.shelf c.loop-index.invariant.fresh c.loop-index.invariant.read c.in_ok-taken.ensures.open clean tt in
     let came : ((t ≡ Added) × (c.match-taken.added ≡ c.loop-index.added + 1) × (c.match-taken.same ≡ c.loop-index.same)) ⊎ ((t ≡ Same) × (c.match-taken.added ≡ c.loop-index.added) × (c.match-taken.same ≡ c.loop-index.same + 1)) =
     elim c.match-taken.branch [ in-Added w ↦ inl (w.in-Added.is, w.added-is, w.same-is) | in-Same w ↦ inr (w.in-Same.is, w.added-is, w.same-is) ] in
     record {
@@ -169,8 +169,8 @@ pub returns-in_err-taken-clause-open : goal.returns-in_err-taken-clause-open
 returns-in_err-taken-clause-open g c =
     let shelf = g.S.Shelf in
     let now_open = λ (clean : shelf.is_clean c.take_record.new.shelf) (told : IsTold c.from_residual.result).
-        taken_open shelf.is_clean shelf.is_honest c.loop-index.pending c.loop-index.index _ c.loop-index.shelf c.take_record.new.shelf c.loop-index.invariant.fresh c.loop-index.invariant.read c.take_record.ensures.open clean
-        (handed_told _ _ c.in_err-taken.field-0.0 c.in_err-taken.was c.from_residual.ensures.1 told) in
+    taken_open shelf.is_clean shelf.is_honest c.loop-index.pending c.loop-index.index _ c.loop-index.shelf c.take_record.new.shelf c.loop-index.invariant.fresh c.loop-index.invariant.read c.take_record.ensures.open clean
+    (handed_told _ _ c.in_err-taken.field-0.0 c.in_err-taken.was c.from_residual.ensures.1 told) in
     record {
       clean_before = λ clean. c.loop-index.invariant.clean (c.take_record.ensures.open.clean_before clean);
       stays = λ clean told honest. now_open clean told;
@@ -181,7 +181,7 @@ pub returns-in-Refused-clause-open : goal.returns-in-Refused-clause-open
 returns-in-Refused-clause-open g c =
     let shelf = g.S.Shelf in
     let now_open = λ (clean : shelf.is_clean c.take_record.new.shelf).
-        taken_open shelf.is_clean shelf.is_honest c.loop-index.pending c.loop-index.index _ c.loop-index.shelf c.take_record.new.shelf c.loop-index.invariant.fresh c.loop-index.invariant.read c.in_ok-taken.ensures.open clean tt in
+    taken_open shelf.is_clean shelf.is_honest c.loop-index.pending c.loop-index.index _ c.loop-index.shelf c.take_record.new.shelf c.loop-index.invariant.fresh c.loop-index.invariant.read c.in_ok-taken.ensures.open clean tt in
     record {
       clean_before = λ clean. c.loop-index.invariant.clean (c.in_ok-taken.ensures.open.clean_before clean);
       stays = λ clean told honest. now_open clean;

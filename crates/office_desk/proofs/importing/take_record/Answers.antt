@@ -127,8 +127,8 @@ returns-in-Refused-clause-line g c = λ honest.
 pub returns-in_err-is_known-clause-open : goal.returns-in_err-is_known-clause-open
 returns-in_err-is_known-clause-open g c =
     let reads = λ (clean : g.S.Shelf.is_clean c.is_known.new.shelf) (told : IsTold c.from_residual.result).
-        c.is_known.ensures.open.read c.in_err-is_known.ensures.fault clean
-            (handed_told c.from_residual.result c.is_known.result c.in_err-is_known.field-0.0 c.in_err-is_known.was c.from_residual.ensures.1 told) in
+    c.is_known.ensures.open.read c.in_err-is_known.ensures.fault clean
+    (handed_told c.from_residual.result c.is_known.result c.in_err-is_known.field-0.0 c.in_err-is_known.was c.from_residual.ensures.1 told) in
     record {
       clean_before = c.is_known.ensures.open.clean_before;
       stays = λ clean told honest. reads clean told;

@@ -1,4 +1,4 @@
-use Rattle.std.proofs.Common.{Err, ap, inl, inr, ◌∙◌}
+use Rattle.std.proofs.Common.{Err, ap, inl}
 use Rattle.office_desk.specs.declared.refusal.Refusal.{Refusal}
 use Rattle.office_desk.proofs.OverdueRows.{first_overdue}
 use Rattle.office_desk.proofs.Runs.{refusal_shut}
