@@ -1,5 +1,5 @@
 -- How a run goes on by one request, with what is kept and what a crash may leave.
-use Rattle.std.proofs.Common.{◌≡◌, ◌⊎◌, ℕ, List, [], ◌∷◌, ◌++◌, inl, inr, refl, sym, subst}
+use Rattle.std.proofs.Common.{ℕ, List, [], ◌∷◌, ◌++◌, inl, inr, refl, sym, subst}
 use Rattle.office_http_framing.specs.Front.{PlainRequest}
 use Rattle.office_http_framing.specs.Protocol.{Protocol, MayAnswer, Run}
 use Rattle.office_http_framing.specs.Stops.{Storage, Keeps, IsKept, LeavesOne, Deals, Leaves, Ran}
@@ -24,8 +24,7 @@ module _ {Machine State Stored : Type 0} (protocol : Protocol State) (storage : 
         × Leaves protocol storage may first before (requests ++ request ∷ []) (answers ++ answer ∷ []) after longer kept at_end
     leaves-next may first before [] [] run none =
         subst (λ start. (longer : Run protocol start (request ∷ []) (answer ∷ []) after) × Leaves protocol storage may first start (request ∷ []) (answer ∷ []) after longer kept at_end) (sym run)
-        (subst (λ stored. (longer : Run protocol middle (request ∷ []) (answer ∷ []) after) × Leaves protocol storage may stored middle (request ∷ []) (answer ∷ []) after longer kept at_end) none.0
-        (
+        (subst (λ stored. (longer : Run protocol middle (request ∷ []) (answer ∷ []) after) × Leaves protocol storage may stored middle (request ∷ []) (answer ∷ []) after longer kept at_end) none.0 (
           (after, how, refl),
           (kept, is_kept, (refl, λ left may_be. more_after_one so_far may held kept middle request answer after how none.1 left (leaves left may_be))),
         ))

@@ -1,5 +1,4 @@
-use Rattle.std.proofs.Common.{◌≡◌, ℕ, List, [], ◌∷◌, ◌+◌, ◌-◌, ◌<◌, ◌≤◌, length, drop, refl, sym, ap, subst, ◌∙◌, inl, inr, arith}
-use Rattle.std.specs.Prelude.{Ok, Err}
+use Rattle.std.proofs.Common.{◌≡◌, ℕ, List, [], ◌∷◌, ◌+◌, ◌-◌, ◌<◌, ◌≤◌, length, drop, refl, sym, ap, subst, ◌∙◌, inr, arith}
 use Rattle.std.proofs.KnownBytes.{Consumes-nil}
 use Rattle.std.proofs.lemmas.Bool.Decides.{nat_tests}
 use Rattle.std.proofs.lemmas.List.{length-drop, length-append}
@@ -10,7 +9,7 @@ use Rattle.office_http_framing.proofs.AskLemmas.{AsksSoFar, asks-start, asks-nex
 use Rattle.office_http_framing.proofs.EndLemmas.{Grows-refl, Grows-trans, Rose-after, Rose-empty}
 use Rattle.office_http_framing.proofs.StopLemmas.{ran-start, ran-next}
 use Rattle.office_http_framing.proofs.StreamLemmas.{request-bound, incomplete-bound}
-use Rattle.office_http_framing.proofs.ServeLemmas.{Progress, Progress-start, Progress-more, Progress-next, Progress-as, Did-ended, Did-broken, Did-nothing, all_taken, one_more_taken, one_more_begun, written_whole, written_in_part, Consumes-none, Consumes-from_Keeps, left_after-last, left_after-other}
+use Rattle.office_http_framing.proofs.ServeLemmas.{Progress-start, Progress-more, Progress-next, Progress-as, Did-ended, Did-broken, Did-nothing, all_taken, one_more_taken, one_more_begun, written_whole, written_in_part, Consumes-none, Consumes-from_Keeps, left_after-last, left_after-other}
 use Rattle.office_http_framing.proofs.engine.serve.Goals as goal
 
 pub loop-left-init : goal.loop-left-init
@@ -150,8 +149,7 @@ returns-in-Ok-eq0-clause-did g c clean before held keeps =
       Did-ended g.M.Machine.protocol _ c.args.max_requests c.loop-left.requests c.loop-left.left c.loop-left.buffer
           (ends_of (g.R.Source.told c.args.reader.now) (g.W.Sink.told c.args.writer.now))
           (ends_of (g.R.Source.told c.loop-left.reader) (g.W.Sink.told c.loop-left.writer))
-          (ends_of (g.R.Source.told c.fill.new.source) (g.W.Sink.told c.loop-left.writer)) so_far.2 _ [] (Consumes-none _ _ bytes.0 (bytes.1 ∙ c.in-Ok-eq0.field-0-test) bytes.3)
-          (
+          (ends_of (g.R.Source.told c.fill.new.source) (g.W.Sink.told c.loop-left.writer)) so_far.2 _ [] (Consumes-none _ _ bytes.0 (bytes.1 ∙ c.in-Ok-eq0.field-0-test) bytes.3) (
             refl,
             unfinished,
             (c.loop-left-test.true, incomplete),
