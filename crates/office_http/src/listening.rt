@@ -61,8 +61,8 @@ pub struct Connection<R, W> {
     pub writer: W,
 }
 
-/// Where connections come from, seen as the counts of its calls and, where they are known, the ends of
-/// the connections that it gave and of those that it got back, as they were then.
+/// Where connections come from, seen as the counts of its calls and, where they are known, the ends
+/// of the connections that it gave and of those that it got back, as they were then.
 pub trait Listen {
     ghost use Rattle.std.specs.Prelude.{[], ◌∷◌, MatchResult};
     ghost use Rattle.office_http_framing.specs.Ends.{no_calls};
@@ -80,9 +80,11 @@ pub trait Listen {
     fn accept(&mut self) -> io::Result<Connection<Self::Reader, Self::Writer>>
         ensures counts { (told self.new).counts ≡ listened result (told self.old).counts }
         ensures given { MatchResult result
-            (λ c. Adds (told self.old).given (told self.new).given (ends_of (Self.Reader.told c.reader) (Self.Writer.told c.writer) ∷ []))
+            (λ c. Adds (told self.old).given (told self.new).given
+                (ends_of (Self.Reader.told c.reader) (Self.Writer.told c.writer) ∷ []))
             (λ _. Adds (told self.old).given (told self.new).given []) }
-        ensures fresh { IfOk result (λ c. ((Self.Reader.told c.reader).counts ≡ no_calls) × ((Self.Writer.told c.writer).counts ≡ no_calls)) }
+        ensures fresh { IfOk result (λ c. ((Self.Reader.told c.reader).counts ≡ no_calls)
+            × ((Self.Writer.told c.writer).counts ≡ no_calls)) }
         ensures returned { Adds (told self.old).returned (told self.new).returned [] };
 
     /// Takes a connection back, and closes it.
@@ -90,7 +92,8 @@ pub trait Listen {
         ensures counts { (told self.new).counts ≡ (told self.old).counts }
         ensures given { Adds (told self.old).given (told self.new).given [] }
         ensures returned { Adds (told self.old).returned (told self.new).returned
-            (ends_of (Self.Reader.told connection.reader) (Self.Writer.told connection.writer) ∷ []) };
+            (ends_of (Self.Reader.told connection.reader)
+                (Self.Writer.told connection.writer) ∷ []) };
 }
 
 /// The connections of a listener of the system.
@@ -113,8 +116,8 @@ impl<'a> FromListener<'a> {
 }
 
 /// The two ends of a connection, of which no read and no write waits longer than `LONGEST_WAIT`. It
-/// sends each answer at once, however short it is; where the system refuses that, answers may be held
-/// back for a moment, and no more.
+/// sends each answer at once, however short it is; where the system refuses that, answers may be
+/// held back for a moment, and no more.
 fn opened(
     stream: TcpStream,
 ) -> io::Result<Connection<FromRead<TcpStream>, ToWrite<WaitsOnce<TcpStream>>>>
@@ -194,16 +197,18 @@ fn serve_connection<S: Shelf, R: Source, W: Sink>(
     requires writer { (W.told connection.old.writer).counts ≡ no_calls }
     ensures clean { S.is_clean office.new → S.is_clean office.old }
     ensures honest { S.is_honest office.new → S.is_honest office.old }
-    ensures did { S.is_clean office.new → (before : OfficeState) (tables : Content) →
-        Keeps (office_storage S.is_honest S.content S.may_leave) office.old tables before → OnOk result (
-        (after : OfficeState) × (kept : Content)
-        × ServesConnection (office_storage S.is_honest S.content S.may_leave) office.old tables before office.new kept after
-        (connected (ends_of (R.told connection.old.reader) (W.told connection.old.writer))
-        (ends_of (R.told connection.new.reader) (W.told connection.new.writer)))) }
+    ensures did { let storage = office_storage S.is_honest S.content S.may_leave in
+        S.is_clean office.new →
+        (before : OfficeState) (tables : Content) → Keeps storage office.old tables before →
+        OnOk result ((after : OfficeState) × (kept : Content)
+        × ServesConnection storage office.old tables before office.new kept after (connected
+            (ends_of (R.told connection.old.reader) (W.told connection.old.writer))
+            (ends_of (R.told connection.new.reader) (W.told connection.new.writer)))) }
     // Where its buffer was refused, nothing was touched.
     ensures untouched { OnErr result (
         (ends_of (R.told connection.new.reader) (W.told connection.new.writer)
-        ≡ ends_of (R.told connection.old.reader) (W.told connection.old.writer)) × (office.new ≡ office.old)) }
+        ≡ ends_of (R.told connection.old.reader) (W.told connection.old.writer))
+        × (office.new ≡ office.old)) }
 {
     let reader = &mut connection.reader;
     let writer = &mut connection.writer;
@@ -225,14 +230,17 @@ pub fn serve_each<S: Shelf, L: Listen>(
     ensures clean { S.is_clean office.new → S.is_clean office.old }
     ensures honest { S.is_honest office.new → S.is_honest office.old }
 
-    // Each connection that the listener gave was served once, as `serve` does, from its first call to its
-    // being given back, and no other one.
-    ensures did { S.is_clean office.new → (before : OfficeState) (tables : Content) →
-        Keeps (office_storage S.is_honest S.content S.may_leave) office.old tables before →
-        (served : List Connected) × Listens (office_storage S.is_honest S.content S.may_leave) office.old tables before office.new served
+    // Each connection that the listener gave was served once, as `serve` does, from its first call
+    // to its being given back, and no other one.
+    ensures did { let storage = office_storage S.is_honest S.content S.may_leave in
+        S.is_clean office.new →
+        (before : OfficeState) (tables : Content) → Keeps storage office.old tables before →
+        (served : List Connected) × Listens storage office.old tables before office.new served
         × EndsListening count (L.told listener.old) (L.told listener.new) served result }
-    // The listener tells how many connections it gave and got back, and a failure where it is the reason.
-    ensures told { (served : List Connected) × EndsListening count (L.told listener.old) (L.told listener.new) served result }
+    // The listener tells how many connections it gave and got back, and a failure where it is the
+    // reason.
+    ensures told { (served : List Connected)
+        × EndsListening count (L.told listener.old) (L.told listener.new) served result }
 {
     for _ in 0..count {
         let Ok(mut connection) = listener.accept() else {
@@ -247,8 +255,8 @@ pub fn serve_each<S: Shelf, L: Listen>(
     Ok(())
 }
 
-/// Serves so many connections of a listener of the system, as `serve_each` does. What these give and
-/// take no clause tells.
+/// Serves so many connections of a listener of the system, as `serve_each` does. What these give
+/// and take no clause tells.
 pub fn serve_on<S: Shelf>(
     alloc: Global,
     listener: &TcpListener,
@@ -259,9 +267,10 @@ pub fn serve_on<S: Shelf>(
     ensures honest { S.is_honest office.new → S.is_honest office.old }
 
     // The office served each connection as `serve` does, and no other one; all where it says so.
-    ensures did { S.is_clean office.new → (before : OfficeState) (tables : Content) →
-        Keeps (office_storage S.is_honest S.content S.may_leave) office.old tables before →
-        (served : List Connected) × Listens (office_storage S.is_honest S.content S.may_leave) office.old tables before office.new served
+    ensures did { let storage = office_storage S.is_honest S.content S.may_leave in
+        S.is_clean office.new →
+        (before : OfficeState) (tables : Content) → Keeps storage office.old tables before →
+        (served : List Connected) × Listens storage office.old tables before office.new served
         × ServedAsTold count served result }
 {
     serve_each(alloc, &mut FromListener::new(listener), count, office)

@@ -48,7 +48,8 @@ fn answer_to(alloc: Global, reply: &Reply, form: Form) -> Result<Answer, Unavail
 
 /// The whole answer to a request that asks nothing.
 fn answer_fault(alloc: Global, fault: AskFault) -> Result<Answer, Unavailable>
-    ensures { IfOk result (λ answer. (fault ≢ AskFault.NoMemory) × (bytes_of answer ≡ ask_fault_text fault)) }
+    ensures { IfOk result (λ answer. (fault ≢ AskFault.NoMemory)
+        × (bytes_of answer ≡ ask_fault_text fault)) }
 {
     match ask_fault_answer(alloc, fault) {
         Ok(answer) => Ok(Answer::Written(answer)),
@@ -64,10 +65,11 @@ fn answer_asked<S: Shelf>(
 ) -> Result<Answer, Unavailable>
     ensures clean { S.is_clean office.new → S.is_clean office.old }
     ensures honest { S.is_honest office.new → S.is_honest office.old }
-    // A request that is read as this is dealt with, whichever office the tables that are kept stand for.
-    ensures deals { S.is_clean office.new → (before : OfficeState) (tables : Content) (request : PlainRequest) → read_of request ≡ Ok asked.now →
-        Keeps (office_storage S.is_honest S.content S.may_leave) office.old tables before →
-        DealsBy office_protocol (office_storage S.is_honest S.content S.may_leave) office.old office.new tables before request result }
+    // A request that is read as this is dealt with, whichever office the kept tables stand for.
+    ensures deals { let storage = office_storage S.is_honest S.content S.may_leave in
+        S.is_clean office.new → (before : OfficeState) (tables : Content) (request : PlainRequest) →
+        read_of request ≡ Ok asked.now → Keeps storage office.old tables before →
+        DealsBy office_protocol storage office.old office.new tables before request result }
 {
     let decided = office.decide(alloc, &asked.command);
     let Ok(answer) = answer_to(alloc, &decided.reply, asked.form) else {

@@ -19,9 +19,9 @@ use office_http_requests::RouteCache;
 use office_tables_shelf::shelf::Shelf;
 use std::alloc::Global;
 
-/// Serves the requests that the reader gives, until it ends, a fault of the framing, the last request,
-/// or the limit. Each answer is written before the next read. A request for which memory or the tables
-/// were refused is answered unavailable, and changes nothing.
+/// Serves the requests that the reader gives, until it ends, a fault of the framing, the last
+/// request, or the limit. Each answer is written before the next read. A request for which memory
+/// or the tables were refused is answered unavailable, and changes nothing.
 ///
 /// It takes its buffer first: where that is refused, nothing was read.
 pub fn serve<S: Shelf, R: Source, W: Sink>(
@@ -34,14 +34,17 @@ pub fn serve<S: Shelf, R: Source, W: Sink>(
     ensures clean { S.is_clean office.new → S.is_clean office.old }
     ensures honest { S.is_honest office.new → S.is_honest office.old }
 
-    // On a clean disk, whether or not a failure shut the tables: the bytes answered are those of the office machine, run
-    // over the requests of the bytes read; the tables that are kept stand for the office after them; a crash leaves the
-    // office after the last request that was answered and changed rows, or after a later one; and the run keeps the laws.
-    ensures did { S.is_clean office.new → (before : OfficeState) (tables : Content) →
-        Keeps (office_storage S.is_honest S.content S.may_leave) office.old tables before →
+    // On a clean disk, whether or not a failure shut the tables: the bytes answered are those of
+    // the office machine, run over the requests of the bytes read; the tables that are kept stand
+    // for the office after them; a crash leaves the office after the last request that was answered
+    // and changed rows, or after a later one; and the run keeps the laws.
+    ensures did { let storage = office_storage S.is_honest S.content S.may_leave in
+        S.is_clean office.new →
+        (before : OfficeState) (tables : Content) → Keeps storage office.old tables before →
         (after : OfficeState) × (kept : Content) × Did office_protocol
-        (Serves (office_storage S.is_honest S.content S.may_leave) (S.may_leave office.old) tables before office.new kept after) max_requests
-        (ends_of (R.told reader.old) (W.told writer.old)) (ends_of (R.told reader.new) (W.told writer.new)) result }
+        (Serves storage (S.may_leave office.old) tables before office.new kept after)
+        max_requests (ends_of (R.told reader.old) (W.told writer.old))
+        (ends_of (R.told reader.new) (W.told writer.new)) result }
 
     // Read and Write are answered only where that end told a fault.
     ensures fault { TellsFault (ends_of (R.told reader.old) (W.told writer.old))
@@ -50,7 +53,8 @@ pub fn serve<S: Shelf, R: Source, W: Sink>(
     ensures untouched { IfErr result (λ why. why ≡ ServeFault.NoMemory →
         Untouched (ends_of (R.told reader.old) (W.told writer.old))
         (ends_of (R.told reader.new) (W.told writer.new)) office.old office.new) }
-    // The reader is called only while a request is awaited: not again after the last one or a fault.
+    // The reader is called only while a request is awaited: not again after the last one or a
+    // fault.
     ensures asks { OnlyAsks R.told max_requests reader.old reader.new }
     ensures reads { (R.told reader.new).counts.calls
         ≤ (R.told reader.old).counts.calls + longest_request * (max_requests + 1) + 1 }

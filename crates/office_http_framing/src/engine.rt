@@ -43,10 +43,12 @@ fn serve_request<Tools, M: Machine<Tools>, W: Sink>(
 ) -> Result<(), WriteFailed>
     ensures clean { M.is_clean machine.new → M.is_clean machine.old }
     ensures honest { M.storage.is_honest machine.new → M.storage.is_honest machine.old }
-    ensures step { M.is_clean machine.new → (before : M.State) (held : M.Stored) → Keeps M.storage machine.old held before →
+    ensures step { M.is_clean machine.new →
+        (before : M.State) (held : M.Stored) → Keeps M.storage machine.old held before →
         (answer : List ℕ) × (after : M.State) × (kept : M.Stored)
         × (how : MayAnswer M.protocol before (plain request.now) answer after)
-        × Deals M.protocol M.storage machine.old machine.new held kept before (plain request.now) answer after how
+        × Deals M.protocol M.storage machine.old machine.new held kept
+        before (plain request.now) answer after how
         × WritesOrBreaksOff result (W.told writer.old) (W.told writer.new) answer }
     ensures counts { Grows (W.told writer.old).counts (W.told writer.new).counts }
     ensures fault { OnErr result
@@ -89,12 +91,16 @@ pub fn serve<Tools, M: Machine<Tools>, R: Source, W: Sink>(
     ensures clean { M.is_clean machine.new → M.is_clean machine.old }
     ensures honest { M.storage.is_honest machine.new → M.storage.is_honest machine.old }
 
-    // What was read, answered and written is a run of the protocol; what is kept stands for the state after it; and a
-    // crash leaves no more than the run lets it.
-    ensures did { M.is_clean machine.new → (before : M.State) (held : M.Stored) → Keeps M.storage machine.old held before →
+    // What was read, answered and written is a run of the protocol, whether or not a failure shut
+    // the machine; what is kept stands for the state after it; and a crash leaves no more than the
+    // run lets it.
+    ensures did { M.is_clean machine.new →
+        (before : M.State) (held : M.Stored) → Keeps M.storage machine.old held before →
         (after : M.State) × (kept : M.Stored) × Did M.protocol
-        (Ran M.protocol M.storage (M.storage.may_leave machine.old) held before machine.new kept after) max_requests
-        (ends_of (R.told reader.old) (W.told writer.old)) (ends_of (R.told reader.new) (W.told writer.new)) result }
+        (Ran M.protocol M.storage (M.storage.may_leave machine.old) held before
+        machine.new kept after)
+        max_requests (ends_of (R.told reader.old) (W.told writer.old))
+        (ends_of (R.told reader.new) (W.told writer.new)) result }
     // Read and Write are answered only where that end told a failure, or a write of no byte.
     ensures fault { TellsFault (ends_of (R.told reader.old) (W.told writer.old))
         (ends_of (R.told reader.new) (W.told writer.new)) result }
@@ -102,7 +108,8 @@ pub fn serve<Tools, M: Machine<Tools>, R: Source, W: Sink>(
     ensures untouched { IfErr result (λ why. why ≡ ServeFault.NoMemory →
         Untouched (ends_of (R.told reader.old) (W.told writer.old))
         (ends_of (R.told reader.new) (W.told writer.new)) machine.old machine.new) }
-    // The reader is called only while a request is awaited: not again after the last one or a fault.
+    // The reader is called only while a request is awaited: not again after the last one or a
+    // fault.
     ensures asks { OnlyAsks R.told max_requests reader.old reader.new }
     ensures reads { (R.told reader.new).counts.calls
         ≤ (R.told reader.old).counts.calls + longest_request * (max_requests + 1) + 1 }

@@ -32,8 +32,8 @@ impl Answer {
 #[derive(Clone, Copy)]
 pub struct Unavailable;
 
-/// A machine that answers requests one after another, each from the state that the one before it left.
-/// `Tools` are what it makes once for a stream and uses for each request, as a table of routes.
+/// A machine that answers requests one after another, each from the state that the one before it
+/// left. `Tools` are what it makes once for a stream and uses for each request, as a table of routes.
 pub trait Machine<Tools> {
     ghost use Rattle.office_http_framing.specs.Front.{plain};
     ghost use Rattle.office_http_framing.specs.Protocol.{Protocol};
@@ -45,18 +45,21 @@ pub trait Machine<Tools> {
     // What it stores of that.
     ghost Stored: { Type 0 };
 
-    // What it holds now, what a crash may leave of that, the states for which either stands, and whether the machine is
-    // honest: what it keeps its state on has returned what was written, and no failure has shut it.
+    // What it holds now, what a crash may leave of that, the states for which either stands, and
+    // whether the machine is honest: what it keeps its state on has returned what was written, and
+    // no failure has shut it.
     ghost storage: { Storage Self State Stored };
 
-    // What the machine keeps its state on has returned what was written, so far, whether or not a failure has shut it.
+    // What the machine keeps its state on has returned what was written, so far, whether or not a
+    // failure has shut it.
     ghost is_clean: { Self → Type 0 };
 
     // The answers that it may give, and the states that they leave.
     ghost protocol: { Protocol State };
 
-    /// Decides the request, builds its whole answer, and then makes its changes; or makes none. Where a failure has
-    /// shut what it keeps its state on, it is unavailable, or gives an answer that is right from any state.
+    /// Decides the request, builds its whole answer, and then makes its changes; or makes none.
+    /// Where a failure has shut what it keeps its state on, it is unavailable, or gives an answer
+    /// that is right from any state.
     fn answer(
         &mut self,
         alloc: Global,
@@ -65,16 +68,18 @@ pub trait Machine<Tools> {
     ) -> Result<Answer, Unavailable>
         ensures clean { is_clean self.new → is_clean self.old }
         ensures honest { storage.is_honest self.new → storage.is_honest self.old }
-        // Whichever state is kept: the answer is its step, what is kept then stands for the state after it, and a
-        // crash leaves that alone once it has changed. Refused, the state stays.
-        ensures deals { is_clean self.new → (before : State) (held : Stored) → Keeps storage self.old held before →
+        // Whichever state is kept: the answer is its step, what is kept then stands for the state
+        // after it, and a crash leaves that alone once it has changed. Refused, the state stays.
+        ensures deals { is_clean self.new →
+            (before : State) (held : Stored) → Keeps storage self.old held before →
             DealsBy protocol storage self.old self.new held before (plain request.now) result };
 
     /// The whole answer to a fault of the framing, or memory was refused.
     fn fault_answer(alloc: Global, fault: Fault) -> Result<Vec<u8>, AllocError>
         ensures { IfOk result (λ answer. answer.items ≡ protocol.fault_text fault) };
 
-    /// The answer that stands in place of one for which memory or the store was refused. It takes no memory.
+    /// The answer that stands in place of one for which memory or the store was refused. It takes no
+    /// memory.
     fn unavailable() -> &'static [u8]
         ensures { result.now ≡ protocol.unavailable_text };
 }
