@@ -47,3 +47,25 @@ module _ {Machine State Stored : Type 0} (protocol : Protocol State) (storage : 
   ran-next may first before old new held kept middle request answer after how deals requests answers ran =
       let longer = leaves-next middle held kept request answer after how (storage.may_leave old) (storage.may_leave new) deals.is_kept deals.leaves may first before requests answers ran.run ran.leaves in
       record { run = longer.0; keeps = deals.keeps; leaves = longer.1 }
+
+  -- where more could be left before a run, no more is left at its end than it lets
+  leaves_wider : (may more : Stored → Type 0) (held : Stored) (before : State) (requests : List PlainRequest) (answers : List (List ℕ)) (after : State) (run : Run protocol before requests answers after)
+      (kept : Stored) (at_end : Stored → Type 0) → ((left : Stored) → may left → more left)
+      → Leaves protocol storage may held before requests answers after run kept at_end → Leaves protocol storage more held before requests answers after run kept at_end
+  leaves_wider may more held before [] [] after run kept at_end wider none = (none.0, λ left is. wider left (none.1 left is))
+  leaves_wider may more held before [] (a ∷ answers) after run kept at_end wider some = absurd run
+  leaves_wider may more held before (r ∷ requests) [] after run kept at_end wider some = absurd run
+  leaves_wider may more held before (r ∷ requests) (a ∷ answers) after run kept at_end wider some = (
+    some.0,
+    some.1,
+    leaves_wider (LeavesOne protocol storage may held some.0 before r a run.0 run.1) (LeavesOne protocol storage more held some.0 before r a run.0 run.1) some.0 run.0 requests answers after run.2 kept at_end
+        (more_after_one may more held some.0 before r a run.0 run.1 wider) some.2,
+  )
+
+  pub ran-wider : (may more : Stored → Type 0) (held : Stored) (before : State) (last : Machine) (kept : Stored) (after : State) (requests : List PlainRequest) (answers : List (List ℕ))
+      → ((left : Stored) → may left → more left) → Ran protocol storage may held before last kept after requests answers → Ran protocol storage more held before last kept after requests answers
+  ran-wider may more held before last kept after requests answers wider ran = record {
+    run = ran.run;
+    keeps = ran.keeps;
+    leaves = leaves_wider may more held before requests answers after ran.run kept (storage.may_leave last) wider ran.leaves;
+  }
