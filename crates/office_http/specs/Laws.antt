@@ -11,6 +11,7 @@ use Rattle.office_desk.specs.declared.reply.Reply.{Reply}
 use Rattle.office_desk.specs.declared.reply.Reply.TheVariants.{Refused}
 use Rattle.office_http_requests.specs.declared.fault.AskFault.{AskFault}
 use Rattle.office_http_framing.specs.Front.{PlainRequest}
+use Rattle.office_http_framing.specs.Protocol.{Run as ProtocolRun}
 use Rattle.office_http_framing.specs.Stops.{Ran, Storage}
 use Rattle.office_tables_shelf.specs.Content.{Content}
 use Rattle.office_http.specs.Protocol.{office_protocol, read_of}
@@ -69,6 +70,10 @@ pub record KeepsLaws (before : Office) (requests : List PlainRequest) (answers :
   pub running : (id : ℕ) → (side_at after id).committed ≡ running id (side_at before id).committed before (asked_in requests) replies after run
   pub register : RegisterRuns before (asked_in requests) replies after run
   pub repeats : Repeats before (asked_in requests) replies after run
+
+-- a run of the office machine over the requests, which keeps the laws
+abbrev pub RunsLawfully : (before after : Office) → List PlainRequest → List (List ℕ) → Type 0
+RunsLawfully before after requests answers = ProtocolRun office_protocol before requests answers after × KeepsLaws before requests answers after
 
 -- What the office did over requests and their answers: it ran over them; the tables that are kept stand for the office after them; a crash
 -- leaves no more than the run lets it; and the run keeps the laws.

@@ -20,7 +20,7 @@ returns-in_default-clause-did g c clean before tables keeps =
       so_far.1,
       (
         omega (arith, c.loop-test.true, so_far.2),
-        c.in_default.ensures.counts ∙ ap one_failed (c.loop.invariant.counts ∙ ap (λ n. more_accepted n _) (sym so_far.2)),
+        c.in_default.ensures.counts ∙ ap one_failed (c.loop.invariant.counts ∙ ap (λ n. more_accepted n (g.L.Listen.told c.args.listener.now).counts) (sym so_far.2)),
         turns-same _ _ _ _ _ so_far.3 c.in_default.ensures.given c.in_default.ensures.returned,
       ),
     )
@@ -31,7 +31,7 @@ returns-in_default-clause-told g c =
       so_far.0,
       (
         omega (arith, c.loop-test.true, so_far.1),
-        c.in_default.ensures.counts ∙ ap one_failed (c.loop.invariant.counts ∙ ap (λ n. more_accepted n _) (sym so_far.1)),
+        c.in_default.ensures.counts ∙ ap one_failed (c.loop.invariant.counts ∙ ap (λ n. more_accepted n (g.L.Listen.told c.args.listener.now).counts) (sym so_far.1)),
         turns-same _ _ _ _ _ so_far.2 c.in_default.ensures.given c.in_default.ensures.returned,
       ),
     )
@@ -46,7 +46,7 @@ returns-then-is_err-clause-did g c clean before tables keeps =
       subst (λ office. Listens (office_storage g.S.Shelf.is_honest g.S.Shelf.content g.S.Shelf.may_leave) c.args.office.now tables before office so_far.0) (sym same.1) so_far.1,
       (
         omega (arith, c.loop-test.true, so_far.2),
-        c.take_back.ensures.counts ∙ (c.in-Ok.ensures.counts ∙ ap one_accepted (c.loop.invariant.counts ∙ ap (λ n. more_accepted n _) (sym so_far.2))),
+        c.take_back.ensures.counts ∙ (c.in-Ok.ensures.counts ∙ ap one_accepted (c.loop.invariant.counts ∙ ap (λ n. more_accepted n (g.L.Listen.told c.args.listener.now).counts) (sym so_far.2))),
         _,
         turns-untouched (g.L.Listen.told c.args.listener.now) (g.L.Listen.told c.loop.listener) (g.L.Listen.told c.accept.new.self) (g.L.Listen.told c.take_back.new.self) _ _ _ _ so_far.3 c.in-Ok.ensures.given c.in-Ok.ensures.returned c.take_back.ensures.given c.take_back.ensures.returned same.0,
       ),
@@ -60,7 +60,7 @@ returns-then-is_err-clause-told g c =
       so_far.0,
       (
         omega (arith, c.loop-test.true, so_far.1),
-        c.take_back.ensures.counts ∙ (c.in-Ok.ensures.counts ∙ ap one_accepted (c.loop.invariant.counts ∙ ap (λ n. more_accepted n _) (sym so_far.1))),
+        c.take_back.ensures.counts ∙ (c.in-Ok.ensures.counts ∙ ap one_accepted (c.loop.invariant.counts ∙ ap (λ n. more_accepted n (g.L.Listen.told c.args.listener.now).counts) (sym so_far.1))),
         _,
         turns-untouched (g.L.Listen.told c.args.listener.now) (g.L.Listen.told c.loop.listener) (g.L.Listen.told c.accept.new.self) (g.L.Listen.told c.take_back.new.self) _ _ _ _ so_far.2 c.in-Ok.ensures.given c.in-Ok.ensures.returned c.take_back.ensures.given c.take_back.ensures.returned same.0,
       ),

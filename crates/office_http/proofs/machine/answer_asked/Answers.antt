@@ -3,7 +3,7 @@ use Rattle.std.specs.Prelude.{◌==◌}
 use Rattle.office_http_framing.specs.Protocol.{bytes_of}
 use Rattle.office_tables_shelf.specs.Change.{changed_by}
 use Rattle.office_desk.specs.Answers.{AnswersAny}
-use Rattle.office_http.proofs.MachineLemmas.{after_step, deals_made, deals_read, deals_refused, idle_step, none_of}
+use Rattle.office_http.proofs.MachineLemmas.{after_step, deals_made, deals_read, deals_refused, idle_step, none_of, some_of}
 use Rattle.office_http.proofs.machine.answer_asked.Goals as goal
 
 -- nothing was changed, since the answer found no memory or the tables were refused
@@ -32,7 +32,7 @@ returns-then-is_empty-clause-deals g c clean before tables request is_read keeps
 pub returns-in-Ok-apply-clause-deals : goal.returns-in-Ok-apply-clause-deals
 returns-in-Ok-apply-clause-deals g c clean before tables request is_read keeps =
     let kept = c.decide-decided.ensures.kept in
-    let some = λ none. true≢false (sym (c.is_empty.ensures ∙ ap (λ xs. length xs == 0) none) ∙ c.if-is_empty.false) in
+    let some = some_of _ _ c.is_empty.ensures c.if-is_empty.false in
     let honest = c.in-Ok-apply.ensures.open clean some in
     let read = c.apply.ensures.honest honest in
     let same = keeps.held (kept.honest_before read) in
