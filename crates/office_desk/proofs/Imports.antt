@@ -1,5 +1,5 @@
 -- The records of an import, one after the other.
-use Rattle.std.proofs.Common.{◌≡◌, ◌+◌, ◌++◌, ◌≤◌, ◌<◌, ℕ, Bool, true, false, List, [], ◌∷◌, Option, Some, None, Result, Ok, length, drop, get_or, zero, suc, refl, ap, sym, subst, ◌∙◌, inl, inr, arith}
+use Rattle.std.proofs.Common.{◌≡◌, ◌+◌, ◌++◌, ◌≤◌, ◌<◌, ◌≢◌, ℕ, Bool, true, false, List, [], ◌∷◌, Option, Some, None, Result, Ok, length, drop, get_or, zero, suc, refl, ap, sym, subst, ◌∙◌, inl, inr, arith, subst₂, append-nil}
 use Rattle.std.proofs.Math.Seq.{drop-cons}
 use Rattle.std.specs.Prelude.{◌⊎◌}
 use Rattle.cabinet_core.specs.Cabinet.{Line, added as added_line, same as same_line, refused as refused_line}
@@ -7,6 +7,9 @@ use Rattle.cabinet_core.specs.declared.command.RecordCommand.{RecordCommand}
 use Rattle.office_tables_shelf.specs.Change.{changed_by}
 use Rattle.office_tables_shelf.specs.Content.{Content}
 use Rattle.office_tables_shelf.specs.Counts.{writes_in}
+use Rattle.office_tables_shelf.specs.Shelf.{IsTold}
+use Rattle.office_tables_shelf.specs.declared.shelf.ShelfFault.{ShelfFault}
+use Rattle.office_desk_cabinet.specs.Open.{StaysOpen}
 use Rattle.office_tables_shelf.specs.declared.rows.RowChange.{RowChange}
 use Rattle.office_tables_shelf.specs.declared.rows.Table.{Table}
 use Rattle.cabinet_core.specs.Register.{Register}
@@ -15,18 +18,23 @@ use Rattle.office_desk_cabinet.proofs.KeptDamage.{meets_still, nothing_kept}
 use Rattle.office_desk_cabinet.specs.RegisterDamage.{KeepsDamage, MeetsRecordDamage, SparesDamage}
 use Rattle.office_desk_cabinet.specs.Registers.{RegistersFrom, line_told, most_record_writes, rows_told}
 use Rattle.office_desk_cabinet.specs.RegisterStands.{RegisterStandsSound}
+use Rattle.office_desk_cabinet.specs.Lines.{TellsLine}
 use Rattle.office_desk_cabinet.specs.declared.registered.Registered.{Registered}
+use Rattle.office_desk_cabinet.specs.declared.registered.Registered.TheVariants as registered
+use Rattle.cabinet_core.specs.declared.refusal.CabinetRefusal.{CabinetRefusal}
 use Rattle.office_desk_cabinet.proofs.PendingLemmas.{changed_append}
 use Rattle.office_desk.specs.Answers.{AnswersAny}
 use Rattle.office_desk.specs.Changes.{IsRefused, most_import_writes, most_writes}
 use Rattle.office_desk.specs.Damage.{MeetsCabinetDamage, MeetsImportDamage}
 use Rattle.office_desk.specs.Deciding.{IsDecision}
-use Rattle.office_desk.specs.Importing.{ImportsAny, IsTaken, LeavesAnyTiming, TakesFrom, TakesRecord, TakesWhole, goes_on}
+use Rattle.office_desk.specs.Importing.{ImportsAny, LeavesAnyTiming, TakesFrom, TakesLine, TakesRecord, TakesWhole, goes_on}
 use Rattle.office_desk.specs.Office.{Office}
-use Rattle.office_desk.specs.Recording.{HasDamagedAbout}
+use Rattle.office_desk.specs.Recording.{HasDamagedAbout, TellsAbout}
 use Rattle.office_desk.specs.Refusal.{line_of}
 use Rattle.office_desk.specs.StandFor.{StandForSound}
-use Rattle.office_desk.specs.Step.{cabinet_of, import_by, import_from, imported, is_known}
+use Rattle.office_desk.specs.Blaming.{IsRefusedAfter}
+use Rattle.office_desk.specs.Named.{number_of}
+use Rattle.office_desk.specs.Step.{cabinet_of, import_by, import_from, imported, is_known, refusal_of_record}
 use Rattle.office_desk.specs.declared.command.Command.TheVariants as command
 use Rattle.office_desk.specs.declared.decided.Decided.{Decided}
 use Rattle.office_desk.specs.declared.importing.Taken.{Taken}
@@ -37,7 +45,7 @@ use Rattle.office_desk.specs.declared.refusal.Refusal.TheVariants.{ImportRow}
 use Rattle.office_desk.specs.declared.reply.Reply.{Reply}
 use Rattle.office_desk.specs.declared.reply.Reply.TheVariants.{Imported, Refused}
 use Rattle.office_desk.proofs.Decisions.{refuses_so}
-use Rattle.office_desk.proofs.Recorded.{record_whole, register_of, stands_after}
+use Rattle.office_desk.proofs.Recorded.{gone_whole, record_whole, register_of, stands_after}
 use Rattle.office_desk.proofs.Shown.{query_answers}
 use Rattle.office_desk.proofs.Writes.{import_writes}
 
@@ -202,40 +210,66 @@ counted_on added same index added_now same_now t is (inr old) = let a = old.1 in
 
 -- ---- damaged rows
 
-pub refused_whole : (stored : Content) (before : List RowChange) (c : RecordCommand) (why : Refusal) → TakesWhole stored before c (taken.Refused why) before
-refused_whole stored before c why = record { whole = λ took. absurd took; spares = nothing_kept (changed_by stored before) }
+-- a record of an intersection that is not there
+pub unknown_whole : (stored : Content) (before : List RowChange) (c : RecordCommand) → ¬ HasDamagedAbout stored (cabinet_of c) → TellsAbout stored (cabinet_of c) false → TakesWhole stored before c before
+unknown_whole stored before c about gone = record { about = about; whole = inl gone; spares = nothing_kept (changed_by stored before) }
 
+-- one that adds nothing
 pub same_whole : (stored seen : Content) (before : List RowChange) (c : RecordCommand) → seen ≡ stored → ¬ HasDamagedAbout stored (cabinet_of c) → ¬ MeetsRecordDamage (changed_by seen before) c
-    → TakesWhole stored before c taken.Same before
+    → TakesWhole stored before c before
 same_whole stored seen before c same about whole = record {
-  whole = λ took. (about, subst (λ t. ¬ MeetsRecordDamage (changed_by t before) c) same whole);
+  about = about;
+  whole = inr (subst (λ t. ¬ MeetsRecordDamage (changed_by t before) c) same whole);
   spares = nothing_kept (changed_by stored before);
 }
 
 pub added_whole : (stored seen : Content) (before rows after shown : List RowChange) (c : RecordCommand) → seen ≡ stored → shown ≡ rows → after ≡ before ++ rows
-    → ¬ HasDamagedAbout stored (cabinet_of c) → ¬ MeetsRecordDamage (changed_by seen before) c → SparesDamage seen before shown → TakesWhole stored before c taken.Added after
+    → ¬ HasDamagedAbout stored (cabinet_of c) → ¬ MeetsRecordDamage (changed_by seen before) c → SparesDamage seen before shown → TakesWhole stored before c after
 added_whole stored seen before rows after shown c same those list about whole spares = record {
-  whole = λ took. (about, subst (λ t. ¬ MeetsRecordDamage (changed_by t before) c) same whole);
+  about = about;
+  whole = inr (subst (λ t. ¬ MeetsRecordDamage (changed_by t before) c) same whole);
   spares =
       subst (KeepsDamage (changed_by stored before)) (sym (ap (changed_by stored) list ∙ changed_append stored before rows))
       (subst (λ t. SparesDamage t before rows) same (subst (SparesDamage seen before) those spares));
 }
 
-pub was_taken : {added same added_now same_now : ℕ} (t : Taken) → (((t ≡ taken.Added) × (added_now ≡ added + 1) × (same_now ≡ same)) ⊎ ((t ≡ taken.Same) × (added_now ≡ added) × (same_now ≡ same + 1))) → IsTaken t
-was_taken t (inl new) = subst IsTaken (sym new.0) tt
-was_taken t (inr old) = subst IsTaken (sym old.0) tt
+pub whole_stored : (before : List RowChange) (c : RecordCommand) (after : List RowChange) {stored seen : Content} → seen ≡ stored → TakesWhole seen before c after → TakesWhole stored before c after
+whole_stored before c after same takes = subst (λ s. TakesWhole s before c after) same takes
 
-pub whole_stored : (before : List RowChange) (c : RecordCommand) (t : Taken) (after : List RowChange) {stored seen : Content} → seen ≡ stored → TakesWhole seen before c t after → TakesWhole stored before c t after
-whole_stored before c t after same takes = subst (λ s. TakesWhole s before c t after) same takes
-
--- a damaged row that a record of the import meets is met by one of those that are left
-pub still_left : (stored : Content) (rest : List RecordCommand) (c : RecordCommand) (cs : List RecordCommand) (before after : List RowChange) (t : Taken) → rest ≡ c ∷ cs → IsTaken t
-    → KeepsDamage stored (changed_by stored before) → TakesWhole stored before c t after → MeetsImportDamage stored rest → MeetsImportDamage stored cs
-still_left stored rest c cs before after t left took spared takes damage = go (subst (MeetsImportDamage stored) left damage)
+-- of the rows that it reads as they are stored, too, none is damaged
+pub never_met : (stored : Content) (before : List RowChange) (c : RecordCommand) (after : List RowChange) → KeepsDamage stored (changed_by stored before) → TakesWhole stored before c after → ¬ MeetsCabinetDamage stored c (cabinet_of c)
+never_met stored before c after spared takes = go takes.whole
   where
-    go : MeetsCabinetDamage stored c (cabinet_of c) ⊎ MeetsImportDamage stored cs → MeetsImportDamage stored cs
-    go (inl damaged) = absurd (record_whole stored c (cabinet_of c) (takes.whole took).0 (λ met. (takes.whole took).1 (meets_still stored (changed_by stored before) c spared met)) damaged)
-    go (inr later) = later
+    go : TellsAbout stored (cabinet_of c) false ⊎ (¬ MeetsRecordDamage (changed_by stored before) c) → ¬ MeetsCabinetDamage stored c (cabinet_of c)
+    go (inl gone) = gone_whole stored c (cabinet_of c) gone takes.about
+    go (inr whole) = record_whole stored c (cabinet_of c) takes.about (λ met. whole (meets_still stored (changed_by stored before) c spared met))
+
+-- ---- the line, on the rows under a record's keys
+
+pub line_added : (stored seen : Content) (before rows after : List RowChange) (told : Registered) (c : RecordCommand) → seen ≡ stored → TellsAbout stored (cabinet_of c) true
+    → line_told told ≡ added_line → rows_told told ≡ rows → TellsLine (changed_by seen before) c (line_told told) (rows_told told) → after ≡ before ++ rows → TakesLine stored before c taken.Added after
+line_added stored seen before rows after told c same there is those line list = (
+  rows,
+  (there, subst (λ (t : Content). TellsLine (changed_by t before) c added_line rows) same (subst₂ (λ (l : Line) (r : List RowChange). TellsLine (changed_by seen before) c l r) is those line)),
+  list,
+)
+
+pub line_same : (stored seen : Content) (before : List RowChange) (told : Registered) (c : RecordCommand) → seen ≡ stored → TellsAbout stored (cabinet_of c) true
+    → told ≡ registered.Same → TellsLine (changed_by seen before) c (line_told told) (rows_told told) → TakesLine stored before c taken.Same before
+line_same stored seen before told c same there is line = (
+  [],
+  (there, subst (λ (t : Content). TellsLine (changed_by t before) c same_line []) same (subst (λ (d : Registered). TellsLine (changed_by seen before) c (line_told d) (rows_told d)) is line)),
+  sym (append-nil before),
+)
+
+pub line_refused : (stored seen : Content) (before : List RowChange) (told : Registered) (c : RecordCommand) (why : CabinetRefusal) (said : Refusal) → seen ≡ stored → TellsAbout stored (cabinet_of c) true
+    → told ≡ registered.Refused why → said ≡ refusal_of_record why → TellsLine (changed_by seen before) c (line_told told) (rows_told told) → IsRefusedAfter stored before c (number_of said)
+line_refused stored seen before told c why said same there is those line =
+    inr (
+      why,
+      (there, subst (λ (t : Content). TellsLine (changed_by t before) c (refused_line why) []) same (subst (λ (d : Registered). TellsLine (changed_by seen before) c (line_told d) (rows_told d)) is line)),
+      ap (λ (w : Refusal). number_of w) those,
+    )
 
 -- ---- the ends of the loop
 
@@ -249,11 +283,34 @@ nothing_written table pending records none = let zero_writes = ap (writes_in tab
 pub same_stored : (before : List RowChange) (c : RecordCommand) (t : Taken) (after : List RowChange) {stored seen : Content} → seen ≡ stored → TakesRecord seen before c t after → TakesRecord stored before c t after
 same_stored before c t after same takes = subst (λ s. TakesRecord s before c t after) same takes
 
+-- ---- on a clean disk
+
+first_or_later : (n : ℕ) → (n ≡ 0) ⊎ (n ≢ 0)
+first_or_later zero = inl refl
+first_or_later (suc n) = inr (λ e. let never : ⊥ = omega (arith, e) in never)
+
+-- the first record is read, and a later one leaves open what was open
+pub taken_open : {S A : Type 0} (is_clean is_honest : S → Type 0) (pending : List RowChange) (index : ℕ) (result : Result A ShelfFault) (old new : S) → (index ≡ 0 → pending ≡ []) → (is_clean old → index ≢ 0 → is_honest old)
+    → StaysOpen is_clean is_honest (pending ≡ []) result old new → is_clean new → IsTold result → is_honest new
+taken_open is_clean is_honest pending index result old new fresh read opens clean told =
+    elim (first_or_later index) [
+      | inl start ↦ opens.read (fresh start) clean told
+      | inr later ↦ opens.stays clean told (read (opens.clean_before clean) later)
+    ]
+
+pub none_next : (records : List RecordCommand) (n : ℕ) → n < length records → records ≢ []
+none_next records n low none = let few = ap (λ (list : List RecordCommand). length list) none in omega (arith, low, few)
+
+-- after the last of some records, some were read
+pub some_read : (records : List RecordCommand) (n : ℕ) → length records ≤ n → records ≢ [] → n ≢ 0
+some_read [] n high some = absurd (some refl)
+some_read (c ∷ cs) n high some = λ e. let never : ⊥ = omega (arith, high, e) in never
+
 -- ---- the decision
 
 -- every record was taken
 pub import_decides : (is_honest : Type 0) (stored : Content) (all rest : List RecordCommand) (at added same : ℕ) (pending : List RowChange) (decided : Decided) → rest ≡ []
-    → (is_honest → ImportsAny stored all rest at added same pending) → (is_honest → MeetsImportDamage stored all → MeetsImportDamage stored rest) → LeavesAnyTiming pending → ((table : Table) → writes_in table pending ≤ most_import_writes all table)
+    → (is_honest → ImportsAny stored all rest at added same pending) → (is_honest → ¬ MeetsImportDamage stored all) → LeavesAnyTiming pending → ((table : Table) → writes_in table pending ≤ most_import_writes all table)
     → decided.reply ≡ Imported added same → decided.changes.items ≡ pending → IsDecision is_honest stored (command.Import all) decided
 import_decides is_honest stored all rest at added same pending decided none imports whole leaves few told rows = record {
   step = λ honest. import_done stored all rest at added same pending decided.changes.items decided.reply none (imports honest) leaves told rows;
@@ -261,7 +318,7 @@ import_decides is_honest stored all rest at added same pending decided none impo
   refused = λ refused. absurd (subst IsRefused told refused);
   query = λ query. absurd query;
   named = λ why e. absurd (let f : Imported added same ≡ Refused why = sym told ∙ e in cc);
-  whole = λ honest damaged. absurd (subst (MeetsImportDamage stored) none (whole honest damaged));
+  whole = λ honest damaged. absurd (whole honest damaged);
   undamaged = λ e. absurd (let f : Imported added same ≡ Refused refusal.Damaged = sym told ∙ e in cc);
 }
 

@@ -9,6 +9,7 @@ pub mod ReadBack
 pub mod TimingCount
 pub mod Moved
 pub mod Imports
+pub mod Blames
 pub mod Keeps
 pub mod Transactions
 pub mod TimingLaw

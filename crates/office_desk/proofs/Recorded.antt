@@ -36,6 +36,7 @@ use Rattle.office_desk.specs.StandFor.{StandForSound, row_of}
 use Rattle.office_desk.specs.Step.{cabinet_of, cabinet_shown, is_known, known, recorded, recorded_at, refusal_of_record, shown, told}
 use Rattle.office_desk.specs.declared.command.Command.TheVariants as command
 use Rattle.office_desk.specs.declared.decided.Decided.{Decided}
+use Rattle.office_desk.specs.declared.refusal.Refusal.{Refusal}
 use Rattle.office_desk.specs.declared.refusal.Refusal.TheVariants as refusal
 use Rattle.office_desk.specs.declared.reply.Reply.{Reply}
 use Rattle.office_desk.specs.declared.reply.Reply.TheVariants as reply
@@ -181,11 +182,17 @@ pub unknown_named : (about : Option ℕ) (numbers : List ℕ) → IsSome about �
 unknown_named None numbers asked = absurd (let f : false ≡ true = asked in cc)
 unknown_named (Some id) numbers asked = inl refl
 
+-- a refusal of the register is one that the table has for the record
+pub refused_named : (c : RecordCommand) (why : CabinetRefusal) (said : Refusal) → said ≡ refusal_of_record why → IsOneOf (refusals_of c) why → IsOneOf (numbers_of (command.Record c)) (number_of said)
+refused_named c why said is named =
+    subst (λ (w : Refusal). IsOneOf (numbers_of (command.Record c)) (number_of w)) (sym is)
+    (about_more (cabinet_of c) _ _ (among_map (λ refused. number_of (refusal_of_record refused)) (refusals_of c) why named))
+
 told_named : (c : RecordCommand) (done : Registered) → IsNamed c (line_told done) → RefusesBy (numbers_of (command.Record c)) (told (line_told done))
 told_named c (Added rows) named = λ why e. absurd (let f : reply.Added ≡ reply.Refused why = e in cc)
 told_named c Same named = λ why e. absurd (let f : reply.Same ≡ reply.Refused why = e in cc)
 told_named c (Refused why) named = refuses_so (numbers_of (command.Record c)) (refusal_of_record why)
-    (about_more (cabinet_of c) _ _ (among_map (λ refused. number_of (refusal_of_record refused)) (refusals_of c) why named))
+    (refused_named c why (refusal_of_record why) refl named)
 
 -- of a command on an intersection that is there
 pub record_decides : (is_honest : Type 0) (tables : Content) (c : RecordCommand) (done : Registered) (decided : Decided)

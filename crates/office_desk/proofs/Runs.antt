@@ -1,6 +1,6 @@
 -- From a decision to a step that was made, and from steps to runs.
-use Rattle.std.proofs.Common.{◌≡◌, ◌≢◌, ◌≤◌, ◌+◌, ◌⊎◌, List, [], ◌∷◌, ◌++◌, ℕ, Option, Some, None, refl, ap, sym, subst, ◌∙◌, inl, inr, length, true, arith}
-use Rattle.std.specs.Prelude.{◌==◌}
+use Rattle.std.proofs.Common.{◌≡◌, ◌≢◌, ◌≤◌, ◌⊎◌, List, [], ◌∷◌, ◌++◌, ℕ, Option, Some, None, refl, ap, sym, subst, ◌∙◌, inl, inr, length, true, arith}
+use Rattle.std.specs.Prelude.{◌==◌, Result, Err}
 use Rattle.std.proofs.lemmas.Bool.Decides.{nat_tests}
 use Rattle.draft_core.specs.declared.timing.Reach.TheVariants as reach
 use Rattle.office_tables_shelf.specs.Change.{changed_by}
@@ -11,14 +11,15 @@ use Rattle.office_tables_shelf.specs.declared.counts.WriteCounts.{WriteCounts}
 use Rattle.office_tables_shelf.specs.declared.rows.RowChange.{RowChange}
 use Rattle.office_tables_shelf.specs.declared.shelf.ShelfFault.{ShelfFault}
 use Rattle.office_tables_shelf.specs.declared.shelf.ShelfFault.TheVariants.{NoMemory, Store, Damaged}
-use Rattle.office_desk.specs.Answers.{AnswersAny, Answers, IsAfterStep, RunsAny, RunsTo}
-use Rattle.office_desk.specs.Changes.{IsRefused, most_writes}
-use Rattle.office_desk.specs.Deciding.{IsAnswered, IsDecision}
+use Rattle.office_desk.specs.Answers.{AnswersAny, Answers, EndsIn, IsAfterStep, RunsAny, RunsTo}
+use Rattle.office_desk.specs.Blaming.{BlamesRightly}
+use Rattle.office_desk.specs.Changes.{IsRefused, RiseAtMost, most_writes}
+use Rattle.office_desk.specs.Deciding.{AddsNothing, DecidesIdly, IsAnswered, IsDecision, IsIdle}
 use Rattle.office_desk.specs.Running.{AreRun, IsRun}
 use Rattle.office_desk.specs.declared.decided.Decided.{Decided}
 use Rattle.cabinet_core.specs.declared.command.RecordCommand.{RecordCommand}
 use Rattle.office_desk_cabinet.proofs.Undamaged.{no_damaged_inspection, no_damaged_order, no_damaged_used, no_damaged_part, undamaged_record}
-use Rattle.office_desk.specs.Damage.{MeetsCabinetDamage, MeetsImportDamage, MeetsDamage}
+use Rattle.office_desk.specs.Damage.{IsTurnedAway, MeetsCabinetDamage, MeetsImportDamage, MeetsDamage}
 use Rattle.office_desk.specs.Named.{IsNamedFor, RefusesBy, numbers_of}
 use Rattle.office_desk.specs.Decisions.{refusal_of}
 use Rattle.office_desk.specs.Office.{Office, IsSound}
@@ -26,14 +27,16 @@ use Rattle.office_desk.specs.StandFor.{StandForSound}
 use Rattle.office_desk.specs.Step.{AreSound, Step, Run, answered, cabinet_of}
 use Rattle.office_desk.specs.declared.command.Command.{Command}
 use Rattle.office_desk.specs.declared.command.Command.TheVariants as command
+use Rattle.office_desk.specs.declared.command.Command.TheVariants.{Import}
 use Rattle.office_desk.specs.declared.refusal.Refusal.{Refusal}
 use Rattle.office_desk.specs.declared.refusal.Refusal.TheVariants as refusal
 use Rattle.office_desk.specs.declared.refusal.Refusal.TheVariants.{Unavailable}
 use Rattle.office_desk.specs.declared.reply.Reply.{Reply}
-use Rattle.office_desk.specs.declared.reply.Reply.TheVariants.{Refused}
+use Rattle.office_desk.specs.declared.reply.Reply.TheVariants.{Imported, Refused}
 use Rattle.office_desk.proofs.IntersectionTable.{no_damaged_intersection}
 use Rattle.office_desk.proofs.Recorded.{register_of}
 use Rattle.office_desk.proofs.Stands.{no_damage}
+use Rattle.office_desk.proofs.Blames.{blames_later, fault_blames, unavailable_blames}
 use Rattle.office_desk.proofs.RegisterLaws.{runs_register}
 use Rattle.office_desk.proofs.Repeats.{runs_repeat}
 use Rattle.office_desk.proofs.TimingLaw.{runs_timing}
@@ -141,13 +144,14 @@ no_items [] e = refl
 no_items (x ∷ xs) e = absurd (grind (arith, nat_tests))
 
 -- a command that was decided is answered so
-pub decided_answers : (is_honest : Type 0) (tables : Content) (command : Command) (decided : Decided) → IsDecision is_honest tables command decided → IsAnswered is_honest tables command decided
-decided_answers is_honest tables command decided is = record {
+pub decided_answers : (is_honest : Type 0) (tables : Content) (command : Command) (decided : Decided) → IsDecision is_honest tables command decided → BlamesRightly is_honest tables command decided.reply → IsAnswered is_honest tables command decided
+decided_answers is_honest tables command decided is blames = record {
   step = is.step;
   writes = is.writes;
   refused = is.refused;
   query = is.query;
   named = named_more command decided.reply is.named;
+  blames = blames;
   damaged = λ told. absurd (is.undamaged told);
   turned_away = λ honest damaged. inr (is.whole honest damaged);
 }
@@ -161,8 +165,101 @@ fault_is_answered is_honest tables command fault decided meets told none = recor
   refused = λ _. none;
   query = λ _. none;
   named = fault_named command fault decided.reply told;
+  blames = fault_blames is_honest tables command fault decided.reply told;
   damaged = λ said. meets (fault_damaged fault (sym told ∙ said));
   turned_away = λ honest damaged. inl (turned_away fault decided.reply told);
+}
+
+-- ---- on a clean disk alone
+
+-- an idle reply is a step that leaves the office
+pub idle_leaves : (command : Command) (reply : Reply) → IsIdle command reply → (office : Office) → Step office command reply office
+idle_leaves command reply (inl unavailable) office = inl (unavailable, refl)
+idle_leaves command reply (inr nothing) office =
+    inr (ap (λ (c : Command). answered office c) nothing.0 ∙ (λ k. (sym nothing.1 k, office)))
+
+pub idle_answers : (tables : Content) (command : Command) (reply : Reply) → IsIdle command reply → AnswersAny tables command reply tables
+idle_answers tables command reply idle office stands = record { next = office; step = idle_leaves command reply idle office; stand = stands }
+
+idle_undamaged : (command : Command) (reply : Reply) → IsIdle command reply → reply ≢ Refused refusal.Damaged
+idle_undamaged command reply (inl unavailable) damaged = let f : Refused Unavailable ≡ Refused refusal.Damaged = sym unavailable ∙ damaged in cc
+idle_undamaged command reply (inr nothing) damaged = let f : Imported 0 0 ≡ Refused refusal.Damaged = sym nothing.1 ∙ damaged in cc
+
+-- it meets no damaged row: an import of no records reads none
+idle_turned_away : (tables : Content) (command : Command) (reply : Reply) → IsIdle command reply → MeetsDamage tables command → IsTurnedAway command reply
+idle_turned_away tables command reply (inl unavailable) damage = inl (inr unavailable)
+idle_turned_away tables command reply (inr nothing) damage = absurd (subst (MeetsDamage tables) nothing.0 damage)
+
+-- and blames no record
+idle_blameless : (command : Command) (reply : Reply) → IsIdle command reply → (at cause : ℕ) → reply ≢ Refused (refusal.ImportRow at cause)
+idle_blameless command reply (inl unavailable) at cause refused = let f : Refused Unavailable ≡ Refused (refusal.ImportRow at cause) = sym unavailable ∙ refused in cc
+idle_blameless command reply (inr nothing) at cause refused = let f : Imported 0 0 ≡ Refused (refusal.ImportRow at cause) = sym nothing.1 ∙ refused in cc
+
+-- either an import of no records is asked for, or not
+asks_nothing : (command : Command) → (command ≡ Import []) ⊎ (command ≢ Import [])
+asks_nothing (Import []) = inl refl
+asks_nothing (Import (c ∷ cs)) = inr (λ e. cc)
+asks_nothing _ = inr (λ e. cc)
+
+-- what is decided, on a database that is open or was shut
+pub decided_shut : (is_honest : Type 0) (command : Command) (decided : Decided) → (command ≢ Import [] → is_honest) → (command ≡ Import [] → AddsNothing decided)
+    → is_honest ⊎ DecidesIdly command decided
+decided_shut is_honest command decided reads nothing = go (asks_nothing command)
+  where
+    go : (command ≡ Import []) ⊎ (command ≢ Import []) → is_honest ⊎ DecidesIdly command decided
+    go (inl none) = inr (record { idle = inr (none, (nothing none).0); no_changes = (nothing none).1 })
+    go (inr some) = inl (reads some)
+
+-- and of a fault: what tells a damaged row was open
+pub fault_shut : (is_honest : Type 0) (command : Command) (fault : ShelfFault) (decided : Decided) → (fault ≡ Damaged → command ≢ Import [] → is_honest) → command ≢ Import []
+    → decided.reply ≡ Refused (refusal_of fault) → decided.changes.items ≡ [] → is_honest ⊎ DecidesIdly command decided
+fault_shut is_honest command NoMemory decided reads some told none = inr (record { idle = inl told; no_changes = none })
+fault_shut is_honest command Store decided reads some told none = inr (record { idle = inl told; no_changes = none })
+fault_shut is_honest command Damaged decided reads some told none = inl (reads refl some)
+
+-- a fault as a refusal
+pub refusal_shut : {A : Type 0} (is_honest : Type 0) (fault : ShelfFault) (result : Result A Refusal) → (fault ≡ Damaged → is_honest) → result ≡ Err (refusal_of fault) → is_honest ⊎ (result ≡ Err Unavailable)
+refusal_shut is_honest NoMemory result told is = inr is
+refusal_shut is_honest Store result told is = inr is
+refusal_shut is_honest Damaged result told is = inl (told refl)
+
+-- what is answered on a clean disk alone
+pub answered_clean : (is_clean is_honest : Type 0) (tables : Content) (command : Command) (decided : Decided) → (is_clean → is_honest ⊎ DecidesIdly command decided)
+    → IsAnswered is_honest tables command decided → IsAnswered is_clean tables command decided
+answered_clean is_clean is_honest tables command decided shut is = record {
+  step = λ clean. elim (shut clean) [
+    | inl honest ↦ is.step honest
+    | inr idle ↦ reply_answers tables command decided.reply decided.reply decided.changes.items (idle_answers tables command decided.reply idle.idle) refl idle.no_changes
+  ];
+  writes = λ clean table. elim (shut clean) [
+    | inl honest ↦ is.writes honest table
+    | inr idle ↦ subst (λ (list : List RowChange). writes_in table list ≤ most_writes tables command table) (sym idle.no_changes) (omega arith)
+  ];
+  refused = is.refused;
+  query = is.query;
+  named = is.named;
+  blames = λ records at cause asked refused.
+      let blamed = is.blames records at cause asked refused in
+      record {
+        before = blamed.before;
+        blamed = blamed.blamed;
+        after = blamed.after;
+        stands = blamed.stands;
+        place = blamed.place;
+        named = blamed.named;
+        first = λ clean. elim (shut clean) [
+          | inl honest ↦ blamed.first honest
+          | inr idle ↦ absurd (idle_blameless command decided.reply idle.idle at cause refused)
+        ];
+      };
+  damaged = λ told clean. elim (shut clean) [
+    | inl honest ↦ is.damaged told honest
+    | inr idle ↦ absurd (idle_undamaged command decided.reply idle.idle told)
+  ];
+  turned_away = λ clean damage. elim (shut clean) [
+    | inl honest ↦ is.turned_away honest damage
+    | inr idle ↦ idle_turned_away tables command decided.reply idle.idle damage
+  ];
 }
 
 -- ---- one command
@@ -178,27 +275,48 @@ after_step tables new command decided answers accepted made office stands =
     own next (inl left) stand = absurd (accepted (subst IsRefused (sym left.0) tt))
     own next (inr is) stand = subst (StandForSound (changed_by tables decided.changes.items)) (ap (λ (p : Reply × Office). p.1) (sym is)) stand
 
-module _ {S : Type 0} (is_honest : S → Type 0) (content : S → Content) (written : S → WriteCounts) (may_leave : S → Content → Type 0)
+module _ {S : Type 0} (is_clean is_honest : S → Type 0) (content : S → Content) (written : S → WriteCounts) (may_leave : S → Content → Type 0)
     (command : Command) (decided : Decided) (old mid : S)
     (kept : IsKept is_honest content written may_leave old mid)
-    (is : IsAnswered (is_honest mid) (content old) command decided) where
+    (is : IsAnswered (is_honest mid) (content old) command decided)
+    (told : IsAnswered (is_clean mid) (content old) command decided)
+    (clean_before : is_clean mid → is_clean old)
+    (shut : is_clean mid → is_honest mid ⊎ DecidesIdly command decided) where
   -- there was nothing to be written
-  pub unwritten_run : decided.changes.items ≡ [] → IsRun is_honest content written may_leave command decided.reply old mid
+  pub unwritten_run : decided.changes.items ≡ [] → IsRun is_clean is_honest content written may_leave command decided.reply old mid
   unwritten_run none = record {
+    clean = clean_before;
     honest = kept.honest_before;
+    shut = λ clean. elim (shut clean) [
+      | inl honest ↦ inl honest
+      | inr idle ↦ inr (idle.idle, kept.same_content)
+    ];
+    ends = λ clean. (
+      content old,
+      same_answers _ _ _ _ decided.changes.items (told.step clean) (ap (changed_by (content old)) (sym none)),
+      kept.same_content,
+    );
+    told = record {
+      writes = λ clean. no_rise (content old) command _ _ kept.same_counts;
+      blames = told.blames;
+      damaged = told.damaged;
+      turned_away = told.turned_away;
+    };
     step = λ honest. same_answers _ _ _ _ decided.changes.items (is.step honest) (kept.same_content honest ∙ ap (changed_by (content old)) (sym none));
     refused = λ refused. kept.same_content;
     unwritten = λ refused. kept.same_counts;
     writes = λ honest. no_rise (content old) command _ _ kept.same_counts;
     named = is.named;
+    blames = is.blames;
     damaged = is.damaged;
     turned_away = is.turned_away;
     crash = λ tables left. inl (kept.same_outcomes tables left);
     settled = λ honest answered changed. absurd (changed (kept.same_content honest));
     made = λ answered wrote. absurd (wrote kept.same_counts);
+    still_open = λ answered wrote. absurd (wrote kept.same_counts);
   }
 
-  module _ (new : S) (some : decided.changes.items ≢ []) (honest : is_honest new → is_honest mid)
+  module _ (new : S) (some : decided.changes.items ≢ []) (clean : is_clean new → is_clean mid) (honest : is_honest new → is_honest mid)
       (crash : (tables : Content) → may_leave new tables → may_leave mid tables ⊎ (is_honest mid × (tables ≡ changed_by (content mid) decided.changes.items))) where
     left_by : (tables : Content) → may_leave new tables → may_leave old tables ⊎ (is_honest old × IsAfterStep (content old) command tables)
     left_by tables left =
@@ -211,36 +329,68 @@ module _ {S : Type 0} (is_honest : S → Type 0) (content : S → Content) (writ
         ]
 
     -- the changes were made
-    pub applied_run : (is_honest new → content new ≡ changed_by (content mid) decided.changes.items) → written new ≡ counts_after (written mid) decided.changes.items
-        → ((tables : Content) → may_leave new tables → tables ≡ content new) → IsRun is_honest content written may_leave command decided.reply old new
-    applied_run made counted settled = record {
+    pub applied_run : (is_clean new → is_honest new) → (is_honest new → content new ≡ changed_by (content mid) decided.changes.items) → written new ≡ counts_after (written mid) decided.changes.items
+        → ((tables : Content) → may_leave new tables → tables ≡ content new) → IsRun is_clean is_honest content written may_leave command decided.reply old new
+    applied_run still_open made counted settled = record {
+      clean = λ now. clean_before (clean now);
       honest = λ now. kept.honest_before (honest now);
-      step = λ now. same_answers _ _ _ _ decided.changes.items (is.step (honest now)) (made now ∙ ap (λ t. changed_by t decided.changes.items) (kept.same_content (honest now)));
+      shut = λ now. inl (still_open now);
+      ends = λ now. (content new, answers (still_open now), λ _. refl);
+      told = record {
+        writes = λ now. rises (still_open now);
+        blames = blames_later _ _ _ _ _ clean told.blames;
+        damaged = λ said now. told.damaged said (clean now);
+        turned_away = λ now. told.turned_away (clean now);
+      };
+      step = answers;
       refused = λ refused. absurd (some (is.refused refused));
       unwritten = λ refused. absurd (some (is.refused refused));
-      writes = λ now. rise_at_most (content old) command decided.changes.items (written old) (written new) (is.writes (honest now)) (counted ∙ ap (λ counts. counts_after counts decided.changes.items) kept.same_counts);
+      writes = rises;
       named = is.named;
+      blames = blames_later _ _ _ _ _ honest is.blames;
       damaged = λ told now. is.damaged told (honest now);
       turned_away = λ now. is.turned_away (honest now);
       crash = left_by;
       settled = λ now answered changed. settled;
       made = λ answered wrote. settled;
+      still_open = λ answered wrote. still_open;
     }
+      where
+        answers : is_honest new → AnswersAny (content old) command decided.reply (content new)
+        answers now = same_answers _ _ _ _ decided.changes.items (is.step (honest now)) (made now ∙ ap (λ t. changed_by t decided.changes.items) (kept.same_content (honest now)))
+
+        rises : is_honest new → RiseAtMost (content old) command (written old) (written new)
+        rises now = rise_at_most (content old) command decided.changes.items (written old) (written new) (is.writes (honest now)) (counted ∙ ap (λ counts. counts_after counts decided.changes.items) kept.same_counts)
 
     -- they were refused
-    pub failed_run : (is_honest new → content new ≡ content mid) → written new ≡ written mid → IsRun is_honest content written may_leave command (Refused Unavailable) old new
+    pub failed_run : (is_honest new → content new ≡ content mid) → written new ≡ written mid → IsRun is_clean is_honest content written may_leave command (Refused Unavailable) old new
     failed_run same uncounted = record {
+      clean = λ now. clean_before (clean now);
       honest = λ now. kept.honest_before (honest now);
+      shut = λ now. inr (inl refl, λ now. same now ∙ kept.same_content (honest now));
+      ends = λ now. (
+        content old,
+        unavailable_answers (content old) command (Refused Unavailable) [] refl refl,
+        λ now. same now ∙ kept.same_content (honest now),
+      );
+      told = record {
+        writes = λ now. no_rise (content old) command _ _ (uncounted ∙ kept.same_counts);
+        blames = unavailable_blames _ _ command _ refl;
+        damaged = λ told. absurd (let f : Refused Unavailable ≡ Refused refusal.Damaged = told in cc);
+        turned_away = λ now damaged. inl (inr refl);
+      };
       step = λ now. same_answers _ _ _ _ [] (unavailable_answers _ _ _ _ refl refl) (same now ∙ kept.same_content (honest now));
       refused = λ refused now. same now ∙ kept.same_content (honest now);
       unwritten = λ refused. uncounted ∙ kept.same_counts;
       writes = λ now. no_rise (content old) command _ _ (uncounted ∙ kept.same_counts);
       named = unavailable_named command;
+      blames = unavailable_blames _ _ command _ refl;
       damaged = λ told. absurd (let f : Refused Unavailable ≡ Refused refusal.Damaged = told in cc);
       turned_away = λ now damaged. inl (inr refl);
       crash = left_by;
       settled = λ now answered. absurd (answered refl);
       made = λ answered. absurd (answered refl);
+      still_open = λ answered. absurd (answered refl);
     }
 
 -- ---- commands in turn
@@ -258,22 +408,35 @@ runs_to office last commands replies tables sound run between stand = record {
   repeats = runs_repeat commands replies office last run;
 }
 
-module _ {S : Type 0} (is_honest : S → Type 0) (content : S → Content) (written : S → WriteCounts) (may_leave : S → Content → Type 0) where
-  pub one_more : (commands : List Command) (replies : List Reply) (old mid new : S) (command : Command) (reply : Reply) → AreRun is_honest content written may_leave commands replies old mid
-      → IsRun is_honest content written may_leave command reply mid new → AreRun is_honest content written may_leave (commands ++ command ∷ []) (replies ++ reply ∷ []) old new
-  one_more [] [] old mid new command reply same run = (new, subst (λ (s : S). IsRun is_honest content written may_leave command reply s new) same run, refl)
+-- a command, and a run after it
+one_then : (tables mid last : Content) (c : Command) (r : Reply) (cs : List Command) (rs : List Reply) → AnswersAny tables c r mid → RunsAny mid cs rs last → RunsAny tables (c ∷ cs) (r ∷ rs) last
+one_then tables mid last c r cs rs first rest office stands =
+    let now = first office stands in
+    let later = rest now.next now.stand in
+    runs_to office later.last (c ∷ cs) (r ∷ rs) last stands.sound (now.next, now.step, later.run) (stands.sound, later.sound) later.stand
+
+module _ {S : Type 0} (is_clean is_honest : S → Type 0) (content : S → Content) (written : S → WriteCounts) (may_leave : S → Content → Type 0) where
+  pub one_more : (commands : List Command) (replies : List Reply) (old mid new : S) (command : Command) (reply : Reply) → AreRun is_clean is_honest content written may_leave commands replies old mid
+      → IsRun is_clean is_honest content written may_leave command reply mid new → AreRun is_clean is_honest content written may_leave (commands ++ command ∷ []) (replies ++ reply ∷ []) old new
+  one_more [] [] old mid new command reply same run = (new, subst (λ (s : S). IsRun is_clean is_honest content written may_leave command reply s new) same run, refl)
   one_more (c ∷ cs) (r ∷ rs) old mid new command reply all run = (all.0, all.1, one_more cs rs all.0 mid new command reply all.2 run)
   one_more [] (r ∷ rs) old mid new command reply all run = absurd all
   one_more (c ∷ cs) [] old mid new command reply all run = absurd all
 
-  pub honest_first : (commands : List Command) (replies : List Reply) (old new : S) → AreRun is_honest content written may_leave commands replies old new → is_honest new → is_honest old
+  pub honest_first : (commands : List Command) (replies : List Reply) (old new : S) → AreRun is_clean is_honest content written may_leave commands replies old new → is_honest new → is_honest old
   honest_first [] [] old new same honest = subst is_honest same honest
   honest_first (c ∷ cs) (r ∷ rs) old new all honest = all.1.honest (honest_first cs rs all.0 new all.2 honest)
   honest_first [] (r ∷ rs) old new all honest = absurd all
   honest_first (c ∷ cs) [] old new all honest = absurd all
 
+  pub clean_first : (commands : List Command) (replies : List Reply) (old new : S) → AreRun is_clean is_honest content written may_leave commands replies old new → is_clean new → is_clean old
+  clean_first [] [] old new same clean = subst is_clean same clean
+  clean_first (c ∷ cs) (r ∷ rs) old new all clean = all.1.clean (clean_first cs rs all.0 new all.2 clean)
+  clean_first [] (r ∷ rs) old new all clean = absurd all
+  clean_first (c ∷ cs) [] old new all clean = absurd all
+
   -- what each command makes of the office before it is a run
-  pub run_any : (commands : List Command) (replies : List Reply) (old new : S) → AreRun is_honest content written may_leave commands replies old new → is_honest new → RunsAny (content old) commands replies (content new)
+  pub run_any : (commands : List Command) (replies : List Reply) (old new : S) → AreRun is_clean is_honest content written may_leave commands replies old new → is_honest new → RunsAny (content old) commands replies (content new)
   run_any [] [] old new same honest office stands = runs_to office office [] [] (content new) stands.sound refl stands.sound (subst (λ (s : S). StandForSound (content s) office) (sym same) stands)
   run_any (c ∷ cs) (r ∷ rs) old new all honest office stands =
       let now = all.1.step (honest_first cs rs all.0 new all.2 honest) office stands in
@@ -281,3 +444,26 @@ module _ {S : Type 0} (is_honest : S → Type 0) (content : S → Content) (writ
       runs_to office rest.last (c ∷ cs) (r ∷ rs) (content new) stands.sound (now.next, now.step, rest.run) (stands.sound, rest.sound) rest.stand
   run_any [] (r ∷ rs) old new all honest office stands = absurd all
   run_any (c ∷ cs) [] old new all honest office stands = absurd all
+
+  -- The tables of a run on a clean disk: those of the shelf while it is open, and once it was shut they stay.
+  next_tables : (c : Command) (r : Reply) (old mid : S) → IsRun is_clean is_honest content written may_leave c r old mid → is_clean mid → (tables : Content) → (is_honest old → content old ≡ tables)
+      → EndsIn (is_honest mid) (content mid) (AnswersAny tables c r)
+  next_tables c r old mid run clean tables same =
+      elim (run.shut clean) [
+        | inl honest ↦ (content mid, subst (λ t. AnswersAny t c r (content mid)) (same (run.honest honest)) (run.step honest), λ _. refl)
+        | inr idle ↦ (tables, idle_answers tables c r idle.0, λ honest. idle.1 honest ∙ same (run.honest honest))
+      ]
+
+  pub run_ends : (commands : List Command) (replies : List Reply) (old new : S) → AreRun is_clean is_honest content written may_leave commands replies old new → is_clean new
+      → (tables : Content) → (is_honest old → content old ≡ tables) → EndsIn (is_honest new) (content new) (RunsAny tables commands replies)
+  run_ends [] [] old new all clean tables same = (
+    tables,
+    λ office stands. runs_to office office [] [] tables stands.sound refl stands.sound stands,
+    λ honest. ap content all ∙ same (subst is_honest all honest),
+  )
+  run_ends (c ∷ cs) (r ∷ rs) old new all clean tables same =
+      let next = next_tables c r old all.0 all.1 (clean_first cs rs all.0 new all.2 clean) tables same in
+      let rest = run_ends cs rs all.0 new all.2 clean next.0 next.2 in
+      (rest.0, one_then tables next.0 rest.0 c r cs rs next.1 rest.1, rest.2)
+  run_ends [] (r ∷ rs) old new all clean tables same = absurd all
+  run_ends (c ∷ cs) [] old new all clean tables same = absurd all

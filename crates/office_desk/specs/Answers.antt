@@ -36,6 +36,10 @@ pub record RunsTo (office : Office) (commands : List Command) (replies : List Re
 abbrev pub RunsAny : Content → List Command → List Reply → Content → Type 0
 RunsAny old commands replies new = (office : Office) → StandForSound old office → RunsTo office commands replies new
 
+-- What is said of tables holds of some, which are those of the shelf where its database is open.
+abbrev pub EndsIn : Type 0 → Content → (Content → Type 0) → Type 0
+EndsIn is_open stored Holds = (tables : Content) × Holds tables × (is_open → stored ≡ tables)
+
 -- tables that stand for the office after the command's own step, whichever sound office the old ones stand for
 abbrev pub IsAfterStep : Content → Command → Content → Type 0
 IsAfterStep old command new = (office : Office) → StandForSound old office → StandForSound new (answered office command).1

@@ -1,19 +1,23 @@
 -- What comes of a record of an import, after those before it.
-use Rattle.std.specs.Prelude.{◌≡◌, ℕ, List, Result, Err}
+use Rattle.std.specs.Prelude.{◌≡◌, ◌⊎◌, ℕ, false, List, ◌++◌, Result, Err}
 use Rattle.cabinet_core.specs.declared.command.RecordCommand.{RecordCommand}
 use Rattle.office_tables_shelf.specs.Change.{changed_by}
 use Rattle.office_tables_shelf.specs.Content.{Content}
 use Rattle.office_tables_shelf.specs.declared.rows.RowChange.{RowChange}
 use Rattle.cabinet_core.specs.Register.{Register}
 use Rattle.cabinet_core.specs.Step.{line_at, with_record}
-use Rattle.office_desk_cabinet.specs.Registers.{LeavesTiming}
+use Rattle.cabinet_core.specs.Cabinet.{added as added_line, same as same_line}
+use Rattle.office_desk_cabinet.specs.Registers.{IsOneOf, LeavesTiming}
 use Rattle.office_desk_cabinet.specs.RegisterStands.{RegisterStandsSound}
 use Rattle.office_desk.specs.Office.{Office}
 use Rattle.office_desk_cabinet.specs.RegisterDamage.{KeepsDamage, MeetsRecordDamage}
-use Rattle.office_desk.specs.Recording.{HasDamagedAbout}
+use Rattle.office_desk.specs.Blaming.{FollowsLine, IsRefusedAfter}
+use Rattle.office_desk.specs.Named.{number_of, numbers_of}
+use Rattle.office_desk.specs.Recording.{HasDamagedAbout, TellsAbout}
 use Rattle.office_desk.specs.Refusal.{line_of}
 use Rattle.office_desk.specs.StandFor.{StandForSound}
 use Rattle.office_desk.specs.Step.{cabinet_of, import_by, import_from, is_known}
+use Rattle.office_desk.specs.declared.command.Command.TheVariants as command
 use Rattle.office_desk.specs.declared.importing.Taken.{Taken}
 use Rattle.office_desk.specs.declared.importing.Taken.TheVariants.{Added, Same, Refused}
 use Rattle.office_desk.specs.declared.refusal.Refusal.{Refusal}
@@ -29,9 +33,10 @@ goes_on at Added added same = added
 goes_on at Same added same = same
 goes_on at (Refused why) added same = Err (ImportRow at (line_of why).number)
 
-abbrev pub IsTaken : Taken → Type 0
-IsTaken (Refused why) = ⊥
-IsTaken _ = Unit {0}
+-- a refusal's number is one that the table has for the record
+abbrev pub IsNamedTaken : RecordCommand → Taken → Type 0
+IsNamedTaken c (Refused why) = IsOneOf (numbers_of (command.Record c)) (number_of why)
+IsNamedTaken c _ = Unit {0}
 
 -- the register after a record
 abbrev pub register_with : Taken → Register → RecordCommand → Register
@@ -48,10 +53,18 @@ pub record TakesFrom (stored : Content) (c : RecordCommand) (taken : Taken) (pen
 abbrev pub TakesRecord : Content → List RowChange → RecordCommand → Taken → List RowChange → Type 0
 TakesRecord stored before c taken pending = (office : Office) → StandForSound stored office → (r : Register) → RegisterStandsSound (changed_by stored before) r → TakesFrom stored c taken pending office r
 
--- a record that was taken met no damaged row, after the rows that were pending; and its own rows overwrite none
-pub record TakesWhole (stored : Content) (before : List RowChange) (c : RecordCommand) (taken : Taken) (after : List RowChange) : Type 0 where
-  pub whole : IsTaken taken → (¬ HasDamagedAbout stored (cabinet_of c)) × ¬ MeetsRecordDamage (changed_by stored before) c
+-- The record met no damaged row, after the rows that were pending: its intersection's row is none, and either no row stands there or no row of the register
+-- that it reads is one. And its own rows overwrite none.
+pub record TakesWhole (stored : Content) (before : List RowChange) (c : RecordCommand) (after : List RowChange) : Type 0 where
+  pub about : ¬ HasDamagedAbout stored (cabinet_of c)
+  pub whole : TellsAbout stored (cabinet_of c) false ⊎ (¬ MeetsRecordDamage (changed_by stored before) c)
   pub spares : KeepsDamage (changed_by stored before) (changed_by stored after)
+
+-- how a record is taken, on the rows that stand under its keys, whatever else is stored
+abbrev pub TakesLine : (stored : Content) (before : List RowChange) → RecordCommand → Taken → (after : List RowChange) → Type 0
+TakesLine stored before c Added after = (rows : List RowChange) × FollowsLine stored before c added_line rows × (after ≡ before ++ rows)
+TakesLine stored before c Same after = (rows : List RowChange) × FollowsLine stored before c same_line rows × (after ≡ before ++ rows)
+TakesLine stored before c (Refused why) after = IsRefusedAfter stored before c (number_of why)
 
 -- from an office: the pending rows made a register, and the import of all the records goes on from there with those that are left
 pub record ImportsFrom (stored : Content) (all rest : List RecordCommand) (at added same : ℕ) (pending : List RowChange) (office : Office) : Type 0 where

@@ -10,6 +10,7 @@ pub mod Changes
 pub mod Recording
 pub mod Damage
 pub mod Named
+pub mod Blaming
 pub mod Deciding
 pub mod Running
 pub mod Adding

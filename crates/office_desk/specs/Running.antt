@@ -2,36 +2,56 @@
 use Rattle.std.specs.Prelude.{◌≡◌, ◌≢◌, ◌⊎◌, List, [], ◌∷◌}
 use Rattle.office_tables_shelf.specs.Content.{Content}
 use Rattle.office_tables_shelf.specs.declared.counts.WriteCounts.{WriteCounts}
-use Rattle.office_desk.specs.Answers.{AnswersAny, IsAfterStep}
+use Rattle.office_desk.specs.Answers.{AnswersAny, EndsIn, IsAfterStep}
 use Rattle.office_desk.specs.Changes.{IsRefused, RiseAtMost}
 use Rattle.office_desk.specs.Damage.{IsTurnedAway, MeetsDamage}
+use Rattle.office_desk.specs.Deciding.{IsIdle}
 use Rattle.office_desk.specs.Named.{IsNamedFor}
+use Rattle.office_desk.specs.Blaming.{BlamesRightly}
 use Rattle.office_desk.specs.declared.command.Command.{Command}
 use Rattle.office_desk.specs.declared.refusal.Refusal.TheVariants.{Damaged, Unavailable}
 use Rattle.office_desk.specs.declared.reply.Reply.{Reply}
 use Rattle.office_desk.specs.declared.reply.Reply.TheVariants.{Refused}
 
+-- What is said of a reply and of the rows that were written, with no word of the new tables.
+pub record IsReply (is_clean : Type 0) (tables : Content) (command : Command) (reply : Reply) (before after : WriteCounts) : Type 0 where
+  pub writes : is_clean → RiseAtMost tables command before after
+  pub blames : BlamesRightly is_clean tables command reply
+  pub damaged : reply ≡ Refused Damaged → is_clean → MeetsDamage tables command
+  pub turned_away : is_clean → MeetsDamage tables command → IsTurnedAway command reply
+
+-- nothing was done, and the tables of an open database are as they were
+abbrev pub WasIdle : Type 0 → (old new : Content) → Command → Reply → Type 0
+WasIdle is_honest old new command reply = IsIdle command reply × (is_honest → new ≡ old)
+
 -- The reply and the tables are one step, and a refusal leaves content and counts; the rows written are at most those of the kind of command; a
--- refusal is one that is named for it, and a row that is no record is told and not passed. A crash leaves what it could before, or the office
--- after the command's own step; that alone where the command changed the tables, or wrote rows, and was answered.
-pub record IsRun {S : Type 0} (is_honest : S → Type 0) (content : S → Content) (written : S → WriteCounts) (may_leave : S → Content → Type 0)
+-- refusal is one that is named for it, and a row that is no record is told and not passed. On a clean disk alone: where a failure has shut the
+-- database, nothing was done; the reply is still that of a step, and what an open database holds is the office after it. A crash leaves what it
+-- could before, or the office after the command's own step; that alone where the command changed the tables, or wrote rows, and was answered.
+pub record IsRun {S : Type 0} (is_clean is_honest : S → Type 0) (content : S → Content) (written : S → WriteCounts) (may_leave : S → Content → Type 0)
     (command : Command) (reply : Reply) (old new : S) : Type 0 where
+  pub clean : is_clean new → is_clean old
   pub honest : is_honest new → is_honest old
+  pub shut : is_clean new → is_honest new ⊎ WasIdle (is_honest new) (content old) (content new) command reply
+  pub ends : is_clean new → EndsIn (is_honest new) (content new) (AnswersAny (content old) command reply)
+  pub told : IsReply (is_clean new) (content old) command reply (written old) (written new)
   pub step : is_honest new → AnswersAny (content old) command reply (content new)
   pub refused : IsRefused reply → is_honest new → content new ≡ content old
   pub unwritten : IsRefused reply → written new ≡ written old
   pub writes : is_honest new → RiseAtMost (content old) command (written old) (written new)
   pub named : IsNamedFor command reply
+  pub blames : BlamesRightly (is_honest new) (content old) command reply
   pub damaged : reply ≡ Refused Damaged → is_honest new → MeetsDamage (content old) command
   pub turned_away : is_honest new → MeetsDamage (content old) command → IsTurnedAway command reply
   pub crash : (tables : Content) → may_leave new tables → may_leave old tables ⊎ (is_honest old × IsAfterStep (content old) command tables)
   pub settled : is_honest new → reply ≢ Refused Unavailable → content new ≢ content old → (tables : Content) → may_leave new tables → tables ≡ content new
   pub made : reply ≢ Refused Unavailable → written new ≢ written old → (tables : Content) → may_leave new tables → tables ≡ content new
+  pub still_open : reply ≢ Refused Unavailable → written new ≢ written old → is_clean new → is_honest new
 
 -- commands that were run in turn, each on the shelf as those before it left it
-abbrev pub AreRun : {S : Type 0} → (S → Type 0) → (S → Content) → (S → WriteCounts) → (S → Content → Type 0) → List Command → List Reply → (old new : S) → Type 0
-AreRun is_honest content written may_leave [] [] old new = new ≡ old
-AreRun {S} is_honest content written may_leave (command ∷ commands) (reply ∷ replies) old new =
-    (mid : S) × IsRun is_honest content written may_leave command reply old mid × AreRun is_honest content written may_leave commands replies mid new
-AreRun is_honest content written may_leave [] (reply ∷ replies) old new = ⊥
-AreRun is_honest content written may_leave (command ∷ commands) [] old new = ⊥
+abbrev pub AreRun : {S : Type 0} → (is_clean is_honest : S → Type 0) → (S → Content) → (S → WriteCounts) → (S → Content → Type 0) → List Command → List Reply → (old new : S) → Type 0
+AreRun is_clean is_honest content written may_leave [] [] old new = new ≡ old
+AreRun {S} is_clean is_honest content written may_leave (command ∷ commands) (reply ∷ replies) old new =
+    (mid : S) × IsRun is_clean is_honest content written may_leave command reply old mid × AreRun is_clean is_honest content written may_leave commands replies mid new
+AreRun is_clean is_honest content written may_leave [] (reply ∷ replies) old new = ⊥
+AreRun is_clean is_honest content written may_leave (command ∷ commands) [] old new = ⊥

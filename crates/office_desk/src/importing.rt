@@ -1,12 +1,15 @@
 //! Imports: records of the register decided in turn, each after those before it.
-ghost use Rattle.std.specs.Prelude.{◌≡◌, ◌≤◌, ◌+◌, IfOk};
+ghost use Rattle.std.specs.Prelude.{◌≡◌, ◌≤◌, ◌+◌, IfOk, ◌≢◌, [], IsOkAnd};
 ghost use Rattle.office_tables_shelf.specs.Counts.{writes_in};
 ghost use Rattle.office_tables_shelf.specs.Shelf.{IsKept};
+ghost use Rattle.office_desk_cabinet.specs.Open.{StaysOpen};
 ghost use Rattle.office_tables_shelf.specs.declared.rows.Table.{Table};
 ghost use Rattle.office_desk_cabinet.specs.Registers.{most_record_writes};
-ghost use Rattle.office_desk.specs.Deciding.{Decides};
+ghost use Rattle.office_desk.specs.Blaming.{BlamesRightly};
+ghost use Rattle.office_desk.specs.Deciding.{AddsNothing, Decides};
 ghost use Rattle.office_desk.specs.Damage.{MeetsCabinetDamage};
-ghost use Rattle.office_desk.specs.Importing.{LeavesAnyTiming, TakesRecord, TakesWhole};
+ghost use Rattle.office_desk.specs.Importing.{IsNamedTaken, LeavesAnyTiming};
+ghost use Rattle.office_desk.specs.Importing.{TakesLine, TakesRecord, TakesWhole};
 ghost use Rattle.office_desk.specs.Step.{cabinet_of as about_of};
 
 use crate::command::Command;
@@ -41,10 +44,15 @@ fn take_record<S: Shelf>(
     ensures step { S.is_honest shelf.new → IfOk result (λ taken. TakesRecord (S.content shelf.old) pending command.now taken.0 taken.1) }
     ensures damaged { result ≡ Err ShelfFault.Damaged → S.is_honest shelf.new → MeetsCabinetDamage (S.content shelf.old) command.now (about_of command.now) }
     ensures whole { IfOk result (λ taken. S.is_honest shelf.new →
-        TakesWhole (S.content shelf.old) pending command.now taken.0 taken.1) }
+        TakesWhole (S.content shelf.old) pending command.now taken.1) }
+    ensures line { IfOk result (λ taken. S.is_honest shelf.new →
+        TakesLine (S.content shelf.old) pending command.now taken.0 taken.1) }
+    ensures named { IfOk result (λ taken. IsNamedTaken command.now taken.0) }
     ensures leaves { IfOk result (λ taken. LeavesAnyTiming pending → LeavesAnyTiming taken.1) }
     ensures writes { IfOk result (λ taken. (table : Table) → writes_in table taken.1 ≤ writes_in table pending + most_record_writes command.now table) }
     ensures kept { IsKept S.is_honest S.content S.written S.may_leave shelf.old shelf.new }
+    ensures open { StaysOpen S.is_clean S.is_honest (pending ≡ [])
+        result shelf.old shelf.new }
 {
     if !is_known(shelf, alloc, cabinet_of(command))? {
         return Ok((Taken::Refused(Refusal::UnknownIntersection), pending));
@@ -67,7 +75,12 @@ pub(crate) fn decide_import<S: Shelf>(
     records: &Records,
 ) -> Result<Decided, ShelfFault>
     ensures decides { Decides (S.is_honest shelf.new) (S.content shelf.old) (Command.Import records.now) result }
+    ensures blames { IfOk result (λ decided. BlamesRightly (S.is_honest shelf.new)
+        (S.content shelf.old) (Command.Import records.now) decided.reply) }
     ensures kept { IsKept S.is_honest S.content S.written S.may_leave shelf.old shelf.new }
+    ensures open { StaysOpen S.is_clean S.is_honest (records.now ≢ [])
+        result shelf.old shelf.new }
+    ensures nothing { records.now ≡ [] → IsOkAnd result AddsNothing }
 {
     let mut pending = Pending::new(alloc);
     let mut added: usize = 0;

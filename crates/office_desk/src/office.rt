@@ -6,9 +6,9 @@ ghost use Rattle.office_tables_shelf.specs.Content.{Content};
 ghost use Rattle.office_tables_shelf.specs.Change.{changed_by};
 ghost use Rattle.office_tables_shelf.specs.Counts.{counts_after};
 ghost use Rattle.office_tables_shelf.specs.Shelf.{IsKept};
-ghost use Rattle.office_desk.specs.Answers.{RunsAny};
+ghost use Rattle.office_desk.specs.Answers.{EndsIn, RunsAny};
 ghost use Rattle.office_desk.specs.Damage.{MeetsDamage};
-ghost use Rattle.office_desk.specs.Deciding.{IsAnswered};
+ghost use Rattle.office_desk.specs.Deciding.{DecidesIdly, IsAnswered};
 ghost use Rattle.office_desk.specs.Office.{Office as OfficeState};
 ghost use Rattle.office_desk.specs.Running.{AreRun, IsRun};
 ghost use Rattle.office_desk.specs.StandFor.{StandForSound};
@@ -68,6 +68,11 @@ impl<S: Shelf> Office<S> {
     pub fn decide(&mut self, alloc: Global, command: &Command) -> Decided
         ensures answers { IsAnswered (S.is_honest self.new) (S.content self.old)
             command.now result }
+        // The same on a clean disk alone: a database that a failure has shut gives no answer but an idle one.
+        ensures told { IsAnswered (S.is_clean self.new) (S.content self.old) command.now result }
+        ensures clean { S.is_clean self.new → S.is_clean self.old }
+        ensures shut { S.is_clean self.new →
+            S.is_honest self.new ⊎ DecidesIdly command.now result }
         ensures kept { IsKept S.is_honest S.content S.written S.may_leave self.old self.new }
     {
         match try_decide(&mut self.shelf, alloc, command) {
@@ -78,7 +83,10 @@ impl<S: Shelf> Office<S> {
 
     /// Makes the changes of a decision in their order, all or none. Refused, it answers NoMemory or Store.
     pub fn apply(&mut self, alloc: Global, changes: &[RowChange]) -> Result<(), ShelfFault>
+        ensures clean { S.is_clean self.new → S.is_clean self.old }
         ensures honest { S.is_honest self.new → S.is_honest self.old }
+        ensures open { S.is_clean self.new →
+            OnOk result (changes.now ≢ [] → S.is_honest self.new) }
         ensures ok { OnOk result (S.is_honest self.new → S.content self.new ≡ changed_by (S.content self.old) changes.now) }
         ensures err { OnErr result (S.is_honest self.new → S.content self.new ≡ S.content self.old) }
         ensures undamaged { result ≢ Err ShelfFault.Damaged }
@@ -96,7 +104,7 @@ impl<S: Shelf> Office<S> {
     /// Runs one command: decides it, and makes its changes. Where memory or the shelf refuses, it
     /// answers Unavailable and changes nothing; where a stored row is no record, Damaged.
     pub fn run(&mut self, alloc: Global, command: &Command) -> Reply
-        ensures ran { IsRun S.is_honest S.content S.written S.may_leave
+        ensures ran { IsRun S.is_clean S.is_honest S.content S.written S.may_leave
             command.now result self.old self.new }
     {
         let decided = self.decide(alloc, command);
@@ -113,8 +121,13 @@ impl<S: Shelf> Office<S> {
     /// Runs commands in turn. Room for the replies is taken first: refused, nothing is run.
     pub fn run_all(&mut self, alloc: Global, commands: &[Command]) -> Result<Vec<Reply>, NoMemory>
         ensures run { IfOk result (λ replies. S.is_honest self.new → RunsAny (S.content self.old) commands.now replies.items (S.content self.new)) }
-        ensures each { IfOk result (λ replies. AreRun S.is_honest S.content S.written S.may_leave
+        ensures ends { IfOk result (λ replies. S.is_clean self.new →
+            EndsIn (S.is_honest self.new) (S.content self.new)
+            (RunsAny (S.content self.old) commands.now replies.items)) }
+        ensures each { IfOk result (λ replies.
+            AreRun S.is_clean S.is_honest S.content S.written S.may_leave
             commands.now replies.items self.old self.new) }
+        ensures clean { S.is_clean self.new → S.is_clean self.old }
         ensures honest { S.is_honest self.new → S.is_honest self.old }
         ensures err { OnErr result (self.new ≡ self.old) }
     {
@@ -141,6 +154,9 @@ impl<S: Shelf> Office<S> {
             ¬ MeetsDamage (S.content self.old) (Command.Overdue day)) }
         ensures refused { IfErr result (λ why. (why ≡ Refusal.Unavailable) ⊎ (why ≡ Refusal.Damaged)) }
         ensures damaged { result ≡ Err Refusal.Damaged → S.is_honest self.new → MeetsDamage (S.content self.old) (Command.Overdue day) }
+        ensures clean { S.is_clean self.new → S.is_clean self.old }
+        ensures shut { S.is_clean self.new →
+            S.is_honest self.new ⊎ (result ≡ Err Refusal.Unavailable) }
         ensures kept { IsKept S.is_honest S.content S.written S.may_leave self.old self.new }
     {
         match self.shelf.overdue_rows(alloc, day, most) {

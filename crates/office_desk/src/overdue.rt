@@ -1,5 +1,5 @@
 //! The query Overdue.
-ghost use Rattle.office_tables_shelf.specs.Shelf.{IsKept};
+ghost use Rattle.office_tables_shelf.specs.Shelf.{AnswersOpen, IsKept};
 ghost use Rattle.office_desk.specs.Deciding.{Decides};
 
 use crate::command::Command;
@@ -20,6 +20,7 @@ pub(crate) fn decide_overdue<S: Shelf>(
 ) -> Result<Decided, ShelfFault>
     ensures decides { Decides (S.is_honest shelf.new) (S.content shelf.old) (Command.Overdue day) result }
     ensures kept { IsKept S.is_honest S.content S.written S.may_leave shelf.old shelf.new }
+    ensures open { AnswersOpen S.is_clean S.is_honest result shelf.old shelf.new }
 {
     let late = shelf.overdue_rows(alloc, day, ALL)?;
     let found = OverdueList::new(late);

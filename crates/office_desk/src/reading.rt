@@ -1,7 +1,8 @@
 //! What is read of an intersection.
-ghost use Rattle.std.specs.Prelude.{◌≡◌, IfOk, IfSome, map};
+ghost use Rattle.std.specs.Prelude.{◌≡◌, IfOk, IfSome, map, ◌≢◌};
 ghost use Rattle.office_tables_shelf.specs.Damage.{HasDamagedIntersection, HasDamagedTiming};
-ghost use Rattle.office_tables_shelf.specs.Shelf.{IsKept, ReadsIntersection};
+ghost use Rattle.office_tables_shelf.specs.Shelf.{AnswersOpen, IsKept, ReadsIntersection};
+ghost use Rattle.office_desk_cabinet.specs.Open.{StaysOpen};
 ghost use Rattle.office_desk.specs.Damage.{HasDamageIn, HasDamagedPlan};
 ghost use Rattle.office_desk.specs.Office.{Office, side_at};
 ghost use Rattle.office_desk.specs.Reading.{AreWithin, FindsAny, IsMadeOf};
@@ -58,6 +59,7 @@ pub(crate) fn committed_set<S: Shelf>(
     ensures set { IfOk result (λ set. S.is_honest shelf.new → (office : Office) → StandForSound (S.content shelf.old) office → set ≡ (side_at office id).committed) }
     ensures damaged { result ≡ Err ShelfFault.Damaged → S.is_honest shelf.new → HasDamagedTiming (S.content shelf.old) id }
     ensures kept { IsKept S.is_honest S.content S.written S.may_leave shelf.old shelf.new }
+    ensures open { AnswersOpen S.is_clean S.is_honest result shelf.old shelf.new }
 {
     let rows = shelf.timing_rows(alloc, id)?;
     let set = set_of(alloc, rows)?;
@@ -103,6 +105,7 @@ pub(crate) fn intersection_row<S: Shelf>(
     ensures whole { IfOk result (λ _. S.is_honest shelf.new → ¬ HasDamagedIntersection (S.content shelf.old) id) }
     ensures damaged { result ≡ Err ShelfFault.Damaged → S.is_honest shelf.new → HasDamagedIntersection (S.content shelf.old) id }
     ensures kept { IsKept S.is_honest S.content S.written S.may_leave shelf.old shelf.new }
+    ensures open { AnswersOpen S.is_clean S.is_honest result shelf.old shelf.new }
 {
     let Some(row) = shelf.intersection(alloc, id)? else {
         return Ok(None);
@@ -124,6 +127,8 @@ fn plan_rows<S: Shelf>(
     ensures damaged { result ≡ Err ShelfFault.Damaged → S.is_honest shelf.new →
         HasDamagedPlan reach (S.content shelf.old) id }
     ensures kept { IsKept S.is_honest S.content S.written S.may_leave shelf.old shelf.new }
+    ensures open { StaysOpen S.is_clean S.is_honest (reach ≢ Reach.Row)
+        result shelf.old shelf.new }
 {
     match reach {
         Reach::Row => return Ok((Vec::new(alloc), Vec::new(alloc))),
@@ -151,6 +156,7 @@ pub(crate) fn find<S: Shelf>(
     ensures damaged { result ≡ Err ShelfFault.Damaged → S.is_honest shelf.new →
         HasDamageIn reach (S.content shelf.old) id }
     ensures kept { IsKept S.is_honest S.content S.written S.may_leave shelf.old shelf.new }
+    ensures open { AnswersOpen S.is_clean S.is_honest result shelf.old shelf.new }
 {
     let Some(row) = intersection_row(shelf, alloc, id)? else {
         return Ok(None);

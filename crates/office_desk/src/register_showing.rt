@@ -1,5 +1,5 @@
 //! The queries Cabinet, OpenOrders and Stock.
-ghost use Rattle.office_tables_shelf.specs.Shelf.{IsKept};
+ghost use Rattle.office_tables_shelf.specs.Shelf.{AnswersOpen, IsKept};
 ghost use Rattle.office_desk.specs.Deciding.{Decides};
 
 use crate::command::Command;
@@ -20,6 +20,7 @@ pub(crate) fn decide_cabinet<S: Shelf>(
 ) -> Result<Decided, ShelfFault>
     ensures decides { Decides (S.is_honest shelf.new) (S.content shelf.old) (Command.Cabinet id) result }
     ensures kept { IsKept S.is_honest S.content S.written S.may_leave shelf.old shelf.new }
+    ensures open { AnswersOpen S.is_clean S.is_honest result shelf.old shelf.new }
 {
     if !is_known(shelf, alloc, Some(id))? {
         return Ok(Decided::refused(alloc, Refusal::UnknownIntersection));
@@ -37,6 +38,7 @@ pub(crate) fn decide_open_orders<S: Shelf>(
 ) -> Result<Decided, ShelfFault>
     ensures decides { Decides (S.is_honest shelf.new) (S.content shelf.old) (Command.OpenOrders id) result }
     ensures kept { IsKept S.is_honest S.content S.written S.may_leave shelf.old shelf.new }
+    ensures open { AnswersOpen S.is_clean S.is_honest result shelf.old shelf.new }
 {
     let known = is_known(shelf, alloc, Some(id))?;
     if !known {
@@ -51,6 +53,7 @@ pub(crate) fn decide_open_orders<S: Shelf>(
 pub(crate) fn decide_stock<S: Shelf>(shelf: &mut S, alloc: Global) -> Result<Decided, ShelfFault>
     ensures decides { Decides (S.is_honest shelf.new) (S.content shelf.old) Command.Stock result }
     ensures kept { IsKept S.is_honest S.content S.written S.may_leave shelf.old shelf.new }
+    ensures open { AnswersOpen S.is_clean S.is_honest result shelf.old shelf.new }
 {
     let list = stock(shelf, alloc)?;
     let parts = Stock::new(list);

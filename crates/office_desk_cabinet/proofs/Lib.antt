@@ -12,3 +12,4 @@ pub mod ListedRecords
 pub mod InOrder
 pub mod ShowingLemmas
 pub mod EmptyRegister
+pub mod Opened

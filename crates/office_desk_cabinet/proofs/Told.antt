@@ -30,16 +30,11 @@ use Rattle.office_tables_shelf.specs.declared.shelf.ShelfFault.TheVariants.{NoMe
 use Rattle.office_desk_cabinet.specs.RegisterDamage.{MeetsRecordDamage}
 use Rattle.office_desk_cabinet.specs.RegisterStands.{RegisterStandsSound}
 use Rattle.office_desk_cabinet.specs.Registers.{line_told, rows_told, IsNamed, RegistersFrom, Registers, LeavesTiming, most_record_writes}
+pub use Rattle.office_desk_cabinet.specs.Lines.{rows_for}
 use Rattle.office_desk_cabinet.specs.Telling.{row_change_of, row_changes_of, Tells}
 use Rattle.office_desk_cabinet.specs.declared.registered.Registered.{Registered}
 use Rattle.office_desk_cabinet.proofs.Changed.{stand_changed}
 use Rattle.office_desk_cabinet.specs.declared.registered.Registered.TheVariants.{Refused}
-
--- the rows that a line writes
-abbrev pub rows_for : Line → List RowChange → List RowChange
-rows_for added rows = rows
-rows_for same rows = []
-rows_for (refused why) rows = []
 
 -- what is told is the line, with the rows of its changes
 pub record IsTold (id : ℕ) (line : Line) (list : List CabinetChange) (told : Registered) : Type 0 where
@@ -73,6 +68,14 @@ told_by id line list (Err refusal.StockFull) told is tells = turned_down id line
 told_by id line list (Err refusal.DeliveryDiffers) told is tells = turned_down id line list _ told is tells.1
 told_by id line list (Err refusal.LineDiffers) told is tells = turned_down id line list _ told is tells.1
 told_by id line list (Err refusal.CloseDiffers) told is tells = turned_down id line list _ told is tells.1
+
+-- what holds of the line and its rows is so of what is told
+pub told_line : (id : ℕ) (line : Line) (list : List CabinetChange) (decision : Result Recorded CabinetRefusal) (result : Result Registered ShelfFault) (P : Line → List RowChange → Type 0)
+    → Records decision line list → IfOk result (λ told. Tells id decision told) → P line (rows_for line (row_changes_of id list)) → IfOk result (λ told. P (line_told told) (rows_told told))
+told_line id line list decision (Ok told) P is tells holds =
+    let done = told_by id line list decision told is tells in
+    subst₂ P (sym done.same_line) (sym done.same_rows) holds
+told_line id line list decision (Err fault) P is tells holds = tt
 
 -- ---- the step
 

@@ -3,4 +3,6 @@ pub mod RegisterDamage
 pub mod Puts
 pub mod Registers
 pub mod Telling
+pub mod Open
+pub mod Lines
 pub mod Stocking

@@ -1,10 +1,13 @@
 //! The commands of the register, decided.
-ghost use Rattle.std.specs.Prelude.{◌≤◌, IfOk};
+ghost use Rattle.std.specs.Prelude.{◌≤◌, IfOk, ◌≡◌, []};
+ghost use Rattle.office_tables_shelf.specs.Change.{changed_by};
 ghost use Rattle.office_tables_shelf.specs.Content.{Content};
 ghost use Rattle.office_tables_shelf.specs.Counts.{writes_in};
 ghost use Rattle.office_tables_shelf.specs.Shelf.{IsKept};
+ghost use Rattle.office_desk_cabinet.specs.Open.{StaysOpen};
 ghost use Rattle.office_tables_shelf.specs.declared.rows.Table.{Table};
 ghost use Rattle.office_desk_cabinet.specs.RegisterDamage.{IsWhole, SparesDamage};
+ghost use Rattle.office_desk_cabinet.specs.Lines.{TellsLine};
 ghost use Rattle.office_desk_cabinet.specs.Registers.{IsNamed, LeavesTiming, Registers, line_told, most_record_writes, rows_told};
 
 use crate::pending::Pending;
@@ -31,7 +34,12 @@ pub fn decide_record<S: Shelf>(
     ensures leaves { IfOk result (λ told. (tables : Content) → LeavesTiming tables (rows_told told)) }
     ensures writes { IfOk result (λ told. (table : Table) → writes_in table (rows_told told) ≤ most_record_writes command.now table) }
     ensures named { IfOk result (λ told. IsNamed command.now (line_told told)) }
+    ensures line { IfOk result (λ told. S.is_honest shelf.new →
+        TellsLine (changed_by (S.content shelf.old) pending.now) command.now
+        (line_told told) (rows_told told)) }
     ensures kept { IsKept S.is_honest S.content S.written S.may_leave shelf.old shelf.new }
+    ensures open { StaysOpen S.is_clean S.is_honest (pending.now ≡ [])
+        result shelf.old shelf.new }
 {
     match command {
         RecordCommand::Inspect { id, inspection } => {

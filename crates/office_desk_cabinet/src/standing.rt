@@ -1,5 +1,5 @@
 //! The records that stand under a command's keys once the pending rows are written.
-ghost use Rattle.std.specs.Prelude.{◌≡◌, IfOk, IfSome};
+ghost use Rattle.std.specs.Prelude.{◌≡◌, IfOk, IfSome, []};
 ghost use Rattle.cabinet_core.specs.Within.{IsInspectionWithin, IsOrderWithin};
 ghost use Rattle.cabinet_core.specs.Within.{IsUsedLineWithin, IsDeliveryWithin};
 ghost use Rattle.office_tables_shelf.specs.CabinetReads.{ReadsInspection, HasDamagedInspectionAt};
@@ -9,6 +9,7 @@ ghost use Rattle.office_tables_shelf.specs.CabinetReads.{IsHand, ReadsHand, HasD
 ghost use Rattle.office_tables_shelf.specs.CabinetReads.{ReadsDelivery, HasDamagedDelivery};
 ghost use Rattle.office_tables_shelf.specs.Change.{changed_by};
 ghost use Rattle.office_tables_shelf.specs.Shelf.{IsKept};
+ghost use Rattle.office_desk_cabinet.specs.Open.{StaysOpen};
 
 use crate::pending::Pending;
 use cabinet_core::{
@@ -41,6 +42,8 @@ pub(crate) fn inspection_at<S: Shelf>(
         ¬ HasDamagedInspectionAt (changed_by (S.content shelf.old) pending.now) id number) }
     ensures damaged { result ≡ Err ShelfFault.Damaged → S.is_honest shelf.new → HasDamagedInspectionAt (S.content shelf.old) id number }
     ensures kept { IsKept S.is_honest S.content S.written S.may_leave shelf.old shelf.new }
+    ensures open { StaysOpen S.is_clean S.is_honest (pending.now ≡ [])
+        result shelf.old shelf.new }
 {
     if let Some(put) = pending.inspection(id, number)? {
         inspection_is_within(&put);
@@ -73,6 +76,8 @@ pub(crate) fn order_at<S: Shelf>(
         ¬ HasDamagedOrderAt (changed_by (S.content shelf.old) pending.now) id number) }
     ensures damaged { result ≡ Err ShelfFault.Damaged → S.is_honest shelf.new → HasDamagedOrderAt (S.content shelf.old) id number }
     ensures kept { IsKept S.is_honest S.content S.written S.may_leave shelf.old shelf.new }
+    ensures open { StaysOpen S.is_clean S.is_honest (pending.now ≡ [])
+        result shelf.old shelf.new }
 {
     if let Some(put) = pending.order(id, number)? {
         order_is_within(&put);
@@ -106,6 +111,8 @@ pub(crate) fn line_at<S: Shelf>(
         ¬ HasDamagedUsedAt (changed_by (S.content shelf.old) pending.now) id order line) }
     ensures damaged { result ≡ Err ShelfFault.Damaged → S.is_honest shelf.new → HasDamagedUsedAt (S.content shelf.old) id order line }
     ensures kept { IsKept S.is_honest S.content S.written S.may_leave shelf.old shelf.new }
+    ensures open { StaysOpen S.is_clean S.is_honest (pending.now ≡ [])
+        result shelf.old shelf.new }
 {
     if let Some(put) = pending.line(id, order, line)? {
         used_line_is_within(&put);
@@ -138,6 +145,8 @@ pub(crate) fn hand_at<S: Shelf>(
         ¬ HasDamagedHand (changed_by (S.content shelf.old) pending.now) part.now) }
     ensures damaged { result ≡ Err ShelfFault.Damaged → S.is_honest shelf.new → HasDamagedHand (S.content shelf.old) part.now }
     ensures kept { IsKept S.is_honest S.content S.written S.may_leave shelf.old shelf.new }
+    ensures open { StaysOpen S.is_clean S.is_honest (pending.now ≡ [])
+        result shelf.old shelf.new }
 {
     if let Some(put) = pending.hand(part) {
         let there = Some(put);
@@ -171,6 +180,8 @@ pub(crate) fn delivery_at<S: Shelf>(
         ¬ HasDamagedDelivery (changed_by (S.content shelf.old) pending.now) part.now number) }
     ensures damaged { result ≡ Err ShelfFault.Damaged → S.is_honest shelf.new → HasDamagedDelivery (S.content shelf.old) part.now number }
     ensures kept { IsKept S.is_honest S.content S.written S.may_leave shelf.old shelf.new }
+    ensures open { StaysOpen S.is_clean S.is_honest (pending.now ≡ [])
+        result shelf.old shelf.new }
 {
     if let Some(put) = pending.delivery(part, number)? {
         delivery_is_within(&put);

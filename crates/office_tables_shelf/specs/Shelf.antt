@@ -29,8 +29,7 @@ pub record IsKept {S : Type 0} (is_honest : S → Type 0) (content : S → Conte
 -- the call answered, or told that a stored row is no record
 abbrev pub IsTold : {A : Type 0} → Result A ShelfFault → Type 0
 IsTold (Ok found) = ⊤
-IsTold (Err Damaged) = ⊤
-IsTold (Err why) = ⊥
+IsTold (Err why) = why ≡ Damaged
 
 -- Nothing makes a disk clean again. What answers, or tells a damaged row, was open and stays so; with `IsKept`, one that a failure has shut refuses each later read.
 pub record AnswersOpen {S A : Type 0} (is_clean is_honest : S → Type 0) (result : Result A ShelfFault) (old new : S) : Type 0 where

@@ -33,6 +33,18 @@ shown_open sql params old new rows h = go h.0.returning h.2
     go None it = it.3.0.was_open
     go (Some what) it = it.1.shown.was_open
 
+shown_leaves_open : (sql : List ℕ) (params : Row) (old new : State) (rows : List Row) → Shown sql params old new rows → IsTrue new.is_open
+unfolding Shown
+shown_leaves_open sql params old new rows h = go h.0.returning h.2
+  where
+    go : (returning : Option Returning) → ShowsRows old new sql h.0 (timed params h.0.formats h.1.now) rows returning → IsTrue new.is_open
+    go None it = it.3.0.is_open
+    go (Some what) it = it.1.shown.is_open
+
+-- what shows rows leaves the database open
+pub shown_honest : (sql : List ℕ) (params : Row) (old new : State) (rows : List Row) → (HasCleanDisk new → Shown sql params old new rows) → HasCleanDisk new → IsHonest new
+shown_honest sql params old new rows h clean = (clean, shown_leaves_open sql params old new rows (h clean))
+
 shown_unchanged : (sql : List ℕ) (params : Row) (old new : State) (rows : List Row) → IsPlain (understood old.now.schema sql) → Shown sql params old new rows → IsUnchanged old new
 unfolding Shown
 shown_unchanged sql params old new rows plain h = (subst (ShowsRows old new sql h.0 (timed params h.0.formats h.1.now) rows) (subst IsPlain h.1.is plain).0 h.2).3

@@ -1,5 +1,5 @@
 -- What the calls of a shelf need of a connection and leave of it.
-use Rattle.std.specs.Prelude.{◌≡◌, ℕ, false, List, [], Result, Ok, Err, None, IsTrue}
+use Rattle.std.specs.Prelude.{◌≡◌, ℕ, false, List, [], Result, Ok, Err, None, IsTrue, OnOk}
 use Rattle.std.specs.List.{AllByRecursion}
 use Rattle.sqlite.specs.Command.{Command}
 use Rattle.sqlite.specs.Command.TheVariants.{Nothing}
@@ -16,6 +16,8 @@ use Rattle.sqlite.specs.Listing.{understood, reads_listing}
 use Rattle.sqlite.specs.State.{State, HasCleanDisk, Runs, text_of}
 use Rattle.sqlite_resolve.specs.declared.compiled.Compiled.{Compiled}
 use Rattle.sqlite_resolve.specs.declared.error.CompileError.{CompileError}
+use Rattle.office_tables_shelf.specs.Shelf.{IsTold}
+use Rattle.office_tables_shelf.specs.declared.shelf.ShelfFault.{ShelfFault}
 use Rattle.office_tables_sql.specs.Schema.{office_schema}
 
 -- The disk has returned what was written, and no failure of it has shut the database.
@@ -50,6 +52,14 @@ pub record Keeps (old new : State) : Type 0 where
   pub office : IsOffice new
   pub honest : IsHonest new → IsHonest old
   pub same : IsHonest new → new.now ≡ old.now
+
+-- on a clean disk, a call that answers leaves the database open; it was open before, as `Keeps` says
+abbrev pub StaysOpen : {A E : Type 0} → Result A E → State → Type 0
+StaysOpen result new = HasCleanDisk new → OnOk result (IsHonest new)
+
+-- and so does a call that tells that a stored row is no record
+abbrev pub TellsOpen : {A : Type 0} → Result A ShelfFault → State → Type 0
+TellsOpen result new = HasCleanDisk new → IsTold result → IsHonest new
 
 -- the command of a text, and the part of the text that says it
 abbrev pub command_of : Result Compiled CompileError → Command

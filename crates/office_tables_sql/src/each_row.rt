@@ -8,6 +8,7 @@ ghost use Rattle.sqlite.specs.Values.{bound};
 ghost use Rattle.sqlite.specs.declared.types.Value.TheVariants.{Int};
 ghost use Rattle.office_tables_sql.specs.Stored.{content_now};
 ghost use Rattle.office_tables_sql.specs.Calls.{IsHonest, IsOffice, IsQuery, Keeps};
+ghost use Rattle.office_tables_sql.specs.Calls.{TellsOpen};
 ghost use Rattle.office_tables_sql.specs.Tables.{params_of, ListsRows, HasDamagedRow};
 ghost use Rattle.office_tables_sql.specs.Gathers.{Gathers};
 
@@ -73,6 +74,7 @@ pub fn list<T: StoredRow<Of = InterId>, S: Alter>(
     ensures damaged { result ≡ Err ShelfFault.Damaged → IsHonest (state S.Store conn.new) → HasDamagedRow T.table T.is_within T.key T.columns (content_now (state S.Store conn.old)) (T.number id) }
     ensures kept { Keeps (state S.Store conn.old) (state S.Store conn.new) }
     ensures crash { Survives (state S.Store conn.old) (state S.Store conn.new) (λ _. ⊥) }
+    ensures open { TellsOpen result (state S.Store conn.new) }
 {
     gathered::<T, Vec<T>, S>(alloc, conn, id, params![id.get()], Vec::new(alloc))
 }
@@ -90,6 +92,7 @@ pub fn list_all<T: StoredRow<Of = ()>, S: Alter>(
     ensures damaged { result ≡ Err ShelfFault.Damaged → IsHonest (state S.Store conn.new) → HasDamagedRow T.table T.is_within T.key T.columns (content_now (state S.Store conn.old)) (T.number tt) }
     ensures kept { Keeps (state S.Store conn.old) (state S.Store conn.new) }
     ensures crash { Survives (state S.Store conn.old) (state S.Store conn.new) (λ _. ⊥) }
+    ensures open { TellsOpen result (state S.Store conn.new) }
 {
     gathered::<T, Vec<T>, S>(alloc, conn, (), params![], Vec::new(alloc))
 }
@@ -114,6 +117,7 @@ pub(crate) fn gathered<T: StoredRow, G: Gather<T>, S: Alter>(
         (T.number of) }
     ensures kept { Keeps (state S.Store conn.old) (state S.Store conn.new) }
     ensures crash { Survives (state S.Store conn.old) (state S.Store conn.new) (λ _. ⊥) }
+    ensures open { TellsOpen result (state S.Store conn.new) }
 {
     let statement = prepared(conn, T::list_text())?;
     gather_each::<T, G, S>(alloc, conn, &statement, of, params, begun)
@@ -139,6 +143,7 @@ fn gather_each<T: StoredRow, G: Gather<T>, S: Alter>(
     ensures damaged { result ≡ Err ShelfFault.Damaged → IsHonest (state S.Store conn.new) → HasDamagedRow T.table T.is_within T.key T.columns (content_now (state S.Store conn.old)) (T.number of) }
     ensures kept { Keeps (state S.Store conn.old) (state S.Store conn.new) }
     ensures crash { Survives (state S.Store conn.old) (state S.Store conn.new) (λ _. ⊥) }
+    ensures open { TellsOpen result (state S.Store conn.new) }
 {
     let mut found = begun;
     let mut rows = match conn.query_prepared(statement, params) {

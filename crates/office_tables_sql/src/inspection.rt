@@ -9,6 +9,7 @@ ghost use Rattle.office_tables_shelf.specs.CabinetRows.{inspection_key, inspecti
 ghost use Rattle.office_tables_shelf.specs.Overdue.{ReadsLast};
 ghost use Rattle.office_tables_sql.specs.Stored.{content_now};
 ghost use Rattle.office_tables_sql.specs.Calls.{IsHonest, IsOffice, Keeps};
+ghost use Rattle.office_tables_sql.specs.Calls.{TellsOpen};
 
 use crate::each_row::{Gather, gathered};
 use crate::listed::check_number;
@@ -149,6 +150,7 @@ pub fn last_day<S: Alter>(
         HasDamagedInspection (content_now (state S.Store conn.old)) id }
     ensures kept { Keeps (state S.Store conn.old) (state S.Store conn.new) }
     ensures crash { Survives (state S.Store conn.old) (state S.Store conn.new) (λ _. ⊥) }
+    ensures open { TellsOpen result (state S.Store conn.new) }
 {
     let begun = LatestDay { day: None };
     let latest = gathered::<Inspection, LatestDay, S>(alloc, conn, id, params![id.get()], begun)?;

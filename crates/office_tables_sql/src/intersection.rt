@@ -18,6 +18,7 @@ ghost use Rattle.office_tables_shelf.specs.Damage.{HasDamagedIntersection};
 ghost use Rattle.office_tables_shelf.specs.declared.rows.IntersectionRow.{IntersectionRow};
 ghost use Rattle.office_tables_sql.specs.Stored.{cell_of, content_now};
 ghost use Rattle.office_tables_sql.specs.Calls.{IsHonest, IsOffice, IsReady, Keeps, StandsOn};
+ghost use Rattle.office_tables_sql.specs.Calls.{TellsOpen};
 ghost use Rattle.office_tables_sql.specs.Tables.{value_of};
 
 use crate::statement::SqlFault;
@@ -143,6 +144,7 @@ pub fn read<S: Alter>(
     ensures damaged { result ≡ Err ShelfFault.Damaged → IsHonest (state S.Store conn.new) → HasDamagedIntersection (content_now (state S.Store conn.old)) id }
     ensures kept { Keeps (state S.Store conn.old) (state S.Store conn.new) }
     ensures crash { Survives (state S.Store conn.old) (state S.Store conn.new) (λ _. ⊥) }
+    ensures open { TellsOpen result (state S.Store conn.new) }
 {
     let found: Option<(InterId, IntersectionRow)> = stored_row::find(
         alloc,

@@ -8,6 +8,7 @@ ghost use Rattle.office_tables_shelf.specs.CabinetReads.{ReadsHand, HasDamagedHa
 ghost use Rattle.office_tables_shelf.specs.CabinetRows.{part_key, part_columns};
 ghost use Rattle.office_tables_sql.specs.Stored.{content_now};
 ghost use Rattle.office_tables_sql.specs.Calls.{IsHonest, IsOffice, IsReady, Keeps, StandsOn};
+ghost use Rattle.office_tables_sql.specs.Calls.{TellsOpen};
 
 use crate::statement::SqlFault;
 use crate::stored_row::{self, StoredRow};
@@ -114,6 +115,7 @@ pub fn hand<S: Alter>(
     ensures damaged { result ≡ Err ShelfFault.Damaged → IsHonest (state S.Store conn.new) → HasDamagedHand (content_now (state S.Store conn.old)) code.now }
     ensures kept { Keeps (state S.Store conn.old) (state S.Store conn.new) }
     ensures crash { Survives (state S.Store conn.old) (state S.Store conn.new) (λ _. ⊥) }
+    ensures open { TellsOpen result (state S.Store conn.new) }
 {
     let found: Option<(PartCode, Hand)> = stored_row::find(
         alloc,

@@ -6,6 +6,7 @@ ghost use Rattle.sqlite.specs.Values.{bound};
 ghost use Rattle.sqlite.specs.State.{HasCleanDisk, Survives};
 ghost use Rattle.sqlite.specs.Held.{state};
 ghost use Rattle.office_tables_sql.specs.Calls.{IsHonest, IsOffice, Keeps, IsQuery, Reads, IsWriting, Ran, StandsOn};
+ghost use Rattle.office_tables_sql.specs.Calls.{StaysOpen};
 
 use office_tables_shelf::shelf::ShelfFault;
 use signal_records::NoMemory;
@@ -61,6 +62,7 @@ pub fn select<S: Alter>(
     ensures rows { IsHonest (state S.Store conn.new) → IfOk result (λ rows. Reads sql.now (bound params.now) (state S.Store conn.old).now rows.items) }
     ensures kept { Keeps (state S.Store conn.old) (state S.Store conn.new) }
     ensures crash { Survives (state S.Store conn.old) (state S.Store conn.new) (λ _. ⊥) }
+    ensures open { StaysOpen result (state S.Store conn.new) }
 {
     let statement = conn.prepare(sql)?;
     let rows = statement.query_all(conn, params)?;
@@ -78,6 +80,7 @@ pub fn select_one<S: Alter>(
     ensures row { IsHonest (state S.Store conn.new) → IfOk result (λ row. Reads sql.now (bound params.now) (state S.Store conn.old).now (option_to_list row)) }
     ensures kept { Keeps (state S.Store conn.old) (state S.Store conn.new) }
     ensures crash { Survives (state S.Store conn.old) (state S.Store conn.new) (λ _. ⊥) }
+    ensures open { StaysOpen result (state S.Store conn.new) }
 {
     let mut rows = select(conn, sql, params)?;
     if rows.len() > 1 {

@@ -10,6 +10,7 @@ ghost use Rattle.office_tables_shelf.specs.Rows.{timing_key};
 ghost use Rattle.office_tables_shelf.specs.declared.rows.Table.{Table};
 ghost use Rattle.office_tables_sql.specs.Stored.{content_now};
 ghost use Rattle.office_tables_sql.specs.Calls.{IsHonest, IsOffice, IsReady, Keeps, StandsOn};
+ghost use Rattle.office_tables_sql.specs.Calls.{StaysOpen, TellsOpen};
 ghost use Rattle.office_tables_sql.specs.Tables.{put_in, remove_in, key_values, key_shown, columns_shown, width_of, key_given, IsKeyOf, IsUnder, ReadsRow, HasDamagedUnder, IsNoRow, IsListText, IsFindText, IsUpdateText, IsInsertText, IsRemoveText, Fits, values_of};
 
 use crate::statement::{SqlFault, select_one, write};
@@ -110,6 +111,7 @@ pub fn find<T: StoredRow, S: Alter>(
     ensures damaged { result ≡ Err ShelfFault.Damaged → IsHonest (state S.Store conn.new) → HasDamagedUnder T.table T.is_within T.key T.columns (content_now (state S.Store conn.old)) (T.number of) (key_given T.table (bound key.now)) }
     ensures kept { Keeps (state S.Store conn.old) (state S.Store conn.new) }
     ensures crash { Survives (state S.Store conn.old) (state S.Store conn.new) (λ _. ⊥) }
+    ensures open { TellsOpen result (state S.Store conn.new) }
 {
     match under::<T, S>(conn, key)? {
         Some(row) => Ok(Some(T::read(alloc, of, &row)?)),
@@ -127,6 +129,7 @@ fn under<T: StoredRow, S: Alter>(
     ensures found { IsHonest (state S.Store conn.new) → IfOk result (IsUnder T.table (content_now (state S.Store conn.old)) (key_given T.table (bound key.now))) }
     ensures kept { Keeps (state S.Store conn.old) (state S.Store conn.new) }
     ensures crash { Survives (state S.Store conn.old) (state S.Store conn.new) (λ _. ⊥) }
+    ensures open { StaysOpen result (state S.Store conn.new) }
 {
     select_one(conn, T::find_text(), key)
 }

@@ -6,6 +6,7 @@ ghost use Rattle.sqlite.specs.Held.{state};
 ghost use Rattle.office_tables_shelf.specs.Shelf.{rows_of};
 ghost use Rattle.office_tables_sql.specs.Stored.{content_now};
 ghost use Rattle.office_tables_sql.specs.Calls.{IsHonest, IsOffice, Keeps};
+ghost use Rattle.office_tables_sql.specs.Calls.{StaysOpen};
 
 use crate::body::write_body;
 use crate::listed::{body_at, check_key};
@@ -39,6 +40,7 @@ pub fn count<S: Alter>(conn: &mut Connection<S>, id: InterId) -> Result<usize, S
     ensures count { IfOk result (λ count. IsHonest (state S.Store conn.new) → count ≡ length (rows_of id (content_now (state S.Store conn.old)).timing)) }
     ensures kept { Keeps (state S.Store conn.old) (state S.Store conn.new) }
     ensures crash { Survives (state S.Store conn.old) (state S.Store conn.new) (λ _. ⊥) }
+    ensures open { StaysOpen result (state S.Store conn.new) }
 {
     let Some(row) = select_one(conn, COUNT, params![id.get()])? else {
         return Err(SqlFault::Store);

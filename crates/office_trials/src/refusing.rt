@@ -45,6 +45,8 @@ impl Refusing {
 impl Shelf for Refusing {
     ghost content = { λ s. s.inner.tables };
 
+    ghost is_clean = { λ _. ⊥ };
+
     ghost is_honest = { λ _. ⊥ };
 
     ghost may_leave = { λ _ _. ⊥ };

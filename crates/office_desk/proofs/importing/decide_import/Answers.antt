@@ -1,18 +1,24 @@
-use Rattle.std.proofs.Common.{◌≡◌, ◌+◌, ◌≤◌, ◌<◌, ◌∙◌, List, length, drop, get_or, Err, inl, inr, ap, sym, refl, subst, arith}
+use Rattle.std.proofs.Common.{◌≡◌, ◌+◌, ◌≤◌, ◌<◌, ◌∙◌, List, [], length, drop, take, get_or, Err, inl, inr, ap, sym, refl, subst, arith}
 use Rattle.std.specs.Prelude.{◌⊎◌}
-use Rattle.std.proofs.lemmas.List.{drop_all}
+use Rattle.std.proofs.lemmas.List.{drop_all, take_all}
 use Rattle.cabinet_core.specs.declared.command.RecordCommand.{RecordCommand}
 use Rattle.office_tables_shelf.specs.Change.{changed_by}
 use Rattle.office_tables_shelf.specs.declared.rows.RowChange.{RowChange}
 use Rattle.office_tables_shelf.specs.declared.shelf.ShelfFault.{ShelfFault}
 use Rattle.office_desk_cabinet.specs.RegisterDamage.{KeepsDamage}
+use Rattle.office_tables_shelf.specs.Shelf.{IsTold}
 use Rattle.office_desk_cabinet.proofs.KeptDamage.{kept_after, nothing_kept}
-use Rattle.office_desk.specs.Damage.{MeetsCabinetDamage}
+use Rattle.office_desk_cabinet.proofs.Opened.{handed_told}
+use Rattle.office_desk.specs.Damage.{MeetsCabinetDamage, MeetsImportDamage}
 use Rattle.office_desk.specs.Step.{cabinet_of}
-use Rattle.office_desk.specs.Importing.{ImportsAny, LeavesAnyTiming, TakesRecord}
-use Rattle.office_desk.specs.declared.importing.Taken.TheVariants.{Added, Same}
+use Rattle.office_desk.specs.Blaming.{AreTaken}
+use Rattle.office_desk.specs.Importing.{ImportsAny, IsNamedTaken, LeavesAnyTiming, TakesLine, TakesRecord}
+use Rattle.office_desk.specs.declared.importing.Taken.{Taken}
+use Rattle.office_desk.specs.declared.importing.Taken.TheVariants.{Added, Same, Refused}
+use Rattle.office_desk.specs.declared.reply.Reply.TheVariants.{Imported}
 use Rattle.office_desk.proofs.Decisions.{fault_decides}
-use Rattle.office_desk.proofs.Imports.{counted_on, damage_of_record, import_decides, imports_on, imports_start, next_left, still_left, was_taken, whole_stored, nothing_leaves, nothing_written, refused_decides, same_stored, writes_left, writes_whole}
+use Rattle.office_desk.proofs.Blames.{blames_next, taken_blames, none_met, one_further, taken_next}
+use Rattle.office_desk.proofs.Imports.{counted_on, damage_of_record, import_decides, imports_on, imports_start, never_met, next_left, none_next, some_read, taken_open, whole_stored, nothing_leaves, nothing_written, refused_decides, same_stored, writes_left, writes_whole}
 use Rattle.office_tables_shelf.proofs.KeptLemmas.{kept_on}
 use Rattle.office_desk.proofs.importing.decide_import.Goals as goal
 use Rattle.office_desk.proofs.importing.decide_import.Goals.{in-Added, in-Same}
@@ -25,6 +31,11 @@ loop-index-init g c =
       imports = λ honest. subst (ImportsAny (g.S.Shelf.content c.args.shelf.now) c.args.records.now c.args.records.now 1 0 0) (sym none) (imports_start (g.S.Shelf.content c.args.shelf.now) c.args.records.now);
       spares = λ honest. subst (λ (list : List RowChange). KeepsDamage (g.S.Shelf.content c.args.shelf.now) (changed_by (g.S.Shelf.content c.args.shelf.now) list)) (sym none) (nothing_kept (g.S.Shelf.content c.args.shelf.now));
       whole = λ honest damaged. damaged;
+      fresh = λ start. none;
+      clean = λ clean. clean;
+      stays = λ clean honest. honest;
+      read = λ clean later. absurd (later refl);
+      taken = λ honest. none;
       leaves = subst LeavesAnyTiming (sym none) nothing_leaves;
       writes = λ table. nothing_written table c.new-pending.result c.args.records.now none;
       kept = record { honest_before = λ honest. honest; same_content = λ honest. refl; same_counts = refl; same_outcomes = λ tables left. left };
@@ -68,6 +79,30 @@ returns-in-Refused-clause-decides g c =
     (same_stored before item _ after (c.loop-index.invariant.kept.same_content (c.take_record.ensures.kept.honest_before honest)) (c.in_ok-taken.ensures.step honest)))
     c.number-cause.ensures c.refused.ensures.reply c.refused.ensures.no_changes
 
+pub returns-in-Refused-clause-blames : goal.returns-in-Refused-clause-blames
+returns-in-Refused-clause-blames g c =
+    let stored = g.S.Shelf.content c.args.shelf.now in
+    let all = c.args.records.now in
+    let index = c.loop-index.index in
+    let item = c.command-item.result in
+    let before = c.loop-index.pending in
+    let after = c.in_ok-taken.next in
+    let low = subst (λ (list : List RecordCommand). index < length list) c.as_slice-command-items.ensures c.loop-index-test.true in
+    let at = subst (λ (list : List RecordCommand). item ≡ get_or list index item) c.as_slice-command-items.ensures c.command-item.is in
+    blames_next _ stored all index _ _ item c.in-Refused.refusal _ (next_left all index item low at) refl c.number-cause.ensures c.refused.ensures.reply
+    (subst (IsNamedTaken item) c.in-Refused.is c.in_ok-taken.ensures.named)
+    (λ honest.
+    let first = c.take_record.ensures.kept.honest_before honest in
+    let same = c.loop-index.invariant.kept.same_content first in
+    let now = whole_stored before item after same (c.in_ok-taken.ensures.whole honest) in
+    record {
+      pending = before;
+      taken = c.loop-index.invariant.taken first;
+      refused = subst (λ s. TakesLine s before item (Refused c.in-Refused.refusal) after) same
+          (subst (λ (t : Taken). TakesLine (g.S.Shelf.content c.loop-index.shelf) before item t after) c.in-Refused.is (c.in_ok-taken.ensures.line honest));
+      whole = none_met stored (take index all) item (c.loop-index.invariant.whole first) (never_met stored before item after (c.loop-index.invariant.spares first) now);
+    })
+
 pub loop-index-preserved : goal.loop-index-preserved
 loop-index-preserved g c =
     let shelf = g.S.Shelf in
@@ -80,6 +115,8 @@ loop-index-preserved g c =
     let t = c.in_ok-taken.taken in
     let low = subst (λ (list : List RecordCommand). index < length list) c.as_slice-command-items.ensures c.loop-index-test.true in
     let at = subst (λ (list : List RecordCommand). item ≡ get_or list index item) c.as_slice-command-items.ensures c.command-item.is in
+    let now_open = λ (clean : shelf.is_clean c.take_record.new.shelf).
+    taken_open shelf.is_clean shelf.is_honest before index _ c.loop-index.shelf c.take_record.new.shelf c.loop-index.invariant.fresh c.loop-index.invariant.read c.in_ok-taken.ensures.open clean tt in
     let came : ((t ≡ Added) × (c.match-taken.added ≡ c.loop-index.added + 1) × (c.match-taken.same ≡ c.loop-index.same)) ⊎ ((t ≡ Same) × (c.match-taken.added ≡ c.loop-index.added) × (c.match-taken.same ≡ c.loop-index.same + 1)) =
     elim c.match-taken.branch [ in-Added w ↦ inl (w.in-Added.is, w.added-is, w.same-is) | in-Same w ↦ inr (w.in-Same.is, w.added-is, w.same-is) ] in
     record {
@@ -91,16 +128,30 @@ loop-index-preserved g c =
           (same_stored before item t after (c.loop-index.invariant.kept.same_content first) (c.in_ok-taken.ensures.step honest));
       spares = λ honest.
           let first = c.take_record.ensures.kept.honest_before honest in
-          let now = whole_stored before item t after (c.loop-index.invariant.kept.same_content first) (c.in_ok-taken.ensures.whole honest) in
+          let now = whole_stored before item after (c.loop-index.invariant.kept.same_content first) (c.in_ok-taken.ensures.whole honest) in
           kept_after stored (changed_by stored before) (changed_by stored after) (c.loop-index.invariant.spares first) now.spares;
-      whole = λ honest damaged.
+      whole = λ honest.
           let first = c.take_record.ensures.kept.honest_before honest in
-          let now = whole_stored before item t after (c.loop-index.invariant.kept.same_content first) (c.in_ok-taken.ensures.whole honest) in
-          still_left stored (drop index all) item (drop (index + 1) all) before after t (next_left all index item low at) (was_taken t came) (c.loop-index.invariant.spares first) now (c.loop-index.invariant.whole first damaged);
+          let now = whole_stored before item after (c.loop-index.invariant.kept.same_content first) (c.in_ok-taken.ensures.whole honest) in
+          subst (λ (list : List RecordCommand). ¬ MeetsImportDamage stored list) (sym (one_further all index item low at))
+          (none_met stored (take index all) item (c.loop-index.invariant.whole first) (never_met stored before item after (c.loop-index.invariant.spares first) now));
+      taken = λ honest.
+          let first = c.take_record.ensures.kept.honest_before honest in
+          subst (λ (list : List RecordCommand). AreTaken stored [] list after) (sym (one_further all index item low at))
+          (taken_next stored before item t after (take index all) _ _ _ _ came
+          (subst (λ s. TakesLine s before item t after) (c.loop-index.invariant.kept.same_content first) (c.in_ok-taken.ensures.line honest))
+          (c.loop-index.invariant.taken first));
+      fresh = λ start. absurd (let e : index + 1 ≡ 0 = start in let never : ⊥ = omega (arith, e) in never);
+      clean = λ clean. c.loop-index.invariant.clean (c.in_ok-taken.ensures.open.clean_before clean);
+      stays = λ clean honest. now_open clean;
+      read = λ clean later. now_open clean;
       leaves = c.in_ok-taken.ensures.leaves c.loop-index.invariant.leaves;
       writes = λ table. writes_left table all index item _ _ _ low at (c.loop-index.invariant.writes table) (c.in_ok-taken.ensures.writes table);
       kept = kept_on shelf.is_honest shelf.content shelf.written shelf.may_leave c.args.shelf.now c.loop-index.shelf c.take_record.new.shelf c.loop-index.invariant.kept c.take_record.ensures.kept;
     }
+
+pub returns-clause-blames : goal.returns-clause-blames
+returns-clause-blames g c = taken_blames _ _ _ _ (Imported c.loop-index.added c.loop-index.same) refl (λ why e. cc)
 
 pub returns-clause-decides : goal.returns-clause-decides
 returns-clause-decides g c =
@@ -108,5 +159,59 @@ returns-clause-decides g c =
     let index = c.loop-index.index in
     let high = subst (λ (list : List RecordCommand). length list ≤ index) c.as_slice-command-items.ensures c.loop-index-test.false in
     import_decides _ (g.S.Shelf.content c.args.shelf.now) all (drop index all) (index + 1) c.loop-index.added c.loop-index.same c.loop-index.pending _
-    (drop_all index all high) c.loop-index.invariant.imports c.loop-index.invariant.whole c.loop-index.invariant.leaves
+    (drop_all index all high) c.loop-index.invariant.imports
+    (λ honest. subst (λ (list : List RecordCommand). ¬ MeetsImportDamage (g.S.Shelf.content c.args.shelf.now) list) (take_all index all high) (c.loop-index.invariant.whole honest)) c.loop-index.invariant.leaves
     (λ table. writes_whole table all index _ _ high (c.loop-index.invariant.writes table)) refl c.into_changes.ensures
+
+-- ---- on a clean disk
+
+pub returns-in_err-taken-clause-open : goal.returns-in_err-taken-clause-open
+returns-in_err-taken-clause-open g c =
+    let shelf = g.S.Shelf in
+    let now_open = λ (clean : shelf.is_clean c.take_record.new.shelf) (told : IsTold c.from_residual.result).
+    taken_open shelf.is_clean shelf.is_honest c.loop-index.pending c.loop-index.index _ c.loop-index.shelf c.take_record.new.shelf c.loop-index.invariant.fresh c.loop-index.invariant.read c.take_record.ensures.open clean
+    (handed_told _ _ c.in_err-taken.field-0.0 c.in_err-taken.was c.from_residual.ensures.1 told) in
+    record {
+      clean_before = λ clean. c.loop-index.invariant.clean (c.take_record.ensures.open.clean_before clean);
+      stays = λ clean told honest. now_open clean told;
+      read = λ some clean told. now_open clean told;
+    }
+
+pub returns-in-Refused-clause-open : goal.returns-in-Refused-clause-open
+returns-in-Refused-clause-open g c =
+    let shelf = g.S.Shelf in
+    let now_open = λ (clean : shelf.is_clean c.take_record.new.shelf).
+    taken_open shelf.is_clean shelf.is_honest c.loop-index.pending c.loop-index.index _ c.loop-index.shelf c.take_record.new.shelf c.loop-index.invariant.fresh c.loop-index.invariant.read c.in_ok-taken.ensures.open clean tt in
+    record {
+      clean_before = λ clean. c.loop-index.invariant.clean (c.in_ok-taken.ensures.open.clean_before clean);
+      stays = λ clean told honest. now_open clean;
+      read = λ some clean told. now_open clean;
+    }
+
+pub returns-clause-open : goal.returns-clause-open
+returns-clause-open g c = record {
+  clean_before = c.loop-index.invariant.clean;
+  stays = λ clean told honest. c.loop-index.invariant.stays clean honest;
+  read = λ some clean told. c.loop-index.invariant.read clean
+      (some_read c.args.records.now c.loop-index.index (subst (λ (list : List RecordCommand). length list ≤ c.loop-index.index) c.as_slice-command-items.ensures c.loop-index-test.false) some);
+}
+
+pub returns-in_err-taken-clause-nothing : goal.returns-in_err-taken-clause-nothing
+returns-in_err-taken-clause-nothing g c = λ none.
+    absurd (none_next c.args.records.now c.loop-index.index (subst (λ (list : List RecordCommand). c.loop-index.index < length list) c.as_slice-command-items.ensures c.loop-index-test.true) none)
+
+pub returns-in-Refused-clause-nothing : goal.returns-in-Refused-clause-nothing
+returns-in-Refused-clause-nothing g c = λ none.
+    absurd (none_next c.args.records.now c.loop-index.index (subst (λ (list : List RecordCommand). c.loop-index.index < length list) c.as_slice-command-items.ensures c.loop-index-test.true) none)
+
+pub returns-clause-nothing : goal.returns-clause-nothing
+returns-clause-nothing g c = λ none.
+    let index = c.loop-index.index in
+    let listed : c.as_slice-command-items.result.now ≡ [] = c.as_slice-command-items.ensures ∙ none in
+    let size : length c.as_slice-command-items.result.now ≡ 0 = ap (λ (list : List RecordCommand). length list) listed in
+    let most : index ≤ 0 = omega (arith, size, c.loop-index.auto.index-end) in
+    let counted = c.loop-index.invariant.counted in
+    let start : index ≡ 0 = omega (arith, most) in
+    let none_added : c.loop-index.added ≡ 0 = omega (arith, counted, start) in
+    let none_same : c.loop-index.same ≡ 0 = omega (arith, counted, start) in
+    ((λ k. Imported (none_added k) (none_same k)), c.into_changes.ensures ∙ c.loop-index.invariant.fresh start)

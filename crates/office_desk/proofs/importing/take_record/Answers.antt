@@ -1,8 +1,13 @@
-use Rattle.std.proofs.Common.{◌≡◌, true, ap, refl, subst, arith}
+use Rattle.std.proofs.Common.{◌≡◌, ◌∙◌, ℕ, Bool, true, false, Option, Ok, inl, ap, refl, subst, arith}
+use Rattle.std.specs.Prelude.{IsSome}
+use Rattle.cabinet_core.specs.Cabinet.{Line}
+use Rattle.office_tables_shelf.specs.Shelf.{IsTold}
 use Rattle.office_desk.specs.Recording.{HasDamagedAbout}
-use Rattle.office_desk_cabinet.specs.Registers.{line_told, rows_told}
-use Rattle.office_desk.proofs.Imports.{added_whole, few_more, leaves_more, record_added, refused_whole, same_whole}
-use Rattle.office_desk.proofs.Recorded.{about_known}
+use Rattle.office_desk_cabinet.specs.Registers.{IsNamed, line_told, rows_told}
+use Rattle.office_desk_cabinet.proofs.Opened.{handed_told}
+use Rattle.office_desk.proofs.Imports.{added_whole, few_more, leaves_more, line_added, line_refused, line_same, record_added, same_whole, unknown_whole}
+use Rattle.office_desk.specs.Step.{cabinet_of}
+use Rattle.office_desk.proofs.Recorded.{about_known, refused_named, tells_about, unknown_named}
 use Rattle.office_desk.proofs.importing.take_record.Goals as goal
 
 pub returns-in_ok-next-in-Added-clause-step : goal.returns-in_ok-next-in-Added-clause-step
@@ -24,7 +29,20 @@ returns-in_ok-next-in-Added-clause-writes g c = λ table.
     few_more table c.args.pending c.in-Added.rows.items _ _ _ (ap rows_told c.in-Added.is) c.in_ok-next-in-Added.ensures (c.in_ok-rows.ensures.writes table)
 
 pub returns-then-not-branch-clause-whole : goal.returns-then-not-branch-clause-whole
-returns-then-not-branch-clause-whole g c = λ honest. refused_whole _ c.args.pending c.args.command.now _
+returns-then-not-branch-clause-whole g c = λ honest.
+    let stored = g.S.Shelf.content c.args.shelf.now in
+    let test = c.if-not-branch.true in
+    let gone : c.in_ok-is_known.field-0 ≡ false = first_of (cc, grind arith) in
+    unknown_whole stored c.args.pending c.args.command.now
+    (subst (λ about. ¬ HasDamagedAbout stored about) c.cabinet_of.ensures (c.in_ok-is_known.ensures.whole honest))
+    (tells_about stored _ _ _ _ c.cabinet_of.ensures gone (c.in_ok-is_known.ensures.tells honest))
+
+pub returns-then-not-branch-clause-named : goal.returns-then-not-branch-clause-named
+returns-then-not-branch-clause-named g c =
+    let test = c.if-not-branch.true in
+    let gone : c.in_ok-is_known.field-0 ≡ false = first_of (cc, grind arith) in
+    unknown_named (cabinet_of c.args.command.now) _ (subst (λ (about : Option ℕ). IsSome about) c.cabinet_of.ensures
+    (c.is_known.ensures.asked (c.in_ok-is_known.was ∙ ap (λ (b : Bool). Ok b) gone)))
 
 pub returns-in_ok-next-in-Added-clause-whole : goal.returns-in_ok-next-in-Added-clause-whole
 returns-in_ok-next-in-Added-clause-whole g c = λ honest.
@@ -43,4 +61,76 @@ returns-in-Same-clause-whole g c = λ honest.
     (c.in_ok-rows.ensures.whole honest)
 
 pub returns-in-Refused-clause-whole : goal.returns-in-Refused-clause-whole
-returns-in-Refused-clause-whole g c = λ honest. refused_whole _ c.args.pending c.args.command.now _
+returns-in-Refused-clause-whole g c = λ honest.
+    let first = c.decide_record.ensures.kept.honest_before honest in
+    same_whole (g.S.Shelf.content c.args.shelf.now) (g.S.Shelf.content c.is_known.new.shelf) c.args.pending c.args.command.now
+    (c.is_known.ensures.kept.same_content first)
+    (subst (λ about. ¬ HasDamagedAbout (g.S.Shelf.content c.args.shelf.now) about) c.cabinet_of.ensures (c.in_ok-is_known.ensures.whole first))
+    (c.in_ok-rows.ensures.whole honest)
+
+pub returns-in-Refused-clause-named : goal.returns-in-Refused-clause-named
+returns-in-Refused-clause-named g c =
+    refused_named c.args.command.now c.in-Refused.refusal _ c.refused.ensures
+    (subst (λ (line : Line). IsNamed c.args.command.now line) (ap line_told c.in-Refused.is) c.in_ok-rows.ensures.named)
+
+-- ---- on a clean disk
+
+pub returns-then-not-branch-clause-open : goal.returns-then-not-branch-clause-open
+returns-then-not-branch-clause-open g c =
+    let test = c.if-not-branch.true in
+    let gone : c.in_ok-is_known.field-0 ≡ false = first_of (cc, grind arith) in
+    let asked = c.is_known.ensures.asked (c.in_ok-is_known.was ∙ ap (λ (b : Bool). Ok b) gone) in
+    record {
+      clean_before = c.in_ok-is_known.ensures.open.clean_before;
+      stays = λ clean told honest. c.in_ok-is_known.ensures.open.read asked clean tt;
+      read = λ none clean told. c.in_ok-is_known.ensures.open.read asked clean tt;
+    }
+
+-- ---- the line, on the rows under the record's keys
+
+pub returns-then-not-branch-clause-line : goal.returns-then-not-branch-clause-line
+returns-then-not-branch-clause-line g c = λ honest.
+    let test = c.if-not-branch.true in
+    let gone : c.in_ok-is_known.field-0 ≡ false = first_of (cc, grind arith) in
+    inl (tells_about (g.S.Shelf.content c.args.shelf.now) _ _ _ _ c.cabinet_of.ensures gone (c.in_ok-is_known.ensures.tells honest), refl)
+
+pub returns-in_ok-next-in-Added-clause-line : goal.returns-in_ok-next-in-Added-clause-line
+returns-in_ok-next-in-Added-clause-line g c = λ honest.
+    let first = c.decide_record.ensures.kept.honest_before honest in
+    let test = c.if-not-branch.false in
+    let there : c.in_ok-is_known.field-0 ≡ true = first_of (cc, grind arith) in
+    line_added (g.S.Shelf.content c.args.shelf.now) (g.S.Shelf.content c.is_known.new.shelf) c.args.pending c.in-Added.rows.items _ _ c.args.command.now
+    (c.is_known.ensures.kept.same_content first)
+    (tells_about (g.S.Shelf.content c.args.shelf.now) _ _ _ _ c.cabinet_of.ensures there (c.in_ok-is_known.ensures.tells first))
+    (ap line_told c.in-Added.is) (ap rows_told c.in-Added.is) (c.in_ok-rows.ensures.line honest) c.in_ok-next-in-Added.ensures
+
+pub returns-in-Same-clause-line : goal.returns-in-Same-clause-line
+returns-in-Same-clause-line g c = λ honest.
+    let first = c.decide_record.ensures.kept.honest_before honest in
+    let test = c.if-not-branch.false in
+    let there : c.in_ok-is_known.field-0 ≡ true = first_of (cc, grind arith) in
+    line_same (g.S.Shelf.content c.args.shelf.now) (g.S.Shelf.content c.is_known.new.shelf) c.args.pending _ c.args.command.now
+    (c.is_known.ensures.kept.same_content first)
+    (tells_about (g.S.Shelf.content c.args.shelf.now) _ _ _ _ c.cabinet_of.ensures there (c.in_ok-is_known.ensures.tells first))
+    c.in-Same.is (c.in_ok-rows.ensures.line honest)
+
+pub returns-in-Refused-clause-line : goal.returns-in-Refused-clause-line
+returns-in-Refused-clause-line g c = λ honest.
+    let first = c.decide_record.ensures.kept.honest_before honest in
+    let test = c.if-not-branch.false in
+    let there : c.in_ok-is_known.field-0 ≡ true = first_of (cc, grind arith) in
+    line_refused (g.S.Shelf.content c.args.shelf.now) (g.S.Shelf.content c.is_known.new.shelf) c.args.pending _ c.args.command.now c.in-Refused.refusal _
+    (c.is_known.ensures.kept.same_content first)
+    (tells_about (g.S.Shelf.content c.args.shelf.now) _ _ _ _ c.cabinet_of.ensures there (c.in_ok-is_known.ensures.tells first))
+    c.in-Refused.is c.refused.ensures (c.in_ok-rows.ensures.line honest)
+
+pub returns-in_err-is_known-clause-open : goal.returns-in_err-is_known-clause-open
+returns-in_err-is_known-clause-open g c =
+    let reads = λ (clean : g.S.Shelf.is_clean c.is_known.new.shelf) (told : IsTold c.from_residual.result).
+    c.is_known.ensures.open.read c.in_err-is_known.ensures.fault clean
+    (handed_told c.from_residual.result c.is_known.result c.in_err-is_known.field-0.0 c.in_err-is_known.was c.from_residual.ensures.1 told) in
+    record {
+      clean_before = c.is_known.ensures.open.clean_before;
+      stays = λ clean told honest. reads clean told;
+      read = λ none clean told. reads clean told;
+    }

@@ -8,6 +8,7 @@ use Rattle.office_desk_cabinet.specs.RegisterStands.{RegisterStandsSound}
 use Rattle.office_desk_cabinet.specs.Registers.{Registers, RegistersFrom}
 use Rattle.office_desk.specs.Recording.{HasDamagedAbout}
 use Rattle.office_desk.specs.Step.{cabinet_of}
+use Rattle.office_desk_cabinet.proofs.Opened.{handed_told}
 use Rattle.office_desk.proofs.Decisions.{fault_decides, unknown_decides}
 use Rattle.office_desk.proofs.Recorded.{about_known, gone_whole, meets_record, record_answers, record_decides, record_unknown, record_whole, tells_about, unknown_named}
 use Rattle.office_desk.proofs.recording.decide_record_command.Goals as goal
@@ -54,3 +55,10 @@ returns-in_err-told-clause-decides g c =
     let same = c.is_known.ensures.kept.same_content first in
     meets_record (g.S.Shelf.content c.args.shelf.now) asked (cabinet_of asked) (tells_about (g.S.Shelf.content c.args.shelf.now) _ _ _ _ c.cabinet_of.ensures there (c.in_ok-is_known.ensures.tells first)) (subst (λ t. MeetsRecordDamage t asked) same
     (subst (Registers (g.S.Shelf.content c.is_known.new.shelf) c.new-pending.result asked) (c.in_err-told.was ∙ ap (λ (f : ShelfFault). Err f) damaged) (c.decide_record.ensures.step honest))))
+
+pub returns-in_err-is_known-clause-open : goal.returns-in_err-is_known-clause-open
+returns-in_err-is_known-clause-open g c = record {
+  clean_before = c.is_known.ensures.open.clean_before;
+  told = λ clean told. c.is_known.ensures.open.read c.in_err-is_known.ensures.fault clean
+      (handed_told c.from_residual.result c.is_known.result c.in_err-is_known.field-0.0 c.in_err-is_known.was c.from_residual.ensures.1 told);
+}

@@ -1,8 +1,10 @@
+use Rattle.std.proofs.Common.{refl}
+use Rattle.office_desk_cabinet.specs.Lines.{TellsLine}
 use Rattle.cabinet_core.specs.declared.command.RecordCommand.TheVariants.{Inspect}
 use Rattle.office_tables_shelf.specs.Change.{changed_by}
 use Rattle.office_desk_cabinet.proofs.KeptDamage.{inspection_kept, told_kept}
 use Rattle.office_desk_cabinet.proofs.Found.{inspection_stands}
-use Rattle.office_desk_cabinet.proofs.Told.{answer_named, inspect_named, registers}
+use Rattle.office_desk_cabinet.proofs.Told.{answer_named, inspect_named, registers, told_line}
 use Rattle.office_desk_cabinet.proofs.WholeRecords.{whatever}
 use Rattle.office_desk_cabinet.proofs.records.decide_inspect.Goals as goal
 
@@ -25,3 +27,9 @@ pub returns-clause-spares : goal.returns-clause-spares
 returns-clause-spares g c =
     told_kept (changed_by (g.S.Shelf.content c.args.shelf.now) c.args.pending.now) c.args.id _ _ c.inspect-decision.result c.registered.result _ c.inspect-decision.ensures.line c.registered.ensures.tells
     (λ honest. inspection_kept _ c.args.id c.args.inspection.now (c.in_ok-there.ensures.whole honest))
+
+pub returns-clause-line : goal.returns-clause-line
+returns-clause-line g c =
+    let tables = changed_by (g.S.Shelf.content c.args.shelf.now) c.args.pending.now in
+    told_line c.args.id _ _ c.inspect-decision.result c.registered.result (λ line rows. g.S.Shelf.is_honest c.inspection_at.new.shelf → TellsLine tables (Inspect c.args.id c.args.inspection.now) line rows) c.inspect-decision.ensures.line c.registered.ensures.tells
+    (λ honest. (c.in_ok-there.there, c.in_ok-there.ensures.row honest, refl, refl))

@@ -1,6 +1,7 @@
 use Rattle.std.proofs.Common.{subst}
 use Rattle.office_tables_shelf.specs.CabinetReads.{ReadsDelivery}
 use Rattle.office_desk_cabinet.specs.Puts.{Puts}
+use Rattle.office_desk_cabinet.proofs.Opened.{no_delivery, unread_stays}
 use Rattle.office_desk_cabinet.proofs.WholeRecords.{delivery_whole}
 use Rattle.office_desk_cabinet.proofs.standing.delivery_at.Goals as goal
 
@@ -17,3 +18,7 @@ returns-in-Some-clause-whole g c = λ honest. delivery_whole _ _ _ _ (returns-in
 
 pub returns-clause-whole : goal.returns-clause-whole
 returns-clause-whole g c = λ honest. delivery_whole _ _ _ _ (returns-clause-row g c honest) c.any_delivery_is_within.ensures
+
+pub returns-in-Some-clause-open : goal.returns-in-Some-clause-open
+returns-in-Some-clause-open g c = unread_stays _ _ _ _ _ (λ none told. absurd (no_delivery c.args.pending.now c.args.part.now c.args.number c.in-Some.put
+    (subst (Puts (λ tables there. ReadsDelivery tables c.args.part.now c.args.number there) c.args.pending.now) c.in-Some.is c.in_ok-put.ensures) none))

@@ -1,6 +1,7 @@
 use Rattle.std.proofs.Common.{Some, subst}
 use Rattle.office_tables_shelf.specs.CabinetReads.{ReadsHand}
 use Rattle.office_desk_cabinet.specs.Puts.{Puts}
+use Rattle.office_desk_cabinet.proofs.Opened.{no_hand, unread_stays}
 use Rattle.office_desk_cabinet.proofs.WholeRecords.{hand_whole}
 use Rattle.office_desk_cabinet.proofs.standing.hand_at.Goals as goal
 
@@ -17,3 +18,7 @@ returns-in-Some-clause-whole g c = λ honest. hand_whole _ c.args.part.now (Some
 
 pub returns-clause-whole : goal.returns-clause-whole
 returns-clause-whole g c = λ honest. hand_whole _ c.args.part.now c.in_ok-before.before (returns-clause-row g c honest) c.any_hand_is_within-2.ensures
+
+pub returns-in-Some-clause-open : goal.returns-in-Some-clause-open
+returns-in-Some-clause-open g c = unread_stays _ _ _ _ _ (λ none told. absurd (no_hand c.args.pending.now c.args.part.now c.in-Some.put
+    (subst (Puts (λ tables there. ReadsHand tables c.args.part.now there) c.args.pending.now) c.in-Some.is c.hand.ensures) none))

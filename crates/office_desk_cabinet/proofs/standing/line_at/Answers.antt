@@ -1,6 +1,7 @@
 use Rattle.std.proofs.Common.{subst}
 use Rattle.office_tables_shelf.specs.CabinetReads.{ReadsUsed}
 use Rattle.office_desk_cabinet.specs.Puts.{Puts}
+use Rattle.office_desk_cabinet.proofs.Opened.{no_line, unread_stays}
 use Rattle.office_desk_cabinet.proofs.WholeRecords.{line_whole}
 use Rattle.office_desk_cabinet.proofs.standing.line_at.Goals as goal
 
@@ -17,3 +18,7 @@ returns-in-Some-clause-whole g c = λ honest. line_whole _ _ _ _ _ (returns-in-S
 
 pub returns-clause-whole : goal.returns-clause-whole
 returns-clause-whole g c = λ honest. line_whole _ _ _ _ _ (returns-clause-row g c honest) c.any_line_is_within.ensures
+
+pub returns-in-Some-clause-open : goal.returns-in-Some-clause-open
+returns-in-Some-clause-open g c = unread_stays _ _ _ _ _ (λ none told. absurd (no_line c.args.pending.now c.args.id c.args.order c.args.line c.in-Some.put
+    (subst (Puts (λ tables there. ReadsUsed tables c.args.id c.args.order c.args.line there) c.args.pending.now) c.in-Some.is c.in_ok-put.ensures) none))

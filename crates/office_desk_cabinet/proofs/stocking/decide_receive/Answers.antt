@@ -1,11 +1,12 @@
-use Rattle.std.proofs.Common.{subst}
+use Rattle.std.proofs.Common.{refl, subst}
+use Rattle.office_desk_cabinet.specs.Lines.{TellsLine}
 use Rattle.cabinet_core.specs.Cabinet.{receive_line}
 use Rattle.cabinet_core.specs.declared.command.RecordCommand.TheVariants.{Receive}
 use Rattle.office_tables_shelf.specs.CabinetReads.{HasDamagedDelivery, ReadsDelivery}
 use Rattle.office_tables_shelf.specs.Change.{changed_by}
 use Rattle.office_desk_cabinet.proofs.Found.{delivery_stands, hand_stands}
 use Rattle.office_desk_cabinet.proofs.Stocked.{receive_writes, received_tells}
-use Rattle.office_desk_cabinet.proofs.Told.{answer_leaves, answer_named, answer_writes, receive_named, registers}
+use Rattle.office_desk_cabinet.proofs.Told.{answer_leaves, answer_named, answer_writes, receive_named, registers, told_line}
 use Rattle.office_desk_cabinet.proofs.KeptDamage.{receive_kept, told_kept}
 use Rattle.office_desk_cabinet.proofs.WholeRecords.{neither, whatever}
 use Rattle.office_desk_cabinet.proofs.stocking.decide_receive.Goals as goal
@@ -70,3 +71,22 @@ returns-clause-spares g c =
     receive_kept _ asked hand
     (neither (subst (λ t. ¬ HasDamagedDelivery (changed_by t pending) asked.part asked.number) (c.hand_at.ensures.kept.same_content at_hand) (c.in_ok-there.ensures.whole honest))
     (c.in_ok-hand.ensures.whole at_hand)))
+
+pub returns-clause-line : goal.returns-clause-line
+returns-clause-line g c =
+    let pending = c.args.pending.now in
+    let asked = c.args.delivery.now in
+    let hand = c.in_ok-hand.hand in
+    let tables = changed_by (g.S.Shelf.content c.args.shelf.now) pending in
+    let line = receive_line c.in_ok-there.there hand asked in
+    told_line 0 line _ c.receive-decision.result c.received.result (λ told rows. g.S.Shelf.is_honest c.delivery_at.new.shelf → TellsLine tables (Receive asked) told rows) c.receive-decision.ensures.line
+    (received_tells 0 asked line hand c.receive-decision.result c.received.result c.receive-decision.ensures.line c.received.ensures.tells)
+    (λ honest.
+    let at_hand = c.delivery_at.ensures.kept.honest_before honest in (
+      c.in_ok-there.there,
+      hand,
+      subst (λ t. ReadsDelivery (changed_by t pending) asked.part asked.number c.in_ok-there.there) (c.hand_at.ensures.kept.same_content at_hand) (c.in_ok-there.ensures.row honest),
+      c.in_ok-hand.ensures.row at_hand,
+      refl,
+      refl,
+    ))

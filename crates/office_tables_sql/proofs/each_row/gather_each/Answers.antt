@@ -89,6 +89,16 @@ returns-in_default-get-clause-rows g c =
     record { records = now.3.0; held = now.3.1; within = now.3.2; lists = now.3.3 ∙ listed } in
     search rules
 
+pub returns-in_default-get-clause-open : goal.returns-in_default-get-clause-open
+returns-in_default-get-clause-open g c =
+    let inv = c.rows.invariant in
+    let old = state g.S.Store c.args.conn.now in
+    let mid = state g.S.Store c.rows.rows.conn.now in
+    let new = state g.S.Store c.advance.new.self.conn.now in
+    let step = c.in_default.ensures in
+    let told : HasCleanDisk new → IsHonest new = λ clean. (clean, (unchanged_then old mid new (inv.3 (omega (arith, clean, step.survives.clean))).0 (step.same clean)).0.is_open) in
+    search rules
+
 pub returns-in_default-get-clause-kept : goal.returns-in_default-get-clause-kept
 returns-in_default-get-clause-kept g c =
     let sql = g.T.StoredRow.list_text in
@@ -132,6 +142,16 @@ returns-in_err-record-clause-damaged g c bad =
     damaged_at g.T.StoredRow.table g.T.StoredRow.is_within g.T.StoredRow.key g.T.StoredRow.columns (content_now old) (g.T.StoredRow.number c.args.of) all
     (lists g.T.StoredRow.table old.now schema sound ordered sql means (g.T.StoredRow.number c.args.of) all whole.1) (width g.T.StoredRow.table old.now schema sound ordered sql means (g.T.StoredRow.number c.args.of) all whole.1)
     c.in-Some.row.now (has_mid now.1 c.in-Some.row.now whole.0) (c.read.ensures.damaged is) in
+    search rules
+
+pub returns-in_err-record-clause-open : goal.returns-in_err-record-clause-open
+returns-in_err-record-clause-open g c =
+    let inv = c.rows.invariant in
+    let old = state g.S.Store c.args.conn.now in
+    let mid = state g.S.Store c.rows.rows.conn.now in
+    let new = state g.S.Store c.advance.new.self.conn.now in
+    let step = c.in_default.ensures in
+    let told : HasCleanDisk new → IsHonest new = λ clean. (clean, (unchanged_then old mid new (inv.3 (omega (arith, clean, step.survives.clean))).0 (step.same clean)).0.is_open) in
     search rules
 
 pub returns-in_err-record-clause-kept : goal.returns-in_err-record-clause-kept

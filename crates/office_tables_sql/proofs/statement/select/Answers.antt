@@ -1,5 +1,5 @@
 use Rattle.sqlite.specs.Held.{state}
-use Rattle.office_tables_sql.proofs.CallLemmas.{unprepared_keeps, prepared_survives, queried_keeps, unqueried_keeps, queried_reads}
+use Rattle.office_tables_sql.proofs.CallLemmas.{unprepared_keeps, prepared_survives, queried_keeps, unqueried_keeps, queried_reads, shown_honest}
 use Rattle.office_tables_sql.proofs.statement.select.Goals as goal
 
 pub returns-in_err-statement-clause-kept : goal.returns-in_err-statement-clause-kept
@@ -41,3 +41,7 @@ returns-clause-crash g c =
     let q = c.in_ok-rows.ensures in
     let mode = p.mode c.requires.office.autocommit in
     prepared_survives c.args.sql.now c.in_ok-statement.statement.text (state g.S.Store c.args.conn.now) (state g.S.Store c.prepare.new.self) c.requires.query c.requires.office p.survives mode p.ok _ (state g.S.Store c.query_all.new.conn) q.survives (q.mode mode)
+
+pub returns-clause-open : goal.returns-clause-open
+returns-clause-open g c =
+    shown_honest c.in_ok-statement.statement.text _ (state g.S.Store c.prepare.new.self) (state g.S.Store c.query_all.new.conn) _ c.in_ok-rows.ensures.ok

@@ -1,4 +1,4 @@
-use Rattle.std.proofs.Common.{◌≡◌, ◌++◌, [], ◌∷◌, Err, inr, List, ap, arith, length, map, subst, sym}
+use Rattle.std.proofs.Common.{◌≡◌, ◌++◌, [], ◌∷◌, Err, inr, List, ap, arith, length, map, refl, subst, sym}
 use Rattle.std.proofs.lemmas.Result.{err_from_is_err_and}
 use Rattle.std.specs.List.{AllByRecursion}
 use Rattle.cabinet_core.specs.Overdue.{listed, overdue_list}
@@ -7,7 +7,7 @@ use Rattle.office_tables_shelf.specs.CabinetReads.{HasDamagedInspection}
 use Rattle.office_tables_shelf.specs.Overdue.{ReadsLast, seen_row}
 use Rattle.office_tables_shelf.specs.Shelf.{IsIntersectionWithin, ListsIntersections}
 use Rattle.office_tables_shelf.specs.declared.shelf.ShelfFault.TheVariants.{Damaged}
-use Rattle.office_tables_shelf.proofs.KeptLemmas.{kept_on}
+use Rattle.office_tables_shelf.proofs.KeptLemmas.{hands_on, kept_on}
 use Rattle.office_tables_shelf.proofs.ListedRows.{listed_is_there}
 use Rattle.office_tables_shelf.proofs.OverdueLemmas.{seen_length, seen_at, overdue_more, still_short, enough_found, all_found}
 use Rattle.office_tables_shelf.proofs.OverdueLemmas.{whole_more, all_whole}
@@ -22,6 +22,8 @@ loop-id-init g c = record {
   rows = λ honest seen all. ap (λ (found : List OverdueRow). map listed found) c.new-found.ensures.items;
   whole = λ honest. tt;
   short = omega (arith, ap (λ (found : List OverdueRow). length found) c.new-found.ensures.items);
+  clean = c.in_ok-rows.ensures.open.clean_before;
+  opened = λ clean. c.in_ok-rows.ensures.open.told clean tt;
   kept = c.intersections.ensures.kept;
 }
 
@@ -48,6 +50,24 @@ pub returns-in_err-last-clause-kept : goal.returns-in_err-last-clause-kept
 returns-in_err-last-clause-kept g c =
     let shelf = g.Self.Shelf in
     kept_on shelf.is_honest shelf.content shelf.written shelf.may_leave c.args.self.now c.loop-id.self c.last_inspection.new.self c.loop-id.invariant.kept c.last_inspection.ensures.kept
+
+pub returns-in_err-last-clause-open : goal.returns-in_err-last-clause-open
+returns-in_err-last-clause-open g c =
+    let shelf = g.Self.Shelf in
+    hands_on shelf.is_clean shelf.is_honest _ (Err c.in_err-last.field-0.0)
+    c.in_err-last.field-0.0 c.args.self.now c.loop-id.self c.last_inspection.new.self c.loop-id.invariant.clean refl c.from_residual-in_err-last.ensures.1 c.in_err-last.ensures.open
+
+pub returns-in_err-add_overdue-clause-open : goal.returns-in_err-add_overdue-clause-open
+returns-in_err-add_overdue-clause-open g c = record {
+  clean_before = λ clean. c.loop-id.invariant.clean (c.in_ok-last.ensures.open.clean_before clean);
+  told = λ clean told. c.in_ok-last.ensures.open.told clean tt;
+}
+
+pub returns-clause-open : goal.returns-clause-open
+returns-clause-open g c = record {
+  clean_before = c.loop-id.invariant.clean;
+  told = λ clean told. c.loop-id.invariant.opened clean;
+}
 
 pub returns-in_err-add_overdue-clause-kept : goal.returns-in_err-add_overdue-clause-kept
 returns-in_err-add_overdue-clause-kept g c =
@@ -83,6 +103,8 @@ loop-id-preserved g c =
           whole_more tables rows c.loop-id.id-index e last c.loop-id-test.true
           c.loop-id-item.is (reads honest) (c.loop-id.invariant.whole (before honest));
       short = still_short c.args.day c.args.most next old new (omega arith) added;
+      clean = λ clean. c.loop-id.invariant.clean (c.in_ok-last.ensures.open.clean_before clean);
+      opened = λ clean. c.in_ok-last.ensures.open.told clean tt;
       kept = kept_on shelf.is_honest shelf.content shelf.written shelf.may_leave c.args.self.now c.loop-id.self c.last_inspection.new.self c.loop-id.invariant.kept c.last_inspection.ensures.kept;
     }
 

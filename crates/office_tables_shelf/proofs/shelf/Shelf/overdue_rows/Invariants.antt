@@ -8,7 +8,7 @@ use Rattle.office_tables_shelf.proofs.OverdueLemmas.{AreWhole}
 use Rattle.office_tables_shelf.proofs.shelf.Shelf.overdue_rows.Given as goal
 
 -- what was found so far of the intersections that were read, none of whose inspections is damaged,
--- and no more than were asked for
+-- and no more than were asked for; the shelf is open
 abbrev pub invariant-loop-id : goal.invariant-loop-id
 invariant-loop-id g l =
     let shelf = g.Self.Shelf in
@@ -19,5 +19,7 @@ invariant-loop-id g l =
       whole : shelf.is_honest l.self
           → AreWhole (shelf.content l.fn.self) (take l.id-index l.id-items);
       short : length l.found.items ≤ l.most;
+      clean : shelf.is_clean l.self → shelf.is_clean l.fn.self;
+      opened : shelf.is_clean l.self → shelf.is_honest l.self;
       kept : IsKept shelf.is_honest shelf.content shelf.written shelf.may_leave l.fn.self l.self;
     }
