@@ -1,17 +1,20 @@
 -- How connections that were served follow one another.
-use Rattle.std.proofs.Common.{◌≡◌, ◌≢◌, ◌∙◌, ℕ, suc, ◌+◌, true, false, true≢false, List, [], ◌∷◌, ◌++◌, Option, Some, None, refl, sym, ap, subst, arith, append_assoc}
-use Rattle.std.proofs.lemmas.List.{append-nil}
+use Rattle.std.proofs.Common.{◌≡◌, ◌≢◌, ◌∙◌, ℕ, zero, suc, ◌+◌, ◌*◌, ◌≤◌, true, false, true≢false, List, [], ◌∷◌, ◌++◌, length, Option, Some, None, refl, sym, ap, subst, arith, append_assoc}
+use Rattle.std.proofs.lemmas.List.{append-nil, length-append, map-append}
 use Rattle.std.specs.Prelude.{Result, Ok, Err, OnOk, OnErr, IfErr, is_err, ⊤}
 use Rattle.office_desk.specs.Office.{Office}
 use Rattle.office_tables_shelf.specs.Content.{Content}
-use Rattle.office_http.specs.Listening.{Adds, Ends, EndsListening, Listening, ServedAsTold, ServesConnection, ServesEach, Turns, connection_limit, ends_of, more_accepted, one_accepted}
+use Rattle.office_http.specs.Laws.{Serves}
+use Rattle.office_http.specs.Listening.{Adds, AsksConnection, Connected, EndsListening, Listening, Listens, ServedAsTold, ServesConnection, ServesEach, Turns, connected, connection_limit, ends_after, more_accepted, one_accepted, starts_of}
 use Rattle.office_http.specs.Protocol.{office_protocol}
 use Rattle.office_http.specs.declared.listening.ListenCounts.{ListenCounts}
 use Rattle.office_http.specs.declared.listening.ServeStop.{ServeStop}
 use Rattle.office_http.specs.declared.listening.ServeStop.TheVariants as stop
+use Rattle.office_http_framing.specs.Asks.{Asks, OnlyAsks}
 use Rattle.office_http_framing.specs.Ends.{Told, no_calls}
-use Rattle.office_http_framing.specs.Serve.{Did, TellsFault, Untouched}
-use Rattle.office_http_framing.specs.Stops.{Leaves, Storage}
+use Rattle.office_http_framing.specs.Limits.{longest_request}
+use Rattle.office_http_framing.specs.Serve.{Did, Ends, TellsFault, Untouched, ends_of}
+use Rattle.office_http_framing.specs.Stops.{Keeps, Storage}
 use Rattle.office_http_framing.specs.declared.engine.Served.{Served}
 use Rattle.office_http_framing.specs.declared.engine.ServeFault.{ServeFault}
 use Rattle.office_http_framing.specs.declared.engine.ServeFault.TheVariants.{NoMemory}
@@ -28,27 +31,48 @@ when_err P (Err x) e holds = holds
 
 -- ---- one connection
 
+-- a source that was called only while a request was awaited, as it tells
+asks_told : {Source : Type 0} (told : Source → Told) (limit : ℕ) (first : Source) (calls : ℕ) (given : List ℕ) (source : Source)
+    → Asks told limit first calls given source → Asks (λ t. t) limit (told first) calls given (told source)
+asks_told told limit first zero given source asks = (asks.0, ap told asks.1)
+asks_told told limit first (suc calls) given source asks = (
+  told asks.0,
+  asks.1,
+  asks.2,
+  asks_told told limit first calls asks.1 asks.0 asks.3,
+  asks.4,
+  record { reads = asks.5.reads; calls = asks.5.calls },
+  asks.6,
+)
+
+pub asks_connection : {Source : Type 0} (told : Source → Told) (old new : Source) (sink sink' : Told) → (told old).counts ≡ no_calls → OnlyAsks told connection_limit old new
+    → (told new).counts.calls ≤ (told old).counts.calls + longest_request * (connection_limit + 1) + 1 → AsksConnection (ends_of (told old) sink) (ends_of (told new) sink')
+asks_connection told old new sink sink' fresh asks reads = record {
+  asks = (asks.0, asks.1, asks_told told connection_limit old asks.0 asks.1 new asks.2);
+  reads = subst (λ n. (told new).counts.calls ≤ n + longest_request * (connection_limit + 1) + 1) (ap (λ k. k.calls) fresh) reads;
+}
+
 -- a call of `serve` that had its buffer serves a connection
-pub one_connection : {Shelf : Type 0} (storage : Storage Shelf Office Content) (first last : Shelf) (source source' sink sink' : Told) (before after : Office) (outcome : Result Served ServeFault)
-    → Did office_protocol (Leaves office_protocol storage first last before after) connection_limit source source' sink sink' before after outcome
-    → TellsFault source source' sink sink' outcome
-    → source.counts ≡ no_calls → sink.counts ≡ no_calls → outcome ≢ Err NoMemory → ServesConnection storage first last (ends_of source sink) (ends_of source' sink') before after
-one_connection storage first last source source' sink sink' before after outcome did fault source_is_fresh sink_is_fresh has_memory = record {
+pub one_connection : {Shelf : Type 0} (storage : Storage Shelf Office Content) (first : Shelf) (held : Content) (before : Office) (last : Shelf) (kept : Content) (after : Office) (start end : Ends) (outcome : Result Served ServeFault)
+    → Did office_protocol (Serves storage (storage.may_leave first) held before last kept after) connection_limit start end outcome
+    → TellsFault start end outcome → AsksConnection start end
+    → start.source.counts ≡ no_calls → start.sink.counts ≡ no_calls → outcome ≢ Err NoMemory → ServesConnection storage first held before last kept after (connected start end)
+one_connection storage first held before last kept after start end outcome did fault asks source_is_fresh sink_is_fresh has_memory = record {
   outcome = outcome;
   source_is_fresh = source_is_fresh;
   sink_is_fresh = sink_is_fresh;
   did = did;
   fault = fault;
+  asks = asks;
   has_memory = has_memory;
 }
 
 -- a call of `serve` that had no buffer touched nothing
-pub nothing_touched : {Shelf : Type 0} (source source' sink sink' : Told) (first last : Shelf) (outcome : Result Served ServeFault) → outcome ≡ Err NoMemory
-    → IfErr outcome (λ why. why ≡ NoMemory → Untouched source source' sink sink' first last)
-    → (ends_of source' sink' ≡ ends_of source sink) × (last ≡ first)
-nothing_touched source source' sink sink' first last outcome is told =
-    let untouched = subst (λ (o : Result Served ServeFault). IfErr o (λ why. why ≡ NoMemory → Untouched source source' sink sink' first last)) is told refl in
-    ((λ i. ends_of (sym untouched.source_is i) (sym untouched.sink_is i)), sym untouched.state_is)
+pub nothing_touched : {Shelf : Type 0} (start end : Ends) (first last : Shelf) (outcome : Result Served ServeFault) → outcome ≡ Err NoMemory
+    → IfErr outcome (λ why. why ≡ NoMemory → Untouched start end first last) → (end ≡ start) × (last ≡ first)
+nothing_touched start end first last outcome is told =
+    let untouched = subst (λ (o : Result Served ServeFault). IfErr o (λ why. why ≡ NoMemory → Untouched start end first last)) is told refl in
+    (untouched.ends_are, untouched.machine_is)
 
 -- ---- the lists of connections
 
@@ -98,14 +122,42 @@ turns-untouched old told mid new given returned start end turns gave back_none g
 
 -- ---- the connections one after another
 
+-- nothing was served yet
+pub listens-start : {Shelf : Type 0} (storage : Storage Shelf Office Content) (first : Shelf) (held : Content) (before : Office) → Keeps storage first held before → Listens storage first held before first []
+listens-start storage first held before keeps = record { after = before; kept = held; keeps = keeps; each = (refl, refl, refl) }
+
+module _ {Shelf : Type 0} (storage : Storage Shelf Office Content) (mid : Shelf) (tables : Content) (middle : Office) (last : Shelf) (kept : Content) (after : Office) (connection : Connected)
+    (one : ServesConnection storage mid tables middle last kept after connection) where
+  each-next : (first : Shelf) (held : Content) (before : Office) (served : List Connected) → ServesEach storage first held before served mid tables middle
+      → ServesEach storage first held before (served ++ connection ∷ []) last kept after
+  each-next first held before [] none =
+      subst (λ shelf. ServesEach storage shelf held before (connection ∷ []) last kept after) none.0
+      (subst (λ content. ServesEach storage mid content before (connection ∷ []) last kept after) none.1
+      (subst (λ office. ServesEach storage mid tables office (connection ∷ []) last kept after) none.2
+      (last, kept, after, one, (refl, refl, refl))))
+  each-next first held before (next ∷ served) some =
+      (some.0, some.1, some.2, some.3, each-next some.0 some.1 some.2 served some.4)
+
 -- one connection more
-pub one_more : {Shelf : Type 0} (storage : Storage Shelf Office Content) (first mid last : Shelf) (before middle after : Office) (n : ℕ) (given returned : List Ends) (start end : Ends)
-    → ServesEach storage first before n given returned mid middle → ServesConnection storage mid last start end middle after
-    → ServesEach storage first before (n + 1) (given ++ start ∷ []) (returned ++ end ∷ []) last after
-one_more storage first mid last before middle after n given returned start end each one =
-    let next : suc n ≡ n + 1 = omega arith in
-    subst (λ k. ServesEach storage first before k (given ++ start ∷ []) (returned ++ end ∷ []) last after) next
-    (mid, middle, given, returned, start, end, each, one, refl, refl)
+pub listens-next : {Shelf : Type 0} (storage : Storage Shelf Office Content) (first : Shelf) (held : Content) (before : Office) (mid last : Shelf) (kept : Content) (after : Office) (served : List Connected) (connection : Connected)
+    → (so_far : Listens storage first held before mid served) → ServesConnection storage mid so_far.kept so_far.after last kept after connection
+    → Listens storage first held before last (served ++ connection ∷ [])
+listens-next storage first held before mid last kept after served connection so_far one = record {
+  after = after;
+  kept = kept;
+  keeps = one.did.ran.ran.keeps;
+  each = each-next storage mid so_far.kept so_far.after last kept after connection one first held before served so_far.each;
+}
+
+-- what was given and taken back goes on with it
+pub turns_on : (old new : Listening) (served : List Connected) (start end : Ends) → Turns old new (starts_of served ++ start ∷ []) (ends_after served ++ end ∷ [])
+    → Turns old new (starts_of (served ++ connected start end ∷ [])) (ends_after (served ++ connected start end ∷ []))
+turns_on old new served start end turns =
+    subst (λ given. Turns old new given (ends_after (served ++ connected start end ∷ []))) (sym (map-append (λ (c : Connected). c.start) served (connected start end ∷ [])))
+    (subst (Turns old new (starts_of served ++ start ∷ [])) (sym (map-append (λ (c : Connected). c.end) served (connected start end ∷ []))) turns)
+
+pub one_longer : (served : List Connected) (connection : Connected) (n : ℕ) → length served ≡ n → length (served ++ connection ∷ []) ≡ n + 1
+one_longer served connection n is = omega (arith, is, length-append served (connection ∷ []))
 
 pub accepted-next : (n : ℕ) (c : ListenCounts) → one_accepted (more_accepted n c) ≡ more_accepted (n + 1) c
 accepted-next n c =
@@ -113,7 +165,7 @@ accepted-next n c =
     ap (λ k. more_accepted k c) next
 
 -- the outcome tells whether all connections were served
-pub as_told : (count : ℕ) (old new : Listening) (served : ℕ) (given returned : List Ends) (result : Result ⊤ ServeStop) → EndsListening count old new served given returned result → ServedAsTold count served result
-as_told count old new served given returned (Ok done) ends = ends.0
-as_told count old new served given returned (Err stop.Accept) ends = ends.0
-as_told count old new served given returned (Err stop.NoMemory) ends = ends.0
+pub as_told : (count : ℕ) (old new : Listening) (served : List Connected) (result : Result ⊤ ServeStop) → EndsListening count old new served result → ServedAsTold count served result
+as_told count old new served (Ok done) ends = ends.0
+as_told count old new served (Err stop.Accept) ends = ends.0
+as_told count old new served (Err stop.NoMemory) ends = ends.0

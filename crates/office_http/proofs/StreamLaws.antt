@@ -2,7 +2,7 @@
 use Rattle.std.proofs.Common.{◌≡◌, ◌⊎◌, ◌++◌, ℕ, List, [], ◌∷◌, inl, inr, refl, sym, subst}
 use Rattle.std.specs.Prelude.{Result, Ok, Err}
 use Rattle.office_desk.specs.Office.{IsSound, Office}
-use Rattle.office_desk.specs.Step.{Run}
+use Rattle.office_desk.specs.Step.{AreSound, Run}
 use Rattle.office_desk.specs.declared.command.Command.{Command}
 use Rattle.office_desk.specs.declared.refusal.Refusal.TheVariants.{Unavailable}
 use Rattle.office_desk.specs.declared.reply.Reply.{Reply}
@@ -10,11 +10,13 @@ use Rattle.office_desk.specs.declared.reply.Reply.TheVariants.{Refused}
 use Rattle.office_desk.proofs.RegisterLaws.{runs_register}
 use Rattle.office_desk.proofs.Repeats.{runs_repeat}
 use Rattle.office_desk.proofs.TimingLaw.{runs_timing}
-use Rattle.office_http.specs.Laws.{KeepsLaws, TellsRead, TellsReplies, asked_in, command_read, read_of}
-use Rattle.office_http.specs.Protocol.{AnswersRead, office_protocol}
+use Rattle.office_tables_shelf.specs.Content.{Content}
+use Rattle.office_http.specs.Laws.{KeepsLaws, Serves, TellsRead, TellsReplies, asked_in, command_read}
+use Rattle.office_http.specs.Protocol.{AnswersRead, office_protocol, office_storage, read_of}
 use Rattle.office_http_requests.specs.declared.fault.AskFault.{AskFault}
 use Rattle.office_http_framing.specs.Front.{PlainRequest}
-use Rattle.office_http_framing.specs.Protocol.{Run as ProtocolRun}
+use Rattle.office_http_framing.specs.Protocol.{MayAnswer, Run as ProtocolRun}
+use Rattle.office_http_framing.specs.Stops.{IsKept, Leaves, LeavesOne, Ran}
 use Rattle.office_http_responses.specs.Answers.{unavailable_bytes}
 use Rattle.office_http_requests.specs.declared.asked.Asked.{Asked}
 
@@ -22,38 +24,59 @@ use Rattle.office_http_requests.specs.declared.asked.Asked.{Asked}
 record Told (before : Office) (requests : List PlainRequest) (answers : List (List ℕ)) (after : Office) : Type 0 where
   replies : List Reply
   run : Run before (asked_in requests) replies after
+  sound : AreSound before (asked_in requests) replies after run
   tells : TellsReplies requests replies answers
 
 -- the answer to one request, before those to the rest
 one_more : (read : Result Asked AskFault) (before mid after : Office) (answer : List ℕ) (commands : List Command) (replies : List Reply) (rest : List Reply → Type 0)
-    → AnswersRead read before answer mid ⊎ ((answer ≡ unavailable_bytes) × (mid ≡ before))
-    → Run mid commands replies after → rest replies
-    → (all : List Reply) × Run before (command_read read ++ commands) all after × TellsRead read all answer rest
-one_more (Ok asked) before mid after answer commands replies rest (inl step) run tells = (step.reply ∷ replies, (mid, inr step.step, run), (inl step.text, tells))
-one_more (Ok asked) before mid after answer commands replies rest (inr same) run tells =
-    (Refused Unavailable ∷ replies, (mid, inl (refl, same.1), run), (inr (refl, same.0), tells))
-one_more (Err fault) before mid after answer commands replies rest (inl step) run tells = (replies, subst (λ o. Run o commands replies after) step.1 run, (inl step.0, tells))
-one_more (Err fault) before mid after answer commands replies rest (inr same) run tells = (replies, subst (λ o. Run o commands replies after) same.1 run, (inr same.0, tells))
+    → AnswersRead read before answer mid ⊎ ((answer ≡ unavailable_bytes) × (mid ≡ before)) → IsSound before
+    → (run : Run mid commands replies after) → AreSound mid commands replies after run → rest replies
+    → (all : List Reply) × (longer : Run before (command_read read ++ commands) all after) × AreSound before (command_read read ++ commands) all after longer × TellsRead read all answer rest
+one_more (Ok asked) before mid after answer commands replies rest (inl step) first run sound tells =
+    (step.reply ∷ replies, (mid, inr step.step, run), (first, sound), (inl step.text, tells))
+one_more (Ok asked) before mid after answer commands replies rest (inr same) first run sound tells =
+    (Refused Unavailable ∷ replies, (mid, inl (refl, same.1), run), (first, sound), (inr (refl, same.0), tells))
+one_more (Err fault) before mid after answer commands replies rest (inl step) first run sound tells =
+    let here = subst (λ o. (r : Run o commands replies after) × AreSound o commands replies after r) step.1 (run, sound) in
+    (replies, here.0, here.1, (inl step.0, tells))
+one_more (Err fault) before mid after answer commands replies rest (inr same) first run sound tells =
+    let here = subst (λ o. (r : Run o commands replies after) × AreSound o commands replies after r) same.1 (run, sound) in
+    (replies, here.0, here.1, (inr same.0, tells))
 
-told : (before : Office) (requests : List PlainRequest) (answers : List (List ℕ)) (after : Office) → ProtocolRun office_protocol before requests answers after → Told before requests answers after
-told before [] [] after run = record { replies = []; run = sym run; tells = tt }
-told before (request ∷ requests) (answer ∷ answers) after run =
-    let so_far = told run.0 requests answers after run.2 in
-    let all = one_more (read_of request) before run.0 after answer (asked_in requests) so_far.replies (λ rest. TellsReplies requests rest answers) run.1 so_far.run so_far.tells in
-    record { replies = all.0; run = all.1; tells = all.2 }
-told before [] (answer ∷ answers) after run = absurd run
-told before (request ∷ requests) [] after run = absurd run
+module _ {Shelf : Type 0} (is_honest : Shelf → Type 0) (content : Shelf → Content) (may_leave : Shelf → Content → Type 0) where
+  -- what is kept after a request stands for a sound office
+  sound_after : (held kept : Content) (before : Office) (request : PlainRequest) (answer : List ℕ) (after : Office) (how : MayAnswer office_protocol before request answer after)
+      → IsKept office_protocol (office_storage is_honest content may_leave) held kept before request answer after how → IsSound before → IsSound after
+  sound_after held kept before request answer after (inl step) stands sound = stands.sound
+  sound_after held kept before request answer after (inr refused) same sound = subst IsSound (sym refused.1) sound
 
--- a run over requests keeps the laws of the office machine
-pub keeps_laws : (before : Office) (requests : List PlainRequest) (answers : List (List ℕ)) (after : Office) → ProtocolRun office_protocol before requests answers after
-    → IsSound before → IsSound after → KeepsLaws before requests answers after
-keeps_laws before requests answers after run first_sound last_sound =
-    let all = told before requests answers after run in
-    record {
-      replies = all.replies;
-      run = all.run;
-      tells = all.tells;
-      running = λ id. runs_timing id _ (asked_in requests) all.replies before after all.run refl;
-      register = runs_register (asked_in requests) all.replies before after all.run first_sound last_sound;
-      repeats = runs_repeat (asked_in requests) all.replies before after all.run;
-    }
+  told : (may : Content → Type 0) (held : Content) (before : Office) (requests : List PlainRequest) (answers : List (List ℕ)) (after : Office) (kept : Content) (at_end : Content → Type 0)
+      (run : ProtocolRun office_protocol before requests answers after) → IsSound before
+      → Leaves office_protocol (office_storage is_honest content may_leave) may held before requests answers after run kept at_end → Told before requests answers after
+  told may held before [] [] after kept at_end run sound leaves = record { replies = []; run = sym run; sound = sound; tells = tt }
+  told may held before (request ∷ requests) (answer ∷ answers) after kept at_end run sound leaves =
+      let so_far = told (LeavesOne office_protocol (office_storage is_honest content may_leave) may held leaves.0 before request answer run.0 run.1) leaves.0 run.0 requests answers after kept at_end run.2
+          (sound_after held leaves.0 before request answer run.0 run.1 leaves.1 sound) leaves.2 in
+      let all = one_more (read_of request) before run.0 after answer (asked_in requests) so_far.replies (λ rest. TellsReplies requests rest answers) run.1 sound so_far.run so_far.sound so_far.tells in
+      record { replies = all.0; run = all.1; sound = all.2; tells = all.3 }
+  told may held before [] (answer ∷ answers) after kept at_end run sound leaves = absurd run
+  told may held before (request ∷ requests) [] after kept at_end run sound leaves = absurd run
+
+  -- a run from a sound office keeps the laws of the office machine
+  pub serves : (may : Content → Type 0) (held : Content) (before : Office) (last : Shelf) (kept : Content) (after : Office) → IsSound before
+      → (requests : List PlainRequest) (answers : List (List ℕ)) → Ran office_protocol (office_storage is_honest content may_leave) may held before last kept after requests answers
+      → Serves (office_storage is_honest content may_leave) may held before last kept after requests answers
+  serves may held before last kept after first requests answers ran =
+      let all = told may held before requests answers after kept (may_leave last) ran.run first ran.leaves in
+      record {
+        ran = ran;
+        laws = record {
+          replies = all.replies;
+          run = all.run;
+          tells = all.tells;
+          sound = all.sound;
+          running = λ id. runs_timing id _ (asked_in requests) all.replies before after all.run refl;
+          register = runs_register (asked_in requests) all.replies before after all.run first ran.keeps.stands.sound;
+          repeats = runs_repeat (asked_in requests) all.replies before after all.run;
+        };
+      }

@@ -3,7 +3,7 @@ use Rattle.std.specs.Prelude.{◌≡◌, ◌⊎◌, ℕ, List, [], ◌∷◌, �
 use Rattle.office_desk.specs.Office.{Office, side_at}
 use Rattle.office_desk.specs.RegisterRuns.{RegisterRuns}
 use Rattle.office_desk.specs.Repeats.{Repeats}
-use Rattle.office_desk.specs.Step.{Run}
+use Rattle.office_desk.specs.Step.{AreSound, Run}
 use Rattle.office_desk.specs.Timing.{running}
 use Rattle.office_desk.specs.declared.command.Command.{Command}
 use Rattle.office_desk.specs.declared.refusal.Refusal.TheVariants.{Unavailable}
@@ -11,16 +11,15 @@ use Rattle.office_desk.specs.declared.reply.Reply.{Reply}
 use Rattle.office_desk.specs.declared.reply.Reply.TheVariants.{Refused}
 use Rattle.office_http_requests.specs.declared.fault.AskFault.{AskFault}
 use Rattle.office_http_framing.specs.Front.{PlainRequest}
+use Rattle.office_http_framing.specs.Protocol.{Run as ProtocolRun}
+use Rattle.office_http_framing.specs.Stops.{Ran, Storage}
+use Rattle.office_tables_shelf.specs.Content.{Content}
+use Rattle.office_http.specs.Protocol.{office_protocol, read_of}
 use Rattle.office_http_responses.specs.Answers.{answer_bytes, unavailable_bytes}
-use Rattle.office_http_requests.specs.Commands.{command_at}
 use Rattle.office_http_responses.specs.Faults.{ask_fault_text}
 use Rattle.office_http_requests.specs.declared.asked.Asked.{Asked}
 
 -- ---- the commands
-
--- what a request is read as
-abbrev pub read_of : PlainRequest → Result Asked AskFault
-read_of request = command_at request.method request.path request.body
 
 -- the command that was read, if one was
 abbrev pub command_read : Result Asked AskFault → List Command
@@ -59,13 +58,27 @@ TellsReplies _ _ _ = ⊥
 
 -- ---- the laws
 
--- The office machine ran over the commands that the requests ask, and the answers tell its replies. Each committed set is the draft
--- as it stood just before its last accepted commit, or what it was at the start; orders and stock are what the accepted commands of
--- the register made of them; and an import that was accepted and is sent again adds nothing.
+-- The office machine ran over the commands that the requests ask, and the answers tell its replies. Each office on the way is sound, so
+-- that no committed set breaks a rule; each committed set is the draft as it stood just before its last accepted commit, or what it was at
+-- the start; orders and stock are what the accepted commands of the register made of them; and an import that was accepted and is sent
+-- again adds nothing.
 pub record KeepsLaws (before : Office) (requests : List PlainRequest) (answers : List (List ℕ)) (after : Office) : Type 0 where
   pub replies : List Reply
   pub run : Run before (asked_in requests) replies after
   pub tells : TellsReplies requests replies answers
+  pub sound : AreSound before (asked_in requests) replies after run
   pub running : (id : ℕ) → (side_at after id).committed ≡ running id (side_at before id).committed before (asked_in requests) replies after run
   pub register : RegisterRuns before (asked_in requests) replies after run
   pub repeats : Repeats before (asked_in requests) replies after run
+
+-- a run of the office machine over the requests, which keeps the laws
+abbrev pub RunsLawfully : (before after : Office) → List PlainRequest → List (List ℕ) → Type 0
+RunsLawfully before after requests answers = ProtocolRun office_protocol before requests answers after × KeepsLaws before requests answers after
+
+-- What the office did over requests and their answers: it ran over them; the tables that are kept stand for the office after them; a crash
+-- leaves no more than the run lets it; and the run keeps the laws.
+pub record Serves
+    {Shelf : Type 0} (storage : Storage Shelf Office Content) (may : Content → Type 0) (held : Content) (before : Office) (last : Shelf) (kept : Content) (after : Office)
+    (requests : List PlainRequest) (answers : List (List ℕ)) : Type 0 where
+  pub ran : Ran office_protocol storage may held before last kept after requests answers
+  pub laws : KeepsLaws before requests answers after

@@ -1,17 +1,20 @@
 -- What a listener tells of its calls, and what the office did for its connections.
-use Rattle.std.specs.Prelude.{◌≡◌, ◌≢◌, ℕ, zero, suc, ◌<◌, List, [], ◌∷◌, ◌++◌, Option, Some, None, Result, Ok, Err, ⊤}
+use Rattle.std.specs.Prelude.{◌≡◌, ◌≢◌, ℕ, zero, suc, ◌+◌, ◌*◌, ◌<◌, ◌≤◌, List, [], ◌∷◌, ◌++◌, length, map, Option, Some, None, Result, Ok, Err, ⊤}
 use Rattle.office_desk.specs.Office.{Office}
+use Rattle.office_http.specs.Laws.{Serves}
 use Rattle.office_http.specs.Protocol.{office_protocol}
 use Rattle.office_http.specs.declared.listening.ListenCounts.{ListenCounts}
 use Rattle.office_http.specs.declared.listening.ServeStop.{ServeStop}
 use Rattle.office_http.specs.declared.listening.ServeStop.TheVariants as stop
-use Rattle.office_http_framing.specs.Ends.{Told, no_calls, raised}
-use Rattle.office_http_framing.specs.Serve.{Did, TellsFault}
-use Rattle.office_http_framing.specs.Stops.{Leaves, Storage}
-use Rattle.office_tables_shelf.specs.Content.{Content}
+use Rattle.office_http_framing.specs.Asks.{OnlyAsks}
+use Rattle.office_http_framing.specs.Ends.{no_calls, raised}
+use Rattle.office_http_framing.specs.Limits.{longest_request}
+use Rattle.office_http_framing.specs.Serve.{Did, Ends, TellsFault}
+use Rattle.office_http_framing.specs.Stops.{Keeps, Storage}
 use Rattle.office_http_framing.specs.declared.engine.Served.{Served}
 use Rattle.office_http_framing.specs.declared.engine.ServeFault.{ServeFault}
 use Rattle.office_http_framing.specs.declared.engine.ServeFault.TheVariants.{NoMemory}
+use Rattle.office_tables_shelf.specs.Content.{Content}
 
 -- the most requests of one connection
 abbrev pub connection_limit : ℕ
@@ -39,14 +42,6 @@ abbrev pub more_accepted : ℕ → ListenCounts → ListenCounts
 more_accepted zero c = c
 more_accepted (suc n) c = one_accepted (more_accepted n c)
 
--- what the two ends of a connection tell
-pub record Ends : Type 0 where
-  pub source : Told
-  pub sink : Told
-
-abbrev pub ends_of : Told → Told → Ends
-ends_of source sink = record { source = source; sink = sink }
-
 -- What a listener tells: how its calls went and, where they are known, the ends of the connections that it gave and of those
 -- that it got back, as they were then, the latest one last.
 pub record Listening : Type 0 where
@@ -60,45 +55,71 @@ Adds None new more = Unit {0}
 Adds (Some xs) None more = ⊥
 Adds (Some xs) (Some ys) more = ys ≡ xs ++ more
 
+-- a connection as it was when it was given, and when it was given back
+pub record Connected : Type 0 where
+  pub start : Ends
+  pub end : Ends
+
+abbrev pub connected : Ends → Ends → Connected
+connected start end = record { start = start; end = end }
+
 -- the lists of connections grew by these
 pub record Turns (old new : Listening) (given returned : List Ends) : Type 0 where
   pub gave : Adds old.given new.given given
   pub got_back : Adds old.returned new.returned returned
 
--- Why the serving ended after so many connections were given, served, and given back: all of them were; or the next could
+-- the ends of the connections as they were given, and as they were given back
+abbrev pub starts_of : List Connected → List Ends
+starts_of connections = map (λ connection. connection.start) connections
+
+abbrev pub ends_after : List Connected → List Ends
+ends_after connections = map (λ connection. connection.end) connections
+
+-- Why the serving ended after these connections were given, served, and given back: all of them were; or the next could
 -- not be accepted; or it was accepted and given back as it was, and memory for it was refused.
-abbrev pub EndsListening : ℕ → Listening → Listening → ℕ → List Ends → List Ends → Result ⊤ ServeStop → Type 0
-EndsListening count old new served given returned (Ok done) =
-    (served ≡ count) × (new.counts ≡ more_accepted count old.counts) × Turns old new given returned
-EndsListening count old new served given returned (Err stop.Accept) =
-    (served < count) × (new.counts ≡ one_failed (more_accepted served old.counts)) × Turns old new given returned
-EndsListening count old new served given returned (Err stop.NoMemory) =
-    (served < count) × (new.counts ≡ more_accepted (suc served) old.counts)
-    × (untouched : Ends) × Turns old new (given ++ untouched ∷ []) (returned ++ untouched ∷ [])
+abbrev pub EndsListening : ℕ → Listening → Listening → List Connected → Result ⊤ ServeStop → Type 0
+EndsListening count old new served (Ok done) =
+    (length served ≡ count) × (new.counts ≡ more_accepted (length served) old.counts) × Turns old new (starts_of served) (ends_after served)
+EndsListening count old new served (Err stop.Accept) =
+    (length served < count) × (new.counts ≡ one_failed (more_accepted (length served) old.counts)) × Turns old new (starts_of served) (ends_after served)
+EndsListening count old new served (Err stop.NoMemory) =
+    (length served < count) × (new.counts ≡ more_accepted (suc (length served)) old.counts)
+    × (untouched : Ends) × Turns old new (starts_of served ++ untouched ∷ []) (ends_after served ++ untouched ∷ [])
+
+-- the source was called only while a request of the connection was awaited, and so often at most
+pub record AsksConnection (start end : Ends) : Type 0 where
+  pub asks : OnlyAsks (λ told. told) connection_limit start.source end.source
+  pub reads : end.source.counts.calls ≤ longest_request * (connection_limit + 1) + 1
 
 -- One connection was served from its first call on: between these two moments of its ends the office did what `serve` says. A
 -- fault of the ends is told by them, and is no want of memory.
 pub record ServesConnection
-    {Shelf : Type 0} (storage : Storage Shelf Office Content) (first last : Shelf) (start end : Ends) (before after : Office) : Type 0 where
+    {Shelf : Type 0} (storage : Storage Shelf Office Content) (first : Shelf) (held : Content) (before : Office) (last : Shelf) (kept : Content) (after : Office)
+    (connection : Connected) : Type 0 where
   pub outcome : Result Served ServeFault
-  pub source_is_fresh : start.source.counts ≡ no_calls
-  pub sink_is_fresh : start.sink.counts ≡ no_calls
-  pub did : Did office_protocol (Leaves office_protocol storage first last before after) connection_limit
-      start.source end.source start.sink end.sink before after outcome
-  pub fault : TellsFault start.source end.source start.sink end.sink outcome
+  pub source_is_fresh : connection.start.source.counts ≡ no_calls
+  pub sink_is_fresh : connection.start.sink.counts ≡ no_calls
+  pub did : Did office_protocol (Serves storage (storage.may_leave first) held before last kept after) connection_limit connection.start connection.end outcome
+  pub fault : TellsFault connection.start connection.end outcome
+  pub asks : AsksConnection connection.start connection.end
   pub has_memory : outcome ≢ Err NoMemory
 
--- So many connections were served, one after the other: their ends as they were given, and as they were given back.
-abbrev pub ServesEach : {Shelf : Type 0} → Storage Shelf Office Content → Shelf → Office → ℕ → List Ends → List Ends → Shelf → Office → Type 0
-ServesEach storage first before zero given returned last after =
-    (given ≡ []) × (returned ≡ []) × (last ≡ first) × (after ≡ before)
-ServesEach {Shelf} storage first before (suc n) given returned last after =
-    (mid : Shelf) × (middle : Office) × (starts : List Ends) × (ends : List Ends) × (start : Ends) × (end : Ends)
-    × ServesEach storage first before n starts ends mid middle
-    × ServesConnection storage mid last start end middle after
-    × (given ≡ starts ++ start ∷ []) × (returned ≡ ends ++ end ∷ [])
+-- The connections were served one after the other, each from the office and the tables that the one before it left.
+abbrev pub ServesEach : {Shelf : Type 0} → Storage Shelf Office Content → Shelf → Content → Office → List Connected → Shelf → Content → Office → Type 0
+ServesEach storage first held before [] last kept after = (last ≡ first) × (kept ≡ held) × (after ≡ before)
+ServesEach {Shelf} storage first held before (connection ∷ connections) last kept after =
+    (mid : Shelf) × (tables : Content) × (middle : Office) × ServesConnection storage first held before mid tables middle connection
+    × ServesEach storage mid tables middle connections last kept after
+
+-- What was done for the connections that were served: what is kept at the end stands for the office after the last one.
+pub record Listens
+    {Shelf : Type 0} (storage : Storage Shelf Office Content) (first : Shelf) (held : Content) (before : Office) (last : Shelf) (served : List Connected) : Type 0 where
+  pub after : Office
+  pub kept : Content
+  pub keeps : Keeps storage last kept after
+  pub each : ServesEach storage first held before served last kept after
 
 -- on `Ok` all connections were served, else fewer
-abbrev pub ServedAsTold : ℕ → ℕ → Result ⊤ ServeStop → Type 0
-ServedAsTold count served (Ok done) = served ≡ count
-ServedAsTold count served (Err why) = served < count
+abbrev pub ServedAsTold : ℕ → List Connected → Result ⊤ ServeStop → Type 0
+ServedAsTold count served (Ok done) = length served ≡ count
+ServedAsTold count served (Err why) = length served < count

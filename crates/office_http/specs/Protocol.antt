@@ -1,5 +1,5 @@
 -- How the office answers requests.
-use Rattle.std.specs.Prelude.{◌≡◌, ◌⊎◌, ℕ, List, Result, Ok, Err}
+use Rattle.std.specs.Prelude.{◌≡◌, ℕ, List, Result, Ok, Err}
 use Rattle.office_desk.specs.Office.{Office}
 use Rattle.office_desk.specs.StandFor.{StandForSound}
 use Rattle.office_desk.specs.Step.{answered}
@@ -25,24 +25,17 @@ abbrev pub AnswersRead : Result Asked AskFault → Office → List ℕ → Offic
 AnswersRead (Ok asked) before answer after = AnswersAsked before asked answer after
 AnswersRead (Err fault) before answer after = (answer ≡ ask_fault_text fault) × (after ≡ before)
 
--- a request is read as a command or a fault
+-- what a request is read as: a command, or a fault
+abbrev pub read_of : PlainRequest → Result Asked AskFault
+read_of request = command_at request.method request.path request.body
+
+-- a request is answered as what it is read as
 abbrev pub AnswersRequest : Office → PlainRequest → List ℕ → Office → Type 0
-AnswersRequest before request answer after = AnswersRead (command_at request.method request.path request.body) before answer after
-
--- the tables stand for the office after the command's step
-abbrev pub StandsAfterAsked : Office → Asked → Content → Type 0
-StandsAfterAsked before asked tables =
-    (answer : List ℕ) × (after : Office) × AnswersAsked before asked answer after × StandForSound tables after
-
--- a crash leaves what it could before the command or, where the shelf was honest before it, the command's step
-abbrev pub LeavesAsked : {Shelf : Type 0} → (Shelf → Type 0) → (Shelf → Content) → (Shelf → Content → Type 0) → Shelf → Shelf → Asked → Type 0
-LeavesAsked is_honest content may_leave old new asked =
-    (tables : Content) → may_leave new tables → may_leave old tables
-    ⊎ (is_honest old × ((before : Office) → StandForSound (content old) before → StandsAfterAsked before asked tables))
+AnswersRequest before request answer after = AnswersRead (read_of request) before answer after
 
 -- how the office is stored in tables
-abbrev pub office_storage : {Shelf : Type 0} → (Shelf → Content) → (Shelf → Content → Type 0) → Storage Shelf Office Content
-office_storage content may_leave = record { holds = content; may_leave = may_leave; stands = StandForSound }
+abbrev pub office_storage : {Shelf : Type 0} → (Shelf → Type 0) → (Shelf → Content) → (Shelf → Content → Type 0) → Storage Shelf Office Content
+office_storage is_honest content may_leave = record { is_honest = is_honest; holds = content; may_leave = may_leave; stands = StandForSound }
 
 -- the answers of the office
 abbrev pub office_protocol : Protocol Office

@@ -1,17 +1,19 @@
 //! The office served to the connections of a listener, one after another.
 
-ghost use Rattle.std.specs.Prelude.{◌≡◌, ◌↔◌, ℕ, List, Err, IsTrue, IfOk, OnOk, OnErr, None};
+ghost use Rattle.std.specs.Prelude.{◌≡◌, ◌↔◌, List, Err, IsTrue, IfOk, OnOk, OnErr, None};
 ghost use Rattle.office_desk.specs.Office.{Office as OfficeState};
-ghost use Rattle.office_desk.specs.StandFor.{StandForSound};
+ghost use Rattle.office_tables_shelf.specs.Content.{Content};
 ghost use Rattle.office_http_framing.specs.Ends.{no_calls};
+ghost use Rattle.office_http_framing.specs.Serve.{ends_of};
+ghost use Rattle.office_http_framing.specs.Stops.{Keeps};
 ghost use Rattle.office_http.specs.Protocol.{office_storage};
 ghost use Rattle.office_http.specs.Listening.{
-  Ends,
+  Connected,
   EndsListening,
+  Listens,
   ServedAsTold,
   ServesConnection,
-  ServesEach,
-  ends_of,
+  connected,
   listened,
   no_listening,
 };
@@ -59,12 +61,13 @@ pub struct Connection<R, W> {
     pub writer: W,
 }
 
-/// Where connections come from, seen as the counts of its calls and, where they are known, the ends of
-/// the connections that it gave and of those that it got back, as they were then.
+/// Where connections come from, seen as the counts of its calls and, where they are known, the ends
+/// of the connections that it gave and of those that it got back, as they were then.
 pub trait Listen {
     ghost use Rattle.std.specs.Prelude.{[], ◌∷◌, MatchResult};
     ghost use Rattle.office_http_framing.specs.Ends.{no_calls};
-    ghost use Rattle.office_http.specs.Listening.{Adds, Listening, ends_of, listened};
+    ghost use Rattle.office_http_framing.specs.Serve.{ends_of};
+    ghost use Rattle.office_http.specs.Listening.{Adds, Listening, listened};
 
     type Reader: Source;
 
@@ -77,9 +80,11 @@ pub trait Listen {
     fn accept(&mut self) -> io::Result<Connection<Self::Reader, Self::Writer>>
         ensures counts { (told self.new).counts ≡ listened result (told self.old).counts }
         ensures given { MatchResult result
-            (λ c. Adds (told self.old).given (told self.new).given (ends_of (Self.Reader.told c.reader) (Self.Writer.told c.writer) ∷ []))
+            (λ c. Adds (told self.old).given (told self.new).given
+                (ends_of (Self.Reader.told c.reader) (Self.Writer.told c.writer) ∷ []))
             (λ _. Adds (told self.old).given (told self.new).given []) }
-        ensures fresh { IfOk result (λ c. ((Self.Reader.told c.reader).counts ≡ no_calls) × ((Self.Writer.told c.writer).counts ≡ no_calls)) }
+        ensures fresh { IfOk result (λ c. ((Self.Reader.told c.reader).counts ≡ no_calls)
+            × ((Self.Writer.told c.writer).counts ≡ no_calls)) }
         ensures returned { Adds (told self.old).returned (told self.new).returned [] };
 
     /// Takes a connection back, and closes it.
@@ -87,7 +92,8 @@ pub trait Listen {
         ensures counts { (told self.new).counts ≡ (told self.old).counts }
         ensures given { Adds (told self.old).given (told self.new).given [] }
         ensures returned { Adds (told self.old).returned (told self.new).returned
-            (ends_of (Self.Reader.told connection.reader) (Self.Writer.told connection.writer) ∷ []) };
+            (ends_of (Self.Reader.told connection.reader)
+                (Self.Writer.told connection.writer) ∷ []) };
 }
 
 /// The connections of a listener of the system.
@@ -110,8 +116,8 @@ impl<'a> FromListener<'a> {
 }
 
 /// The two ends of a connection, of which no read and no write waits longer than `LONGEST_WAIT`. It
-/// sends each answer at once, however short it is; where the system refuses that, answers may be held
-/// back for a moment, and no more.
+/// sends each answer at once, however short it is; where the system refuses that, answers may be
+/// held back for a moment, and no more.
 fn opened(
     stream: TcpStream,
 ) -> io::Result<Connection<FromRead<TcpStream>, ToWrite<WaitsOnce<TcpStream>>>>
@@ -128,7 +134,8 @@ fn opened(
 
 impl Listen for FromListener<'_> {
     ghost use Rattle.std.specs.Prelude.{◌≡◌, None, [], ◌∷◌};
-    ghost use Rattle.office_http.specs.Listening.{Adds, ends_of};
+    ghost use Rattle.office_http_framing.specs.Serve.{ends_of};
+    ghost use Rattle.office_http.specs.Listening.{Adds};
 
     type Reader = FromRead<TcpStream>;
 
@@ -188,16 +195,20 @@ fn serve_connection<S: Shelf, R: Source, W: Sink>(
 ) -> Result<(), AllocError>
     requires reader { (R.told connection.old.reader).counts ≡ no_calls }
     requires writer { (W.told connection.old.writer).counts ≡ no_calls }
+    ensures clean { S.is_clean office.new → S.is_clean office.old }
     ensures honest { S.is_honest office.new → S.is_honest office.old }
-    ensures did { S.is_honest office.new → (before : OfficeState) → StandForSound (S.content office.old) before → OnOk result (
-        (after : OfficeState) × StandForSound (S.content office.new) after
-        × ServesConnection (office_storage S.content S.may_leave) office.old office.new
-        (ends_of (R.told connection.old.reader) (W.told connection.old.writer))
-        (ends_of (R.told connection.new.reader) (W.told connection.new.writer)) before after) }
+    ensures did { let storage = office_storage S.is_honest S.content S.may_leave in
+        S.is_clean office.new →
+        (before : OfficeState) (tables : Content) → Keeps storage office.old tables before →
+        OnOk result ((after : OfficeState) × (kept : Content)
+        × ServesConnection storage office.old tables before office.new kept after (connected
+            (ends_of (R.told connection.old.reader) (W.told connection.old.writer))
+            (ends_of (R.told connection.new.reader) (W.told connection.new.writer)))) }
     // Where its buffer was refused, nothing was touched.
     ensures untouched { OnErr result (
         (ends_of (R.told connection.new.reader) (W.told connection.new.writer)
-        ≡ ends_of (R.told connection.old.reader) (W.told connection.old.writer)) × (office.new ≡ office.old)) }
+        ≡ ends_of (R.told connection.old.reader) (W.told connection.old.writer))
+        × (office.new ≡ office.old)) }
 {
     let reader = &mut connection.reader;
     let writer = &mut connection.writer;
@@ -216,17 +227,20 @@ pub fn serve_each<S: Shelf, L: Listen>(
     count: u32,
     office: &mut Office<S>,
 ) -> Result<(), ServeStop>
+    ensures clean { S.is_clean office.new → S.is_clean office.old }
     ensures honest { S.is_honest office.new → S.is_honest office.old }
 
-    // Each connection that the listener gave was served once, as `serve` does, from its first call to its
-    // being given back, and no other one.
-    ensures did { S.is_honest office.new → (before : OfficeState) → StandForSound (S.content office.old) before →
-        (served : ℕ) × (given : List Ends) × (returned : List Ends) × (after : OfficeState) × StandForSound (S.content office.new) after
-        × ServesEach (office_storage S.content S.may_leave) office.old before served given returned office.new after
-        × EndsListening count (L.told listener.old) (L.told listener.new) served given returned result }
-    // The listener tells how many connections it gave and got back, and a failure where it is the reason.
-    ensures told { (served : ℕ) × (given : List Ends) × (returned : List Ends)
-        × EndsListening count (L.told listener.old) (L.told listener.new) served given returned result }
+    // Each connection that the listener gave was served once, as `serve` does, from its first call
+    // to its being given back, and no other one.
+    ensures did { let storage = office_storage S.is_honest S.content S.may_leave in
+        S.is_clean office.new →
+        (before : OfficeState) (tables : Content) → Keeps storage office.old tables before →
+        (served : List Connected) × Listens storage office.old tables before office.new served
+        × EndsListening count (L.told listener.old) (L.told listener.new) served result }
+    // The listener tells how many connections it gave and got back, and a failure where it is the
+    // reason.
+    ensures told { (served : List Connected)
+        × EndsListening count (L.told listener.old) (L.told listener.new) served result }
 {
     for _ in 0..count {
         let Ok(mut connection) = listener.accept() else {
@@ -241,20 +255,22 @@ pub fn serve_each<S: Shelf, L: Listen>(
     Ok(())
 }
 
-/// Serves so many connections of a listener of the system, as `serve_each` does. What these give and
-/// take no clause tells.
+/// Serves so many connections of a listener of the system, as `serve_each` does. What these give
+/// and take no clause tells.
 pub fn serve_on<S: Shelf>(
     alloc: Global,
     listener: &TcpListener,
     count: u32,
     office: &mut Office<S>,
 ) -> Result<(), ServeStop>
+    ensures clean { S.is_clean office.new → S.is_clean office.old }
     ensures honest { S.is_honest office.new → S.is_honest office.old }
 
     // The office served each connection as `serve` does, and no other one; all where it says so.
-    ensures did { S.is_honest office.new → (before : OfficeState) → StandForSound (S.content office.old) before →
-        (served : ℕ) × (given : List Ends) × (returned : List Ends) × (after : OfficeState) × StandForSound (S.content office.new) after
-        × ServesEach (office_storage S.content S.may_leave) office.old before served given returned office.new after
+    ensures did { let storage = office_storage S.is_honest S.content S.may_leave in
+        S.is_clean office.new →
+        (before : OfficeState) (tables : Content) → Keeps storage office.old tables before →
+        (served : List Connected) × Listens storage office.old tables before office.new served
         × ServedAsTold count served result }
 {
     serve_each(alloc, &mut FromListener::new(listener), count, office)

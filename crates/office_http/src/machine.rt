@@ -1,13 +1,14 @@
 //! The office as the machine behind the engine.
 
-ghost use Rattle.std.specs.Prelude.{◌≡◌, ◌≢◌, IsOk, IfOk, OnOk, OnErr};
+ghost use Rattle.std.specs.Prelude.{◌≡◌, ◌≢◌, Ok, IsOk, IfOk};
 ghost use Rattle.office_http_responses.specs.Faults.{ask_fault_text};
 ghost use Rattle.office_desk.specs.Office.{Office as OfficeState};
-ghost use Rattle.office_desk.specs.StandFor.{StandForSound};
+ghost use Rattle.office_tables_shelf.specs.Content.{Content};
+ghost use Rattle.office_http_framing.specs.Front.{PlainRequest};
 ghost use Rattle.office_http_framing.specs.Protocol.{bytes_of};
-ghost use Rattle.office_http_framing.specs.Stops.{Settles};
+ghost use Rattle.office_http_framing.specs.Stops.{DealsBy, Keeps};
 ghost use Rattle.office_http_responses.specs.Answers.{answer_bytes};
-ghost use Rattle.office_http.specs.Protocol.{AnswersAsked, LeavesAsked, office_storage};
+ghost use Rattle.office_http.specs.Protocol.{office_protocol, office_storage, read_of};
 
 use office_desk::office::Office;
 use office_desk::refusal::Refusal;
@@ -47,7 +48,8 @@ fn answer_to(alloc: Global, reply: &Reply, form: Form) -> Result<Answer, Unavail
 
 /// The whole answer to a request that asks nothing.
 fn answer_fault(alloc: Global, fault: AskFault) -> Result<Answer, Unavailable>
-    ensures { IfOk result (λ answer. (fault ≢ AskFault.NoMemory) × (bytes_of answer ≡ ask_fault_text fault)) }
+    ensures { IfOk result (λ answer. (fault ≢ AskFault.NoMemory)
+        × (bytes_of answer ≡ ask_fault_text fault)) }
 {
     match ask_fault_answer(alloc, fault) {
         Ok(answer) => Ok(Answer::Written(answer)),
@@ -61,15 +63,13 @@ fn answer_asked<S: Shelf>(
     alloc: Global,
     asked: &Asked,
 ) -> Result<Answer, Unavailable>
+    ensures clean { S.is_clean office.new → S.is_clean office.old }
     ensures honest { S.is_honest office.new → S.is_honest office.old }
-    ensures ok { S.is_honest office.new → (before : OfficeState) → StandForSound (S.content office.old) before → IfOk result (λ answer.
-        (after : OfficeState) × StandForSound (S.content office.new) after × AnswersAsked before asked.now (bytes_of answer) after) }
-    ensures err { S.is_honest office.new → (before : OfficeState) → StandForSound (S.content office.old) before →
-        OnErr result (StandForSound (S.content office.new) before) }
-    // A crash leaves what it could before, or the tables as they are now; and those alone once rows were changed.
-    ensures settles { S.is_honest office.new → OnOk result (Settles (office_storage S.content S.may_leave) office.old office.new) }
-    // However it was answered, a crash leaves what it could before, or the command's step.
-    ensures crash { LeavesAsked S.is_honest S.content S.may_leave office.old office.new asked.now }
+    // A request that is read as this is dealt with, whichever office the kept tables stand for.
+    ensures deals { let storage = office_storage S.is_honest S.content S.may_leave in
+        S.is_clean office.new → (before : OfficeState) (tables : Content) (request : PlainRequest) →
+        read_of request ≡ Ok asked.now → Keeps storage office.old tables before →
+        DealsBy office_protocol storage office.old office.new tables before request result }
 {
     let decided = office.decide(alloc, &asked.command);
     let Ok(answer) = answer_to(alloc, &decided.reply, asked.form) else {
@@ -94,9 +94,9 @@ impl<S: Shelf> Machine<StreamTools> for Office<S> {
 
     ghost Stored = { Content };
 
-    ghost storage = { office_storage S.content S.may_leave };
+    ghost storage = { office_storage S.is_honest S.content S.may_leave };
 
-    ghost is_honest = { λ shelf. S.is_honest shelf };
+    ghost is_clean = { λ shelf. S.is_clean shelf };
 
     ghost protocol = { office_protocol };
 

@@ -1,15 +1,13 @@
 //! The office served over a stream of bytes.
 
-ghost use Rattle.std.specs.Prelude.{◌≡◌, ◌+◌, ◌*◌, ◌≤◌, IfErr, List, ℕ};
-ghost use Rattle.office_desk.specs.Office.{IsSound, Office as OfficeState};
-ghost use Rattle.office_desk.specs.StandFor.{StandForSound};
+ghost use Rattle.std.specs.Prelude.{◌≡◌, ◌+◌, ◌*◌, ◌≤◌, IfErr};
+ghost use Rattle.office_desk.specs.Office.{Office as OfficeState};
+ghost use Rattle.office_tables_shelf.specs.Content.{Content};
 ghost use Rattle.office_http_framing.specs.Asks.{OnlyAsks};
-ghost use Rattle.office_http_framing.specs.Front.{PlainRequest};
 ghost use Rattle.office_http_framing.specs.Limits.{longest_request};
-ghost use Rattle.office_http_framing.specs.Protocol.{Run as ProtocolRun};
-ghost use Rattle.office_http_framing.specs.Serve.{Did, TellsFault, Untouched};
-ghost use Rattle.office_http_framing.specs.Stops.{Leaves, LeavesRead};
-ghost use Rattle.office_http.specs.Laws.{KeepsLaws};
+ghost use Rattle.office_http_framing.specs.Serve.{Did, TellsFault, Untouched, ends_of};
+ghost use Rattle.office_http_framing.specs.Stops.{Keeps};
+ghost use Rattle.office_http.specs.Laws.{Serves};
 ghost use Rattle.office_http.specs.Protocol.{office_protocol, office_storage};
 
 use crate::machine::StreamTools;
@@ -21,9 +19,9 @@ use office_http_requests::RouteCache;
 use office_tables_shelf::shelf::Shelf;
 use std::alloc::Global;
 
-/// Serves the requests that the reader gives, until it ends, a fault of the framing, the last request,
-/// or the limit. Each answer is written before the next read. A request for which memory or the tables
-/// were refused is answered unavailable, and changes nothing.
+/// Serves the requests that the reader gives, until it ends, a fault of the framing, the last
+/// request, or the limit. Each answer is written before the next read. A request for which memory
+/// or the tables were refused is answered unavailable, and changes nothing.
 ///
 /// It takes its buffer first: where that is refused, nothing was read.
 pub fn serve<S: Shelf, R: Source, W: Sink>(
@@ -33,32 +31,30 @@ pub fn serve<S: Shelf, R: Source, W: Sink>(
     writer: &mut W,
     max_requests: u32,
 ) -> Result<Served, ServeFault>
+    ensures clean { S.is_clean office.new → S.is_clean office.old }
     ensures honest { S.is_honest office.new → S.is_honest office.old }
 
-    // The bytes answered and the meaning of the tables are those of the office machine, run over the
-    // requests of the bytes read. A crash leaves what it could before, or the office after one of those; and,
-    // where one changed rows and no later one was answered unavailable, the tables as they are, alone.
-    ensures did { S.is_honest office.new → (before : OfficeState) → StandForSound (S.content office.old) before →
-        (after : OfficeState) × StandForSound (S.content office.new) after × Did office_protocol
-        (Leaves office_protocol (office_storage S.content S.may_leave) office.old office.new before after) max_requests
-        (R.told reader.old) (R.told reader.new) (W.told writer.old) (W.told writer.new) before after result }
-    // Also where a failure has shut the database of the tables, a crash leaves what it could before, or the office
-    // after one of the requests that were read.
-    ensures crash { LeavesRead office_protocol (office_storage S.content S.may_leave) max_requests
-        (R.told reader.old).bytes (R.told reader.new).bytes office.old office.new }
-    // Over the whole stream, the run that `did` tells keeps the laws of the office: committed sets come from
-    // accepted commits, open orders and stock from accepted records, and an import that is sent again adds nothing.
-    ensures laws { (before : OfficeState) (requests : List PlainRequest) (answers : List (List ℕ)) (after : OfficeState) →
-        ProtocolRun office_protocol before requests answers after → IsSound before → IsSound after →
-        KeepsLaws before requests answers after }
+    // On a clean disk, whether or not a failure shut the tables: the bytes answered are those of
+    // the office machine, run over the requests of the bytes read; the tables that are kept stand
+    // for the office after them; a crash leaves the office after the last request that was answered
+    // and changed rows, or after a later one; and the run keeps the laws.
+    ensures did { let storage = office_storage S.is_honest S.content S.may_leave in
+        S.is_clean office.new →
+        (before : OfficeState) (tables : Content) → Keeps storage office.old tables before →
+        (after : OfficeState) × (kept : Content) × Did office_protocol
+        (Serves storage (S.may_leave office.old) tables before office.new kept after)
+        max_requests (ends_of (R.told reader.old) (W.told writer.old))
+        (ends_of (R.told reader.new) (W.told writer.new)) result }
 
     // Read and Write are answered only where that end told a fault.
-    ensures fault { TellsFault (R.told reader.old) (R.told reader.new)
-        (W.told writer.old) (W.told writer.new) result }
+    ensures fault { TellsFault (ends_of (R.told reader.old) (W.told writer.old))
+        (ends_of (R.told reader.new) (W.told writer.new)) result }
     // Where the buffer was refused nothing was touched, whatever the tables stood for.
     ensures untouched { IfErr result (λ why. why ≡ ServeFault.NoMemory →
-        Untouched (R.told reader.old) (R.told reader.new) (W.told writer.old) (W.told writer.new) office.old office.new) }
-    // The reader is called only while a request is awaited: not again after the last one or a fault.
+        Untouched (ends_of (R.told reader.old) (W.told writer.old))
+        (ends_of (R.told reader.new) (W.told writer.new)) office.old office.new) }
+    // The reader is called only while a request is awaited: not again after the last one or a
+    // fault.
     ensures asks { OnlyAsks R.told max_requests reader.old reader.new }
     ensures reads { (R.told reader.new).counts.calls
         ≤ (R.told reader.old).counts.calls + longest_request * (max_requests + 1) + 1 }

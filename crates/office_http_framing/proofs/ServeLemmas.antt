@@ -1,5 +1,5 @@
 -- How far a stream has been served, and what each step adds.
-use Rattle.std.proofs.Common.{◌≡◌, ◌⊎◌, inl, inr, ℕ, ◌+◌, ◌-◌, ◌<◌, cond, List, [], ◌∷◌, ◌++◌, length, drop, refl, sym, ap, subst, ◌∙◌, arith, append_assoc}
+use Rattle.std.proofs.Common.{◌≡◌, inl, ℕ, ◌+◌, ◌-◌, ◌<◌, cond, List, [], ◌∷◌, ◌++◌, length, drop, refl, sym, ap, subst, ◌∙◌, arith, append_assoc}
 use Rattle.std.specs.Prelude.{Option, Some, None, Result, Ok, Err, MatchResult, true, false}
 use Rattle.std.specs.Result.{is_err}
 use Rattle.std.specs.List.{concat}
@@ -9,93 +9,78 @@ use Rattle.std.proofs.lemmas.List.{append-nil, length-append}
 use Rattle.office_http_framing.specs.declared.engine.Served.{Served}
 use Rattle.office_http_framing.specs.declared.engine.ServeFault.{ServeFault}
 use Rattle.office_http_framing.specs.declared.engine.ServeFault.TheVariants as stop
-use Rattle.office_http_framing.specs.declared.front.Fault.{Fault}
-use Rattle.office_http_framing.specs.Ends.{Told, AppendsPart}
-use Rattle.office_http_framing.specs.Front.{PlainRequest, BeginsWithRequest, IsIncomplete, IsFaulty}
-use Rattle.office_http_framing.specs.Protocol.{Protocol, MayAnswer, Run, AnswersFault}
-use Rattle.office_http_framing.specs.Stream.{left_after, BeginsWith, Ending, closed, unfinished, faulty, EndsAt, AreRequests}
-use Rattle.office_http_framing.specs.Serve.{RunsOver, StopLeaves, Did, Serves, BreaksOffAtAnswer, BreaksOffAtFault}
+use Rattle.office_http_framing.specs.Ends.{AppendsPart}
+use Rattle.office_http_framing.specs.Front.{PlainRequest, BeginsWithRequest}
+use Rattle.office_http_framing.specs.Protocol.{Protocol}
+use Rattle.office_http_framing.specs.Stream.{left_after, BeginsWith}
+use Rattle.office_http_framing.specs.Serve.{BreaksOff, Did, Ends, EndsBy, Runs, Writes}
 use Rattle.office_http_framing.proofs.StreamLemmas.{BeginsWith-append, BeginsWith-next}
 
 -- The source gave bytes that begin with so many requests and then `held`; the machine ran over them;
 -- the sink took their answers; and so many more requests may come.
-pub record Progress
-    {State : Type 0} (protocol : Protocol State) (leaves : StopLeaves) (limit count left : ℕ) (held : List ℕ) (source source' sink sink' : Option (List ℕ))
-    (before after : State) : Type 0 where
+pub record Progress (runs : Runs) (limit count left : ℕ) (held : List ℕ) (source source' sink sink' : Option (List ℕ)) : Type 0 where
   pub given : List ℕ
   pub requests : List PlainRequest
   pub answers : List (List ℕ)
   pub reads : Consumes source source' given
   pub begins : BeginsWith limit given requests held left
-  pub runs : RunsOver protocol leaves before requests answers after count
+  pub ran : runs requests answers
+  pub count_is : count ≡ length requests
   pub writes : Appends sink sink' (concat answers)
 
 concat-push : (xs : List (List ℕ)) (x : List ℕ) → concat (xs ++ x ∷ []) ≡ concat xs ++ x
 concat-push [] x = append-nil x
 concat-push (y ∷ ys) x = ap (λ t. y ++ t) (concat-push ys x) ∙ sym (append_assoc y (concat ys) x)
 
--- the run goes on by one request
-Run-next : {State : Type 0} (protocol : Protocol State) (before : State) (requests : List PlainRequest) (answers : List (List ℕ)) (mid : State) (request : PlainRequest) (answer : List ℕ) (after : State)
-    → Run protocol before requests answers mid → MayAnswer protocol mid request answer after → Run protocol before (requests ++ request ∷ []) (answers ++ answer ∷ []) after
-Run-next protocol before [] [] mid request answer after run next = (after, subst (λ s. MayAnswer protocol s request answer after) (sym run) next, refl)
-Run-next protocol before [] (a ∷ answers) mid request answer after run next = absurd run
-Run-next protocol before (r ∷ requests) [] mid request answer after run next = absurd run
-Run-next protocol before (r ∷ requests) (a ∷ answers) mid request answer after run next =
-    (run.0, run.1, Run-next protocol run.0 requests answers mid request answer after run.2 next)
+-- a run goes on by one request and its answer
+abbrev pub GoesOn : (runs runs' : Runs) → PlainRequest → List ℕ → Type 0
+GoesOn runs runs' request answer =
+    (requests : List PlainRequest) (answers : List (List ℕ)) → runs requests answers → runs' (requests ++ request ∷ []) (answers ++ answer ∷ [])
 
--- what a stop leaves goes on by one request that follows a run to the second state
-abbrev pub StopsNext : {State : Type 0} → Protocol State → (leaves leaves' : StopLeaves) → (before middle : State) → PlainRequest → List ℕ → Type 0
-StopsNext protocol leaves leaves' before middle request answer =
-    (requests : List PlainRequest) (answers : List (List ℕ)) → Run protocol before requests answers middle → leaves requests answers
-    → leaves' (requests ++ request ∷ []) (answers ++ answer ∷ [])
+-- nothing was read yet
+pub Progress-start : (runs : Runs) (limit : ℕ) (source sink : Option (List ℕ)) → runs [] [] → Progress runs limit 0 limit [] source source sink sink
+Progress-start runs limit source sink ran = record {
+  given = [];
+  requests = [];
+  answers = [];
+  reads = Consumes-nil source;
+  begins = (refl, refl);
+  ran = ran;
+  count_is = refl;
+  writes = Appends-nil sink;
+}
 
-module _ {State : Type 0} (protocol : Protocol State) (leaves : StopLeaves) (limit : ℕ) (source sink : Option (List ℕ)) (before : State) where
-  -- nothing was read yet
-  pub Progress-start : leaves [] [] → Progress protocol leaves limit 0 limit [] source source sink sink before before
-  Progress-start stops = record {
-    given = [];
-    requests = [];
-    answers = [];
-    reads = Consumes-nil source;
-    begins = (refl, refl);
-    runs = record { run = refl; count_is = refl; stops = stops };
-    writes = Appends-nil sink;
-  }
-
-module _ {State : Type 0} (protocol : Protocol State) (leaves : StopLeaves) (limit count left : ℕ) (held : List ℕ) (source source' sink sink' : Option (List ℕ)) (before after : State)
-    (so_far : Progress protocol leaves limit count left held source source' sink sink' before after) where
+module _ (runs : Runs) (limit count left : ℕ) (held : List ℕ) (source source' sink sink' : Option (List ℕ))
+    (so_far : Progress runs limit count left held source source' sink sink') where
   -- more bytes were read
   pub Progress-more : (piece : List ℕ) (source'' : Option (List ℕ)) → Consumes source' source'' piece
-      → Progress protocol leaves limit count left (held ++ piece) source source'' sink sink' before after
+      → Progress runs limit count left (held ++ piece) source source'' sink sink'
   Progress-more piece source'' more = record {
     given = so_far.given ++ piece;
     requests = so_far.requests;
     answers = so_far.answers;
     reads = Consumes-trans source source' source'' so_far.given piece so_far.reads more;
     begins = BeginsWith-append limit so_far.given piece so_far.requests held left so_far.begins;
-    runs = so_far.runs;
+    ran = so_far.ran;
+    count_is = so_far.count_is;
     writes = so_far.writes;
   }
 
-  RunsOver-next : (leaves' : StopLeaves) (request : PlainRequest) (answer : List ℕ) (later : State) → MayAnswer protocol after request answer later → StopsNext protocol leaves leaves' before after request answer
-      → RunsOver protocol leaves' before (so_far.requests ++ request ∷ []) (so_far.answers ++ answer ∷ []) later (count + 1)
-  RunsOver-next leaves' request answer later next stops = record {
-    run = Run-next protocol before so_far.requests so_far.answers after request answer later so_far.runs.run next;
-    stops = stops so_far.requests so_far.answers so_far.runs.run so_far.runs.stops;
-    count_is = omega (arith, so_far.runs.count_is, length-append so_far.requests (request ∷ []));
-  }
+  next_count : (request : PlainRequest) → count + 1 ≡ length (so_far.requests ++ request ∷ [])
+  next_count request = omega (arith, so_far.count_is, length-append so_far.requests (request ∷ []))
 
   -- a request was answered, and its answer written
-  pub Progress-next : (leaves' : StopLeaves) (request : PlainRequest) (len : ℕ) (answer : List ℕ) (later : State) (sink'' : Option (List ℕ))
-      → 0 < left → BeginsWithRequest held request len → MayAnswer protocol after request answer later → StopsNext protocol leaves leaves' before after request answer → Appends sink' sink'' answer
-      → Progress protocol leaves' limit (count + 1) (left_after left request) (drop len held) source source' sink sink'' before later
-  Progress-next leaves' request len answer later sink'' some whole next stops written = record {
+  pub Progress-next : (runs' : Runs) (request : PlainRequest) (len : ℕ) (answer : List ℕ) (sink'' : Option (List ℕ))
+      → 0 < left → BeginsWithRequest held request len → GoesOn runs runs' request answer → Appends sink' sink'' answer
+      → Progress runs' limit (count + 1) (left_after left request) (drop len held) source source' sink sink''
+  Progress-next runs' request len answer sink'' some whole goes_on written = record {
     given = so_far.given;
     requests = so_far.requests ++ request ∷ [];
     answers = so_far.answers ++ answer ∷ [];
     reads = so_far.reads;
     begins = BeginsWith-next limit so_far.given so_far.requests held left request len so_far.begins some whole;
-    runs = RunsOver-next leaves' request answer later next stops;
+    ran = goes_on so_far.requests so_far.answers so_far.ran;
+    count_is = next_count request;
     writes = subst (Appends sink sink'') (sym (concat-push so_far.answers answer)) (Appends-trans sink sink' sink'' (concat so_far.answers) answer so_far.writes written);
   }
 
@@ -110,91 +95,87 @@ pub written_in_part : {T E : Type 0} (r : Result T E) (old new : Option (List �
 written_in_part (Ok x) old new bytes broken clause = cc
 written_in_part (Err e) old new bytes broken clause = clause
 
--- how a stream ends
-module _ {State : Type 0} (protocol : Protocol State) (leaves : StopLeaves) (limit count left : ℕ) (held : List ℕ) (source source' sink sink' : Told) (before after : State)
-    (so_far : Progress protocol leaves limit count left held source.bytes source'.bytes sink.bytes sink'.bytes before after) where
-  requests_end : (ending : Ending) → EndsAt held left ending → AreRequests limit so_far.given so_far.requests ending
-  requests_end ending ends = record { rest = held; left = left; begins = so_far.begins; ends = ends }
+-- ---- how a stream ends
 
-  -- no further request may come
-  pub Serves-closed : left ≡ 0 → Serves protocol leaves limit source source' sink sink' before after count closed
-  Serves-closed none = record {
+-- the texts were all taken: the answers, and nothing or one text more
+pub all_taken : (old new : Option (List ℕ)) (answers : List (List ℕ)) → Appends old new (concat answers) → Appends old new (concat (answers ++ []))
+all_taken old new answers taken = subst (λ texts. Appends old new (concat texts)) (sym (append-nil answers)) taken
+
+pub one_more_taken : (old middle new : Option (List ℕ)) (answers : List (List ℕ)) (answer : List ℕ) → Appends old middle (concat answers) → Appends middle new answer
+    → Appends old new (concat (answers ++ answer ∷ []))
+one_more_taken old middle new answers answer taken written =
+    subst (Appends old new) (sym (concat-push answers answer)) (Appends-trans old middle new (concat answers) answer taken written)
+
+-- the last text was taken up to some place
+pub one_more_begun : (old middle new : Option (List ℕ)) (answers : List (List ℕ)) (answer : List ℕ) → Appends old middle (concat answers) → AppendsPart middle new answer
+    → BreaksOff old new (answers ++ answer ∷ [])
+one_more_begun old middle new answers answer taken broken = record {
+  whole = answers;
+  part = broken.part;
+  unwritten = broken.rest;
+  texts_are = ap (λ a. answers ++ a ∷ []) broken.front;
+  taken = Appends-trans old middle new (concat answers) broken.part taken broken.taken;
+}
+
+module _ {State : Type 0} (protocol : Protocol State) (runs : Runs) (limit count left : ℕ) (held : List ℕ) (start middle end : Ends)
+    (so_far : Progress runs limit count left held start.source.bytes middle.source.bytes start.sink.bytes middle.sink.bytes) where
+  -- no request follows
+  pub Did-ended : (result : Result Served ServeFault) (closing : List (List ℕ)) → Consumes middle.source.bytes end.source.bytes []
+      → EndsBy protocol result count held left closing start end
+      → ((answers : List (List ℕ)) → Appends start.sink.bytes middle.sink.bytes (concat answers) → Writes result start.sink.bytes end.sink.bytes (answers ++ closing))
+      → Did protocol runs limit start end result
+  Did-ended result closing none ends writes = record {
     given = so_far.given;
     requests = so_far.requests;
+    rest = held;
+    left = left;
     answers = so_far.answers;
-    last = [];
-    reads = so_far.reads;
-    are_requests = requests_end closed none;
-    runs = so_far.runs;
-    closes = refl;
-    writes = subst (Appends sink.bytes sink'.bytes) (sym (append-nil (concat so_far.answers))) so_far.writes;
+    closing = closing;
+    reads = subst (Consumes start.source.bytes end.source.bytes) (append-nil so_far.given)
+        (Consumes-trans start.source.bytes middle.source.bytes end.source.bytes so_far.given [] so_far.reads none);
+    begins = so_far.begins;
+    ran = so_far.ran;
+    ends = subst (λ n. EndsBy protocol result n held left closing start end) so_far.count_is ends;
+    writes = writes so_far.answers so_far.writes;
   }
 
-  -- the source gave nothing more
-  pub Serves-unfinished : (source'' : Told) → Consumes source'.bytes source''.bytes [] → 0 < left → IsIncomplete held
-      → Serves protocol leaves limit source source'' sink sink' before after count unfinished
-  Serves-unfinished source'' none some incomplete = record {
-    given = so_far.given;
-    requests = so_far.requests;
-    answers = so_far.answers;
-    last = [];
-    reads = subst (Consumes source.bytes source''.bytes) (append-nil so_far.given) (Consumes-trans source.bytes source'.bytes source''.bytes so_far.given [] so_far.reads none);
-    are_requests = requests_end unfinished (some, incomplete);
-    runs = so_far.runs;
-    closes = refl;
-    writes = subst (Appends sink.bytes sink'.bytes) (sym (append-nil (concat so_far.answers))) so_far.writes;
-  }
-
-  -- the answer to a fault was written
-  pub Serves-faulty : (which : Fault) (answer : List ℕ) (sink'' : Told) → 0 < left → IsFaulty held which → AnswersFault protocol which answer
-      → Appends sink'.bytes sink''.bytes answer → Serves protocol leaves limit source source' sink sink'' before after count (faulty which)
-  Serves-faulty which answer sink'' some is_faulty answers_fault written = record {
-    given = so_far.given;
-    requests = so_far.requests;
-    answers = so_far.answers;
-    last = answer;
-    reads = so_far.reads;
-    are_requests = requests_end (faulty which) (some, is_faulty);
-    runs = so_far.runs;
-    closes = answers_fault;
-    writes = Appends-trans sink.bytes sink'.bytes sink''.bytes (concat so_far.answers) answer so_far.writes written;
-  }
-
-  -- the answer to a fault was written up to some place
-  pub BreaksOffAtFault-now : (which : Fault) (answer : List ℕ) (sink'' : Told) → 0 < left → IsFaulty held which → AnswersFault protocol which answer
-      → AppendsPart sink'.bytes sink''.bytes answer → BreaksOffAtFault protocol leaves limit source source' sink sink'' before after count
-  BreaksOffAtFault-now which answer sink'' some is_faulty answers_fault broken = record {
-    which = which;
-    given = so_far.given;
-    requests = so_far.requests;
-    answers = so_far.answers;
-    part = broken.part;
-    unwritten = broken.rest;
-    reads = so_far.reads;
-    are_requests = requests_end (faulty which) (some, is_faulty);
-    runs = so_far.runs;
-    answers_fault = subst (AnswersFault protocol which) broken.front answers_fault;
-    writes = Appends-trans sink.bytes sink'.bytes sink''.bytes (concat so_far.answers) broken.part so_far.writes broken.taken;
-  }
-
-  -- the answer to a request was written up to some place
-  pub BreaksOffAtAnswer-now : (leaves' : StopLeaves) (request : PlainRequest) (len : ℕ) (answer : List ℕ) (later : State) (sink'' : Told) → 0 < left
-      → BeginsWithRequest held request len → MayAnswer protocol after request answer later → StopsNext protocol leaves leaves' before after request answer
-      → AppendsPart sink'.bytes sink''.bytes answer → BreaksOffAtAnswer protocol leaves' limit source source' sink sink'' before later (count + 1)
-  BreaksOffAtAnswer-now leaves' request len answer later sink'' some whole next stops broken = record {
+  -- a request was answered, and its answer written up to some place
+  pub Did-broken : (runs' : Runs) (request : PlainRequest) (len : ℕ) (answer : List ℕ) → 0 < left → BeginsWithRequest held request len → GoesOn runs runs' request answer
+      → Consumes middle.source.bytes end.source.bytes [] → AppendsPart middle.sink.bytes end.sink.bytes answer → Did protocol runs' limit start end (Err (stop.Write (count + 1)))
+  Did-broken runs' request len answer some whole goes_on none broken = record {
     given = so_far.given;
     requests = so_far.requests ++ request ∷ [];
     rest = drop len held;
     left = left_after left request;
-    answers = so_far.answers;
-    part = broken.part;
-    unwritten = broken.rest;
-    reads = so_far.reads;
+    answers = so_far.answers ++ answer ∷ [];
+    closing = [];
+    reads = subst (Consumes start.source.bytes end.source.bytes) (append-nil so_far.given)
+        (Consumes-trans start.source.bytes middle.source.bytes end.source.bytes so_far.given [] so_far.reads none);
     begins = BeginsWith-next limit so_far.given so_far.requests held left request len so_far.begins some whole;
-    runs = subst (λ a. RunsOver protocol leaves' before (so_far.requests ++ request ∷ []) (so_far.answers ++ a ∷ []) later (count + 1)) broken.front
-        (RunsOver-next protocol leaves limit count left held source.bytes source'.bytes sink.bytes sink'.bytes before after so_far leaves' request answer later next stops);
-    writes = Appends-trans sink.bytes sink'.bytes sink''.bytes (concat so_far.answers) broken.part so_far.writes broken.taken;
+    ran = goes_on so_far.requests so_far.answers so_far.ran;
+    ends = (
+      next_count runs limit count left held start.source.bytes middle.source.bytes start.sink.bytes middle.sink.bytes so_far request,
+      inl refl,
+    );
+    writes = subst (BreaksOff start.sink.bytes end.sink.bytes) (sym (append-nil (so_far.answers ++ answer ∷ [])))
+        (one_more_begun start.sink.bytes middle.sink.bytes end.sink.bytes so_far.answers answer so_far.writes broken);
   }
+
+-- nothing was begun
+pub Did-nothing : {State : Type 0} (protocol : Protocol State) (runs : Runs) (limit : ℕ) (ends : Ends) → runs [] [] → Did protocol runs limit ends ends (Err stop.NoMemory)
+Did-nothing protocol runs limit ends ran = record {
+  given = [];
+  requests = [];
+  rest = [];
+  left = limit;
+  answers = [];
+  closing = [];
+  reads = Consumes-nil ends.source.bytes;
+  begins = (refl, refl);
+  ran = ran;
+  ends = (refl, refl, refl);
+  writes = Appends-nil ends.sink.bytes;
+}
 
 -- a piece of no bytes
 pub Consumes-none : (a b : Option (List ℕ)) (piece : List ℕ) → length piece ≡ 0 → Consumes a b piece → Consumes a b []
@@ -213,75 +194,26 @@ pub left_after-other : (left : ℕ) (request : PlainRequest) → request.last �
 left_after-other left request other = ap (λ b. cond b 0 (left - 1)) other
 
 -- the same, as the code holds it
-pub Progress-as : {State : Type 0} (protocol : Protocol State) (leaves : StopLeaves) (limit count left : ℕ) (held : List ℕ) (source source' sink sink' : Option (List ℕ)) (before after : State) (left' : ℕ) (held' : List ℕ)
-    → left ≡ left' → held ≡ held' → Progress protocol leaves limit count left held source source' sink sink' before after
-    → Progress protocol leaves limit count left' held' source source' sink sink' before after
-Progress-as protocol leaves limit count left held source source' sink sink' before after left' held' same_left same_held so_far =
-    subst (λ h. Progress protocol leaves limit count left' h source source' sink sink' before after) same_held
-    (subst (λ l. Progress protocol leaves limit count l held source source' sink sink' before after) same_left so_far)
+pub Progress-as : (runs : Runs) (limit count left : ℕ) (held : List ℕ) (source source' sink sink' : Option (List ℕ)) (left' : ℕ) (held' : List ℕ)
+    → left ≡ left' → held ≡ held' → Progress runs limit count left held source source' sink sink' → Progress runs limit count left' held' source source' sink sink'
+Progress-as runs limit count left held source source' sink sink' left' held' same_left same_held so_far =
+    subst (λ h. Progress runs limit count left' h source source' sink sink') same_held
+    (subst (λ l. Progress runs limit count l held source source' sink sink') same_left so_far)
 
--- ---- where less is said of a stop
-
-runs-weaker : {State : Type 0} (protocol : Protocol State) (leaves leaves' : StopLeaves) (before : State) (requests : List PlainRequest) (answers : List (List ℕ)) (after : State) (count : ℕ)
-    → (leaves requests answers → leaves' requests answers) → RunsOver protocol leaves before requests answers after count → RunsOver protocol leaves' before requests answers after count
-runs-weaker protocol leaves leaves' before requests answers after count weaker runs = record { run = runs.run; count_is = runs.count_is; stops = weaker runs.stops }
-
-module _ {State : Type 0} (protocol : Protocol State) (leaves leaves' : StopLeaves) (weaker : (requests : List PlainRequest) (answers : List (List ℕ)) → leaves requests answers → leaves' requests answers)
-    (limit : ℕ) (source source' sink sink' : Told) (before after : State) where
-  Serves-weaker : (count : ℕ) (ending : Ending) → Serves protocol leaves limit source source' sink sink' before after count ending
-      → Serves protocol leaves' limit source source' sink sink' before after count ending
-  Serves-weaker count ending serves = record {
-    given = serves.given;
-    requests = serves.requests;
-    answers = serves.answers;
-    last = serves.last;
-    reads = serves.reads;
-    are_requests = serves.are_requests;
-    runs = runs-weaker protocol leaves leaves' before serves.requests serves.answers after count (weaker serves.requests serves.answers) serves.runs;
-    closes = serves.closes;
-    writes = serves.writes;
-  }
-
-  at_answer-weaker : (count : ℕ) → BreaksOffAtAnswer protocol leaves limit source source' sink sink' before after count
-      → BreaksOffAtAnswer protocol leaves' limit source source' sink sink' before after count
-  at_answer-weaker count broken = record {
-    given = broken.given;
-    requests = broken.requests;
-    rest = broken.rest;
-    left = broken.left;
-    answers = broken.answers;
-    part = broken.part;
-    unwritten = broken.unwritten;
-    reads = broken.reads;
-    begins = broken.begins;
-    runs = runs-weaker protocol leaves leaves' before broken.requests (broken.answers ++ (broken.part ++ broken.unwritten) ∷ []) after count (weaker broken.requests (broken.answers ++ (broken.part ++ broken.unwritten) ∷ [])) broken.runs;
-    writes = broken.writes;
-  }
-
-  at_fault-weaker : (count : ℕ) → BreaksOffAtFault protocol leaves limit source source' sink sink' before after count
-      → BreaksOffAtFault protocol leaves' limit source source' sink sink' before after count
-  at_fault-weaker count broken = record {
-    which = broken.which;
-    given = broken.given;
-    requests = broken.requests;
-    answers = broken.answers;
-    part = broken.part;
-    unwritten = broken.unwritten;
-    reads = broken.reads;
-    are_requests = broken.are_requests;
-    runs = runs-weaker protocol leaves leaves' before broken.requests broken.answers after count (weaker broken.requests broken.answers) broken.runs;
-    answers_fault = broken.answers_fault;
-    writes = broken.writes;
-  }
-
-  broken-weaker : (count : ℕ) → BreaksOffAtAnswer protocol leaves limit source source' sink sink' before after count ⊎ BreaksOffAtFault protocol leaves limit source source' sink sink' before after count
-      → BreaksOffAtAnswer protocol leaves' limit source source' sink sink' before after count ⊎ BreaksOffAtFault protocol leaves' limit source source' sink sink' before after count
-  broken-weaker count (inl broken) = inl (at_answer-weaker count broken)
-  broken-weaker count (inr broken) = inr (at_fault-weaker count broken)
-
-  pub Did-weaker : (result : Result Served ServeFault) → Did protocol leaves limit source source' sink sink' before after result
-      → Did protocol leaves' limit source source' sink sink' before after result
-  Did-weaker (Ok served) did = (did.0, Serves-weaker served.requests did.0 did.1, did.2)
-  Did-weaker (Err (stop.Read requests)) did = Serves-weaker requests unfinished did
-  Did-weaker (Err (stop.Write requests)) did = broken-weaker requests did
-  Did-weaker (Err stop.NoMemory) did = did
+-- where less is said of the requests and their answers
+pub Did-weaker : {State : Type 0} (protocol : Protocol State) (runs runs' : Runs) (limit : ℕ) (start end : Ends) (result : Result Served ServeFault)
+    → ((requests : List PlainRequest) (answers : List (List ℕ)) → runs requests answers → runs' requests answers)
+    → Did protocol runs limit start end result → Did protocol runs' limit start end result
+Did-weaker protocol runs runs' limit start end result weaker did = record {
+  given = did.given;
+  requests = did.requests;
+  rest = did.rest;
+  left = did.left;
+  answers = did.answers;
+  closing = did.closing;
+  reads = did.reads;
+  begins = did.begins;
+  ran = weaker did.requests did.answers did.ran;
+  ends = did.ends;
+  writes = did.writes;
+}

@@ -5,9 +5,9 @@ ghost use Rattle.office_http_framing.specs.Asks.{OnlyAsks};
 ghost use Rattle.office_http_framing.specs.Ends.{Grows, FailsOrGivesNone, WritesOrBreaksOff};
 ghost use Rattle.office_http_framing.specs.Front.{plain};
 ghost use Rattle.office_http_framing.specs.Limits.{longest_request};
-ghost use Rattle.office_http_framing.specs.Protocol.{AnswersFault};
-ghost use Rattle.office_http_framing.specs.Serve.{Did, TellsFault, Untouched};
-ghost use Rattle.office_http_framing.specs.Stops.{Deals, Leaves, LeavesRead, LeavesStep, Means};
+ghost use Rattle.office_http_framing.specs.Protocol.{AnswersFault, MayAnswer};
+ghost use Rattle.office_http_framing.specs.Serve.{Did, TellsFault, Untouched, ends_of};
+ghost use Rattle.office_http_framing.specs.Stops.{Deals, Keeps, Ran};
 
 use crate::buffer::Buffer;
 use crate::ends::{Sink, Source, WriteFailed, write_all};
@@ -41,12 +41,15 @@ fn serve_request<Tools, M: Machine<Tools>, W: Sink>(
     request: &Request<'_>,
     writer: &mut W,
 ) -> Result<(), WriteFailed>
-    ensures honest { M.is_honest machine.new → M.is_honest machine.old }
-    ensures step { M.is_honest machine.new → (before : M.State) → Means M.storage machine.old before →
-        (answer : List ℕ) × (after : M.State)
-        × Deals M.protocol M.storage machine.old machine.new before (plain request.now) answer after
+    ensures clean { M.is_clean machine.new → M.is_clean machine.old }
+    ensures honest { M.storage.is_honest machine.new → M.storage.is_honest machine.old }
+    ensures step { M.is_clean machine.new →
+        (before : M.State) (held : M.Stored) → Keeps M.storage machine.old held before →
+        (answer : List ℕ) × (after : M.State) × (kept : M.Stored)
+        × (how : MayAnswer M.protocol before (plain request.now) answer after)
+        × Deals M.protocol M.storage machine.old machine.new held kept
+        before (plain request.now) answer after how
         × WritesOrBreaksOff result (W.told writer.old) (W.told writer.new) answer }
-    ensures crash { LeavesStep M.protocol M.storage M.is_honest machine.old machine.new (plain request.now) }
     ensures counts { Grows (W.told writer.old).counts (W.told writer.new).counts }
     ensures fault { OnErr result
         (FailsOrGivesNone (W.told writer.old).counts (W.told writer.new).counts) }
@@ -85,25 +88,28 @@ pub fn serve<Tools, M: Machine<Tools>, R: Source, W: Sink>(
     writer: &mut W,
     max_requests: u32,
 ) -> Result<Served, ServeFault>
-    ensures honest { M.is_honest machine.new → M.is_honest machine.old }
+    ensures clean { M.is_clean machine.new → M.is_clean machine.old }
+    ensures honest { M.storage.is_honest machine.new → M.storage.is_honest machine.old }
 
-    // What was read, answered and written, and what a stop leaves of it.
-    ensures did { M.is_honest machine.new → (before : M.State) → Means M.storage machine.old before →
-        (after : M.State) × Means M.storage machine.new after
-        × Did M.protocol (Leaves M.protocol M.storage machine.old machine.new before after)
-        max_requests (R.told reader.old) (R.told reader.new)
-        (W.told writer.old) (W.told writer.new) before after result }
-    // Also where a failure shut what the machine keeps its state on, a crash leaves what it could before, or the state
-    // after one of the requests that were read.
-    ensures crash { LeavesRead M.protocol M.storage max_requests (R.told reader.old).bytes (R.told reader.new).bytes machine.old machine.new }
+    // What was read, answered and written is a run of the protocol, whether or not a failure shut
+    // the machine; what is kept stands for the state after it; and a crash leaves no more than the
+    // run lets it.
+    ensures did { M.is_clean machine.new →
+        (before : M.State) (held : M.Stored) → Keeps M.storage machine.old held before →
+        (after : M.State) × (kept : M.Stored) × Did M.protocol
+        (Ran M.protocol M.storage (M.storage.may_leave machine.old) held before
+        machine.new kept after)
+        max_requests (ends_of (R.told reader.old) (W.told writer.old))
+        (ends_of (R.told reader.new) (W.told writer.new)) result }
     // Read and Write are answered only where that end told a failure, or a write of no byte.
-    ensures fault { TellsFault (R.told reader.old) (R.told reader.new)
-        (W.told writer.old) (W.told writer.new) result }
+    ensures fault { TellsFault (ends_of (R.told reader.old) (W.told writer.old))
+        (ends_of (R.told reader.new) (W.told writer.new)) result }
     // Where the buffer was refused nothing was touched, whatever the machine stood for.
     ensures untouched { IfErr result (λ why. why ≡ ServeFault.NoMemory →
-        Untouched (R.told reader.old) (R.told reader.new)
-        (W.told writer.old) (W.told writer.new) machine.old machine.new) }
-    // The reader is called only while a request is awaited: not again after the last one or a fault.
+        Untouched (ends_of (R.told reader.old) (W.told writer.old))
+        (ends_of (R.told reader.new) (W.told writer.new)) machine.old machine.new) }
+    // The reader is called only while a request is awaited: not again after the last one or a
+    // fault.
     ensures asks { OnlyAsks R.told max_requests reader.old reader.new }
     ensures reads { (R.told reader.new).counts.calls
         ≤ (R.told reader.old).counts.calls + longest_request * (max_requests + 1) + 1 }

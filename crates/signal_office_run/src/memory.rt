@@ -1,14 +1,12 @@
 //! The office over new tables in memory, of which nothing has to be assumed.
 
-ghost use Rattle.std.specs.Prelude.{◌≡◌, ◌≤◌, ◌+◌, ◌*◌, ℕ, List, IfOk, IfErr};
-ghost use Rattle.office_desk.specs.Office.{IsSound, Office as OfficeState};
-ghost use Rattle.office_http.specs.Laws.{KeepsLaws};
+ghost use Rattle.std.specs.Prelude.{◌≡◌, ◌≤◌, ◌+◌, ◌*◌, IfOk, IfErr};
+ghost use Rattle.office_desk.specs.Office.{Office as OfficeState};
+ghost use Rattle.office_http.specs.Laws.{RunsLawfully};
 ghost use Rattle.office_http.specs.Protocol.{office_protocol};
 ghost use Rattle.office_http_framing.specs.Asks.{OnlyAsks};
-ghost use Rattle.office_http_framing.specs.Front.{PlainRequest};
 ghost use Rattle.office_http_framing.specs.Limits.{longest_request};
-ghost use Rattle.office_http_framing.specs.Protocol.{Run as ProtocolRun};
-ghost use Rattle.office_http_framing.specs.Serve.{Did, TellsFault, no_stop};
+ghost use Rattle.office_http_framing.specs.Serve.{Did, TellsFault, ends_of};
 ghost use Rattle.signal_office_run.specs.Memory.{StandsInMemory, new_office};
 
 use office_desk::office::Office;
@@ -36,15 +34,15 @@ pub fn serve_new_office<R: Source, W: Sink>(
     writer: &mut W,
     max_requests: u32,
 ) -> Result<Result<Served, ServeFault>, Fault>
-    // The bytes answered are those of the office machine, run over the requests of the bytes read, and the
-    // office after them is sound.
-    ensures did { IfOk result (λ outcome. (after : OfficeState) × IsSound after × Did office_protocol no_stop max_requests
-        (R.told reader.old) (R.told reader.new) (W.told writer.old) (W.told writer.new) new_office after outcome) }
-    // Over the whole stream, the run that `did` tells keeps the laws of the office.
-    ensures laws { (requests : List PlainRequest) (answers : List (List ℕ)) (after : OfficeState) →
-        ProtocolRun office_protocol new_office requests answers after → IsSound after → KeepsLaws new_office requests answers after }
+    // The bytes answered are those of the office machine, run over the requests of the bytes read,
+    // and the run keeps the laws of the office: each office of it is sound.
+    ensures did { IfOk result (λ outcome. (after : OfficeState)
+        × Did office_protocol (RunsLawfully new_office after) max_requests
+        (ends_of (R.told reader.old) (W.told writer.old))
+        (ends_of (R.told reader.new) (W.told writer.new)) outcome) }
     // Read and Write are answered only where that end told a fault.
-    ensures fault { IfOk result (TellsFault (R.told reader.old) (R.told reader.new) (W.told writer.old) (W.told writer.new)) }
+    ensures fault { IfOk result (TellsFault (ends_of (R.told reader.old) (W.told writer.old))
+        (ends_of (R.told reader.new) (W.told writer.new))) }
     ensures refused { IfErr result (λ _. (reader.new ≡ reader.old) × (writer.new ≡ writer.old)) }
     // The reader is called only while a request is awaited, and so often at most.
     ensures asks { OnlyAsks R.told max_requests reader.old reader.new }

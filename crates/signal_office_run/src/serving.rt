@@ -1,9 +1,10 @@
 //! The office on a port of the loopback network.
 
-ghost use Rattle.std.specs.Prelude.{◌≡◌, ℕ, List};
+ghost use Rattle.std.specs.Prelude.{List};
 ghost use Rattle.office_desk.specs.Office.{Office as OfficeState};
-ghost use Rattle.office_desk.specs.StandFor.{StandForSound};
-ghost use Rattle.office_http.specs.Listening.{Ends, ServesEach};
+ghost use Rattle.office_tables_shelf.specs.Content.{Content};
+ghost use Rattle.office_http_framing.specs.Stops.{Keeps};
+ghost use Rattle.office_http.specs.Listening.{Connected, Listens};
 ghost use Rattle.office_http.specs.Protocol.{office_storage};
 ghost use Rattle.signal_office_run.specs.Serving.{ServedAll};
 
@@ -39,12 +40,14 @@ pub fn serve_port<S: Shelf, W: Sink>(
     count: u32,
     out: &mut W,
 ) -> Result<(), Fault>
+    ensures clean { S.is_clean office.new → S.is_clean office.old }
     ensures honest { S.is_honest office.new → S.is_honest office.old }
 
     // The office served each connection as `serve` does, and no other one; all where it says so.
-    ensures did { S.is_honest office.new → (before : OfficeState) → StandForSound (S.content office.old) before →
-        (served : ℕ) × (given : List Ends) × (returned : List Ends) × (after : OfficeState) × StandForSound (S.content office.new) after
-        × ServesEach (office_storage S.content S.may_leave) office.old before served given returned office.new after
+    ensures did { let storage = office_storage S.is_honest S.content S.may_leave in
+        S.is_clean office.new →
+        (before : OfficeState) (tables : Content) → Keeps storage office.old tables before →
+        (served : List Connected) × Listens storage office.old tables before office.new served
         × ServedAll count served result }
 {
     let listener = match listen(rt, alloc, port, out) {

@@ -1,50 +1,64 @@
-use Rattle.std.proofs.Common.{◌≡◌, ◌∙◌, ap, sym, subst, length, true≢false}
+use Rattle.std.proofs.Common.{◌≡◌, ◌≢◌, ◌⊎◌, ◌∙◌, inl, inr, ap, sym, subst, [], length, true≢false}
 use Rattle.std.specs.Prelude.{◌==◌}
 use Rattle.office_http_framing.specs.Protocol.{bytes_of}
 use Rattle.office_tables_shelf.specs.Change.{changed_by}
 use Rattle.office_desk.specs.Answers.{AnswersAny}
-use Rattle.office_http.proofs.MachineLemmas.{answers_asked, leaves_applied, none_of, settles_kept, settles_made}
+use Rattle.office_http.proofs.MachineLemmas.{after_step, deals_made, deals_read, deals_refused, idle_step, none_of, some_of}
 use Rattle.office_http.proofs.machine.answer_asked.Goals as goal
 
-pub returns-in-Ok-apply-clause-ok : goal.returns-in-Ok-apply-clause-ok
-returns-in-Ok-apply-clause-ok g c = λ honest before stands.
-    let honest_before = c.apply.ensures.honest honest in
-    let same = c.decide-decided.ensures.kept.same_content honest_before in
-    let made : g.S.Shelf.content c.apply.new.self ≡ changed_by (g.S.Shelf.content c.args.office.now) c.decide-decided.result.changes.items =
-    c.in-Ok-apply.ensures.ok honest ∙ (λ i. changed_by (same i) (c.as_slice-changes.ensures.value i)) in
-    answers_asked (g.S.Shelf.content c.args.office.now) (g.S.Shelf.content c.apply.new.self) c.args.asked.now c.decide-decided.result.reply (bytes_of c.in-Ok.answer)
-    (subst (AnswersAny (g.S.Shelf.content c.args.office.now) c.args.asked.now.command c.decide-decided.result.reply) (sym made) (c.decide-decided.ensures.answers.step honest_before))
-    c.in-Ok.ensures.told c.in-Ok.ensures.text before stands
+-- nothing was changed, since the answer found no memory or the tables were refused
+pub returns-in_default-clause-deals : goal.returns-in_default-clause-deals
+returns-in_default-clause-deals g c clean before tables request is_read keeps =
+    deals_refused g.S.Shelf.is_honest g.S.Shelf.content g.S.Shelf.may_leave tables before request keeps.stands c.args.office.now c.decide-decided.new.self _
+    (λ honest. c.decide-decided.ensures.kept.same_content honest ∙ keeps.held (c.decide-decided.ensures.kept.honest_before honest))
+    (λ left may. inl (c.decide-decided.ensures.kept.same_outcomes left may))
 
--- where nothing is to be changed, the tables are those that were read
-pub returns-then-is_empty-clause-ok : goal.returns-then-is_empty-clause-ok
-returns-then-is_empty-clause-ok g c = λ honest before stands.
+-- where nothing is to be changed, the tables are those that were kept, whether they were read or a failure has shut them
+pub returns-then-is_empty-clause-deals : goal.returns-then-is_empty-clause-deals
+returns-then-is_empty-clause-deals g c clean before tables request is_read keeps =
+    let kept = c.decide-decided.ensures.kept in
     let none = none_of c.decide-decided.result.changes.items (sym c.if-is_empty.true ∙ (c.is_empty.ensures ∙ ap (λ xs. length xs == 0) c.as_slice-changes.ensures.value)) in
-    let made : g.S.Shelf.content c.decide-decided.new.self ≡ changed_by (g.S.Shelf.content c.args.office.now) c.decide-decided.result.changes.items =
-    c.decide-decided.ensures.kept.same_content honest ∙ ap (changed_by _) (sym none) in
-    answers_asked (g.S.Shelf.content c.args.office.now) (g.S.Shelf.content c.decide-decided.new.self) c.args.asked.now c.decide-decided.result.reply (bytes_of c.in-Ok.answer)
-    (subst (AnswersAny (g.S.Shelf.content c.args.office.now) c.args.asked.now.command c.decide-decided.result.reply) (sym made) (c.decide-decided.ensures.answers.step honest))
-    c.in-Ok.ensures.told c.in-Ok.ensures.text before stands
+    let any : AnswersAny tables c.args.asked.now.command c.decide-decided.result.reply tables = elim (c.decide-decided.ensures.shut clean) [
+      | inl honest ↦
+          let same = keeps.held (kept.honest_before honest) in
+          subst (λ t. AnswersAny t c.args.asked.now.command c.decide-decided.result.reply t) same
+          (subst (λ changes. AnswersAny (g.S.Shelf.content c.args.office.now) c.args.asked.now.command c.decide-decided.result.reply (changed_by (g.S.Shelf.content c.args.office.now) changes)) none
+          (c.decide-decided.ensures.answers.step honest))
+      | inr idle ↦ idle_step tables c.args.asked.now.command c.decide-decided.result.reply idle.idle c.in-Ok.ensures.told
+    ] in
+    deals_read g.S.Shelf.is_honest g.S.Shelf.content g.S.Shelf.may_leave tables before request keeps.stands c.args.asked.now c.decide-decided.result.reply is_read c.in-Ok.ensures.told
+    c.args.office.now c.decide-decided.new.self c.in-Ok.answer any c.in-Ok.ensures.text (λ honest. kept.same_content honest ∙ keeps.held (kept.honest_before honest)) kept.same_outcomes
 
-pub returns-in-Ok-apply-clause-settles : goal.returns-in-Ok-apply-clause-settles
-returns-in-Ok-apply-clause-settles g c = λ honest.
-    settles_made g.S.Shelf.is_honest g.S.Shelf.content g.S.Shelf.written g.S.Shelf.may_leave c.args.office.now c.decide-decided.new.self c.apply.new.self _ c.decide-decided.ensures.kept (c.apply.ensures.honest honest)
-    (c.in-Ok-apply.ensures.ok honest) c.apply.ensures.crash
-    (c.in-Ok-apply.ensures.settled (λ none. true≢false (sym (c.is_empty.ensures ∙ ap (λ xs. length xs == 0) none) ∙ c.if-is_empty.false)))
-
-pub returns-then-is_empty-clause-settles : goal.returns-then-is_empty-clause-settles
-returns-then-is_empty-clause-settles g c = λ honest.
-    settles_kept g.S.Shelf.is_honest g.S.Shelf.content g.S.Shelf.written g.S.Shelf.may_leave c.args.office.now c.decide-decided.new.self c.decide-decided.ensures.kept honest
-
-pub returns-in-Ok-apply-clause-crash : goal.returns-in-Ok-apply-clause-crash
-returns-in-Ok-apply-clause-crash g c =
-    leaves_applied g.S.Shelf.is_honest g.S.Shelf.content g.S.Shelf.written g.S.Shelf.may_leave c.args.office.now c.decide-decided.new.self c.apply.new.self c.args.asked.now c.decide-decided.result.reply (bytes_of c.in-Ok.answer)
-    c.decide-decided.result.changes.items _ c.decide-decided.ensures.kept c.decide-decided.ensures.answers.step c.as_slice-changes.ensures.value
-    c.in-Ok.ensures.told c.in-Ok.ensures.text c.apply.ensures.crash
+pub returns-in-Ok-apply-clause-deals : goal.returns-in-Ok-apply-clause-deals
+returns-in-Ok-apply-clause-deals g c clean before tables request is_read keeps =
+    let kept = c.decide-decided.ensures.kept in
+    let some = some_of _ _ c.is_empty.ensures c.if-is_empty.false in
+    let honest = c.in-Ok-apply.ensures.open clean some in
+    let read = c.apply.ensures.honest honest in
+    let same = keeps.held (kept.honest_before read) in
+    let made : g.S.Shelf.content c.apply.new.self ≡ changed_by (g.S.Shelf.content c.args.office.now) c.decide-decided.result.changes.items =
+    c.in-Ok-apply.ensures.ok honest ∙ (λ i. changed_by (kept.same_content read i) (c.as_slice-changes.ensures.value i)) in
+    deals_made g.S.Shelf.is_honest g.S.Shelf.content g.S.Shelf.may_leave tables before request keeps.stands c.args.asked.now c.decide-decided.result.reply is_read c.in-Ok.ensures.told
+    c.args.office.now c.apply.new.self c.in-Ok.answer
+    (subst (λ t. AnswersAny t c.args.asked.now.command c.decide-decided.result.reply (g.S.Shelf.content c.apply.new.self)) same
+    (subst (AnswersAny (g.S.Shelf.content c.args.office.now) c.args.asked.now.command c.decide-decided.result.reply) (sym made) (c.decide-decided.ensures.answers.step read)))
+    c.in-Ok.ensures.text (c.in-Ok-apply.ensures.settled some)
 
 -- refused, the changes may stand all the same after a crash
-pub returns-clause-crash : goal.returns-clause-crash
-returns-clause-crash g c =
-    leaves_applied g.S.Shelf.is_honest g.S.Shelf.content g.S.Shelf.written g.S.Shelf.may_leave c.args.office.now c.decide-decided.new.self c.apply.new.self c.args.asked.now c.decide-decided.result.reply (bytes_of c.in-Ok.answer)
-    c.decide-decided.result.changes.items _ c.decide-decided.ensures.kept c.decide-decided.ensures.answers.step c.as_slice-changes.ensures.value
-    c.in-Ok.ensures.told c.in-Ok.ensures.text c.apply.ensures.crash
+pub returns-clause-deals : goal.returns-clause-deals
+returns-clause-deals g c clean before tables request is_read keeps =
+    let kept = c.decide-decided.ensures.kept in
+    deals_refused g.S.Shelf.is_honest g.S.Shelf.content g.S.Shelf.may_leave tables before request keeps.stands c.args.office.now c.apply.new.self _
+    (λ honest.
+        let read = c.apply.ensures.honest honest in
+        c.in-Err.ensures.err honest ∙ kept.same_content read ∙ keeps.held (kept.honest_before read))
+    (λ left may. elim (c.apply.ensures.crash left may) [
+      | inl earlier ↦ inl (kept.same_outcomes left earlier)
+      | inr made ↦
+          let same = keeps.held (kept.honest_before made.0) in
+          let is : left ≡ changed_by (g.S.Shelf.content c.args.office.now) c.decide-decided.result.changes.items = made.1 ∙ (λ i. changed_by (kept.same_content made.0 i) (c.as_slice-changes.ensures.value i)) in
+          inr (after_step g.S.Shelf.is_honest g.S.Shelf.content g.S.Shelf.may_leave tables before request keeps.stands c.args.asked.now c.decide-decided.result.reply is_read c.in-Ok.ensures.told left (bytes_of c.in-Ok.answer)
+          (subst (λ t. AnswersAny t c.args.asked.now.command c.decide-decided.result.reply left) same
+          (subst (AnswersAny (g.S.Shelf.content c.args.office.now) c.args.asked.now.command c.decide-decided.result.reply) (sym is) (c.decide-decided.ensures.answers.step made.0)))
+          c.in-Ok.ensures.text)
+    ])

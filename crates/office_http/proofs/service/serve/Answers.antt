@@ -1,5 +1,13 @@
-use Rattle.office_http.proofs.StreamLaws.{keeps_laws}
+use Rattle.office_http_framing.proofs.ServeLemmas.{Did-weaker}
+use Rattle.office_http.specs.Protocol.{office_protocol}
+use Rattle.office_http.proofs.StreamLaws.{serves}
 use Rattle.office_http.proofs.service.serve.Goals as goal
 
-pub returns-clause-laws : goal.returns-clause-laws
-returns-clause-laws g c = keeps_laws
+pub returns-clause-did : goal.returns-clause-did
+returns-clause-did g c clean before tables keeps =
+    let did = c.serve.ensures.did clean before tables keeps in (
+      did.0,
+      did.1,
+      Did-weaker office_protocol _ _ c.args.max_requests _ _ c.serve.result
+          (serves g.S.Shelf.is_honest g.S.Shelf.content g.S.Shelf.may_leave (g.S.Shelf.may_leave c.args.office.now) tables before c.serve.new.machine did.1 did.0 keeps.stands.sound) did.2,
+    )

@@ -1,19 +1,19 @@
 use Rattle.std.proofs.Common.{◌+◌, ◌-◌, ◌*◌, ◌≤◌, length}
 use Rattle.office_http_framing.specs.Ends.{Grows}
 use Rattle.office_http_framing.proofs.ServeLemmas.{Progress}
-use Rattle.office_http_framing.specs.Stops.{Leaves, LeavesRead, Means}
+use Rattle.office_http_framing.specs.Stops.{Keeps, Ran}
 use Rattle.office_http_framing.proofs.AskLemmas.{AsksSoFar}
 use Rattle.office_http_framing.proofs.engine.serve.Given as goal
 
 abbrev pub invariant-loop-left : goal.invariant-loop-left
 invariant-loop-left g l = record {
-  honest : g.M.Machine.is_honest l.machine → g.M.Machine.is_honest l.fn.machine;
-  progress : g.M.Machine.is_honest l.machine → (before : g.M.Machine.State) → Means g.M.Machine.storage l.fn.machine before →
-      (after : g.M.Machine.State) × Means g.M.Machine.storage l.machine after
-      × Progress g.M.Machine.protocol (Leaves g.M.Machine.protocol g.M.Machine.storage l.fn.machine l.machine before after) l.fn.max_requests l.requests l.left l.buffer
+  clean : g.M.Machine.is_clean l.machine → g.M.Machine.is_clean l.fn.machine;
+  honest : g.M.Machine.storage.is_honest l.machine → g.M.Machine.storage.is_honest l.fn.machine;
+  progress : g.M.Machine.is_clean l.machine → (before : g.M.Machine.State) (held : g.M.Machine.Stored) → Keeps g.M.Machine.storage l.fn.machine held before →
+      (after : g.M.Machine.State) × (kept : g.M.Machine.Stored)
+      × Progress (Ran g.M.Machine.protocol g.M.Machine.storage (g.M.Machine.storage.may_leave l.fn.machine) held before l.machine kept after) l.fn.max_requests l.requests l.left l.buffer
       (g.R.Source.told l.fn.reader).bytes (g.R.Source.told l.reader).bytes
-      (g.W.Sink.told l.fn.writer).bytes (g.W.Sink.told l.writer).bytes before after;
-  crash : LeavesRead g.M.Machine.protocol g.M.Machine.storage l.fn.max_requests (g.R.Source.told l.fn.reader).bytes (g.R.Source.told l.reader).bytes l.fn.machine l.machine;
+      (g.W.Sink.told l.fn.writer).bytes (g.W.Sink.told l.writer).bytes;
   asks : AsksSoFar g.R.Source.told l.fn.max_requests l.left l.buffer l.fn.reader l.reader;
   room : l.requests + l.left ≤ l.fn.max_requests;
   held : length l.buffer ≤ 270336;
