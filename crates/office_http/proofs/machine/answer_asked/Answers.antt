@@ -1,4 +1,4 @@
-use Rattle.std.proofs.Common.{◌≡◌, ◌≢◌, ◌⊎◌, ◌∙◌, inl, inr, ap, sym, subst, [], length, true≢false}
+use Rattle.std.proofs.Common.{◌≡◌, ◌∙◌, inl, inr, ap, sym, subst, length}
 use Rattle.std.specs.Prelude.{◌==◌}
 use Rattle.office_http_framing.specs.Protocol.{bytes_of}
 use Rattle.office_tables_shelf.specs.Change.{changed_by}
@@ -51,8 +51,8 @@ returns-clause-deals g c clean before tables request is_read keeps =
     let kept = c.decide-decided.ensures.kept in
     deals_refused g.S.Shelf.is_honest g.S.Shelf.content g.S.Shelf.may_leave tables before request keeps.stands c.args.office.now c.apply.new.self _
     (λ honest.
-        let read = c.apply.ensures.honest honest in
-        c.in-Err.ensures.err honest ∙ kept.same_content read ∙ keeps.held (kept.honest_before read))
+    let read = c.apply.ensures.honest honest in
+    c.in-Err.ensures.err honest ∙ kept.same_content read ∙ keeps.held (kept.honest_before read))
     (λ left may. elim (c.apply.ensures.crash left may) [
       | inl earlier ↦ inl (kept.same_outcomes left earlier)
       | inr made ↦
