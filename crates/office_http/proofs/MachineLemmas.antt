@@ -4,11 +4,9 @@ use Rattle.std.proofs.lemmas.Bool.Decides.{nat_tests}
 use Rattle.std.specs.Prelude.{◌==◌, Result, Ok, Err, IfOk}
 use Rattle.office_tables_shelf.specs.Content.{Content}
 use Rattle.office_desk.specs.Answers.{AnswersAny}
-use Rattle.office_desk.specs.Deciding.{IsIdle}
 use Rattle.office_desk.specs.Office.{Office}
 use Rattle.office_desk.specs.StandFor.{StandForSound}
-use Rattle.office_desk.specs.Step.{Step, answered}
-use Rattle.office_desk.specs.declared.command.Command.{Command}
+use Rattle.office_desk.specs.Step.{Step}
 use Rattle.office_desk.specs.declared.refusal.Refusal.TheVariants.{Unavailable}
 use Rattle.office_desk.specs.declared.reply.Reply.{Reply}
 use Rattle.office_desk.specs.declared.reply.Reply.TheVariants.{Refused}
@@ -37,15 +35,6 @@ answers_asked : (old new : Content) (asked : Asked) (reply : Reply) (answer : Li
 answers_asked old new asked reply answer any other text before stands =
     let step = any before stands in
     (step.next, step.stand, own_step before asked reply step.next answer other text step.step)
-
--- an idle reply is right on any tables, and leaves them
-pub idle_step : (tables : Content) (command : Command) (reply : Reply) → IsIdle command reply → reply ≢ Refused Unavailable → AnswersAny tables command reply tables
-idle_step tables command reply (inl same) other office stands = absurd (other same)
-idle_step tables command reply (inr none) other office stands = record {
-  next = office;
-  step = inr (ap (answered office) none.0 ∙ ap (λ r. (r, office)) (sym none.1));
-  stand = stands;
-}
 
 module _ {Shelf : Type 0} (is_honest : Shelf → Type 0) (content : Shelf → Content) (may_leave : Shelf → Content → Type 0) (tables : Content) (before : Office) (request : PlainRequest)
     (stands : StandForSound tables before) where

@@ -11,7 +11,7 @@ use Rattle.office_desk.proofs.RegisterLaws.{runs_register}
 use Rattle.office_desk.proofs.Repeats.{runs_repeat}
 use Rattle.office_desk.proofs.TimingLaw.{runs_timing}
 use Rattle.office_tables_shelf.specs.Content.{Content}
-use Rattle.office_http.specs.Laws.{KeepsLaws, Serves, TellsRead, TellsReplies, asked_in, command_read}
+use Rattle.office_http.specs.Laws.{Serves, TellsRead, TellsReplies, asked_in, command_read}
 use Rattle.office_http.specs.Protocol.{AnswersRead, office_protocol, office_storage, read_of}
 use Rattle.office_http_requests.specs.declared.fault.AskFault.{AskFault}
 use Rattle.office_http_framing.specs.Front.{PlainRequest}
@@ -56,7 +56,7 @@ module _ {Shelf : Type 0} (is_honest : Shelf → Type 0) (content : Shelf → Co
   told may held before [] [] after kept at_end run sound leaves = record { replies = []; run = sym run; sound = sound; tells = tt }
   told may held before (request ∷ requests) (answer ∷ answers) after kept at_end run sound leaves =
       let so_far = told (LeavesOne office_protocol (office_storage is_honest content may_leave) may held leaves.0 before request answer run.0 run.1) leaves.0 run.0 requests answers after kept at_end run.2
-          (sound_after held leaves.0 before request answer run.0 run.1 leaves.1 sound) leaves.2 in
+      (sound_after held leaves.0 before request answer run.0 run.1 leaves.1 sound) leaves.2 in
       let all = one_more (read_of request) before run.0 after answer (asked_in requests) so_far.replies (λ rest. TellsReplies requests rest answers) run.1 sound so_far.run so_far.sound so_far.tells in
       record { replies = all.0; run = all.1; sound = all.2; tells = all.3 }
   told may held before [] (answer ∷ answers) after kept at_end run sound leaves = absurd run

@@ -81,7 +81,7 @@ pub trait Listen {
         ensures counts { (told self.new).counts ≡ listened result (told self.old).counts }
         ensures given { MatchResult result
             (λ c. Adds (told self.old).given (told self.new).given
-                (ends_of (Self.Reader.told c.reader) (Self.Writer.told c.writer) ∷ []))
+            (ends_of (Self.Reader.told c.reader) (Self.Writer.told c.writer) ∷ []))
             (λ _. Adds (told self.old).given (told self.new).given []) }
         ensures fresh { IfOk result (λ c. ((Self.Reader.told c.reader).counts ≡ no_calls)
             × ((Self.Writer.told c.writer).counts ≡ no_calls)) }
@@ -93,7 +93,7 @@ pub trait Listen {
         ensures given { Adds (told self.old).given (told self.new).given [] }
         ensures returned { Adds (told self.old).returned (told self.new).returned
             (ends_of (Self.Reader.told connection.reader)
-                (Self.Writer.told connection.writer) ∷ []) };
+            (Self.Writer.told connection.writer) ∷ []) };
 }
 
 /// The connections of a listener of the system.
@@ -202,8 +202,8 @@ fn serve_connection<S: Shelf, R: Source, W: Sink>(
         (before : OfficeState) (tables : Content) → Keeps storage office.old tables before →
         OnOk result ((after : OfficeState) × (kept : Content)
         × ServesConnection storage office.old tables before office.new kept after (connected
-            (ends_of (R.told connection.old.reader) (W.told connection.old.writer))
-            (ends_of (R.told connection.new.reader) (W.told connection.new.writer)))) }
+        (ends_of (R.told connection.old.reader) (W.told connection.old.writer))
+        (ends_of (R.told connection.new.reader) (W.told connection.new.writer)))) }
     // Where its buffer was refused, nothing was touched.
     ensures untouched { OnErr result (
         (ends_of (R.told connection.new.reader) (W.told connection.new.writer)

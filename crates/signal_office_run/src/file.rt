@@ -7,21 +7,13 @@ ghost use Rattle.sqlite.specs.Held.{state};
 ghost use Rattle.sqlite.specs.WalFiles.{image_at};
 ghost use Rattle.sqlite.specs.WalReads.{AreClean};
 ghost use Rattle.office_tables.specs.Calls.{IsHonest};
-ghost use Rattle.office_tables.specs.Stored.{content_now};
-ghost use Rattle.office_tables_open.specs.SqlShelf.{SqlView};
 ghost use Rattle.office_tables_open.specs.Opening.{HasOtherVersion, HasRowsAlone, IsOpened};
 ghost use Rattle.office_tables_open.specs.Promises.{IsArrangedIfClean};
-ghost use Rattle.office_desk.specs.Office.{IsSound, Office as OfficeState};
-ghost use Rattle.office_desk.specs.StandFor.{StandForSound};
-ghost use Rattle.office_http.specs.Laws.{KeepsLaws};
-ghost use Rattle.office_http.specs.Protocol.{office_protocol};
+ghost use Rattle.office_desk.specs.Office.{Office as OfficeState};
 ghost use Rattle.office_http_framing.specs.Asks.{OnlyAsks};
-ghost use Rattle.office_http_framing.specs.Front.{PlainRequest};
 ghost use Rattle.office_http_framing.specs.Limits.{longest_request};
-ghost use Rattle.office_http_framing.specs.Protocol.{Run as ProtocolRun};
-ghost use Rattle.office_http_framing.specs.Serve.{Did, TellsFault};
-ghost use Rattle.office_http_framing.specs.Stops.{Leaves, LeavesRead};
-ghost use Rattle.signal_office_run.specs.File.{AreOpenedFor, StandInFiles, sql_storage};
+ghost use Rattle.office_http_framing.specs.Serve.{TellsFault, ends_of};
+ghost use Rattle.signal_office_run.specs.File.{AreOpenedFor, ServesFiles, StandInFiles};
 
 use office_desk::office::Office;
 use office_http::{ServeFault, Served, Sink, Source, serve};
@@ -120,24 +112,18 @@ pub fn serve_file<S: Start, R: Source, W: Sink>(
     writer: &mut W,
     max_requests: u32,
 ) -> Result<(FileOffice<S>, Result<Served, ServeFault>), Fault>
-    // The bytes answered and the meaning of the tables are those of the office machine, run over the requests
-    // of the bytes read. A crash leaves the office before them, or after one of them; and, where one changed
-    // rows and no later one was answered unavailable, the tables as they are, alone.
-    ensures did { IfOk result (λ served. IsHonest (file_state served.0.conn) → (before : OfficeState) → StandInFiles (image_at S.Start) before →
-        (opened : SqlView _) × (after : OfficeState) × AreOpenedFor file_state opened before
-        × StandForSound (content_now (file_state served.0.conn)) after
-        × Did office_protocol (Leaves office_protocol (sql_storage file_state) opened served.0 before after) max_requests
-        (R.told reader.old) (R.told reader.new) (W.told writer.old) (W.told writer.new) before after served.1) }
-    // Also where a failure has shut the database, a crash leaves the office before the requests, or after one of those read.
-    ensures crash { IfOk result (λ served. (opened : SqlView _)
-        × (IsHonest (file_state opened.conn) → (before : OfficeState) → StandInFiles (image_at S.Start) before → AreOpenedFor file_state opened before)
-        × LeavesRead office_protocol (sql_storage file_state) max_requests (R.told reader.old).bytes (R.told reader.new).bytes opened served.0) }
-    // Over the whole stream, the run that `did` tells keeps the laws of the office.
-    ensures laws { (before : OfficeState) (requests : List PlainRequest) (answers : List (List ℕ)) (after : OfficeState) →
-        ProtocolRun office_protocol before requests answers after → IsSound before → IsSound after →
-        KeepsLaws before requests answers after }
+    // On a clean disk, whether or not a failure shut the database: the bytes answered are those of
+    // the office machine, run over the requests of the bytes read, from the office that the tables
+    // in the files stood for; the tables that are kept stand for the office after them; a crash
+    // leaves the office after the last request that was answered and changed rows, or after a later
+    // one; and the run keeps the laws of the office.
+    ensures did { IfOk result (λ served. ServesFiles file_state (image_at S.Start) served.0
+        max_requests (ends_of (R.told reader.old) (W.told writer.old))
+        (ends_of (R.told reader.new) (W.told writer.new)) served.1) }
     // Read and Write are answered only where that end told a fault.
-    ensures fault { IfOk result (λ served. TellsFault (R.told reader.old) (R.told reader.new) (W.told writer.old) (W.told writer.new) served.1) }
+    ensures fault { IfOk result (λ served. TellsFault
+        (ends_of (R.told reader.old) (W.told writer.old))
+        (ends_of (R.told reader.new) (W.told writer.new)) served.1) }
     ensures refused { IfErr result (λ _. (reader.new ≡ reader.old) × (writer.new ≡ writer.old)) }
     // The reader is called only while a request is awaited, and so often at most.
     ensures asks { OnlyAsks R.told max_requests reader.old reader.new }

@@ -1,4 +1,4 @@
-use Rattle.std.proofs.Common.{◌≡◌, ◌∙◌, ◌<◌, suc, [], ◌∷◌, ◌++◌, length, ap, sym, refl, subst, arith}
+use Rattle.std.proofs.Common.{◌≡◌, ◌∙◌, [], ◌∷◌, ◌++◌, ap, sym, refl, subst, arith}
 use Rattle.office_http.specs.Listening.{Listens, connected, one_accepted, one_failed, more_accepted}
 use Rattle.office_http.specs.Protocol.{office_storage}
 use Rattle.office_http.proofs.ListeningLemmas.{when_ok, when_err, listens-start, listens-next, turns_on, one_longer, accepted-next, turns-start, turns-same, turns-next, turns-untouched}

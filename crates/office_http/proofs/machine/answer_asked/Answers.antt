@@ -1,9 +1,10 @@
-use Rattle.std.proofs.Common.{◌≡◌, ◌≢◌, ◌⊎◌, ◌∙◌, inl, inr, ap, sym, subst, [], length, true≢false}
+use Rattle.std.proofs.Common.{◌≡◌, ◌∙◌, inl, inr, ap, sym, subst, length}
 use Rattle.std.specs.Prelude.{◌==◌}
 use Rattle.office_http_framing.specs.Protocol.{bytes_of}
 use Rattle.office_tables_shelf.specs.Change.{changed_by}
 use Rattle.office_desk.specs.Answers.{AnswersAny}
-use Rattle.office_http.proofs.MachineLemmas.{after_step, deals_made, deals_read, deals_refused, idle_step, none_of, some_of}
+use Rattle.office_desk.proofs.Runs.{idle_answers}
+use Rattle.office_http.proofs.MachineLemmas.{after_step, deals_made, deals_read, deals_refused, none_of, some_of}
 use Rattle.office_http.proofs.machine.answer_asked.Goals as goal
 
 -- nothing was changed, since the answer found no memory or the tables were refused
@@ -24,7 +25,7 @@ returns-then-is_empty-clause-deals g c clean before tables request is_read keeps
           subst (λ t. AnswersAny t c.args.asked.now.command c.decide-decided.result.reply t) same
           (subst (λ changes. AnswersAny (g.S.Shelf.content c.args.office.now) c.args.asked.now.command c.decide-decided.result.reply (changed_by (g.S.Shelf.content c.args.office.now) changes)) none
           (c.decide-decided.ensures.answers.step honest))
-      | inr idle ↦ idle_step tables c.args.asked.now.command c.decide-decided.result.reply idle.idle c.in-Ok.ensures.told
+      | inr idle ↦ idle_answers tables c.args.asked.now.command c.decide-decided.result.reply idle.idle
     ] in
     deals_read g.S.Shelf.is_honest g.S.Shelf.content g.S.Shelf.may_leave tables before request keeps.stands c.args.asked.now c.decide-decided.result.reply is_read c.in-Ok.ensures.told
     c.args.office.now c.decide-decided.new.self c.in-Ok.answer any c.in-Ok.ensures.text (λ honest. kept.same_content honest ∙ keeps.held (kept.honest_before honest)) kept.same_outcomes
@@ -50,8 +51,8 @@ returns-clause-deals g c clean before tables request is_read keeps =
     let kept = c.decide-decided.ensures.kept in
     deals_refused g.S.Shelf.is_honest g.S.Shelf.content g.S.Shelf.may_leave tables before request keeps.stands c.args.office.now c.apply.new.self _
     (λ honest.
-        let read = c.apply.ensures.honest honest in
-        c.in-Err.ensures.err honest ∙ kept.same_content read ∙ keeps.held (kept.honest_before read))
+    let read = c.apply.ensures.honest honest in
+    c.in-Err.ensures.err honest ∙ kept.same_content read ∙ keeps.held (kept.honest_before read))
     (λ left may. elim (c.apply.ensures.crash left may) [
       | inl earlier ↦ inl (kept.same_outcomes left earlier)
       | inr made ↦

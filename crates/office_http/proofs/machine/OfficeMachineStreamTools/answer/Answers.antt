@@ -1,11 +1,5 @@
-use Rattle.std.proofs.Common.{inl}
-use Rattle.std.specs.Prelude.{Result, Ok, Err, IfOk}
 use Rattle.office_http_framing.specs.Front.{plain}
-use Rattle.office_http_framing.specs.Protocol.{bytes_of}
-use Rattle.office_http_framing.specs.Stops.{DealsBy}
-use Rattle.office_http_framing.specs.declared.machine.Answer.{Answer}
-use Rattle.office_http_framing.specs.declared.machine.Unavailable.{Unavailable}
-use Rattle.office_http.proofs.MachineLemmas.{deals_refused, fault_dealt}
+use Rattle.office_http.proofs.MachineLemmas.{fault_dealt}
 use Rattle.office_http.proofs.machine.OfficeMachineStreamTools.answer.Goals as goal
 
 pub returns-in-Ok-clause-deals : goal.returns-in-Ok-clause-deals
