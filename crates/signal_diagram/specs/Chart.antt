@@ -10,7 +10,7 @@ use Rattle.signal_rules.specs.SequenceRule.{ring_row}
 use Rattle.signal_rules.specs.PatternRules.{lane, lanes_fill_cycle, used_rings}
 use Rattle.signal_rules.specs.Starts.{times}
 
--- a phase, from the second at which it begins to the one at which it ends
+-- a phase, from the second of the cycle at which it begins to the one at which it ends
 pub record Bar : Type 0 where
   pub phase : ℕ
   pub from : ℕ
@@ -67,7 +67,7 @@ all_change second (shown ∷ more) = list_all (changes second) (shown ∷ more)
 
 -- Each ring that is used has a lane; the lanes end together, with the cycle, exactly where the
 -- pattern meets V12; a barrier stands at the end of the cycle and, before it, exactly where all
--- rings change phase.
+-- rings change phase. So there is none at second 0, where no phase ends.
 pub record IsChart (set : Rows) (pattern : Pattern) (chart : Chart) : Type 0 where
   pub rings : map (λ shown. shown.ring) chart.lanes ≡ used_rings set
   pub lanes : All (IsLane set pattern) chart.lanes
