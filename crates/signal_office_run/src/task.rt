@@ -118,7 +118,10 @@ pub(crate) fn do_in_file<W: Sink>(
     task: &Task<'_>,
     out: &mut W,
 ) -> Result<Done, Fault> {
-    let mut office = open_file(rt, alloc, path, Wary)?;
+    let mut office = match open_file(rt, alloc, path, Wary) {
+        Ok(office) => office,
+        Err((fault, _)) => return Err(fault),
+    };
     let outcome = done_by(rt, alloc, &mut office, task, out);
     let (_, done) = close_after(office.into_shelf().into_conn(), outcome)?;
     Ok(done)
