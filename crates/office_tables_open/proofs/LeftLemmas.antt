@@ -80,7 +80,7 @@ module _ {S : Type 0} (g : Ghosts S) (conn : Held S) where
     committed = λ h. inl (same h);
     crash = λ h trees may. elim (claims.crash h trees may) [
       | inl was ↦ inl was
-      | inr new ↦ inr (subst (λ (d : Database). IsUnclaimed d.trees) (settled new.0.1) new.1.0, inr new.1.1)
+      | inr new ↦ inr (subst (λ (d : Database). IsUnclaimed d.trees) (settled new.0.1) new.1, inr new.2)
     ];
   }
 

@@ -1,6 +1,7 @@
 -- What the texts that make the tables make of a database that has none.
-use Rattle.std.proofs.Common.{◌≡◌, ◌≤◌, ℕ, true, false, List, [], ◌∷◌, ◌++◌, map, None, Ok, refl, sym, ap, subst, ◌∙◌, arith}
+use Rattle.std.proofs.Common.{◌≡◌, ◌≢◌, ◌≤◌, ℕ, true, false, List, [], ◌∷◌, ◌++◌, map, None, Some, Result, Ok, Err, refl, sym, ap, subst, ◌∙◌, arith}
 use Rattle.std.specs.List.{AllByRecursion}
+use Rattle.std.specs.Prelude.{OnOk, ⊤}
 use Rattle.sqlite.specs.Command.TheVariants.{CreateTable}
 use Rattle.sqlite.specs.Does.{MakesTable, MakesSequence, lacks_sequence, no_rows}
 use Rattle.sqlite.specs.Effect.{Database, IsDatabase}
@@ -21,11 +22,13 @@ use Rattle.sqlite_tied.specs.Compute.{everything}
 use Rattle.sqlite_trees.specs.declared.store.Shape.TheVariants as shape
 use Rattle.sqlite_trees.specs.declared.store.Store.{Ghosts}
 use Rattle.sqlite_trees.specs.View.{doubt}
+use Rattle.office_tables_shelf.specs.Content.{no_content}
 use Rattle.office_tables_sql.specs.Calls.{AreOrdered, IsOffice, IsReady, command_of, statement_of}
 use Rattle.office_tables_sql.specs.Schema.{no_schema, office_schema}
 use Rattle.office_tables_sql.specs.declared.schema.TheConstants.{CREATES}
 use Rattle.office_tables_open.specs.Opening.{AreRun, IsNew, IsNewOffice}
-use Rattle.office_tables_open.specs.Version.{AreEmpty}
+use Rattle.office_tables_sql.specs.Stored.{content_now}
+use Rattle.office_tables_open.specs.Version.{AreEmpty, version_in, current_version}
 
 -- in a transaction over tables that have no row
 pub record IsBare (s : State) (schema : Schema) : Type 0 where
@@ -47,6 +50,10 @@ all_snoc : {X : Type 0} (P : X → Type 0) (xs : List X) (y : X) → AllByRecurs
 all_snoc P [] y all h = (h, tt)
 all_snoc P (x ∷ xs) y all h = (all.0, all_snoc P xs y all.1 h)
 
+abbrev second_of : {A B E : Type 0} → B → Result (A × B) E → B
+second_of other (Ok both) = both.1
+second_of other (Err e) = other
+
 pub bare_step : (old new : State) (count : ℕ) (schema : Schema) (sql : List ℕ) (table : Table) → Makes schema sql table → IsBare old schema → ExecutesInside 0 sql [] old new (Ok count)
     → IsBare new (created schema table) × IsDatabase new.now
 bare_step old new count schema sql table makes bare ran =
@@ -57,7 +64,7 @@ bare_step old new count schema sql table makes bare ran =
     let same_table : made.1.table ≡ table = (let e : Ok made.1.table ≡ Ok table = sym made.1.defined ∙ makes.defined in cc) in
     let schema_then : made.0.schema ≡ created schema table = made.1.is ∙ (λ i. created (bare.schema_is i) (same_table i)) in
     let after_is : made.0 ≡ gave.0 = (let e : Ok gave.0 ≡ Ok made.0 = rw (ap lacks_sequence schema_then ∙ makes.uncounted) at made.2 in cc) in
-    let now_is : gave.0 ≡ new.now = (let e : Ok (did.tally, new.now) ≡ Ok (no_rows false, gave.0) = gave.2 in cc) in
+    let now_is : gave.0 ≡ new.now = sym (ap (second_of new.now) gave.2) in
     let whole : made.0 ≡ new.now = after_is ∙ now_is in
     let others = subst (λ (d : Database). KeepsRows schema.tables old.now.trees d.trees) whole (subst (λ (s : Schema). KeepsRows s.tables old.now.trees made.0.trees) bare.schema_is made.1.others) in
     let empty = subst (λ (d : Database). d.trees (next_tree schema) ≡ []) whole (subst (λ (s : Schema). made.0.trees (next_tree s) ≡ []) bare.schema_is made.1.empty) in (
@@ -89,13 +96,15 @@ module _ {S : Type 0} (g : Ghosts S) where
   bare_run (sql ∷ more) [] schema making old new run start = absurd making
   bare_run (sql ∷ more) (t ∷ ts) schema making old new run start =
       bare_run more ts (created schema t) making.1 run.0 new run.3
-      (let it = bare_step (state g old) (state g run.0) run.1 schema sql t making.0 start.0 run.2 in (it.0, (it.1, run.2.1.mode)))
+      (let it = bare_step (state g old) (state g run.0) run.1 schema sql t making.0 start.0 run.2 in (it.0, it.1, run.2.1.mode))
 
   -- the first statement finds a database that is open
-  pub all_made : (sql : List ℕ) (more : List (List ℕ)) (t : Table) (ts : List Table) (schema : Schema) → AreMaking schema (sql ∷ more) (t ∷ ts) → (old new : Held S) → AreRun g (sql ∷ more) old new → IsBare (state g old) schema → Ends new (made_of schema (t ∷ ts))
-  all_made sql more t ts schema making old new run start =
+  pub all_made : (texts : List (List ℕ)) (tables : List Table) (schema : Schema) → texts ≢ [] → AreMaking schema texts tables → (old new : Held S) → AreRun g texts old new → IsBare (state g old) schema → Ends new (made_of schema tables)
+  all_made [] tables schema some making old new run start = absurd (some refl)
+  all_made (sql ∷ more) [] schema some making old new run start = absurd making
+  all_made (sql ∷ more) (t ∷ ts) schema some making old new run start =
       bare_run more ts (created schema t) making.1 run.0 new run.3
-      (let it = bare_step (state g old) (state g run.0) run.1 schema sql t making.0 start run.2 in (it.0, (it.1, run.2.1.mode)))
+      (let it = bare_step (state g old) (state g run.0) run.1 schema sql t making.0 start run.2 in (it.0, it.1, run.2.1.mode))
 
 -- ---- the tables of the office
 
@@ -107,18 +116,34 @@ office_texts = map (λ text. text.now) CREATES
 
 pub office_making : AreMaking no_schema office_texts (map untreed office_schema.tables)
 unfolding understood everything
-office_making =
-    (record { is = refl; plain = (refl, refl); defined = refl; uncounted = refl },
-      (record { is = refl; plain = (refl, refl); defined = refl; uncounted = refl },
-        (record { is = refl; plain = (refl, refl); defined = refl; uncounted = refl },
-          (record { is = refl; plain = (refl, refl); defined = refl; uncounted = refl },
-            (record { is = refl; plain = (refl, refl); defined = refl; uncounted = refl },
-              (record { is = refl; plain = (refl, refl); defined = refl; uncounted = refl },
-                (record { is = refl; plain = (refl, refl); defined = refl; uncounted = refl },
-                  (record { is = refl; plain = (refl, refl); defined = refl; uncounted = refl },
-                    (record { is = refl; plain = (refl, refl); defined = refl; uncounted = refl }, tt)))))))))
+office_making = (
+  record { is = refl; plain = (refl, refl); defined = refl; uncounted = refl },
+  (
+    record { is = refl; plain = (refl, refl); defined = refl; uncounted = refl },
+    (
+      record { is = refl; plain = (refl, refl); defined = refl; uncounted = refl },
+      (
+        record { is = refl; plain = (refl, refl); defined = refl; uncounted = refl },
+        (
+          record { is = refl; plain = (refl, refl); defined = refl; uncounted = refl },
+          (
+            record { is = refl; plain = (refl, refl); defined = refl; uncounted = refl },
+            (
+              record { is = refl; plain = (refl, refl); defined = refl; uncounted = refl },
+              (
+                record { is = refl; plain = (refl, refl); defined = refl; uncounted = refl },
+                (record { is = refl; plain = (refl, refl); defined = refl; uncounted = refl }, tt),
+              ),
+            ),
+          ),
+        ),
+      ),
+    ),
+  ),
+)
 
 office_made : made_of no_schema (map untreed office_schema.tables) ≡ office_schema
+unfolding everything
 office_made = refl
 
 no_row_shaped : (rows : List Row) → rows ≡ [] → IsShaped shape.Table rows
@@ -130,7 +155,7 @@ all_shaped trees (t ∷ ts) all = (no_row_shaped (trees t.tree) all.0, all_shape
 
 module _ {S : Type 0} (g : Ghosts S) (old new : Held S) (run : AreRun g office_texts old new) (blank : (state g old).now.schema ≡ no_schema) where
   ended : Ends g new office_schema
-  ended = subst (Ends g new) office_made (all_made g _ _ _ _ no_schema office_making old new run (record { schema_is = blank; empty = tt }))
+  ended = subst (Ends g new) office_made (all_made g office_texts (map untreed office_schema.tables) no_schema (λ none. absurd (cc)) office_making old new run (record { schema_is = blank; empty = tt }))
 
   pub office_ready : IsReady (state g new)
   office_ready = record { inside = rw ended.2; schema = ended.0.schema_is; ordered = all_shaped (state g new).now.trees office_schema.tables ended.0.empty; sound = ended.1 }
@@ -156,3 +181,9 @@ module _ (mid new : State) (clean : doubt mid.is_clean ≤ doubt new.is_clean) (
 
   pub committed_new : HasCleanDisk new → IsNewOffice new.now.trees
   committed_new h = subst (λ (d : Database). IsNewOffice d.trees) (sym (shows h).now_is) (made_before h).office
+
+-- the version was stored in them
+pub new_if : {E : Type 0} (r : Result ⊤ E) (old new : State) (ready_old : IsReady old) → content_now old ≡ no_content → OnOk r (IsReady old → IsReady new) → OnOk r (IsReady old → content_now new ≡ content_now old)
+    → OnOk r (IsReady old → version_in new.now.trees ≡ Some current_version) → OnOk r (IsNew new)
+new_if (Ok x) old new ready none goes same stored = record { ready = goes ready; office = record { content = same ready ∙ none; stored = stored ready } }
+new_if (Err e) old new ready none goes same stored = tt

@@ -17,9 +17,7 @@ ghost use Rattle.office_tables_open.specs.Promises.{LeavesNoMore, WasHonest};
 ghost use Rattle.office_tables_open.specs.Promises.{IsArrangedIfClean};
 
 use crate::found::{EIGHT, Found, KEEPER, is_one_of, looked};
-use crate::version::{
-    VERSION, are_empty, is_version, put_version, store_version, stored_version,
-};
+use crate::version::{VERSION, are_empty, is_version, put_version, store_version, stored_version};
 use office_tables_shelf::shelf::ShelfFault;
 use office_tables_sql::schema::{CREATES, is_blank, is_office};
 use office_tables_sql::statement::SqlFault;

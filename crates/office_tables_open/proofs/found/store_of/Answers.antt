@@ -25,5 +25,5 @@ returns-clause-taken g c =
 pub returns-clause-found : goal.returns-clause-found
 returns-clause-found g c = given_up g.S.Store c.args.conn c.into_store-store.result c.into_store-store.ensures.undone c.into_store-store.ensures.quiet
 
-pub returns-then-clause-left : goal.returns-then-clause-left
-returns-then-clause-left g c = given_up g.S.Store c.args.conn c.into_store-store.result c.into_store-store.ensures.undone c.into_store-store.ensures.quiet
+pub returns-then-is_broken-clause-left : goal.returns-then-is_broken-clause-left
+returns-then-is_broken-clause-left g c = given_up g.S.Store c.args.conn c.into_store-store.result c.into_store-store.ensures.undone c.into_store-store.ensures.quiet
