@@ -110,6 +110,18 @@ module _ {S : Type 0} (g : Ghosts S) (conn : Held S) where
       → (why ≡ fault.Damaged → IsHonestStore g (store_left g back) → HasRowsAlone old.committed.trees) → IsAsFound g conn (store_left g back) → IsRefused g conn why back
   refused_found why back other rows it = record { version = other; damaged = rows; found = λ told. it; left = as_left _ _ (store_left g back) it }
 
+  -- why tables that were found are not taken
+  pub refused_claimed : (c : Held S) (why : OpenFault) → IsSettled old → (IsHonest (state g c) → IsHonest old)
+      → (why ≡ fault.Version → IsHonest (state g c) → HasOtherVersion old.now.trees) → (why ≡ fault.Damaged → IsHonest (state g c) → HasRowsAlone old.now.trees)
+      → ((why ≡ fault.Version) ⊎ (why ≡ fault.Damaged) → OnlyReads old (state g c)) → (IsHonest (state g c) → (state g c).committed.trees ≡ old.committed.trees) → Claims old (state g c)
+      → IsRefused g conn why (Ok c)
+  refused_claimed c why settled honest other rows reads same claims = record {
+    version = λ is h. subst (λ (d : Database). HasOtherVersion d.trees) (settled (honest h).1) (other is h);
+    damaged = λ is h. subst (λ (d : Database). HasRowsAlone d.trees) (settled (honest h).1) (rows is h);
+    found = λ told. read_found c settled (reads told);
+    left = claimed_left c settled honest same claims;
+  }
+
 -- the connection as it was before its database was checked again
 module _ {S : Type 0} (g : Ghosts S) (conn found : Held S) (it : IsCheckedAgain (state g conn) (state g found)) where
   same_then : HasCleanDisk (state g found) → (state g found).committed.trees ≡ (state g conn).committed.trees

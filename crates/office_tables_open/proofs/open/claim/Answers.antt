@@ -1,5 +1,7 @@
-use Rattle.std.proofs.Common.{true≢false, sym, ◌∙◌}
+use Rattle.std.proofs.Common.{◌≡◌, true≢false, length, Option, sym, subst, ◌∙◌}
+use Rattle.std.specs.Prelude.{IfSome}
 use Rattle.sqlite.specs.Held.{state}
+use Rattle.sqlite.specs.Order.{Row}
 use Rattle.office_tables_open.proofs.OpenLemmas.{office_told}
 use Rattle.office_tables_open.proofs.open.claim.Goals as goal
 
