@@ -71,9 +71,9 @@ AreNeither (row ∷ more) = (n : ℤ) × (column row 0 ≡ Int n) × (n ≢ pos 
 module _ {S : Type 0} (g : Ghosts S) where
   -- SQL shows neither of the two where it is asked for the version, whatever the layout of the tables
   pub record ShowsNeither (conn : Held S) : Type 0 where
-    pub after : State
+    pub after : Held S
     pub rows : List Row
-    pub shown : Shown FIND.now (Int (pos 1) ∷ []) (state g (record conn { in_transaction = true })) after rows
+    pub shown : Shown FIND.now (Int (pos 1) ∷ []) (state g (record conn { in_transaction = true })) (state g after) rows
     pub neither : AreNeither rows
 
   -- no table keeps a version, or neither of the two is stored

@@ -127,10 +127,7 @@ impl<S: Alter> SqlShelf<S> {
 
     /// The same database, which was checked again, so that its rows are known to be in order, as
     /// `open_arranged` and `migrate` ask. Where it is refused its store comes back.
-    pub fn checked(
-        alloc: Global,
-        conn: Connection<S>,
-    ) -> Result<Connection<S>, (OpenFault, S)>
+    pub fn checked(alloc: Global, conn: Connection<S>) -> Result<Connection<S>, (OpenFault, S)>
     where
         S: Drop,
         ensures again { IfOk result (λ c.

@@ -12,8 +12,8 @@ use Rattle.office_tables_open.proofs.OpenLemmas.{opened_looked, opened_made}
 use Rattle.office_tables.proofs.sql_shelf.SqlShelf.open_arranged.Goals as goal
 
 -- the tables were made
-pub returns-then-clause-opened : goal.returns-then-clause-opened
-returns-then-clause-opened g c =
+pub returns-then-is_new-clause-opened : goal.returns-then-is_new-clause-opened
+returns-then-is_new-clause-opened g c =
     let new = c.in-Ok.found.0 in
     let office = c.in-Ok.ensures.office in
     opened_made g.S.Store c.args.conn _ new refl c.new.ensures office
@@ -26,14 +26,14 @@ returns-in-Ok-claim-clause-opened g c =
     let it = c.in-Ok-claim.ensures in
     let new = c.claim.new.conn in
     let same = c.in-Ok.ensures.kept is in
-    opened_looked g.S.Store c.args.conn _ new refl c.new.ensures it.office
+    opened_looked g.S.Store c.args.conn _ new refl c.new-in-Ok-claim.ensures it.office
     (λ honest trees left. ap content_of (g.met.S.Store.settled new.store trees honest.1 left ∙ sym (ap (λ (d : Database). d.trees) (it.office.settled honest))))
     (c.in-Ok.ensures.settled is) (λ h. subst (λ x. IsHonest (state g.S.Store x)) same (it.honest h))
     (λ h. it.same h ∙ ap (λ x. content_now (state g.S.Store x)) same) (λ blank. true≢false (sym (c.in-Ok.ensures.blank blank) ∙ is))
     (λ h. subst (λ x. MayBeTaken (state g.S.Store x).now.trees) same (it.taken h)) it.stored
 
-pub returns-clause-refused : goal.returns-clause-refused
-returns-clause-refused g c =
+pub returns-in-Err-claim-clause-refused : goal.returns-in-Err-claim-clause-refused
+returns-in-Err-claim-clause-refused g c =
     let it = c.in-Err-claim.ensures in
     let new = c.claim.new.conn in
     let why = c.in-Err-claim.fault in
