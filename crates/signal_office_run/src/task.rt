@@ -135,7 +135,10 @@ pub(crate) fn do_in_file<W: Sink>(
     if !task.makes_file() && is_missing(rt, alloc, path)? {
         return Err(Fault::File);
     }
-    let mut office = open_file(rt, alloc, path, Wary)?;
+    let mut office = match open_file(rt, alloc, path, Wary) {
+        Ok(office) => office,
+        Err((fault, _)) => return Err(fault),
+    };
     let outcome = done_by(rt, alloc, &mut office, task, out);
     let (_, done) = close_after(office.into_shelf().into_conn(), outcome)?;
     Ok(done)
