@@ -74,6 +74,7 @@ module _ {S : Type 0} (g : Ghosts S) where
 
   -- what is known of the tables that were opened over a connection
   pub record IsOpened (conn : Held S) (shelf : SqlView S) : Type 0 where
+    pub opened : HasCleanDisk (state g shelf.conn) → IsHonest (state g shelf.conn)
     pub honest : IsHonest (state g shelf.conn) → HasCleanDisk (state g conn)
     pub taken : IsHonest (state g shelf.conn) → MayBeTaken (state g conn).committed.trees
     pub kept : IsHonest (state g shelf.conn) → content_now (state g shelf.conn) ≡ content_of (state g conn).committed.trees

@@ -6,7 +6,7 @@ ghost use Rattle.std.specs.List.{AllByRecursion};
 ghost use Rattle.sqlite.specs.State.{HasCleanDisk, Survives};
 ghost use Rattle.sqlite.specs.Held.{state};
 ghost use Rattle.office_tables_sql.specs.Schema.{no_schema};
-ghost use Rattle.office_tables_sql.specs.Calls.{IsHonest, IsOffice, StandsOn};
+ghost use Rattle.office_tables_sql.specs.Calls.{IsHonest, IsOffice, StandsOn, StaysOpen};
 ghost use Rattle.office_tables_open.specs.Version.{AreEmpty, HasRow};
 ghost use Rattle.office_tables_open.specs.Found.{HasOtherVersion, HasRowsAlone, IsOurs};
 ghost use Rattle.office_tables_open.specs.Opening.{AreRun, WereDropped, KeepsOrDrops, IsRefused};
@@ -206,6 +206,7 @@ fn claim_empty<S: Alter>(conn: &mut Connection<S>) -> Result<(), OpenFault>
     ensures honest { IsHonest (state S.Store conn.new) → IsHonest (state S.Store conn.old) }
     ensures same { KeepsContent (state S.Store conn.old) (state S.Store conn.new) }
     ensures stored { EndsToday result (state S.Store conn.new) }
+    ensures open { StaysOpen result (state S.Store conn.new) }
     ensures empty { IsHonest (state S.Store conn.new) →
         OnOk result (AreEmpty (state S.Store conn.old).now.trees) }
     ensures version { result ≢ Err OpenFault.Version }
@@ -230,6 +231,7 @@ pub fn claim<S: Alter>(conn: &mut Connection<S>) -> Result<(), OpenFault>
     ensures honest { IsHonest (state S.Store conn.new) → IsHonest (state S.Store conn.old) }
     ensures same { KeepsContent (state S.Store conn.old) (state S.Store conn.new) }
     ensures stored { EndsToday result (state S.Store conn.new) }
+    ensures open { StaysOpen result (state S.Store conn.new) }
     ensures taken { IsHonest (state S.Store conn.new) →
         OnOk result (MayBeTaken (state S.Store conn.old).now.trees) }
     ensures version { IsHonest (state S.Store conn.new) → result ≡ Err OpenFault.Version →

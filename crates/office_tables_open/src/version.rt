@@ -5,7 +5,7 @@ ghost use Rattle.std.specs.Option.{option_map};
 ghost use Rattle.std.specs.List.{AllByRecursion};
 ghost use Rattle.sqlite.specs.Held.{state};
 ghost use Rattle.office_tables_sql.specs.Stored.{cells};
-ghost use Rattle.office_tables_sql.specs.Calls.{IsHonest, IsOffice, IsQuery, Keeps, StandsOn};
+ghost use Rattle.office_tables_sql.specs.Calls.{IsHonest, IsOffice, IsQuery, Keeps, StandsOn, StaysOpen};
 ghost use Rattle.office_tables_open.specs.Version.{AreEmpty, HasRow, IsListing, ListsRows};
 ghost use Rattle.office_tables_open.specs.Version.{TellsOther, version_in, version_cells};
 ghost use Rattle.office_tables_open.specs.Promises.{WasHonest, StaysReady, StaysSame, StoresToday};
@@ -46,6 +46,7 @@ pub fn stored_version<S: Alter>(conn: &mut Connection<S>) -> Result<Option<Row>,
         IfOk result (λ row. option_map cells row ≡ version_in (state S.Store conn.old).now.trees) }
     ensures width { IsHonest (state S.Store conn.new) →
         IfOk result (λ row. IfSome row (λ r. length r ≡ 1)) }
+    ensures open { StaysOpen result (state S.Store conn.new) }
     ensures kept { Keeps (state S.Store conn.old) (state S.Store conn.new) }
     ensures crash { LeavesNoMore (state S.Store conn.old) (state S.Store conn.new) }
 {
@@ -124,6 +125,7 @@ pub fn store_version<S: Alter>(conn: &mut Connection<S>) -> Result<(), SqlFault>
     ensures honest { IsHonest (state S.Store conn.new) → IsHonest (state S.Store conn.old) }
     ensures same { KeepsContent (state S.Store conn.old) (state S.Store conn.new) }
     ensures stored { EndsToday result (state S.Store conn.new) }
+    ensures open { StaysOpen result (state S.Store conn.new) }
     ensures kept { KeepsCommitted result (state S.Store conn.old) (state S.Store conn.new) }
     ensures crash { LeavesToday (state S.Store conn.old) (state S.Store conn.new) }
 {
