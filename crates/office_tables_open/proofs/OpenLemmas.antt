@@ -17,7 +17,7 @@ use Rattle.office_tables_sql.specs.Schema.{office_schema, no_schema, version_tab
 use Rattle.office_tables_sql.specs.Stored.{cells, content_now, content_of}
 use Rattle.office_tables_open.specs.Arranged.{IsArranged, IsUnchanged, IsTaken, IsCheckedAgain}
 use Rattle.office_tables_open.specs.Found.{HasOtherVersion, HasRowsAlone, IsFound, IsFoundIn, IsOneOfEight, IsUnclaimed, StoreNone}
-use Rattle.office_tables_open.specs.Opening.{IsMadeNew, IsOpened, IsSettled, MayBeTaken}
+use Rattle.office_tables_open.specs.Opening.{IsMadeNew, IsOpened, IsSettled, MayBeTaken, IsOpenIfClean}
 use Rattle.office_tables_open.specs.SqlShelf.{SqlView}
 use Rattle.office_tables_open.specs.Version.{AreEmpty, HasRow, TellsOther, version_in, current_version}
 use Rattle.office_tables_open.specs.declared.found.Found.{Found}
@@ -72,7 +72,8 @@ module _ (db : Database) (is : db.schema ≡ office_schema) (sound : IsDatabase 
 
 module _ {S : Type 0} (g : Ghosts S) (conn : Held S) (shelf : SqlView S) where
   module _ (new : Held S) (is : shelf.conn ≡ new) (none : shelf.counts ≡ no_writes) (office : IsOffice (state g new))
-      (crash : IsHonest (state g new) → (trees : Trees) → (state g new).may_leave trees → content_of trees ≡ content_now (state g new)) where
+      (crash : IsHonest (state g new) → (trees : Trees) → (state g new).may_leave trees → content_of trees ≡ content_now (state g new))
+      (opened : IsOpenIfClean (state g new)) where
     shown : record shelf { conn = new } ≡ shelf
     shown = ap (λ (c : Held S). record shelf { conn = c }) (sym is)
 
@@ -81,6 +82,7 @@ module _ {S : Type 0} (g : Ghosts S) (conn : Held S) (shelf : SqlView S) where
         → ((state g conn).now.schema ≡ no_schema → ⊥) → (IsHonest (state g new) → MayBeTaken (state g conn).now.trees)
         → (IsHonest (state g new) → version_in (state g new).now.trees ≡ Some current_version) → IsOpened g conn shelf
     opened_looked settled honest same foreign taken stored = subst (λ (s : SqlView S). IsOpened g conn s) shown (record {
+      opened = opened;
       honest = λ h. (honest h).0;
       taken = λ h. subst (λ (d : Database). MayBeTaken d.trees) (settled (honest h).1) (taken h);
       kept = λ h. same h ∙ ap (λ (d : Database). content_of d.trees) (settled (honest h).1);
@@ -94,6 +96,7 @@ module _ {S : Type 0} (g : Ghosts S) (conn : Held S) (shelf : SqlView S) where
     -- tables that were made
     pub opened_made : (IsHonest (state g new) → IsMadeNew (state g conn) (state g new)) → IsOpened g conn shelf
     opened_made made = subst (λ (s : SqlView S). IsOpened g conn s) shown (record {
+      opened = opened;
       honest = λ h. (made h).was_clean;
       taken = λ h. inr (made h).unclaimed;
       kept = λ h. (made h).office.content ∙ sym (empty_content (state g conn).committed.trees (made h).empty);
@@ -164,6 +167,7 @@ module _ {S : Type 0} (g : Ghosts S) (conn found : Held S) (clean : HasCleanDisk
     (same : HasCleanDisk (state g found) → (state g found).committed.trees ≡ (state g conn).committed.trees) where
   pub opened_before : (HasCleanDisk (state g found) → (state g conn).now.schema ≡ no_schema → AreEmpty (state g conn).committed.trees) → (shelf : SqlView S) → IsOpened g found shelf → IsOpened g conn shelf
   opened_before blank shelf it = record {
+    opened = it.opened;
     honest = λ h. clean (it.honest h);
     taken = λ h. subst MayBeTaken (same (it.honest h)) (it.taken h);
     kept = λ h. it.kept h ∙ ap content_of (same (it.honest h));

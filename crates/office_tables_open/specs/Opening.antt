@@ -26,6 +26,10 @@ MayBeTaken trees = (version_in trees ≡ Some current_version) ⊎ IsUnclaimed t
 abbrev pub IsSettled : State → Type 0
 IsSettled s = IsTrue s.is_open → s.now ≡ s.committed
 
+-- no failure has shut the database, if the disk has returned what was written
+abbrev pub IsOpenIfClean : State → Type 0
+IsOpenIfClean s = HasCleanDisk s → IsHonest s
+
 -- nothing was written, and the shelf goes on
 abbrev pub OnlyReads : State → State → Type 0
 OnlyReads old new = Keeps old new × Survives old new (λ _. ⊥)
@@ -74,7 +78,7 @@ module _ {S : Type 0} (g : Ghosts S) where
 
   -- what is known of the tables that were opened over a connection
   pub record IsOpened (conn : Held S) (shelf : SqlView S) : Type 0 where
-    pub opened : HasCleanDisk (state g shelf.conn) → IsHonest (state g shelf.conn)
+    pub opened : IsOpenIfClean (state g shelf.conn)
     pub honest : IsHonest (state g shelf.conn) → HasCleanDisk (state g conn)
     pub taken : IsHonest (state g shelf.conn) → MayBeTaken (state g conn).committed.trees
     pub kept : IsHonest (state g shelf.conn) → content_now (state g shelf.conn) ≡ content_of (state g conn).committed.trees

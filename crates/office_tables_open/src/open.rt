@@ -10,6 +10,7 @@ ghost use Rattle.office_tables_sql.specs.Calls.{IsHonest, IsOffice, StandsOn, St
 ghost use Rattle.office_tables_open.specs.Version.{AreEmpty, HasRow};
 ghost use Rattle.office_tables_open.specs.Found.{HasOtherVersion, HasRowsAlone, IsOurs};
 ghost use Rattle.office_tables_open.specs.Opening.{AreRun, WereDropped, KeepsOrDrops, IsRefused};
+ghost use Rattle.office_tables_open.specs.Opening.{IsOpenIfClean};
 ghost use Rattle.office_tables_open.specs.Opening.{IsNew, IsNewOffice, IsMadeNew, IsSettled};
 ghost use Rattle.office_tables_open.specs.Opening.{Claims, ClaimsEmpty, MayBeTaken, OnlyReads};
 ghost use Rattle.office_tables_open.specs.Promises.{KeepsContent, KeepsCommitted, EndsToday};
@@ -149,6 +150,7 @@ fn make_tables<S: Alter>(conn: &mut Connection<S>) -> Result<(), SqlFault>
     requires autocommit { (state S.Store conn.old).in_transaction ≡ false }
     requires blank { (state S.Store conn.old).now.schema ≡ no_schema }
     ensures office { OnOk result (IsOffice (state S.Store conn.new)) }
+    ensures open { StaysOpen result (state S.Store conn.new) }
     ensures honest { IsHonest (state S.Store conn.new) → IsHonest (state S.Store conn.old) }
     ensures made { IsHonest (state S.Store conn.new) →
         OnOk result (IsNewOffice (state S.Store conn.new).now.trees) }
@@ -185,6 +187,7 @@ fn drop_tables<S: Alter>(conn: &mut Connection<S>) -> Result<(), SqlFault>
 fn make_anew<S: Alter>(conn: &mut Connection<S>) -> Result<(), SqlFault>
     requires { (state S.Store conn.old).in_transaction ≡ false }
     ensures office { OnOk result (IsOffice (state S.Store conn.new)) }
+    ensures open { StaysOpen result (state S.Store conn.new) }
     ensures honest { IsHonest (state S.Store conn.new) → IsHonest (state S.Store conn.old) }
     ensures made { IsHonest (state S.Store conn.new) →
         OnOk result (IsNewOffice (state S.Store conn.new).now.trees) }
@@ -271,6 +274,7 @@ pub fn prepared<S: Alter + Drop>(
 ) -> Result<Prepared<S>, Refused<S>>
     requires { IsArrangedIfClean (state S.Store conn) }
     ensures office { IfOk result (λ p. IsOffice (state S.Store p.0)) }
+    ensures open { IfOk result (λ p. p.1 ≡ true → IsOpenIfClean (state S.Store p.0)) }
     ensures kept { IfOk result (λ p. p.1 ≡ false → p.0 ≡ conn) }
     ensures settled { IfOk result (λ p. p.1 ≡ false → IsSettled (state S.Store conn)) }
     ensures made { IfOk result (λ p. p.1 ≡ true → IsHonest (state S.Store p.0) →
@@ -311,6 +315,7 @@ fn laid_anew<S: Alter + Drop>(
     requires settled { IsSettled (state S.Store conn) }
     requires no_views { (state S.Store conn).now.schema.views ≡ [] }
     ensures office { IfOk result (λ c. IsOffice (state S.Store c)) }
+    ensures open { IfOk result (λ c. IsOpenIfClean (state S.Store c)) }
     ensures made { IfOk result (λ c. IsHonest (state S.Store c) →
         IsMadeNew (state S.Store conn) (state S.Store c)) }
     ensures refused { IfErr result (λ e. IsRefused S.Store conn e.0 e.1) }

@@ -18,6 +18,7 @@ returns-then-is_new-clause-opened g c =
     let office = c.in-Ok.ensures.office in
     opened_made g.S.Store c.args.conn _ new refl c.new.ensures office
     (λ honest trees left. ap content_of (g.met.S.Store.settled new.store trees honest.1 left ∙ sym (ap (λ (d : Database). d.trees) (office.settled honest))))
+    (c.in-Ok.ensures.open c.if-is_new.true)
     (λ honest. c.in-Ok.ensures.made c.if-is_new.true honest)
 
 pub returns-in-Ok-claim-clause-opened : goal.returns-in-Ok-claim-clause-opened
@@ -28,6 +29,7 @@ returns-in-Ok-claim-clause-opened g c =
     let same = c.in-Ok.ensures.kept is in
     opened_looked g.S.Store c.args.conn _ new refl c.new-in-Ok-claim.ensures it.office
     (λ honest trees left. ap content_of (g.met.S.Store.settled new.store trees honest.1 left ∙ sym (ap (λ (d : Database). d.trees) (it.office.settled honest))))
+    it.open
     (c.in-Ok.ensures.settled is) (λ h. subst (λ x. IsHonest (state g.S.Store x)) same (it.honest h))
     (λ h. it.same h ∙ ap (λ x. content_now (state g.S.Store x)) same) (λ blank. true≢false (sym (c.in-Ok.ensures.blank blank) ∙ is))
     (λ h. subst (λ x. MayBeTaken (state g.S.Store x).now.trees) same (it.taken h)) it.stored
