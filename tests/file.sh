@@ -6,6 +6,10 @@
 set -eu
 top=$(cd "$(dirname "$0")/.." && pwd)
 program=${1:-$top/crates/signal_office/out/signal_office}
+[ -x "$program" ] || {
+  echo "file.sh: there is no program $program: ./office builds it" >&2
+  exit 2
+}
 folder=$(mktemp -d)
 trap 'rm -rf "$folder"' EXIT
 file=$folder/office.db

@@ -3,7 +3,7 @@
 holds, that can't be written, a full disk, outputs that are closed, and random bytes. Each run must end by itself within
 30 seconds with its status and its line on standard error, never by a signal, and what it refused must stay byte for byte.
 
-    tests/hostile.py PROGRAM
+    tests/hostile.py [PROGRAM]      the program is the one that ./office runs, where none is named
 
 Needs Python 3.8 or later; as root it also tries a file without leave to write and a full disk. Prints a line a case, and ok."""
 import os
@@ -16,13 +16,17 @@ import subprocess
 import sys
 import tempfile
 
-PROGRAM = os.path.abspath(sys.argv[1])
+TOP = os.path.dirname(os.path.dirname(os.path.abspath(__file__)))
+BUILT = os.path.join(TOP, "crates", "signal_office", "out", "signal_office")
+PROGRAM = os.path.abspath(sys.argv[1]) if len(sys.argv) > 1 else BUILT
+if not os.access(PROGRAM, os.X_OK):
+    sys.exit(f"hostile.py: there is no program {PROGRAM}: ./office builds it")
 ADD = (
     b"POST /intersections HTTP/1.1\r\nContent-Length: 41\r\n\r\n"
     b'{"id":12,"interval":365,"name":"Main St"}'
 )
 STATE = b"GET /intersections/12 HTTP/1.1\r\n\r\n"
-PLAN = os.path.join(os.path.dirname(os.path.abspath(__file__)), "..", "bench", "plan.csv")
+PLAN = os.path.join(TOP, "bench", "plan.csv")
 ON_FILES = (
     ["batch"],
     ["sheet", "12"],
@@ -59,14 +63,25 @@ def held(path):
         return file.read()
 
 
-def refused(name, path, line=b"fault: store\n", migrate=None, **how):
-    """The commands on a file refuse it with the same line, `migrate` perhaps with its own, and leave it as it was."""
+def refused(name, path, line=b"fault: store\n", migrate=None, making=None, **how):
+    """The commands on a file refuse it with the same line, `migrate` and those that make a file perhaps with
+    another, and leave it as it was."""
     before = held(path)
     for words in ON_FILES:
         status, out, err = run([words[0], "--db", path, *words[1:]], ADD, **how)
-        wanted = migrate or line if words == ["migrate"] else line
-        case(f"{name}, {words[0]}", (status, out, err), (1, b"", wanted))
+        other = {"migrate": migrate, "batch": making, "import": making}.get(words[0])
+        case(f"{name}, {words[0]}", (status, out, err), (1, b"", other or line))
     case(f"{name}, the file", held(path), before)
+
+
+def makes_none(name, path):
+    """The commands that make no file tell that there is none, and leave what is there."""
+    before = held(path)
+    for words in ON_FILES:
+        if words[0] not in ("batch", "import"):
+            told = b"fault: version\n" if words == ["migrate"] else b"fault: file\n"
+            case(f"{name}, {words[0]}", run([words[0], "--db", path, *words[1:]]), (1, b"", told))
+    case(f"{name}, the file", (held(path), os.path.exists(path + "-wal")), (before, False))
 
 
 def office(folder, name):
@@ -107,7 +122,11 @@ def stored(path):
 
 def other_files(folder):
     refused("a directory", folder)
-    refused("a file in a folder that is not there", os.path.join(folder, "none", "office.db"), migrate=b"fault: version\n")
+    refused(
+        "a file in a folder that is not there", os.path.join(folder, "none", "office.db"),
+        b"fault: file\n", migrate=b"fault: version\n", making=b"fault: store\n",
+    )
+    makes_none("a file that is not there", os.path.join(folder, "typo.db"))
     text = os.path.join(folder, "text.db")
     with open(text, "wb") as file:
         file.write(b"phase,2,1,8,20,40,40,15\n" * 400)
@@ -124,6 +143,7 @@ def other_files(folder):
     refused("another's database", others, migrate=b"fault: version\n")
     empty = os.path.join(folder, "empty.db")
     open(empty, "wb").close()
+    makes_none("an empty file", empty)
     status, out, err = run(["batch", "--db", empty], ADD + STATE)
     case("an empty file", (status, out.count(b"200 OK"), err), (0, 2, b""))
 
@@ -163,25 +183,45 @@ def without_leave(folder):
     refused("a file without leave to write", path, user=65534, group=65534, extra_groups=[])
 
 
+def additions(count):
+    """Requests that add so many intersections."""
+    bodies = (b'{"id":%d,"interval":365,"name":"%s"}' % (n, b"x" * 100) for n in range(1, count + 1))
+    return b"".join(b"POST /intersections HTTP/1.1\r\nContent-Length: %d\r\n\r\n%s" % (len(body), body) for body in bodies)
+
+
+def statuses(out):
+    """The status of each answer."""
+    return [int(answer[:3]) for answer in out.split(b"HTTP/1.1 ")[1:]]
+
+
+def refused_for_room(name, path, left, **how):
+    """A stream of additions meets a refusal for want of room in its middle: all answers before it, then 503 and nothing else;
+    and what is left of the file holds the office of the last answer that was no 503, or of the first that was."""
+    status, out, err = run(["batch", "--db", path], additions(3999), **how)
+    told = statuses(out)
+    done = told.index(503) if 503 in told else len(told)
+    case(f"{name}, the answers", told, [200] * done + [503] * (3999 - done))
+    case(f"{name}, the end", (0 < done < 3999, status in (0, 1), err in (b"", b"fault: store\n")), (True, True, True))
+    asked = b"".join(b"GET /intersections/%d HTTP/1.1\r\n\r\n" % n for n in range(1, done + 3))
+    status, out, err = run(["batch", "--db", left()], asked)
+    found = statuses(out)
+    case(f"{name}, what is left", (status, found[:done], found[done] in (200, 404), found[done + 1 :], err), (0, [200] * done, True, [404], b""))
+
+
 def full_disk(folder):
     disk = os.path.join(folder, "disk")
     os.mkdir(disk)
     if subprocess.run(["mount", "-t", "tmpfs", "-o", "size=400k", "none", disk], stderr=subprocess.DEVNULL).returncode:
         print("a full disk: not tried, since nothing can be mounted here")
         return
-    try:
-        path = os.path.join(disk, "office.db")
-        asked = b"".join(
-            b'POST /intersections HTTP/1.1\r\nContent-Length: %d\r\n\r\n%s' % (len(body), body)
-            for body in (b'{"id":%d,"interval":365,"name":"%s"}' % (n, b"x" * 100) for n in range(1, 4000))
-        )
-        status, out, err = run(["batch", "--db", path], asked)
-        added = out.count(b'{"result":"added"}')
-        case("a full disk", (status in (0, 1), out.count(b"503 ") + added, err in (b"", b"fault: store\n")), (True, 3999, True))
+
+    def left():
         copy = os.path.join(folder, "copy")
         shutil.copytree(disk, copy)
-        status, out, _ = run(["batch", "--db", os.path.join(copy, "office.db")], b"GET /intersections/%d HTTP/1.1\r\n\r\n" % added)
-        case("what was answered on a full disk is there", (status, out.count(b'"id":')), (0, 1))
+        return os.path.join(copy, "office.db")
+
+    try:
+        refused_for_room("a full disk", os.path.join(disk, "office.db"), left)
     finally:
         subprocess.run(["umount", disk], check=True)
 
@@ -193,13 +233,7 @@ def largest_file(folder):
         resource.setrlimit(resource.RLIMIT_FSIZE, (262144, 262144))
 
     path = os.path.join(folder, "limited.db")
-    asked = b"".join(
-        b'POST /intersections HTTP/1.1\r\nContent-Length: %d\r\n\r\n%s' % (len(body), body)
-        for body in (b'{"id":%d,"interval":365,"name":"%s"}' % (n, b"x" * 100) for n in range(1, 4000))
-    )
-    status, out, err = run(["batch", "--db", path], asked, preexec_fn=limit)
-    answers = out.count(b"503 ") + out.count(b'{"result":"added"}')
-    case("a file at the limit of file sizes", (status in (0, 1), answers, err in (b"", b"fault: store\n")), (True, 3999, True))
+    refused_for_room("a file at the limit of file sizes", path, lambda: path, preexec_fn=limit)
 
 
 def outputs(folder):

@@ -3,14 +3,19 @@
 # kept open, makes a whole transaction and a run of the cabinet register over seventeen more, and compares
 # what it answers. Then come clients that send nothing, half a head, or read nothing of a large answer, each
 # of which the server ends after 30 seconds, and clients that close in the middle: after each the next one is
-# answered. It waits for the server's end, and prints the timing sheet from the file. The program's path is
-# the first word, the port the second, if another than 8312 is wanted. Needs curl and Python 3, and takes
-# some two minutes. Prints ok.
+# answered. It waits for the server's end, and prints the timing sheet from the file. Needs curl and Python 3,
+# and takes some two minutes. Prints ok.
+#
+#     tests/server.sh [PROGRAM [PORT]]      the program is the one that ./office runs, the port 8312, where none is named
 set -eu
 top=$(cd "$(dirname "$0")/.." && pwd)
-program=${1:?usage: tests/server.sh PROGRAM [PORT]}
+program=${1:-$top/crates/signal_office/out/signal_office}
 port=${2:-8312}
 address=http://127.0.0.1:$port
+[ -x "$program" ] || {
+  echo "server.sh: there is no program $program: ./office builds it" >&2
+  exit 2
+}
 folder=$(mktemp -d)
 server=
 client=

@@ -68,7 +68,7 @@ impl<S: Shelf> Office<S> {
     pub fn decide(&mut self, alloc: Global, command: &Command) -> Decided
         ensures answers { IsAnswered (S.is_honest self.new) (S.content self.old)
             command.now result }
-        // The same on a clean disk alone: a database that a failure has shut gives no answer but an idle one.
+        // The same on a clean disk alone: what a failure has shut gives an idle answer alone.
         ensures told { IsAnswered (S.is_clean self.new) (S.content self.old) command.now result }
         ensures clean { S.is_clean self.new → S.is_clean self.old }
         ensures shut { S.is_clean self.new →

@@ -37,8 +37,8 @@ pub(crate) fn decide_inspect<S: Shelf>(
     ensures writes { IfOk result (λ told. (table : Table) → writes_in table (rows_told told) ≤ most_record_writes (RecordCommand.Inspect id inspection.now) table) }
     ensures named { IfOk result (λ told. IsNamed (RecordCommand.Inspect id inspection.now) (line_told told)) }
     ensures line { IfOk result (λ told. S.is_honest shelf.new →
-        TellsLine (changed_by (S.content shelf.old) pending.now) (RecordCommand.Inspect id inspection.now)
-        (line_told told) (rows_told told)) }
+        TellsLine (changed_by (S.content shelf.old) pending.now)
+        (RecordCommand.Inspect id inspection.now) (line_told told) (rows_told told)) }
     ensures kept { IsKept S.is_honest S.content S.written S.may_leave shelf.old shelf.new }
     ensures open { StaysOpen S.is_clean S.is_honest (pending.now ≡ [])
         result shelf.old shelf.new }
@@ -65,8 +65,8 @@ pub(crate) fn decide_open_order<S: Shelf>(
     ensures writes { IfOk result (λ told. (table : Table) → writes_in table (rows_told told) ≤ most_record_writes (RecordCommand.OpenOrder id opening.now) table) }
     ensures named { IfOk result (λ told. IsNamed (RecordCommand.OpenOrder id opening.now) (line_told told)) }
     ensures line { IfOk result (λ told. S.is_honest shelf.new →
-        TellsLine (changed_by (S.content shelf.old) pending.now) (RecordCommand.OpenOrder id opening.now)
-        (line_told told) (rows_told told)) }
+        TellsLine (changed_by (S.content shelf.old) pending.now)
+        (RecordCommand.OpenOrder id opening.now) (line_told told) (rows_told told)) }
     ensures kept { IsKept S.is_honest S.content S.written S.may_leave shelf.old shelf.new }
     ensures open { StaysOpen S.is_clean S.is_honest (pending.now ≡ [])
         result shelf.old shelf.new }
@@ -94,8 +94,8 @@ pub(crate) fn decide_close_order<S: Shelf>(
     ensures writes { IfOk result (λ told. (table : Table) → writes_in table (rows_told told) ≤ most_record_writes (RecordCommand.CloseOrder id order closing.now) table) }
     ensures named { IfOk result (λ told. IsNamed (RecordCommand.CloseOrder id order closing.now) (line_told told)) }
     ensures line { IfOk result (λ told. S.is_honest shelf.new →
-        TellsLine (changed_by (S.content shelf.old) pending.now) (RecordCommand.CloseOrder id order closing.now)
-        (line_told told) (rows_told told)) }
+        TellsLine (changed_by (S.content shelf.old) pending.now)
+        (RecordCommand.CloseOrder id order closing.now) (line_told told) (rows_told told)) }
     ensures kept { IsKept S.is_honest S.content S.written S.may_leave shelf.old shelf.new }
     ensures open { StaysOpen S.is_clean S.is_honest (pending.now ≡ [])
         result shelf.old shelf.new }

@@ -48,8 +48,8 @@ pub(crate) fn decide_use_part<S: Shelf>(
     ensures writes { IfOk result (λ told. (table : Table) → writes_in table (rows_told told) ≤ most_record_writes (RecordCommand.UsePart id line.now) table) }
     ensures named { IfOk result (λ told. IsNamed (RecordCommand.UsePart id line.now) (line_told told)) }
     ensures line { IfOk result (λ told. S.is_honest shelf.new →
-        TellsLine (changed_by (S.content shelf.old) pending.now) (RecordCommand.UsePart id line.now)
-        (line_told told) (rows_told told)) }
+        TellsLine (changed_by (S.content shelf.old) pending.now)
+        (RecordCommand.UsePart id line.now) (line_told told) (rows_told told)) }
     ensures kept { IsKept S.is_honest S.content S.written S.may_leave shelf.old shelf.new }
     ensures open { StaysOpen S.is_clean S.is_honest (pending.now ≡ [])
         result shelf.old shelf.new }
@@ -121,8 +121,8 @@ pub(crate) fn decide_receive<S: Shelf>(
     ensures writes { IfOk result (λ told. (table : Table) → writes_in table (rows_told told) ≤ most_record_writes (RecordCommand.Receive delivery.now) table) }
     ensures named { IfOk result (λ told. IsNamed (RecordCommand.Receive delivery.now) (line_told told)) }
     ensures line { IfOk result (λ told. S.is_honest shelf.new →
-        TellsLine (changed_by (S.content shelf.old) pending.now) (RecordCommand.Receive delivery.now)
-        (line_told told) (rows_told told)) }
+        TellsLine (changed_by (S.content shelf.old) pending.now)
+        (RecordCommand.Receive delivery.now) (line_told told) (rows_told told)) }
     ensures kept { IsKept S.is_honest S.content S.written S.may_leave shelf.old shelf.new }
     ensures open { StaysOpen S.is_clean S.is_honest (pending.now ≡ [])
         result shelf.old shelf.new }

@@ -1,3 +1,4 @@
 pub mod ListeningLemmas
 pub mod MachineLemmas
 pub mod StreamLaws
+pub mod StreetLemmas

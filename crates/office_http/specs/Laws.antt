@@ -1,6 +1,6 @@
 -- What the requests of a whole stream make of the office: the run of the commands that they ask, and its laws.
 use Rattle.std.specs.Prelude.{◌≡◌, ◌⊎◌, ℕ, List, [], ◌∷◌, ◌++◌, Result, Ok, Err}
-use Rattle.office_desk.specs.Office.{Office, side_at}
+use Rattle.office_desk.specs.Office.{IsSound, Office, side_at}
 use Rattle.office_desk.specs.RegisterRuns.{RegisterRuns}
 use Rattle.office_desk.specs.Repeats.{Repeats}
 use Rattle.office_desk.specs.Step.{AreSound, Run}
@@ -18,6 +18,7 @@ use Rattle.office_http.specs.Protocol.{office_protocol, read_of}
 use Rattle.office_http_responses.specs.Answers.{answer_bytes, unavailable_bytes}
 use Rattle.office_http_responses.specs.Faults.{ask_fault_text}
 use Rattle.office_http_requests.specs.declared.asked.Asked.{Asked}
+use Rattle.signal_street.specs.StreetLaws.{StreetLaws}
 
 -- ---- the commands
 
@@ -82,3 +83,7 @@ pub record Serves
     (requests : List PlainRequest) (answers : List (List ℕ)) : Type 0 where
   pub ran : Ran office_protocol storage may held before last kept after requests answers
   pub laws : KeepsLaws before requests answers after
+
+-- whichever the sound office: what each of its committed timing sets means on the street
+abbrev pub KeepsTheStreet : Type 0
+KeepsTheStreet = (office : Office) → IsSound office → (id : ℕ) → StreetLaws (side_at office id).committed

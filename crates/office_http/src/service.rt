@@ -7,7 +7,7 @@ ghost use Rattle.office_http_framing.specs.Asks.{OnlyAsks};
 ghost use Rattle.office_http_framing.specs.Limits.{longest_request};
 ghost use Rattle.office_http_framing.specs.Serve.{Did, TellsFault, Untouched, ends_of};
 ghost use Rattle.office_http_framing.specs.Stops.{Keeps};
-ghost use Rattle.office_http.specs.Laws.{Serves};
+ghost use Rattle.office_http.specs.Laws.{KeepsTheStreet, Serves};
 ghost use Rattle.office_http.specs.Protocol.{office_protocol, office_storage};
 
 use crate::machine::StreamTools;
@@ -45,6 +45,10 @@ pub fn serve<S: Shelf, R: Source, W: Sink>(
         (Serves storage (S.may_leave office.old) tables before office.new kept after)
         max_requests (ends_of (R.told reader.old) (W.told writer.old))
         (ends_of (R.told reader.new) (W.told writer.new)) result }
+
+    // Each office of that run is sound, and each committed set of a sound office keeps the laws of
+    // the street.
+    ensures street { KeepsTheStreet }
 
     // Read and Write are answered only where that end told a fault.
     ensures fault { TellsFault (ends_of (R.told reader.old) (W.told writer.old))

@@ -49,7 +49,7 @@ impl<S: Alter + Drop> Base<S> {
                 Ok(())
             }
             Err((fault, left)) => {
-                if let Some(conn) = left {
+                if let Ok(conn) = left {
                     *self = Base::Closed(conn);
                 }
                 Err(fault)

@@ -51,7 +51,7 @@ fn are_spelled<S: Alter>(conn: &mut Connection<S>, end: &str) -> bool {
 fn are_today<S: Alter + Drop>(alloc: Global, conn: Connection<S>) -> Result<bool, Trouble> {
     let (mut conn, is_today, end) = match SqlShelf::open_returning(alloc, conn) {
         Ok(shelf) => (shelf.into_conn(), true, ",0"),
-        Err((OpenFault::Version, Some(conn))) => (conn, false, ""),
+        Err((OpenFault::Version, Ok(conn))) => (conn, false, ""),
         Err(_) => return Err(Trouble::Unprepared("the tables after a stop")),
     };
     if are_spelled(&mut conn, end) {

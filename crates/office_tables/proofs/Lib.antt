@@ -1,1 +1,2 @@
 mod MigrateLemmas
+mod AskLemmas

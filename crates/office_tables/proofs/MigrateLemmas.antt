@@ -38,9 +38,9 @@ changed_after tables [] second = refl
 changed_after tables (c ∷ first) second = changed_after (changed tables c) first second
 
 -- tables that were brought from version 1 stand for the office that they stood for
-pub brought_stands : (old new : State) (count : Migrated) → IsBrought old new count → (office : Office) → version_in old.committed.trees ≡ Some first_version → StandForSoundIn version_1 (content_of old.committed.trees) office → StandAnew (content_now new) office
+pub brought_stands : (old new : Trees) (count : Migrated) → IsBrought old new count → (office : Office) → version_in old ≡ Some first_version → StandForSoundIn version_1 (content_of old) office → StandAnew (content_of new) office
 brought_stands old new count (inl is) office was before = absurd (let e : Some first_version ≡ Some current_version = sym was ∙ is.was in cc)
-brought_stands old new count (inr it) office was before = stand_anew (content_of old.committed.trees) (content_now new) count office it.migrated before
+brought_stands old new count (inr it) office was before = stand_anew (content_of old) (content_of new) count office it.migrated before
 
 -- ---- what the rows of version 1 tell
 

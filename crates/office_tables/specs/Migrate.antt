@@ -1,8 +1,12 @@
 -- What bringing version 1 of the tables to today's version makes of a database, and what it leaves where it refuses.
-use Rattle.std.specs.Prelude.{◌≡◌, ◌≢◌, ◌⊎◌, List, codes, Some, Result, Err, IfOk, OnOk}
+use Rattle.std.specs.Prelude.{◌≡◌, ◌≢◌, ◌⊎◌, ℤ, pos, true, List, [], ◌∷◌, codes, Some, Result, Err, IfOk, OnOk}
 use Rattle.std.specs.List.{AllByRecursion}
-use Rattle.sqlite.specs.State.{State, HasCleanDisk}
+use Rattle.sqlite.specs.declared.types.Value.TheVariants.{Int}
+use Rattle.sqlite.specs.Held.{Held, state}
+use Rattle.sqlite.specs.Order.{Row, column}
+use Rattle.sqlite.specs.State.{State, HasCleanDisk, Shown}
 use Rattle.sqlite.specs.Tree.{Trees}
+use Rattle.sqlite_trees.specs.declared.store.Store.{Ghosts}
 use Rattle.sqlite_schema.specs.declared.schema.Table.{Table}
 use Rattle.office_tables_shelf.specs.Change.{changed_by}
 use Rattle.office_tables_shelf.specs.Content.{Content}
@@ -16,6 +20,7 @@ use Rattle.office_tables_former.specs.Migration.{IsMigrated, StandAnew}
 use Rattle.office_tables_former.specs.declared.puts.Migrated.{Migrated}
 use Rattle.office_tables_open.specs.declared.open.OpenFault.{OpenFault}
 use Rattle.office_tables_open.specs.declared.open.OpenFault.TheVariants as fault
+use Rattle.office_tables_open.specs.declared.version.TheConstants.{FIND}
 use Rattle.office_tables_open.specs.Version.{version_in, current_version, first_version}
 
 -- today's version is stored, and the tables hold this
@@ -35,18 +40,18 @@ abbrev pub none_migrated : Migrated
 none_migrated = record { timing = 0; draft = 0 }
 
 -- today's version was stored, and nothing changed
-pub record IsToday (old new : State) (count : Migrated) : Type 0 where
-  pub was : version_in old.committed.trees ≡ Some current_version
-  pub same : new.now.trees ≡ old.committed.trees
+pub record IsToday (old new : Trees) (count : Migrated) : Type 0 where
+  pub was : version_in old ≡ Some current_version
+  pub same : new ≡ old
   pub none : count ≡ none_migrated
 
 -- version 1 was stored, and each of its rows is spelled as today
-pub record IsAnew (old new : State) (count : Migrated) : Type 0 where
-  pub was : version_in old.committed.trees ≡ Some first_version
-  pub migrated : IsMigrated (content_of old.committed.trees) (content_now new) count
-  pub stored : version_in new.now.trees ≡ Some current_version
+pub record IsAnew (old new : Trees) (count : Migrated) : Type 0 where
+  pub was : version_in old ≡ Some first_version
+  pub migrated : IsMigrated (content_of old) (content_of new) count
+  pub stored : version_in new ≡ Some current_version
 
-abbrev pub IsBrought : State → State → Migrated → Type 0
+abbrev pub IsBrought : Trees → Trees → Migrated → Type 0
 IsBrought old new count = IsToday old new count ⊎ IsAnew old new count
 
 -- no table keeps a version
@@ -58,8 +63,22 @@ pub record HasNeitherVersion (trees : Trees) : Type 0 where
   pub not_current : version_in trees ≢ Some current_version
   pub not_first : version_in trees ≢ Some first_version
 
-abbrev pub HasUnknownVersion : State → Type 0
-HasUnknownVersion s = KeepNoVersion s.now.schema.tables ⊎ HasNeitherVersion s.committed.trees
+-- rows that a query of the version shows, and neither is the number that the first one shows
+abbrev pub AreNeither : List Row → Type 0
+AreNeither [] = Unit {0}
+AreNeither (row ∷ more) = (n : ℤ) × (column row 0 ≡ Int n) × (n ≢ pos 2) × (n ≢ pos 1)
+
+module _ {S : Type 0} (g : Ghosts S) where
+  -- SQL shows neither of the two where it is asked for the version, whatever the layout of the tables
+  pub record ShowsNeither (conn : Held S) : Type 0 where
+    pub after : Held S
+    pub rows : List Row
+    pub shown : Shown FIND.now (Int (pos 1) ∷ []) (state g (record conn { in_transaction = true })) (state g after) rows
+    pub neither : AreNeither rows
+
+  -- no table keeps a version, or neither of the two is stored
+  abbrev pub HasUnknownVersion : Held S → Type 0
+  HasUnknownVersion conn = KeepNoVersion (state g conn).now.schema.tables ⊎ (HasNeitherVersion (state g conn).committed.trees ⊎ ShowsNeither conn)
 
 -- cells stand in `timing` that version 1 kept no row in, or in `draft` that it kept no row and no removal in
 abbrev pub HasFormerDamage : Content → Type 0
@@ -87,15 +106,15 @@ Migrates result old new = IsHonest new → IfOk result (IsMigrated (content_now 
 
 -- today's version stays, or version 1 is brought to it
 abbrev pub Brings : {E : Type 0} → Result Migrated E → State → State → Type 0
-Brings result old new = IsHonest new → IfOk result (IsBrought old new)
+Brings result old new = IsHonest new → IfOk result (IsBrought old.committed.trees new.now.trees)
 
 -- tables of version 1 that stood for a sound office stand for it today
 abbrev pub StandsAnew : {A E : Type 0} → Result A E → State → State → Type 0
 StandsAnew result old new = IsHonest new → OnOk result ((office : Office) → version_in old.committed.trees ≡ Some first_version → StandForSoundIn version_1 (content_of old.committed.trees) office → StandAnew (content_now new) office)
 
 -- when Version is told, and when Damaged
-abbrev pub TellsVersion : {A : Type 0} → Result A OpenFault → State → State → Type 0
-TellsVersion result old new = result ≡ Err fault.Version → IsHonest new → HasUnknownVersion old
+abbrev pub TellsVersion : {A S : Type 0} → Ghosts S → Result A OpenFault → Held S → Held S → Type 0
+TellsVersion g result old new = result ≡ Err fault.Version → IsHonest (state g new) → HasUnknownVersion g old
 
 abbrev pub TellsFormerDamage : {A : Type 0} → Result A OpenFault → State → State → Type 0
 TellsFormerDamage result old new = result ≡ Err fault.Damaged → IsHonest new → HasFormerDamage (content_now old)

@@ -1,13 +1,13 @@
 //! Version 1 of the tables brought to today's version.
 
-ghost use Rattle.std.specs.Prelude.{◌≡◌, ◌≢◌, ◌++◌, IsTrue, IfOk, Err};
+ghost use Rattle.std.specs.Prelude.{◌≡◌, ◌≢◌, ◌++◌, false, IsTrue, IfOk, Err};
 ghost use Rattle.sqlite.specs.State.{Survives};
 ghost use Rattle.sqlite.specs.Held.{state};
 ghost use Rattle.office_tables_sql.specs.Stored.{content_now};
 ghost use Rattle.office_tables_sql.specs.Calls.{IsHonest, IsOffice, StandsOn};
 ghost use Rattle.office_tables.specs.Migrate.{KeepNoVersion, IsChangedToday, IsSpelledToday};
 ghost use Rattle.office_tables.specs.Migrate.{MayBecome, WritesToday, WritesAllToday, Migrates};
-ghost use Rattle.office_tables.specs.Migrate.{Brings};
+ghost use Rattle.office_tables.specs.Migrate.{AreNeither, Brings, ShowsNeither};
 ghost use Rattle.office_tables.specs.Migrate.{TellsVersion, TellsFormerDamage, TellsDamage};
 ghost use Rattle.office_tables_open.specs.Promises.{WasHonest, StaysReady, LeavesNoMore};
 ghost use Rattle.office_tables_open.specs.Promises.{KeepsTrees};
@@ -19,13 +19,13 @@ use office_tables_former::listing::{draft_rows, timing_rows};
 use office_tables_former::puts::{Migrated, draft_changes, timing_changes};
 use office_tables_open::open::OpenFault;
 use office_tables_open::version::{
-    FIRST_VERSION, VERSION, is_version, renew_version, stored_version,
+    FIND, FIRST_VERSION, VERSION, is_version, renew_version, stored_version,
 };
 use office_tables_shelf::rows::RowChange;
 use office_tables_sql::schema::is_office;
 use office_tables_sql::statement::SqlFault;
 use signal_records::NoMemory;
-use sqlite::{Alter, Connection, Transaction};
+use sqlite::{Alter, Connection, Row as SqlRow, Transaction, params};
 use sqlite_schema::schema::Table;
 use std::alloc::Global;
 
@@ -116,6 +116,50 @@ fn spell_anew<S: Alter>(alloc: Global, conn: &mut Connection<S>) -> Result<Migra
     Ok(Migrated { timing, draft })
 }
 
+/// Whether neither today's version nor version 1 stands in these rows, which are those of a version
+/// that is stored.
+fn are_neither(rows: &[SqlRow]) -> Result<bool, SqlFault>
+    ensures { IfOk result (λ neither. IsTrue neither → AreNeither rows.now) }
+{
+    let Some(row) = rows.first() else {
+        return Ok(true);
+    };
+    let number: Result<i64, _> = row.get(0);
+    let number = number?;
+    Ok(number != i64::from(VERSION) && number != i64::from(FIRST_VERSION))
+}
+
+/// Whether SQL shows neither today's version nor version 1, in tables of whatever layout.
+fn shows_neither<S: Alter>(conn: &mut Connection<S>) -> Result<bool, SqlFault>
+    requires { (state S.Store conn.old).in_transaction ≡ false }
+    ensures neither { IsHonest (state S.Store conn.new) →
+        IfOk result (λ neither. IsTrue neither → ShowsNeither S.Store conn.old) }
+    ensures stands { StandsOn (state S.Store conn.old) (state S.Store conn.new) }
+    ensures crash { LeavesNoMore (state S.Store conn.old) (state S.Store conn.new) }
+{
+    let mut tx = conn.transaction();
+    let rows = tx.query_all(FIND, params![1u32])?;
+    tx.rollback();
+    are_neither(rows.as_slice())
+}
+
+/// Why tables in another layout are not migrated: Version where neither today's version is stored
+/// nor version 1.
+fn fault_in<S: Alter>(conn: &mut Connection<S>) -> OpenFault
+    requires { (state S.Store conn.old).in_transaction ≡ false }
+    ensures version { result ≡ OpenFault.Version → IsHonest (state S.Store conn.new) →
+        ShowsNeither S.Store conn.old }
+    ensures damaged { result ≢ OpenFault.Damaged }
+    ensures stands { StandsOn (state S.Store conn.old) (state S.Store conn.new) }
+    ensures crash { LeavesNoMore (state S.Store conn.old) (state S.Store conn.new) }
+{
+    match shows_neither(conn) {
+        Ok(true) => OpenFault::Version,
+        Ok(false) => OpenFault::Store,
+        Err(fault) => OpenFault::from(fault),
+    }
+}
+
 /// Brings tables of version 1 to today's version, all or none.
 pub(crate) fn migrate<S: Alter>(
     alloc: Global,
@@ -123,7 +167,7 @@ pub(crate) fn migrate<S: Alter>(
 ) -> Result<Migrated, OpenFault>
     requires { IsArrangedIfClean (state S.Store conn.old) }
     ensures brought { Brings result (state S.Store conn.old) (state S.Store conn.new) }
-    ensures version { TellsVersion result (state S.Store conn.old) (state S.Store conn.new) }
+    ensures version { TellsVersion S.Store result conn.old conn.new }
     ensures damaged { TellsDamage result (state S.Store conn.old) (state S.Store conn.new) }
     ensures unchanged { KeepsCommitted result (state S.Store conn.old) (state S.Store conn.new) }
     ensures committed { Commits result (state S.Store conn.new) }
@@ -134,10 +178,10 @@ pub(crate) fn migrate<S: Alter>(
         return Err(OpenFault::Store);
     }
     if !is_office(conn.schema()) {
-        if keep_version(conn.schema().tables.as_slice()) {
-            return Err(OpenFault::Store);
+        if !keep_version(conn.schema().tables.as_slice()) {
+            return Err(OpenFault::Version);
         }
-        return Err(OpenFault::Version);
+        return Err(fault_in(conn));
     }
     let Some(row) = stored_version(conn)? else {
         return Err(OpenFault::Version);

@@ -1,20 +1,23 @@
 //! The tables in SQL.
 
-ghost use Rattle.std.specs.Prelude.{◌≡◌, false, IfOk, IfErr};
+ghost use Rattle.std.specs.Prelude.{◌≡◌, ◌≢◌, false, Err, IfOk, IfErr};
 ghost use Rattle.sqlite.specs.State.{Survives};
 ghost use Rattle.sqlite.specs.Held.{state};
 ghost use Rattle.office_tables_sql.specs.Calls.{IsHonest};
 ghost use Rattle.office_tables.specs.Migrate.{Brings, StandsAnew, MayBecome};
 ghost use Rattle.office_tables.specs.Migrate.{TellsVersion, TellsDamage};
 ghost use Rattle.office_tables_open.specs.Promises.{KeepsCommitted, Settles, IsArrangedIfClean};
-ghost use Rattle.office_tables_open.specs.Opening.{IsOpened, IsRefused};
+ghost use Rattle.office_tables_open.specs.Arranged.{IsCheckedAgain};
+ghost use Rattle.office_tables_open.specs.Opening.{HasOtherVersion, HasRowsAlone, StaysHonest};
+ghost use Rattle.office_tables_open.specs.Opening.{IsAsFound, IsOpened, IsRefused};
+ghost use Rattle.office_tables_sql.specs.Schema.{office_schema};
 
 use crate::change;
 use crate::migrate::migrate;
 use cabinet_core::{Day, Delivery, Hand, Inspection, Order, PartCode, UsedLine};
 use office_tables_former::puts::Migrated;
 use office_tables_open::found::checked;
-use office_tables_open::open::{OpenFault, claim, has_only_ours, prepared};
+use office_tables_open::open::{Left, OpenFault, claim, has_only_ours, prepared};
 use office_tables_shelf::counts::WriteCounts;
 use office_tables_shelf::rows::{IntersectionRow, RowChange, Table};
 use office_tables_shelf::shelf::{Shelf, ShelfFault};
@@ -48,13 +51,17 @@ impl<S: Alter> Model for SqlShelf<S> {
 impl<S: Alter> SqlShelf<S> {
     /// Takes the tables of the office. Where no table has a row they are made, also where some are
     /// missing or another layout has them. Version 2 is stored where none is and no table has a
-    /// row. A transaction that is under way is refused. Where it refuses, the connection is
-    /// dropped.
+    /// row. A transaction that is under way is refused. Where it refuses, what `open_returning`
+    /// gives back is dropped.
     pub fn open(alloc: Global, conn: Connection<S>) -> Result<SqlShelf<S>, OpenFault>
     where
         S: Drop,
         ensures opened { IfOk result (IsOpened S.Store conn) }
-        ensures refused { IfErr result (λ fault. (back : _) × IsRefused S.Store conn fault back) }
+        ensures refused { IfErr result (λ fault. (left : _) × IsRefused S.Store conn fault left) }
+        ensures version { result ≡ Err OpenFault.Version → StaysHonest S.Store conn →
+            HasOtherVersion (state S.Store conn).committed.trees }
+        ensures damaged { result ≡ Err OpenFault.Damaged → StaysHonest S.Store conn →
+            HasRowsAlone (state S.Store conn).committed.trees }
     {
         match SqlShelf::open_returning(alloc, conn) {
             Ok(shelf) => Ok(shelf),
@@ -62,26 +69,27 @@ impl<S: Alter> SqlShelf<S> {
         }
     }
 
-    /// As `open`, and gives the connection back where it refuses its tables. The database is
-    /// checked again first, which shows that the rows of each table are in order.
+    /// As `open`, and gives back what is left where it refuses: the connection, or its store where
+    /// the database was not checked again. The database is checked again first, which shows that
+    /// the rows of each table are in order.
     pub fn open_returning(
         alloc: Global,
         conn: Connection<S>,
-    ) -> Result<SqlShelf<S>, (OpenFault, Option<Connection<S>>)>
+    ) -> Result<SqlShelf<S>, (OpenFault, Left<S>)>
     where
         S: Drop,
         ensures opened { IfOk result (IsOpened S.Store conn) }
         ensures refused { IfErr result (λ e. IsRefused S.Store conn e.0 e.1) }
     {
         if !conn.is_autocommit() {
-            return Err((OpenFault::Store, None));
+            return Err((OpenFault::Store, Ok(conn)));
         }
         if !has_only_ours(conn.schema()) {
-            return Err((OpenFault::Store, Some(conn)));
+            return Err((OpenFault::Store, Ok(conn)));
         }
         match checked(alloc, conn) {
             Ok(conn) => SqlShelf::open_arranged(alloc, conn),
-            Err(fault) => Err((OpenFault::from(fault), None)),
+            Err((fault, store)) => Err((OpenFault::from(fault), Err(store))),
         }
     }
 
@@ -91,7 +99,7 @@ impl<S: Alter> SqlShelf<S> {
     pub fn open_arranged(
         alloc: Global,
         conn: Connection<S>,
-    ) -> Result<SqlShelf<S>, (OpenFault, Option<Connection<S>>)>
+    ) -> Result<SqlShelf<S>, (OpenFault, Left<S>)>
     where
         S: Drop,
         requires { IsArrangedIfClean (state S.Store conn) }
@@ -102,27 +110,51 @@ impl<S: Alter> SqlShelf<S> {
             Ok(found) => found,
             Err(refused) => return Err(refused),
         };
-        match claim(&mut conn, is_new) {
+        if is_new {
+            return Ok(SqlShelf {
+                conn,
+                counts: WriteCounts::new(),
+            });
+        }
+        match claim(&mut conn) {
             Ok(()) => Ok(SqlShelf {
                 conn,
                 counts: WriteCounts::new(),
             }),
-            Err(fault) if is_new => Err((fault, None)),
-            Err(fault) => Err((fault, Some(conn))),
+            Err(fault) => Err((fault, Ok(conn))),
+        }
+    }
+
+    /// The same database, which was checked again, so that its rows are known to be in order, as
+    /// `open_arranged` and `migrate` ask. Where it is refused its store comes back.
+    pub fn checked(alloc: Global, conn: Connection<S>) -> Result<Connection<S>, (OpenFault, S)>
+    where
+        S: Drop,
+        ensures again { IfOk result (λ c.
+            IsCheckedAgain (state S.Store conn) (state S.Store c)) }
+        ensures arranged { IfOk result (λ c. IsArrangedIfClean (state S.Store c)) }
+        ensures fault { IfErr result (λ e.
+            (e.0 ≢ OpenFault.Version) × (e.0 ≢ OpenFault.Damaged)) }
+        ensures left { IfErr result (λ e. IsAsFound S.Store conn e.1) }
+    {
+        match checked(alloc, conn) {
+            Ok(conn) => Ok(conn),
+            Err((fault, store)) => Err((OpenFault::from(fault), store)),
         }
     }
 
     /// Brings the tables of a database from version 1 to today's version, all or none: each row of
     /// `timing` and `draft` is spelled as it is today, and today's version is stored. On tables of
     /// today's version it changes nothing. It refuses with Version where another version is stored
-    /// or none, with Damaged where a row of those two tables is none of version 1, and with Store
-    /// or NoMemory; the tables are then as they were. What is stored in other tables is not looked
-    /// at.
+    /// or none, whatever the layout of the tables, with Damaged where a row of those two tables is
+    /// none of version 1, and with Store or NoMemory; the tables are then as they were. What is
+    /// stored in other tables is not looked at. The rows have to be known to be in order, as those
+    /// of files that were just opened are, and of any database that `checked` gives.
     pub fn migrate(alloc: Global, conn: &mut Connection<S>) -> Result<Migrated, OpenFault>
         requires { IsArrangedIfClean (state S.Store conn.old) }
         ensures brought { Brings result (state S.Store conn.old) (state S.Store conn.new) }
         ensures stands { StandsAnew result (state S.Store conn.old) (state S.Store conn.new) }
-        ensures version { TellsVersion result (state S.Store conn.old) (state S.Store conn.new) }
+        ensures version { TellsVersion S.Store result conn.old conn.new }
         ensures damaged { TellsDamage result (state S.Store conn.old) (state S.Store conn.new) }
         ensures unchanged { KeepsCommitted result (state S.Store conn.old)
             (state S.Store conn.new) }
@@ -139,6 +171,8 @@ impl<S: Alter> SqlShelf<S> {
         ensures autocommit { (state S.Store result).in_transaction ≡ false }
         ensures committed { IsHonest (state S.Store result) →
             (state S.Store result).committed ≡ (state S.Store self.conn).now }
+        ensures schema { IsHonest (state S.Store result) →
+            (state S.Store result).now.schema ≡ office_schema }
     {
         let SqlShelf { conn, .. } = self;
         conn

@@ -26,7 +26,7 @@ use Rattle.office_tables_sql.specs.Layout as layout
 use Rattle.office_tables_sql.specs.Layout.{has_key, values_at}
 use Rattle.office_tables_sql.specs.Stored.{cell_of, cells, rows_in}
 use Rattle.office_tables_sql.proofs.StoredLemmas.{get_columns, sound_rowids}
-use Rattle.office_tables_open.specs.Found.{IsOneOfEight, KeepsVersion, StoresOtherAt, StoreOther, StoreNone, HaveNoRow, IsFoundAt, IsFound}
+use Rattle.office_tables_open.specs.Found.{IsOneOfEight, IsOtherNumber, KeepsVersion, StoresOtherAt, StoreOther, StoreNone, HaveNoRow, IsFoundAt, IsFound}
 use Rattle.office_tables_open.specs.Version.{version_at, current_version}
 use Rattle.office_tables_open.specs.declared.found.Found.{Found}
 use Rattle.office_tables_open.specs.declared.found.Found.TheVariants.{Nothing, RowsAlone, OtherVersion, Unknown}
@@ -79,13 +79,6 @@ first_found p q (r ∷ rows) row same e = elim (cases_Bool (q r)) [
   | inr miss ↦ rw (same r (inl refl), miss) (first_found p q rows row (λ x there. same x (inr there)) (rw miss at e))
 ]
 
-cell_number : (v : Value) (n : ℤ) → cell_of v ≡ number n → v ≡ Int n
-cell_number Null n e = absurd (cc)
-cell_number (Int m) n e = cc
-cell_number (Real x) n e = absurd (cc)
-cell_number (Text t) n e = absurd (cc)
-cell_number (Blob b) n e = absurd (cc)
-
 module _ (table : Table) (trees : Trees) (row : Row) (shaped : IsShaped shape.Table (trees table.tree)) (finds : Finds (trees table.tree) (pos 1) row true) where
   version_is : version_at table.tree trees ≡ Some (cell_of (column row 2) ∷ [])
   version_is =
@@ -93,12 +86,8 @@ module _ (table : Table) (trees : Trees) (row : Row) (shaped : IsShaped shape.Ta
       get_columns layout.office_version rows (Int (pos 1) ∷ []) (sound_rowids layout.office_version refl rows shaped) refl
       ∙ ap (λ (o : Option Row). option_map cells (option_map (values_at layout.office_version.columns) o)) (first_found (has_key layout.office_version (Int (pos 1) ∷ [])) (has_rowid (pos 1)) rows row (λ r there. rowid_key r (all_has _ rows r shaped.1 there)) finds)
 
-  pub other_stored : KeepsVersion table → column row 2 ≢ Int (pos 2) → StoresOtherAt table trees
-  other_stored keeps other = record {
-    keeps = keeps;
-    stored = λ none. absurd (let e : Some (cell_of (column row 2) ∷ []) ≡ None = sym version_is ∙ none in cc);
-    other = λ same. let e : Some (cell_of (column row 2) ∷ []) ≡ Some current_version = sym version_is ∙ same in let is : cell_of (column row 2) ≡ number (pos 2) = cc in other (cell_number _ _ is);
-  }
+  pub other_stored : KeepsVersion table → IsOtherNumber (column row 2) → StoresOtherAt table trees
+  other_stored keeps told = record { keeps = keeps; version = told.0; stored = version_is ∙ ap (λ v. Some (cell_of v ∷ [])) told.1; other = told.2 }
 
 -- ---- several tables
 

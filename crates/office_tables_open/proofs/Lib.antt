@@ -3,4 +3,6 @@ mod StatementLemmas
 pub mod BlankLemmas
 pub mod ArrangedLemmas
 pub mod OpenLemmas
+pub mod LeftLemmas
+mod MadeLemmas
 mod FoundLemmas

@@ -1,5 +1,5 @@
 -- What the steps of an opening come to.
-use Rattle.std.proofs.Common.{◌≡◌, ◌≢◌, ◌≤◌, ◌⊎◌, inl, inr, ℕ, List, [], ◌∷◌, Option, None, Some, option_map, IsTrue, Bool, true, false, not, refl, sym, ap, subst, ◌∙◌, arith}
+use Rattle.std.proofs.Common.{◌≡◌, ◌≢◌, ◌≤◌, inl, inr, [], Option, None, Some, option_map, IsTrue, Bool, true, false, not, refl, sym, ap, subst, ◌∙◌, arith}
 use Rattle.sqlite.specs.Effect.{Database, IsDatabase}
 use Rattle.sqlite.specs.Held.{Held, state}
 use Rattle.sqlite.specs.State.{State, HasCleanDisk, Opens, IsLive}
@@ -17,14 +17,12 @@ use Rattle.office_tables_sql.specs.Schema.{office_schema, no_schema, version_tab
 use Rattle.office_tables_sql.specs.Stored.{cells, content_now, content_of}
 use Rattle.office_tables_open.specs.Arranged.{IsArranged, IsUnchanged, IsTaken, IsCheckedAgain}
 use Rattle.office_tables_open.specs.Found.{HasOtherVersion, HasRowsAlone, IsFound, IsFoundIn, IsOneOfEight, IsUnclaimed, StoreNone}
-use Rattle.office_tables_open.specs.Opening.{AreMade, AreRun, IsAsFound, IsOpened, IsRefused, IsSettled, MayBeTaken, OnlyReads}
+use Rattle.office_tables_open.specs.Opening.{IsMadeNew, IsOpened, IsSettled, MayBeTaken}
 use Rattle.office_tables_open.specs.SqlShelf.{SqlView}
-use Rattle.office_tables_open.specs.Version.{AreEmpty, HasRow, version_in, current_version}
+use Rattle.office_tables_open.specs.Version.{AreEmpty, HasRow, TellsOther, version_in, current_version}
 use Rattle.office_tables_open.specs.declared.found.Found.{Found}
 use Rattle.office_tables_open.specs.declared.found.Found.TheVariants.{Nothing, RowsAlone, OtherVersion}
 use Rattle.office_tables_open.specs.declared.found.TheConstants.{KEEPER}
-use Rattle.office_tables_open.specs.declared.open.OpenFault.{OpenFault}
-use Rattle.office_tables_open.specs.declared.open.OpenFault.TheVariants as fault
 use Rattle.office_tables_open.proofs.ArrangedLemmas.{tables_rise}
 use Rattle.office_tables_open.proofs.BlankLemmas.{found_empty}
 use Rattle.office_tables_open.proofs.FoundLemmas.{apart, differ, store_none, have_no_row}
@@ -51,14 +49,12 @@ module _ (db : Database) (is : db.schema ≡ office_schema) (sound : IsDatabase 
   office_listed = subst (AreListed (db.trees catalog_tree)) is sound.lists.listed
 
   -- another version in the tables of the office
-  pub office_other : version_in db.trees ≢ None → version_in db.trees ≢ Some current_version → HasOtherVersion db.trees
-  office_other stored other =
-      (office_schema, office_listed, (version_table, inr (inr (inr (inr (inr (inr (inr (inr (inl refl)))))))), record { keeps = record { named = refl; rowid = refl; columns = refl }; stored = stored; other = other }))
+  pub office_other : (r : Row) → version_in db.trees ≡ Some (cells r) → TellsOther r 2 → HasOtherVersion db.trees
+  office_other r stored told =
+      (office_schema, office_listed, (version_table, inr (inr (inr (inr (inr (inr (inr (inr (inl refl)))))))), record { keeps = record { named = refl; rowid = refl; columns = refl }; version = told.told; stored = stored ∙ ap Some told.is; other = told.other }))
 
-  pub office_told : (row : Option Row) (r : Row) → row ≡ Some r → option_map cells row ≡ version_in db.trees → cells r ≢ current_version → HasOtherVersion db.trees
-  office_told row r some found other =
-      let stored : version_in db.trees ≡ Some (cells r) = sym found ∙ ap (option_map cells) some in
-      office_other (λ none. absurd (let e : Some (cells r) ≡ None = sym stored ∙ none in cc)) (λ same. let e : Some (cells r) ≡ Some current_version = sym stored ∙ same in let is : cells r ≡ current_version = cc in other is)
+  pub office_told : (row : Option Row) (r : Row) → row ≡ Some r → option_map cells row ≡ version_in db.trees → TellsOther r 2 → HasOtherVersion db.trees
+  office_told row r some found told = office_other r (sym found ∙ ap (option_map cells) some) told
 
   office_none : version_in db.trees ≡ None → StoreNone office_schema.tables db.trees
   office_none none = ((λ named. absurd (differ _ _ named refl)), ((λ named. absurd (differ _ _ named refl)), ((λ named. absurd (differ _ _ named refl)), ((λ named. absurd (differ _ _ named refl)), ((λ named. absurd (differ _ _ named refl)), ((λ named. absurd (differ _ _ named refl)), ((λ named. absurd (differ _ _ named refl)), ((λ named. absurd (differ _ _ named refl)), ((λ named. none), tt)))))))))
@@ -74,85 +70,39 @@ module _ (db : Database) (is : db.schema ≡ office_schema) (sound : IsDatabase 
   office_rows none some =
       (office_schema, office_listed, (office_none none, λ all. some (all.0 (inl refl), (all.1.0 (inr (inl refl)), (all.1.1.0 (inr (inr (inl refl))), (all.1.1.1.0 (inr (inr (inr (inl refl)))), (all.1.1.1.1.0 (inr (inr (inr (inr (inl refl))))), (all.1.1.1.1.1.0 (inr (inr (inr (inr (inr (inl refl)))))), (all.1.1.1.1.1.1.0 (inr (inr (inr (inr (inr (inr (inl refl))))))), (all.1.1.1.1.1.1.1.0 (inr (inr (inr (inr (inr (inr (inr (inl refl)))))))), tt))))))))))
 
-pub only_reads_found : (old new : State) → OnlyReads old new → (IsHonest old → old.now ≡ old.committed) → IsAsFound old new
-only_reads_found old new only settled = record {
-  clean = λ h. omega (arith, h, only.1.clean);
-  committed = λ h. ap (λ (d : Database). d.trees) (sym (only.0.office.settled h) ∙ only.0.same h ∙ settled (only.0.honest h));
-  crash = λ h trees left. go trees (only.1.crash h trees left);
-}
-  where
-    go : (trees : Trees) → (old.may_leave trees ⊎ ⊥) → old.may_leave trees
-    go trees (inl was) = was
-    go trees (inr none) = absurd none
+module _ {S : Type 0} (g : Ghosts S) (conn : Held S) (shelf : SqlView S) where
+  module _ (new : Held S) (is : shelf.conn ≡ new) (none : shelf.counts ≡ no_writes) (office : IsOffice (state g new))
+      (crash : IsHonest (state g new) → (trees : Trees) → (state g new).may_leave trees → content_of trees ≡ content_now (state g new)) where
+    shown : record shelf { conn = new } ≡ shelf
+    shown = ap (λ (c : Held S). record shelf { conn = c }) (sym is)
 
--- the first statement found the connection open
-pub made_open : {S : Type 0} (g : Ghosts S) (old new : Held S) → AreMade g old new → IsTrue (state g old).is_open
-made_open g old new made = made.run.dropped.2.1.was_open
-
-pub run_inside : {S : Type 0} (g : Ghosts S) (texts : List (List ℕ)) (old new : Held S) → AreRun g texts old new → old.in_transaction ≡ true → new.in_transaction ≡ true
-run_inside g [] old new is h = ap (λ (x : Held _). x.in_transaction) is ∙ h
-run_inside g (text ∷ more) old new run h = run_inside g more run.0 new run.3 run.2.1.mode
-
-module _ {S : Type 0} (g : Ghosts S) (conn : Held S) where
-  -- the connection whose tables were looked at
-  module _ (new : Held S) (settled : IsSettled (state g conn)) (honest : IsHonest (state g new) → IsHonest (state g conn))
-      (same : IsHonest (state g new) → content_now (state g new) ≡ content_now (state g conn)) where
-    kept_content : IsHonest (state g new) → content_now (state g new) ≡ content_of (state g conn).committed.trees
-    kept_content h = same h ∙ ap (λ (d : Database). content_of d.trees) (settled (honest h).1)
-
-    pub opened_looked : (shelf : SqlView S) → shelf.conn ≡ new → shelf.counts ≡ no_writes → ((state g conn).now.schema ≡ no_schema → ⊥)
-        → (IsHonest (state g new) → MayBeTaken (state g conn).now.trees) → (IsHonest (state g new) → version_in (state g new).now.trees ≡ Some current_version)
-        → (IsHonest (state g new) → (trees : Trees) → (state g new).may_leave trees → content_of trees ≡ content_now (state g new)) → IsOpened g conn shelf
-    opened_looked shelf is none foreign taken stored crash =
-        subst (λ (s : SqlView S). IsOpened g conn s) shown (record {
-          honest = λ h. (honest h).0;
-          taken = λ h. subst (λ (d : Database). MayBeTaken d.trees) (settled (honest h).1) (taken h);
-          kept = kept_content;
-          made = λ h blank. absurd (foreign blank);
-          stored = stored;
-          crash = crash;
-          unwritten = none;
-        })
-      where
-        shown : record shelf { conn = new } ≡ shelf
-        shown = ap (λ (c : Held S). record shelf { conn = c }) (sym is)
-
-    pub refused_looked : (why : OpenFault) → (why ≡ fault.Version → IsHonest (state g new) → HasOtherVersion (state g conn).now.trees)
-        → (why ≡ fault.Damaged → IsHonest (state g new) → HasRowsAlone (state g conn).now.trees)
-        → ((why ≡ fault.Version) ⊎ (why ≡ fault.Damaged) → OnlyReads (state g conn) (state g new)) → IsRefused g conn why (Some new)
-    refused_looked why other rows reads = record {
+    -- tables that were found
+    pub opened_looked : IsSettled (state g conn) → (IsHonest (state g new) → IsHonest (state g conn)) → (IsHonest (state g new) → content_now (state g new) ≡ content_now (state g conn))
+        → ((state g conn).now.schema ≡ no_schema → ⊥) → (IsHonest (state g new) → MayBeTaken (state g conn).now.trees)
+        → (IsHonest (state g new) → version_in (state g new).now.trees ≡ Some current_version) → IsOpened g conn shelf
+    opened_looked settled honest same foreign taken stored = subst (λ (s : SqlView S). IsOpened g conn s) shown (record {
       honest = λ h. (honest h).0;
-      reached = λ none. absurd (cc);
-      version = λ is h. subst (λ (d : Database). HasOtherVersion d.trees) (settled (honest h).1) (other is h);
-      damaged = λ is h. subst (λ (d : Database). HasRowsAlone d.trees) (settled (honest h).1) (rows is h);
-      kept = kept_content;
-      left = λ told. only_reads_found (state g conn) (state g new) (reads told) (λ h. settled h.1);
-    }
+      taken = λ h. subst (λ (d : Database). MayBeTaken d.trees) (settled (honest h).1) (taken h);
+      kept = λ h. same h ∙ ap (λ (d : Database). content_of d.trees) (settled (honest h).1);
+      made = λ h blank. absurd (foreign blank);
+      stored = stored;
+      schema = office.schema;
+      crash = crash;
+      unwritten = none;
+    })
 
-  -- the connection in which the tables were made
-  module _ (mid new : Held S) (clean : HasCleanDisk (state g mid) → HasCleanDisk (state g conn)) (honest : IsHonest (state g new) → IsHonest (state g mid))
-      (unclaimed : HasCleanDisk (state g mid) → IsUnclaimed (state g conn).committed.trees) (was : HasCleanDisk (state g mid) → AreEmpty (state g conn).committed.trees)
-      (empty : IsHonest (state g new) → AreEmpty (state g mid).now.trees)
-      (same : IsHonest (state g new) → content_now (state g new) ≡ content_now (state g mid)) where
-    none_kept : (h : IsHonest (state g new)) → content_now (state g new) ≡ content_of (state g conn).committed.trees
-    none_kept h = same h ∙ empty_content (state g mid).now.trees (empty h) ∙ sym (empty_content (state g conn).committed.trees (was (honest h).0))
-
-    pub opened_made : (shelf : SqlView S) → shelf.conn ≡ new → shelf.counts ≡ no_writes
-        → (IsHonest (state g new) → version_in (state g new).now.trees ≡ Some current_version)
-        → (IsHonest (state g new) → (trees : Trees) → (state g new).may_leave trees → content_of trees ≡ content_now (state g new)) → IsOpened g conn shelf
-    opened_made shelf is none stored crash =
-        subst (λ (s : SqlView S). IsOpened g conn s) shown (record {
-          honest = λ h. clean (honest h).0;
-          taken = λ h. inr (unclaimed (honest h).0);
-          kept = none_kept;
-          made = λ h blank. same h ∙ empty_content (state g mid).now.trees (empty h);
-          stored = stored;
-          crash = crash;
-          unwritten = none;
-        })
-      where
-        shown : record shelf { conn = new } ≡ shelf
-        shown = ap (λ (c : Held S). record shelf { conn = c }) (sym is)
+    -- tables that were made
+    pub opened_made : (IsHonest (state g new) → IsMadeNew (state g conn) (state g new)) → IsOpened g conn shelf
+    opened_made made = subst (λ (s : SqlView S). IsOpened g conn s) shown (record {
+      honest = λ h. (made h).was_clean;
+      taken = λ h. inr (made h).unclaimed;
+      kept = λ h. (made h).office.content ∙ sym (empty_content (state g conn).committed.trees (made h).empty);
+      made = λ h blank. (made h).office.content;
+      stored = λ h. (made h).office.stored;
+      schema = office.schema;
+      crash = crash;
+      unwritten = none;
+    })
 
 -- ---- a database that was checked once more
 
@@ -209,32 +159,6 @@ module _ (s : State) (settled : s.now ≡ s.committed) where
   pub found_rows : IsFoundIn RowsAlone s → HasRowsAlone s.committed.trees
   found_rows it = let is = found_listed RowsAlone it in (s.committed.schema, is.0.lists.listed, is.1)
 
--- why it is refused
-module _ {S : Type 0} (g : Ghosts S) (conn : Held S) (why : OpenFault) where
-  pub refused_lost : why ≢ fault.Version → why ≢ fault.Damaged → IsRefused g conn why None
-  refused_lost no_version no_damage = record { honest = tt; reached = λ _. (no_version, no_damage); version = λ is. absurd (no_version is); damaged = λ is. absurd (no_damage is); kept = tt; left = λ is. tt }
-
-  pub refused_unseen : IsSettled (state g conn) → why ≡ fault.Store → IsRefused g conn why (Some conn)
-  refused_unseen settled store = record {
-    honest = λ h. h.0;
-    reached = λ none. absurd (cc);
-    version = λ is. absurd (let e : fault.Store ≡ fault.Version = sym store ∙ is in cc);
-    damaged = λ is. absurd (let e : fault.Store ≡ fault.Damaged = sym store ∙ is in cc);
-    kept = λ h. ap (λ (d : Database). content_of d.trees) (settled h.1);
-    left = λ told. absurd (elim told [ inl is ↦ (let e : fault.Store ≡ fault.Version = sym store ∙ is in cc) | inr is ↦ (let e : fault.Store ≡ fault.Damaged = sym store ∙ is in cc) ]);
-  }
-
-  pub refused_found : (c : Held S) → IsCheckedAgain (state g conn) (state g c) → (why ≡ fault.Version → HasCleanDisk (state g c) → HasOtherVersion (state g conn).committed.trees)
-      → (why ≡ fault.Damaged → HasCleanDisk (state g c) → HasRowsAlone (state g conn).committed.trees) → IsRefused g conn why (Some c)
-  refused_found c it other rows = record {
-    honest = λ h. omega (arith, h.0, it.clean);
-    reached = λ none. absurd (cc);
-    version = λ is h. other is h.0;
-    damaged = λ is h. rows is h.0;
-    kept = λ h. ap content_of (it.kept h.0);
-    left = λ told. record { clean = λ h. omega (arith, h, it.clean); committed = λ h. same_committed (state g conn) (state g c) it h.0; crash = it.crash };
-  }
-
 -- the connection as it was before its database was checked again
 module _ {S : Type 0} (g : Ghosts S) (conn found : Held S) (clean : HasCleanDisk (state g found) → HasCleanDisk (state g conn))
     (same : HasCleanDisk (state g found) → (state g found).committed.trees ≡ (state g conn).committed.trees) where
@@ -245,23 +169,7 @@ module _ {S : Type 0} (g : Ghosts S) (conn found : Held S) (clean : HasCleanDisk
     kept = λ h. it.kept h ∙ ap content_of (same (it.honest h));
     made = λ h is. it.kept h ∙ ap content_of (same (it.honest h)) ∙ empty_content (state g conn).committed.trees (blank (it.honest h) is);
     stored = it.stored;
+    schema = it.schema;
     crash = it.crash;
     unwritten = it.unwritten;
-  }
-
-  pub refused_before : (HasCleanDisk (state g found) → (trees : Trees) → (state g found).may_leave trees → (state g conn).may_leave trees)
-      → (why : OpenFault) (back : Option (Held S)) → IsRefused g found why back → IsRefused g conn why back
-  refused_before crash why None it =
-      record { honest = tt; reached = it.reached; version = λ is. tt; damaged = λ is. tt; kept = tt; left = λ is. tt }
-  refused_before crash why (Some c) it = record {
-    honest = λ h. clean (it.honest h);
-    reached = it.reached;
-    version = λ is h. subst HasOtherVersion (same (it.honest h)) (it.version is h);
-    damaged = λ is h. subst HasRowsAlone (same (it.honest h)) (it.damaged is h);
-    kept = λ h. it.kept h ∙ ap content_of (same (it.honest h));
-    left = λ is. record {
-      clean = λ h. clean ((it.left is).clean h);
-      committed = λ h. (it.left is).committed h ∙ same (it.honest h);
-      crash = λ h trees left. crash ((it.left is).clean h) trees ((it.left is).crash h trees left);
-    };
   }

@@ -1,5 +1,5 @@
 -- What trees hold of an office whatever the layout of its tables: in another order, without STRICT, or with some of them missing.
-use Rattle.std.specs.Prelude.{◌≡◌, ◌≢◌, ◌⊎◌, ℕ, List, [], ◌∷◌, map, None, Some}
+use Rattle.std.specs.Prelude.{◌≡◌, ◌≢◌, ◌⊎◌, ℕ, ℤ, pos, List, [], ◌∷◌, map, None, Some}
 use Rattle.std.specs.List.{AllByRecursion}
 use Rattle.sqlite.specs.Effect.{IsDatabase}
 use Rattle.sqlite.specs.State.{State}
@@ -10,7 +10,10 @@ use Rattle.sqlite_schema.specs.declared.schema.Column.{Column}
 use Rattle.sqlite_schema.specs.declared.schema.Schema.{Schema}
 use Rattle.sqlite_schema.specs.declared.schema.Table.{Table}
 use Rattle.sqlite_trees.specs.Objects.{catalog_tree}
-use Rattle.office_tables_open.specs.Version.{version_at, current_version}
+use Rattle.sqlite_value.specs.declared.value.Value.{Value}
+use Rattle.sqlite_value.specs.declared.value.Value.TheVariants.{Int}
+use Rattle.office_tables_shelf.specs.Cells.{number}
+use Rattle.office_tables_open.specs.Version.{version_at}
 use Rattle.office_tables_open.specs.declared.found.Found.{Found}
 use Rattle.office_tables_open.specs.declared.found.Found.TheVariants.{Nothing, RowsAlone, OtherVersion, Unknown}
 use Rattle.office_tables_open.specs.declared.found.TheConstants.{EIGHT, KEEPER, COLUMNS}
@@ -34,11 +37,16 @@ pub record KeepsVersion (table : Table) : Type 0 where
   pub rowid : table.key ≡ Some 0
   pub columns : map (λ (c : Column). c.name) table.columns ≡ map (λ text. text.now) COLUMNS
 
--- and it stores another one than today's
+-- the value is a number, and not that of today's version
+abbrev pub IsOtherNumber : Value → Type 0
+IsOtherNumber value = (n : ℤ) × (value ≡ Int n) × (n ≢ pos 2)
+
+-- and it stores a number, and another one than today's
 pub record StoresOtherAt (table : Table) (trees : Trees) : Type 0 where
   pub keeps : KeepsVersion table
-  pub stored : version_at table.tree trees ≢ None
-  pub other : version_at table.tree trees ≢ Some current_version
+  pub version : ℤ
+  pub stored : version_at table.tree trees ≡ Some (number version ∷ [])
+  pub other : version ≢ pos 2
 
 abbrev pub StoreOther : List Table → Trees → Type 0
 StoreOther tables trees = (table : Table) × Has tables table × StoresOtherAt table trees

@@ -36,9 +36,9 @@ LeavesNoMore old new = Survives old new (λ _. ⊥)
 abbrev pub KeepsContent : State → State → Type 0
 KeepsContent old new = IsHonest new → content_now new ≡ content_now old
 
--- and so does a stop
-abbrev pub LeavesContent : State → State → Type 0
-LeavesContent old new = Survives old new (λ trees. IsHonest old × (content_of trees ≡ content_now old))
+-- and a stop may leave it with today's version stored
+abbrev pub LeavesToday : State → State → Type 0
+LeavesToday old new = Survives old new (λ trees. IsHonest old × (content_of trees ≡ content_now old) × (version_in trees ≡ Some current_version))
 
 -- it ends with today's version stored
 abbrev pub EndsToday : {A E : Type 0} → Result A E → State → Type 0

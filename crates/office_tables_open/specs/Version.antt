@@ -1,10 +1,11 @@
 -- The stored version, and whether the tables have rows.
-use Rattle.std.specs.Prelude.{◌≡◌, ℕ, false, List, [], ◌∷◌, map, pos, negsuc, Option, None}
+use Rattle.std.specs.Prelude.{◌≡◌, ◌≢◌, ℕ, ℤ, false, List, [], ◌∷◌, map, pos, negsuc, Option, None}
 use Rattle.std.specs.FinMap.{get}
 use Rattle.std.specs.List.{AllByRecursion}
 use Rattle.sqlite.specs.declared.types.Value.TheVariants.{Int}
 use Rattle.sqlite.specs.Command.TheVariants.{Select}
 use Rattle.sqlite.specs.Listing.{understood}
+use Rattle.sqlite.specs.Order.{Row}
 use Rattle.sqlite.specs.Program.{overlay}
 use Rattle.sqlite.specs.Query.{Query, inner, end}
 use Rattle.sqlite.specs.Term.{lit, col}
@@ -12,7 +13,7 @@ use Rattle.sqlite.specs.Tree.{Trees}
 use Rattle.office_tables_shelf.specs.Cells.{Cell, number}
 use Rattle.office_tables_sql.specs.Schema.{office_schema}
 use Rattle.office_tables_sql.specs.Layout as layout
-use Rattle.office_tables_sql.specs.Stored.{rows_of}
+use Rattle.office_tables_sql.specs.Stored.{cells, rows_of}
 use Rattle.office_tables_sql.specs.Calls.{IsQuery, command_of}
 
 -- the version that the table with this number stores, if it stores one: the cells under the number 1
@@ -34,6 +35,12 @@ current_version = number (pos 2) ∷ []
 -- version 1, whose rows are those of the grammar without a lead
 abbrev pub first_version : List Cell
 first_version = number (pos 1) ∷ []
+
+-- a row that tells another number than that of a version
+pub record TellsOther (row : Row) (version : ℕ) : Type 0 where
+  pub told : ℤ
+  pub is : cells row ≡ number told ∷ []
+  pub other : told ≢ pos version
 
 -- the trees of the eight tables
 abbrev pub stored_trees : List ℕ

@@ -1,16 +1,16 @@
 //! What a database holds whose tables are the office's in another layout.
 
-ghost use Rattle.std.specs.Prelude.{◌≡◌, ◌≢◌, ◌∷◌, pos, Some, [], map, IsTrue, IfOk, OnOk};
+ghost use Rattle.std.specs.Prelude.{◌≡◌, ◌≢◌, ◌∷◌, Some, [], map, IsTrue, IfOk, IfErr, OnOk};
 ghost use Rattle.sqlite.specs.Held.{state};
 ghost use Rattle.sqlite.specs.State.{HasCleanDisk};
 ghost use Rattle.sqlite_schema.specs.declared.schema.Table.{Table};
 ghost use Rattle.sqlite_trees.specs.Tree.{Trees};
 ghost use Rattle.sqlite_trees.specs.View.{IsClean, IsQuiet};
-ghost use Rattle.sqlite_value.specs.declared.value.Value.TheVariants.{Int};
 ghost use Rattle.sqlite_value.specs.Value.{owned};
 ghost use Rattle.office_tables_open.specs.Arranged.{IsUnchanged, IsTaken, IsCheckedAgain};
-ghost use Rattle.office_tables_open.specs.Found.{IsOneOf, StoresOtherAt, IsFound};
+ghost use Rattle.office_tables_open.specs.Found.{IsOneOf, IsOtherNumber, StoresOtherAt, IsFound};
 ghost use Rattle.office_tables_open.specs.Found.{IsFoundAt, IsFoundIn};
+ghost use Rattle.office_tables_open.specs.Opening.{IsAsFound};
 
 use crate::version::VERSION;
 use office_tables_sql::statement::SqlFault;
@@ -47,9 +47,9 @@ pub enum Found {
     Nothing,
     /// Rows, and no version.
     RowsAlone,
-    /// Another version than today's.
+    /// The number of another version than today's.
     OtherVersion,
-    /// Today's version, or rows that tell no version.
+    /// Today's version, or rows that tell no number of a version.
     Unknown,
 }
 
@@ -104,11 +104,14 @@ fn is_vacant<S: Store>(alloc: Global, store: &mut S, tree: u32) -> Result<bool, 
     Ok(!found)
 }
 
-/// Whether this is today's version.
-fn is_today(value: ValueRef<'_>) -> bool
-    ensures { owned value.entry ≡ Int (pos VERSION) → IsTrue result }
+/// Whether this is the number of another version than today's.
+fn is_other(value: ValueRef<'_>) -> bool
+    ensures { IsTrue result → IsOtherNumber (owned value.entry) }
 {
-    matches!(value, ValueRef::Int(number) if number == i64::from(VERSION))
+    match value {
+        ValueRef::Int(number) => number != i64::from(VERSION),
+        _ => false,
+    }
 }
 
 /// Whether the table stores another version than today's.
@@ -130,7 +133,7 @@ fn stores_other<S: Store>(alloc: Global, store: &mut S, table: &Table) -> Result
     if !store.get(table.tree, 1, &mut row)? {
         return Ok(false);
     }
-    Ok(!is_today(row.get(2)))
+    Ok(is_other(row.get(2)))
 }
 
 /// What one table holds.
@@ -192,29 +195,36 @@ fn found_in<S: Store>(alloc: Global, store: &mut S, tables: &[Table]) -> Result<
     Ok(both(first, more))
 }
 
-/// The store of a connection, as the last commit left it.
-fn store_of<S: Alter + Drop>(conn: Connection<S>) -> Result<S, SqlFault>
-    ensures { IfOk result (λ s. IsTaken (state S.Store conn) (S.Store.view s)) }
+/// The store of a connection that is given up, as the last commit left it, if no failure has broken
+/// it.
+fn store_of<S: Alter + Drop>(conn: Connection<S>) -> Result<S, S>
+    ensures taken { IfOk result (λ s. IsTaken (state S.Store conn) (S.Store.view s)) }
+    ensures found { IfOk result (IsAsFound S.Store conn) }
+    ensures left { IfErr result (IsAsFound S.Store conn) }
 {
     let store = conn.into_store();
     if store.is_broken() {
-        return Err(SqlFault::Store);
+        return Err(store);
     }
     Ok(store)
 }
 
 /// The same database, which was checked again, so that each tree is known to hold what its list
-/// of objects says.
+/// of objects says. Where it is refused its store comes back.
 pub fn checked<S: Alter + Drop>(
     alloc: Global,
     conn: Connection<S>,
-) -> Result<Connection<S>, SqlFault>
-    ensures { IfOk result (λ c. IsCheckedAgain (state S.Store conn) (state S.Store c)) }
+) -> Result<Connection<S>, (SqlFault, S)>
+    ensures again { IfOk result (λ c. IsCheckedAgain (state S.Store conn) (state S.Store c)) }
+    ensures left { IfErr result (λ e. IsAsFound S.Store conn e.1) }
 {
-    let store = store_of(conn)?;
+    let store = match store_of(conn) {
+        Ok(store) => store,
+        Err(store) => return Err((SqlFault::Store, store)),
+    };
     match Connection::over(alloc, store) {
         Ok(conn) => Ok(conn),
-        Err((error, _)) => Err(SqlFault::from(error)),
+        Err((error, store)) => Err((SqlFault::from(error), store)),
     }
 }
 
@@ -225,25 +235,31 @@ fn fault_of(error: StoreError) -> SqlFault {
     }
 }
 
-/// The same database, checked again, and what its tables hold.
+/// The same database, checked again, and what its tables hold. Where it is refused its store comes
+/// back.
 pub fn looked<S: Alter + Drop>(
     alloc: Global,
     conn: Connection<S>,
-) -> Result<(Found, Connection<S>), SqlFault>
+) -> Result<(Found, Connection<S>), (SqlFault, S)>
     ensures again { IfOk result (λ f. IsCheckedAgain (state S.Store conn) (state S.Store f.1)) }
     ensures found { IfOk result (λ f. HasCleanDisk (state S.Store f.1) →
         IsFoundIn f.0 (state S.Store conn)) }
+    ensures left { IfErr result (λ e. IsAsFound S.Store conn e.1) }
 {
-    let Ok(schema) = conn.schema().copy(alloc) else {
-        return Err(SqlFault::NoMemory);
+    let copied = conn.schema().copy(alloc);
+    let mut store = match store_of(conn) {
+        Ok(store) => store,
+        Err(store) => return Err((SqlFault::Store, store)),
     };
-    let mut store = store_of(conn)?;
+    let Ok(schema) = copied else {
+        return Err((SqlFault::NoMemory, store));
+    };
     let held = match found_in(alloc, &mut store, schema.tables.as_slice()) {
         Ok(held) => held,
-        Err(error) => return Err(fault_of(error)),
+        Err(error) => return Err((fault_of(error), store)),
     };
     match Connection::over(alloc, store) {
         Ok(conn) => Ok((held, conn)),
-        Err((error, _)) => Err(SqlFault::from(error)),
+        Err((error, store)) => Err((SqlFault::from(error), store)),
     }
 }

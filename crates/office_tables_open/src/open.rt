@@ -1,24 +1,23 @@
 //! Opening the tables of the office.
 
-ghost use Rattle.std.specs.Prelude.{◌≡◌, ◌≢◌, ◌⊎◌, ◌≤◌, true, false, map, [], Err, None, Some};
+ghost use Rattle.std.specs.Prelude.{◌≡◌, ◌≢◌, ◌⊎◌, true, false, map, [], Err};
 ghost use Rattle.std.specs.Prelude.{IsTrue, IfOk, IfErr, OnOk};
 ghost use Rattle.std.specs.List.{AllByRecursion};
-ghost use Rattle.sqlite.specs.State.{HasCleanDisk};
+ghost use Rattle.sqlite.specs.State.{HasCleanDisk, Survives};
 ghost use Rattle.sqlite.specs.Held.{state};
-ghost use Rattle.sqlite_trees.specs.View.{doubt};
 ghost use Rattle.office_tables_sql.specs.Schema.{no_schema};
-ghost use Rattle.office_tables_sql.specs.Calls.{IsHonest, IsOffice};
+ghost use Rattle.office_tables_sql.specs.Calls.{IsHonest, IsOffice, StandsOn, StaysOpen};
 ghost use Rattle.office_tables_open.specs.Version.{AreEmpty, HasRow};
 ghost use Rattle.office_tables_open.specs.Found.{HasOtherVersion, HasRowsAlone, IsOurs};
-ghost use Rattle.office_tables_open.specs.Found.{IsUnclaimed};
-ghost use Rattle.office_tables_open.specs.Opening.{AreMade, AreMadeAnew, AreRun, IsRefused};
-ghost use Rattle.office_tables_open.specs.Opening.{IsSettled};
-ghost use Rattle.office_tables_open.specs.Opening.{MayBeTaken, OnlyReads};
-ghost use Rattle.office_tables_open.specs.Promises.{KeepsContent, LeavesContent, EndsToday};
+ghost use Rattle.office_tables_open.specs.Opening.{AreRun, WereDropped, KeepsOrDrops, IsRefused};
+ghost use Rattle.office_tables_open.specs.Opening.{IsNew, IsNewOffice, IsMadeNew, IsSettled};
+ghost use Rattle.office_tables_open.specs.Opening.{Claims, ClaimsEmpty, MayBeTaken, OnlyReads};
+ghost use Rattle.office_tables_open.specs.Promises.{KeepsContent, KeepsCommitted, EndsToday};
+ghost use Rattle.office_tables_open.specs.Promises.{LeavesNoMore, WasHonest};
 ghost use Rattle.office_tables_open.specs.Promises.{IsArrangedIfClean};
 
-use crate::found::{EIGHT, Found, KEEPER, checked, is_one_of, looked};
-use crate::version::{VERSION, are_empty, is_version, store_version, stored_version};
+use crate::found::{EIGHT, Found, KEEPER, is_one_of, looked};
+use crate::version::{VERSION, are_empty, is_version, put_version, store_version, stored_version};
 use office_tables_shelf::shelf::ShelfFault;
 use office_tables_sql::schema::{CREATES, is_blank, is_office};
 use office_tables_sql::statement::SqlFault;
@@ -114,36 +113,11 @@ pub fn has_only_ours(schema: &Schema) -> bool
     schema.views.is_empty() && are_named(schema.tables.as_slice())
 }
 
-/// Makes the tables anew, all or none, in the order of their numbers.
-fn make_tables<S: Alter>(conn: &mut Connection<S>) -> Result<(), SqlFault>
-    requires { (state S.Store conn.old).in_transaction ≡ false }
-    ensures clean { doubt (state S.Store conn.old).is_clean ≤ doubt
-        (state S.Store conn.new).is_clean }
-    ensures made { HasCleanDisk (state S.Store conn.new) →
-        OnOk result (AreMade S.Store conn.old conn.new) }
-{
-    let mut tx = conn.transaction();
-    make_anew(&mut tx)?;
-    tx.commit()?;
-    Ok(())
-}
-
-fn make_anew<S: Alter>(tx: &mut Transaction<'_, S>) -> Result<(), SqlFault>
-    ensures same_reference { tx.new.conn.ghost_name ≡ tx.old.conn.ghost_name }
-    ensures clean { doubt (state S.Store tx.old.conn.now).is_clean ≤ doubt
-        (state S.Store tx.new.conn.now).is_clean }
-    ensures made { HasCleanDisk (state S.Store tx.new.conn.now) →
-        tx.old.conn.now.in_transaction ≡ true →
-        OnOk result (AreMadeAnew S.Store tx.old.conn.now tx.new.conn.now) }
-{
-    run_all(tx, &DROPS)?;
-    run_all(tx, &CREATES)
-}
-
+/// Runs the statements one after another.
 fn run_all<S: Alter>(tx: &mut Transaction<'_, S>, texts: &[&str]) -> Result<(), SqlFault>
     ensures same_reference { tx.new.conn.ghost_name ≡ tx.old.conn.ghost_name }
-    ensures clean { doubt (state S.Store tx.old.conn.now).is_clean ≤ doubt
-        (state S.Store tx.new.conn.now).is_clean }
+    ensures stands { StandsOn (state S.Store tx.old.conn.now) (state S.Store tx.new.conn.now) }
+    ensures crash { LeavesNoMore (state S.Store tx.old.conn.now) (state S.Store tx.new.conn.now) }
     ensures run { HasCleanDisk (state S.Store tx.new.conn.now) →
         tx.old.conn.now.in_transaction ≡ true →
         OnOk result (AreRun S.Store (map (λ text. text.now) texts.now)
@@ -155,57 +129,122 @@ fn run_all<S: Alter>(tx: &mut Transaction<'_, S>, texts: &[&str]) -> Result<(), 
     Ok(())
 }
 
-/// Stores today's version where no table has a row, and otherwise refuses with this fault.
-fn claim_empty<S: Alter>(conn: &mut Connection<S>, fault: OpenFault) -> Result<(), OpenFault>
+/// Makes all tables in the order of their numbers, and stores today's version.
+fn make_all<S: Alter>(tx: &mut Transaction<'_, S>) -> Result<(), SqlFault>
+    ensures same_reference { tx.new.conn.ghost_name ≡ tx.old.conn.ghost_name }
+    ensures stands { StandsOn (state S.Store tx.old.conn.now) (state S.Store tx.new.conn.now) }
+    ensures crash { LeavesNoMore (state S.Store tx.old.conn.now) (state S.Store tx.new.conn.now) }
+    ensures honest { WasHonest result (state S.Store tx.old.conn.now)
+        (state S.Store tx.new.conn.now) }
+    ensures made { HasCleanDisk (state S.Store tx.new.conn.now) →
+        tx.old.conn.now.in_transaction ≡ true → tx.old.conn.now.schema ≡ no_schema →
+        OnOk result (IsNew (state S.Store tx.new.conn.now)) }
+{
+    run_all(tx, &CREATES)?;
+    put_version(tx)
+}
+
+/// Makes all tables where there are none, and stores today's version, all or nothing.
+fn make_tables<S: Alter>(conn: &mut Connection<S>) -> Result<(), SqlFault>
+    requires autocommit { (state S.Store conn.old).in_transaction ≡ false }
+    requires blank { (state S.Store conn.old).now.schema ≡ no_schema }
+    ensures office { OnOk result (IsOffice (state S.Store conn.new)) }
+    ensures honest { IsHonest (state S.Store conn.new) → IsHonest (state S.Store conn.old) }
+    ensures made { IsHonest (state S.Store conn.new) →
+        OnOk result (IsNewOffice (state S.Store conn.new).now.trees) }
+    ensures kept { KeepsCommitted result (state S.Store conn.old) (state S.Store conn.new) }
+    ensures crash { Survives (state S.Store conn.old) (state S.Store conn.new)
+        (λ trees. IsHonest (state S.Store conn.old) × IsNewOffice trees) }
+{
+    let mut tx = conn.transaction();
+    make_all(&mut tx)?;
+    tx.commit()?;
+    Ok(())
+}
+
+/// Drops the tables of the nine names, all or none.
+fn drop_tables<S: Alter>(conn: &mut Connection<S>) -> Result<(), SqlFault>
+    requires { (state S.Store conn.old).in_transaction ≡ false }
+    ensures autocommit { (state S.Store conn.new).in_transaction ≡ false }
+    ensures honest { IsHonest (state S.Store conn.new) → IsHonest (state S.Store conn.old) }
+    ensures dropped { IsHonest (state S.Store conn.new) →
+        OnOk result (WereDropped S.Store (state S.Store conn.old).now.trees
+        (state S.Store conn.new).committed.trees) }
+    ensures kept { KeepsCommitted result (state S.Store conn.old) (state S.Store conn.new) }
+    ensures crash { Survives (state S.Store conn.old) (state S.Store conn.new)
+        (WereDropped S.Store (state S.Store conn.old).now.trees) }
+{
+    let mut tx = conn.transaction();
+    run_all(&mut tx, &DROPS)?;
+    tx.commit()?;
+    Ok(())
+}
+
+/// Drops the tables of the nine names and makes all tables, which come with today's version, or
+/// there are none.
+fn make_anew<S: Alter>(conn: &mut Connection<S>) -> Result<(), SqlFault>
+    requires { (state S.Store conn.old).in_transaction ≡ false }
+    ensures office { OnOk result (IsOffice (state S.Store conn.new)) }
+    ensures honest { IsHonest (state S.Store conn.new) → IsHonest (state S.Store conn.old) }
+    ensures made { IsHonest (state S.Store conn.new) →
+        OnOk result (IsNewOffice (state S.Store conn.new).now.trees) }
+    ensures kept { KeepsOrDrops S.Store result conn.old conn.new }
+    ensures crash { Survives (state S.Store conn.old) (state S.Store conn.new) (λ trees.
+        WereDropped S.Store (state S.Store conn.old).now.trees trees ⊎ IsNewOffice trees) }
+{
+    drop_tables(conn)?;
+    if !is_blank(conn.schema()) {
+        return Err(SqlFault::Store);
+    }
+    make_tables(conn)
+}
+
+/// Stores today's version where no table has a row.
+fn claim_empty<S: Alter>(conn: &mut Connection<S>) -> Result<(), OpenFault>
     requires { IsOffice (state S.Store conn.old) }
     ensures office { IsOffice (state S.Store conn.new) }
     ensures honest { IsHonest (state S.Store conn.new) → IsHonest (state S.Store conn.old) }
     ensures same { KeepsContent (state S.Store conn.old) (state S.Store conn.new) }
     ensures stored { EndsToday result (state S.Store conn.new) }
+    ensures open { StaysOpen result (state S.Store conn.new) }
     ensures empty { IsHonest (state S.Store conn.new) →
         OnOk result (AreEmpty (state S.Store conn.old).now.trees) }
-    ensures version { result ≡ Err OpenFault.Version → fault ≡ OpenFault.Version }
-    ensures damaged { result ≡ Err OpenFault.Damaged → fault ≡ OpenFault.Damaged }
+    ensures version { result ≢ Err OpenFault.Version }
     ensures has_row { IsHonest (state S.Store conn.new) → result ≡ Err OpenFault.Damaged →
         HasRow (state S.Store conn.old).now.trees }
-    ensures left { (result ≡ Err OpenFault.Version) ⊎ (result ≡ Err OpenFault.Damaged) →
+    ensures left { result ≡ Err OpenFault.Damaged →
         OnlyReads (state S.Store conn.old) (state S.Store conn.new) }
-    ensures crash { LeavesContent (state S.Store conn.old) (state S.Store conn.new) }
+    ensures kept { KeepsCommitted result (state S.Store conn.old) (state S.Store conn.new) }
+    ensures crash { ClaimsEmpty (state S.Store conn.old) (state S.Store conn.new) }
 {
     if !are_empty(conn)? {
-        return Err(fault);
+        return Err(OpenFault::Damaged);
     }
     store_version(conn)?;
     Ok(())
 }
 
-/// Sees that today's version is stored, or stores it where no table has a row. New tables have no
-/// row.
-pub fn claim<S: Alter>(conn: &mut Connection<S>, is_new: bool) -> Result<(), OpenFault>
+/// Sees that today's version is stored, or stores it where no table has a row.
+pub fn claim<S: Alter>(conn: &mut Connection<S>) -> Result<(), OpenFault>
     requires { IsOffice (state S.Store conn.old) }
     ensures office { IsOffice (state S.Store conn.new) }
     ensures honest { IsHonest (state S.Store conn.new) → IsHonest (state S.Store conn.old) }
     ensures same { KeepsContent (state S.Store conn.old) (state S.Store conn.new) }
     ensures stored { EndsToday result (state S.Store conn.new) }
-    ensures empty { IsHonest (state S.Store conn.new) → OnOk result (is_new ≡ true →
-        AreEmpty (state S.Store conn.old).now.trees) }
-    ensures taken { IsHonest (state S.Store conn.new) → OnOk result (is_new ≡ false →
-        MayBeTaken (state S.Store conn.old).now.trees) }
-    ensures found { is_new ≡ true →
-        (result ≢ Err OpenFault.Version) × (result ≢ Err OpenFault.Damaged) }
+    ensures open { StaysOpen result (state S.Store conn.new) }
+    ensures taken { IsHonest (state S.Store conn.new) →
+        OnOk result (MayBeTaken (state S.Store conn.old).now.trees) }
     ensures version { IsHonest (state S.Store conn.new) → result ≡ Err OpenFault.Version →
         HasOtherVersion (state S.Store conn.old).now.trees }
     ensures damaged { IsHonest (state S.Store conn.new) → result ≡ Err OpenFault.Damaged →
         HasRowsAlone (state S.Store conn.old).now.trees }
     ensures left { (result ≡ Err OpenFault.Version) ⊎ (result ≡ Err OpenFault.Damaged) →
         OnlyReads (state S.Store conn.old) (state S.Store conn.new) }
-    ensures crash { LeavesContent (state S.Store conn.old) (state S.Store conn.new) }
+    ensures kept { KeepsCommitted result (state S.Store conn.old) (state S.Store conn.new) }
+    ensures crash { Claims (state S.Store conn.old) (state S.Store conn.new) }
 {
-    if is_new {
-        return claim_empty(conn, OpenFault::Store);
-    }
     let Some(row) = stored_version(conn)? else {
-        return claim_empty(conn, OpenFault::Damaged);
+        return claim_empty(conn);
     };
     if is_version(&row, VERSION)? {
         Ok(())
@@ -214,28 +253,28 @@ pub fn claim<S: Alter>(conn: &mut Connection<S>, is_new: bool) -> Result<(), Ope
     }
 }
 
+/// What is left of a database whose tables were refused: its connection, or its store where the
+/// database was to be checked again and was not.
+pub type Left<S> = Result<Connection<S>, S>;
+
 /// A connection whose tables are those of the office, and whether they were made.
 pub type Prepared<S> = (Connection<S>, bool);
 
-/// Why tables were refused, and the connection as it was.
-pub type Refused<S> = (OpenFault, Option<Connection<S>>);
+/// Why tables were refused, and what is left of the database.
+pub type Refused<S> = (OpenFault, Left<S>);
 
 /// The same database where its tables are those of the office, which are made anew where nothing
-/// is stored, and whether they were made.
+/// is stored, and whether they were made. Today's version is stored then.
 pub fn prepared<S: Alter + Drop>(
     alloc: Global,
-    conn: Connection<S>,
+    mut conn: Connection<S>,
 ) -> Result<Prepared<S>, Refused<S>>
     requires { IsArrangedIfClean (state S.Store conn) }
     ensures office { IfOk result (λ p. IsOffice (state S.Store p.0)) }
-    ensures clean { IfOk result (λ p.
-        doubt (state S.Store conn).is_clean ≤ doubt (state S.Store p.0).is_clean) }
     ensures kept { IfOk result (λ p. p.1 ≡ false → p.0 ≡ conn) }
     ensures settled { IfOk result (λ p. p.1 ≡ false → IsSettled (state S.Store conn)) }
-    ensures made { IfOk result (λ p. HasCleanDisk (state S.Store p.0) → p.1 ≡ true →
-        IsUnclaimed (state S.Store conn).committed.trees) }
-    ensures empty { IfOk result (λ p. HasCleanDisk (state S.Store p.0) → p.1 ≡ true →
-        AreEmpty (state S.Store conn).committed.trees) }
+    ensures made { IfOk result (λ p. p.1 ≡ true → IsHonest (state S.Store p.0) →
+        IsMadeNew (state S.Store conn) (state S.Store p.0)) }
     ensures blank { IfOk result (λ p.
         (state S.Store conn).now.schema ≡ no_schema → p.1 ≡ true) }
     ensures ours { IfOk result (λ p. p.1 ≡ true →
@@ -243,19 +282,19 @@ pub fn prepared<S: Alter + Drop>(
     ensures refused { IfErr result (λ e. IsRefused S.Store conn e.0 e.1) }
 {
     if !conn.is_autocommit() {
-        return Err((OpenFault::Store, None));
+        return Err((OpenFault::Store, Ok(conn)));
     }
     if is_blank(conn.schema()) {
-        return match with_tables(alloc, conn) {
-            Ok(conn) => Ok((conn, true)),
-            Err(fault) => Err((fault, None)),
+        return match make_tables(&mut conn) {
+            Ok(()) => Ok((conn, true)),
+            Err(fault) => Err((OpenFault::from(fault), Ok(conn))),
         };
     }
     if is_office(conn.schema()) {
         return Ok((conn, false));
     }
     if !has_only_ours(conn.schema()) {
-        return Err((OpenFault::Store, Some(conn)));
+        return Err((OpenFault::Store, Ok(conn)));
     }
     match laid_anew(alloc, conn) {
         Ok(conn) => Ok((conn, true)),
@@ -272,47 +311,21 @@ fn laid_anew<S: Alter + Drop>(
     requires settled { IsSettled (state S.Store conn) }
     requires no_views { (state S.Store conn).now.schema.views ≡ [] }
     ensures office { IfOk result (λ c. IsOffice (state S.Store c)) }
-    ensures clean { IfOk result (λ c.
-        doubt (state S.Store conn).is_clean ≤ doubt (state S.Store c).is_clean) }
-    ensures made { IfOk result (λ c. HasCleanDisk (state S.Store c) →
-        IsUnclaimed (state S.Store conn).committed.trees) }
-    ensures empty { IfOk result (λ c. HasCleanDisk (state S.Store c) →
-        AreEmpty (state S.Store conn).committed.trees) }
+    ensures made { IfOk result (λ c. IsHonest (state S.Store c) →
+        IsMadeNew (state S.Store conn) (state S.Store c)) }
     ensures refused { IfErr result (λ e. IsRefused S.Store conn e.0 e.1) }
 {
-    let (held, conn) = match looked(alloc, conn) {
+    let (held, mut conn) = match looked(alloc, conn) {
         Ok(found) => found,
-        Err(fault) => return Err((OpenFault::from(fault), None)),
+        Err((fault, store)) => return Err((OpenFault::from(fault), Err(store))),
     };
     match held {
-        Found::Nothing => match with_tables(alloc, conn) {
-            Ok(conn) => Ok(conn),
-            Err(fault) => Err((fault, None)),
+        Found::Nothing => match make_anew(&mut conn) {
+            Ok(()) => Ok(conn),
+            Err(fault) => Err((OpenFault::from(fault), Ok(conn))),
         },
-        Found::RowsAlone => Err((OpenFault::Damaged, Some(conn))),
-        Found::OtherVersion => Err((OpenFault::Version, Some(conn))),
-        Found::Unknown => Err((OpenFault::Store, Some(conn))),
+        Found::RowsAlone => Err((OpenFault::Damaged, Ok(conn))),
+        Found::OtherVersion => Err((OpenFault::Version, Ok(conn))),
+        Found::Unknown => Err((OpenFault::Store, Ok(conn))),
     }
-}
-
-/// The same database with the tables of the office, which had none.
-fn with_tables<S: Alter + Drop>(
-    alloc: Global,
-    mut conn: Connection<S>,
-) -> Result<Connection<S>, OpenFault>
-    requires { (state S.Store conn).in_transaction ≡ false }
-    ensures office { IfOk result (λ c. IsOffice (state S.Store c)) }
-    ensures clean { IfOk result (λ c.
-        doubt (state S.Store conn).is_clean ≤ doubt (state S.Store c).is_clean) }
-    ensures was_open { IfOk result (λ c. HasCleanDisk (state S.Store c) →
-        IsTrue (state S.Store conn).is_open) }
-    ensures fault { IfErr result (λ fault.
-        (fault ≢ OpenFault.Version) × (fault ≢ OpenFault.Damaged)) }
-{
-    make_tables(&mut conn)?;
-    let found = checked(alloc, conn)?;
-    if !is_office(found.schema()) {
-        return Err(OpenFault::Store);
-    }
-    Ok(found)
 }

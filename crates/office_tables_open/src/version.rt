@@ -5,12 +5,12 @@ ghost use Rattle.std.specs.Option.{option_map};
 ghost use Rattle.std.specs.List.{AllByRecursion};
 ghost use Rattle.sqlite.specs.Held.{state};
 ghost use Rattle.office_tables_sql.specs.Stored.{cells};
-ghost use Rattle.office_tables_sql.specs.Calls.{IsHonest, IsOffice, IsQuery, Keeps, StandsOn};
+ghost use Rattle.office_tables_sql.specs.Calls.{IsHonest, IsOffice, IsQuery, Keeps, StandsOn, StaysOpen};
 ghost use Rattle.office_tables_open.specs.Version.{AreEmpty, HasRow, IsListing, ListsRows};
-ghost use Rattle.office_tables_open.specs.Version.{version_in, version_cells};
+ghost use Rattle.office_tables_open.specs.Version.{TellsOther, version_in, version_cells};
 ghost use Rattle.office_tables_open.specs.Promises.{WasHonest, StaysReady, StaysSame, StoresToday};
-ghost use Rattle.office_tables_open.specs.Promises.{LeavesNoMore, KeepsContent, LeavesContent};
-ghost use Rattle.office_tables_open.specs.Promises.{EndsToday};
+ghost use Rattle.office_tables_open.specs.Promises.{LeavesNoMore, KeepsContent, KeepsCommitted};
+ghost use Rattle.office_tables_open.specs.Promises.{LeavesToday, EndsToday};
 
 use office_tables_sql::statement::{SqlFault, select, select_one, write};
 use sqlite::{Alter, Connection, Row, Transaction, params};
@@ -21,7 +21,7 @@ pub const VERSION: u32 = 2;
 /// The first version, whose rows are those of the grammar without a lead.
 pub const FIRST_VERSION: u32 = 1;
 
-const FIND: &str = "SELECT version FROM office_version WHERE one = ?1";
+pub const FIND: &str = "SELECT version FROM office_version WHERE one = ?1";
 
 const DROP: &str = "DELETE FROM office_version WHERE one = ?1";
 
@@ -46,6 +46,7 @@ pub fn stored_version<S: Alter>(conn: &mut Connection<S>) -> Result<Option<Row>,
         IfOk result (λ row. option_map cells row ≡ version_in (state S.Store conn.old).now.trees) }
     ensures width { IsHonest (state S.Store conn.new) →
         IfOk result (λ row. IfSome row (λ r. length r ≡ 1)) }
+    ensures open { StaysOpen result (state S.Store conn.new) }
     ensures kept { Keeps (state S.Store conn.old) (state S.Store conn.new) }
     ensures crash { LeavesNoMore (state S.Store conn.old) (state S.Store conn.new) }
 {
@@ -57,6 +58,8 @@ pub fn is_version(row: &Row, version: u32) -> Result<bool, SqlFault>
     ensures same { length row.now ≡ 1 →
         IfOk result (λ same. IsTrue same → cells row.now ≡ version_cells version) }
     ensures other { IfOk result (λ same. ¬ IsTrue same → cells row.now ≢ version_cells version) }
+    ensures number { length row.now ≡ 1 →
+        IfOk result (λ same. ¬ IsTrue same → TellsOther row.now version) }
 {
     let number: Result<i64, _> = row.get(0);
     Ok(number? == i64::from(version))
@@ -79,7 +82,7 @@ fn drop_version<S: Alter>(tx: &mut Transaction<'_, S>) -> Result<(), SqlFault>
 }
 
 /// Stores today's version.
-fn put_version<S: Alter>(tx: &mut Transaction<'_, S>) -> Result<(), SqlFault>
+pub(crate) fn put_version<S: Alter>(tx: &mut Transaction<'_, S>) -> Result<(), SqlFault>
     ensures same_reference { tx.new.conn.ghost_name ≡ tx.old.conn.ghost_name }
     ensures honest { WasHonest result (state S.Store tx.old.conn.now)
         (state S.Store tx.new.conn.now) }
@@ -122,7 +125,9 @@ pub fn store_version<S: Alter>(conn: &mut Connection<S>) -> Result<(), SqlFault>
     ensures honest { IsHonest (state S.Store conn.new) → IsHonest (state S.Store conn.old) }
     ensures same { KeepsContent (state S.Store conn.old) (state S.Store conn.new) }
     ensures stored { EndsToday result (state S.Store conn.new) }
-    ensures crash { LeavesContent (state S.Store conn.old) (state S.Store conn.new) }
+    ensures open { StaysOpen result (state S.Store conn.new) }
+    ensures kept { KeepsCommitted result (state S.Store conn.old) (state S.Store conn.new) }
+    ensures crash { LeavesToday (state S.Store conn.old) (state S.Store conn.new) }
 {
     let mut tx = conn.transaction();
     put_version(&mut tx)?;

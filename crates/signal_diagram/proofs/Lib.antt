@@ -1,3 +1,5 @@
 pub mod FewPhases
 pub mod FewRings
 pub mod Seconds
+pub mod Bars
+pub mod Charts

@@ -1,8 +1,47 @@
--- The seconds of the longest cycle are those that its type goes through.
-use Rattle.std.proofs.Common.{◌≡◌, ℕ, List}
+-- One second more of a cycle: the lines that were drawn and those that are left.
+use Rattle.std.proofs.Common.{◌≡◌, ℕ, suc, ◌+◌, ◌-◌, ◌<◌, ◌≤◌, Bool, true, false, List, [], ◌∷◌, ◌++◌}
+use Rattle.std.proofs.Common.{flat_map, filter, ◌⊎◌, inl, inr, refl, sym, ap, ◌∙◌, append_assoc, arith}
+use Rattle.std.proofs.lemmas.Bool.{cond-true, cond-false}
+use Rattle.std.specs.Prelude.{cond}
 use Rattle.signal_records.specs.Numbers.{numbers}
-use Rattle.signal_diagram.specs.Barriers.{cycle_seconds}
 
-pub are_cycle_seconds : (items : List ℕ) → items ≡ numbers 255 1 → items ≡ cycle_seconds
-unfolding cycle_seconds
-are_cycle_seconds items e = e
+next_number : (cycle second : ℕ) → second < cycle
+    → numbers (cycle - second) second ≡ second ∷ numbers (cycle - (second + 1)) (second + 1)
+next_number cycle second lt =
+    let left : cycle - second ≡ suc (cycle - (second + 1)) = omega arith in rw left refl
+
+-- at the end of the cycle none is left
+pub none_left : (cycle second : ℕ) → cycle ≤ second → numbers (cycle - second) second ≡ []
+none_left cycle second le = let none : cycle - second ≡ 0 = omega arith in rw none refl
+
+-- a second has a line where it passes the test
+pub one_second : (line : ℕ → List ℕ) (T : ℕ → Bool) (cycle second : ℕ) (before now all : List ℕ)
+    → second < cycle
+    → before ++ flat_map line (filter T (numbers (cycle - second) second)) ≡ all
+    → ((T second ≡ true) × (now ≡ before ++ line second)) ⊎ ((T second ≡ false) × (now ≡ before))
+    → now ++ flat_map line (filter T (numbers (cycle - (second + 1)) (second + 1))) ≡ all
+one_second line T cycle second before now all lt so_far this = by_test this where
+  left : before ++ flat_map line (cond (T second)
+      (second ∷ filter T (numbers (cycle - (second + 1)) (second + 1)))
+      (filter T (numbers (cycle - (second + 1)) (second + 1)))) ≡ all
+  left =
+      ap (λ (xs : List ℕ). before ++ flat_map line (filter T xs))
+      (sym (next_number cycle second lt)) ∙ so_far
+
+  by_test : ((T second ≡ true) × (now ≡ before ++ line second)) ⊎ ((T second ≡ false) × (now ≡ before))
+      → now ++ flat_map line (filter T (numbers (cycle - (second + 1)) (second + 1))) ≡ all
+  by_test (inl passing) =
+      ap (λ (xs : List ℕ). xs ++ flat_map line (filter T (numbers (cycle - (second + 1))
+      (second + 1)))) passing.1
+      ∙ append_assoc before (line second) _
+      ∙ ap (λ (xs : List ℕ). before ++ flat_map line xs)
+      (sym (cond-true (T second) (second ∷ filter T (numbers (cycle - (second + 1)) (second + 1)))
+      (filter T (numbers (cycle - (second + 1)) (second + 1))) passing.0))
+      ∙ left
+  by_test (inr failing) =
+      ap (λ (xs : List ℕ). xs ++ flat_map line (filter T (numbers (cycle - (second + 1))
+      (second + 1)))) failing.1
+      ∙ ap (λ (xs : List ℕ). before ++ flat_map line xs)
+      (sym (cond-false (T second) (second ∷ filter T (numbers (cycle - (second + 1)) (second + 1)))
+      (filter T (numbers (cycle - (second + 1)) (second + 1))) failing.0))
+      ∙ left

@@ -1,6 +1,6 @@
 -- The barriers: the seconds at which all rings change phase together, and the end of the cycle.
-use Rattle.std.specs.Prelude.{ℕ, ◌-◌, ◌*◌, nat_lt, Bool, false, ◌&&◌, List, [], ◌∷◌, ◌++◌, filter}
-use Rattle.std.specs.Prelude.{flat_map, length}
+use Rattle.std.specs.Prelude.{ℕ, ◌-◌, ◌*◌, Bool, false, List, [], ◌∷◌, ◌++◌, filter, flat_map}
+use Rattle.std.specs.Prelude.{length}
 use Rattle.std.specs.List.{list_all}
 use Rattle.signal_records.specs.declared.record.Pattern.{Pattern}
 use Rattle.signal_records.specs.Numbers.{numbers}
@@ -13,9 +13,9 @@ use Rattle.signal_diagram.specs.declared.geometry.TheConstants.{LANES_TOP, BARRI
 use Rattle.signal_diagram.specs.Geometry.{x_of, top_of}
 use Rattle.signal_diagram.specs.Elements.{stroke}
 
--- the seconds within the longest cycle
-unfoldable pub cycle_seconds : List ℕ
-cycle_seconds = numbers 255 1
+-- the seconds within a cycle; it begins at second 0, which is none of them
+abbrev pub seconds_within : ℕ → List ℕ
+seconds_within cycle = numbers (cycle - 1) 1
 
 -- the ring starts a phase at a second
 abbrev pub ring_starts : Rows → Pattern → ℕ → ℕ → Bool
@@ -27,11 +27,6 @@ abbrev pub all_start : Rows → Pattern → List ℕ → ℕ → Bool
 all_start set pattern [] second = false
 all_start set pattern (ring ∷ rings) second =
     list_all (ring_starts set pattern second) (ring ∷ rings)
-
--- a second before the end of the cycle at which all rings start a phase
-abbrev pub is_barrier : Rows → Pattern → List ℕ → ℕ → Bool
-is_barrier set pattern rings second =
-    nat_lt second pattern.cycle && all_start set pattern rings second
 
 -- a line over so many lanes at a second
 abbrev pub barrier : ℕ → ℕ → List ℕ
@@ -48,7 +43,8 @@ barrier lanes second =
 -- the barriers within the cycle
 abbrev pub barriers_within : Rows → Pattern → List ℕ → List ℕ
 barriers_within set pattern rings =
-    flat_map (barrier (length rings)) (filter (is_barrier set pattern rings) cycle_seconds)
+    flat_map (barrier (length rings))
+    (filter (all_start set pattern rings) (seconds_within pattern.cycle))
 
 -- the barriers of a pattern and the end of its cycle
 abbrev pub barriers : Rows → Pattern → List ℕ → List ℕ

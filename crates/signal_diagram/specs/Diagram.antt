@@ -1,5 +1,5 @@
 -- The diagram of a pattern: an SVG picture of its rings and barriers.
-use Rattle.std.specs.Prelude.{ℕ, ◌+◌, List, [], ◌++◌, length, codes, decimal, Option, Some, None}
+use Rattle.std.specs.Prelude.{ℕ, List, [], ◌++◌, length, codes, decimal, Option, Some, None}
 use Rattle.signal_records.specs.declared.record.Pattern.{Pattern}
 use Rattle.signal_records.specs.TimingSet.{Rows}
 use Rattle.signal_rules.specs.Lookup.{pattern_at}

@@ -6,3 +6,5 @@ pub mod Barriers
 pub mod Scale
 pub mod Notes
 pub mod Diagram
+pub mod Chart
+pub mod Drawing

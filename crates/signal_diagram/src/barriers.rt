@@ -1,13 +1,13 @@
 //! The barriers of a pattern.
 
 ghost use Rattle.std.specs.Prelude.{◌≡◌, ◌++◌, ◌≤◌, OnOk, length, string_bytes};
-ghost use Rattle.signal_diagram.specs.Barriers.{ring_starts, all_start, is_barrier, barrier};
-ghost use Rattle.signal_diagram.specs.Barriers.{barriers_within, barriers};
+ghost use Rattle.signal_diagram.specs.Barriers.{ring_starts, all_start, barrier, barriers_within};
+ghost use Rattle.signal_diagram.specs.Barriers.{barriers};
 
 use crate::elements::{Line, push_line};
 use crate::geometry::{BARRIER_RISE, LANES_TOP, THICK, top_of, x_of};
 use crate::rows::{row_of, time_of};
-use signal_records::{Cycle, Pattern, RingNo, TimingSet};
+use signal_records::{Pattern, RingNo, TimingSet};
 use signal_rules::split_at;
 use std::alloc::AllocError;
 
@@ -36,13 +36,6 @@ fn all_start(set: &TimingSet, pattern: &Pattern, rings: &[RingNo], second: u32) 
         }
     }
     !rings.is_empty()
-}
-
-/// Whether a second is one before the end of the cycle at which all rings start a phase.
-fn is_barrier(set: &TimingSet, pattern: &Pattern, rings: &[RingNo], second: u32) -> bool
-    ensures { result ≡ is_barrier set.now pattern.now rings.now second }
-{
-    second < pattern.cycle.get() && all_start(set, pattern, rings, second)
 }
 
 /// Appends a line over so many lanes at a second.
@@ -74,9 +67,8 @@ fn push_barriers_within(
         ≡ string_bytes text.old ++ barriers_within set.now pattern.now rings.now) }
 {
     let lanes = rings.len() as u32;
-    for second in Cycle::all() {
-        let second = second.get();
-        if is_barrier(set, pattern, rings, second) {
+    for second in 1..pattern.cycle.get() {
+        if all_start(set, pattern, rings, second) {
             push_barrier(text, lanes, second)?;
         }
     }

@@ -5,6 +5,7 @@ ghost use Rattle.std.specs.Prelude.{length, string_bytes};
 ghost use Rattle.signal_rules.specs.Lookup.{pattern_at};
 ghost use Rattle.signal_diagram.specs.Geometry.{shown_seconds};
 ghost use Rattle.signal_diagram.specs.Diagram.{opening, body, picture, diagram_text};
+ghost use Rattle.signal_diagram.specs.Drawing.{DrawsChart};
 
 use crate::barriers::push_barriers;
 use crate::geometry::{height_of, top_of, width_of};
@@ -86,6 +87,9 @@ pub fn diagram(
     ensures found { IfOk result (λ shown. IsSome shown ↔ IsSome (pattern_at set.now number)) }
     ensures text { IfOk result (λ shown. IfSome shown
         (λ text. text.items ≡ diagram_text set.now number)) }
+    // It shows the chart of the pattern, on which a reader relies.
+    ensures chart { IfOk result (λ shown. IfSome shown
+        (λ text. DrawsChart set.now number text.items)) }
 {
     match pattern_at(set, number) {
         Some(pattern) => Ok(Some(picture(alloc, set, number, &pattern)?.into_bytes())),

@@ -1,10 +1,11 @@
 //! What the words of a command line ask for.
 
-ghost use Rattle.std.specs.Prelude.{◌≡◌, Some, IfOk, IfErr, map, true, is_some};
+ghost use Rattle.std.specs.Prelude.{◌≡◌, Some, IfOk, IfErr, [], ◌∷◌, map, true, is_some};
 ghost use Rattle.clap.specs.Simple.{subcommand_of};
 ghost use Rattle.clap.specs.Takes.{takes};
 ghost use Rattle.signal_office_line.specs.CommandLine.{signal_app};
 ghost use Rattle.signal_office_line.specs.Job.{asked, job_in};
+ghost use Rattle.signal_office_line.specs.Refusals.{IsRefusedBy, clap_refusals, refusals_of};
 
 use crate::command_line::command_line;
 use crate::jobs::job_at;
@@ -130,12 +131,9 @@ impl From<AllocError> for JobFault {
 }
 
 impl From<Error> for JobFault {
-    ghost use Rattle.std.specs.Prelude.{◌≡◌};
-    ghost use Rattle.clap.specs.Values.{kind_of};
-    ghost use Rattle.clap.specs.declared.error.kind.ErrorKind.TheVariants as kind;
-    ghost use Rattle.signal_office_line.specs.declared.job.JobFault.TheVariants as told;
+    ghost use Rattle.signal_office_line.specs.Refusals.{IsToldAs};
 
-    ghost from_gives = { λ error fault. kind_of error ≡ kind.OutOfMemory → fault ≡ told.NoMemory };
+    ghost from_gives = { IsToldAs };
 
     fn from(error: Error) -> JobFault {
         match error.kind() {
@@ -151,7 +149,9 @@ const NO_JOB: &str =
     1 to 9999, PATTERN 1 to 48; or words are too few, too many, or not to be given together";
 
 /// The words are refused, since a number is out of its range, or they don't go together.
-fn no_job(alloc: Global) -> JobFault {
+fn no_job(alloc: Global) -> JobFault
+    ensures { IsRefusedBy (ErrorKind.ValueValidation ∷ []) result }
+{
     let Ok(mut command) = command_line(alloc) else {
         return JobFault::NoMemory;
     };
@@ -163,10 +163,17 @@ fn no_job(alloc: Global) -> JobFault {
 
 /// What the words ask for, the first being the program's name.
 pub fn job_of<'a>(alloc: Global, words: &'a [&'a str]) -> Result<Job<'a>, JobFault>
+    // Words that `clap` refuses state no job.
+    ensures taken { IfOk result (λ job.
+        clap_refusals (map (λ word. word.now) words.entry.now) ≡ []) }
     // The command and its values are those that `clap` finds, each number in its range.
     ensures found { IfOk result (λ job.
         job_in (subcommand_of signal_app (map (λ word. word.now) words.entry.now))
         ≡ Some (asked job)) }
+    // A refusal is one that `clap` gives or, of words that it takes and that state no job, that of
+    // a value.
+    ensures refused { IfErr result (λ fault.
+        IsRefusedBy (refusals_of (map (λ word. word.now) words.entry.now)) fault) }
     // Words that `clap` takes, and that ask for a job, are refused for want of memory alone.
     ensures answered { IfErr result (λ fault.
         takes signal_app (map (λ word. word.now) words.entry.now) ≡ true →

@@ -27,7 +27,7 @@ pub enum Fault {
     Damaged,
     /// The port can't be listened on, or no connection could be accepted.
     Bind,
-    /// The CSV file can't be read.
+    /// The CSV file can't be read, or the file of an office is not there and is not to be made.
     File,
     /// The office has no such intersection.
     UnknownIntersection,

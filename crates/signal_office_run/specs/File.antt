@@ -1,6 +1,15 @@
 -- The office over the tables of a file.
 use Rattle.std.specs.Prelude.{◌≡◌, ℕ, Result}
-use Rattle.sqlite.specs.Files.{HoldsDatabase, AreFoundIn}
+use Rattle.sqlite.specs.Files.{HoldsDatabase, AreFoundIn, file_state, over_files}
+use Rattle.sqlite.specs.Start.{FindsIn}
+use Rattle.sqlite.specs.declared.FileStore.{FileStore}
+use Rattle.sqlite_disk.specs.declared.Disk.{Ghosts as Disk}
+use Rattle.sqlite_trees.specs.declared.store.Store.{Ghosts}
+use Rattle.office_tables_open.specs.Opening.{IsRefused}
+use Rattle.office_tables_open.specs.declared.open.OpenFault.{OpenFault}
+use Rattle.office_tables_open.specs.declared.open.OpenFault.TheVariants as why
+use Rattle.signal_office_reports.specs.declared.fault.Fault.{Fault}
+use Rattle.signal_office_reports.specs.declared.fault.Fault.TheVariants as fault
 use Rattle.sqlite.specs.Recovery.{Image}
 use Rattle.sqlite.specs.Tree.{Trees}
 use Rattle.sqlite.specs.Held.{Held}
@@ -44,3 +53,14 @@ pub record ServesFiles {S : Type 0} (state_of : Held S → State) (image : Image
   pub found : IsHonest (state_of opened.conn) → (before : Office) → StandInFiles image before → AreOpenedFor state_of opened before
   pub did : HasCleanDisk (state_of last.conn) → (before : Office) (tables : Content) → Keeps (sql_storage state_of) opened tables before →
       (after : Office) × (kept : Content) × Did office_protocol (Serves (sql_storage state_of) (MayLeave (state_of opened.conn)) tables before last kept after) limit start end outcome
+
+-- the tables of a connection were refused, which is told so, and it is as an opening leaves it
+pub record IsTurnedAway {S : Type 0} (g : Ghosts S) (conn : Held S) (told : Fault) (left : Result (Held S) S) : Type 0 where
+  pub cause : OpenFault
+  pub version : told ≡ fault.Version → cause ≡ why.Version
+  pub damaged : told ≡ fault.Damaged → cause ≡ why.Damaged
+  pub refused : IsRefused g conn cause left
+
+-- that of a connection which found its tables in these files
+abbrev pub IsTurnedAwayFrom : {D : Type 0} {g : Disk D} → Image → Fault → Result (Held (FileStore D g)) (FileStore D g) → Type 0
+IsTurnedAwayFrom image told left = (conn : Held (FileStore _ _)) × (HasCleanDisk (file_state conn) → FindsIn image (file_state conn)) × IsTurnedAway over_files conn told left

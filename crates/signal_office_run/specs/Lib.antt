@@ -2,3 +2,4 @@ pub mod File
 pub mod Memory
 pub mod Migrating
 pub mod Serving
+pub mod Tasks

@@ -7,54 +7,61 @@ ghost use Rattle.sqlite.specs.Held.{state};
 ghost use Rattle.sqlite.specs.WalFiles.{image_at};
 ghost use Rattle.sqlite.specs.WalReads.{AreClean};
 ghost use Rattle.office_tables.specs.Calls.{IsHonest};
-ghost use Rattle.office_tables_open.specs.Opening.{HasOtherVersion, HasRowsAlone, IsOpened};
+ghost use Rattle.office_tables_open.specs.Opening.{IsOpened, IsRefused};
 ghost use Rattle.office_tables_open.specs.Promises.{IsArrangedIfClean};
 ghost use Rattle.office_desk.specs.Office.{Office as OfficeState};
 ghost use Rattle.office_http_framing.specs.Asks.{OnlyAsks};
 ghost use Rattle.office_http_framing.specs.Limits.{longest_request};
 ghost use Rattle.office_http_framing.specs.Serve.{TellsFault, ends_of};
 ghost use Rattle.signal_office_run.specs.File.{AreOpenedFor, ServesFiles, StandInFiles};
+ghost use Rattle.signal_office_run.specs.File.{IsTurnedAway, IsTurnedAwayFrom};
 
 use office_desk::office::Office;
 use office_http::{ServeFault, Served, Sink, Source, serve};
+use office_tables::open::{Left, OpenFault};
 use office_tables::sql_shelf::SqlShelf;
 use signal_office_reports::Fault;
 use sqlite::{Alter, Connection, Error, FileFrom, FileStore, Start};
 use sqlite_disk::{Disk, Files};
-use std::alloc::Global;
+use std::alloc::{AllocError, Global};
+use std::fs;
+
+/// What is left of a database in files whose tables were refused.
+pub(crate) type FileLeft<S> = Left<FileStore<FileFrom<S>>>;
 
 /// An office over tables in files, of which `S` says what they held.
 pub type FileOffice<S> = Office<SqlShelf<FileStore<FileFrom<S>>>>;
 
 /// The office over the tables of a database whose rows are known to be in order. They are made
-/// where there are none. Where they are refused, the connection comes back with the fault.
+/// where there are none. Where they are refused, what is left comes back with the fault.
 fn open_tables<S: Alter + Drop>(
     alloc: Global,
     conn: Connection<S>,
-) -> Result<Office<SqlShelf<S>>, (Fault, Option<Connection<S>>)>
+) -> Result<Office<SqlShelf<S>>, (OpenFault, Left<S>)>
     requires { IsArrangedIfClean (state S.Store conn) }
     ensures opened { IfOk result (λ office. IsOpened S.Store conn office) }
-    ensures unreached { IfErr result (λ e. e.1 ≡ None → (e.0 ≢ Fault.Version) × (e.0 ≢ Fault.Damaged)) }
-    ensures version { IfErr result (λ e. e.0 ≡ Fault.Version → IfSome e.1 (λ c. IsHonest (state S.Store c) → HasOtherVersion (state S.Store conn).committed.trees)) }
-    ensures damaged { IfErr result (λ e. e.0 ≡ Fault.Damaged → IfSome e.1 (λ c. IsHonest (state S.Store c) → HasRowsAlone (state S.Store conn).committed.trees)) }
+    ensures refused { IfErr result (λ e. IsRefused S.Store conn e.0 e.1) }
 {
     match SqlShelf::open_arranged(alloc, conn) {
         Ok(shelf) => Ok(Office::new(shelf)),
-        Err((fault, conn)) => Err((Fault::from(fault), conn)),
+        Err(refused) => Err(refused),
     }
 }
 
-/// As `open_tables`, but a connection whose tables are refused is dropped.
+/// As `open_tables`, over a database that was just opened, with what is told of the trees that it
+/// found.
 fn office_over<S: Alter + Drop>(
     alloc: Global,
     conn: Connection<S>,
-) -> Result<Office<SqlShelf<S>>, Fault>
+) -> Result<Office<SqlShelf<S>>, (Fault, Option<Left<S>>)>
     requires { IsArrangedIfClean (state S.Store conn) }
     ensures opened { IfOk result (λ office. IsOpened S.Store conn office) }
+    ensures refused { IfErr result (λ e. IfSome e.1 (IsTurnedAway S.Store conn e.0)) }
+    ensures back { IfErr result (λ e. e.1 ≢ None) }
 {
     match open_tables(alloc, conn) {
         Ok(office) => Ok(office),
-        Err((fault, _)) => Err(fault),
+        Err((fault, left)) => Err((Fault::from(fault), Some(left))),
     }
 }
 
@@ -64,19 +71,39 @@ pub(crate) fn unopened<L: Drop>(refused: (Error, L)) -> Fault {
     Fault::from(error)
 }
 
-/// The office over the tables of a file, which is made where there is none.
+/// Whether a file has no byte.
+fn is_empty(rt: &HostRuntime, path: &str) -> bool {
+    match fs::metadata(rt, path) {
+        Ok(found) => found.is_file() && found.len() == 0,
+        Err(_) => false,
+    }
+}
+
+/// Whether there is no such file, or an empty one without a log beside it, which has no tables.
+/// Where the system does not tell, opening it does.
+pub(crate) fn is_missing(rt: &HostRuntime, alloc: Global, path: &str) -> Result<bool, AllocError> {
+    if matches!(fs::exists(rt, path), Ok(false)) {
+        return Ok(true);
+    }
+    let log = format!(in alloc; "{path}-wal")?;
+    Ok(is_empty(rt, path) && !matches!(fs::exists(rt, log.as_str()), Ok(true)))
+}
+
+/// The office over the tables of a file, which is made where there is none. Where its tables are
+/// refused, what is left of its database comes back with the fault, and holds what the files held.
 pub(crate) fn open_file<S: Start>(
     rt: &HostRuntime,
     alloc: Global,
     path: &str,
     start: S,
-) -> Result<FileOffice<S>, Fault>
-    ensures { IfOk result (λ office. IsHonest (file_state office.conn) → (before : OfficeState) → StandInFiles (image_at S.Start) before →
+) -> Result<FileOffice<S>, (Fault, Option<FileLeft<S>>)>
+    ensures opened { IfOk result (λ office. IsHonest (file_state office.conn) → (before : OfficeState) → StandInFiles (image_at S.Start) before →
         AreOpenedFor file_state office before) }
+    ensures refused { IfErr result (λ e. IfSome e.1 (IsTurnedAwayFrom (image_at S.Start) e.0)) }
 {
     match Connection::open_from(rt, path, false, start) {
         Ok(conn) => office_over(alloc, conn),
-        Err(refused) => Err(unopened(refused)),
+        Err(refused) => Err((unopened(refused), None)),
     }
 }
 
@@ -111,7 +138,10 @@ pub fn serve_file<S: Start, R: Source, W: Sink>(
     ensures reads { (R.told reader.new).counts.calls
         ≤ (R.told reader.old).counts.calls + longest_request * (max_requests + 1) + 1 }
 {
-    let mut office = open_file(rt, alloc, path, start)?;
+    let mut office = match open_file(rt, alloc, path, start) {
+        Ok(office) => office,
+        Err((fault, _)) => return Err(fault),
+    };
     let outcome = serve(alloc, &mut office, reader, writer, max_requests);
     Ok((office, outcome))
 }
@@ -135,7 +165,7 @@ where
 }
 
 /// Closes a file, so that its log is copied into it, and gives the files.
-fn close_files<D: Disk + Drop>(conn: Connection<FileStore<D>>) -> Result<Files<D>, Error>
+pub(crate) fn close_files<D: Disk + Drop>(conn: Connection<FileStore<D>>) -> Result<Files<D>, Error>
     ensures { IfOk result (λ files. AreClean D.Disk files.log files.db → IsCopied conn files) }
 {
     match conn.close_files() {

@@ -5,48 +5,30 @@ ghost use Rattle.sqlite.specs.Files.{file_state};
 ghost use Rattle.sqlite.specs.Held.{state};
 ghost use Rattle.sqlite.specs.State.{HasCleanDisk};
 ghost use Rattle.sqlite.specs.WalFiles.{image_at};
-ghost use Rattle.office_tables_open.specs.Promises.{KeepsCommitted, IsArrangedIfClean};
-ghost use Rattle.signal_office_run.specs.Migrating.{BringsToday, LeavesEither};
-ghost use Rattle.signal_office_run.specs.Migrating.{BringsFilesToday, KeepsFiles};
+ghost use Rattle.office_tables_open.specs.Promises.{IsArrangedIfClean};
+ghost use Rattle.signal_office_run.specs.Migrating.{BringsToday, LeavesEither, Migrates};
+ghost use Rattle.signal_office_run.specs.Migrating.{BringsFilesToday, KeepsFiles, MigratesFiles};
 ghost use Rattle.signal_office_run.specs.Migrating.{LeavesEitherOfFiles, StandTodayInBoth};
+ghost use Rattle.signal_office_run.specs.Migrating.{HoldMigrated, TellsOfFiles};
 
-use crate::file::{close_after, unopened};
+use crate::file::{close_files, is_missing, unopened};
 use office_tables::Migrated;
 use office_tables::open::OpenFault;
 use office_tables::sql_shelf::SqlShelf;
 use signal_office_reports::Fault;
-use sqlite::{Alter, Connection, FileFrom, FileStore, Start};
+use sqlite::{Alter, Connection, Error, FileFrom, FileStore, Start};
 use sqlite_disk::{Disk, Files};
-use std::alloc::{AllocError, Global};
-use std::fs;
+use std::alloc::Global;
 
 /// The database in files, of which `S` says what they held.
 pub type FileConnection<S> = Connection<FileStore<FileFrom<S>>>;
 
-/// Whether a file has no byte.
-fn is_empty(rt: &HostRuntime, path: &str) -> bool {
-    match fs::metadata(rt, path) {
-        Ok(found) => found.is_file() && found.len() == 0,
-        Err(_) => false,
-    }
-}
-
-/// Whether there is no such file, or an empty one without a log beside it, which has no tables.
-/// Where the system does not tell, opening it does.
-fn is_missing(rt: &HostRuntime, alloc: Global, path: &str) -> Result<bool, AllocError> {
-    if matches!(fs::exists(rt, path), Ok(false)) {
-        return Ok(true);
-    }
-    let log = format!(in alloc; "{path}-wal")?;
-    Ok(is_empty(rt, path) && !matches!(fs::exists(rt, log.as_str()), Ok(true)))
-}
-
 /// Brings the tables of a database to today's version, with what is told of its last commit.
 fn migrate_tables<S: Alter>(alloc: Global, conn: &mut Connection<S>) -> Result<Migrated, OpenFault>
     requires { IsArrangedIfClean (state S.Store conn.old) }
+    ensures migrated { Migrates S.Store result conn.old conn.new }
     ensures clean { HasCleanDisk (state S.Store conn.new) → HasCleanDisk (state S.Store conn.old) }
     ensures stand { BringsToday result (state S.Store conn.old) (state S.Store conn.new) }
-    ensures unchanged { KeepsCommitted result (state S.Store conn.old) (state S.Store conn.new) }
     ensures crash { LeavesEither (state S.Store conn.old) (state S.Store conn.new) }
 {
     SqlShelf::migrate(alloc, conn)
@@ -61,6 +43,10 @@ pub fn open_and_migrate<S: Start>(
     path: &str,
     start: S,
 ) -> Result<(FileConnection<S>, Result<Migrated, OpenFault>), Fault>
+    // What `SqlShelf::migrate` says, of a connection that found its tables in the files: the counts,
+    // when Version and Damaged are told, and what a stop leaves.
+    ensures migrated { IfOk result (λ done.
+        MigratesFiles (image_at S.Start) done.1 done.0) }
     // Where the files held version 1 of the tables of a sound office, the tables are those of that
     // office today.
     ensures stand { IfOk result (λ done.
@@ -83,19 +69,38 @@ pub fn open_and_migrate<S: Start>(
     Ok((conn, outcome))
 }
 
-/// Brings the tables of a file to today's version and closes it, so that its log is copied into it.
+/// Brings the tables of a file to today's version, which may be refused, and closes it, so that its
+/// log is copied into it.
 pub fn migrate_file<S: Start>(
     rt: &HostRuntime,
     alloc: Global,
     path: &str,
     start: S,
-) -> Result<(Files<FileFrom<S>>, Migrated), Fault>
+) -> Result<(Files<FileFrom<S>>, Result<Migrated, OpenFault>), Fault>
+    // As the files read now and after a stop, they hold the tables that were found as they are
+    // today, with the count of what was written anew, or, where that was refused, those tables.
+    ensures migrated { IfOk result (λ done.
+        HoldMigrated (image_at S.Start) ⟦<FileFrom<S> as Disk>⟧ done.0 done.1) }
+    // Version and Damaged are told as `SqlShelf::migrate` tells them.
+    ensures told { IfOk result (λ done.
+        TellsOfFiles (image_at S.Start) ⟦<FileFrom<S> as Disk>⟧ done.0 done.1) }
     // Where the files held version 1 of the tables of a sound office, its tables stand in them
     // today, as the files read now and after a stop: so the headline of `serve_file` holds of a run
     // over them.
     ensures stand { IfOk result (λ done.
-        StandTodayInBoth (image_at S.Start) ⟦<FileFrom<S> as Disk>⟧ done.0) }
+        StandTodayInBoth (image_at S.Start) ⟦<FileFrom<S> as Disk>⟧ done.0 done.1) }
 {
     let (conn, outcome) = open_and_migrate(rt, alloc, path, start)?;
-    close_after(conn, outcome)
+    match close_files(conn) {
+        Ok(files) => Ok((files, outcome)),
+        Err(error) => Err(unclosed(error, outcome)),
+    }
+}
+
+/// Why a migrated file was not closed. A fault from before comes first.
+fn unclosed(error: Error, outcome: Result<Migrated, OpenFault>) -> Fault {
+    match outcome {
+        Ok(_) => Fault::from(error),
+        Err(fault) => Fault::from(fault),
+    }
 }

@@ -110,7 +110,8 @@ fn overdue<W: Sink>(
 
 /// Brings the tables of a file to today's version, and prints how many rows were written anew.
 fn migrate<W: Sink>(rt: &HostRuntime, alloc: Global, path: &str, out: &mut W) -> Result<u8, Fault> {
-    let (_, migrated) = migrate_file(rt, alloc, path, Wary)?;
+    let (_, outcome) = migrate_file(rt, alloc, path, Wary)?;
+    let migrated = outcome?;
     let rows = migrated.timing as u128 + migrated.draft as u128;
     let line = format!(in alloc; "migrated {rows} rows\n")?;
     write_all(out, line.as_bytes())?;

@@ -1,7 +1,7 @@
 //! What is done over the tables of a file.
 
 use crate::done::Done;
-use crate::file::{close_after, open_file, serve_file};
+use crate::file::{close_after, is_missing, open_file, serve_file};
 use crate::serving::serve_port;
 use cabinet_core::Day;
 use office_desk::office::Office;
@@ -60,6 +60,19 @@ pub(crate) enum Task<'a> {
     },
 }
 
+impl Task<'_> {
+    ghost use Rattle.std.specs.Prelude.{◌≡◌};
+    ghost use Rattle.signal_office_run.specs.Tasks.{makes_file};
+
+    /// Whether it makes the file where there is none. What only asks, or changes a plan that has to
+    /// be there, does not: a mistyped name is no office.
+    fn makes_file(&self) -> bool
+        ensures { result ≡ makes_file self.now }
+    {
+        matches!(self, Task::Serve { .. } | Task::Import { .. })
+    }
+}
+
 /// What is kept of an intersection, as CSV.
 fn export<S: Shelf>(
     alloc: Global,
@@ -110,7 +123,8 @@ fn done_by<S: Shelf, W: Sink>(
 }
 
 /// Does a task over the tables of a file, which is closed again, and gives what is to be printed,
-/// with the status.
+/// with the status. A file that is not there, or is empty with no log beside it, is made only for a
+/// task that makes its file.
 pub(crate) fn do_in_file<W: Sink>(
     rt: &HostRuntime,
     alloc: Global,
@@ -118,7 +132,13 @@ pub(crate) fn do_in_file<W: Sink>(
     task: &Task<'_>,
     out: &mut W,
 ) -> Result<Done, Fault> {
-    let mut office = open_file(rt, alloc, path, Wary)?;
+    if !task.makes_file() && is_missing(rt, alloc, path)? {
+        return Err(Fault::File);
+    }
+    let mut office = match open_file(rt, alloc, path, Wary) {
+        Ok(office) => office,
+        Err((fault, _)) => return Err(fault),
+    };
     let outcome = done_by(rt, alloc, &mut office, task, out);
     let (_, done) = close_after(office.into_shelf().into_conn(), outcome)?;
     Ok(done)

@@ -1,6 +1,7 @@
 use Rattle.office_http_framing.proofs.ServeLemmas.{Did-weaker}
 use Rattle.office_http.specs.Protocol.{office_protocol}
 use Rattle.office_http.proofs.StreamLaws.{serves}
+use Rattle.office_http.proofs.StreetLemmas.{keeps_the_street}
 use Rattle.office_http.proofs.service.serve.Goals as goal
 
 pub returns-clause-did : goal.returns-clause-did
@@ -11,3 +12,6 @@ returns-clause-did g c clean before tables keeps =
       Did-weaker office_protocol _ _ c.args.max_requests _ _ c.serve.result
           (serves g.S.Shelf.is_honest g.S.Shelf.content g.S.Shelf.may_leave (g.S.Shelf.may_leave c.args.office.now) tables before c.serve.new.machine did.1 did.0 keeps.stands.sound) did.2,
     )
+
+pub returns-clause-street : goal.returns-clause-street
+returns-clause-street g c = keeps_the_street

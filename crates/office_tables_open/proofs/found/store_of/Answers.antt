@@ -3,10 +3,11 @@ use Rattle.std.proofs.lemmas.Bool.{true_from_ne_false, both_ways}
 use Rattle.sqlite.specs.View.{IsClean}
 use Rattle.office_tables_open.specs.Arranged.{IsArranged}
 use Rattle.office_tables_open.proofs.ArrangedLemmas.{stored_arranged}
+use Rattle.office_tables_open.proofs.LeftLemmas.{given_up}
 use Rattle.office_tables_open.proofs.found.store_of.Goals as goal
 
-pub returns : goal.returns
-returns g c =
+pub returns-clause-taken : goal.returns-clause-taken
+returns-clause-taken g c =
     let store = c.into_store-store.result in
     let it = c.into_store-store.ensures in
     let view = g.S.Store.view store in
@@ -20,3 +21,9 @@ returns g c =
       left = λ h. subst (g.S.Store.recovers c.args.conn.store) ((it.undone.kept h).committed (opened h)) (it.quiet.outcomes _ (g.met.S.Store.stays store (opened h)));
       arranged = λ h. subst IsArranged (it.undone.undone (opened h)).0 (stored_arranged view (g.met.S.Alter.listed store (unbroken h)) (g.met.S.Store.ordered store (unbroken h)));
     }
+
+pub returns-clause-found : goal.returns-clause-found
+returns-clause-found g c = given_up g.S.Store c.args.conn c.into_store-store.result c.into_store-store.ensures.undone c.into_store-store.ensures.quiet
+
+pub returns-then-is_broken-clause-left : goal.returns-then-is_broken-clause-left
+returns-then-is_broken-clause-left g c = given_up g.S.Store c.args.conn c.into_store-store.result c.into_store-store.ensures.undone c.into_store-store.ensures.quiet

@@ -3,37 +3,61 @@ use Rattle.sqlite.specs.Held.{state}
 use Rattle.sqlite.specs.State.{HasCleanDisk}
 use Rattle.office_tables_open.specs.Arranged.{IsArranged}
 use Rattle.office_tables_open.specs.Found.{IsFoundIn}
+use Rattle.office_tables_open.specs.Opening.{AreGone, MayBeNew}
 use Rattle.office_tables_open.specs.declared.found.Found.{Found}
-use Rattle.office_tables_open.specs.declared.open.OpenFault.TheVariants.{Version, Damaged}
-use Rattle.office_tables_open.proofs.OpenLemmas.{found_unclaimed, found_none, found_other, found_rows, refused_found, same_committed}
+use Rattle.office_tables_open.specs.declared.open.OpenFault.TheVariants.{Version, Damaged, Store}
+use Rattle.office_tables_open.proofs.OpenLemmas.{found_unclaimed, found_none, found_other, found_rows, same_committed}
+use Rattle.office_tables_open.proofs.LeftLemmas.{again_found, anew_left, as_left, refused_found, refused_left}
 use Rattle.office_tables_open.proofs.open.laid_anew.Goals as goal
 
-pub returns-in-Ok-with_tables-clause-made : goal.returns-in-Ok-with_tables-clause-made
-returns-in-Ok-with_tables-clause-made g c clean =
+pub returns-in-Err-clause-refused : goal.returns-in-Err-clause-refused
+returns-in-Err-clause-refused g c =
     let s = state g.S.Store c.args.conn in
-    let early : HasCleanDisk (state g.S.Store c.in-Ok.found.1) = omega (arith, clean, c.in-Ok-with_tables.ensures.clean) in
-    found_unclaimed s (c.requires.settled (c.in-Ok.ensures.again.was_open early)) (subst (λ (f : Found). IsFoundIn f s) c.in-Nothing.is (c.in-Ok.ensures.found early))
+    let fault = c.from.ensures in
+    refused_left g.S.Store c.args.conn _ _ fault.0 fault.1 (as_left g.S.Store c.args.conn _ _ _ c.in-Err.ensures.left)
 
-pub returns-in-Ok-with_tables-clause-empty : goal.returns-in-Ok-with_tables-clause-empty
-returns-in-Ok-with_tables-clause-empty g c clean =
+pub returns-in-Ok-make_anew-clause-made : goal.returns-in-Ok-make_anew-clause-made
+returns-in-Ok-make_anew-clause-made g c honest =
     let s = state g.S.Store c.args.conn in
     let found = state g.S.Store c.in-Ok.found.1 in
     let again = c.in-Ok.ensures.again in
-    let early : HasCleanDisk found = omega (arith, clean, c.in-Ok-with_tables.ensures.clean) in
-    found_none s (c.requires.settled (again.was_open early)) (subst (λ (f : Found). IsFoundIn f s) c.in-Nothing.is (c.in-Ok.ensures.found early))
-    (subst IsArranged (same_committed s found again early) (again.arranged early)) c.requires.no_views
+    let early = c.in-Ok-make_anew.ensures.honest honest in
+    let held = subst (λ (f : Found). IsFoundIn f s) c.in-Nothing.is (c.in-Ok.ensures.found early.0) in
+    record {
+      was_clean = omega (arith, early.0, again.clean);
+      unclaimed = found_unclaimed s (c.requires.settled (again.was_open early.0)) held;
+      empty = found_none s (c.requires.settled (again.was_open early.0)) held (subst IsArranged (same_committed s found again early.0) (again.arranged early.0)) c.requires.no_views;
+      office = c.in-Ok-make_anew.ensures.made honest;
+    }
+
+pub returns-in-Err-make_anew-clause-refused : goal.returns-in-Err-make_anew-clause-refused
+returns-in-Err-make_anew-clause-refused g c =
+    let s = state g.S.Store c.args.conn in
+    let again = c.in-Ok.ensures.again in
+    let it = c.in-Err-make_anew.ensures in
+    let fault = c.from-in-Err-make_anew.ensures in
+    refused_left g.S.Store c.args.conn _ _ fault.0 fault.1
+    (anew_left g.S.Store c.args.conn c.in-Ok.found.1 again c.make_anew.new.conn it.honest it.kept
+    (λ clean. found_unclaimed s (c.requires.settled (again.was_open clean)) (subst (λ (f : Found). IsFoundIn f s) c.in-Nothing.is (c.in-Ok.ensures.found clean))) it.crash)
 
 pub returns-in-RowsAlone-clause-refused : goal.returns-in-RowsAlone-clause-refused
 returns-in-RowsAlone-clause-refused g c =
     let s = state g.S.Store c.args.conn in
     let again = c.in-Ok.ensures.again in
-    refused_found g.S.Store c.args.conn Damaged c.in-Ok.found.1 again (λ is. absurd (let e : Damaged ≡ Version = is in cc))
-    (λ is clean. found_rows s (c.requires.settled (again.was_open clean)) (subst (λ (f : Found). IsFoundIn f s) c.in-RowsAlone.is (c.in-Ok.ensures.found clean)))
+    refused_found g.S.Store c.args.conn Damaged _ (λ is. absurd (let e : Damaged ≡ Version = is in cc))
+    (λ is honest. found_rows s (c.requires.settled (again.was_open honest.0)) (subst (λ (f : Found). IsFoundIn f s) c.in-RowsAlone.is (c.in-Ok.ensures.found honest.0)))
+    (again_found g.S.Store c.args.conn c.in-Ok.found.1 again)
 
 pub returns-in-OtherVersion-clause-refused : goal.returns-in-OtherVersion-clause-refused
 returns-in-OtherVersion-clause-refused g c =
     let s = state g.S.Store c.args.conn in
     let again = c.in-Ok.ensures.again in
-    refused_found g.S.Store c.args.conn Version c.in-Ok.found.1 again
-    (λ is clean. found_other s (c.requires.settled (again.was_open clean)) (subst (λ (f : Found). IsFoundIn f s) c.in-OtherVersion.is (c.in-Ok.ensures.found clean)))
-    (λ is. absurd (let e : Version ≡ Damaged = is in cc))
+    refused_found g.S.Store c.args.conn Version _
+    (λ is honest. found_other s (c.requires.settled (again.was_open honest.0)) (subst (λ (f : Found). IsFoundIn f s) c.in-OtherVersion.is (c.in-Ok.ensures.found honest.0)))
+    (λ is. absurd (let e : Version ≡ Damaged = is in cc)) (again_found g.S.Store c.args.conn c.in-Ok.found.1 again)
+
+pub returns-in-Unknown-clause-refused : goal.returns-in-Unknown-clause-refused
+returns-in-Unknown-clause-refused g c =
+    let again = c.in-Ok.ensures.again in
+    refused_found g.S.Store c.args.conn Store _ (λ is. absurd (let e : Store ≡ Version = is in cc)) (λ is. absurd (let e : Store ≡ Damaged = is in cc))
+    (again_found g.S.Store c.args.conn c.in-Ok.found.1 again)

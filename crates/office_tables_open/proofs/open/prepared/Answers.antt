@@ -1,36 +1,47 @@
 use Rattle.std.proofs.Common.{◌≡◌, IsTrue, sym, subst, ◌∙◌, arith}
 use Rattle.sqlite.specs.Effect.{Database}
 use Rattle.sqlite.specs.Held.{state}
-use Rattle.sqlite.specs.State.{HasCleanDisk}
 use Rattle.sqlite_trees.specs.Objects.{catalog_tree}
 use Rattle.sqlite_catalog.specs.Listing.{AreListed}
 use Rattle.office_tables_sql.specs.Schema.{no_schema}
+use Rattle.office_tables_open.specs.declared.open.OpenFault.TheVariants.{Version, Damaged, Store}
 use Rattle.office_tables_open.proofs.BlankLemmas.{blank_rows, blank_unclaimed}
+use Rattle.office_tables_open.proofs.LeftLemmas.{made_left, refused_found, refused_left, untouched}
 use Rattle.office_tables_open.proofs.OpenLemmas.{arranged_office, not_true}
 use Rattle.office_tables_open.proofs.open.prepared.Goals as goal
 
 pub returns-in-Ok-clause-made : goal.returns-in-Ok-clause-made
-returns-in-Ok-clause-made g c clean made =
+returns-in-Ok-clause-made g c made honest =
     let s = state g.S.Store c.args.conn in
-    let opened : IsTrue s.is_open = c.in-Ok.ensures.was_open clean in
-    let early : HasCleanDisk s = omega (arith, clean, c.in-Ok.ensures.clean) in
+    let early = c.in-Ok.ensures.honest honest in
+    let opened : IsTrue s.is_open = early.1 in
     let is : s.now.schema ≡ no_schema = sym c.schema.ensures.value ∙ c.is_blank.ensures.blank c.if-is_blank.true in
     let listed : AreListed (s.now.trees catalog_tree) no_schema = subst (AreListed (s.now.trees catalog_tree)) is (c.schema.ensures.live opened).0.lists.listed in
     let none = subst (λ (d : Database). AreListed (d.trees catalog_tree) no_schema) (c.is_autocommit.ensures.settled c.if-not-is_autocommit.false opened) listed in
-    blank_unclaimed s.committed.trees (c.requires early) none
+    record { was_clean = early.0; unclaimed = blank_unclaimed s.committed.trees (c.requires early.0) none; empty = blank_rows s.committed.trees (c.requires early.0) none; office = c.in-Ok.ensures.made honest }
 
-pub returns-in-Ok-clause-empty : goal.returns-in-Ok-clause-empty
-returns-in-Ok-clause-empty g c clean made =
+pub returns-in-Err-clause-refused : goal.returns-in-Err-clause-refused
+returns-in-Err-clause-refused g c =
     let s = state g.S.Store c.args.conn in
-    let opened : IsTrue s.is_open = c.in-Ok.ensures.was_open clean in
-    let early : HasCleanDisk s = omega (arith, clean, c.in-Ok.ensures.clean) in
+    let it = c.in-Err.ensures in
     let is : s.now.schema ≡ no_schema = sym c.schema.ensures.value ∙ c.is_blank.ensures.blank c.if-is_blank.true in
-    let listed : AreListed (s.now.trees catalog_tree) no_schema = subst (AreListed (s.now.trees catalog_tree)) is (c.schema.ensures.live opened).0.lists.listed in
-    let none = subst (λ (d : Database). AreListed (d.trees catalog_tree) no_schema) (c.is_autocommit.ensures.settled c.if-not-is_autocommit.false opened) listed in
-    blank_rows s.committed.trees (c.requires early) none
+    let fault = c.from.ensures in
+    refused_left g.S.Store c.args.conn _ _ fault.0 fault.1
+    (made_left g.S.Store c.args.conn c.make_tables.new.conn it.honest it.kept (λ early.
+    let listed : AreListed (s.now.trees catalog_tree) no_schema = subst (AreListed (s.now.trees catalog_tree)) is (c.schema.ensures.live early.1).0.lists.listed in
+    let none = subst (λ (d : Database). AreListed (d.trees catalog_tree) no_schema) (c.is_autocommit.ensures.settled c.if-not-is_autocommit.false early.1) listed in
+    blank_unclaimed s.committed.trees (c.requires early.0) none) it.crash)
 
 pub returns-then-is_office-clause-office : goal.returns-then-is_office-clause-office
 returns-then-is_office-clause-office g c =
     let s = state g.S.Store c.args.conn in
     arranged_office s (not_true s.in_transaction (sym c.is_autocommit.ensures.value ∙ c.if-not-is_autocommit.false)) (sym c.schema-2.ensures.value ∙ c.is_office.ensures.is c.if-is_office.true)
     (λ h. c.is_autocommit.ensures.settled c.if-not-is_autocommit.false h.1) (λ h. (c.schema.ensures.live h.1).0) c.requires
+
+pub returns-then-not-is_autocommit-clause-refused : goal.returns-then-not-is_autocommit-clause-refused
+returns-then-not-is_autocommit-clause-refused g c =
+    refused_found g.S.Store c.args.conn Store _ (λ is. absurd (let e : Store ≡ Version = is in cc)) (λ is. absurd (let e : Store ≡ Damaged = is in cc)) (untouched g.S.Store c.args.conn)
+
+pub returns-then-not-has_only_ours-clause-refused : goal.returns-then-not-has_only_ours-clause-refused
+returns-then-not-has_only_ours-clause-refused g c =
+    refused_found g.S.Store c.args.conn Store _ (λ is. absurd (let e : Store ≡ Version = is in cc)) (λ is. absurd (let e : Store ≡ Damaged = is in cc)) (untouched g.S.Store c.args.conn)

@@ -1,5 +1,6 @@
-use Rattle.std.proofs.Common.{◌≡◌, ◌++◌, flat_map, filter, length, string_bytes}
-use Rattle.signal_diagram.specs.Barriers.{is_barrier, barrier, barriers_within}
+use Rattle.std.proofs.Common.{◌≡◌, ◌-◌, ◌++◌, flat_map, filter, length, string_bytes}
+use Rattle.signal_records.specs.Numbers.{numbers}
+use Rattle.signal_diagram.specs.Barriers.{all_start, barrier, barriers_within}
 use Rattle.signal_diagram.proofs.barriers.push_barriers_within.Given as goal
 
 -- the barriers so far and those that are left
@@ -7,5 +8,5 @@ abbrev pub invariant-loop-second : goal.invariant-loop-second
 invariant-loop-second l =
     string_bytes l.text
     ++ flat_map (barrier (length l.rings)) (filter
-    (is_barrier l.set l.pattern l.rings) l.second-iterator) ≡ string_bytes l.fn.text
-    ++ barriers_within l.set l.pattern l.rings
+    (all_start l.set l.pattern l.rings) (numbers (l.pattern.cycle - l.second) l.second))
+    ≡ string_bytes l.fn.text ++ barriers_within l.set l.pattern l.rings

@@ -6,6 +6,15 @@ use Rattle.signal_office_run.proofs.migrating.open_and_migrate.Goals as goal
 pub migrate_tables-outcome-requires : goal.migrate_tables-outcome-requires
 migrate_tables-outcome-requires g c clean = found_arranged _ _ (c.in-Ok.ensures.found clean).reads
 
+pub returns-clause-migrated : goal.returns-clause-migrated
+returns-clause-migrated g c =
+    let it = c.migrate_tables-outcome.ensures in
+    record {
+      found = c.in-Ok.conn;
+      finds = λ clean. (c.in-Ok.ensures.found (it.clean clean), (c.in-Ok.ensures.opened (it.clean clean)).0.is_open);
+      migrates = it.migrated;
+    }
+
 pub returns-clause-stand : goal.returns-clause-stand
 returns-clause-stand g c honest =
     let it = c.migrate_tables-outcome.ensures in
@@ -16,7 +25,7 @@ pub returns-clause-unchanged : goal.returns-clause-unchanged
 returns-clause-unchanged g c honest =
     let it = c.migrate_tables-outcome.ensures in
     let found = c.in-Ok.ensures.found (it.clean honest.0) in
-    on_err c.migrate_tables-outcome.result _ _ (λ same. found_those _ (file_state c.in-Ok.conn) _ found same) (it.unchanged honest)
+    on_err c.migrate_tables-outcome.result _ _ (λ same. found_those _ (file_state c.in-Ok.conn) _ found same) (it.migrated.unchanged honest)
 
 pub returns-clause-crash : goal.returns-clause-crash
 returns-clause-crash g c clean before formerly =

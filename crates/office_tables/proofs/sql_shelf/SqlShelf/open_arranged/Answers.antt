@@ -1,44 +1,48 @@
-use Rattle.std.proofs.Common.{◌≡◌, ◌⊎◌, inl, inr, Bool, true, false, Err, refl, sym, ap, subst, ◌∙◌, true≢false, arith}
+use Rattle.std.proofs.Common.{◌≡◌, ◌⊎◌, inl, inr, Err, refl, sym, ap, subst, ◌∙◌, true≢false}
 use Rattle.sqlite.specs.Effect.{Database}
 use Rattle.sqlite.specs.Held.{state}
 use Rattle.sqlite.specs.Tree.{Trees}
-use Rattle.office_tables_sql.specs.Calls.{IsHonest}
+use Rattle.office_tables_sql.specs.Calls.{IsHonest, IsOffice}
 use Rattle.office_tables_sql.specs.Stored.{content_now, content_of}
 use Rattle.office_tables_open.specs.Found.{HasOtherVersion, HasRowsAlone}
-use Rattle.office_tables_open.specs.Opening.{IsOpened, MayBeTaken, OnlyReads}
+use Rattle.office_tables_open.specs.Opening.{Claims, MayBeTaken, OnlyReads}
 use Rattle.office_tables_open.specs.declared.open.OpenFault.TheVariants.{Version, Damaged}
-use Rattle.office_tables_open.proofs.OpenLemmas.{opened_looked, opened_made, refused_looked}
+use Rattle.office_tables_open.proofs.LeftLemmas.{refused_claimed}
+use Rattle.office_tables_open.proofs.OpenLemmas.{opened_looked, opened_made}
 use Rattle.office_tables.proofs.sql_shelf.SqlShelf.open_arranged.Goals as goal
 
+-- the tables were made
+pub returns-then-is_new-clause-opened : goal.returns-then-is_new-clause-opened
+returns-then-is_new-clause-opened g c =
+    let new = c.in-Ok.found.0 in
+    let office = c.in-Ok.ensures.office in
+    opened_made g.S.Store c.args.conn _ new refl c.new.ensures office
+    (λ honest trees left. ap content_of (g.met.S.Store.settled new.store trees honest.1 left ∙ sym (ap (λ (d : Database). d.trees) (office.settled honest))))
+    (λ honest. c.in-Ok.ensures.made c.if-is_new.true honest)
+
 pub returns-in-Ok-claim-clause-opened : goal.returns-in-Ok-claim-clause-opened
-returns-in-Ok-claim-clause-opened g c = go c.in-Ok.found.1 refl
-  where
-    crash : IsHonest (state g.S.Store c.claim.new.conn) → (trees : Trees) → (state g.S.Store c.claim.new.conn).may_leave trees → content_of trees ≡ content_now (state g.S.Store c.claim.new.conn)
-    crash honest trees left =
-        let settled = c.in-Ok-claim.ensures.office.settled honest in
-        ap content_of (g.met.S.Store.settled c.claim.new.conn.store trees honest.1 left ∙ sym (ap (λ (d : Database). d.trees) settled))
+returns-in-Ok-claim-clause-opened g c =
+    let is = c.if-is_new.false in
+    let it = c.in-Ok-claim.ensures in
+    let new = c.claim.new.conn in
+    let same = c.in-Ok.ensures.kept is in
+    opened_looked g.S.Store c.args.conn _ new refl c.new-in-Ok-claim.ensures it.office
+    (λ honest trees left. ap content_of (g.met.S.Store.settled new.store trees honest.1 left ∙ sym (ap (λ (d : Database). d.trees) (it.office.settled honest))))
+    (c.in-Ok.ensures.settled is) (λ h. subst (λ x. IsHonest (state g.S.Store x)) same (it.honest h))
+    (λ h. it.same h ∙ ap (λ x. content_now (state g.S.Store x)) same) (λ blank. true≢false (sym (c.in-Ok.ensures.blank blank) ∙ is))
+    (λ h. subst (λ x. MayBeTaken (state g.S.Store x).now.trees) same (it.taken h)) it.stored
 
-    go : (is_new : Bool) → c.in-Ok.found.1 ≡ is_new → IsOpened g.S.Store c.args.conn (record { conn = c.claim.new.conn; counts = c.new.result })
-    go false is =
-        let it = c.in-Ok-claim.ensures in
-        let same = c.in-Ok.ensures.kept is in
-        opened_looked g.S.Store c.args.conn c.claim.new.conn (c.in-Ok.ensures.settled is) (λ h. subst (λ x. IsHonest (state g.S.Store x)) same (it.honest h))
-        (λ h. it.same h ∙ ap (λ x. content_now (state g.S.Store x)) same) _ refl c.new.ensures (λ blank. true≢false (sym (c.in-Ok.ensures.blank blank) ∙ is))
-        (λ h. subst (λ x. MayBeTaken (state g.S.Store x).now.trees) same (it.taken h is)) it.stored crash
-    go true is =
-        let it = c.in-Ok-claim.ensures in
-        opened_made g.S.Store c.args.conn c.in-Ok.found.0 c.claim.new.conn (λ h. omega (arith, h, c.in-Ok.ensures.clean)) it.honest
-        (λ h. c.in-Ok.ensures.made h is) (λ h. c.in-Ok.ensures.empty h is) (λ h. it.empty h is) it.same _ refl c.new.ensures it.stored crash
-
-pub returns-in-Err-2-clause-refused : goal.returns-in-Err-2-clause-refused
-returns-in-Err-2-clause-refused g c =
+pub returns-in-Err-claim-clause-refused : goal.returns-in-Err-claim-clause-refused
+returns-in-Err-claim-clause-refused g c =
     let it = c.in-Err-claim.ensures in
     let new = c.claim.new.conn in
     let why = c.in-Err-claim.fault in
-    let same = c.in-Ok.ensures.kept c.if-is_new.false in
-    refused_looked g.S.Store c.args.conn new (c.in-Ok.ensures.settled c.if-is_new.false) (λ h. subst (λ x. IsHonest (state g.S.Store x)) same (it.honest h))
-    (λ h. it.same h ∙ ap (λ x. content_now (state g.S.Store x)) same) why
+    let is = c.if-is_new.false in
+    let same = c.in-Ok.ensures.kept is in
+    refused_claimed g.S.Store c.args.conn new why (c.in-Ok.ensures.settled is) (λ h. subst (λ x. IsHonest (state g.S.Store x)) same (it.honest h))
     (λ is h. subst (λ x. HasOtherVersion (state g.S.Store x).now.trees) same (it.version h (ap Err is)))
     (λ is h. subst (λ x. HasRowsAlone (state g.S.Store x).now.trees) same (it.damaged h (ap Err is)))
     (λ (told : (why ≡ Version) ⊎ (why ≡ Damaged)). subst (λ x. OnlyReads (state g.S.Store x) (state g.S.Store new)) same
     (it.left (elim told [ inl is ↦ inl (ap Err is) | inr is ↦ inr (ap Err is) ])))
+    (λ h. it.kept h ∙ ap (λ x. (state g.S.Store x).committed.trees) same)
+    (subst (λ x. Claims (state g.S.Store x) (state g.S.Store new)) same it.crash)

@@ -8,15 +8,30 @@ use Rattle.sqlite_catalog.specs.Listing.{AreListed}
 use Rattle.office_tables_sql.specs.Schema.{no_schema}
 use Rattle.office_tables_open.specs.Arranged.{IsArranged}
 use Rattle.office_tables_open.specs.Version.{AreEmpty}
+use Rattle.office_tables_open.specs.declared.open.OpenFault.TheVariants.{Version, Damaged, Store}
 use Rattle.office_tables_open.proofs.BlankLemmas.{blank_rows}
-use Rattle.office_tables_open.proofs.OpenLemmas.{opened_before, refused_before}
+use Rattle.office_tables_open.proofs.LeftLemmas.{as_left, refused_before, refused_found, refused_left, untouched}
+use Rattle.office_tables_open.proofs.OpenLemmas.{opened_before}
 use Rattle.office_tables.proofs.sql_shelf.SqlShelf.open_returning.Goals as goal
+
+pub returns-then-not-is_autocommit-clause-refused : goal.returns-then-not-is_autocommit-clause-refused
+returns-then-not-is_autocommit-clause-refused g c =
+    refused_found g.S.Store c.args.conn Store _ (λ is. absurd (let e : Store ≡ Version = is in cc)) (λ is. absurd (let e : Store ≡ Damaged = is in cc)) (untouched g.S.Store c.args.conn)
+
+pub returns-then-not-has_only_ours-clause-refused : goal.returns-then-not-has_only_ours-clause-refused
+returns-then-not-has_only_ours-clause-refused g c =
+    refused_found g.S.Store c.args.conn Store _ (λ is. absurd (let e : Store ≡ Version = is in cc)) (λ is. absurd (let e : Store ≡ Damaged = is in cc)) (untouched g.S.Store c.args.conn)
+
+pub returns-in-Err-clause-refused : goal.returns-in-Err-clause-refused
+returns-in-Err-clause-refused g c =
+    let fault = c.from.ensures in
+    refused_left g.S.Store c.args.conn _ _ fault.0 fault.1 (as_left g.S.Store c.args.conn _ _ _ c.in-Err.ensures.left)
 
 pub returns-in-Ok-clause-opened : goal.returns-in-Ok-clause-opened
 returns-in-Ok-clause-opened g c =
     let old = state g.S.Store c.args.conn in
     let found = state g.S.Store c.in-Ok.conn in
-    let it = c.in-Ok.ensures in
+    let it = c.in-Ok.ensures.again in
     let same : HasCleanDisk found → found.committed.trees ≡ old.committed.trees = λ h. sym (ap (λ (d : Database). d.trees) (it.opens h).0.clean) ∙ it.kept h in
     let blank : HasCleanDisk found → old.now.schema ≡ no_schema → AreEmpty old.committed.trees = λ h is.
     let opened = it.was_open h in
@@ -27,8 +42,4 @@ returns-in-Ok-clause-opened g c =
 
 pub returns-in-Ok-clause-refused : goal.returns-in-Ok-clause-refused
 returns-in-Ok-clause-refused g c =
-    let old = state g.S.Store c.args.conn in
-    let found = state g.S.Store c.in-Ok.conn in
-    let it = c.in-Ok.ensures in
-    let same : HasCleanDisk found → found.committed.trees ≡ old.committed.trees = λ h. sym (ap (λ (d : Database). d.trees) (it.opens h).0.clean) ∙ it.kept h in
-    IfErr-weaker c.open_arranged.result _ _ (λ e. refused_before g.S.Store c.args.conn c.in-Ok.conn (λ h. omega (arith, h, it.clean)) same it.crash e.0 e.1) c.open_arranged.ensures.refused
+    IfErr-weaker c.open_arranged.result _ _ (λ e. refused_before g.S.Store c.args.conn c.in-Ok.conn c.in-Ok.ensures.again e.0 e.1) c.open_arranged.ensures.refused

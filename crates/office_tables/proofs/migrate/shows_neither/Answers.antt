@@ -1,0 +1,43 @@
+use Rattle.std.proofs.Common.{◌≡◌, true, inl, inr, IsTrue, pos, [], ◌∷◌, refl, subst, rules, arith}
+use Rattle.std.proofs.lemmas.Result.{IfOk-weaker}
+use Rattle.std.specs.Prelude.{IfOk}
+use Rattle.sqlite.specs.declared.types.Value.TheVariants.{Int}
+use Rattle.sqlite.specs.Held.{state}
+use Rattle.sqlite.specs.State.{HasCleanDisk}
+use Rattle.office_tables_sql.specs.Calls.{IsHonest, StandsOn}
+use Rattle.office_tables_sql.proofs.CallLemmas.{begun_stands}
+use Rattle.office_tables.specs.Migrate.{AreNeither, ShowsNeither}
+use Rattle.office_tables.proofs.AskLemmas.{asked_stands, unasked_stands}
+use Rattle.office_tables.proofs.migrate.shows_neither.Goals as goal
+
+pub returns-clause-stands : goal.returns-clause-stands
+returns-clause-stands g c =
+    let old = c.args.conn.now in
+    let mid = c.query_all.new.self.conn.now in
+    let begun = c.transaction-tx.ensures.begun in
+    let it = c.in_ok-rows.ensures in
+    let whole = asked_stands _ _ (state g.S.Store (record old { in_transaction = true })) (state g.S.Store mid) (state g.S.Store c.rollback.new.self.0) refl (rw begun at it.survives.clean) c.rollback.ensures.survives.clean c.rollback.ensures.undone _ (rw begun at it.ok) in
+    let same : c.rollback.new.self.0 ≡ c.conn-2-1.given.0 = search rules in
+    subst (λ h. StandsOn (state g.S.Store old) (state g.S.Store h)) same (begun_stands g.S.Store old (state g.S.Store c.rollback.new.self.0) whole)
+
+pub returns-in_err-rows-clause-stands : goal.returns-in_err-rows-clause-stands
+returns-in_err-rows-clause-stands g c =
+    let old = c.args.conn.now in
+    let mid = c.query_all.new.self.conn.now in
+    let begun = c.transaction-tx.ensures.begun in
+    let it = c.in_err-rows.ensures in
+    let whole = unasked_stands _ _ (state g.S.Store (record old { in_transaction = true })) (state g.S.Store mid) (state g.S.Store c.drop-tx.new.self.0) refl (rw begun at it.survives.clean) c.drop-tx.ensures.survives.clean c.drop-tx.ensures.undone _ (rw begun at it.err) in
+    let same : c.drop-tx.new.self.0 ≡ c.conn-1.given.0 = search rules in
+    subst (λ h. StandsOn (state g.S.Store old) (state g.S.Store h)) same (begun_stands g.S.Store old (state g.S.Store c.drop-tx.new.self.0) whole)
+
+pub returns-clause-neither : goal.returns-clause-neither
+returns-clause-neither g c =
+    let old = c.args.conn.now in
+    let mid = c.query_all.new.self.conn.now in
+    let begun = c.transaction-tx.ensures.begun in
+    let it = c.in_ok-rows.ensures in
+    let whole : IsHonest (state g.S.Store c.rollback.new.self.0) → IfOk c.are_neither.result (λ neither. IsTrue neither → ShowsNeither g.S.Store old) = λ honest.
+    let early : HasCleanDisk (state g.S.Store mid) = omega (arith, honest.0, c.rollback.ensures.survives.clean) in
+    IfOk-weaker c.are_neither.result _ _ (λ neither told yes. record { after = mid; rows = c.in_ok-rows.rows.items; shown = rw (begun, c.params-to_sql.ensures) at (it.ok early); neither = subst AreNeither c.as_slice.ensures.value (told yes) }) c.are_neither.ensures in
+    let same : c.rollback.new.self.0 ≡ c.conn-2-1.given.0 = search rules in
+    subst (λ h. IsHonest (state g.S.Store h) → IfOk c.are_neither.result (λ neither. IsTrue neither → ShowsNeither g.S.Store old)) same whole

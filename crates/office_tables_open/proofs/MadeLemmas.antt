@@ -1,0 +1,189 @@
+-- What the texts that make the tables make of a database that has none.
+use Rattle.std.proofs.Common.{◌≡◌, ◌≢◌, ◌≤◌, ℕ, true, false, List, [], ◌∷◌, ◌++◌, map, None, Some, Result, Ok, Err, refl, sym, ap, subst, ◌∙◌, arith}
+use Rattle.std.specs.List.{AllByRecursion}
+use Rattle.std.specs.Prelude.{OnOk, ⊤}
+use Rattle.sqlite.specs.Command.TheVariants.{CreateTable}
+use Rattle.sqlite.specs.Does.{MakesTable, MakesSequence, lacks_sequence, no_rows}
+use Rattle.sqlite.specs.Effect.{Database, IsDatabase}
+use Rattle.sqlite.specs.Given.{IsPlain}
+use Rattle.sqlite.specs.Held.{Held, state}
+use Rattle.sqlite.specs.Listing.{understood}
+use Rattle.sqlite.specs.Order.{Row}
+use Rattle.sqlite.specs.Rows.{Then, Gives}
+use Rattle.sqlite.specs.State.{State, ExecutesInside, HasCleanDisk, Shows}
+use Rattle.sqlite.specs.Tree.{Trees}
+use Rattle.sqlite.specs.View.{IsShaped}
+use Rattle.sqlite.proofs.Callers.{runs_as, through}
+use Rattle.sqlite_catalog.specs.Change.{created, next_tree, KeepsRows}
+use Rattle.sqlite_resolve.specs.Compile.{table_defined_by}
+use Rattle.sqlite_schema.specs.declared.schema.Schema.{Schema}
+use Rattle.sqlite_schema.specs.declared.schema.Table.{Table}
+use Rattle.sqlite_tied.specs.Compute.{everything}
+use Rattle.sqlite_trees.specs.declared.store.Shape.TheVariants as shape
+use Rattle.sqlite_trees.specs.declared.store.Store.{Ghosts}
+use Rattle.sqlite_trees.specs.View.{doubt}
+use Rattle.office_tables_shelf.specs.Content.{no_content}
+use Rattle.office_tables_sql.specs.Calls.{AreOrdered, IsOffice, IsReady, command_of, statement_of}
+use Rattle.office_tables_sql.specs.Schema.{no_schema, office_schema}
+use Rattle.office_tables_sql.specs.declared.schema.TheConstants.{CREATES}
+use Rattle.office_tables_open.specs.Opening.{AreRun, IsNew, IsNewOffice}
+use Rattle.office_tables_sql.specs.Stored.{content_now}
+use Rattle.office_tables_open.specs.Version.{AreEmpty, version_in, current_version}
+
+-- in a transaction over tables that have no row
+pub record IsBare (s : State) (schema : Schema) : Type 0 where
+  pub schema_is : s.now.schema ≡ schema
+  pub empty : AllByRecursion (λ t. s.now.trees t.tree ≡ []) schema.tables
+
+-- the text makes this table
+pub record Makes (schema : Schema) (sql : List ℕ) (table : Table) : Type 0 where
+  pub is : command_of (understood schema sql) ≡ CreateTable
+  pub plain : IsPlain (understood schema sql)
+  pub defined : table_defined_by (statement_of sql (understood schema sql)) ≡ Ok table
+  pub uncounted : lacks_sequence (created schema table) ≡ false
+
+kept_empty : (ts : List Table) (old new : Trees) → KeepsRows ts old new → AllByRecursion (λ t. old t.tree ≡ []) ts → AllByRecursion (λ t. new t.tree ≡ []) ts
+kept_empty [] old new kept empty = tt
+kept_empty (t ∷ ts) old new kept empty = (kept.0 ∙ empty.0, kept_empty ts old new kept.1 empty.1)
+
+all_snoc : {X : Type 0} (P : X → Type 0) (xs : List X) (y : X) → AllByRecursion P xs → P y → AllByRecursion P (xs ++ y ∷ [])
+all_snoc P [] y all h = (h, tt)
+all_snoc P (x ∷ xs) y all h = (all.0, all_snoc P xs y all.1 h)
+
+abbrev second_of : {A B E : Type 0} → B → Result (A × B) E → B
+second_of other (Ok both) = both.1
+second_of other (Err e) = other
+
+pub bare_step : (old new : State) (count : ℕ) (schema : Schema) (sql : List ℕ) (table : Table) → Makes schema sql table → IsBare old schema → ExecutesInside 0 sql [] old new (Ok count)
+    → IsBare new (created schema table) × IsDatabase new.now
+bare_step old new count schema sql table makes bare ran =
+    let text = statement_of sql (understood schema sql) in
+    let did = runs_as sql [] old new schema bare.schema_is CreateTable makes.is makes.plain count ran.0 in
+    let gave = through (Then (MakesTable text old.now) MakesSequence) (λ (after : Database). Gives (no_rows false, after)) (did.tally, new.now) did.changed in
+    let made = through (MakesTable text old.now) MakesSequence gave.0 gave.1 in
+    let same_table : made.1.table ≡ table = (let e : Ok made.1.table ≡ Ok table = sym made.1.defined ∙ makes.defined in cc) in
+    let schema_then : made.0.schema ≡ created schema table = made.1.is ∙ (λ i. created (bare.schema_is i) (same_table i)) in
+    let after_is : made.0 ≡ gave.0 = (let e : Ok gave.0 ≡ Ok made.0 = rw (ap lacks_sequence schema_then ∙ makes.uncounted) at made.2 in cc) in
+    let now_is : gave.0 ≡ new.now = sym (ap (second_of new.now) gave.2) in
+    let whole : made.0 ≡ new.now = after_is ∙ now_is in
+    let others = subst (λ (d : Database). KeepsRows schema.tables old.now.trees d.trees) whole (subst (λ (s : Schema). KeepsRows s.tables old.now.trees made.0.trees) bare.schema_is made.1.others) in
+    let empty = subst (λ (d : Database). d.trees (next_tree schema) ≡ []) whole (subst (λ (s : Schema). made.0.trees (next_tree s) ≡ []) bare.schema_is made.1.empty) in (
+      record {
+        schema_is = ap (λ (d : Database). d.schema) (sym whole) ∙ schema_then;
+        empty = all_snoc (λ (t : Table). new.now.trees t.tree ≡ []) schema.tables _ (kept_empty schema.tables old.now.trees new.now.trees others bare.empty) empty;
+      },
+      did.sound,
+    )
+
+abbrev pub made_of : Schema → List Table → Schema
+made_of schema [] = schema
+made_of schema (t ∷ ts) = made_of (created schema t) ts
+
+-- the texts make these tables, one after another
+abbrev pub AreMaking : Schema → List (List ℕ) → List Table → Type 0
+AreMaking schema [] [] = Unit {0}
+AreMaking schema [] (t ∷ ts) = ⊥
+AreMaking schema (sql ∷ more) [] = ⊥
+AreMaking schema (sql ∷ more) (t ∷ ts) = Makes schema sql t × AreMaking (created schema t) more ts
+
+module _ {S : Type 0} (g : Ghosts S) where
+  abbrev Ends : Held S → Schema → Type 0
+  Ends h schema = IsBare (state g h) schema × IsDatabase (state g h).now × ((state g h).in_transaction ≡ true)
+
+  bare_run : (texts : List (List ℕ)) (tables : List Table) (schema : Schema) → AreMaking schema texts tables → (old new : Held S) → AreRun g texts old new → Ends old schema → Ends new (made_of schema tables)
+  bare_run [] [] schema making old new run start = subst (λ (h : Held S). Ends h schema) (sym run) start
+  bare_run [] (t ∷ ts) schema making old new run start = absurd making
+  bare_run (sql ∷ more) [] schema making old new run start = absurd making
+  bare_run (sql ∷ more) (t ∷ ts) schema making old new run start =
+      bare_run more ts (created schema t) making.1 run.0 new run.3
+      (let it = bare_step (state g old) (state g run.0) run.1 schema sql t making.0 start.0 run.2 in (it.0, it.1, run.2.1.mode))
+
+  -- the first statement finds a database that is open
+  pub all_made : (texts : List (List ℕ)) (tables : List Table) (schema : Schema) → texts ≢ [] → AreMaking schema texts tables → (old new : Held S) → AreRun g texts old new → IsBare (state g old) schema → Ends new (made_of schema tables)
+  all_made [] tables schema some making old new run start = absurd (some refl)
+  all_made (sql ∷ more) [] schema some making old new run start = absurd making
+  all_made (sql ∷ more) (t ∷ ts) schema some making old new run start =
+      bare_run more ts (created schema t) making.1 run.0 new run.3
+      (let it = bare_step (state g old) (state g run.0) run.1 schema sql t making.0 start run.2 in (it.0, it.1, run.2.1.mode))
+
+-- ---- the tables of the office
+
+abbrev untreed : Table → Table
+untreed t = record t { tree = 0 }
+
+abbrev pub office_texts : List (List ℕ)
+office_texts = map (λ text. text.now) CREATES
+
+pub office_making : AreMaking no_schema office_texts (map untreed office_schema.tables)
+unfolding understood everything
+office_making = (
+  record { is = refl; plain = (refl, refl); defined = refl; uncounted = refl },
+  (
+    record { is = refl; plain = (refl, refl); defined = refl; uncounted = refl },
+    (
+      record { is = refl; plain = (refl, refl); defined = refl; uncounted = refl },
+      (
+        record { is = refl; plain = (refl, refl); defined = refl; uncounted = refl },
+        (
+          record { is = refl; plain = (refl, refl); defined = refl; uncounted = refl },
+          (
+            record { is = refl; plain = (refl, refl); defined = refl; uncounted = refl },
+            (
+              record { is = refl; plain = (refl, refl); defined = refl; uncounted = refl },
+              (
+                record { is = refl; plain = (refl, refl); defined = refl; uncounted = refl },
+                (record { is = refl; plain = (refl, refl); defined = refl; uncounted = refl }, tt),
+              ),
+            ),
+          ),
+        ),
+      ),
+    ),
+  ),
+)
+
+office_made : made_of no_schema (map untreed office_schema.tables) ≡ office_schema
+unfolding everything
+office_made = refl
+
+no_row_shaped : (rows : List Row) → rows ≡ [] → IsShaped shape.Table rows
+no_row_shaped rows none = subst (IsShaped shape.Table) (sym none) (tt, tt)
+
+all_shaped : (trees : Trees) (ts : List Table) → AllByRecursion (λ t. trees t.tree ≡ []) ts → AllByRecursion (λ t. IsShaped shape.Table (trees t.tree)) ts
+all_shaped trees [] all = tt
+all_shaped trees (t ∷ ts) all = (no_row_shaped (trees t.tree) all.0, all_shaped trees ts all.1)
+
+module _ {S : Type 0} (g : Ghosts S) (old new : Held S) (run : AreRun g office_texts old new) (blank : (state g old).now.schema ≡ no_schema) where
+  ended : Ends g new office_schema
+  ended = subst (Ends g new) office_made (all_made g office_texts (map untreed office_schema.tables) no_schema (λ none. absurd (cc)) office_making old new run (record { schema_is = blank; empty = tt }))
+
+  pub office_ready : IsReady (state g new)
+  office_ready = record { inside = rw ended.2; schema = ended.0.schema_is; ordered = all_shaped (state g new).now.trees office_schema.tables ended.0.empty; sound = ended.1 }
+
+  pub office_empty : AreEmpty (state g new).now.trees
+  office_empty =
+      let e = ended.0.empty in
+      (e.0, (e.1.0, (e.1.1.0, (e.1.1.1.0, (e.1.1.1.1.0, (e.1.1.1.1.1.0, (e.1.1.1.1.1.1.0, (e.1.1.1.1.1.1.1.0, tt))))))))
+
+-- the transaction was committed
+module _ (mid new : State) (clean : doubt mid.is_clean ≤ doubt new.is_clean) (made : HasCleanDisk mid → IsNew mid) (shows : HasCleanDisk new → Shows mid new mid.now mid.now false) where
+  made_before : HasCleanDisk new → IsNew mid
+  made_before h = made (omega (arith, h, clean))
+
+  pub committed_office : new.in_transaction ≡ false → IsOffice new
+  committed_office mode = record {
+    autocommit = mode;
+    schema = λ h. ap (λ (d : Database). d.schema) (shows h.0).now_is ∙ (made_before h.0).ready.schema;
+    settled = λ h. (shows h.0).now_is ∙ sym (shows h.0).committed_is;
+    ordered = λ h. subst (λ (d : Database). AreOrdered d.trees) (sym (shows h.0).now_is) (made_before h.0).ready.ordered;
+    sound = λ h. subst IsDatabase (sym (shows h.0).now_is) (made_before h.0).ready.sound;
+  }
+
+  pub committed_new : HasCleanDisk new → IsNewOffice new.now.trees
+  committed_new h = subst (λ (d : Database). IsNewOffice d.trees) (sym (shows h).now_is) (made_before h).office
+
+-- the version was stored in them
+pub new_if : {E : Type 0} (r : Result ⊤ E) (old new : State) (ready_old : IsReady old) → content_now old ≡ no_content → OnOk r (IsReady old → IsReady new) → OnOk r (IsReady old → content_now new ≡ content_now old)
+    → OnOk r (IsReady old → version_in new.now.trees ≡ Some current_version) → OnOk r (IsNew new)
+new_if (Ok x) old new ready none goes same stored = record { ready = goes ready; office = record { content = same ready ∙ none; stored = stored ready } }
+new_if (Err e) old new ready none goes same stored = tt

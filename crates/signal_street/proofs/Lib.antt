@@ -1,0 +1,6 @@
+pub mod Members
+pub mod Places
+pub mod Clean
+pub mod Within
+pub mod Patterns
+pub mod Laws

@@ -1,0 +1,135 @@
+-- The rings of a pattern of a set without violations, by the times of their phases.
+use Rattle.std.proofs.Common.{◌≡◌, ◌≢◌, ℕ, ◌+◌, ◌<◌, ◌≤◌, true, eqb, List, ◌∷◌, ◌++◌, map, length, get_or, is_some, Option, Some, None, sum_by, refl, sym, ap, ◌∙◌, arith}
+use Rattle.std.proofs.lemmas.Bool.{false≢true, and_parts, eq-eqb, eqb-true}
+use Rattle.std.proofs.lemmas.List.Folds.{list_all-map}
+use Rattle.std.specs.Int.{IsInRange}
+use Rattle.std.specs.List.{list_all}
+use Rattle.signal_records.specs.declared.number.TheConstants.{PHASES, RINGS}
+use Rattle.signal_records.specs.declared.record.Pattern.{Pattern}
+use Rattle.signal_records.specs.declared.record.Phase.{Phase}
+use Rattle.signal_records.specs.declared.record.Split.{Split}
+use Rattle.signal_records.specs.TimingSet.{Rows}
+use Rattle.signal_rules.specs.CutPoints.{timed}
+use Rattle.signal_rules.specs.Lookup.{phase_at, sequence_at, split_at, phases, phase_numbers, ring_numbers, has_sequence, is_in, lists, the_mates}
+use Rattle.signal_rules.specs.PatternRules.{has_splits, has_rows, time_of, lane, is_used, used_rings, lanes, lanes_fill_cycle, list_each_other, all_list_each_other, phases_at, lanes_agree}
+use Rattle.signal_rules.specs.SequenceRule.{in_ring, ring_phases, or_empty, ring_row, has_each_once, has_no_other, row_is_right}
+use Rattle.signal_rules.specs.SplitRule.{time_is_right}
+use Rattle.signal_rules.specs.Starts.{times}
+use Rattle.signal_rules.proofs.CutPoints.{at_number}
+use Rattle.signal_street.specs.Timing.{HasPhase, HasPattern, phases_or_none, order, time_or_none, split_time, TimesIn}
+use Rattle.signal_street.specs.StreetLaws.{Lists, AreConcurrent}
+use Rattle.signal_street.proofs.Members.{in_numbers, in_filter, all_at, any_at, all_middle, contains, some_value, pair_at}
+use Rattle.signal_street.proofs.Places.{places, length_is, times_within, lane_at}
+use Rattle.signal_street.proofs.Clean.{IsClean, sequence_rule, split_rule, pattern_rules}
+
+-- numbers in their ranges are among those of the rules
+pub phase_number : (p : ℕ) → IsInRange 1 PHASES p → is_in p phase_numbers ≡ true
+phase_number p range = in_numbers PHASES 1 p range.0 (below _ _ range.1) where
+  below : (p n : ℕ) → p ≤ n → p < 1 + n
+  below p n le = omega arith
+
+pub ring_number : (ring : ℕ) → IsInRange 1 RINGS ring → is_in ring ring_numbers ≡ true
+ring_number ring range = in_numbers RINGS 1 ring range.0 (below _ _ range.1) where
+  below : (p n : ℕ) → p ≤ n → p < 1 + n
+  below p n le = omega arith
+
+-- the rows and times here are those of the rules
+same_row : (o : Option (List ℕ)) → phases_or_none o ≡ or_empty o
+same_row None = refl
+same_row (Some ps) = refl
+
+same_time : (o : Option Split) → time_or_none o ≡ time_of o
+same_time None = refl
+same_time (Some split) = refl
+
+pub order_is : (set : Rows) (pattern : Pattern) (ring : ℕ) → order set pattern ring ≡ ring_row set pattern.seq ring
+order_is set pattern ring = same_row (sequence_at set pattern.seq ring)
+
+times_are : (set : Rows) (pattern : Pattern) → split_time set pattern ≡ times set pattern.split
+times_are set pattern = λ i p. same_time (split_at set pattern.split p) i
+
+lane_is : (set : Rows) (pattern : Pattern) (ring : ℕ) → timed (split_time set pattern) (order set pattern ring) ≡ lane set pattern.seq pattern.split ring
+lane_is set pattern ring = ap (λ (time : ℕ → ℕ). timed time (order set pattern ring)) (times_are set pattern) ∙ ap (timed (times set pattern.split)) (order_is set pattern ring)
+
+-- a phase that is found in a ring is of that ring
+pub of_ring : (ring : ℕ) (o : Option Phase) (phase : Phase) → o ≡ Some phase → in_ring ring o ≡ true → ring ≡ phase.ring
+of_ring ring o phase e h = sym (eqb-true phase.ring ring (ap (in_ring ring) (sym e) ∙ h))
+
+pub in_own_ring : (o : Option Phase) (phase : Phase) → o ≡ Some phase → in_ring phase.ring o ≡ true
+in_own_ring o phase e = ap (in_ring phase.ring) e ∙ eq-eqb phase.ring phase.ring refl
+
+listed : (set : Rows) (p q : ℕ) → lists set p q ≡ true → Lists set p q
+listed set p q h = by_phase (phase_at set p) refl h where
+  by_phase : (o : Option Phase) → phase_at set p ≡ o → is_in q (the_mates o) ≡ true → Lists set p q
+  by_phase None e among = absurd (false≢true among)
+  by_phase (Some phase) e among = (phase, e, contains phase.mates q among)
+
+-- a set and a pattern of it, whose rules are kept
+module _ (set : Rows) (clean : IsClean set) (n : ℕ) (pattern : Pattern) (has : HasPattern set n pattern) where
+  rules : (has_rows set pattern ≡ true) × (lanes_fill_cycle set pattern ≡ true) × (lanes_agree set pattern ≡ true)
+  rules = pattern_rules set clean n pattern (in_numbers 48 1 n has.0.number.0 (below _ has.0.number.1)) has.1 where
+    below : (k : ℕ) → k ≤ 48 → k < 1 + 48
+    below k le = omega arith
+
+  rows : (has_sequence set pattern.seq ≡ true) × (has_splits set pattern.split ≡ true)
+  rows = and_parts (has_sequence set pattern.seq) (has_splits set pattern.split) rules.0
+
+  row_right : (ring : ℕ) → IsInRange 1 RINGS ring → row_is_right set pattern.seq ring ≡ true
+  row_right ring range = all_at (row_is_right set pattern.seq) ring_numbers ring (sequence_rule set clean pattern.seq (in_numbers 20 1 pattern.seq has.0.seq.0 (below _ has.0.seq.1)) rows.0) (ring_number ring range) where
+    below : (k : ℕ) → k ≤ 20 → k < 1 + 20
+    below k le = omega arith
+
+  -- a phase of a ring's row is of the ring
+  pub owned : (ring p : ℕ) (before after : List ℕ) → IsInRange 1 RINGS ring → order set pattern ring ≡ before ++ p ∷ after → in_ring ring (phase_at set p) ≡ true
+  owned ring p before after range placed =
+      let parts : (has_each_once set ring (ring_row set pattern.seq ring) ≡ true) × (has_no_other set ring (ring_row set pattern.seq ring) ≡ true) = and_parts (has_each_once set ring (ring_row set pattern.seq ring)) (has_no_other set ring (ring_row set pattern.seq ring)) (row_right ring range) in
+      all_middle (λ q. in_ring ring (phase_at set q)) before after p (ap (has_no_other set ring) (sym placed ∙ order_is set pattern ring) ∙ parts.1)
+
+  -- and stands there once
+  pub once : (ring p : ℕ) → IsInRange 1 RINGS ring → IsInRange 1 PHASES p → in_ring ring (phase_at set p) ≡ true → places (order set pattern ring) p ≡ 1
+  once ring p range number is =
+      let parts : (has_each_once set ring (ring_row set pattern.seq ring) ≡ true) × (has_no_other set ring (ring_row set pattern.seq ring) ≡ true) = and_parts (has_each_once set ring (ring_row set pattern.seq ring)) (has_no_other set ring (ring_row set pattern.seq ring)) (row_right ring range) in
+      let among : is_in p (ring_phases set ring) ≡ true = in_filter (λ q. in_ring ring (phase_at set q)) phase_numbers p is (phase_number p number) in
+      let one : eqb (places (ring_row set pattern.seq ring) p) 1 ≡ true = all_at (λ q. eqb (places (ring_row set pattern.seq ring) q) 1) (ring_phases set ring) p parts.0 among in
+      ap (λ row. places row p) (order_is set pattern ring) ∙ eqb-true (places (ring_row set pattern.seq ring) p) 1 one
+
+  used : (ring p : ℕ) → IsInRange 1 RINGS ring → IsInRange 1 PHASES p → in_ring ring (phase_at set p) ≡ true → is_in ring (used_rings set) ≡ true
+  used ring p range number is =
+      in_filter (is_used set) ring_numbers ring (any_at (λ q. in_ring ring (phase_at set q)) phase_numbers p (phase_number p number) is) (ring_number ring range)
+
+  -- the splits of a ring that has a phase are as long as the cycle
+  pub full : (ring p : ℕ) → IsInRange 1 RINGS ring → IsInRange 1 PHASES p → in_ring ring (phase_at set p) ≡ true → sum_by (split_time set pattern) (order set pattern ring) ≡ pattern.cycle
+  full ring p range number is =
+      let each : list_all (λ r. eqb (length (lane set pattern.seq pattern.split r)) pattern.cycle) (used_rings set) ≡ true = sym (list_all-map (λ (l : List ℕ). eqb (length l) pattern.cycle) (lane set pattern.seq pattern.split) (used_rings set)) ∙ rules.1 in
+      let one : length (lane set pattern.seq pattern.split ring) ≡ pattern.cycle = eqb-true (length (lane set pattern.seq pattern.split ring)) pattern.cycle (all_at (λ r. eqb (length (lane set pattern.seq pattern.split r)) pattern.cycle) (used_rings set) ring each (used ring p range number is)) in
+      sym (length_is (split_time set pattern) (order set pattern ring)) ∙ ap length (lane_is set pattern ring) ∙ one
+
+  -- what times in a ring is of the ring
+  pub timing_owned : (ring p second : ℕ) → IsInRange 1 RINGS ring → TimesIn set pattern ring p second → in_ring ring (phase_at set p) ≡ true
+  timing_owned ring p second range t = owned ring p t.begins.before t.begins.after range t.begins.placed
+
+  -- phases that time in two rings list each other
+  pub concurrent_in : (ring other p q second : ℕ) → ring ≢ other → IsInRange 1 RINGS ring → IsInRange 1 RINGS other → IsInRange 1 PHASES p → IsInRange 1 PHASES q → TimesIn set pattern ring p second → TimesIn set pattern other q second → AreConcurrent set p q
+  concurrent_in ring other p q second apart range_of_ring range_of_other number_of_p number_of_q t u =
+      let p_owned : in_ring ring (phase_at set p) ≡ true = timing_owned ring p second range_of_ring t in
+      let q_owned : in_ring other (phase_at set q) ≡ true = timing_owned other q second range_of_other u in
+      let lt : second < pattern.cycle = before_end _ _ _ (times_within (split_time set pattern) (order set pattern ring) p second t) (full ring p range_of_ring number_of_p p_owned) in
+      let all : all_list_each_other set (phases_at (map (lane set pattern.seq pattern.split) (used_rings set)) second) ≡ true = at_number (λ s. all_list_each_other set (phases_at (lanes set pattern) s)) pattern.cycle 0 rules.2 second (omega arith) (omega arith) in
+      let pair : list_each_other set (get_or (lane set pattern.seq pattern.split ring) second 0) (get_or (lane set pattern.seq pattern.split other) second 0) ≡ true = pair_at set (lane set pattern.seq pattern.split) second (used_rings set) ring other all (used ring p range_of_ring number_of_p p_owned) (used other q range_of_other number_of_q q_owned) apart in
+      let at_ring : get_or (lane set pattern.seq pattern.split ring) second 0 ≡ p = ap (λ l. get_or l second 0) (sym (lane_is set pattern ring)) ∙ lane_at (split_time set pattern) (order set pattern ring) p second t in
+      let at_other : get_or (lane set pattern.seq pattern.split other) second 0 ≡ q = ap (λ l. get_or l second 0) (sym (lane_is set pattern other)) ∙ lane_at (split_time set pattern) (order set pattern other) q second u in
+      let both : list_each_other set p q ≡ true = ap (λ k. list_each_other set k q) (sym at_ring) ∙ ap (λ k. list_each_other set (get_or (lane set pattern.seq pattern.split ring) second 0) k) (sym at_other) ∙ pair in
+      let parts : (lists set p q ≡ true) × (lists set q p ≡ true) = and_parts (lists set p q) (lists set q p) both in
+      (listed set p q parts.0, listed set q p parts.1) where
+        before_end : (second sum cycle : ℕ) → second < sum → sum ≡ cycle → second < cycle
+        before_end second sum cycle lt e = omega arith
+
+  -- each phase has a split, which keeps its rule
+  pub has_split : (p : ℕ) (phase : Phase) → HasPhase set p phase → (split : Split) × (split_at set pattern.split p ≡ Some split) × (time_is_right split phase ≡ true)
+  has_split p phase of_p =
+      let among : is_in p phase_numbers ≡ true = phase_number p of_p.0.number in
+      let row : is_some (split_at set pattern.split p) ≡ true = all_at (λ q. is_some (split_at set pattern.split q)) (phases set) p rows.1 (in_filter (λ q. is_some (phase_at set q)) phase_numbers p (ap is_some of_p.1) among) in
+      let split : (s : Split) × (split_at set pattern.split p ≡ Some s) = some_value (split_at set pattern.split p) row in
+      (split.0, split.1, split_rule set clean pattern.split p split.0 phase (in_numbers 20 1 pattern.split has.0.split.0 (below _ has.0.split.1)) among split.1 of_p.1) where
+        below : (k : ℕ) → k ≤ 20 → k < 1 + 20
+        below k le = omega arith

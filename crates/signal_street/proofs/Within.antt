@@ -1,0 +1,113 @@
+-- What a split has room for, and how long a walker crosses.
+use Rattle.std.proofs.Common.{◌≡◌, ◌≢◌, ◌↔◌, ℕ, ◌+◌, ◌-◌, ◌*◌, ◌<◌, ◌≤◌, max, Bool, true, false, ◌&&◌, eqb, leb, Option, Some, None, IfSome, ◌⊎◌, inl, inr, refl, sym, ap, ◌∙◌, arith}
+use Rattle.std.proofs.lemmas.Bool.{false≢true, or_cases, eq-eqb, eqb-true, leb-true}
+use Rattle.std.specs.Bool.{beq}
+use Rattle.signal_records.specs.declared.record.Ped.{Ped}
+use Rattle.signal_records.specs.declared.record.Phase.{Phase}
+use Rattle.signal_records.specs.declared.record.Split.{Split}
+use Rattle.signal_records.specs.declared.record.SplitMode.{SplitMode}
+use Rattle.signal_records.specs.declared.record.SplitMode.TheVariants.{NoRecall, MinimumVehicleRecall, MaximumVehicleRecall, PedestrianRecall, MaximumVehicleAndPedestrianRecall, PhaseOmitted}
+use Rattle.signal_records.specs.Need.{called, lead_time, walk_time, need_of}
+use Rattle.signal_rules.specs.PhaseRules.{clearance, clears_crossing, clears_setback, where_walked}
+use Rattle.signal_rules.specs.SplitRule.{is_omitted, time_fits_mode, time_is_enough, coordination_is_right, time_is_right}
+use Rattle.signal_street.specs.Intervals.{CallsPedestrian, FitsCrossing, FitsSplit, clear_end, CrossesInTime, CrossesFromSetback}
+
+three : (a b c : Bool) → (a && b && c) ≡ true → (a ≡ true) × (b ≡ true)
+three true true c h = (refl, refl)
+three true false c h = absurd (false≢true h)
+three false b c h = absurd (false≢true h)
+
+same : (a b : Bool) → beq a b ≡ true → a ≡ b
+same true true h = refl
+same true false h = absurd (false≢true h)
+same false true h = absurd (false≢true h)
+same false false h = refl
+
+omitted_is : (mode : SplitMode) → is_omitted mode ≡ true → mode ≡ PhaseOmitted
+omitted_is NoRecall h = absurd (false≢true h)
+omitted_is MinimumVehicleRecall h = absurd (false≢true h)
+omitted_is MaximumVehicleRecall h = absurd (false≢true h)
+omitted_is PedestrianRecall h = absurd (false≢true h)
+omitted_is MaximumVehicleAndPedestrianRecall h = absurd (false≢true h)
+omitted_is PhaseOmitted h = refl
+
+-- a split has no time exactly where the phase is omitted
+pub none_where_omitted : (split : Split) (phase : Phase) → time_is_right split phase ≡ true → (split.time ≡ 0) ↔ (split.mode ≡ PhaseOmitted)
+none_where_omitted split phase right =
+    let fits : eqb split.time 0 ≡ is_omitted split.mode = same (eqb split.time 0) (is_omitted split.mode) (three (time_fits_mode split) (time_is_enough split phase) (coordination_is_right split) right).0 in
+    ((λ none. omitted_is split.mode (sym fits ∙ eq-eqb split.time 0 none)), (λ omitted. eqb-true split.time 0 (fits ∙ ap is_omitted omitted)))
+
+-- a mode that calls the walk takes the pedestrian part into the need
+called_is : (ped : Option Ped) (mode : SplitMode) → CallsPedestrian mode → called ped mode ≡ ped
+called_is ped mode (inl e) = ap (called ped) e
+called_is ped mode (inr e) = ap (called ped) e
+
+pub not_omitted : (mode : SplitMode) → CallsPedestrian mode → mode ≢ PhaseOmitted
+not_omitted mode (inl e) omitted = absurd (cc)
+not_omitted mode (inr e) omitted = absurd (cc)
+
+both_needs : (a b c t : ℕ) → max a b + c ≤ t → (a + c ≤ t) × (b + c ≤ t)
+both_needs a b c t h = (omega arith, omega arith)
+
+enough : (split : Split) (phase : Phase) → time_is_right split phase ≡ true → split.mode ≢ PhaseOmitted → need_of phase split.mode ≤ 10 * split.time
+enough split phase right some =
+    by_case (or_cases (eqb split.time 0) (leb (need_of phase split.mode) (10 * split.time)) (three (time_fits_mode split) (time_is_enough split phase) (coordination_is_right split) right).1) where
+      by_case : (eqb split.time 0 ≡ true) ⊎ (leb (need_of phase split.mode) (10 * split.time) ≡ true) → need_of phase split.mode ≤ 10 * split.time
+      by_case (inl none) = absurd (some ((none_where_omitted split phase right).0 (eqb-true split.time 0 none)))
+      by_case (inr le) = leb-true (need_of phase split.mode) (10 * split.time) le
+
+crossing_fits : (lead green walk clear clearance time l w : ℕ) → l ≡ lead → w ≡ walk + clear → 10 * (l + green) + clearance ≤ time → 10 * w + clearance ≤ time → (10 * (lead + green) ≤ time - clearance) × (10 * (walk + clear) ≤ time - clearance)
+crossing_fits lead green walk clear clearance time l w e f g h = (omega arith, omega arith)
+
+-- a split that is not omitted has room for all that the phase shows
+pub room : (split : Split) (phase : Phase) → time_is_right split phase ≡ true → split.mode ≢ PhaseOmitted → FitsSplit phase split
+room split phase right some =
+    record {
+      green_end = 10 * split.time - (phase.yellow + phase.red);
+      cleared = ends _ _ _ _ _ bounds.0;
+      green = shown _ _ _ _ bounds.0;
+      crossing = λ calls. of_ped phase.ped refl calls;
+    } where
+      bounds : (10 * (lead_time (called phase.ped split.mode) + phase.min_green) + (phase.yellow + phase.red) ≤ 10 * split.time) × (10 * walk_time (called phase.ped split.mode) + (phase.yellow + phase.red) ≤ 10 * split.time)
+      bounds = both_needs (10 * (lead_time (called phase.ped split.mode) + phase.min_green)) (10 * walk_time (called phase.ped split.mode)) (phase.yellow + phase.red) (10 * split.time) (enough split phase right some)
+
+      ends : (l g y r t : ℕ) → 10 * (l + g) + (y + r) ≤ t → t - (y + r) + y + r ≡ t
+      ends l g y r t h = omega arith
+
+      shown : (l g c t : ℕ) → 10 * (l + g) + c ≤ t → 10 * g ≤ t - c
+      shown l g c t h = omega arith
+
+      of_ped : (o : Option Ped) → phase.ped ≡ o → CallsPedestrian split.mode → IfSome o (λ ped. FitsCrossing phase ped (10 * split.time - (phase.yellow + phase.red)))
+      of_ped None e calls = tt
+      of_ped (Some ped) e calls =
+          let is : called phase.ped split.mode ≡ Some ped = called_is phase.ped split.mode calls ∙ e in
+          let fit = crossing_fits ped.lead phase.min_green ped.walk ped.clear (phase.yellow + phase.red) (10 * split.time) (lead_time (called phase.ped split.mode)) (walk_time (called phase.ped split.mode)) (ap lead_time is) (ap walk_time is) bounds.0 bounds.1 in
+          record { lead_and_green = fit.0; walk_and_clearance = fit.1 }
+
+-- walkers are across in time
+across : (left now walk clear yellow red width : ℕ) → 2 * width ≤ 7 * (10 * clear + (yellow + red)) → left ≤ 10 * walk → left ≤ now → 7 * (now - left) < 2 * width → now < 10 * walk + 10 * clear + yellow + red
+across left now walk clear yellow red width enough by gone not_yet = omega arith
+
+pub crosses : (phase : Phase) (ped : Ped) → phase.ped ≡ Some ped → where_walked phase.ped (clears_crossing phase) ≡ true → CrossesInTime phase ped
+crosses phase ped is clears left now by crossing =
+    let enough : 2 * ped.width ≤ 7 * clearance phase ped = leb-true (2 * ped.width) (7 * clearance phase ped) (ap (λ o. where_walked o (clears_crossing phase)) (sym is) ∙ clears) in
+    across left now ped.walk ped.clear phase.yellow phase.red ped.width enough by crossing.0 crossing.1
+
+from_behind : (now walk clear yellow red width setback : ℕ) → width + setback ≤ 3 * (10 * walk + (10 * clear + (yellow + red))) → 3 * now < setback + width → now < 10 * walk + 10 * clear + yellow + red
+from_behind now walk clear yellow red width setback enough not_yet = omega arith
+
+pub crosses_from_setback : (phase : Phase) (ped : Ped) → phase.ped ≡ Some ped → where_walked phase.ped (clears_setback phase) ≡ true → CrossesFromSetback phase ped
+crosses_from_setback phase ped is clears now on_the_way =
+    let enough : ped.width + ped.setback ≤ 3 * (10 * ped.walk + clearance phase ped) = leb-true (ped.width + ped.setback) (3 * (10 * ped.walk + clearance phase ped)) (ap (λ o. where_walked o (clears_setback phase)) (sym is) ∙ clears) in
+    from_behind now ped.walk ped.clear phase.yellow phase.red ped.width ped.setback enough on_the_way
+
+-- and so before the split is over, where it calls the walk
+pub within_split : (phase : Phase) (ped : Ped) (split : Split) (now : ℕ) → phase.ped ≡ Some ped → CallsPedestrian split.mode → FitsSplit phase split → now < clear_end phase ped → now < 10 * split.time
+within_split phase ped split now is calls fits before =
+    let crossing : FitsCrossing phase ped fits.green_end = at_some phase.ped is (fits.crossing calls) in
+    ended _ _ _ _ _ _ _ crossing.walk_and_clearance fits.cleared before where
+      at_some : (o : Option Ped) → o ≡ Some ped → IfSome o (λ ped. FitsCrossing phase ped fits.green_end) → FitsCrossing phase ped fits.green_end
+      at_some o e h = rw e at h
+
+      ended : (now walk clear green yellow red time : ℕ) → 10 * (walk + clear) ≤ green → green + yellow + red ≡ time → now < 10 * walk + 10 * clear + yellow + red → now < time
+      ended now walk clear green yellow red time f g h = omega arith

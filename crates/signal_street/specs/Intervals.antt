@@ -1,0 +1,50 @@
+-- What a phase shows while it times, and who crosses then. Moments are in tenths of a second from
+-- where the phase begins; its walk begins there too.
+use Rattle.std.specs.Prelude.{◌≡◌, ℕ, ◌+◌, ◌-◌, ◌*◌, ◌<◌, ◌≤◌, ◌⊎◌, IfSome}
+use Rattle.signal_records.specs.declared.record.Ped.{Ped}
+use Rattle.signal_records.specs.declared.record.Phase.{Phase}
+use Rattle.signal_records.specs.declared.record.Split.{Split}
+use Rattle.signal_records.specs.declared.record.SplitMode.{SplitMode}
+use Rattle.signal_records.specs.declared.record.SplitMode.TheVariants.{PedestrianRecall, MaximumVehicleAndPedestrianRecall}
+
+-- splitMode calls for the walk
+abbrev pub CallsPedestrian : SplitMode → Type 0
+CallsPedestrian mode = (mode ≡ PedestrianRecall) ⊎ (mode ≡ MaximumVehicleAndPedestrianRecall)
+
+-- lead and minimum green, and walk and clearance too, are over when green ends
+pub record FitsCrossing (phase : Phase) (ped : Ped) (green_end : ℕ) : Type 0 where
+  pub lead_and_green : 10 * (ped.lead + phase.min_green) ≤ green_end
+  pub walk_and_clearance : 10 * (ped.walk + ped.clear) ≤ green_end
+
+-- green ends so early that all of yellow and red follow it within the split, and so late that the
+-- minimum green is over, and a walk that is called with its clearance
+pub record FitsSplit (phase : Phase) (split : Split) : Type 0 where
+  pub green_end : ℕ
+  pub cleared : green_end + phase.yellow + phase.red ≡ 10 * split.time
+  pub green : 10 * phase.min_green ≤ green_end
+  pub crossing : CallsPedestrian split.mode → IfSome phase.ped (λ ped. FitsCrossing phase ped green_end)
+
+-- when walk, clearance, yellow and red, one after the other, are over
+abbrev pub clear_end : Phase → Ped → ℕ
+clear_end phase ped = 10 * ped.walk + 10 * ped.clear + phase.yellow + phase.red
+
+-- who left the curb and walks 3.5 feet a second is not yet across: in 2 tenths of a second that is 7
+-- tenths of a foot
+abbrev pub IsCrossing : Ped → ℕ → ℕ → Type 0
+IsCrossing ped left now = (left ≤ now) × (7 * (now - left) < 2 * ped.width)
+
+-- who leaves the curb by the last moment of the walk is across before red is over
+abbrev pub CrossesInTime : Phase → Ped → Type 0
+CrossesInTime phase ped =
+    (left now : ℕ) → left ≤ 10 * ped.walk → IsCrossing ped left now → now < clear_end phase ped
+
+-- who set out from the setback when the walk began, at 3 feet a second, is not yet across
+abbrev pub IsOnTheWay : Ped → ℕ → Type 0
+IsOnTheWay ped now = 3 * now < ped.setback + ped.width
+
+-- and is across before red is over
+abbrev pub CrossesFromSetback : Phase → Ped → Type 0
+CrossesFromSetback phase ped = (now : ℕ) → IsOnTheWay ped now → now < clear_end phase ped
+
+abbrev pub WalkersCross : Phase → Ped → Type 0
+WalkersCross phase ped = CrossesInTime phase ped × CrossesFromSetback phase ped

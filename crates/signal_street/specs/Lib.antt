@@ -1,0 +1,3 @@
+pub mod Timing
+pub mod Intervals
+pub mod StreetLaws

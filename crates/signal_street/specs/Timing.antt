@@ -1,0 +1,70 @@
+-- When the phases of a pattern time, in seconds of its cycle, which count from 0.
+use Rattle.std.specs.Prelude.{◌≡◌, ℕ, ◌+◌, ◌<◌, ◌≤◌, List, [], ◌∷◌, ◌++◌, sum_by, Option, Some, None}
+use Rattle.std.specs.Int.{IsInRange}
+use Rattle.signal_records.specs.declared.number.TheConstants.{PHASES, RINGS}
+use Rattle.signal_records.specs.declared.record.Pattern.{Pattern}
+use Rattle.signal_records.specs.declared.record.Phase.{Phase}
+use Rattle.signal_records.specs.declared.record.Split.{Split}
+use Rattle.signal_records.specs.TimingSet.{Rows}
+use Rattle.signal_records.specs.Within.{current_limits, IsPhaseWithin, IsPatternWithin}
+use Rattle.signal_rules.specs.Lookup.{phase_at, sequence_at, split_at, pattern_at}
+
+-- the set has the phase, with its numbers in the ranges that they have in each row of a program
+abbrev pub HasPhase : Rows → ℕ → Phase → Type 0
+HasPhase set p phase = IsPhaseWithin current_limits p phase × (phase_at set p ≡ Some phase)
+
+-- the same of a pattern
+abbrev pub HasPattern : Rows → ℕ → Pattern → Type 0
+HasPattern set n pattern = IsPatternWithin n pattern × (pattern_at set n ≡ Some pattern)
+
+abbrev pub phases_or_none : Option (List ℕ) → List ℕ
+phases_or_none None = []
+phases_or_none (Some ps) = ps
+
+-- sequenceData: the phases of a ring, in the order in which they run; a ring without a row has none
+abbrev pub order : Rows → Pattern → ℕ → List ℕ
+order set pattern ring = phases_or_none (sequence_at set pattern.seq ring)
+
+abbrev pub time_or_none : Option Split → ℕ
+time_or_none None = 0
+time_or_none (Some split) = split.time
+
+-- splitTime of a phase, in seconds; a phase without a row has none
+abbrev pub split_time : Rows → Pattern → ℕ → ℕ
+split_time set pattern p = time_or_none (split_at set pattern.split p)
+
+-- in a row of phases that have times, a phase begins when the times of those before it are over
+pub record Begins (time : ℕ → ℕ) (row : List ℕ) (p begin : ℕ) : Type 0 where
+  pub before : List ℕ
+  pub after : List ℕ
+  pub placed : row ≡ before ++ p ∷ after
+  pub over : begin ≡ sum_by time before
+
+-- and times from there on, for as many seconds as its own time
+pub record Times (time : ℕ → ℕ) (row : List ℕ) (p second : ℕ) : Type 0 where
+  pub begin : ℕ
+  pub begins : Begins time row p begin
+  pub begun : begin ≤ second
+  pub unended : second < begin + time p
+
+-- a phase begins in a ring at a second of the cycle
+abbrev pub BeginsIn : Rows → Pattern → ℕ → ℕ → ℕ → Type 0
+BeginsIn set pattern ring p begin = Begins (split_time set pattern) (order set pattern ring) p begin
+
+-- a phase times in a ring at a second of the cycle
+abbrev pub TimesIn : Rows → Pattern → ℕ → ℕ → ℕ → Type 0
+TimesIn set pattern ring p second = Times (split_time set pattern) (order set pattern ring) p second
+
+-- a phase times at a second of the cycle, in whatever ring
+pub record IsTiming (set : Rows) (pattern : Pattern) (p second : ℕ) : Type 0 where
+  pub number : IsInRange 1 PHASES p
+  pub ring : ℕ
+  pub ring_number : IsInRange 1 RINGS ring
+  pub times : TimesIn set pattern ring p second
+
+-- a phase stands somewhere before another in a row
+pub record StandsBefore (row : List ℕ) (p q : ℕ) : Type 0 where
+  pub before : List ℕ
+  pub between : List ℕ
+  pub after : List ℕ
+  pub placed : row ≡ before ++ (p ∷ (between ++ (q ∷ after)))
