@@ -1,5 +1,5 @@
 -- The office over the tables of a file.
-use Rattle.std.specs.Prelude.{◌≡◌, ℕ, Result}
+use Rattle.std.specs.Prelude.{◌≡◌, ℕ, List, Result}
 use Rattle.sqlite.specs.Files.{HoldsDatabase, AreFoundIn, file_state, over_files}
 use Rattle.sqlite.specs.Start.{FindsIn}
 use Rattle.sqlite.specs.declared.FileStore.{FileStore}
@@ -21,11 +21,9 @@ use Rattle.office_tables.specs.Stored.{content_now, content_of}
 use Rattle.office_desk.specs.Office.{Office}
 use Rattle.office_desk.specs.StandFor.{StandForSound}
 use Rattle.office_http.specs.Laws.{Serves}
-use Rattle.office_http.specs.Protocol.{office_protocol, office_storage}
-use Rattle.office_http_framing.specs.Serve.{Did, Ends}
-use Rattle.office_http_framing.specs.Stops.{Keeps, Storage}
-use Rattle.office_http_framing.specs.declared.engine.Served.{Served}
-use Rattle.office_http_framing.specs.declared.engine.ServeFault.{ServeFault}
+use Rattle.office_http.specs.Protocol.{office_storage}
+use Rattle.office_http_framing.specs.Front.{PlainRequest}
+use Rattle.office_http_framing.specs.Stops.{Storage}
 
 -- the trees are those that an open finds in the files: of a database, its own
 pub record AreThoseOf (image : Image) (trees : Trees) : Type 0 where
@@ -45,14 +43,13 @@ pub record AreOpenedFor {S : Type 0} (state_of : Held S → State) (opened : Sql
   pub stand : StandForSound (content_now (state_of opened.conn)) office
   pub crash : (tables : Content) → MayLeave (state_of opened.conn) tables → StandForSound tables office
 
--- What was done over files: the office was opened as the tables in them stood for it, and served as `serve` says, on a clean disk alone.
-pub record ServesFiles {S : Type 0} (state_of : Held S → State) (image : Image) (last : SqlView S) (limit : ℕ) (start end : Ends) (outcome : Result Served ServeFault) : Type 0 where
-  pub opened : SqlView S
-  pub clean : HasCleanDisk (state_of last.conn) → HasCleanDisk (state_of opened.conn)
-  pub honest : IsHonest (state_of last.conn) → IsHonest (state_of opened.conn)
-  pub found : IsHonest (state_of opened.conn) → (before : Office) → StandInFiles image before → AreOpenedFor state_of opened before
-  pub did : HasCleanDisk (state_of last.conn) → (before : Office) (tables : Content) → Keeps (sql_storage state_of) opened tables before →
-      (after : Office) × (kept : Content) × Did office_protocol (Serves (sql_storage state_of) (MayLeave (state_of opened.conn)) tables before last kept after) limit start end outcome
+-- What was done over the requests from the office that the tables in the files stood for, and their answers: what a crash could leave
+-- before them stood for that office, and `Serves` says the rest.
+pub record ServesFiles {S : Type 0} (state_of : Held S → State) (before : Office) (last : SqlView S) (after : Office) (requests : List PlainRequest) (answers : List (List ℕ)) : Type 0 where
+  pub held : Content
+  pub stands : StandForSound held before
+  pub kept : Content
+  pub serves : Serves (sql_storage state_of) (λ tables. StandForSound tables before) held before last kept after requests answers
 
 -- the tables of a connection were refused, which is told so, and it is as an opening leaves it
 pub record IsTurnedAway {S : Type 0} (g : Ghosts S) (conn : Held S) (told : Fault) (left : Result (Held S) S) : Type 0 where

@@ -1,18 +1,19 @@
 //! The office over the tables of a database in a file.
 
-ghost use Rattle.std.specs.Prelude.{◌≡◌, ◌≢◌, ◌≤◌, ◌+◌, ◌*◌, ℕ, List, None, Ok, IfOk, IfErr, IfSome};
+ghost use Rattle.std.specs.Prelude.{◌≡◌, ◌≢◌, ◌≤◌, ◌+◌, ◌*◌, None, Ok, IfOk, IfErr, IfSome};
 ghost use Rattle.sqlite.specs.Closing.{IsCopied};
 ghost use Rattle.sqlite.specs.Files.{file_state};
 ghost use Rattle.sqlite.specs.Held.{state};
+ghost use Rattle.sqlite.specs.State.{HasCleanDisk};
 ghost use Rattle.sqlite.specs.WalFiles.{image_at};
 ghost use Rattle.sqlite.specs.WalReads.{AreClean};
-ghost use Rattle.office_tables.specs.Calls.{IsHonest};
 ghost use Rattle.office_tables_open.specs.Opening.{IsOpened, IsRefused};
 ghost use Rattle.office_tables_open.specs.Promises.{IsArrangedIfClean};
 ghost use Rattle.office_desk.specs.Office.{Office as OfficeState};
 ghost use Rattle.office_http_framing.specs.Asks.{OnlyAsks};
 ghost use Rattle.office_http_framing.specs.Limits.{longest_request};
-ghost use Rattle.office_http_framing.specs.Serve.{TellsFault, ends_of};
+ghost use Rattle.office_http_framing.specs.Serve.{Did, TellsFault, ends_of};
+ghost use Rattle.office_http.specs.Protocol.{office_protocol};
 ghost use Rattle.signal_office_run.specs.File.{AreOpenedFor, ServesFiles, StandInFiles};
 ghost use Rattle.signal_office_run.specs.File.{IsTurnedAway, IsTurnedAwayFrom};
 
@@ -97,7 +98,8 @@ pub(crate) fn open_file<S: Start>(
     path: &str,
     start: S,
 ) -> Result<FileOffice<S>, (Fault, Option<FileLeft<S>>)>
-    ensures opened { IfOk result (λ office. IsHonest (file_state office.conn) → (before : OfficeState) → StandInFiles (image_at S.Start) before →
+    ensures opened { IfOk result (λ office. HasCleanDisk (file_state office.conn) →
+        (before : OfficeState) → StandInFiles (image_at S.Start) before →
         AreOpenedFor file_state office before) }
     ensures refused { IfErr result (λ e. IfSome e.1 (IsTurnedAwayFrom (image_at S.Start) e.0)) }
 {
@@ -109,8 +111,8 @@ pub(crate) fn open_file<S: Start>(
 
 /// Serves the requests that the reader gives by the office over the tables of a file, and gives the
 /// office back. The headline holds of it where the tables in the files stood for a sound office, and
-/// the disk is honest. Where it answers a fault of its own, the file was refused, and nothing was read
-/// or written. No clause ties the files to the path.
+/// the disk has returned what was written. Where it answers a fault of its own, the file was
+/// refused, and nothing was read or written. No clause ties the files to the path.
 pub fn serve_file<S: Start, R: Source, W: Sink>(
     rt: &HostRuntime,
     alloc: Global,
@@ -125,7 +127,9 @@ pub fn serve_file<S: Start, R: Source, W: Sink>(
     // in the files stood for; the tables that are kept stand for the office after them; a crash
     // leaves the office after the last request that was answered and changed rows, or after a later
     // one; and the run keeps the laws of the office.
-    ensures did { IfOk result (λ served. ServesFiles file_state (image_at S.Start) served.0
+    ensures did { IfOk result (λ served. HasCleanDisk (file_state served.0.conn) →
+        (before : OfficeState) → StandInFiles (image_at S.Start) before →
+        (after : OfficeState) × Did office_protocol (ServesFiles file_state before served.0 after)
         max_requests (ends_of (R.told reader.old) (W.told writer.old))
         (ends_of (R.told reader.new) (W.told writer.new)) served.1) }
     // Read and Write are answered only where that end told a fault.

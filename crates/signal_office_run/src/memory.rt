@@ -26,8 +26,8 @@ pub(crate) fn open_in_memory(alloc: Global) -> Result<Office<SqlShelf<MemStore>>
 }
 
 /// Serves the requests that the reader gives by a new office over tables in memory. The headline
-/// holds of it with no premise on the tables or a disk. Where it answers a fault of its own, memory or
-/// the database refused the tables, and nothing was read or written.
+/// holds of it with no premise on the tables or a disk. Where it answers a fault of its own, memory
+/// or the database refused the tables, and nothing was read or written.
 pub fn serve_new_office<R: Source, W: Sink>(
     alloc: Global,
     reader: &mut R,

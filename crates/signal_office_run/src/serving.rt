@@ -30,8 +30,8 @@ fn listen<W: Sink>(
     Ok(listener)
 }
 
-/// Listens on a port of 127.0.0.1, says so, and serves so many connections, one after the other, each
-/// at most 10,000 requests.
+/// Listens on a port of 127.0.0.1, says so, and serves so many connections, one after the other,
+/// each at most 10,000 requests.
 pub fn serve_port<S: Shelf, W: Sink>(
     rt: &HostRuntime,
     alloc: Global,

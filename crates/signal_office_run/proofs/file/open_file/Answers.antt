@@ -12,7 +12,8 @@ office_over-requires g c clean = found_arranged _ _ (c.in-Ok.ensures.found clean
 
 pub returns-in-Ok-clause-opened : goal.returns-in-Ok-clause-opened
 returns-in-Ok-clause-opened g c =
-    IfOk-weaker c.office_over.result _ _ (λ office it honest before stands.
+    IfOk-weaker c.office_over.result _ _ (λ office it clean before stands.
+    let honest = it.opened clean in
     let found = c.in-Ok.ensures.found (it.honest honest) in
     let stand = subst (λ tables. StandForSound tables before) (sym (it.kept honest)) (stands (file_state c.in-Ok.conn).committed.trees (record { holds = found.holds; reads = found.reads })) in
     record {

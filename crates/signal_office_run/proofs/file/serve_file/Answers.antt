@@ -1,6 +1,28 @@
+use Rattle.std.proofs.Common.{refl}
+use Rattle.sqlite.specs.Files.{file_state}
+use Rattle.office_http.specs.Protocol.{office_protocol}
+use Rattle.office_http_framing.proofs.ServeLemmas.{Did-weaker}
+use Rattle.office_http_framing.proofs.StopLemmas.{ran-wider}
+use Rattle.office_tables.specs.Stored.{content_now}
+use Rattle.signal_office_run.specs.File.{sql_storage}
 use Rattle.signal_office_run.proofs.file.serve_file.Goals as goal
 
+-- what was opened is what the tables in the files stood for, and so is what a crash may leave of it
 pub returns-clause-did : goal.returns-clause-did
-returns-clause-did g c =
+returns-clause-did g c clean before stand =
     let it = c.serve-outcome.ensures in
-    record { opened = c.in_ok-office.office; clean = it.clean; honest = it.honest; found = c.in_ok-office.ensures; did = it.did }
+    let office = c.in-Ok.office in
+    let opened = c.in-Ok.ensures.opened (it.clean clean) before stand in
+    let served = it.did clean before (content_now (file_state office.conn)) (record { stands = opened.stand; held = λ _. refl }) in (
+      served.0,
+      Did-weaker office_protocol _ _ c.args.max_requests _ _ c.serve-outcome.result
+          (λ requests answers serves. record {
+            held = content_now (file_state office.conn);
+            stands = opened.stand;
+            kept = served.1;
+            serves = record {
+              ran = ran-wider office_protocol (sql_storage file_state) _ _ (content_now (file_state office.conn)) before _ served.1 served.0 requests answers opened.crash serves.ran;
+              laws = serves.laws;
+            };
+          }) served.2,
+    )
