@@ -60,4 +60,4 @@ pub record IsTurnedAway {S : Type 0} (g : Ghosts S) (conn : Held S) (told : Faul
 
 -- that of a connection which found its tables in these files
 abbrev pub IsTurnedAwayFrom : {D : Type 0} {g : Disk D} → Image → Fault → Result (Held (FileStore D g)) (FileStore D g) → Type 0
-IsTurnedAwayFrom image told left = (conn : Held (FileStore _ _)) × (HasCleanDisk (file_state conn) → FindsIn image (file_state conn)) × IsTurnedAway over_files conn told left
+IsTurnedAwayFrom {D} {g} image told left = (conn : Held (FileStore D g)) × (HasCleanDisk (file_state conn) → FindsIn image (file_state conn)) × IsTurnedAway over_files conn told left
