@@ -109,6 +109,31 @@ pub(crate) fn open_file<S: Start>(
     }
 }
 
+/// Why the tables of a file were refused. What is left of its database is dropped.
+fn turned_away<L: Drop>(refused: (Fault, L)) -> Fault
+    ensures { result ≡ refused.0 }
+{
+    let (fault, _) = refused;
+    fault
+}
+
+/// As `open_file`, but what is left where the tables are refused is dropped.
+pub(crate) fn opened_file<S: Start>(
+    rt: &HostRuntime,
+    alloc: Global,
+    path: &str,
+    start: S,
+) -> Result<FileOffice<S>, Fault>
+    ensures opened { IfOk result (λ office. HasCleanDisk (file_state office.conn) →
+        (before : OfficeState) → StandInFiles (image_at S.Start) before →
+        AreOpenedFor file_state office before) }
+{
+    match open_file(rt, alloc, path, start) {
+        Ok(office) => Ok(office),
+        Err(refused) => Err(turned_away(refused)),
+    }
+}
+
 /// Serves the requests that the reader gives by the office over the tables of a file, and gives the
 /// office back. The headline holds of it where the tables in the files stood for a sound office, and
 /// the disk has returned what was written. Where it answers a fault of its own, the file was
@@ -142,9 +167,9 @@ pub fn serve_file<S: Start, R: Source, W: Sink>(
     ensures reads { (R.told reader.new).counts.calls
         ≤ (R.told reader.old).counts.calls + longest_request * (max_requests + 1) + 1 }
 {
-    let mut office = match open_file(rt, alloc, path, start) {
+    let mut office = match opened_file(rt, alloc, path, start) {
         Ok(office) => office,
-        Err((fault, _)) => return Err(fault),
+        Err(fault) => return Err(fault),
     };
     let outcome = serve(alloc, &mut office, reader, writer, max_requests);
     Ok((office, outcome))

@@ -1,7 +1,7 @@
 //! What is done over the tables of a file.
 
 use crate::done::Done;
-use crate::file::{close_after, is_missing, open_file, serve_file};
+use crate::file::{close_after, is_missing, opened_file, serve_file};
 use crate::serving::serve_port;
 use cabinet_core::Day;
 use office_desk::office::Office;
@@ -135,10 +135,7 @@ pub(crate) fn do_in_file<W: Sink>(
     if !task.makes_file() && is_missing(rt, alloc, path)? {
         return Err(Fault::File);
     }
-    let mut office = match open_file(rt, alloc, path, Wary) {
-        Ok(office) => office,
-        Err((fault, _)) => return Err(fault),
-    };
+    let mut office = opened_file(rt, alloc, path, Wary)?;
     let outcome = done_by(rt, alloc, &mut office, task, out);
     let (_, done) = close_after(office.into_shelf().into_conn(), outcome)?;
     Ok(done)
