@@ -33,7 +33,8 @@ impl Answer {
 pub struct Unavailable;
 
 /// A machine that answers requests one after another, each from the state that the one before it
-/// left. `Tools` are what it makes once for a stream and uses for each request, as a table of routes.
+/// left. `Tools` are what it makes once for a stream and uses for each request, as a table of
+/// routes.
 pub trait Machine<Tools> {
     ghost use Rattle.office_http_framing.specs.Front.{plain};
     ghost use Rattle.office_http_framing.specs.Protocol.{Protocol};
@@ -78,8 +79,8 @@ pub trait Machine<Tools> {
     fn fault_answer(alloc: Global, fault: Fault) -> Result<Vec<u8>, AllocError>
         ensures { IfOk result (λ answer. answer.items ≡ protocol.fault_text fault) };
 
-    /// The answer that stands in place of one for which memory or the store was refused. It takes no
-    /// memory.
+    /// The answer that stands in place of one for which memory or the store was refused. It takes
+    /// no memory.
     fn unavailable() -> &'static [u8]
         ensures { result.now ≡ protocol.unavailable_text };
 }

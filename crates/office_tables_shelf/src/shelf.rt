@@ -55,11 +55,12 @@ impl From<NoMemory> for ShelfFault {
 
 /// The tables of an office, as they are stored.
 ///
-/// Two things are told apart: the disk has returned what was written (`is_clean`), and no failure of
-/// it has shut the database besides (`is_honest`). A read that answers or tells a damaged row, and an
-/// `apply` that made a change, found the database open and left it so (`open`): what they say rests
-/// on a clean disk alone. One that is shut stays shut, and refuses each later one. A refusal leaves
-/// the content where the database is still open. What a crash may leave rests on the disk alone.
+/// Two things are told apart: the disk has returned what was written (`is_clean`), and no failure
+/// of it has shut the database besides (`is_honest`). A read that answers or tells a damaged row,
+/// and an `apply` that made a change, found the database open and left it so (`open`): what they
+/// say rests on a clean disk alone. One that is shut stays shut, and refuses each later one. A
+/// refusal leaves the content where the database is still open. What a crash may leave rests on
+/// the disk alone.
 pub trait Shelf {
     /// What is stored, whether or not it is a record.
     ghost content: { Self → Content };

@@ -43,8 +43,8 @@ pub fn open_and_migrate<S: Start>(
     path: &str,
     start: S,
 ) -> Result<(FileConnection<S>, Result<Migrated, OpenFault>), Fault>
-    // What `SqlShelf::migrate` says, of a connection that found its tables in the files: the counts,
-    // when Version and Damaged are told, and what a stop leaves.
+    // What `SqlShelf::migrate` says, of a connection that found its tables in the files: the
+    // counts, when Version and Damaged are told, and what a stop leaves.
     ensures migrated { IfOk result (λ done.
         MigratesFiles (image_at S.Start) done.1 done.0) }
     // Where the files held version 1 of the tables of a sound office, the tables are those of that
