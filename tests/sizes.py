@@ -1,7 +1,7 @@
 #!/usr/bin/env python3
-"""Prints the lines of each crate, blank ones in, and its must-fail edits, as the table of docs/DECISIONS.md.
+"""Prints the lines of each crate, blank ones in, and its must-fail edits, as the table of docs/MEASUREMENTS.md.
 
-    tests/sizes.py [--write]      with --write the table in docs/DECISIONS.md is replaced
+    tests/sizes.py [--write]      with --write the table in docs/MEASUREMENTS.md is replaced
 
 Builds nothing."""
 import pathlib
@@ -45,7 +45,7 @@ def main():
     if sys.argv[1:] != ["--write"]:
         print(table(), end="")
         return
-    path = TOP / "docs" / "DECISIONS.md"
+    path = TOP / "docs" / "MEASUREMENTS.md"
     text = path.read_text()
     begin = text.index(HEAD)
     end = text.index("\n", text.index("\n| together |", begin) + 1) + 1
