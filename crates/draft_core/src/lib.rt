@@ -19,5 +19,5 @@ pub use judging::verdict;
 pub use overlaying::{changed_key, copy_change, overlay};
 pub use refusal::DraftRefusal;
 pub use revision::{LAST_REVISION, Revision};
-pub use state::{DbState, Holder, Stage, Verdict};
+pub use state::{DbState, Holder, Holding, Stage, Verdict};
 pub use timing::{Move, Reach, Timing, TimingChange, TimingChanges};
