@@ -61,10 +61,15 @@ fn moved(
         verdict,
         changes,
     } = step;
-    let holder = next_holder(holder, found.timing.holder, clerk)?;
+    let Found {
+        name,
+        interval,
+        timing,
+    } = found;
+    let holder = next_holder(holder, timing.holder, clerk)?;
     let row = IntersectionRow {
-        name: found.name,
-        interval: found.interval,
+        name,
+        interval,
         revision,
         holder,
     };
