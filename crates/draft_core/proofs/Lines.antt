@@ -1,7 +1,8 @@
 -- What leads from the tests of a decision to its line of the table.
-use Rattle.std.proofs.Common.{◌≡◌, ℕ, ◌+◌, ◌==◌, cond, true, false, List, [], ◌∷◌, length, Option, Some, None, Result, Ok, Err, is_some, refl, ap, sym, subst, ◌∙◌, inr}
+use Rattle.std.proofs.Common.{◌≡◌, ℕ, ◌+◌, ◌==◌, Bool, cond, not, true, false, List, [], ◌∷◌, length, Option, Some, None, Result, Ok, Err, is_some, refl, ap, sym, subst, ◌∙◌, inr}
 use Rattle.std.specs.Option.{option_map}
-use Rattle.std.specs.Result.{IsErrAnd}
+use Rattle.std.specs.Result.{IsErrAnd, result_err}
+use Rattle.std.specs.Str.{bytes_eq}
 use Rattle.signal_rules.specs.declared.violation.Violation.{Violation}
 use Rattle.draft_core.specs.declared.revision.TheConstants.{LAST_REVISION}
 use Rattle.draft_core.specs.declared.state.Stage.{Stage}
@@ -10,11 +11,27 @@ use Rattle.draft_core.specs.declared.timing.Timing.{Timing}
 use Rattle.draft_core.specs.declared.timing.Reach.{Reach}
 use Rattle.draft_core.specs.declared.timing.Move.{Move}
 use Rattle.draft_core.specs.declared.refusal.DraftRefusal.{DraftRefusal}
-use Rattle.draft_core.specs.declared.refusal.DraftRefusal.TheVariants.{RevisionFull, VerifyFailed}
-use Rattle.draft_core.specs.Transaction.{TimingSide, Draft, holder_of, refused_by, unless, owned, committed_with}
+use Rattle.draft_core.specs.declared.refusal.DraftRefusal.TheVariants.{NotOwner, RevisionFull, VerifyFailed}
+use Rattle.draft_core.specs.Transaction.{TimingSide, Draft, holder_of, is_stage, owned, refused_by, committed_with}
 use Rattle.draft_core.specs.DraftRows.{RowsByKey, Stands}
 use Rattle.draft_core.specs.Moves.{Makes, Follows}
 use Rattle.draft_core.specs.Writes.{next_revision}
+
+-- the tests pass, and the step is taken
+owned_passed : (held : Option Draft) (stage : Stage) (wrong : DraftRefusal) (clerk : List ℕ)
+    (step : Draft → Result TimingSide DraftRefusal)
+    → refused_by (option_map holder_of held) stage wrong clerk ≡ None
+    → (draft : Draft) × (held ≡ Some draft) × (owned holder_of held stage wrong clerk step ≡ step draft)
+owned_passed None stage wrong clerk step e = absurd (let f : Some wrong ≡ None = e in cc)
+owned_passed (Some draft) stage wrong clerk step e =
+    (draft, refl, go (is_stage draft.stage stage) (bytes_eq draft.owner clerk) e)
+  where
+    go : (in_stage is_owner : Bool) → result_err (cond (not in_stage) (Err wrong)
+        (cond (not is_owner) (Err NotOwner) (Ok (holder_of draft)))) ≡ None
+        → cond (not in_stage) (Err wrong) (cond (not is_owner) (Err NotOwner) (step draft)) ≡ step draft
+    go true true e = refl
+    go true false e = absurd (let f : Some NotOwner ≡ None = e in cc)
+    go false is_owner e = absurd (let f : Some wrong ≡ None = e in cc)
 
 module _ {reach : Reach} {timing : Timing} {rows : RowsByKey} {side : TimingSide}
     (stands : Stands reach timing rows side) where
@@ -24,17 +41,11 @@ module _ {reach : Reach} {timing : Timing} {rows : RowsByKey} {side : TimingSide
       → refused_by timing.holder stage wrong clerk ≡ None
       → ((draft : Draft) → side.draft ≡ Some draft
       → Follows rows side clerk (Ok move) (step draft))
-      → Follows rows side clerk (Ok move) (owned side stage wrong clerk step)
+      → Follows rows side clerk (Ok move) (owned holder_of side.draft stage wrong clerk step)
   owned_moves stage wrong clerk step move is goes =
-      let passed : refused_by (option_map holder_of side.draft) stage wrong clerk ≡ None =
-      ap (λ h. refused_by h stage wrong clerk) (sym stands.same_holder) ∙ is in
-      subst (λ r. Follows rows side clerk (Ok move) (unless r side.draft wrong step)) (sym passed)
-      (elim side.draft as (λ d. refused_by (option_map holder_of d) stage wrong clerk ≡ None
-      → ((draft : Draft) → d ≡ Some draft → Follows rows side clerk (Ok move) (step draft))
-      → Follows rows side clerk (Ok move) (unless None d wrong step)) [
-        | None ↦ λ p goes. absurd (let q : Some wrong ≡ None = p in cc)
-        | Some draft ↦ λ p goes. goes draft refl
-      ] passed goes)
+      let took = owned_passed side.draft stage wrong clerk step
+      (ap (λ h. refused_by h stage wrong clerk) (sym stands.same_holder) ∙ is) in
+      subst (Follows rows side clerk (Ok move)) (sym took.2) (goes took.0 took.1)
 
   -- somebody holds the draft
   pub held_by : (holder : Holder) (P : Option Draft → Type 0) → timing.holder ≡ Some holder

@@ -1,14 +1,14 @@
 -- A line of the table keeps the committed set as it is, or commits a set that breaks no rule.
-use Rattle.std.proofs.Common.{◌≡◌, ℕ, ◌+◌, ◌==◌, Bool, cond, true, false, List, [], ◌∷◌, length, Option, Some, None, Result, Ok, Err, refl, sym}
-use Rattle.std.specs.Option.{option_map}
+use Rattle.std.proofs.Common.{◌≡◌, ℕ, ◌+◌, ◌==◌, Bool, cond, not, true, false, List, [], ◌∷◌, length, Option, Some, None, Result, Ok, Err, refl, sym}
+use Rattle.std.specs.Str.{bytes_eq}
 use Rattle.signal_rules.specs.Violations.{violations_of}
 use Rattle.signal_rules.specs.declared.violation.Violation.{Violation}
 use Rattle.draft_core.specs.declared.revision.TheConstants.{LAST_REVISION}
 use Rattle.draft_core.specs.declared.state.Stage.{Stage}
 use Rattle.draft_core.specs.declared.state.Stage.TheVariants.{Done}
 use Rattle.draft_core.specs.declared.refusal.DraftRefusal.{DraftRefusal}
-use Rattle.draft_core.specs.declared.refusal.DraftRefusal.TheVariants.{NotDone, RevisionFull, VerifyFailed}
-use Rattle.draft_core.specs.Transaction.{TimingSide, Draft, holder_of, refused_by, unless, owned, committed, committed_with}
+use Rattle.draft_core.specs.declared.refusal.DraftRefusal.TheVariants.{NotDone, NotOwner, RevisionFull, VerifyFailed}
+use Rattle.draft_core.specs.Transaction.{TimingSide, Draft, holder_of, is_stage, owned, committed, committed_with}
 
 -- what an owned command gives is the step of the draft that is held
 pub record OwnedStep (side : TimingSide) (step : Draft → Result TimingSide DraftRefusal) (next : TimingSide) : Type 0 where
@@ -16,15 +16,25 @@ pub record OwnedStep (side : TimingSide) (step : Draft → Result TimingSide Dra
   pub held : side.draft ≡ Some draft
   pub gives : step draft ≡ Ok next
 
-unless_inverts : (refusal : Option DraftRefusal) (side : TimingSide) (held : Option Draft) (wrong : DraftRefusal) (step : Draft → Result TimingSide DraftRefusal) (next : TimingSide)
-    → side.draft ≡ held → unless refusal held wrong step ≡ Ok next → OwnedStep side step next
-unless_inverts (Some refusal) side held wrong step next is e = absurd (let f : Err refusal ≡ Ok next = e in cc)
-unless_inverts None side (Some draft) wrong step next is e = record { draft = draft; held = is; gives = e }
-unless_inverts None side None wrong step next is e = absurd (let f : Err wrong ≡ Ok next = e in cc)
+-- where its tests pass
+tests_invert : (in_stage is_owner : Bool) (side : TimingSide) (draft : Draft) (wrong : DraftRefusal)
+    (step : Draft → Result TimingSide DraftRefusal) (next : TimingSide) → side.draft ≡ Some draft
+    → cond (not in_stage) (Err wrong) (cond (not is_owner) (Err NotOwner) (step draft)) ≡ Ok next
+    → OwnedStep side step next
+tests_invert true true side draft wrong step next is e =
+    record { draft = draft; held = is; gives = e }
+tests_invert true false side draft wrong step next is e =
+    absurd (let f : Err NotOwner ≡ Ok next = e in cc)
+tests_invert false is_owner side draft wrong step next is e =
+    absurd (let f : Err wrong ≡ Ok next = e in cc)
 
 pub owned_inverts : (side : TimingSide) (stage : Stage) (wrong : DraftRefusal) (clerk : List ℕ) (step : Draft → Result TimingSide DraftRefusal) (next : TimingSide)
-    → owned side stage wrong clerk step ≡ Ok next → OwnedStep side step next
-owned_inverts side stage wrong clerk step next e = unless_inverts (refused_by (option_map holder_of side.draft) stage wrong clerk) side side.draft wrong step next refl e
+    → owned holder_of side.draft stage wrong clerk step ≡ Ok next → OwnedStep side step next
+owned_inverts side stage wrong clerk step next e = go side.draft refl e
+  where
+    go : (held : Option Draft) → side.draft ≡ held → owned holder_of held stage wrong clerk step ≡ Ok next → OwnedStep side step next
+    go None is e = absurd (let f : Err wrong ≡ Ok next = e in cc)
+    go (Some draft) is e = tests_invert (is_stage draft.stage stage) (bytes_eq draft.owner clerk) side draft wrong step next is e
 
 -- a commit: the draft breaks no rule and becomes the committed set, the revision was not the last and rises by one, and nobody holds a draft
 pub record Commits (side : TimingSide) (draft : Draft) (next : TimingSide) : Type 0 where

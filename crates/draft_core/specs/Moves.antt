@@ -9,9 +9,12 @@ use Rattle.signal_records.specs.declared.record.Row.{Row}
 use Rattle.signal_records.specs.declared.record.Change.{Change}
 use Rattle.signal_rules.specs.Violations.{violations_of}
 use Rattle.draft_core.specs.declared.state.DbState.{DbState}
-use Rattle.draft_core.specs.declared.state.DbState.TheVariants.{Normal, Transaction as InTransaction, Verify as InVerify, Done as InDone}
-use Rattle.draft_core.specs.declared.state.Stage.TheVariants.{Transaction, Verify, Done}
+use Rattle.draft_core.specs.declared.state.DbState.TheVariants.{Normal, Transaction as InTransaction}
+use Rattle.draft_core.specs.declared.state.Stage.TheVariants.{Transaction}
+use Rattle.draft_core.specs.declared.state.Verdict.{Verdict}
 use Rattle.draft_core.specs.declared.state.Holder.{Holder}
+use Rattle.draft_core.specs.declared.state.Holding.{Holding}
+use Rattle.draft_core.specs.declared.state.Holding.TheVariants.{Begun, Kept, Dropped}
 use Rattle.draft_core.specs.declared.timing.Timing.{Timing}
 use Rattle.draft_core.specs.declared.timing.Reach.{Reach}
 use Rattle.draft_core.specs.declared.timing.Move.{Move}
@@ -21,7 +24,7 @@ use Rattle.draft_core.specs.declared.refusal.DraftRefusal.{DraftRefusal}
 use Rattle.draft_core.specs.declared.refusal.DraftRefusal.TheVariants.{NotNormal, NotTransaction, NotOwner, NotVerify, NotDone, VerifyFailed, RevisionFull, NoMemory}
 use Rattle.draft_core.specs.DraftRows.{RowsByKey, RowStands, Stands, said_at, changed_key, left_by}
 use Rattle.draft_core.specs.DraftRows.{overlaid}
-use Rattle.draft_core.specs.Transaction.{TimingSide, holder_of, state_of, verdict_of}
+use Rattle.draft_core.specs.Transaction.{TimingSide, holder_of, in_stage, state_of, verdict_of}
 
 -- ---- what a list of changes makes of the rows
 
@@ -62,17 +65,27 @@ drafted_in (DraftGone gone ∷ changes) = drafted_in changes
 
 -- ---- a move, and the line of the table that it follows
 
--- who owned the draft before, or the clerk who begins one
-abbrev pub owner_after : Option Holder → List ℕ → List ℕ
-owner_after None clerk = clerk
-owner_after (Some holder) clerk = holder.owner
+-- who holds the draft after a step that this clerk asked for
+abbrev pub next_holder : Holding → List ℕ → Option Holder → Option Holder
+next_holder Begun clerk holder = Some (record { stage = Transaction; owner = clerk })
+next_holder (Kept stage) clerk holder = option_map (λ (who : Holder). record who { stage = stage }) holder
+next_holder Dropped clerk holder = None
 
--- who holds the draft after a move to a state: nobody in Normal
-abbrev pub next_holder : Option Holder → List ℕ → DbState → Option Holder
-next_holder holder clerk Normal = None
-next_holder holder clerk InTransaction = Some (record { stage = Transaction; owner = owner_after holder clerk })
-next_holder holder clerk InVerify = Some (record { stage = Verify; owner = owner_after holder clerk })
-next_holder holder clerk InDone = Some (record { stage = Done; owner = owner_after holder clerk })
+-- the state then
+abbrev pub state_after : Holding → DbState
+state_after Begun = InTransaction
+state_after (Kept stage) = in_stage stage
+state_after Dropped = Normal
+
+-- the move to this holder, whose state follows from it
+abbrev pub move_to : ℕ → Holding → Verdict → List TimingChange → Move
+move_to revision holder verdict changes = record {
+  revision = revision;
+  holder = holder;
+  state = state_after holder;
+  verdict = verdict;
+  changes = changes;
+}
 
 -- a move shows the next timing side, and its changes make it of a side with these draft rows
 pub record Makes (rows : RowsByKey) (side : TimingSide) (clerk : List ℕ) (move : Move)
@@ -80,7 +93,7 @@ pub record Makes (rows : RowsByKey) (side : TimingSide) (clerk : List ℕ) (move
   pub same_revision : move.revision ≡ next.revision
   pub same_state : move.state ≡ state_of next.draft
   pub same_verdict : move.verdict ≡ verdict_of next.draft
-  pub same_holder : next_holder (option_map holder_of side.draft) clerk move.state
+  pub same_holder : next_holder move.holder clerk (option_map holder_of side.draft)
       ≡ option_map holder_of next.draft
   pub committed : (key : Key) →
       get next.committed key ≡ committed_after move.changes key (get side.committed key)

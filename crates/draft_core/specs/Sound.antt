@@ -1,5 +1,5 @@
 -- When what is committed and drafted is sound, in a version of the rows and the rules.
-use Rattle.std.specs.Prelude.{◌≡◌, ℕ, List, None, IfSome}
+use Rattle.std.specs.Prelude.{◌≡◌, List, None, IfSome}
 use Rattle.std.specs.FinMap.{get, empty}
 use Rattle.signal_records.specs.Row.{key_of}
 use Rattle.signal_records.specs.TimingSet.{Rows}

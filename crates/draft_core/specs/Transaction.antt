@@ -1,7 +1,7 @@
 -- The timing side of an intersection, and what each command of the transaction makes of it (NTCIP 1201, `dbCreateTransaction`; the profile is this project's).
-use Rattle.std.specs.Prelude.{ℕ, ◌+◌, Bool, true, false, List, [], ◌∷◌, length, ◌==◌, if◌then◌else◌, Option, Some, None, Result, Ok, Err}
+use Rattle.std.specs.Prelude.{ℕ, ◌+◌, Bool, true, false, not, List, [], ◌∷◌, length, ◌==◌, if◌then◌else◌, Option, Some, None, Result, Ok, Err}
 use Rattle.std.specs.Str.{bytes_eq}
-use Rattle.std.specs.Option.{option_map}
+use Rattle.std.specs.Result.{result_err}
 use Rattle.signal_records.specs.TimingSet.{Rows, after_changes}
 use Rattle.signal_records.specs.declared.record.Change.{Change}
 use Rattle.signal_rules.specs.Violations.{violations_of}
@@ -63,11 +63,20 @@ is_stage Verify Verify = true
 is_stage Done Done = true
 is_stage _ _ = false
 
--- the state is tested first, then the owner
+-- A COMMAND OF THE OWNER, in one stage. Without a draft, or with one in another stage, the state is
+-- wrong; for another clerk it is NotOwner; else the step is taken. It is asked of a draft, or of its
+-- holder alone.
+abbrev pub owned : {Held T : Type 0} → (Held → Holder) → Option Held → Stage → DraftRefusal
+    → List ℕ → (Held → Result T DraftRefusal) → Result T DraftRefusal
+owned holder None stage wrong clerk step = Err wrong
+owned holder (Some held) stage wrong clerk step =
+    if not (is_stage (holder held).stage stage) then Err wrong
+    else if not (bytes_eq (holder held).owner clerk) then Err NotOwner
+    else step held
+
+-- its refusal alone, whatever the step is
 abbrev pub refused_by : Option Holder → Stage → DraftRefusal → List ℕ → Option DraftRefusal
-refused_by None stage wrong clerk = Some wrong
-refused_by (Some holder) stage wrong clerk =
-    if is_stage holder.stage stage then (if bytes_eq holder.owner clerk then None else Some NotOwner) else Some wrong
+refused_by holder stage wrong clerk = result_err (owned (λ who. who) holder stage wrong clerk Ok)
 
 -- a draft is held already
 abbrev pub refused_if_held : Option Holder → Option DraftRefusal
@@ -78,16 +87,6 @@ refused_if_held (Some holder) = Some NotNormal
 abbrev pub refused_if_free : Option Holder → Option DraftRefusal
 refused_if_free None = Some NotTransaction
 refused_if_free (Some holder) = None
-
--- the step, where there is no refusal and a draft is held
-abbrev pub unless : Option DraftRefusal → Option Draft → DraftRefusal → (Draft → Result TimingSide DraftRefusal) → Result TimingSide DraftRefusal
-unless (Some refusal) draft wrong step = Err refusal
-unless None (Some draft) wrong step = step draft
-unless None None wrong step = Err wrong
-
--- a command that only the owner may give, and only in one stage
-abbrev pub owned : TimingSide → Stage → DraftRefusal → List ℕ → (Draft → Result TimingSide DraftRefusal) → Result TimingSide DraftRefusal
-owned side stage wrong clerk step = unless (refused_by (option_map holder_of side.draft) stage wrong clerk) side.draft wrong step
 
 abbrev pub with_draft : TimingSide → Draft → TimingSide
 with_draft side draft = record side { draft = Some draft }
@@ -102,16 +101,16 @@ abbrev pub begun : TimingSide → List ℕ → Result TimingSide DraftRefusal
 begun side clerk = begun_from side clerk side.draft
 
 abbrev pub edited : TimingSide → List ℕ → List Change → Result TimingSide DraftRefusal
-edited side clerk changes = owned side Transaction NotTransaction clerk (λ draft. Ok (with_draft side (record draft { stage = Transaction; set = after_changes draft.set changes })))
+edited side clerk changes = owned holder_of side.draft Transaction NotTransaction clerk (λ draft. Ok (with_draft side (record draft { stage = Transaction; set = after_changes draft.set changes })))
 
 abbrev pub verified : TimingSide → List ℕ → Result TimingSide DraftRefusal
-verified side clerk = owned side Transaction NotTransaction clerk (λ draft. Ok (with_draft side (record draft { stage = Verify })))
+verified side clerk = owned holder_of side.draft Transaction NotTransaction clerk (λ draft. Ok (with_draft side (record draft { stage = Verify })))
 
 abbrev pub checked : TimingSide → List ℕ → Result TimingSide DraftRefusal
-checked side clerk = owned side Verify NotVerify clerk (λ draft. Ok (with_draft side (record draft { stage = Done })))
+checked side clerk = owned holder_of side.draft Verify NotVerify clerk (λ draft. Ok (with_draft side (record draft { stage = Done })))
 
 abbrev pub reopened : TimingSide → List ℕ → Result TimingSide DraftRefusal
-reopened side clerk = owned side Done NotDone clerk (λ draft. Ok (with_draft side (record draft { stage = Transaction })))
+reopened side clerk = owned holder_of side.draft Done NotDone clerk (λ draft. Ok (with_draft side (record draft { stage = Transaction })))
 
 -- with violations first, and then at the last revision, nothing is committed
 abbrev pub committed_with : TimingSide → Draft → List Violation → Result TimingSide DraftRefusal
@@ -119,7 +118,7 @@ committed_with side draft [] = if side.revision == LAST_REVISION then Err Revisi
 committed_with side draft (violation ∷ violations) = Err (VerifyFailed (length (violation ∷ violations)))
 
 abbrev pub committed : TimingSide → List ℕ → Result TimingSide DraftRefusal
-committed side clerk = owned side Done NotDone clerk (λ draft. committed_with side draft (violations_of draft.set))
+committed side clerk = owned holder_of side.draft Done NotDone clerk (λ draft. committed_with side draft (violations_of draft.set))
 
 -- any clerk may abandon a draft
 abbrev pub abandoned_from : TimingSide → Option Draft → Result TimingSide DraftRefusal

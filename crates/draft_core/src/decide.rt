@@ -5,49 +5,58 @@ ghost use Rattle.signal_rules.specs.Violations.{violations_of};
 ghost use Rattle.draft_core.specs.Transaction as table;
 ghost use Rattle.draft_core.specs.Transaction.{TimingSide, Draft};
 ghost use Rattle.draft_core.specs.DraftRows.{RowsByKey, Stands};
+ghost use Rattle.draft_core.specs.Moves as moves;
 ghost use Rattle.draft_core.specs.Moves.{Follows, FollowsLine, FollowsSoundLine, IsMemory};
 ghost use Rattle.draft_core.specs.Moves.{IsUnsettled, Never, RefusesFirst};
 ghost use Rattle.draft_core.specs.Moves.{drafted_in, draft_writes, timing_writes};
 
-use crate::holding::refused_by;
+use crate::holding::{refused_by, state_after};
 use crate::judging::{next_revision, verdict_on};
 use crate::overlaying::violations_after;
 use crate::refusal::DraftRefusal;
-use crate::state::{DbState, Stage, Verdict};
+use crate::revision::Revision;
+use crate::state::{Holding, Stage, Verdict};
 use crate::timing::{Move, Reach, Timing, TimingChanges};
 use crate::writes::{drafting, dropping, settling};
 use signal_records::{Change, Words};
 use std::alloc::Global;
 
-/// A move that writes no row.
-fn stays(alloc: Global, timing: &Timing, state: DbState, verdict: Verdict) -> Move
-    ensures revision { result.revision ≡ timing.now.revision }
-    ensures state { result.state ≡ state }
-    ensures verdict { result.verdict ≡ verdict }
-    ensures changes { result.changes ≡ [] }
+/// A move to the state that follows from who holds the draft.
+fn moves_to(revision: Revision, holder: Holding, verdict: Verdict, changes: TimingChanges) -> Move
+    ensures { result ≡ moves.move_to revision holder verdict changes }
 {
     Move {
-        revision: timing.revision,
-        state,
+        revision,
+        holder,
+        state: state_after(holder),
         verdict,
-        changes: TimingChanges::new(Vec::new(alloc)),
+        changes,
     }
 }
 
-/// The clerk takes the draft, which equals the committed set.
+/// A move that writes no row.
+fn stays(alloc: Global, timing: &Timing, holder: Holding, verdict: Verdict) -> Move
+    ensures { result ≡ moves.move_to timing.now.revision holder verdict [] }
+{
+    let changes = TimingChanges::new(Vec::new(alloc));
+    moves_to(timing.revision, holder, verdict, changes)
+}
+
+/// The clerk becomes the owner of a draft, which equals the committed set.
 ///
 /// `NotNormal` in each state but Normal.
 pub fn begin(alloc: Global, timing: &Timing, _clerk: &Words<40>) -> Result<Move, DraftRefusal>
     ensures line { FollowsLine Reach.Row timing.now _clerk.now result
         (λ side. table.begun side _clerk.now) }
     ensures refuses { RefusesFirst (table.refused_if_held timing.now.holder) Never result }
+    ensures owner { IfOk result (λ move. moves.next_holder move.holder _clerk.now timing.now.holder
+        ≡ Some (record { stage = Stage.Transaction; owner = _clerk.now })) }
     ensures bounds { IfOk result (λ move. move.changes ≡ []) }
 {
     if timing.holder.is_some() {
         return Err(DraftRefusal::NotNormal);
     }
-    let state = DbState::Transaction;
-    Ok(stays(alloc, timing, state, Verdict::NotDone))
+    Ok(stays(alloc, timing, Holding::Begun, Verdict::NotDone))
 }
 
 /// Makes changes to the draft.
@@ -70,12 +79,9 @@ pub fn edit(
     if let Some(refusal) = refused_by(&timing.holder, Stage::Transaction, wrong, clerk) {
         return Err(refusal);
     }
-    Ok(Move {
-        revision: timing.revision,
-        state: DbState::Transaction,
-        verdict: Verdict::NotDone,
-        changes: drafting(alloc, changes)?,
-    })
+    let changes = drafting(alloc, changes)?;
+    let editing = Holding::Kept(Stage::Transaction);
+    Ok(moves_to(timing.revision, editing, Verdict::NotDone, changes))
 }
 
 /// Ends the editing: the draft waits to be checked.
@@ -91,7 +97,8 @@ pub fn verify(alloc: Global, timing: &Timing, clerk: &Words<40>) -> Result<Move,
     if let Some(refusal) = refused_by(&timing.holder, Stage::Transaction, wrong, clerk) {
         return Err(refusal);
     }
-    Ok(stays(alloc, timing, DbState::Verify, Verdict::NotDone))
+    let waiting = Holding::Kept(Stage::Verify);
+    Ok(stays(alloc, timing, waiting, Verdict::NotDone))
 }
 
 /// Checks the draft: the verdict says whether it breaks rules.
@@ -109,7 +116,7 @@ pub fn check(alloc: Global, timing: &Timing, clerk: &Words<40>) -> Result<Move, 
     }
     let found = violations_after(alloc, &timing.committed, timing.delta.as_slice())?;
     let verdict = verdict_on(found.as_slice());
-    Ok(stays(alloc, timing, DbState::Done, verdict))
+    Ok(stays(alloc, timing, Holding::Kept(Stage::Done), verdict))
 }
 
 /// Makes the draft the committed set, and raises the revision by one.
@@ -144,12 +151,8 @@ fn settled(alloc: Global, timing: &Timing) -> Result<Move, DraftRefusal>
 {
     let found = violations_after(alloc, &timing.committed, timing.delta.as_slice())?;
     let revision = next_revision(timing.revision, found.as_slice())?;
-    Ok(Move {
-        revision,
-        state: DbState::Normal,
-        verdict: Verdict::NotDone,
-        changes: settling(alloc, timing.delta.as_slice())?,
-    })
+    let changes = settling(alloc, timing.delta.as_slice())?;
+    Ok(moves_to(revision, Holding::Dropped, Verdict::NotDone, changes))
 }
 
 /// Goes back to editing. The draft is kept.
@@ -165,7 +168,8 @@ pub fn reopen(alloc: Global, timing: &Timing, clerk: &Words<40>) -> Result<Move,
     if let Some(refusal) = refused_by(&timing.holder, Stage::Done, wrong, clerk) {
         return Err(refusal);
     }
-    Ok(stays(alloc, timing, DbState::Transaction, Verdict::NotDone))
+    let editing = Holding::Kept(Stage::Transaction);
+    Ok(stays(alloc, timing, editing, Verdict::NotDone))
 }
 
 /// Drops the draft. Any clerk may.
@@ -181,10 +185,6 @@ pub fn abandon(alloc: Global, timing: &Timing, _clerk: &Words<40>) -> Result<Mov
     if timing.holder.is_none() {
         return Err(DraftRefusal::NotTransaction);
     }
-    Ok(Move {
-        revision: timing.revision,
-        state: DbState::Normal,
-        verdict: Verdict::NotDone,
-        changes: dropping(alloc, timing.delta.as_slice())?,
-    })
+    let changes = dropping(alloc, timing.delta.as_slice())?;
+    Ok(moves_to(timing.revision, Holding::Dropped, Verdict::NotDone, changes))
 }

@@ -1,15 +1,14 @@
-//! Who holds the draft: the tests of a clerk, and the holder after a move.
+//! Who holds the draft: the tests of a clerk, and the holder after a step.
 
-ghost use Rattle.std.specs.Prelude.{◌≡◌, IfOk};
+ghost use Rattle.std.specs.Prelude.{◌≡◌, IfOk, OnErr};
 ghost use Rattle.std.specs.Option.{option_map, option_copied};
 ghost use Rattle.draft_core.specs.Transaction as table;
 ghost use Rattle.draft_core.specs.Moves as moves;
 
 use crate::refusal::DraftRefusal;
-use crate::state::{DbState, Holder, Stage};
+use crate::state::{DbState, Holder, Holding, Stage};
 use crate::timing::Timing;
 use signal_records::{NoMemory, Words};
-use std::alloc::Global;
 
 impl Timing {
     /// The state of the transaction.
@@ -78,32 +77,39 @@ fn is_stage(a: Stage, b: Stage) -> bool
     }
 }
 
-/// Who holds the draft after a move to a state: the owner stays, a clerk who begins becomes one,
-/// and in Normal there is none.
-pub fn next_holder(
-    _alloc: Global,
-    holder: &Option<Holder>,
-    clerk: &Words<40>,
-    state: DbState,
-) -> Result<Option<Holder>, NoMemory>
-    ensures { IfOk result (λ next. next ≡ moves.next_holder holder.now clerk.now state) }
+/// The state after a step.
+pub(crate) fn state_after(step: Holding) -> DbState
+    ensures { result ≡ moves.state_after step }
 {
-    let stage = match state {
-        DbState::Normal => return Ok(None),
-        DbState::Transaction => Stage::Transaction,
-        DbState::Verify => Stage::Verify,
-        DbState::Done => Stage::Done,
-    };
-    let owner = owner_after(holder, clerk)?;
-    Ok(Some(Holder { stage, owner }))
+    match step {
+        Holding::Begun => DbState::Transaction,
+        Holding::Kept(stage) => in_stage(stage),
+        Holding::Dropped => DbState::Normal,
+    }
 }
 
-/// Who owned the draft before, or the clerk who begins one.
-fn owner_after(holder: &Option<Holder>, clerk: &Words<40>) -> Result<Words<40>, NoMemory>
-    ensures { IfOk result (λ owner. owner ≡ moves.owner_after holder.now clerk.now) }
+/// Who holds the draft after a step that this clerk asked for. Only a draft that begins wants
+/// memory.
+pub fn next_holder(
+    step: Holding,
+    holder: Option<Holder>,
+    clerk: &Words<40>,
+) -> Result<Option<Holder>, NoMemory>
+    ensures next { IfOk result (λ next. next ≡ moves.next_holder step clerk.now holder) }
+    ensures wants { OnErr result (step ≡ Holding.Begun) }
 {
-    match holder {
-        Some(holder) => Ok(holder.owner.clone()?),
-        None => Ok(clerk.clone()?),
+    match step {
+        Holding::Begun => {
+            let owner = clerk.clone()?;
+            Ok(Some(Holder {
+                stage: Stage::Transaction,
+                owner,
+            }))
+        }
+        Holding::Kept(stage) => match holder {
+            Some(Holder { owner, .. }) => Ok(Some(Holder { stage, owner })),
+            None => Ok(None),
+        },
+        Holding::Dropped => Ok(None),
     }
 }

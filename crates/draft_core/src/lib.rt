@@ -12,6 +12,12 @@ pub mod state;
 pub mod timing;
 mod writes;
 
+pub use changes::Changes;
+pub use decide::{abandon, begin, check, commit, edit, reopen, verify};
 pub use holding::next_holder;
 pub use judging::verdict;
 pub use overlaying::{changed_key, copy_change, overlay};
+pub use refusal::DraftRefusal;
+pub use revision::{LAST_REVISION, Revision};
+pub use state::{DbState, Holder, Holding, Stage, Verdict};
+pub use timing::{Move, Reach, Timing, TimingChange, TimingChanges};

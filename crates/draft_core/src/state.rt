@@ -47,3 +47,14 @@ impl Clone for Holder {
         Ok(Holder { stage, owner })
     }
 }
+
+/// Who holds the draft after a step, told without a copy of a name.
+#[derive(Clone, Copy, PartialEq, Eq)]
+pub enum Holding {
+    /// The clerk who asked becomes its owner, in stage Transaction.
+    Begun,
+    /// Its owner stays, in this stage.
+    Kept(Stage),
+    /// Nobody.
+    Dropped,
+}

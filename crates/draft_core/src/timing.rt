@@ -2,7 +2,7 @@
 
 use crate::changes::Changes;
 use crate::revision::Revision;
-use crate::state::{DbState, Holder, Verdict};
+use crate::state::{DbState, Holder, Holding, Verdict};
 use signal_records::{Change, Key, TimingSet};
 use std::marker::Model;
 
@@ -79,6 +79,9 @@ impl TimingChanges {
 #[derive(Drop)]
 pub struct Move {
     pub revision: Revision,
+    /// Who holds the draft now.
+    pub holder: Holding,
+    /// The state, which follows from the holder.
     pub state: DbState,
     pub verdict: Verdict,
     /// The rows to be changed, in their order.

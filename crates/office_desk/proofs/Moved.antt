@@ -216,7 +216,7 @@ row_is i found clerk move next stands makes = λ k. record {
   name = stands.same_name k;
   interval = stands.same_interval k;
   revision = makes.same_revision k;
-  holder = (ap (λ h. next_holder h clerk move.state) stands.timing_stands.same_holder
+  holder = (ap (next_holder move.holder clerk) stands.timing_stands.same_holder
       ∙ makes.same_holder) k;
 }
 

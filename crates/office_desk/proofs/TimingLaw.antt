@@ -10,12 +10,13 @@ use Rattle.std.specs.Ordering.{nat_cmp, eq_by_cmp}
 use Rattle.signal_records.specs.TimingSet.{Rows}
 use Rattle.signal_rules.specs.Violations.{violations_of}
 use Rattle.signal_rules.specs.declared.violation.Violation.{Violation}
-use Rattle.draft_core.specs.Transaction.{TimingSide, Draft, holder_of, refused_by, unless, owned, with_draft, begun_from, begun, edited, verified, checked, reopened, abandoned, committed_with, committed, abandoned_from}
+use Rattle.draft_core.specs.Transaction.{TimingSide, Draft, holder_of, owned, with_draft, begun_from, begun, edited, verified, checked, reopened, abandoned, committed_with, committed, abandoned_from}
 use Rattle.draft_core.specs.declared.refusal.DraftRefusal.{DraftRefusal}
-use Rattle.draft_core.specs.declared.refusal.DraftRefusal.TheVariants.{NotNormal, NotTransaction, VerifyFailed, RevisionFull}
+use Rattle.draft_core.specs.declared.refusal.DraftRefusal.TheVariants.{NotDone, NotNormal, NotTransaction, VerifyFailed, RevisionFull}
 use Rattle.draft_core.specs.declared.revision.TheConstants.{LAST_REVISION}
 use Rattle.draft_core.specs.declared.state.Stage.{Stage}
-use Rattle.draft_core.specs.declared.state.Stage.TheVariants.{Transaction}
+use Rattle.draft_core.specs.declared.state.Stage.TheVariants.{Transaction, Done}
+use Rattle.draft_core.proofs.Sound.{owned_inverts}
 use Rattle.office_desk.specs.Office.{Office, Intersection, side_of, side_at}
 use Rattle.cabinet_core.specs.declared.command.RecordCommand.{RecordCommand}
 use Rattle.cabinet_core.specs.Step.{line_at}
@@ -29,25 +30,15 @@ use Rattle.office_desk.specs.declared.refusal.Refusal.{Refusal}
 
 -- ---- the lines of the table
 
--- a command that was accepted found a draft, and took its step
-pub owned_inverts : (side next : TimingSide) (stage : Stage) (wrong : DraftRefusal) (clerk : List ℕ) (step : Draft → Result TimingSide DraftRefusal)
-    → owned side stage wrong clerk step ≡ Ok next → (draft : Draft) × (side.draft ≡ Some draft) × (step draft ≡ Ok next)
-owned_inverts side next stage wrong clerk step e = go (refused_by (option_map holder_of side.draft) stage wrong clerk) side.draft e
-  where
-    go : (r : Option DraftRefusal) (d : Option Draft) → unless r d wrong step ≡ Ok next → (draft : Draft) × (d ≡ Some draft) × (step draft ≡ Ok next)
-    go (Some why) d e = absurd (let f : Err why ≡ Ok next = e in cc)
-    go None None e = absurd (let f : Err wrong ≡ Ok next = e in cc)
-    go None (Some draft) e = (draft, refl, e)
-
 -- the command keeps the committed set
 abbrev Keeps : (TimingSide → Result TimingSide DraftRefusal) → Type 0
 Keeps line = (side next : TimingSide) → line side ≡ Ok next → next.committed ≡ side.committed
 
-owned_keeps : (stage : Stage) (wrong : DraftRefusal) (clerk : List ℕ) (next_draft : Draft → Draft) → Keeps (λ side. owned side stage wrong clerk (λ draft. Ok (with_draft side (next_draft draft))))
+owned_keeps : (stage : Stage) (wrong : DraftRefusal) (clerk : List ℕ) (next_draft : Draft → Draft) → Keeps (λ side. owned holder_of side.draft stage wrong clerk (λ draft. Ok (with_draft side (next_draft draft))))
 owned_keeps stage wrong clerk next_draft side next e =
-    let took = owned_inverts side next stage wrong clerk (λ draft. Ok (with_draft side (next_draft draft))) e in
-    let step : Ok (with_draft side (next_draft took.0)) ≡ Ok next = took.2 in
-    let same : next ≡ with_draft side (next_draft took.0) = cc in
+    let took = owned_inverts side stage wrong clerk (λ draft. Ok (with_draft side (next_draft draft))) next e in
+    let step : Ok (with_draft side (next_draft took.draft)) ≡ Ok next = took.gives in
+    let same : next ≡ with_draft side (next_draft took.draft) = cc in
     ap (λ (s : TimingSide). s.committed) same
 
 begun_keeps : (clerk : List ℕ) → Keeps (λ side. begun_from side clerk side.draft)
@@ -74,8 +65,8 @@ abandoned_keeps side next e = go side.draft e
 
 commit_takes : (clerk : List ℕ) (side next : TimingSide) (instead : Rows) → committed side clerk ≡ Ok next → next.committed ≡ set_of_draft side.draft instead
 commit_takes clerk side next instead e =
-    let took = owned_inverts side next _ _ clerk (λ draft. committed_with side draft (violations_of draft.set)) e in
-    go took.0 (violations_of took.0.set) took.2 ∙ sym (ap (λ d. set_of_draft d instead) took.1)
+    let took = owned_inverts side Done NotDone clerk (λ draft. committed_with side draft (violations_of draft.set)) next e in
+    go took.draft (violations_of took.draft.set) took.gives ∙ sym (ap (λ d. set_of_draft d instead) took.held)
   where
     go : (draft : Draft) (violations : List Violation) → committed_with side draft violations ≡ Ok next → next.committed ≡ draft.set
     go draft (v ∷ vs) e = absurd (let f : Err (VerifyFailed (length (v ∷ vs))) ≡ Ok next = e in cc)

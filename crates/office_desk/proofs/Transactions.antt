@@ -1,8 +1,9 @@
 -- What a command of the transaction answers, on what was found, is a step of the office.
 use Rattle.std.proofs.Common.{◌≡◌, ◌≢◌, ◌+◌, ◌≤◌, ℕ, Bool, true, false, List, [], ◌∷◌, length, Option, Some, None, Result, Ok, Err, refl, ap, sym, subst, ◌∙◌, inl, inr, arith}
-use Rattle.std.specs.Prelude.{IfSome, IfOk, OnErr, if◌then◌else◌}
+use Rattle.std.specs.Prelude.{IfSome, IfOk, OnErr, if◌then◌else◌, not}
 use Rattle.std.specs.FinMap.{get}
 use Rattle.std.specs.Int.{IsInRange}
+use Rattle.std.specs.Result.{result_err}
 use Rattle.std.specs.Str.{bytes_eq}
 use Rattle.std.proofs.lemmas.List.{length-map}
 use Rattle.signal_records.specs.Words.{AreWords}
@@ -292,7 +293,8 @@ state_or_owner : (holder : Option Holder) (stage : Stage) (wrong : DraftRefusal)
 state_or_owner None stage wrong clerk first P e state owner = subst P (let f : Some wrong ≡ Some first = e in let g : wrong ≡ first = cc in g) state
 state_or_owner (Some holder) stage wrong clerk first P e state owner = go (is_stage holder.stage stage) (bytes_eq holder.owner clerk) e
   where
-    go : (in_stage is_owner : Bool) → (if in_stage then (if is_owner then None else Some draft.NotOwner) else Some wrong) ≡ Some first → P first
+    go : (in_stage is_owner : Bool) → result_err (if not in_stage then Err wrong
+        else if not is_owner then Err draft.NotOwner else Ok holder) ≡ Some first → P first
     go true true e = absurd (let f : None ≡ Some first = e in cc)
     go true false e = subst P (let f : Some draft.NotOwner ≡ Some first = e in let g : draft.NotOwner ≡ first = cc in g) owner
     go false is_owner e = subst P (let f : Some wrong ≡ Some first = e in let g : wrong ≡ first = cc in g) state

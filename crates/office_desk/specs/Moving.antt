@@ -27,7 +27,12 @@ row_changes_of id = map (row_change_of id)
 
 -- the intersection's row after a move
 abbrev pub moved_row : Found → List ℕ → Move → IntersectionRow
-moved_row found clerk move = record { name = found.name; interval = found.interval; revision = move.revision; holder = next_holder found.timing.holder clerk move.state }
+moved_row found clerk move = record {
+  name = found.name;
+  interval = found.interval;
+  revision = move.revision;
+  holder = next_holder move.holder clerk found.timing.holder;
+}
 
 -- the reply shows the move, and the rows are the intersection's own and those of the move
 pub record WritesMove (id : ℕ) (clerk : List ℕ) (found : Found) (move : Move) (reply : Reply) (changes : List RowChange) : Type 0 where

@@ -18,3 +18,5 @@ mod register_showing;
 pub mod reply;
 mod showing;
 mod transacting;
+
+pub use cabinet_core::RecordCommand;

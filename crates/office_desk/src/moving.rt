@@ -8,9 +8,7 @@ use crate::decided::Decided;
 use crate::reading::Found;
 use crate::refusal::Refusal;
 use crate::reply::Reply;
-use draft_core::next_holder;
-use draft_core::refusal::DraftRefusal;
-use draft_core::timing::{Move, TimingChange, TimingChanges};
+use draft_core::{DraftRefusal, Move, TimingChange, TimingChanges, next_holder};
 use office_tables_shelf::rows::{IntersectionRow, RowChange};
 use office_tables_shelf::shelf::ShelfFault;
 use signal_records::{Change, InterId, NoMemory, Words};
@@ -58,14 +56,20 @@ fn moved(
 {
     let Move {
         revision,
+        holder,
         state,
         verdict,
         changes,
     } = step;
-    let holder = next_holder(alloc, &found.timing.holder, clerk, state)?;
+    let Found {
+        name,
+        interval,
+        timing,
+    } = found;
+    let holder = next_holder(holder, timing.holder, clerk)?;
     let row = IntersectionRow {
-        name: found.name,
-        interval: found.interval,
+        name,
+        interval,
         revision,
         holder,
     };

@@ -19,6 +19,7 @@ mod violations;
 mod writing;
 
 pub use cabinet::{read_records_csv, records_csv};
+pub use cabinet_core::OverdueRow;
 pub use change_writing::changes_csv;
 pub use changes::read_timing_csv;
 pub use fault::{BadRow, CsvFault};

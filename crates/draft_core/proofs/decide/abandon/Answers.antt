@@ -1,10 +1,10 @@
-use Rattle.std.proofs.Common.{not, refl, ap, ◌∙◌}
+use Rattle.std.proofs.Common.{◌≡◌, not, ap, ◌∙◌}
 use Rattle.std.specs.Prelude.{Ok}
-use Rattle.draft_core.specs.Moves.{Follows, drafted_in}
+use Rattle.draft_core.specs.Moves.{Follows, drafted_in, move_to}
 use Rattle.draft_core.specs.Transaction.{abandoned_from}
 use Rattle.draft_core.specs.Writes.{dropping}
 use Rattle.draft_core.specs.declared.timing.Move.{Move}
-use Rattle.draft_core.specs.declared.state.DbState.TheVariants.{Normal}
+use Rattle.draft_core.specs.declared.state.Holding.TheVariants.{Dropped}
 use Rattle.draft_core.specs.declared.state.Verdict.TheVariants.{NotDone}
 use Rattle.draft_core.proofs.Lines.{held}
 use Rattle.draft_core.proofs.Makes.{abandon_makes}
@@ -14,22 +14,20 @@ use Rattle.draft_core.proofs.decide.abandon.Goals as goal
 pub returns-clause-line : goal.returns-clause-line
 returns-clause-line c = λ rows side stands.
     let clerk = c.args._clerk.now in
-    let made : Move = record {
-      revision = c.args.timing.now.revision;
-      state = Normal;
-      verdict =
-          NotDone;
-      changes = c.in_ok-dropping.field-0;
-    } in
+    let made = c.moves_to.result in
     held stands (λ d. Follows rows side clerk (Ok made) (abandoned_from side d)) (c.is_none.ensures
     ∙ ap not c.if-is_none.false) (λ draft is.
-    abandon_makes stands stands.read clerk made refl refl refl (c.in_ok-dropping.ensures
-    ∙ ap dropping c.as_slice.ensures.list))
+    abandon_makes stands stands.read clerk made (c.moves_to.ensures
+    ∙ ap (move_to c.args.timing.now.revision Dropped NotDone) (c.in_ok-changes.ensures
+    ∙ ap dropping c.as_slice.ensures.list)))
 
 pub returns-clause-drafts : goal.returns-clause-drafts
-returns-clause-drafts c = ap drafted_in c.in_ok-dropping.ensures
-    ∙ drafted_in-dropping c.as_slice.result.now
+returns-clause-drafts c = ap (λ (m : Move). drafted_in m.changes) c.moves_to.ensures
+    ∙ ap drafted_in c.in_ok-changes.ensures ∙ drafted_in-dropping c.as_slice.result.now
 
 pub returns-clause-bounds : goal.returns-clause-bounds
-returns-clause-bounds c = rw (c.in_ok-dropping.ensures, c.as_slice.ensures.list)
-    (dropping_writes c.args.timing.now.delta)
+returns-clause-bounds c =
+    let made : c.moves_to.result.changes ≡ dropping c.args.timing.now.delta =
+    ap (λ (m : Move). m.changes) c.moves_to.ensures ∙ c.in_ok-changes.ensures
+    ∙ ap dropping c.as_slice.ensures.list in
+    rw made (dropping_writes c.args.timing.now.delta)

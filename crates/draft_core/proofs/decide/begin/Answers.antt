@@ -13,5 +13,4 @@ returns-clause-line c = λ rows side stands.
     ∙ c.if-is_some.false) in
     free_of stands (λ d. Follows rows side clerk (Ok c.stays.result) (begun_from side clerk d))
     free (λ no_draft.
-    begin_makes stands clerk c.stays.result no_draft c.stays.ensures.revision c.stays.ensures.state
-    c.stays.ensures.verdict c.stays.ensures.changes)
+    begin_makes stands clerk c.stays.result no_draft c.stays.ensures)

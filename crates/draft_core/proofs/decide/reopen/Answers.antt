@@ -7,6 +7,4 @@ use Rattle.draft_core.proofs.decide.reopen.Goals as goal
 pub returns-clause-line : goal.returns-clause-line
 returns-clause-line c = λ rows side stands. owned_moves stands _ _ _ _ _ (sym c.in_default.ensures)
     (λ draft held.
-    stays_makes stands draft (record draft { stage = Transaction }) c.args.clerk.now _ held refl
-    refl c.stays.ensures.revision c.stays.ensures.state c.stays.ensures.verdict
-    c.stays.ensures.changes)
+    stays_makes stands draft Transaction c.args.clerk.now _ _ held refl c.stays.ensures)

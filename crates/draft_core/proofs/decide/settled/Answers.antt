@@ -1,6 +1,9 @@
-use Rattle.std.proofs.Common.{refl, ap, ◌∙◌}
+use Rattle.std.proofs.Common.{◌≡◌, ap, ◌∙◌}
 use Rattle.signal_rules.specs.Violations.{violations_of}
-use Rattle.draft_core.specs.Moves.{drafted_in}
+use Rattle.draft_core.specs.declared.state.Holding.TheVariants.{Dropped}
+use Rattle.draft_core.specs.declared.state.Verdict.TheVariants.{NotDone}
+use Rattle.draft_core.specs.declared.timing.Move.{Move}
+use Rattle.draft_core.specs.Moves.{drafted_in, move_to}
 use Rattle.draft_core.specs.Writes.{next_revision, settling}
 use Rattle.draft_core.proofs.Lines.{commit_follows, commit_refuses, refusal_follows}
 use Rattle.draft_core.proofs.Makes.{commit_makes}
@@ -16,16 +19,20 @@ returns-clause-line c = λ rows side draft clerk stands held sound.
     ∙ draft_violations stands draft held _ _ sound c.as_slice.ensures.list
     c.in_ok-found.ensures)
     ∙ ap (λ n. next_revision n (violations_of draft.set)) stands.same_revision)
-    (commit_makes stands stands.read.0 draft clerk _ _ held refl refl refl
-    (c.in_ok-settling.ensures ∙ ap settling c.as_slice-3.ensures.list))
+    (commit_makes stands stands.read.0 draft clerk _ _ held (c.moves_to.ensures
+    ∙ ap (move_to c.in_ok-revision.revision Dropped NotDone)
+    (c.in_ok-changes.ensures ∙ ap settling c.as_slice-3.ensures.list)))
 
 pub returns-clause-drafts : goal.returns-clause-drafts
-returns-clause-drafts c = ap drafted_in c.in_ok-settling.ensures
-    ∙ drafted_in-settling c.as_slice-3.result.now
+returns-clause-drafts c = ap (λ (m : Move). drafted_in m.changes) c.moves_to.ensures
+    ∙ ap drafted_in c.in_ok-changes.ensures ∙ drafted_in-settling c.as_slice-3.result.now
 
 pub returns-clause-bounds : goal.returns-clause-bounds
-returns-clause-bounds c = rw (c.in_ok-settling.ensures, c.as_slice-3.ensures.list)
-    (settling_writes c.args.timing.now.delta)
+returns-clause-bounds c =
+    let made : c.moves_to.result.changes ≡ settling c.args.timing.now.delta =
+    ap (λ (m : Move). m.changes) c.moves_to.ensures ∙ c.in_ok-changes.ensures
+    ∙ ap settling c.as_slice-3.ensures.list in
+    rw made (settling_writes c.args.timing.now.delta)
 
 pub returns-in_err-revision-clause-line : goal.returns-in_err-revision-clause-line
 returns-in_err-revision-clause-line c = λ rows side draft clerk stands held sound.
