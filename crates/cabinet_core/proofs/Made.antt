@@ -1,60 +1,77 @@
--- The changes of each decision make the register with the record.
-use Rattle.std.proofs.Common.{◌≡◌, ◌⊎◌, inl, inr, ◌≤◌, ℕ, true, false, List, [], ◌∷◌, cond, Option, None, Some, refl, sym, ap, subst, ◌∙◌, arith}
+-- The changes of a decision make the register with the record.
+use Rattle.std.proofs.Common.{◌≡◌, ◌⊎◌, inl, inr, ◌≤◌, ℕ, true, false, List, [], ◌∷◌, cond}
+use Rattle.std.proofs.Common.{Option, None, Some, Result, Ok, Err, refl, sym, ap, subst, ◌∙◌, arith}
 use Rattle.std.proofs.lemmas.Bool.{cases_Bool}
 use Rattle.std.specs.Prelude.{IfSome}
 use Rattle.std.specs.FinMap.{get, insert}
 use Rattle.std.specs.Str.{bytes_eq}
-use Rattle.cabinet_core.specs.Cabinet.{added, inspect_line, open_line, use_line, close_line, receive_line, use_changes, close_changes, receive_changes, record_of, with_closing}
-use Rattle.cabinet_core.specs.Changes.{ChangesMake}
+use Rattle.cabinet_core.specs.Cabinet.{Records, added, close_line, record_of, with_closing}
+use Rattle.cabinet_core.specs.Cabinet.{use_changes, close_changes, receive_changes}
+use Rattle.cabinet_core.specs.Changes.{ChangesMake, MakesIn, Makes}
 use Rattle.cabinet_core.specs.Register.{Register, LineKey, DeliveryKey}
 use Rattle.cabinet_core.specs.Sound.{IsOrderAt, IsSoundRegister}
-use Rattle.cabinet_core.specs.Step.{line_at, with_closed, with_record}
+use Rattle.cabinet_core.specs.Step.{Standing, standing_in, line_on, line_at, with_closed, with_record}
 use Rattle.cabinet_core.specs.Stock.{hand_of}
-use Rattle.cabinet_core.specs.Within.{IsInspectionWithin, IsClosingWithin, IsOpeningWithin, IsUsedLineWithin, IsDeliveryWithin}
+use Rattle.cabinet_core.specs.Within.{IsInspectionWithin, IsClosingWithin, IsOpeningWithin}
+use Rattle.cabinet_core.specs.Within.{IsUsedLineWithin, IsDeliveryWithin}
 use Rattle.cabinet_core.specs.declared.command.RecordCommand.{RecordCommand}
-use Rattle.cabinet_core.specs.declared.command.RecordCommand.TheVariants.{Inspect, OpenOrder, UsePart, CloseOrder, Receive}
+use Rattle.cabinet_core.specs.declared.command.RecordCommand.TheVariants.{Inspect, OpenOrder}
+use Rattle.cabinet_core.specs.declared.command.RecordCommand.TheVariants.{UsePart, CloseOrder, Receive}
 use Rattle.cabinet_core.specs.declared.decide.CabinetChange.{CabinetChange}
 use Rattle.cabinet_core.specs.declared.decide.CabinetChange.TheVariants.{PutInspection, PutOrder}
+use Rattle.cabinet_core.specs.declared.decide.Recorded.{Recorded}
+use Rattle.cabinet_core.specs.declared.decide.Recorded.TheVariants.{Added, Same}
 use Rattle.cabinet_core.specs.declared.record.Closing.{Closing}
 use Rattle.cabinet_core.specs.declared.record.Delivery.{Delivery}
-use Rattle.cabinet_core.specs.declared.record.Inspection.{Inspection}
 use Rattle.cabinet_core.specs.declared.record.Opening.{Opening}
 use Rattle.cabinet_core.specs.declared.record.Order.{Order}
 use Rattle.cabinet_core.specs.declared.record.UsedLine.{UsedLine}
-use Rattle.cabinet_core.proofs.Sound.{inspection_sound, order_sound, closed_order, line_sound, usable, delivery_sound, receivable}
-use Rattle.cabinet_core.proofs.StockLemmas.{same_bytes, line_here, line_elsewhere, delivery_here, delivery_elsewhere}
+use Rattle.cabinet_core.specs.declared.refusal.CabinetRefusal.{CabinetRefusal}
+use Rattle.cabinet_core.specs.declared.refusal.CabinetRefusal.TheVariants.{NoMemory}
+use Rattle.cabinet_core.proofs.Sound.{inspection_sound, order_sound, closed_order, line_sound}
+use Rattle.cabinet_core.proofs.Sound.{usable, delivery_sound, receivable}
+use Rattle.cabinet_core.proofs.StockLemmas.{same_bytes, line_here, line_elsewhere}
+use Rattle.cabinet_core.proofs.StockLemmas.{delivery_here, delivery_elsewhere}
 
--- the command is accepted, and its changes make the register with the record
-abbrev IsMade : ℕ → Register → RecordCommand → List CabinetChange → Type 0
-IsMade id r command changes = (line_at r command ≡ added) × ChangesMake id r changes (with_record r command)
+-- ---- what a command brings
 
-made : (id : ℕ) (r : Register) (command : RecordCommand) (changes list : List CabinetChange) → changes ≡ list → line_at r command ≡ added
-    → (line_at r command ≡ added → ChangesMake id r list (with_record r command)) → IsMade id r command changes
-made id r command changes list same adds makes = (adds, subst (λ cs. ChangesMake id r cs (with_record r command)) (sym same) (makes adds))
+-- the intersection that its records are put on; a delivery is of none, so any will do
+abbrev pub place_or : ℕ → RecordCommand → ℕ
+place_or any (Inspect id asked) = id
+place_or any (OpenOrder id asked) = id
+place_or any (UsePart id asked) = id
+place_or any (CloseOrder id number asked) = id
+place_or any (Receive asked) = any
 
--- ---- inspections and orders
+-- its record is within its limits
+abbrev pub BringsWithin : RecordCommand → Type 0
+BringsWithin (Inspect id asked) = IsInspectionWithin asked
+BringsWithin (OpenOrder id asked) = IsOpeningWithin asked
+BringsWithin (UsePart id asked) = IsUsedLineWithin asked
+BringsWithin (CloseOrder id number asked) = IsClosingWithin asked
+BringsWithin (Receive asked) = IsDeliveryWithin asked
 
-pub inspect_makes : (there : Option Inspection) (asked : Inspection) (changes : List CabinetChange) → changes ≡ PutInspection asked ∷ [] → inspect_line there asked ≡ added → IsInspectionWithin asked
-    → (r : Register) (id : ℕ) → IsSoundRegister r → there ≡ get r.inspections (id, asked.number) → IsMade id r (Inspect id asked) changes
-inspect_makes there asked changes same adds within r id sound is =
-    made id r (Inspect id asked) changes _ same (sym (ap (λ (o : Option Inspection). inspect_line o asked) is) ∙ adds)
-    (λ adds. record { records = refl; hands = λ code. refl; sound = inspection_sound r id asked sound within })
+-- its changes where it adds
+abbrev pub changes_on : (command : RecordCommand) → Standing command → List CabinetChange
+changes_on (Inspect id asked) there = PutInspection asked ∷ []
+changes_on (OpenOrder id asked) there = PutOrder (record_of asked) ∷ []
+changes_on (UsePart id asked) (there, order, hand) = use_changes hand asked
+changes_on (CloseOrder id number asked) there = close_changes there asked
+changes_on (Receive asked) (there, hand) = receive_changes hand asked
 
-pub open_makes : (there : Option Order) (asked : Opening) (changes : List CabinetChange) → changes ≡ PutOrder (record_of asked) ∷ [] → open_line there asked ≡ added → IsOpeningWithin asked
-    → (r : Register) (id : ℕ) → IsSoundRegister r → there ≡ get r.orders (id, asked.number) → IsMade id r (OpenOrder id asked) changes
-open_makes there asked changes same adds within r id sound is =
-    made id r (OpenOrder id asked) changes _ same (sym (ap (λ (o : Option Order). open_line o asked) is) ∙ adds)
-    (λ adds. record {
-      records = refl;
-      hands = λ code. refl;
-      sound = order_sound r (id, asked.number) (record_of asked) sound (record {
-        number = refl;
-        within = record { number = within.number; opened = within.day; clerk = within.clerk; text = within.text; closing = tt };
-        closed_after = tt;
-      });
+-- ---- orders
+
+opened : (r : Register) (id : ℕ) (asked : Opening) → IsSoundRegister r → IsOpeningWithin asked
+    → IsSoundRegister (with_record r (OpenOrder id asked))
+opened r id asked sound within =
+    order_sound r (id, asked.number) (record_of asked) sound (record {
+      number = refl;
+      within = record { number = within.number; opened = within.day; clerk = within.clerk; text = within.text; closing = tt };
+      closed_after = tt;
     })
 
-closed : (r : Register) (id n : ℕ) (asked : Closing) (there : Option Order) → IsSoundRegister r → IfSome there (IsOrderAt (id, n)) → IsClosingWithin asked → close_line there asked ≡ added
+closed : (r : Register) (id n : ℕ) (asked : Closing) (there : Option Order) → IsSoundRegister r
+    → IfSome there (IsOrderAt (id, n)) → IsClosingWithin asked → close_line there asked ≡ added
     → ChangesMake id r (close_changes there asked) (with_closed r id n asked there)
 closed r id n asked None sound at within adds = absurd cc
 closed r id n asked (Some order) sound at within adds = record {
@@ -63,16 +80,11 @@ closed r id n asked (Some order) sound at within adds = record {
   sound = order_sound r (id, n) (with_closing order asked) sound (closed_order (id, n) order asked at within adds);
 }
 
-pub close_makes : (there : Option Order) (asked : Closing) (changes : List CabinetChange) → changes ≡ close_changes there asked → close_line there asked ≡ added → IsClosingWithin asked
-    → (r : Register) (id n : ℕ) → IsSoundRegister r → there ≡ get r.orders (id, n) → IsMade id r (CloseOrder id n asked) changes
-close_makes there asked changes same adds within r id n sound is =
-    made id r (CloseOrder id n asked) changes _ (same ∙ ap (λ (o : Option Order). close_changes o asked) is) (sym (ap (λ (o : Option Order). close_line o asked) is) ∙ adds)
-    (closed r id n asked (get r.orders (id, n)) sound (sound.orders (id, n)) within)
-
 -- ---- parts used and deliveries
 
 -- one part alone is told anew: what is on hand of each part then is that of the next register
-hands_told : (r next : Register) (part : List ℕ) (hand : ℕ) → hand_of next part ≡ Some hand → ((other : List ℕ) → bytes_eq part other ≡ false → hand_of next other ≡ hand_of r other)
+hands_told : (r next : Register) (part : List ℕ) (hand : ℕ) → hand_of next part ≡ Some hand
+    → ((other : List ℕ) → bytes_eq part other ≡ false → hand_of next other ≡ hand_of r other)
     → (code : List ℕ) → cond (bytes_eq part code) (Some hand) (hand_of r code) ≡ hand_of next code
 hands_told r next part hand here elsewhere code = go (cases_Bool (bytes_eq part code))
   where
@@ -80,7 +92,8 @@ hands_told r next part hand here elsewhere code = go (cases_Bool (bytes_eq part 
     go (inl hit) = ap (λ b. cond b (Some hand) (hand_of r code)) hit ∙ sym here ∙ ap (hand_of next) (same_bytes part code hit)
     go (inr miss) = ap (λ b. cond b (Some hand) (hand_of r code)) miss ∙ sym (elsewhere code miss)
 
-used : (r : Register) (id : ℕ) (asked : UsedLine) → IsSoundRegister r → IsUsedLineWithin asked → line_at r (UsePart id asked) ≡ added
+used : (r : Register) (id : ℕ) (asked : UsedLine) → IsSoundRegister r → IsUsedLineWithin asked
+    → line_at r (UsePart id asked) ≡ added
     → ChangesMake id r (use_changes (hand_of r asked.part) asked) (with_record r (UsePart id asked))
 used r id asked sound within adds =
     let key : LineKey = (id, (asked.order, asked.line)) in
@@ -92,12 +105,8 @@ used r id asked sound within adds =
       sound = line_sound r id asked sound within is;
     }
 
-pub use_makes : (there : Option UsedLine) (order : Option Order) (hand : Option ℕ) (asked : UsedLine) (changes : List CabinetChange) → changes ≡ use_changes hand asked → use_line there order hand asked ≡ added → IsUsedLineWithin asked
-    → (r : Register) (id : ℕ) → IsSoundRegister r → there ≡ get r.lines (id, (asked.order, asked.line)) → order ≡ get r.orders (id, asked.order) → hand ≡ hand_of r asked.part → IsMade id r (UsePart id asked) changes
-use_makes there order hand asked changes same adds within r id sound lined ordered on =
-    made id r (UsePart id asked) changes (use_changes (hand_of r asked.part) asked) (same ∙ ap (λ (h : Option ℕ). use_changes h asked) on) (sym (λ i. use_line (lined i) (ordered i) (on i) asked) ∙ adds) (used r id asked sound within)
-
-received : (r : Register) (id : ℕ) (asked : Delivery) → IsSoundRegister r → IsDeliveryWithin asked → line_at r (Receive asked) ≡ added
+received : (r : Register) (id : ℕ) (asked : Delivery) → IsSoundRegister r → IsDeliveryWithin asked
+    → line_at r (Receive asked) ≡ added
     → ChangesMake id r (receive_changes (hand_of r asked.part) asked) (with_record r (Receive asked))
 received r id asked sound within adds =
     let key : DeliveryKey = (asked.part, asked.number) in
@@ -108,7 +117,38 @@ received r id asked sound within adds =
       sound = delivery_sound r asked sound within is;
     }
 
-pub receive_makes : (there : Option Delivery) (hand : Option ℕ) (asked : Delivery) (changes : List CabinetChange) → changes ≡ receive_changes hand asked → receive_line there hand asked ≡ added → IsDeliveryWithin asked
-    → (r : Register) (id : ℕ) → IsSoundRegister r → there ≡ get r.deliveries (asked.part, asked.number) → hand ≡ hand_of r asked.part → IsMade id r (Receive asked) changes
-receive_makes there hand asked changes same adds within r id sound found on =
-    made id r (Receive asked) changes (receive_changes (hand_of r asked.part) asked) (same ∙ ap (λ (h : Option ℕ). receive_changes h asked) on) (sym (λ i. receive_line (found i) (on i) asked) ∙ adds) (received r id asked sound within)
+-- ---- every decision
+
+-- what a command adds makes the register with the record
+adding_makes : (any : ℕ) (r : Register) (command : RecordCommand) → IsSoundRegister r
+    → BringsWithin command → line_at r command ≡ added
+    → ChangesMake (place_or any command) r (changes_on command (standing_in r command)) (with_record r command)
+adding_makes any r (Inspect id asked) sound within adds =
+    record { records = refl; hands = λ code. refl; sound = inspection_sound r id asked sound within }
+adding_makes any r (OpenOrder id asked) sound within adds =
+    record { records = refl; hands = λ code. refl; sound = opened r id asked sound within }
+adding_makes any r (UsePart id asked) sound within adds = used r id asked sound within adds
+adding_makes any r (CloseOrder id n asked) sound within adds =
+    closed r id n asked (get r.orders (id, n)) sound (sound.orders (id, n)) within adds
+adding_makes any r (Receive asked) sound within adds = received r any asked sound within adds
+
+-- a decision that records those changes makes it
+made : (id : ℕ) (r : Register) (command : RecordCommand) (list : List CabinetChange)
+    (result : Result Recorded CabinetRefusal)
+    → (line_at r command ≡ added → ChangesMake id r list (with_record r command))
+    → Records result (line_at r command) list → MakesIn id r command result
+made id r command list (Ok (Added changes)) makes says =
+    (says.0, subst (λ cs. ChangesMake id r cs (with_record r command)) (sym says.1) (makes says.0))
+made id r command list (Ok Same) makes says = says
+made id r command list (Err NoMemory) makes says = says
+made id r command list (Err refusal) makes says = says
+
+-- the law, of a decision that says its line on what it is given
+pub decision_makes : (any : ℕ) (command : RecordCommand) (there : Standing command)
+    (result : Result Recorded CabinetRefusal) → BringsWithin command
+    → Records result (line_on command there) (changes_on command there)
+    → Makes (place_or any command) command there result
+decision_makes any command there result within says = λ r sound is.
+    made (place_or any command) r command (changes_on command (standing_in r command)) result
+    (adding_makes any r command sound within)
+    (subst (λ (given : Standing command). Records result (line_on command given) (changes_on command given)) is says)

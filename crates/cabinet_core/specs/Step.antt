@@ -7,15 +7,40 @@ use Rattle.cabinet_core.specs.Stock.{hand_of}
 use Rattle.cabinet_core.specs.declared.command.RecordCommand.{RecordCommand}
 use Rattle.cabinet_core.specs.declared.command.RecordCommand.TheVariants.{Inspect, OpenOrder, UsePart, CloseOrder, Receive}
 use Rattle.cabinet_core.specs.declared.record.Closing.{Closing}
+use Rattle.cabinet_core.specs.declared.record.Delivery.{Delivery}
+use Rattle.cabinet_core.specs.declared.record.Inspection.{Inspection}
 use Rattle.cabinet_core.specs.declared.record.Order.{Order}
+use Rattle.cabinet_core.specs.declared.record.UsedLine.{UsedLine}
 
--- the command's line of the table, on the records under its keys
+-- what a command is decided on: what stands under its keys, and how many of its part are on hand
+abbrev pub Standing : RecordCommand → Type 0
+Standing (Inspect id inspection) = Option Inspection
+Standing (OpenOrder id opening) = Option Order
+Standing (UsePart id line) = Option UsedLine × Option Order × Option ℕ
+Standing (CloseOrder id order closing) = Option Order
+Standing (Receive delivery) = Option Delivery × Option ℕ
+
+-- as it is in a register
+abbrev pub standing_in : Register → (command : RecordCommand) → Standing command
+standing_in r (Inspect id inspection) = get r.inspections (id, inspection.number)
+standing_in r (OpenOrder id opening) = get r.orders (id, opening.number)
+standing_in r (UsePart id line) =
+    (get r.lines (id, (line.order, line.line)), get r.orders (id, line.order), hand_of r line.part)
+standing_in r (CloseOrder id order closing) = get r.orders (id, order)
+standing_in r (Receive delivery) =
+    (get r.deliveries (delivery.part, delivery.number), hand_of r delivery.part)
+
+-- the command's line of the table on that
+abbrev pub line_on : (command : RecordCommand) → Standing command → Line
+line_on (Inspect id inspection) there = inspect_line there inspection
+line_on (OpenOrder id opening) there = open_line there opening
+line_on (UsePart id line) (there, order, hand) = use_line there order hand line
+line_on (CloseOrder id order closing) there = close_line there closing
+line_on (Receive delivery) (there, hand) = receive_line there hand delivery
+
+-- and in a register
 abbrev pub line_at : Register → RecordCommand → Line
-line_at r (Inspect id inspection) = inspect_line (get r.inspections (id, inspection.number)) inspection
-line_at r (OpenOrder id opening) = open_line (get r.orders (id, opening.number)) opening
-line_at r (UsePart id line) = use_line (get r.lines (id, (line.order, line.line))) (get r.orders (id, line.order)) (hand_of r line.part) line
-line_at r (CloseOrder id order closing) = close_line (get r.orders (id, order)) closing
-line_at r (Receive delivery) = receive_line (get r.deliveries (delivery.part, delivery.number)) (hand_of r delivery.part) delivery
+line_at r command = line_on command (standing_in r command)
 
 -- the register with an order closed, if it is there
 abbrev pub with_closed : Register → ℕ → ℕ → Closing → Option Order → Register

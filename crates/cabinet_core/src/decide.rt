@@ -1,11 +1,11 @@
 //! What becomes of a command on the register. Each decision is given the records that stand under
 //! the command's keys, and changes nothing itself.
 
-ghost use Rattle.std.specs.Prelude.{◌≡◌, ◌+◌, ◌-◌, ◌≤◌, [], ◌∷◌};
+ghost use Rattle.std.specs.Prelude.{◌≡◌, ℕ, ◌+◌, ◌-◌, ◌≤◌, [], ◌∷◌};
 ghost use Rattle.std.specs.Prelude.{nat_lt, IfOk, if◌then◌else◌, Some, None};
 ghost use Rattle.cabinet_core.specs.declared.part.TheConstants.{MOST_ON_HAND};
-ghost use Rattle.cabinet_core.specs.Changes.{InspectMakes, OpenMakes, UseMakes};
-ghost use Rattle.cabinet_core.specs.Changes.{CloseMakes, ReceiveMakes};
+ghost use Rattle.cabinet_core.specs.Changes.{Makes};
+ghost use Rattle.cabinet_core.specs.declared.command.RecordCommand.{RecordCommand};
 ghost use Rattle.cabinet_core.specs.declared.decide.CabinetChange.TheVariants.{PutInspection};
 ghost use Rattle.cabinet_core.specs.declared.decide.CabinetChange.TheVariants.{PutOrder};
 ghost use Rattle.cabinet_core.specs.Cabinet.{Records, on_hand, record_of};
@@ -53,7 +53,7 @@ pub fn inspect(
 ) -> Result<Recorded, CabinetRefusal>
     ensures line { Records result (inspect_line there.now asked.now)
         (PutInspection asked.now ∷ []) }
-    ensures makes { InspectMakes there.now asked.now result }
+    ensures makes { (id : ℕ) → Makes id (RecordCommand.Inspect id asked.now) there.now result }
 {
     inspection_is_within(asked);
     match there {
@@ -98,7 +98,7 @@ pub fn open_order(
 ) -> Result<Recorded, CabinetRefusal>
     ensures line { Records result (open_line there.now asked.now)
         (PutOrder (record_of asked.now) ∷ []) }
-    ensures makes { OpenMakes there.now asked.now result }
+    ensures makes { (id : ℕ) → Makes id (RecordCommand.OpenOrder id asked.now) there.now result }
 {
     opening_is_within(asked);
     match there {
@@ -151,7 +151,8 @@ pub fn use_part(
 ) -> Result<Recorded, CabinetRefusal>
     ensures line { Records result (use_line there.now order.now hand asked.now)
         (use_changes hand asked.now) }
-    ensures makes { UseMakes there.now order.now hand asked.now result }
+    ensures makes { (id : ℕ) → Makes id (RecordCommand.UsePart id asked.now)
+        (there.now, order.now, hand) result }
 {
     used_line_is_within(asked);
     if let Some(line) = there {
@@ -186,7 +187,8 @@ pub fn close_order(
 ) -> Result<Recorded, CabinetRefusal>
     ensures line { Records result (close_line order.now asked.now)
         (close_changes order.now asked.now) }
-    ensures makes { CloseMakes order.now asked.now result }
+    ensures makes { (id number : ℕ) → Makes id (RecordCommand.CloseOrder id number asked.now)
+        order.now result }
 {
     closing_is_within(asked);
     let Some(there) = order else {
@@ -221,7 +223,8 @@ pub fn receive(
 ) -> Result<Recorded, CabinetRefusal>
     ensures line { Records result (receive_line there.now hand asked.now)
         (receive_changes hand asked.now) }
-    ensures makes { ReceiveMakes there.now hand asked.now result }
+    ensures makes { (id : ℕ) → Makes id (RecordCommand.Receive asked.now)
+        (there.now, hand) result }
 {
     delivery_is_within(asked);
     if let Some(delivery) = there {

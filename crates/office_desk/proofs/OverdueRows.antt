@@ -4,8 +4,8 @@ use Rattle.std.proofs.lemmas.List.{length-map, take_all}
 use Rattle.std.specs.FinMap.{entries}
 use Rattle.std.specs.List.{cons_option}
 use Rattle.cabinet_core.specs.Overdue.{Listed, lateness, latest_day, listed, overdue_list}
-use Rattle.cabinet_core.specs.declared.inspections.OverdueRow.{OverdueRow}
-use Rattle.cabinet_core.specs.declared.inspections.Seen.{Seen}
+use Rattle.cabinet_core.specs.declared.overdue_inspections.OverdueRow.{OverdueRow}
+use Rattle.cabinet_core.specs.declared.overdue_inspections.Seen.{Seen}
 use Rattle.office_tables_shelf.specs.Cells.{Cell}
 use Rattle.office_tables_shelf.specs.Change.{changed_by}
 use Rattle.office_tables_shelf.specs.Content.{Content}

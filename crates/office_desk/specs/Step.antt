@@ -11,7 +11,7 @@ use Rattle.cabinet_core.specs.Cabinet.{Line, added as added_line, same as same_l
 use Rattle.cabinet_core.specs.Overdue.{Listed, last_at, overdue_list}
 use Rattle.cabinet_core.specs.declared.command.RecordCommand.{RecordCommand}
 use Rattle.cabinet_core.specs.declared.command.RecordCommand.TheVariants as register
-use Rattle.cabinet_core.specs.declared.inspections.Seen.{Seen}
+use Rattle.cabinet_core.specs.declared.overdue_inspections.Seen.{Seen}
 use Rattle.cabinet_core.specs.declared.refusal.CabinetRefusal.{CabinetRefusal}
 use Rattle.cabinet_core.specs.declared.refusal.CabinetRefusal.TheVariants as cabinet
 use Rattle.cabinet_core.specs.Orders.{open_at}

@@ -5,7 +5,10 @@ use Rattle.std.specs.Prelude.{IfSome}
 use Rattle.std.specs.FinMap.{get}
 use Rattle.cabinet_core.specs.Register.{Register}
 use Rattle.cabinet_core.specs.Sound.{IsInspectionAt, IsOrderAt, IsLineAt, IsDeliveryAt}
+use Rattle.cabinet_core.specs.Step.{Standing, standing_in}
 use Rattle.cabinet_core.specs.Stock.{hand_of, stock_by_code}
+use Rattle.cabinet_core.specs.declared.command.RecordCommand.{RecordCommand}
+use Rattle.cabinet_core.specs.declared.command.RecordCommand.TheVariants.{Inspect, OpenOrder, UsePart, CloseOrder, Receive}
 use Rattle.cabinet_core.specs.declared.record.Delivery.{Delivery}
 use Rattle.cabinet_core.specs.declared.record.Inspection.{Inspection}
 use Rattle.cabinet_core.specs.declared.record.Order.{Order}
@@ -58,6 +61,15 @@ both_of : {X : Type 0} (P Q : X → Type 0) (there : Option X) → IfSome there 
 both_of P Q None p q = tt
 both_of P Q (Some x) p q = (p, q)
 
+-- what the tables have under a command's keys
+abbrev pub ReadsKeys : Content → (command : RecordCommand) → Standing command → Type 0
+ReadsKeys tables (Inspect id asked) there = ReadsInspection tables id asked.number there
+ReadsKeys tables (OpenOrder id asked) there = ReadsOrder tables id asked.number there
+ReadsKeys tables (UsePart id asked) (there, order, hand) =
+    ReadsUsed tables id asked.order asked.line there × ReadsOrder tables id asked.order order × ReadsHand tables asked.part hand
+ReadsKeys tables (CloseOrder id number asked) there = ReadsOrder tables id number there
+ReadsKeys tables (Receive asked) (there, hand) = ReadsDelivery tables asked.part asked.number there × ReadsHand tables asked.part hand
+
 module _ (tables : Content) (r : Register) (stands : RegisterStandsSound tables r) where
   pub inspection_stands : (id n : ℕ) (there : Option Inspection) → ReadsInspection tables id n there → there ≡ get r.inspections (id, n)
   inspection_stands id n there reads =
@@ -92,3 +104,18 @@ module _ (tables : Content) (r : Register) (stands : RegisterStandsSound tables 
       hand_tells None (Some b) same = absurd cc
       hand_tells (Some a) None same = absurd cc
       hand_tells (Some a) (Some b) same = let number : a ≡ b = cc in ap Some number
+
+  -- and so is what is read under a command's keys
+  pub keys_stand : (command : RecordCommand) (there : Standing command) → ReadsKeys tables command there → there ≡ standing_in r command
+  keys_stand (Inspect id asked) there reads = inspection_stands id asked.number there reads
+  keys_stand (OpenOrder id asked) there reads = order_stands id asked.number there reads
+  keys_stand (UsePart id asked) (there, order, hand) reads =
+      let line = line_stands id asked.order asked.line there reads.0 in
+      let of = order_stands id asked.order order reads.1 in
+      let on = hand_stands asked.part hand reads.2 in
+      λ i. (line i, of i, on i)
+  keys_stand (CloseOrder id number asked) there reads = order_stands id number there reads
+  keys_stand (Receive asked) (there, hand) reads =
+      let came = delivery_stands asked.part asked.number there reads.0 in
+      let on = hand_stands asked.part hand reads.1 in
+      λ i. (came i, on i)

@@ -1,36 +1,30 @@
 -- Rows of the register that are put under keys where no damaged row stands leave those that are damaged.
-use Rattle.std.proofs.Common.{◌≡◌, ◌⊎◌, inl, inr, ℕ, true, false, cond, List, Option, None, Some}
-use Rattle.std.proofs.Common.{Result, Ok, Err, ap, sym, subst, ◌∙◌}
+use Rattle.std.proofs.Common.{◌≡◌, ◌⊎◌, inl, inr, ℕ, true, false, cond, List, None, Some}
+use Rattle.std.proofs.Common.{ap, sym, subst, ◌∙◌}
 use Rattle.std.proofs.lemmas.Bool.{cases_Bool}
 use Rattle.std.specs.FinMap.{get, insert, get-insert}
 use Rattle.std.specs.Ordering.{eq_by_cmp}
-use Rattle.std.specs.Prelude.{IfOk}
-use Rattle.cabinet_core.specs.Cabinet.{Line, added, same, refused, Records, close_changes}
-use Rattle.cabinet_core.specs.Cabinet.{receive_changes, use_changes, with_closing}
+use Rattle.cabinet_core.specs.Cabinet.{Line, added, same, refused, record_of, with_closing}
+use Rattle.cabinet_core.specs.Step.{Standing}
 use Rattle.cabinet_core.specs.declared.command.RecordCommand.{RecordCommand}
 use Rattle.cabinet_core.specs.declared.command.RecordCommand.TheVariants.{Inspect, OpenOrder, UsePart, CloseOrder, Receive}
-use Rattle.cabinet_core.specs.declared.decide.CabinetChange.{CabinetChange}
-use Rattle.cabinet_core.specs.declared.decide.Recorded.{Recorded}
-use Rattle.cabinet_core.specs.declared.record.Closing.{Closing}
 use Rattle.cabinet_core.specs.declared.record.Delivery.{Delivery}
 use Rattle.cabinet_core.specs.declared.record.Inspection.{Inspection}
 use Rattle.cabinet_core.specs.declared.record.Order.{Order}
 use Rattle.cabinet_core.specs.declared.record.UsedLine.{UsedLine}
-use Rattle.cabinet_core.specs.declared.refusal.CabinetRefusal.{CabinetRefusal}
+use Rattle.cabinet_core.proofs.Made.{changes_on, place_or}
 use Rattle.office_tables_shelf.proofs.CellLemmas.{cells_exact, cells_total, tied}
-use Rattle.office_tables_shelf.specs.CabinetReads.{HasDamagedDelivery, HasDamagedHand, HasDamagedInspectionAt, HasDamagedOrderAt, HasDamagedUsedAt, ReadsOrder}
+use Rattle.office_tables_shelf.specs.CabinetReads.{HasDamagedDelivery, HasDamagedHand, HasDamagedInspectionAt, HasDamagedOrderAt, HasDamagedUsedAt}
 use Rattle.office_tables_shelf.specs.CabinetRows.{delivery_columns, delivery_key, inspection_columns, inspection_key, order_columns, order_key, part_columns, part_key, used_columns, used_key}
 use Rattle.office_tables_shelf.specs.Cells.{Cell, Rows, cells_cmp}
 use Rattle.office_tables_shelf.specs.Change.{changed, changed_by}
 use Rattle.office_tables_shelf.specs.Content.{Content}
 use Rattle.office_tables_shelf.specs.declared.rows.RowChange.{RowChange}
 use Rattle.office_tables_shelf.specs.declared.rows.RowChange.TheVariants.{PutDelivery, PutInspection, PutLine, PutOrder, PutPart}
-use Rattle.office_tables_shelf.specs.declared.shelf.ShelfFault.{ShelfFault}
 use Rattle.office_desk_cabinet.specs.RegisterDamage.{KeepsDamage, MeetsRecordDamage}
-use Rattle.office_desk_cabinet.specs.Registers.{rows_told}
-use Rattle.office_desk_cabinet.specs.Telling.{Tells, row_changes_of}
-use Rattle.office_desk_cabinet.specs.declared.registered.Registered.{Registered}
-use Rattle.office_desk_cabinet.proofs.Told.{told_by, rows_for}
+use Rattle.office_desk_cabinet.specs.Lines.{rows_for}
+use Rattle.office_desk_cabinet.specs.Telling.{row_changes_of}
+use Rattle.office_desk_cabinet.proofs.Found.{ReadsKeys}
 
 -- what stands under another key stays
 other_row : (rows : Rows) (k q put cells : List Cell) → (q ≡ k → ⊥) → get rows q ≡ Some cells → get (insert rows k put) q ≡ Some cells
@@ -147,28 +141,21 @@ meets_still tables after (Receive delivery) kept (inr d) = inr (kept.hands deliv
 
 -- ---- the rows of a decision
 
-pub use_kept : (tables : Content) (id : ℕ) (asked : UsedLine) (hand : Option ℕ) → ¬ MeetsRecordDamage tables (UsePart id asked) → KeepsDamage tables (changed_by tables (row_changes_of id (use_changes hand asked)))
-use_kept tables id asked hand whole =
+-- the changes of a command, on what was read under its keys
+pub command_kept : (any : ℕ) (tables : Content) (command : RecordCommand) (there : Standing command) → ReadsKeys tables command there → ¬ MeetsRecordDamage tables command
+    → KeepsDamage tables (changed_by tables (row_changes_of (place_or any command) (changes_on command there)))
+command_kept any tables (Inspect id asked) there reads whole = inspection_kept tables id asked whole
+command_kept any tables (OpenOrder id asked) there reads whole = order_kept tables id (record_of asked) whole
+command_kept any tables (UsePart id asked) (there, order, hand) reads whole =
     let mid = changed tables (PutLine id asked) in
     kept_after tables mid _ (line_kept tables id asked (λ d. whole (inl d))) (part_kept mid asked.part _ (λ d. whole (inr (inr (record { columns = d.columns; stored = d.stored; no_row = d.no_row })))))
-
-pub receive_kept : (tables : Content) (asked : Delivery) (hand : Option ℕ) → ¬ MeetsRecordDamage tables (Receive asked) → KeepsDamage tables (changed_by tables (row_changes_of 0 (receive_changes hand asked)))
-receive_kept tables asked hand whole =
+command_kept any tables (CloseOrder id number asked) None reads whole = nothing_kept tables
+command_kept any tables (CloseOrder id number asked) (Some found) reads whole = order_kept tables id (with_closing found asked) (subst (λ n. ¬ HasDamagedOrderAt tables id n) (sym reads.number) whole)
+command_kept any tables (Receive asked) (there, hand) reads whole =
     let mid = changed tables (PutPart asked.part _) in
     kept_after tables mid _ (part_kept tables asked.part _ (λ d. whole (inr d))) (delivery_kept mid asked (λ d. whole (inl (record { columns = d.columns; stored = d.stored; no_row = d.no_row }))))
 
-pub close_kept : (tables : Content) (id order : ℕ) (closing : Closing) (there : Option Order) → ReadsOrder tables id order there → ¬ HasDamagedOrderAt tables id order → KeepsDamage tables (changed_by tables (row_changes_of id (close_changes there closing)))
-close_kept tables id order closing None reads whole = nothing_kept tables
-close_kept tables id order closing (Some found) reads whole = order_kept tables id (with_closing found closing) (subst (λ n. ¬ HasDamagedOrderAt tables id n) (sym reads.number) whole)
-
-rows_kept : (tables : Content) (line : Line) (rows : List RowChange) → KeepsDamage tables (changed_by tables rows) → KeepsDamage tables (changed_by tables (rows_for line rows))
+pub rows_kept : (tables : Content) (line : Line) (rows : List RowChange) → KeepsDamage tables (changed_by tables rows) → KeepsDamage tables (changed_by tables (rows_for line rows))
 rows_kept tables added rows kept = kept
 rows_kept tables same rows kept = nothing_kept tables
 rows_kept tables (refused why) rows kept = nothing_kept tables
-
--- what is told of a decision
-pub told_kept : (tables : Content) (id : ℕ) (line : Line) (list : List CabinetChange) (decision : Result Recorded CabinetRefusal) (result : Result Registered ShelfFault) (P : Type 0) → Records decision line list → IfOk result (λ told. Tells id decision told)
-    → (P → KeepsDamage tables (changed_by tables (row_changes_of id list))) → IfOk result (λ told. P → KeepsDamage tables (changed_by tables (rows_told told)))
-told_kept tables id line list decision (Ok told) P decides tells kept = λ p.
-    subst (λ rows. KeepsDamage tables (changed_by tables rows)) (sym (told_by id line list decision told decides tells).same_rows) (rows_kept tables line (row_changes_of id list) (kept p))
-told_kept tables id line list decision (Err fault) P decides tells kept = tt

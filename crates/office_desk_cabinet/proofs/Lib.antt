@@ -13,3 +13,4 @@ pub mod InOrder
 pub mod ShowingLemmas
 pub mod EmptyRegister
 pub mod Opened
+pub mod Decided

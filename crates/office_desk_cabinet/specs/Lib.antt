@@ -6,3 +6,4 @@ pub mod Telling
 pub mod Open
 pub mod Lines
 pub mod Stocking
+pub mod Decides

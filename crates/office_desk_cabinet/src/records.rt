@@ -1,15 +1,9 @@
 //! Inspections and orders: their commands decided.
-ghost use Rattle.std.specs.Prelude.{◌≤◌, IfOk, ◌≡◌, []};
+ghost use Rattle.std.specs.Prelude.{◌≡◌, []};
 ghost use Rattle.cabinet_core.specs.declared.command.RecordCommand.{RecordCommand};
-ghost use Rattle.office_tables_shelf.specs.Change.{changed_by};
-ghost use Rattle.office_tables_shelf.specs.Content.{Content};
-ghost use Rattle.office_tables_shelf.specs.Counts.{writes_in};
 ghost use Rattle.office_tables_shelf.specs.Shelf.{IsKept};
 ghost use Rattle.office_desk_cabinet.specs.Open.{StaysOpen};
-ghost use Rattle.office_tables_shelf.specs.declared.rows.Table.{Table};
-ghost use Rattle.office_desk_cabinet.specs.RegisterDamage.{IsWhole, SparesDamage};
-ghost use Rattle.office_desk_cabinet.specs.Lines.{TellsLine};
-ghost use Rattle.office_desk_cabinet.specs.Registers.{IsNamed, LeavesTiming, Registers, line_told, most_record_writes, rows_told};
+ghost use Rattle.office_desk_cabinet.specs.Decides.{DecidesRecord};
 
 use crate::pending::Pending;
 use crate::registered::Registered;
@@ -28,17 +22,8 @@ pub(crate) fn decide_inspect<S: Shelf>(
     id: InterId,
     inspection: &Inspection,
 ) -> Result<Registered, ShelfFault>
-    ensures step { S.is_honest shelf.new → Registers (S.content shelf.old) pending.now (RecordCommand.Inspect id inspection.now) result }
-    ensures whole { IfOk result (λ _. S.is_honest shelf.new →
-        IsWhole (S.content shelf.old) pending.now (RecordCommand.Inspect id inspection.now)) }
-    ensures spares { IfOk result (λ told. S.is_honest shelf.new →
-        SparesDamage (S.content shelf.old) pending.now (rows_told told)) }
-    ensures leaves { IfOk result (λ told. (tables : Content) → LeavesTiming tables (rows_told told)) }
-    ensures writes { IfOk result (λ told. (table : Table) → writes_in table (rows_told told) ≤ most_record_writes (RecordCommand.Inspect id inspection.now) table) }
-    ensures named { IfOk result (λ told. IsNamed (RecordCommand.Inspect id inspection.now) (line_told told)) }
-    ensures line { IfOk result (λ told. S.is_honest shelf.new →
-        TellsLine (changed_by (S.content shelf.old) pending.now)
-        (RecordCommand.Inspect id inspection.now) (line_told told) (rows_told told)) }
+    ensures decides { DecidesRecord (S.is_honest shelf.new) (S.content shelf.old) pending.now
+        (RecordCommand.Inspect id inspection.now) result }
     ensures kept { IsKept S.is_honest S.content S.written S.may_leave shelf.old shelf.new }
     ensures open { StaysOpen S.is_clean S.is_honest (pending.now ≡ [])
         result shelf.old shelf.new }
@@ -56,17 +41,8 @@ pub(crate) fn decide_open_order<S: Shelf>(
     id: InterId,
     opening: &Opening,
 ) -> Result<Registered, ShelfFault>
-    ensures step { S.is_honest shelf.new → Registers (S.content shelf.old) pending.now (RecordCommand.OpenOrder id opening.now) result }
-    ensures whole { IfOk result (λ _. S.is_honest shelf.new →
-        IsWhole (S.content shelf.old) pending.now (RecordCommand.OpenOrder id opening.now)) }
-    ensures spares { IfOk result (λ told. S.is_honest shelf.new →
-        SparesDamage (S.content shelf.old) pending.now (rows_told told)) }
-    ensures leaves { IfOk result (λ told. (tables : Content) → LeavesTiming tables (rows_told told)) }
-    ensures writes { IfOk result (λ told. (table : Table) → writes_in table (rows_told told) ≤ most_record_writes (RecordCommand.OpenOrder id opening.now) table) }
-    ensures named { IfOk result (λ told. IsNamed (RecordCommand.OpenOrder id opening.now) (line_told told)) }
-    ensures line { IfOk result (λ told. S.is_honest shelf.new →
-        TellsLine (changed_by (S.content shelf.old) pending.now)
-        (RecordCommand.OpenOrder id opening.now) (line_told told) (rows_told told)) }
+    ensures decides { DecidesRecord (S.is_honest shelf.new) (S.content shelf.old) pending.now
+        (RecordCommand.OpenOrder id opening.now) result }
     ensures kept { IsKept S.is_honest S.content S.written S.may_leave shelf.old shelf.new }
     ensures open { StaysOpen S.is_clean S.is_honest (pending.now ≡ [])
         result shelf.old shelf.new }
@@ -85,17 +61,8 @@ pub(crate) fn decide_close_order<S: Shelf>(
     order: RecordNo,
     closing: &Closing,
 ) -> Result<Registered, ShelfFault>
-    ensures step { S.is_honest shelf.new → Registers (S.content shelf.old) pending.now (RecordCommand.CloseOrder id order closing.now) result }
-    ensures whole { IfOk result (λ _. S.is_honest shelf.new →
-        IsWhole (S.content shelf.old) pending.now (RecordCommand.CloseOrder id order closing.now)) }
-    ensures spares { IfOk result (λ told. S.is_honest shelf.new →
-        SparesDamage (S.content shelf.old) pending.now (rows_told told)) }
-    ensures leaves { IfOk result (λ told. (tables : Content) → LeavesTiming tables (rows_told told)) }
-    ensures writes { IfOk result (λ told. (table : Table) → writes_in table (rows_told told) ≤ most_record_writes (RecordCommand.CloseOrder id order closing.now) table) }
-    ensures named { IfOk result (λ told. IsNamed (RecordCommand.CloseOrder id order closing.now) (line_told told)) }
-    ensures line { IfOk result (λ told. S.is_honest shelf.new →
-        TellsLine (changed_by (S.content shelf.old) pending.now)
-        (RecordCommand.CloseOrder id order closing.now) (line_told told) (rows_told told)) }
+    ensures decides { DecidesRecord (S.is_honest shelf.new) (S.content shelf.old) pending.now
+        (RecordCommand.CloseOrder id order closing.now) result }
     ensures kept { IsKept S.is_honest S.content S.written S.may_leave shelf.old shelf.new }
     ensures open { StaysOpen S.is_clean S.is_honest (pending.now ≡ [])
         result shelf.old shelf.new }

@@ -1,19 +1,13 @@
 //! The stock: parts used, deliveries received, and what is on hand.
-ghost use Rattle.std.specs.Prelude.{◌≡◌, ◌≤◌, IfOk, OnErr, []};
+ghost use Rattle.std.specs.Prelude.{◌≡◌, IfOk, OnErr, []};
 ghost use Rattle.cabinet_core.specs.Register.{Register};
 ghost use Rattle.cabinet_core.specs.Stock.{stock_of};
 ghost use Rattle.cabinet_core.specs.declared.command.RecordCommand.{RecordCommand};
 ghost use Rattle.office_tables_shelf.specs.CabinetReads.{HasDamagedPart};
-ghost use Rattle.office_tables_shelf.specs.Change.{changed_by};
-ghost use Rattle.office_tables_shelf.specs.Content.{Content};
-ghost use Rattle.office_tables_shelf.specs.Counts.{writes_in};
 ghost use Rattle.office_tables_shelf.specs.Shelf.{AnswersOpen, IsKept};
 ghost use Rattle.office_desk_cabinet.specs.Open.{StaysOpen};
-ghost use Rattle.office_tables_shelf.specs.declared.rows.Table.{Table};
 ghost use Rattle.office_desk_cabinet.specs.RegisterStands.{RegisterStandsSound};
-ghost use Rattle.office_desk_cabinet.specs.RegisterDamage.{IsWhole, SparesDamage};
-ghost use Rattle.office_desk_cabinet.specs.Lines.{TellsLine};
-ghost use Rattle.office_desk_cabinet.specs.Registers.{IsNamed, LeavesTiming, Registers, line_told, most_record_writes, rows_told};
+ghost use Rattle.office_desk_cabinet.specs.Decides.{DecidesRecord};
 ghost use Rattle.office_desk_cabinet.specs.Stocking.{TellsStock, stock_row_of, stock_rows_of};
 ghost use Rattle.office_desk_cabinet.specs.Telling.{WantsMemory};
 
@@ -39,17 +33,8 @@ pub(crate) fn decide_use_part<S: Shelf>(
     id: InterId,
     line: &UsedLine,
 ) -> Result<Registered, ShelfFault>
-    ensures step { S.is_honest shelf.new → Registers (S.content shelf.old) pending.now (RecordCommand.UsePart id line.now) result }
-    ensures whole { IfOk result (λ _. S.is_honest shelf.new →
-        IsWhole (S.content shelf.old) pending.now (RecordCommand.UsePart id line.now)) }
-    ensures spares { IfOk result (λ told. S.is_honest shelf.new →
-        SparesDamage (S.content shelf.old) pending.now (rows_told told)) }
-    ensures leaves { IfOk result (λ told. (tables : Content) → LeavesTiming tables (rows_told told)) }
-    ensures writes { IfOk result (λ told. (table : Table) → writes_in table (rows_told told) ≤ most_record_writes (RecordCommand.UsePart id line.now) table) }
-    ensures named { IfOk result (λ told. IsNamed (RecordCommand.UsePart id line.now) (line_told told)) }
-    ensures line { IfOk result (λ told. S.is_honest shelf.new →
-        TellsLine (changed_by (S.content shelf.old) pending.now)
-        (RecordCommand.UsePart id line.now) (line_told told) (rows_told told)) }
+    ensures decides { DecidesRecord (S.is_honest shelf.new) (S.content shelf.old) pending.now
+        (RecordCommand.UsePart id line.now) result }
     ensures kept { IsKept S.is_honest S.content S.written S.may_leave shelf.old shelf.new }
     ensures open { StaysOpen S.is_clean S.is_honest (pending.now ≡ [])
         result shelf.old shelf.new }
@@ -112,17 +97,8 @@ pub(crate) fn decide_receive<S: Shelf>(
     pending: &Pending,
     delivery: &Delivery,
 ) -> Result<Registered, ShelfFault>
-    ensures step { S.is_honest shelf.new → Registers (S.content shelf.old) pending.now (RecordCommand.Receive delivery.now) result }
-    ensures whole { IfOk result (λ _. S.is_honest shelf.new →
-        IsWhole (S.content shelf.old) pending.now (RecordCommand.Receive delivery.now)) }
-    ensures spares { IfOk result (λ told. S.is_honest shelf.new →
-        SparesDamage (S.content shelf.old) pending.now (rows_told told)) }
-    ensures leaves { IfOk result (λ told. (tables : Content) → LeavesTiming tables (rows_told told)) }
-    ensures writes { IfOk result (λ told. (table : Table) → writes_in table (rows_told told) ≤ most_record_writes (RecordCommand.Receive delivery.now) table) }
-    ensures named { IfOk result (λ told. IsNamed (RecordCommand.Receive delivery.now) (line_told told)) }
-    ensures line { IfOk result (λ told. S.is_honest shelf.new →
-        TellsLine (changed_by (S.content shelf.old) pending.now)
-        (RecordCommand.Receive delivery.now) (line_told told) (rows_told told)) }
+    ensures decides { DecidesRecord (S.is_honest shelf.new) (S.content shelf.old) pending.now
+        (RecordCommand.Receive delivery.now) result }
     ensures kept { IsKept S.is_honest S.content S.written S.may_leave shelf.old shelf.new }
     ensures open { StaysOpen S.is_clean S.is_honest (pending.now ≡ [])
         result shelf.old shelf.new }

@@ -3,7 +3,7 @@ use Rattle.std.specs.Prelude.{ℕ, List, ◌++◌, length, flat_map, codes, deci
 use Rattle.jiff.specs.Words.{date_text}
 use Rattle.jiff.specs.declared.civil.dates.Date.{Date}
 use Rattle.cabinet_core.specs.Day.{day_text}
-use Rattle.cabinet_core.specs.declared.inspections.OverdueRow.{OverdueRow}
+use Rattle.cabinet_core.specs.declared.overdue_inspections.OverdueRow.{OverdueRow}
 use Rattle.office_files.specs.Cells.{right_aligned}
 
 -- the due day, or that there never was an inspection, left in ten places

@@ -8,8 +8,8 @@ use Rattle.std.specs.Option.{IsSome}
 use Rattle.std.proofs.lemmas.List.{take_more, take_all, take-append-drop, length-map}
 use Rattle.std.proofs.lemmas.List.Elements.{filter_map-append}
 use Rattle.cabinet_core.specs.Overdue.{Listed, greater, latest_day, listed, lateness, overdue_list}
-use Rattle.cabinet_core.specs.declared.inspections.OverdueRow.{OverdueRow}
-use Rattle.cabinet_core.specs.declared.inspections.Seen.{Seen}
+use Rattle.cabinet_core.specs.declared.overdue_inspections.OverdueRow.{OverdueRow}
+use Rattle.cabinet_core.specs.declared.overdue_inspections.Seen.{Seen}
 use Rattle.cabinet_core.specs.declared.record.Inspection.{Inspection}
 use Rattle.office_tables_shelf.specs.CabinetReads.{HasDamagedInspection, ListsInspections}
 use Rattle.office_tables_shelf.specs.Content.{Content}

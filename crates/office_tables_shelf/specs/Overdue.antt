@@ -3,8 +3,8 @@ use Rattle.std.specs.Prelude.{◌≡◌, ◌⊎◌, ℕ, List, [], ◌∷◌, ma
 use Rattle.std.specs.List.{AllByRecursion}
 use Rattle.cabinet_core.specs.Overdue.{latest_day, listed, overdue_list}
 use Rattle.cabinet_core.specs.Within.{IsInspectionWithin}
-use Rattle.cabinet_core.specs.declared.inspections.OverdueRow.{OverdueRow}
-use Rattle.cabinet_core.specs.declared.inspections.Seen.{Seen}
+use Rattle.cabinet_core.specs.declared.overdue_inspections.OverdueRow.{OverdueRow}
+use Rattle.cabinet_core.specs.declared.overdue_inspections.Seen.{Seen}
 use Rattle.cabinet_core.specs.declared.record.Inspection.{Inspection}
 use Rattle.office_tables_shelf.specs.CabinetReads.{HasDamagedInspection, ListsInspections}
 use Rattle.office_tables_shelf.specs.Content.{Content}

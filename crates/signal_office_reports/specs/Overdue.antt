@@ -1,7 +1,7 @@
 -- What the report of overdue inspections shows.
 use Rattle.std.specs.Prelude.{◌≡◌, ℕ, List, map, take}
 use Rattle.cabinet_core.specs.Overdue.{listed}
-use Rattle.cabinet_core.specs.declared.inspections.OverdueRow.{OverdueRow}
+use Rattle.cabinet_core.specs.declared.overdue_inspections.OverdueRow.{OverdueRow}
 use Rattle.office_desk.specs.Office.{Office}
 use Rattle.office_desk.specs.Step.{overdue_on}
 use Rattle.office_files.specs.Overdue.{overdue_report}

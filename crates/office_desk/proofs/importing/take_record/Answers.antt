@@ -18,15 +18,15 @@ returns-in_ok-next-in-Added-clause-step g c = λ honest office stands r register
     let there : c.in_ok-is_known.field-0 ≡ true = first_of (cc, grind arith) in
     record_added (g.S.Shelf.content c.args.shelf.now) (g.S.Shelf.content c.is_known.new.shelf) c.args.command.now c.in-Added.rows.items c.args.pending c.args.pending _ _ office r
     refl same (about_known _ _ _ _ _ c.cabinet_of.ensures there (c.in_ok-is_known.ensures.known first) office stands) register
-    (c.in_ok-rows.ensures.step honest) (ap line_told c.in-Added.is) (ap rows_told c.in-Added.is) c.in_ok-next-in-Added.ensures
+    (c.in_ok-rows.ensures.decides.step honest) (ap line_told c.in-Added.is) (ap rows_told c.in-Added.is) c.in_ok-next-in-Added.ensures
 
 pub returns-in_ok-next-in-Added-clause-leaves : goal.returns-in_ok-next-in-Added-clause-leaves
 returns-in_ok-next-in-Added-clause-leaves g c = λ before.
-    leaves_more c.args.pending c.in-Added.rows.items _ _ (ap rows_told c.in-Added.is) c.in_ok-next-in-Added.ensures before c.in_ok-rows.ensures.leaves
+    leaves_more c.args.pending c.in-Added.rows.items _ _ (ap rows_told c.in-Added.is) c.in_ok-next-in-Added.ensures before c.in_ok-rows.ensures.decides.leaves
 
 pub returns-in_ok-next-in-Added-clause-writes : goal.returns-in_ok-next-in-Added-clause-writes
 returns-in_ok-next-in-Added-clause-writes g c = λ table.
-    few_more table c.args.pending c.in-Added.rows.items _ _ _ (ap rows_told c.in-Added.is) c.in_ok-next-in-Added.ensures (c.in_ok-rows.ensures.writes table)
+    few_more table c.args.pending c.in-Added.rows.items _ _ _ (ap rows_told c.in-Added.is) c.in_ok-next-in-Added.ensures (c.in_ok-rows.ensures.decides.writes table)
 
 pub returns-then-not-branch-clause-whole : goal.returns-then-not-branch-clause-whole
 returns-then-not-branch-clause-whole g c = λ honest.
@@ -50,7 +50,7 @@ returns-in_ok-next-in-Added-clause-whole g c = λ honest.
     added_whole (g.S.Shelf.content c.args.shelf.now) (g.S.Shelf.content c.is_known.new.shelf) c.args.pending c.in-Added.rows.items _ _ c.args.command.now
     (c.is_known.ensures.kept.same_content first) (ap rows_told c.in-Added.is) c.in_ok-next-in-Added.ensures
     (subst (λ about. ¬ HasDamagedAbout (g.S.Shelf.content c.args.shelf.now) about) c.cabinet_of.ensures (c.in_ok-is_known.ensures.whole first))
-    (c.in_ok-rows.ensures.whole honest) (c.in_ok-rows.ensures.spares honest)
+    (c.in_ok-rows.ensures.decides.whole honest) (c.in_ok-rows.ensures.decides.spares honest)
 
 pub returns-in-Same-clause-whole : goal.returns-in-Same-clause-whole
 returns-in-Same-clause-whole g c = λ honest.
@@ -58,7 +58,7 @@ returns-in-Same-clause-whole g c = λ honest.
     same_whole (g.S.Shelf.content c.args.shelf.now) (g.S.Shelf.content c.is_known.new.shelf) c.args.pending c.args.command.now
     (c.is_known.ensures.kept.same_content first)
     (subst (λ about. ¬ HasDamagedAbout (g.S.Shelf.content c.args.shelf.now) about) c.cabinet_of.ensures (c.in_ok-is_known.ensures.whole first))
-    (c.in_ok-rows.ensures.whole honest)
+    (c.in_ok-rows.ensures.decides.whole honest)
 
 pub returns-in-Refused-clause-whole : goal.returns-in-Refused-clause-whole
 returns-in-Refused-clause-whole g c = λ honest.
@@ -66,12 +66,12 @@ returns-in-Refused-clause-whole g c = λ honest.
     same_whole (g.S.Shelf.content c.args.shelf.now) (g.S.Shelf.content c.is_known.new.shelf) c.args.pending c.args.command.now
     (c.is_known.ensures.kept.same_content first)
     (subst (λ about. ¬ HasDamagedAbout (g.S.Shelf.content c.args.shelf.now) about) c.cabinet_of.ensures (c.in_ok-is_known.ensures.whole first))
-    (c.in_ok-rows.ensures.whole honest)
+    (c.in_ok-rows.ensures.decides.whole honest)
 
 pub returns-in-Refused-clause-named : goal.returns-in-Refused-clause-named
 returns-in-Refused-clause-named g c =
     refused_named c.args.command.now c.in-Refused.refusal _ c.refused.ensures
-    (subst (λ (line : Line). IsNamed c.args.command.now line) (ap line_told c.in-Refused.is) c.in_ok-rows.ensures.named)
+    (subst (λ (line : Line). IsNamed c.args.command.now line) (ap line_told c.in-Refused.is) c.in_ok-rows.ensures.decides.named)
 
 -- ---- on a clean disk
 
@@ -102,7 +102,7 @@ returns-in_ok-next-in-Added-clause-line g c = λ honest.
     line_added (g.S.Shelf.content c.args.shelf.now) (g.S.Shelf.content c.is_known.new.shelf) c.args.pending c.in-Added.rows.items _ _ c.args.command.now
     (c.is_known.ensures.kept.same_content first)
     (tells_about (g.S.Shelf.content c.args.shelf.now) _ _ _ _ c.cabinet_of.ensures there (c.in_ok-is_known.ensures.tells first))
-    (ap line_told c.in-Added.is) (ap rows_told c.in-Added.is) (c.in_ok-rows.ensures.line honest) c.in_ok-next-in-Added.ensures
+    (ap line_told c.in-Added.is) (ap rows_told c.in-Added.is) (c.in_ok-rows.ensures.decides.line honest) c.in_ok-next-in-Added.ensures
 
 pub returns-in-Same-clause-line : goal.returns-in-Same-clause-line
 returns-in-Same-clause-line g c = λ honest.
@@ -112,7 +112,7 @@ returns-in-Same-clause-line g c = λ honest.
     line_same (g.S.Shelf.content c.args.shelf.now) (g.S.Shelf.content c.is_known.new.shelf) c.args.pending _ c.args.command.now
     (c.is_known.ensures.kept.same_content first)
     (tells_about (g.S.Shelf.content c.args.shelf.now) _ _ _ _ c.cabinet_of.ensures there (c.in_ok-is_known.ensures.tells first))
-    c.in-Same.is (c.in_ok-rows.ensures.line honest)
+    c.in-Same.is (c.in_ok-rows.ensures.decides.line honest)
 
 pub returns-in-Refused-clause-line : goal.returns-in-Refused-clause-line
 returns-in-Refused-clause-line g c = λ honest.
@@ -122,7 +122,7 @@ returns-in-Refused-clause-line g c = λ honest.
     line_refused (g.S.Shelf.content c.args.shelf.now) (g.S.Shelf.content c.is_known.new.shelf) c.args.pending _ c.args.command.now c.in-Refused.refusal _
     (c.is_known.ensures.kept.same_content first)
     (tells_about (g.S.Shelf.content c.args.shelf.now) _ _ _ _ c.cabinet_of.ensures there (c.in_ok-is_known.ensures.tells first))
-    c.in-Refused.is c.refused.ensures (c.in_ok-rows.ensures.line honest)
+    c.in-Refused.is c.refused.ensures (c.in_ok-rows.ensures.decides.line honest)
 
 pub returns-in_err-is_known-clause-open : goal.returns-in_err-is_known-clause-open
 returns-in_err-is_known-clause-open g c =

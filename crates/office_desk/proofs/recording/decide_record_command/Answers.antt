@@ -35,14 +35,14 @@ returns-clause-decides g c =
     let same = c.is_known.ensures.kept.same_content first in
     record_answers (g.S.Shelf.content c.args.shelf.now) office c.args.command.now done _ _ stands
     (about_known _ _ _ _ _ c.cabinet_of.ensures there (c.in_ok-is_known.ensures.known first))
-    (subst (λ t. (r : Register) → RegisterStandsSound t r → RegistersFrom t c.args.command.now done r) (ap (changed_by (g.S.Shelf.content c.is_known.new.shelf)) c.new-pending.ensures ∙ same) (c.in_ok-told.ensures.step honest))
-    (c.in_ok-told.ensures.leaves (g.S.Shelf.content c.args.shelf.now))
-    c.answer.ensures.reply c.answer.ensures.changes) c.in_ok-told.ensures.writes c.in_ok-told.ensures.named
+    (subst (λ t. (r : Register) → RegisterStandsSound t r → RegistersFrom t c.args.command.now done r) (ap (changed_by (g.S.Shelf.content c.is_known.new.shelf)) c.new-pending.ensures ∙ same) (c.in_ok-told.ensures.decides.step honest))
+    (c.in_ok-told.ensures.decides.leaves (g.S.Shelf.content c.args.shelf.now))
+    c.answer.ensures.reply c.answer.ensures.changes) c.in_ok-told.ensures.decides.writes c.in_ok-told.ensures.decides.named
     (λ honest.
     let first = c.decide_record.ensures.kept.honest_before honest in
     record_whole (g.S.Shelf.content c.args.shelf.now) c.args.command.now (cabinet_of c.args.command.now)
     (subst (λ about. ¬ HasDamagedAbout (g.S.Shelf.content c.args.shelf.now) about) c.cabinet_of.ensures (c.in_ok-is_known.ensures.whole first))
-    (subst (λ t. ¬ MeetsRecordDamage t c.args.command.now) (ap (changed_by (g.S.Shelf.content c.is_known.new.shelf)) c.new-pending.ensures ∙ c.is_known.ensures.kept.same_content first) (c.in_ok-told.ensures.whole honest)))
+    (subst (λ t. ¬ MeetsRecordDamage t c.args.command.now) (ap (changed_by (g.S.Shelf.content c.is_known.new.shelf)) c.new-pending.ensures ∙ c.is_known.ensures.kept.same_content first) (c.in_ok-told.ensures.decides.whole honest)))
     c.answer.ensures.reply c.answer.ensures.changes
 
 pub returns-in_err-told-clause-decides : goal.returns-in_err-told-clause-decides
@@ -54,7 +54,7 @@ returns-in_err-told-clause-decides g c =
     let first = c.decide_record.ensures.kept.honest_before honest in
     let same = c.is_known.ensures.kept.same_content first in
     meets_record (g.S.Shelf.content c.args.shelf.now) asked (cabinet_of asked) (tells_about (g.S.Shelf.content c.args.shelf.now) _ _ _ _ c.cabinet_of.ensures there (c.in_ok-is_known.ensures.tells first)) (subst (λ t. MeetsRecordDamage t asked) same
-    (subst (Registers (g.S.Shelf.content c.is_known.new.shelf) c.new-pending.result asked) (c.in_err-told.was ∙ ap (λ (f : ShelfFault). Err f) damaged) (c.decide_record.ensures.step honest))))
+    (subst (Registers (g.S.Shelf.content c.is_known.new.shelf) c.new-pending.result asked) (c.in_err-told.was ∙ ap (λ (f : ShelfFault). Err f) damaged) (c.decide_record.ensures.decides.step honest))))
 
 pub returns-in_err-is_known-clause-open : goal.returns-in_err-is_known-clause-open
 returns-in_err-is_known-clause-open g c = record {

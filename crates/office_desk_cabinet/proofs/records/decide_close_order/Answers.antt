@@ -1,35 +1,9 @@
-use Rattle.std.proofs.Common.{refl}
-use Rattle.office_desk_cabinet.specs.Lines.{TellsLine}
 use Rattle.cabinet_core.specs.declared.command.RecordCommand.TheVariants.{CloseOrder}
-use Rattle.office_tables_shelf.specs.Change.{changed_by}
-use Rattle.office_desk_cabinet.proofs.KeptDamage.{close_kept, told_kept}
-use Rattle.office_desk_cabinet.proofs.Found.{order_stands}
-use Rattle.office_desk_cabinet.proofs.Told.{answer_named, close_named, registers, told_line}
-use Rattle.office_desk_cabinet.proofs.WholeRecords.{whatever}
+use Rattle.office_desk_cabinet.proofs.Decided.{decided}
 use Rattle.office_desk_cabinet.proofs.records.decide_close_order.Goals as goal
 
-pub returns-clause-step : goal.returns-clause-step
-returns-clause-step g c = λ honest.
-    let stored = g.S.Shelf.content c.args.shelf.now in
-    let pending = c.args.pending.now in
-    let command = CloseOrder c.args.id c.args.order c.args.closing.now in
-    registers stored pending command c.args.id c.close_order-decision.result c.registered.result c.registered.ensures.tells c.registered.ensures.fault
-    (λ r stands. c.close_order-decision.ensures.makes r c.args.id c.args.order stands.sound
-    (order_stands (changed_by stored pending) r stands c.args.id c.args.order c.in_ok-there.there (c.in_ok-there.ensures.row honest)))
-
-pub returns-clause-named : goal.returns-clause-named
-returns-clause-named g c = answer_named (CloseOrder c.args.id c.args.order c.args.closing.now) _ _ _ _ _ c.close_order-decision.ensures.line c.registered.ensures.tells (close_named c.args.id c.args.order c.in_ok-there.there c.args.closing.now)
-
-pub returns-clause-whole : goal.returns-clause-whole
-returns-clause-whole g c = whatever c.registered.result c.in_ok-there.ensures.whole
-
-pub returns-clause-spares : goal.returns-clause-spares
-returns-clause-spares g c =
-    told_kept (changed_by (g.S.Shelf.content c.args.shelf.now) c.args.pending.now) c.args.id _ _ c.close_order-decision.result c.registered.result _ c.close_order-decision.ensures.line c.registered.ensures.tells
-    (λ honest. close_kept _ c.args.id c.args.order c.args.closing.now c.in_ok-there.there (c.in_ok-there.ensures.row honest) (c.in_ok-there.ensures.whole honest))
-
-pub returns-clause-line : goal.returns-clause-line
-returns-clause-line g c =
-    let tables = changed_by (g.S.Shelf.content c.args.shelf.now) c.args.pending.now in
-    told_line c.args.id _ _ c.close_order-decision.result c.registered.result (λ line rows. g.S.Shelf.is_honest c.order_at.new.shelf → TellsLine tables (CloseOrder c.args.id c.args.order c.args.closing.now) line rows) c.close_order-decision.ensures.line c.registered.ensures.tells
-    (λ honest. (c.in_ok-there.there, c.in_ok-there.ensures.row honest, refl, refl))
+pub returns-clause-decides : goal.returns-clause-decides
+returns-clause-decides g c =
+    decided 0 _ _ _ (CloseOrder c.args.id c.args.order c.args.closing.now) c.in_ok-there.there c.close_order-decision.result c.registered.result
+    (λ honest. record { reads = c.in_ok-there.ensures.row honest; whole = c.in_ok-there.ensures.whole honest })
+    c.close_order-decision.ensures.line (c.close_order-decision.ensures.makes c.args.id c.args.order) c.registered.ensures.tells c.registered.ensures.fault

@@ -2,7 +2,7 @@ use Rattle.std.proofs.Common.{◌≡◌, ◌∙◌, ◌++◌, [], ◌∷◌, Lis
 use Rattle.std.specs.FinMap.{entries}
 use Rattle.std.specs.List.{AllByRecursion}
 use Rattle.cabinet_core.specs.Overdue.{listed, overdue_list}
-use Rattle.cabinet_core.specs.declared.inspections.OverdueRow.{OverdueRow}
+use Rattle.cabinet_core.specs.declared.overdue_inspections.OverdueRow.{OverdueRow}
 use Rattle.office_tables_shelf.specs.Content.{Content}
 use Rattle.office_tables_shelf.specs.MapCabinet.{inspection_rows, AreInspectionsPlaced}
 use Rattle.office_tables_shelf.specs.Overdue.{ReadsLast, seen_row}

@@ -2,7 +2,7 @@ use Rattle.std.proofs.Common.{◌≡◌, ◌++◌, [], ◌∷◌, Err, inr, List
 use Rattle.std.proofs.lemmas.Result.{err_from_is_err_and}
 use Rattle.std.specs.List.{AllByRecursion}
 use Rattle.cabinet_core.specs.Overdue.{listed, overdue_list}
-use Rattle.cabinet_core.specs.declared.inspections.OverdueRow.{OverdueRow}
+use Rattle.cabinet_core.specs.declared.overdue_inspections.OverdueRow.{OverdueRow}
 use Rattle.office_tables_shelf.specs.CabinetReads.{HasDamagedInspection}
 use Rattle.office_tables_shelf.specs.Overdue.{ReadsLast, seen_row}
 use Rattle.office_tables_shelf.specs.Shelf.{IsIntersectionWithin, ListsIntersections}

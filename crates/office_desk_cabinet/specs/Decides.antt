@@ -1,0 +1,29 @@
+-- What is promised of a decision on a command of the register, on what the shelf holds once the pending rows are written.
+use Rattle.std.specs.Prelude.{◌≤◌, List, Result, IfOk}
+use Rattle.cabinet_core.specs.declared.command.RecordCommand.{RecordCommand}
+use Rattle.office_tables_shelf.specs.Change.{changed_by}
+use Rattle.office_tables_shelf.specs.Content.{Content}
+use Rattle.office_tables_shelf.specs.Counts.{writes_in}
+use Rattle.office_tables_shelf.specs.declared.rows.RowChange.{RowChange}
+use Rattle.office_tables_shelf.specs.declared.rows.Table.{Table}
+use Rattle.office_tables_shelf.specs.declared.shelf.ShelfFault.{ShelfFault}
+use Rattle.office_desk_cabinet.specs.Lines.{TellsLine}
+use Rattle.office_desk_cabinet.specs.RegisterDamage.{IsWhole, SparesDamage}
+use Rattle.office_desk_cabinet.specs.Registers.{IsNamed, LeavesTiming, Registers, line_told, most_record_writes, rows_told}
+use Rattle.office_desk_cabinet.specs.declared.registered.Registered.{Registered}
+
+pub record DecidesRecord (honest : Type 0) (stored : Content) (pending : List RowChange)
+    (command : RecordCommand) (result : Result Registered ShelfFault) : Type 0 where
+  -- it is the step of the register that the tables stand for
+  pub step : honest → Registers stored pending command result
+  -- it is answered only where each row that it reads is a record, and overwrites none that is not
+  pub whole : IfOk result (λ _. honest → IsWhole stored pending command)
+  pub spares : IfOk result (λ told. honest → SparesDamage stored pending (rows_told told))
+  -- it writes rows of the register alone, and no more than the command may
+  pub leaves : IfOk result (λ told. (tables : Content) → LeavesTiming tables (rows_told told))
+  pub writes : IfOk result (λ told. (table : Table)
+      → writes_in table (rows_told told) ≤ most_record_writes command table)
+  -- it refuses as the table has it for the command, on the rows under its keys
+  pub named : IfOk result (λ told. IsNamed command (line_told told))
+  pub line : IfOk result (λ told. honest
+      → TellsLine (changed_by stored pending) command (line_told told) (rows_told told))
