@@ -45,7 +45,8 @@ split_at set n p = the_split (get set (key.Split n p))
 abbrev pub pattern_at : Rows → ℕ → Option Pattern
 pattern_at set n = the_pattern (get set (key.Pattern n))
 
--- the last sequence, split and pattern of an intersection, as `SeqNo`, `SplitNo` and `PatternNo` have them
+-- the last sequence, split and pattern of an intersection: the ends of `SeqNo`, `SplitNo` and
+-- `PatternNo`
 abbrev pub last_sequence : ℕ
 last_sequence = 20
 
@@ -55,7 +56,8 @@ last_split = 20
 abbrev pub last_pattern : ℕ
 last_pattern = 48
 
--- the numbers that a controller can have, each kind from 1 to its last; the limits of phases and rings stand here alone
+-- the numbers that a controller can have, each kind from 1 to its last; the limits of phases and
+-- rings stand here alone
 abbrev pub phase_numbers : List ℕ
 phase_numbers = numbers PHASES 1
 

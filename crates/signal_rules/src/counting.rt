@@ -37,7 +37,8 @@ pub trait Judge {
         ensures call { RisesAtMost 1 (calls self.old) (calls self.new) }
         ensures counted { OnOk result
             (calls self.old < greatest → calls self.new ≡ calls self.old + 1) }
-        ensures compared { RisesAtMost (most_seconds set.now subject) (seconds self.old) (seconds self.new) };
+        ensures compared { RisesAtMost (most_seconds set.now subject)
+            (seconds self.old) (seconds self.new) };
 
     ghost calls_within: { (judge : Self) → calls judge ≤ greatest };
 
@@ -101,7 +102,8 @@ impl Judge for Tally {
         ensures answer { IfOk result (λ found. found.items ≡ violations_at set.now subject) }
         ensures call { RisesAtMost 1 self.old.calls self.new.calls }
         ensures counted { self.old.calls < greatest → self.new.calls ≡ self.old.calls + 1 }
-        ensures compared { RisesAtMost (most_seconds set.now subject) self.old.seconds self.new.seconds }
+        ensures compared { RisesAtMost (most_seconds set.now subject)
+            self.old.seconds self.new.seconds }
     {
         let Tally { calls, seconds } = self;
         *calls = calls.saturating_add(1);
@@ -126,12 +128,15 @@ pub fn violations_touched<J: Judge>(
     keys: &[Key],
     judge: &mut J,
 ) -> Result<Vec<Violation>, NoMemory>
-    ensures answers { IfOk result (λ found. found.items ≡ flat_map (J.answers draft.now) (touched_subjects draft.now keys.now)) }
+    ensures answers { IfOk result (λ found. found.items ≡
+        flat_map (J.answers draft.now) (touched_subjects draft.now keys.now)) }
     ensures whole { violations_of base.now ≡ [] → DiffersAtMost base.now draft.now keys.now →
         IsRightOnTouched J.answers draft.now keys.now →
         IfOk result (λ found. found.items ≡ violations_of draft.now) }
-    ensures calls { RisesAtMost (length (touched_subjects draft.now keys.now)) (J.calls judge.old) (J.calls judge.new) }
-    ensures seconds { RisesAtMost (most_seconds_of draft.now (touched_subjects draft.now keys.now)) (J.seconds judge.old) (J.seconds judge.new) }
+    ensures calls { RisesAtMost (length (touched_subjects draft.now keys.now))
+        (J.calls judge.old) (J.calls judge.new) }
+    ensures seconds { RisesAtMost (most_seconds_of draft.now (touched_subjects draft.now keys.now))
+        (J.seconds judge.old) (J.seconds judge.new) }
 {
     let mut found = Vec::new(alloc);
     for subject in &touched(alloc, draft, keys)? {

@@ -11,7 +11,10 @@ use Rattle.signal_records.specs.declared.record.Split.{Split}
 use Rattle.signal_records.specs.Numbers.{numbers}
 use Rattle.signal_records.specs.TimingSet.{Rows}
 use Rattle.signal_rules.specs.CutPoints.{timed}
-use Rattle.signal_rules.specs.Lookup.{phase_at, sequence_at, split_at, phases, last_sequence, last_split, last_pattern, phase_numbers, ring_numbers, sequence_numbers, split_numbers, pattern_numbers, has_sequence, is_in, lists, the_mates}
+use Rattle.signal_rules.specs.Lookup.{phase_at, sequence_at, split_at, phases, has_sequence}
+use Rattle.signal_rules.specs.Lookup.{is_in, lists, the_mates, phase_numbers, ring_numbers}
+use Rattle.signal_rules.specs.Lookup.{last_sequence, last_split, last_pattern}
+use Rattle.signal_rules.specs.Lookup.{sequence_numbers, split_numbers, pattern_numbers}
 use Rattle.signal_rules.specs.PatternRules.{has_splits, has_rows, time_of, lane, is_used, used_rings, lanes, lanes_fill_cycle, list_each_other, all_list_each_other, phases_at, lanes_agree}
 use Rattle.signal_rules.specs.SequenceRule.{in_ring, ring_phases, or_empty, ring_row, has_each_once, has_no_other, row_is_right}
 use Rattle.signal_rules.specs.SplitRule.{time_is_right}
@@ -86,7 +89,8 @@ module _ (set : Rows) (clean : IsClean set) (n : ℕ) (pattern : Pattern) (has :
   row_right : (ring : ℕ) → IsInRange 1 RINGS ring → row_is_right set pattern.seq ring ≡ true
   row_right ring range =
       all_at (row_is_right set pattern.seq) ring_numbers ring
-      (sequence_rule set clean pattern.seq (sequence_number pattern.seq has.0.seq) rows.0) (ring_number ring range)
+      (sequence_rule set clean pattern.seq (sequence_number pattern.seq has.0.seq) rows.0)
+      (ring_number ring range)
 
   -- a phase of a ring's row is of the ring
   pub owned : (ring p : ℕ) (before after : List ℕ) → IsInRange 1 RINGS ring → order set pattern ring ≡ before ++ p ∷ after → in_ring ring (phase_at set p) ≡ true
@@ -139,5 +143,7 @@ module _ (set : Rows) (clean : IsClean set) (n : ℕ) (pattern : Pattern) (has :
       let among : is_in p phase_numbers ≡ true = phase_number p of_p.0.number in
       let row : is_some (split_at set pattern.split p) ≡ true = all_at (λ q. is_some (split_at set pattern.split q)) (phases set) p rows.1 (in_filter (λ q. is_some (phase_at set q)) phase_numbers p (ap is_some of_p.1) among) in
       let split : (s : Split) × (split_at set pattern.split p ≡ Some s) = some_value (split_at set pattern.split p) row in
-      let number : is_in pattern.split split_numbers ≡ true = split_number pattern.split has.0.split in
-      (split.0, split.1, split_rule set clean pattern.split p split.0 phase number among split.1 of_p.1)
+      let known : is_in pattern.split split_numbers ≡ true =
+      split_number pattern.split has.0.split in
+      let rule = split_rule set clean pattern.split p split.0 phase known among split.1 of_p.1 in
+      (split.0, split.1, rule)
