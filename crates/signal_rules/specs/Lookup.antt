@@ -45,7 +45,19 @@ split_at set n p = the_split (get set (key.Split n p))
 abbrev pub pattern_at : Rows → ℕ → Option Pattern
 pattern_at set n = the_pattern (get set (key.Pattern n))
 
--- the numbers that a controller can have; the limits of phases and rings stand here alone
+-- the last sequence, split and pattern of an intersection: the ends of `SeqNo`, `SplitNo` and
+-- `PatternNo`
+abbrev pub last_sequence : ℕ
+last_sequence = 20
+
+abbrev pub last_split : ℕ
+last_split = 20
+
+abbrev pub last_pattern : ℕ
+last_pattern = 48
+
+-- the numbers that a controller can have, each kind from 1 to its last; the limits of phases and
+-- rings stand here alone
 abbrev pub phase_numbers : List ℕ
 phase_numbers = numbers PHASES 1
 
@@ -53,13 +65,13 @@ abbrev pub ring_numbers : List ℕ
 ring_numbers = numbers RINGS 1
 
 abbrev pub sequence_numbers : List ℕ
-sequence_numbers = numbers 20 1
+sequence_numbers = numbers last_sequence 1
 
 abbrev pub split_numbers : List ℕ
-split_numbers = numbers 20 1
+split_numbers = numbers last_split 1
 
 abbrev pub pattern_numbers : List ℕ
-pattern_numbers = numbers 48 1
+pattern_numbers = numbers last_pattern 1
 
 abbrev pub is_in : ℕ → List ℕ → Bool
 is_in n ns = list_any (λ m. m == n) ns

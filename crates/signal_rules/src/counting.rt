@@ -1,12 +1,12 @@
 //! Judges of subjects, which count what they do, and the violations that a change can have made.
 
-ghost use Rattle.std.specs.Prelude.{◌≡◌, ℕ, ◌+◌, ◌<◌, List, [], length, IfOk};
+ghost use Rattle.std.specs.Prelude.{◌≡◌, ℕ, ◌+◌, ◌<◌, ◌≤◌, List, [], length, IfOk, OnOk};
 ghost use Rattle.std.specs.List.{flat_map};
 ghost use Rattle.signal_records.specs.TimingSet.{Rows};
 ghost use Rattle.signal_rules.specs.declared.violation.Subject.{Subject as SubjectOf};
 ghost use Rattle.signal_rules.specs.declared.violation.Violation.{Violation as ViolationOf};
 ghost use Rattle.signal_rules.specs.Counts.{greatest, RisesAtMost, most_seconds, most_seconds_of};
-ghost use Rattle.signal_rules.specs.Touched.{touched_subjects};
+ghost use Rattle.signal_rules.specs.Touched.{touched_subjects, IsRightOnTouched};
 ghost use Rattle.signal_rules.specs.Violations.{violations_at, violations_of};
 ghost use Rattle.signal_rules.specs.Difference.{DiffersAtMost};
 
@@ -16,8 +16,8 @@ use crate::violation::{Subject, Violation};
 use signal_records::{Key, NoMemory, TimingSet};
 use std::alloc::Global;
 
-/// Answers for a subject of a set, and keeps two counts, which stay at `u64::MAX` once there: its
-/// calls, and the seconds at which it compared phases.
+/// Answers for a subject of a set, and keeps two counts, which never pass `u64::MAX` and stay there
+/// once there: its calls, and the seconds at which it compared phases.
 pub trait Judge {
     /// The answer for a subject of a set.
     ghost answers: { Rows → SubjectOf → List ViolationOf };
@@ -26,7 +26,7 @@ pub trait Judge {
 
     ghost seconds: { Self → ℕ };
 
-    /// The counts rise after a refusal too, within the same bounds.
+    /// An answer is one call more. A refusal may leave the counts raised, within the same bounds.
     fn judge(
         &mut self,
         alloc: Global,
@@ -35,8 +35,14 @@ pub trait Judge {
     ) -> Result<Vec<Violation>, NoMemory>
         ensures answer { IfOk result (λ found. found.items ≡ answers set.now subject) }
         ensures call { RisesAtMost 1 (calls self.old) (calls self.new) }
-        ensures counted { calls self.old < greatest → calls self.new ≡ calls self.old + 1 }
-        ensures compared { RisesAtMost (most_seconds set.now subject) (seconds self.old) (seconds self.new) };
+        ensures counted { OnOk result
+            (calls self.old < greatest → calls self.new ≡ calls self.old + 1) }
+        ensures compared { RisesAtMost (most_seconds set.now subject)
+            (seconds self.old) (seconds self.new) };
+
+    ghost calls_within: { (judge : Self) → calls judge ≤ greatest };
+
+    ghost seconds_within: { (judge : Self) → seconds judge ≤ greatest };
 }
 
 /// A judge that answers the subject's part of the violations.
@@ -44,6 +50,8 @@ pub trait Judge {
 pub struct Tally {
     calls: u64,
     seconds: u64,
+    // The ranges of the two types, as the laws of a judge ask for them.
+    ghost within: { (calls ≤ greatest) × (seconds ≤ greatest) },
 }
 
 impl Tally {
@@ -80,25 +88,39 @@ impl Judge for Tally {
 
     ghost seconds = { λ tally. tally.seconds };
 
+    ghost calls_within = { λ tally. tally.within.0 };
+
+    ghost seconds_within = { λ tally. tally.within.1 };
+
+    /// The call is counted first, so that one that is refused is counted too.
     fn judge(
         &mut self,
         alloc: Global,
         set: &TimingSet,
         subject: Subject,
-    ) -> Result<Vec<Violation>, NoMemory> {
+    ) -> Result<Vec<Violation>, NoMemory>
+        ensures answer { IfOk result (λ found. found.items ≡ violations_at set.now subject) }
+        ensures call { RisesAtMost 1 self.old.calls self.new.calls }
+        ensures counted { self.old.calls < greatest → self.new.calls ≡ self.old.calls + 1 }
+        ensures compared { RisesAtMost (most_seconds set.now subject)
+            self.old.seconds self.new.seconds }
+    {
         let Tally { calls, seconds } = self;
         *calls = calls.saturating_add(1);
         let mut found = Vec::new(alloc);
-        judging::judge(alloc, set, subject, seconds, &mut found)?;
+        let judged = judging::judge(alloc, set, subject, seconds, &mut found);
+        // It is read, so that its range is known.
+        let _seconds = *seconds;
+        judged?;
         Ok(found)
     }
 }
 
 /// The judge's answers on the subjects of the draft that a key reaches, in their order. They are the
 /// violations of the draft, where the base has none, the sets differ at most at the keys, and the
-/// judge answers as a tally does.
+/// judge answers these subjects as a tally does.
 ///
-/// The counts rise within their bounds after a refusal too.
+/// A refusal may leave the counts raised, within the same bounds.
 pub fn violations_touched<J: Judge>(
     alloc: Global,
     base: &TimingSet,
@@ -106,10 +128,15 @@ pub fn violations_touched<J: Judge>(
     keys: &[Key],
     judge: &mut J,
 ) -> Result<Vec<Violation>, NoMemory>
-    ensures answers { IfOk result (λ found. found.items ≡ flat_map (J.answers draft.now) (touched_subjects draft.now keys.now)) }
-    ensures whole { violations_of base.now ≡ [] → DiffersAtMost base.now draft.now keys.now → ((s : SubjectOf) → J.answers draft.now s ≡ violations_at draft.now s) → IfOk result (λ found. found.items ≡ violations_of draft.now) }
-    ensures calls { RisesAtMost (length (touched_subjects draft.now keys.now)) (J.calls judge.old) (J.calls judge.new) }
-    ensures seconds { RisesAtMost (most_seconds_of draft.now (touched_subjects draft.now keys.now)) (J.seconds judge.old) (J.seconds judge.new) }
+    ensures answers { IfOk result (λ found. found.items ≡
+        flat_map (J.answers draft.now) (touched_subjects draft.now keys.now)) }
+    ensures whole { violations_of base.now ≡ [] → DiffersAtMost base.now draft.now keys.now →
+        IsRightOnTouched J.answers draft.now keys.now →
+        IfOk result (λ found. found.items ≡ violations_of draft.now) }
+    ensures calls { RisesAtMost (length (touched_subjects draft.now keys.now))
+        (J.calls judge.old) (J.calls judge.new) }
+    ensures seconds { RisesAtMost (most_seconds_of draft.now (touched_subjects draft.now keys.now))
+        (J.seconds judge.old) (J.seconds judge.new) }
 {
     let mut found = Vec::new(alloc);
     for subject in &touched(alloc, draft, keys)? {

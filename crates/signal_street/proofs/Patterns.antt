@@ -8,9 +8,13 @@ use Rattle.signal_records.specs.declared.number.TheConstants.{PHASES, RINGS}
 use Rattle.signal_records.specs.declared.record.Pattern.{Pattern}
 use Rattle.signal_records.specs.declared.record.Phase.{Phase}
 use Rattle.signal_records.specs.declared.record.Split.{Split}
+use Rattle.signal_records.specs.Numbers.{numbers}
 use Rattle.signal_records.specs.TimingSet.{Rows}
 use Rattle.signal_rules.specs.CutPoints.{timed}
-use Rattle.signal_rules.specs.Lookup.{phase_at, sequence_at, split_at, phases, phase_numbers, ring_numbers, has_sequence, is_in, lists, the_mates}
+use Rattle.signal_rules.specs.Lookup.{phase_at, sequence_at, split_at, phases, has_sequence}
+use Rattle.signal_rules.specs.Lookup.{is_in, lists, the_mates, phase_numbers, ring_numbers}
+use Rattle.signal_rules.specs.Lookup.{last_sequence, last_split, last_pattern}
+use Rattle.signal_rules.specs.Lookup.{sequence_numbers, split_numbers, pattern_numbers}
 use Rattle.signal_rules.specs.PatternRules.{has_splits, has_rows, time_of, lane, is_used, used_rings, lanes, lanes_fill_cycle, list_each_other, all_list_each_other, phases_at, lanes_agree}
 use Rattle.signal_rules.specs.SequenceRule.{in_ring, ring_phases, or_empty, ring_row, has_each_once, has_no_other, row_is_right}
 use Rattle.signal_rules.specs.SplitRule.{time_is_right}
@@ -23,15 +27,25 @@ use Rattle.signal_street.proofs.Places.{places, length_is, times_within, lane_at
 use Rattle.signal_street.proofs.Clean.{IsClean, sequence_rule, split_rule, pattern_rules}
 
 -- numbers in their ranges are among those of the rules
+in_range : (last n : ℕ) → IsInRange 1 last n → is_in n (numbers last 1) ≡ true
+in_range last n range = in_numbers last 1 n range.0 (below n last range.1) where
+  below : (k last : ℕ) → k ≤ last → k < 1 + last
+  below k last le = omega arith
+
 pub phase_number : (p : ℕ) → IsInRange 1 PHASES p → is_in p phase_numbers ≡ true
-phase_number p range = in_numbers PHASES 1 p range.0 (below _ _ range.1) where
-  below : (p n : ℕ) → p ≤ n → p < 1 + n
-  below p n le = omega arith
+phase_number = in_range PHASES
 
 pub ring_number : (ring : ℕ) → IsInRange 1 RINGS ring → is_in ring ring_numbers ≡ true
-ring_number ring range = in_numbers RINGS 1 ring range.0 (below _ _ range.1) where
-  below : (p n : ℕ) → p ≤ n → p < 1 + n
-  below p n le = omega arith
+ring_number = in_range RINGS
+
+sequence_number : (n : ℕ) → IsInRange 1 last_sequence n → is_in n sequence_numbers ≡ true
+sequence_number = in_range last_sequence
+
+split_number : (n : ℕ) → IsInRange 1 last_split n → is_in n split_numbers ≡ true
+split_number = in_range last_split
+
+pattern_number : (n : ℕ) → IsInRange 1 last_pattern n → is_in n pattern_numbers ≡ true
+pattern_number = in_range last_pattern
 
 -- the rows and times here are those of the rules
 same_row : (o : Option (List ℕ)) → phases_or_none o ≡ or_empty o
@@ -67,17 +81,16 @@ listed set p q h = by_phase (phase_at set p) refl h where
 -- a set and a pattern of it, whose rules are kept
 module _ (set : Rows) (clean : IsClean set) (n : ℕ) (pattern : Pattern) (has : HasPattern set n pattern) where
   rules : (has_rows set pattern ≡ true) × (lanes_fill_cycle set pattern ≡ true) × (lanes_agree set pattern ≡ true)
-  rules = pattern_rules set clean n pattern (in_numbers 48 1 n has.0.number.0 (below _ has.0.number.1)) has.1 where
-    below : (k : ℕ) → k ≤ 48 → k < 1 + 48
-    below k le = omega arith
+  rules = pattern_rules set clean n pattern (pattern_number n has.0.number) has.1
 
   rows : (has_sequence set pattern.seq ≡ true) × (has_splits set pattern.split ≡ true)
   rows = and_parts (has_sequence set pattern.seq) (has_splits set pattern.split) rules.0
 
   row_right : (ring : ℕ) → IsInRange 1 RINGS ring → row_is_right set pattern.seq ring ≡ true
-  row_right ring range = all_at (row_is_right set pattern.seq) ring_numbers ring (sequence_rule set clean pattern.seq (in_numbers 20 1 pattern.seq has.0.seq.0 (below _ has.0.seq.1)) rows.0) (ring_number ring range) where
-    below : (k : ℕ) → k ≤ 20 → k < 1 + 20
-    below k le = omega arith
+  row_right ring range =
+      all_at (row_is_right set pattern.seq) ring_numbers ring
+      (sequence_rule set clean pattern.seq (sequence_number pattern.seq has.0.seq) rows.0)
+      (ring_number ring range)
 
   -- a phase of a ring's row is of the ring
   pub owned : (ring p : ℕ) (before after : List ℕ) → IsInRange 1 RINGS ring → order set pattern ring ≡ before ++ p ∷ after → in_ring ring (phase_at set p) ≡ true
@@ -130,6 +143,7 @@ module _ (set : Rows) (clean : IsClean set) (n : ℕ) (pattern : Pattern) (has :
       let among : is_in p phase_numbers ≡ true = phase_number p of_p.0.number in
       let row : is_some (split_at set pattern.split p) ≡ true = all_at (λ q. is_some (split_at set pattern.split q)) (phases set) p rows.1 (in_filter (λ q. is_some (phase_at set q)) phase_numbers p (ap is_some of_p.1) among) in
       let split : (s : Split) × (split_at set pattern.split p ≡ Some s) = some_value (split_at set pattern.split p) row in
-      (split.0, split.1, split_rule set clean pattern.split p split.0 phase (in_numbers 20 1 pattern.split has.0.split.0 (below _ has.0.split.1)) among split.1 of_p.1) where
-        below : (k : ℕ) → k ≤ 20 → k < 1 + 20
-        below k le = omega arith
+      let known : is_in pattern.split split_numbers ≡ true =
+      split_number pattern.split has.0.split in
+      let rule = split_rule set clean pattern.split p split.0 phase known among split.1 of_p.1 in
+      (split.0, split.1, rule)

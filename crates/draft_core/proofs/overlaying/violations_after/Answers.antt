@@ -13,4 +13,4 @@ returns c = λ none.
     subst (λ keys. DiffersAtMost base c.in_ok-draft.draft keys) (sym (c.as_slice.ensures.value ∙ c.in_ok-keys.ensures))
     (subst (λ set. DiffersAtMost base set (map changed_key c.args.changes.now)) (sym c.in_ok-draft.ensures) (differs_at_changed c.args.changes.now base)) in
     subst (λ set. IfOk c.violations_touched.result (λ found. found.items ≡ violations_of set)) c.in_ok-draft.ensures
-    (c.violations_touched.ensures.whole none differs (λ s. refl))
+    (c.violations_touched.ensures.whole none differs (λ k s lt. refl))

@@ -24,6 +24,8 @@ loop-subject-preserved g c = record {
 
 pub returns-clause-whole : goal.returns-clause-whole
 returns-clause-whole g c =
-    λ none differs same. answers_are_all g.J.Judge.answers c.args.base.now c.args.draft.now c.args.keys.now c.loop-subject.found.items
+    λ none differs right.
+    answers_are_all g.J.Judge.answers c.args.base.now c.args.draft.now c.args.keys.now
+    c.loop-subject.found.items
     (flat_map_done (g.J.Judge.answers c.args.draft.now) c.loop-subject.found.items _ _ c.loop-subject.subject-index c.loop-subject-test.false c.loop-subject.invariant.found (c.deref-subject-items.ensures.value ∙ c.in_ok-touched.ensures))
-    none differs same
+    none differs right
