@@ -1,6 +1,6 @@
 //! Parts, and how many of one are on hand.
 
-ghost use Rattle.std.specs.Prelude.{◌≡◌, ◌↔◌, IsSome, IfSome, IfOk};
+ghost use Rattle.std.specs.Prelude.{◌≡◌, ◌↔◌, IsSome, IfSome, IfOk, IfErr};
 ghost use Rattle.cabinet_core.specs.Part.{IsPartCode, is_code_byte};
 
 use signal_records::{NoMemory, Number};
@@ -36,10 +36,11 @@ impl Model for PartCode {
 }
 
 impl PartCode {
-    /// The code, if the bytes are one.
+    /// The code, if the bytes are one. Memory is taken for a code alone.
     pub fn new(alloc: Global, bytes: &[u8]) -> Result<Option<PartCode>, NoMemory>
         ensures accepts { IfOk result (λ code. IsSome code ↔ IsPartCode bytes.now) }
         ensures keeps { IfOk result (λ code. IfSome code (λ part. part ≡ bytes.now)) }
+        ensures memory { IfErr result (λ _. IsPartCode bytes.now) }
     {
         if bytes.is_empty() || 20 < bytes.len() {
             return Ok(None);

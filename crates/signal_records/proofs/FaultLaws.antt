@@ -1,4 +1,4 @@
--- The faults of the timing rows: none is of a day or a text.
+-- The faults of the timing rows: none is of a day or a text, and reading gives no want of memory.
 use Rattle.std.proofs.Common.{◌≡◌, ℕ, Bool, true, false, eqb, List, [], ◌∷◌, length, Option, Some, None, Result, Ok, Err, refl, subst}
 use Rattle.std.specs.Prelude.{IfErr, IsTrue, ◌+◌, ◌||◌, codes, if◌then◌else◌}
 use Rattle.std.specs.Str.{bytes_eq}
@@ -13,22 +13,27 @@ use Rattle.signal_records.specs.declared.record.Change.TheVariants as change
 use Rattle.signal_records.specs.RowFault.{is_timing_fault}
 use Rattle.signal_records.specs.Reading.{◌>>=◌, text_at, number_of, number_at, flag_of, flag_at, mode_in, mode_at, parts, phases_in, or_no_list, list_of, list_at, some_ped, ped_width, lead_in, ped_record, ped_at, phase_record, seq_record, split_record, pattern_record, counted, row_at, phase_key, seq_key, split_key, pattern_key, key_at, removal_at, put_at, change_at, Gives}
 
--- no answer, or one of the faults of timing rows
-unfoldable pub IsTiming : {X : Type 0} → Result X RowFault → Type 0
-IsTiming r = IfErr r (λ e. IsTrue (is_timing_fault e))
+-- a fault that is read from the fields of a timing row
+abbrev pub is_read_fault : RowFault → Bool
+is_read_fault fault.NoMemory = false
+is_read_fault e = is_timing_fault e
 
-abbrev failed : {X : Type 0} → RowFault → Result X RowFault
+-- no answer, or one of the faults that are read from timing rows
+unfoldable pub IsTiming : {X : Type 0} → Result X RowFault → Type 0
+IsTiming r = IfErr r (λ e. IsTrue (is_read_fault e))
+
+abbrev pub failed : {X : Type 0} → RowFault → Result X RowFault
 failed e = Err e
 
 ok_timing : {X : Type 0} (x : X) → IsTiming (Ok x)
 unfolding IsTiming
 ok_timing x = tt
 
-fault_timing : (X : Type 0) (e : RowFault) → IsTrue (is_timing_fault e) → IsTiming (failed {X = X} e)
+fault_timing : (X : Type 0) (e : RowFault) → IsTrue (is_read_fault e) → IsTiming (failed {X = X} e)
 unfolding IsTiming
 fault_timing X e h = h
 
-fault_is : (X : Type 0) (e : RowFault) → IsTiming (failed {X = X} e) → IsTrue (is_timing_fault e)
+fault_is : (X : Type 0) (e : RowFault) → IsTiming (failed {X = X} e) → IsTrue (is_read_fault e)
 unfolding IsTiming
 fault_is X e h = h
 
@@ -46,22 +51,25 @@ counted_timing false r h = fault_timing _ fault.Count refl
 
 -- fields
 
-number_timing : (low high place : ℕ) (bytes : List ℕ) → IsTiming (number_of low high place bytes)
+pub number_timing : (low high place : ℕ) (bytes : List ℕ) → IsTiming (number_of low high place bytes)
 number_timing low high place bytes = if_timing _ _ _ (if_timing _ _ _ (ok_timing _) (fault_timing _ (fault.Range place) refl)) (fault_timing _ (fault.Number place) refl)
 
 number_then : {B : Type 0} (low high place : ℕ) (fields : List (List ℕ)) (f : ℕ → Result B RowFault) → ((n : ℕ) → IsTiming (f n)) → IsTiming (number_of low high place (text_at place fields) >>= f)
 number_then low high place fields f next = bind_timing (number_of low high place (text_at place fields)) f (number_timing low high place (text_at place fields)) next
 
-flag_then : {B : Type 0} (place : ℕ) (fields : List (List ℕ)) (f : Bool → Result B RowFault) → ((b : Bool) → IsTiming (f b)) → IsTiming (flag_of place (text_at place fields) >>= f)
-flag_then place fields f next = bind_timing (flag_of place (text_at place fields)) f (number_then 0 1 place fields _ (λ n. ok_timing _)) next
+pub flag_timing : (place : ℕ) (fields : List (List ℕ)) → IsTiming (flag_of place (text_at place fields))
+flag_timing place fields = number_then 0 1 place fields _ (λ n. ok_timing _)
 
-mode_timing : (place : ℕ) (bytes : List ℕ) → IsTiming (mode_in place bytes)
+flag_then : {B : Type 0} (place : ℕ) (fields : List (List ℕ)) (f : Bool → Result B RowFault) → ((b : Bool) → IsTiming (f b)) → IsTiming (flag_of place (text_at place fields) >>= f)
+flag_then place fields f next = bind_timing (flag_of place (text_at place fields)) f (flag_timing place fields) next
+
+pub mode_timing : (place : ℕ) (bytes : List ℕ) → IsTiming (mode_in place bytes)
 mode_timing place bytes = if_timing _ _ _ (if_timing _ _ _ (ok_timing _) (fault_timing _ fault.Mode refl)) (fault_timing _ (fault.Number place) refl)
 
 mode_then : {B : Type 0} (place : ℕ) (fields : List (List ℕ)) (f : SplitMode → Result B RowFault) → ((m : SplitMode) → IsTiming (f m)) → IsTiming (mode_in place (text_at place fields) >>= f)
 mode_then place fields f next = bind_timing (mode_in place (text_at place fields)) f (mode_timing place (text_at place fields)) next
 
-or_timing : (place : ℕ) (found : Option (List ℕ)) → IsTiming (or_no_list place found)
+pub or_timing : (place : ℕ) (found : Option (List ℕ)) → IsTiming (or_no_list place found)
 or_timing place None = fault_timing _ (fault.List place) refl
 or_timing place (Some ns) = ok_timing ns
 
@@ -89,7 +97,7 @@ some_timing : (r : Result Ped RowFault) → IsTiming r → IsTiming (some_ped r)
 some_timing (Ok ped) h = ok_timing (Some ped)
 some_timing (Err e) h = fault_timing _ e (fault_is _ e h)
 
-any_ped_timing : (limits : Limits) (fields : List (List ℕ)) → IsTiming (ped_at limits fields)
+pub any_ped_timing : (limits : Limits) (fields : List (List ℕ)) → IsTiming (ped_at limits fields)
 unfolding ped_at
 any_ped_timing limits fields = if_timing (eqb (length fields) (9 + ped_width limits.has_lead)) (some_ped (ped_record limits.has_lead fields)) (Ok None) (some_timing (ped_record limits.has_lead fields) (ped_timing limits.has_lead fields)) (ok_timing None)
 
@@ -159,7 +167,7 @@ pattern_key_timing : (fields : List (List ℕ)) → IsTiming (pattern_key fields
 unfolding pattern_key number_at
 pattern_key_timing fields = number_then 1 48 3 fields _ (λ n. ok_timing _)
 
-key_timing : (limits : Limits) (fields : List (List ℕ)) → IsTiming (key_at limits fields)
+pub key_timing : (limits : Limits) (fields : List (List ℕ)) → IsTiming (key_at limits fields)
 unfolding key_at
 key_timing limits fields =
     let kind = text_at 2 fields in
@@ -177,7 +185,7 @@ change_timing limits fields =
 
 -- a result that gives what is read has its faults, or none
 
-none_read : {X : Type 0} (read : Result X RowFault) (e : RowFault) → IsTiming read → read ≡ failed e → IsTrue (is_timing_fault e)
+pub none_read : {X : Type 0} (read : Result X RowFault) (e : RowFault) → IsTiming read → read ≡ failed e → IsTrue (is_read_fault e)
 none_read read e h is = fault_is _ e (subst (λ r. IsTiming r) is h)
 
 given_timing : {X : Type 0} (read result : Result X RowFault) → IsTiming read → Gives result read → IfErr result (λ e. IsTrue (is_timing_fault e))

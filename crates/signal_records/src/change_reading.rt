@@ -2,7 +2,9 @@
 
 ghost use Rattle.std.specs.Prelude.{◌≡◌, ◌≤◌, length};
 ghost use Rattle.signal_records.specs.declared.number.TheConstants.{PHASES, RINGS};
-ghost use Rattle.signal_records.specs.Reading.{Gives, texts, phase_key, seq_key, split_key, pattern_key, key_at, removal_at, put_at, change_at};
+ghost use Rattle.signal_records.specs.Reading.{Gives, WantsOnlyFor, PutsList, texts};
+ghost use Rattle.signal_records.specs.Reading.{phase_key, seq_key, split_key, pattern_key};
+ghost use Rattle.signal_records.specs.Reading.{key_at, removal_at, put_at, change_at};
 
 use crate::fault::RowFault;
 use crate::field_reading::{number, number_up_to};
@@ -16,7 +18,7 @@ use std::alloc::Global;
 fn phase_key(limits: Limits, fields: &[&[u8]]) -> Result<Key, RowFault>
     requires phases { limits.phases ≤ PHASES }
     requires count { length fields.now ≡ 3 }
-    ensures { Gives result (phase_key limits (texts fields.now)) }
+    ensures { result ≡ phase_key limits (texts fields.now) }
 {
     let p = number_up_to(limits.phases, fields, 3)?;
     Ok(Key::Phase(p))
@@ -26,7 +28,7 @@ fn phase_key(limits: Limits, fields: &[&[u8]]) -> Result<Key, RowFault>
 fn seq_key(limits: Limits, fields: &[&[u8]]) -> Result<Key, RowFault>
     requires rings { limits.rings ≤ RINGS }
     requires count { length fields.now ≡ 4 }
-    ensures { Gives result (seq_key limits (texts fields.now)) }
+    ensures { result ≡ seq_key limits (texts fields.now) }
 {
     let n = number(fields, 3)?;
     let ring = number_up_to(limits.rings, fields, 4)?;
@@ -37,7 +39,7 @@ fn seq_key(limits: Limits, fields: &[&[u8]]) -> Result<Key, RowFault>
 fn split_key(limits: Limits, fields: &[&[u8]]) -> Result<Key, RowFault>
     requires phases { limits.phases ≤ PHASES }
     requires count { length fields.now ≡ 4 }
-    ensures { Gives result (split_key limits (texts fields.now)) }
+    ensures { result ≡ split_key limits (texts fields.now) }
 {
     let n = number(fields, 3)?;
     let p = number_up_to(limits.phases, fields, 4)?;
@@ -47,7 +49,7 @@ fn split_key(limits: Limits, fields: &[&[u8]]) -> Result<Key, RowFault>
 #[tactic(auto, unfolding(crate::specs::Reading::pattern_key))]
 fn pattern_key(fields: &[&[u8]]) -> Result<Key, RowFault>
     requires { length fields.now ≡ 3 }
-    ensures { Gives result (pattern_key (texts fields.now)) }
+    ensures { result ≡ pattern_key (texts fields.now) }
 {
     let n = number(fields, 3)?;
     Ok(Key::Pattern(n))
@@ -58,7 +60,7 @@ fn pattern_key(fields: &[&[u8]]) -> Result<Key, RowFault>
 fn key_within(limits: Limits, fields: &[&[u8]]) -> Result<Key, RowFault>
     requires phases { limits.phases ≤ PHASES }
     requires rings { limits.rings ≤ RINGS }
-    ensures { Gives result (key_at limits (texts fields.now)) }
+    ensures { result ≡ key_at limits (texts fields.now) }
 {
     let Some(kind) = fields.get(1) else {
         return Err(RowFault::Kind);
@@ -88,11 +90,12 @@ fn key_within(limits: Limits, fields: &[&[u8]]) -> Result<Key, RowFault>
     }
 }
 
-#[tactic(auto, unfolding(crate::specs::Reading::removal_at))]
+#[tactic(auto, using(crate::proofs::Wants::none), unfolding(crate::specs::Reading::removal_at))]
 fn removal_within(limits: Limits, fields: &[&[u8]]) -> Result<Change, RowFault>
     requires phases { limits.phases ≤ PHASES }
     requires rings { limits.rings ≤ RINGS }
-    ensures { Gives result (removal_at limits (texts fields.now)) }
+    ensures exact { Gives result (removal_at limits (texts fields.now)) }
+    ensures memory { WantsOnlyFor PutsList result (removal_at limits (texts fields.now)) }
 {
     let key = key_within(limits, fields)?;
     Ok(Change::Remove(key))
@@ -102,7 +105,8 @@ fn removal_within(limits: Limits, fields: &[&[u8]]) -> Result<Change, RowFault>
 fn put_within(alloc: Global, limits: Limits, fields: &[&[u8]]) -> Result<Change, RowFault>
     requires phases { limits.phases ≤ PHASES }
     requires rings { limits.rings ≤ RINGS }
-    ensures { Gives result (put_at limits (texts fields.now)) }
+    ensures exact { Gives result (put_at limits (texts fields.now)) }
+    ensures memory { WantsOnlyFor PutsList result (put_at limits (texts fields.now)) }
 {
     let row = row_within(alloc, limits, fields)?;
     Ok(Change::Put(row))
@@ -117,7 +121,8 @@ pub(crate) fn change_within(
 ) -> Result<Change, RowFault>
     requires phases { limits.phases ≤ PHASES }
     requires rings { limits.rings ≤ RINGS }
-    ensures { Gives result (change_at limits (texts fields.now)) }
+    ensures exact { Gives result (change_at limits (texts fields.now)) }
+    ensures memory { WantsOnlyFor PutsList result (change_at limits (texts fields.now)) }
 {
     if fields.is_empty() || fields[0] != b"remove".as_slice() {
         return put_within(alloc, limits, fields);

@@ -1,18 +1,18 @@
-//! One field of a row: a number, a flag, a mode or a list of phases.
+//! One field of a row: a number, a flag, a mode or a list of phases. No field takes memory here.
 
-ghost use Rattle.std.specs.Prelude.{◌≡◌, ◌<◌, ◌≤◌, ◌+◌, ◌^◌, length, ◌-◌, min, true, false, IfSome, IfNone, IfOk};
+ghost use Rattle.std.specs.Prelude.{◌≡◌, ◌<◌, ◌≤◌, ◌+◌, ◌-◌, ◌^◌, min, length};
+ghost use Rattle.std.specs.Prelude.{true, false, IfSome, IfNone};
 ghost use Rattle.std.specs.Char.{is_ascii_digit};
 ghost use Rattle.std.specs.List.{list_all};
 ghost use Rattle.std.specs.Str.Parse.{digits_value};
 ghost use Rattle.signal_records.specs.declared.number.TheConstants.{PHASES};
-ghost use Rattle.signal_records.specs.Reading.{Gives, texts, is_numeral, parts, phases_in, number_at, flag_at, mode_at, list_of, list_at};
+ghost use Rattle.signal_records.specs.Reading.{texts, is_numeral};
+ghost use Rattle.signal_records.specs.Reading.{number_at, flag_at, mode_at, list_at};
 
-use crate::NoMemory;
 use crate::fault::RowFault;
-use crate::number::{Number, PHASES};
-use crate::phase_list::{PhaseList, push_phase};
+use crate::list_reading::SpelledPhases;
+use crate::number::Number;
 use crate::record::SplitMode;
-use std::alloc::{AllocError, Global};
 
 /// The number that digits spell, or the greatest `u32` where it is greater.
 fn digits(bytes: &[u8]) -> Option<u32>
@@ -53,7 +53,7 @@ pub fn number<Of, const LOW: u32, const HIGH: u32>(
     requires small { HIGH < 2 ^ 32 - 1 }
     requires some { 1 ≤ place }
     requires within { place ≤ length fields.now }
-    ensures { Gives result (number_at LOW HIGH place (texts fields.now)) }
+    ensures { result ≡ number_at LOW HIGH place (texts fields.now) }
 {
     number_up_to(HIGH, fields, place)
 }
@@ -69,7 +69,7 @@ pub(crate) fn number_up_to<Of, const LOW: u32, const HIGH: u32>(
     requires room { last ≤ HIGH }
     requires some { 1 ≤ place }
     requires within { place ≤ length fields.now }
-    ensures { Gives result (number_at LOW last place (texts fields.now)) }
+    ensures { result ≡ number_at LOW last place (texts fields.now) }
 {
     let n = numeral(fields[place as usize - 1]).ok_or(RowFault::Number(place))?;
     if last < n {
@@ -82,7 +82,7 @@ pub(crate) fn number_up_to<Of, const LOW: u32, const HIGH: u32>(
 pub(crate) fn byte(fields: &[&[u8]], place: u8) -> Result<u8, RowFault>
     requires some { 1 ≤ place }
     requires within { place ≤ length fields.now }
-    ensures { Gives result (number_at 0 255 place (texts fields.now)) }
+    ensures { result ≡ number_at 0 255 place (texts fields.now) }
 {
     let n = numeral(fields[place as usize - 1]).ok_or(RowFault::Number(place))?;
     u8::try_from(n).map_err(|_| RowFault::Range(place))
@@ -92,7 +92,7 @@ pub(crate) fn byte(fields: &[&[u8]], place: u8) -> Result<u8, RowFault>
 pub(crate) fn flag(fields: &[&[u8]], place: u8) -> Result<bool, RowFault>
     requires some { 1 ≤ place }
     requires within { place ≤ length fields.now }
-    ensures { Gives result (flag_at place (texts fields.now)) }
+    ensures { result ≡ flag_at place (texts fields.now) }
 {
     match numeral(fields[place as usize - 1]) {
         None => Err(RowFault::Number(place)),
@@ -106,7 +106,7 @@ pub(crate) fn flag(fields: &[&[u8]], place: u8) -> Result<bool, RowFault>
 pub(crate) fn mode(fields: &[&[u8]], place: u8) -> Result<SplitMode, RowFault>
     requires some { 1 ≤ place }
     requires within { place ≤ length fields.now }
-    ensures { Gives result (mode_at place (texts fields.now)) }
+    ensures { result ≡ mode_at place (texts fields.now) }
 {
     match numeral(fields[place as usize - 1]) {
         None => Err(RowFault::Number(place)),
@@ -120,55 +120,17 @@ pub(crate) fn mode(fields: &[&[u8]], place: u8) -> Result<SplitMode, RowFault>
     }
 }
 
+/// The phases up to the last one that the field at a place spells. It takes no memory.
 #[tactic(auto, unfolding(crate::specs::Reading::list_at))]
-pub(crate) fn list(
-    alloc: Global,
+pub(crate) fn phases<'a>(
     last: u32,
-    fields: &[&[u8]],
+    fields: &[&'a [u8]],
     place: u8,
-) -> Result<PhaseList, RowFault>
+) -> Result<SpelledPhases<'a>, RowFault>
     requires room { last ≤ PHASES }
     requires some { 1 ≤ place }
     requires within { place ≤ length fields.now }
-    ensures { Gives result (list_at last place (texts fields.now)) }
+    ensures { result ≡ list_at last place (texts fields.now) }
 {
-    list_of(alloc, last, fields[place as usize - 1], place)
-}
-
-fn list_of(alloc: Global, last: u32, bytes: &[u8], place: u8) -> Result<PhaseList, RowFault>
-    requires { last ≤ PHASES }
-    ensures { Gives result (list_of last place bytes.now) }
-{
-    let parts = parts_of(alloc, bytes)?;
-    match phases_of(alloc, last, &parts)? {
-        Some(phases) => Ok(phases),
-        None => Err(RowFault::List(place)),
-    }
-}
-
-/// The parts between single spaces; the empty field has none.
-fn parts_of(alloc: Global, bytes: &[u8]) -> Result<Vec<&[u8]>, AllocError>
-    ensures { IfOk result (λ found. texts found.items ≡ parts bytes.now) }
-{
-    if bytes.is_empty() {
-        return Ok(Vec::new(alloc));
-    }
-    bytes.split(|b| *b == 32).collect(alloc)
-}
-
-/// The phases that the parts spell, if they spell distinct phases.
-fn phases_of(alloc: Global, last: u32, parts: &[&[u8]]) -> Result<Option<PhaseList>, NoMemory>
-    requires { last ≤ PHASES }
-    ensures { IfOk result (λ found. found ≡ phases_in last (texts parts.now)) }
-{
-    let mut phases = Vec::new(alloc);
-    for part in parts {
-        let Some(n) = numeral(part) else {
-            return Ok(None);
-        };
-        if !push_phase(&mut phases, last, n)? {
-            return Ok(None);
-        }
-    }
-    Ok(Some(PhaseList::from_phases(phases)))
+    SpelledPhases::new(last, fields[place as usize - 1]).ok_or(RowFault::List(place))
 }

@@ -2,13 +2,13 @@
 
 ghost use Rattle.std.specs.Prelude.{◌≡◌, ◌≤◌, ◌+◌, length};
 ghost use Rattle.signal_records.specs.declared.number.TheConstants.{PHASES, RINGS};
-ghost use Rattle.signal_records.specs.Reading.{Gives, texts};
+ghost use Rattle.signal_records.specs.Reading.{Gives, WantsOnlyFor, HasList, texts};
 ghost use Rattle.signal_records.specs.Reading.{ped_width, lead_in, ped_record, ped_at};
 ghost use Rattle.signal_records.specs.Reading.{phase_record, seq_record, split_record};
 ghost use Rattle.signal_records.specs.Reading.{pattern_record, row_at};
 
 use crate::fault::RowFault;
-use crate::field_reading::{byte, flag, list, mode, number, number_up_to};
+use crate::field_reading::{byte, flag, mode, number, number_up_to, phases};
 use crate::limits::Limits;
 use crate::number::{Lead, no_lead};
 use crate::record::{Pattern, Ped, Phase, Row, SeqRow, Split};
@@ -18,7 +18,7 @@ use std::alloc::Global;
 #[tactic(auto, unfolding(crate::specs::Reading::lead_in))]
 fn lead(limits: Limits, fields: &[&[u8]]) -> Result<Lead, RowFault>
     requires { length fields.now ≡ 9 + ped_width limits.has_lead }
-    ensures { Gives result (lead_in limits.has_lead (texts fields.now)) }
+    ensures { result ≡ lead_in limits.has_lead (texts fields.now) }
 {
     if limits.has_lead {
         number(fields, 15)
@@ -30,7 +30,7 @@ fn lead(limits: Limits, fields: &[&[u8]]) -> Result<Lead, RowFault>
 #[tactic(auto, unfolding(crate::specs::Reading::ped_record))]
 fn ped_record(limits: Limits, fields: &[&[u8]]) -> Result<Ped, RowFault>
     requires { length fields.now ≡ 9 + ped_width limits.has_lead }
-    ensures { Gives result (ped_record limits.has_lead (texts fields.now)) }
+    ensures { result ≡ ped_record limits.has_lead (texts fields.now) }
 {
     let walk = byte(fields, 10)?;
     let clear = byte(fields, 11)?;
@@ -50,7 +50,7 @@ fn ped_record(limits: Limits, fields: &[&[u8]]) -> Result<Ped, RowFault>
 
 #[tactic(auto, unfolding(crate::specs::Reading::ped_at))]
 fn ped(limits: Limits, fields: &[&[u8]]) -> Result<Option<Ped>, RowFault>
-    ensures { Gives result (ped_at limits (texts fields.now)) }
+    ensures { result ≡ ped_at limits (texts fields.now) }
 {
     if fields.len() == 9 + limits.ped_width() {
         let ped = ped_record(limits, fields)?;
@@ -60,12 +60,14 @@ fn ped(limits: Limits, fields: &[&[u8]]) -> Result<Option<Ped>, RowFault>
     }
 }
 
-#[tactic(auto, unfolding(crate::specs::Reading::phase_record))]
+/// The list of mates is made last: memory is taken for a whole row alone.
+#[tactic(auto, using(crate::proofs::Wants::none), unfolding(crate::specs::Reading::phase_record))]
 fn phase_record(alloc: Global, limits: Limits, fields: &[&[u8]]) -> Result<Row, RowFault>
     requires phases { limits.phases ≤ PHASES }
     requires rings { limits.rings ≤ RINGS }
     requires count { 9 ≤ length fields.now }
-    ensures { Gives result (phase_record limits (texts fields.now)) }
+    ensures exact { Gives result (phase_record limits (texts fields.now)) }
+    ensures memory { WantsOnlyFor HasList result (phase_record limits (texts fields.now)) }
 {
     let p = number_up_to(limits.phases, fields, 2)?;
     let ring = number_up_to(limits.rings, fields, 3)?;
@@ -74,8 +76,9 @@ fn phase_record(alloc: Global, limits: Limits, fields: &[&[u8]]) -> Result<Row, 
     let max1 = byte(fields, 6)?;
     let yellow = byte(fields, 7)?;
     let red = byte(fields, 8)?;
-    let mates = list(alloc, limits.phases, fields, 9)?;
+    let spelled = phases(limits.phases, fields, 9)?;
     let ped = ped(limits, fields)?;
+    let mates = spelled.list(alloc)?;
     Ok(Row::Phase(
         p,
         Phase {
@@ -91,24 +94,27 @@ fn phase_record(alloc: Global, limits: Limits, fields: &[&[u8]]) -> Result<Row, 
     ))
 }
 
-#[tactic(auto, unfolding(crate::specs::Reading::seq_record))]
+#[tactic(auto, using(crate::proofs::Wants::none), unfolding(crate::specs::Reading::seq_record))]
 fn seq_record(alloc: Global, limits: Limits, fields: &[&[u8]]) -> Result<Row, RowFault>
     requires phases { limits.phases ≤ PHASES }
     requires rings { limits.rings ≤ RINGS }
     requires count { length fields.now ≡ 4 }
-    ensures { Gives result (seq_record limits (texts fields.now)) }
+    ensures exact { Gives result (seq_record limits (texts fields.now)) }
+    ensures memory { WantsOnlyFor HasList result (seq_record limits (texts fields.now)) }
 {
     let n = number(fields, 2)?;
     let ring = number_up_to(limits.rings, fields, 3)?;
-    let list = list(alloc, limits.phases, fields, 4)?;
+    let spelled = phases(limits.phases, fields, 4)?;
+    let list = spelled.list(alloc)?;
     Ok(Row::Seq(n, ring, SeqRow { list }))
 }
 
-#[tactic(auto, unfolding(crate::specs::Reading::split_record))]
+#[tactic(auto, using(crate::proofs::Wants::none), unfolding(crate::specs::Reading::split_record))]
 fn split_record(limits: Limits, fields: &[&[u8]]) -> Result<Row, RowFault>
     requires phases { limits.phases ≤ PHASES }
     requires count { length fields.now ≡ 6 }
-    ensures { Gives result (split_record limits (texts fields.now)) }
+    ensures exact { Gives result (split_record limits (texts fields.now)) }
+    ensures memory { WantsOnlyFor HasList result (split_record limits (texts fields.now)) }
 {
     let n = number(fields, 2)?;
     let p = number_up_to(limits.phases, fields, 3)?;
@@ -118,10 +124,11 @@ fn split_record(limits: Limits, fields: &[&[u8]]) -> Result<Row, RowFault>
     Ok(Row::Split(n, p, Split { time, mode, coord }))
 }
 
-#[tactic(auto, unfolding(crate::specs::Reading::pattern_record))]
+#[tactic(auto, using(crate::proofs::Wants::none), unfolding(crate::specs::Reading::pattern_record))]
 fn pattern_record(fields: &[&[u8]]) -> Result<Row, RowFault>
     requires { length fields.now ≡ 6 }
-    ensures { Gives result (pattern_record (texts fields.now)) }
+    ensures exact { Gives result (pattern_record (texts fields.now)) }
+    ensures memory { WantsOnlyFor HasList result (pattern_record (texts fields.now)) }
 {
     let n = number(fields, 2)?;
     let cycle = number(fields, 3)?;
@@ -144,7 +151,8 @@ fn pattern_record(fields: &[&[u8]]) -> Result<Row, RowFault>
 pub(crate) fn row_within(alloc: Global, limits: Limits, fields: &[&[u8]]) -> Result<Row, RowFault>
     requires phases { limits.phases ≤ PHASES }
     requires rings { limits.rings ≤ RINGS }
-    ensures { Gives result (row_at limits (texts fields.now)) }
+    ensures exact { Gives result (row_at limits (texts fields.now)) }
+    ensures memory { WantsOnlyFor HasList result (row_at limits (texts fields.now)) }
 {
     let Some(kind) = fields.first() else {
         return Err(RowFault::Kind);

@@ -1,6 +1,6 @@
 //! Short texts.
 
-ghost use Rattle.std.specs.Prelude.{◌≡◌, ◌↔◌, IsSome, IfSome, IfOk};
+ghost use Rattle.std.specs.Prelude.{◌≡◌, ◌↔◌, IsSome, IfSome, IfOk, IfErr};
 ghost use Rattle.signal_records.specs.Words.{AreWords};
 
 use crate::NoMemory;
@@ -26,10 +26,11 @@ impl<const MAX: usize> Model for Words<MAX> {
 }
 
 impl<const MAX: usize> Words<MAX> {
-    /// The text, if the bytes are one.
+    /// The text, if the bytes are one. Memory is taken for a text alone.
     pub fn new(alloc: Global, bytes: &[u8]) -> Result<Option<Self>, NoMemory>
         ensures accepts { IfOk result (λ words. IsSome words ↔ AreWords MAX bytes.now) }
         ensures keeps { IfOk result (λ words. IfSome words (λ text. text ≡ bytes.now)) }
+        ensures memory { IfErr result (λ _. AreWords MAX bytes.now) }
     {
         if bytes.is_empty() || MAX < bytes.len() {
             return Ok(None);

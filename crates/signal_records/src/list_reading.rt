@@ -1,0 +1,86 @@
+//! A field of a row that spells a list of phases.
+
+ghost use Rattle.std.specs.Prelude.{◌≡◌, ◌≤◌, length, IfOk, IfErr};
+ghost use Rattle.signal_records.specs.declared.number.TheConstants.{PHASES};
+ghost use Rattle.signal_records.specs.Reading.{parts, phase_in, phases_in, spells_phases};
+
+use crate::NoMemory;
+use crate::field_reading::numeral;
+use crate::number::PhaseNo;
+use crate::phase_list::{MetPhases, PhaseList};
+use std::alloc::Global;
+use std::marker::Model;
+
+/// A field that spells distinct phases with one space between two. It is seen as the list of their
+/// numbers.
+#[derive(Drop)]
+pub(crate) struct SpelledPhases<'a> {
+    bytes: &'a [u8],
+}
+
+impl<'a> Model for SpelledPhases<'a> {
+    ghost use Rattle.std.specs.Prelude.{List, ℕ, IsTrue};
+    ghost use Rattle.signal_records.specs.declared.number.TheConstants.{PHASES};
+    ghost use Rattle.signal_records.specs.Reading.{spelled_numbers, spells_phases};
+
+    ghost Value = { List ℕ };
+
+    ghost view = { λ s. spelled_numbers s.bytes.now };
+
+    ghost invariant = { λ s. IsTrue (spells_phases PHASES s.bytes.now) };
+}
+
+impl<'a> SpelledPhases<'a> {
+    /// The phases up to the last one that the bytes spell, if they do. It takes no memory.
+    pub(crate) fn new(last: u32, bytes: &'a [u8]) -> Option<SpelledPhases<'a>>
+        requires { last ≤ PHASES }
+        ensures { result ≡ phases_in last (parts bytes.now) }
+    {
+        if spells_phases(last, bytes) {
+            Some(SpelledPhases { bytes })
+        } else {
+            None
+        }
+    }
+
+    /// The list of them. The empty one takes no memory.
+    pub(crate) fn list(&self, alloc: Global) -> Result<PhaseList, NoMemory>
+        ensures list { IfOk result (λ list. list ≡ self.now) }
+        ensures memory { IfErr result (λ _. 1 ≤ length self.now) }
+    {
+        let bytes = self.bytes;
+        if bytes.is_empty() {
+            return Ok(PhaseList::from_phases(Vec::new(alloc)));
+        }
+        let parts = bytes.split(|b| *b == b' ');
+        let phases = parts.filter_map(|part| phase_in(part)).collect(alloc)?;
+        Ok(PhaseList::from_phases(phases))
+    }
+}
+
+/// The phase that a part spells.
+fn phase_in(part: &[u8]) -> Option<PhaseNo>
+    ensures { result ≡ phase_in part.now }
+{
+    PhaseNo::new(numeral(part)?)
+}
+
+/// Whether the bytes spell distinct phases up to the last one, with one space between two.
+fn spells_phases(last: u32, bytes: &[u8]) -> bool
+    requires { last ≤ PHASES }
+    ensures { result ≡ spells_phases last bytes.now }
+{
+    if bytes.is_empty() {
+        return true;
+    }
+    let mut met = MetPhases::none();
+    for part in bytes.split(|b| *b == b' ') {
+        let Some(n) = numeral(part) else {
+            return false;
+        };
+        if !met.meets(last, n) {
+            return false;
+        }
+    }
+    true
+}
