@@ -75,12 +75,6 @@ registers_from tables r command id (Ok recorded.Same) told stands is tells = rec
 registers_from tables r command id (Err refusal.NoMemory) told stands is tells = absurd (tells.0 refl)
 registers_from tables r command id (Err why) told stands is tells = refused_from tables r command _ told is tells.1 stands
 
--- a fault that the shelf answered
-pub fault_registers : (stored : Content) (pending : List RowChange) (command : RecordCommand) (fault : ShelfFault) → (fault ≡ Damaged → MeetsRecordDamage stored command) → Registers stored pending command (Err fault)
-fault_registers stored pending command NoMemory damage = tt
-fault_registers stored pending command Store damage = tt
-fault_registers stored pending command Damaged damage = damage refl
-
 -- ---- rows that stay
 
 row_leaves : (tables : Content) (id : ℕ) (c : CabinetChange) → LeavesTiming tables (row_change_of id c ∷ [])

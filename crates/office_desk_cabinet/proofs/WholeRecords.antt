@@ -15,11 +15,6 @@ both_hold : {X : Type 0} (P Q : X → Type 0) (there : Option X) → IfSome ther
 both_hold P Q None p q = tt
 both_hold P Q (Some x) p q = (p, q)
 
--- what holds whatever came of a call
-pub whatever : {A E P : Type 0} (result : Result A E) → P → IfOk result (λ _. P)
-whatever (Ok value) p = p
-whatever (Err why) p = tt
-
 pub neither : {A B : Type 0} → ¬ A → ¬ B → ¬ (A ⊎ B)
 neither a b (inl x) = a x
 neither a b (inr y) = b y
