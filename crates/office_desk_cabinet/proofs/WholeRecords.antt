@@ -1,6 +1,6 @@
 -- A record that was read under its own key, or none, is no damaged one.
-use Rattle.std.proofs.Common.{◌≡◌, ◌⊎◌, inl, inr, ℕ, List, Option, None, Some, Result, Ok, Err, sym, ◌∙◌}
-use Rattle.std.specs.Prelude.{IfOk, IfSome}
+use Rattle.std.proofs.Common.{◌≡◌, ◌⊎◌, inl, inr, ℕ, List, Option, None, Some, sym, ◌∙◌}
+use Rattle.std.specs.Prelude.{IfSome}
 use Rattle.cabinet_core.specs.Within.{IsInspectionWithin, IsOrderWithin, IsUsedLineWithin, IsDeliveryWithin}
 use Rattle.cabinet_core.specs.declared.record.Delivery.{Delivery}
 use Rattle.cabinet_core.specs.declared.record.Inspection.{Inspection}
