@@ -10,13 +10,14 @@ use Rattle.cabinet_core.specs.Cabinet.{use_changes, close_changes, receive_chang
 use Rattle.cabinet_core.specs.Changes.{ChangesMake, MakesIn, Makes}
 use Rattle.cabinet_core.specs.Register.{Register, LineKey, DeliveryKey}
 use Rattle.cabinet_core.specs.Sound.{IsOrderAt, IsSoundRegister}
-use Rattle.cabinet_core.specs.Step.{Standing, standing_in, line_on, line_at, with_closed, with_record}
+use Rattle.cabinet_core.specs.Step.{Standing, standing_in, line_on, line_at}
+use Rattle.cabinet_core.specs.Step.{with_closed, with_record}
 use Rattle.cabinet_core.specs.Stock.{hand_of}
 use Rattle.cabinet_core.specs.Within.{IsInspectionWithin, IsClosingWithin, IsOpeningWithin}
 use Rattle.cabinet_core.specs.Within.{IsUsedLineWithin, IsDeliveryWithin}
 use Rattle.cabinet_core.specs.declared.command.RecordCommand.{RecordCommand}
-use Rattle.cabinet_core.specs.declared.command.RecordCommand.TheVariants.{Inspect, OpenOrder}
-use Rattle.cabinet_core.specs.declared.command.RecordCommand.TheVariants.{UsePart, CloseOrder, Receive}
+use Rattle.cabinet_core.specs.declared.command.RecordCommand.TheVariants.{Inspect, OpenOrder, UsePart}
+use Rattle.cabinet_core.specs.declared.command.RecordCommand.TheVariants.{CloseOrder, Receive}
 use Rattle.cabinet_core.specs.declared.decide.CabinetChange.{CabinetChange}
 use Rattle.cabinet_core.specs.declared.decide.CabinetChange.TheVariants.{PutInspection, PutOrder}
 use Rattle.cabinet_core.specs.declared.decide.Recorded.{Recorded}
@@ -66,7 +67,13 @@ opened : (r : Register) (id : ℕ) (asked : Opening) → IsSoundRegister r → I
 opened r id asked sound within =
     order_sound r (id, asked.number) (record_of asked) sound (record {
       number = refl;
-      within = record { number = within.number; opened = within.day; clerk = within.clerk; text = within.text; closing = tt };
+      within = record {
+        number = within.number;
+        opened = within.day;
+        clerk = within.clerk;
+        text = within.text;
+        closing = tt;
+      };
       closed_after = tt;
     })
 
@@ -74,11 +81,13 @@ closed : (r : Register) (id n : ℕ) (asked : Closing) (there : Option Order) �
     → IfSome there (IsOrderAt (id, n)) → IsClosingWithin asked → close_line there asked ≡ added
     → ChangesMake id r (close_changes there asked) (with_closed r id n asked there)
 closed r id n asked None sound at within adds = absurd cc
-closed r id n asked (Some order) sound at within adds = record {
-  records = ap (λ (number : ℕ). record r { orders = insert r.orders (id, number) (with_closing order asked) }) at.number;
-  hands = λ code. refl;
-  sound = order_sound r (id, n) (with_closing order asked) sound (closed_order (id, n) order asked at within adds);
-}
+closed r id n asked (Some order) sound at within adds =
+    let done = with_closing order asked in
+    record {
+      records = ap (λ (k : ℕ). record r { orders = insert r.orders (id, k) done }) at.number;
+      hands = λ code. refl;
+      sound = order_sound r (id, n) done sound (closed_order (id, n) order asked at within adds);
+    }
 
 -- ---- parts used and deliveries
 
@@ -88,32 +97,42 @@ hands_told : (r next : Register) (part : List ℕ) (hand : ℕ) → hand_of next
     → (code : List ℕ) → cond (bytes_eq part code) (Some hand) (hand_of r code) ≡ hand_of next code
 hands_told r next part hand here elsewhere code = go (cases_Bool (bytes_eq part code))
   where
-    go : (bytes_eq part code ≡ true) ⊎ (bytes_eq part code ≡ false) → cond (bytes_eq part code) (Some hand) (hand_of r code) ≡ hand_of next code
-    go (inl hit) = ap (λ b. cond b (Some hand) (hand_of r code)) hit ∙ sym here ∙ ap (hand_of next) (same_bytes part code hit)
-    go (inr miss) = ap (λ b. cond b (Some hand) (hand_of r code)) miss ∙ sym (elsewhere code miss)
+    go : (bytes_eq part code ≡ true) ⊎ (bytes_eq part code ≡ false)
+        → cond (bytes_eq part code) (Some hand) (hand_of r code) ≡ hand_of next code
+    go (inl hit) =
+        ap (λ b. cond b (Some hand) (hand_of r code)) hit
+        ∙ sym here
+        ∙ ap (hand_of next) (same_bytes part code hit)
+    go (inr miss) =
+        ap (λ b. cond b (Some hand) (hand_of r code)) miss ∙ sym (elsewhere code miss)
 
 used : (r : Register) (id : ℕ) (asked : UsedLine) → IsSoundRegister r → IsUsedLineWithin asked
     → line_at r (UsePart id asked) ≡ added
     → ChangesMake id r (use_changes (hand_of r asked.part) asked) (with_record r (UsePart id asked))
 used r id asked sound within adds =
     let key : LineKey = (id, (asked.order, asked.line)) in
-    let is = usable (get r.lines key) (get r.orders (id, asked.order)) (hand_of r asked.part) asked adds in
+    let order = get r.orders (id, asked.order) in
+    let is = usable (get r.lines key) order (hand_of r asked.part) asked adds in
     let some : 1 ≤ asked.count = let counted = within.count in omega arith in
     record {
       records = refl;
-      hands = hands_told r (with_record r (UsePart id asked)) asked.part _ (line_here r key asked is.new some is.enough) (line_elsewhere r key asked is.new);
+      hands = hands_told r (with_record r (UsePart id asked)) asked.part _
+          (line_here r key asked is.new some is.enough) (line_elsewhere r key asked is.new);
       sound = line_sound r id asked sound within is;
     }
 
 received : (r : Register) (id : ℕ) (asked : Delivery) → IsSoundRegister r → IsDeliveryWithin asked
     → line_at r (Receive asked) ≡ added
-    → ChangesMake id r (receive_changes (hand_of r asked.part) asked) (with_record r (Receive asked))
+    → ChangesMake id r (receive_changes (hand_of r asked.part) asked)
+    (with_record r (Receive asked))
 received r id asked sound within adds =
     let key : DeliveryKey = (asked.part, asked.number) in
     let is = receivable (get r.deliveries key) (hand_of r asked.part) asked adds in
     record {
       records = refl;
-      hands = hands_told r (with_record r (Receive asked)) asked.part _ (delivery_here r key asked is.new (sound.stock asked.part)) (delivery_elsewhere r key asked is.new);
+      hands = hands_told r (with_record r (Receive asked)) asked.part _
+          (delivery_here r key asked is.new (sound.stock asked.part))
+          (delivery_elsewhere r key asked is.new);
       sound = delivery_sound r asked sound within is;
     }
 
@@ -122,9 +141,11 @@ received r id asked sound within adds =
 -- what a command adds makes the register with the record
 adding_makes : (any : ℕ) (r : Register) (command : RecordCommand) → IsSoundRegister r
     → BringsWithin command → line_at r command ≡ added
-    → ChangesMake (place_or any command) r (changes_on command (standing_in r command)) (with_record r command)
+    → ChangesMake (place_or any command) r (changes_on command (standing_in r command))
+    (with_record r command)
 adding_makes any r (Inspect id asked) sound within adds =
-    record { records = refl; hands = λ code. refl; sound = inspection_sound r id asked sound within }
+    let next_sound = inspection_sound r id asked sound within in
+    record { records = refl; hands = λ code. refl; sound = next_sound }
 adding_makes any r (OpenOrder id asked) sound within adds =
     record { records = refl; hands = λ code. refl; sound = opened r id asked sound within }
 adding_makes any r (UsePart id asked) sound within adds = used r id asked sound within adds
@@ -149,6 +170,7 @@ pub decision_makes : (any : ℕ) (command : RecordCommand) (there : Standing com
     → Records result (line_on command there) (changes_on command there)
     → Makes (place_or any command) command there result
 decision_makes any command there result within says = λ r sound is.
+    let Says : Standing command → Type 0 =
+    λ given. Records result (line_on command given) (changes_on command given) in
     made (place_or any command) r command (changes_on command (standing_in r command)) result
-    (adding_makes any r command sound within)
-    (subst (λ (given : Standing command). Records result (line_on command given) (changes_on command given)) is says)
+    (adding_makes any r command sound within) (subst Says is says)

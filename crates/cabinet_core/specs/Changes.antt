@@ -43,7 +43,8 @@ pub record ChangesMake (id : ℕ) (r : Register) (changes : List CabinetChange) 
   pub hands : (code : List ℕ) → hand_after code (hand_of r code) changes ≡ hand_of next code
   pub sound : IsSoundRegister next
 
--- in a register, a decision is the command's line there, and what it adds makes the register with the record
+-- in a register: the decision is the command's line there, and its changes, where it adds, make
+-- the register with the record
 abbrev pub MakesIn : ℕ → Register → RecordCommand → Result Recorded CabinetRefusal → Type 0
 MakesIn id r command (Ok (Added changes)) =
     (line_at r command ≡ added) × ChangesMake id r changes.items (with_record r command)
@@ -51,7 +52,9 @@ MakesIn id r command (Ok Same) = line_at r command ≡ same
 MakesIn id r command (Err NoMemory) = line_at r command ≡ added
 MakesIn id r command (Err refusal) = line_at r command ≡ refused refusal
 
--- so in every sound register in which what it was decided on stands under the command's keys
-abbrev pub Makes : ℕ → (command : RecordCommand) → Standing command → Result Recorded CabinetRefusal → Type 0
+-- so in every sound register in which what it was decided on stands under the command's keys;
+-- the changes are put under the intersection
+abbrev pub Makes : ℕ → (command : RecordCommand) → Standing command
+    → Result Recorded CabinetRefusal → Type 0
 Makes id command there result =
     (r : Register) → IsSoundRegister r → there ≡ standing_in r command → MakesIn id r command result

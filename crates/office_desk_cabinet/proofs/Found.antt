@@ -66,9 +66,12 @@ abbrev pub ReadsKeys : Content → (command : RecordCommand) → Standing comman
 ReadsKeys tables (Inspect id asked) there = ReadsInspection tables id asked.number there
 ReadsKeys tables (OpenOrder id asked) there = ReadsOrder tables id asked.number there
 ReadsKeys tables (UsePart id asked) (there, order, hand) =
-    ReadsUsed tables id asked.order asked.line there × ReadsOrder tables id asked.order order × ReadsHand tables asked.part hand
+    ReadsUsed tables id asked.order asked.line there
+    × ReadsOrder tables id asked.order order
+    × ReadsHand tables asked.part hand
 ReadsKeys tables (CloseOrder id number asked) there = ReadsOrder tables id number there
-ReadsKeys tables (Receive asked) (there, hand) = ReadsDelivery tables asked.part asked.number there × ReadsHand tables asked.part hand
+ReadsKeys tables (Receive asked) (there, hand) =
+    ReadsDelivery tables asked.part asked.number there × ReadsHand tables asked.part hand
 
 module _ (tables : Content) (r : Register) (stands : RegisterStandsSound tables r) where
   pub inspection_stands : (id n : ℕ) (there : Option Inspection) → ReadsInspection tables id n there → there ≡ get r.inspections (id, n)
@@ -106,7 +109,8 @@ module _ (tables : Content) (r : Register) (stands : RegisterStandsSound tables 
       hand_tells (Some a) (Some b) same = let number : a ≡ b = cc in ap Some number
 
   -- and so is what is read under a command's keys
-  pub keys_stand : (command : RecordCommand) (there : Standing command) → ReadsKeys tables command there → there ≡ standing_in r command
+  pub keys_stand : (command : RecordCommand) (there : Standing command)
+      → ReadsKeys tables command there → there ≡ standing_in r command
   keys_stand (Inspect id asked) there reads = inspection_stands id asked.number there reads
   keys_stand (OpenOrder id asked) there reads = order_stands id asked.number there reads
   keys_stand (UsePart id asked) (there, order, hand) reads =

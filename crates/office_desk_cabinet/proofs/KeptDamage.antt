@@ -141,19 +141,30 @@ meets_still tables after (Receive delivery) kept (inr d) = inr (kept.hands deliv
 
 -- ---- the rows of a decision
 
--- the changes of a command, on what was read under its keys
-pub command_kept : (any : ℕ) (tables : Content) (command : RecordCommand) (there : Standing command) → ReadsKeys tables command there → ¬ MeetsRecordDamage tables command
-    → KeepsDamage tables (changed_by tables (row_changes_of (place_or any command) (changes_on command there)))
+-- the rows of a command's changes, on what is given to it
+abbrev pub rows_on : ℕ → (command : RecordCommand) → Standing command → List RowChange
+rows_on any command there = row_changes_of (place_or any command) (changes_on command there)
+
+-- they leave what is damaged, where nothing is that was read
+pub command_kept : (any : ℕ) (tables : Content) (command : RecordCommand)
+    (there : Standing command) → ReadsKeys tables command there → ¬ MeetsRecordDamage tables command
+    → KeepsDamage tables (changed_by tables (rows_on any command there))
 command_kept any tables (Inspect id asked) there reads whole = inspection_kept tables id asked whole
 command_kept any tables (OpenOrder id asked) there reads whole = order_kept tables id (record_of asked) whole
 command_kept any tables (UsePart id asked) (there, order, hand) reads whole =
     let mid = changed tables (PutLine id asked) in
-    kept_after tables mid _ (line_kept tables id asked (λ d. whole (inl d))) (part_kept mid asked.part _ (λ d. whole (inr (inr (record { columns = d.columns; stored = d.stored; no_row = d.no_row })))))
+    kept_after tables mid _ (line_kept tables id asked (λ d. whole (inl d)))
+    (part_kept mid asked.part _
+    (λ d. whole (inr (inr (record { columns = d.columns; stored = d.stored; no_row = d.no_row })))))
 command_kept any tables (CloseOrder id number asked) None reads whole = nothing_kept tables
-command_kept any tables (CloseOrder id number asked) (Some found) reads whole = order_kept tables id (with_closing found asked) (subst (λ n. ¬ HasDamagedOrderAt tables id n) (sym reads.number) whole)
+command_kept any tables (CloseOrder id number asked) (Some found) reads whole =
+    order_kept tables id (with_closing found asked)
+    (subst (λ n. ¬ HasDamagedOrderAt tables id n) (sym reads.number) whole)
 command_kept any tables (Receive asked) (there, hand) reads whole =
     let mid = changed tables (PutPart asked.part _) in
-    kept_after tables mid _ (part_kept tables asked.part _ (λ d. whole (inr d))) (delivery_kept mid asked (λ d. whole (inl (record { columns = d.columns; stored = d.stored; no_row = d.no_row }))))
+    kept_after tables mid _ (part_kept tables asked.part _ (λ d. whole (inr d)))
+    (delivery_kept mid asked
+    (λ d. whole (inl (record { columns = d.columns; stored = d.stored; no_row = d.no_row }))))
 
 pub rows_kept : (tables : Content) (line : Line) (rows : List RowChange) → KeepsDamage tables (changed_by tables rows) → KeepsDamage tables (changed_by tables (rows_for line rows))
 rows_kept tables added rows kept = kept

@@ -16,11 +16,8 @@ use Rattle.office_tables_shelf.specs.Content.{Content}
 use Rattle.office_tables_shelf.specs.Counts.{writes_in}
 use Rattle.office_tables_shelf.specs.declared.rows.RowChange.{RowChange}
 use Rattle.office_tables_shelf.specs.declared.rows.Table.{Table}
-use Rattle.office_tables_shelf.specs.declared.shelf.ShelfFault.{ShelfFault}
-use Rattle.office_tables_shelf.specs.declared.shelf.ShelfFault.TheVariants.{NoMemory, Store, Damaged}
-use Rattle.office_desk_cabinet.specs.RegisterDamage.{MeetsRecordDamage}
 use Rattle.office_desk_cabinet.specs.RegisterStands.{RegisterStandsSound}
-use Rattle.office_desk_cabinet.specs.Registers.{line_told, rows_told, RegistersFrom, Registers, LeavesTiming}
+use Rattle.office_desk_cabinet.specs.Registers.{line_told, rows_told, RegistersFrom, LeavesTiming}
 pub use Rattle.office_desk_cabinet.specs.Lines.{rows_for}
 use Rattle.office_desk_cabinet.specs.Telling.{row_change_of, row_changes_of, Tells}
 use Rattle.office_desk_cabinet.specs.declared.registered.Registered.{Registered}
@@ -74,12 +71,6 @@ registers_from tables r command id (Ok recorded.Same) told stands is tells = rec
 }
 registers_from tables r command id (Err refusal.NoMemory) told stands is tells = absurd (tells.0 refl)
 registers_from tables r command id (Err why) told stands is tells = refused_from tables r command _ told is tells.1 stands
-
--- a fault that the shelf answered
-pub fault_registers : (stored : Content) (pending : List RowChange) (command : RecordCommand) (fault : ShelfFault) → (fault ≡ Damaged → MeetsRecordDamage stored command) → Registers stored pending command (Err fault)
-fault_registers stored pending command NoMemory damage = tt
-fault_registers stored pending command Store damage = tt
-fault_registers stored pending command Damaged damage = damage refl
 
 -- ---- rows that stay
 

@@ -1,6 +1,6 @@
 -- A record that was read under its own key, or none, is no damaged one.
-use Rattle.std.proofs.Common.{◌≡◌, ◌⊎◌, inl, inr, ℕ, List, Option, None, Some, Result, Ok, Err, sym, ◌∙◌}
-use Rattle.std.specs.Prelude.{IfOk, IfSome}
+use Rattle.std.proofs.Common.{◌≡◌, ◌⊎◌, inl, inr, ℕ, List, Option, None, Some, sym, ◌∙◌}
+use Rattle.std.specs.Prelude.{IfSome}
 use Rattle.cabinet_core.specs.Within.{IsInspectionWithin, IsOrderWithin, IsUsedLineWithin, IsDeliveryWithin}
 use Rattle.cabinet_core.specs.declared.record.Delivery.{Delivery}
 use Rattle.cabinet_core.specs.declared.record.Inspection.{Inspection}
@@ -14,11 +14,6 @@ use Rattle.office_desk_cabinet.proofs.Undamaged.{stored}
 both_hold : {X : Type 0} (P Q : X → Type 0) (there : Option X) → IfSome there P → IfSome there Q → IfSome there (λ x. P x × Q x)
 both_hold P Q None p q = tt
 both_hold P Q (Some x) p q = (p, q)
-
--- what holds whatever came of a call
-pub whatever : {A E P : Type 0} (result : Result A E) → P → IfOk result (λ _. P)
-whatever (Ok value) p = p
-whatever (Err why) p = tt
 
 pub neither : {A B : Type 0} → ¬ A → ¬ B → ¬ (A ⊎ B)
 neither a b (inl x) = a x

@@ -6,5 +6,6 @@ use Rattle.cabinet_core.proofs.decide.use_part.Goals as goal
 
 pub returns-clause-makes : goal.returns-clause-makes
 returns-clause-makes c = λ id.
-    decision_makes id (UsePart id c.args.asked.now) (c.args.there.now, c.args.order.now, c.args.hand) (Ok (Added c.in_ok-vec.field-0))
-    c.used_line_is_within.ensures (search rules)
+    decision_makes id (UsePart id c.args.asked.now)
+    (c.args.there.now, c.args.order.now, c.args.hand)
+    (Ok (Added c.in_ok-vec.field-0)) c.used_line_is_within.ensures (search rules)

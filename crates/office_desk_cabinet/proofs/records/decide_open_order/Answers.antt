@@ -4,6 +4,9 @@ use Rattle.office_desk_cabinet.proofs.records.decide_open_order.Goals as goal
 
 pub returns-clause-decides : goal.returns-clause-decides
 returns-clause-decides g c =
-    decided 0 _ _ _ (OpenOrder c.args.id c.args.opening.now) c.in_ok-there.there c.open_order-decision.result c.registered.result
-    (λ honest. record { reads = c.in_ok-there.ensures.row honest; whole = c.in_ok-there.ensures.whole honest })
-    c.open_order-decision.ensures.line (c.open_order-decision.ensures.makes c.args.id) c.registered.ensures.tells c.registered.ensures.fault
+    let read = c.in_ok-there.ensures in
+    let says = c.open_order-decision.ensures in
+    decided 0 _ _ _ (OpenOrder c.args.id c.args.opening.now) c.in_ok-there.there
+    c.open_order-decision.result c.registered.result
+    (λ honest. record { reads = read.row honest; whole = read.whole honest })
+    says.line (says.makes c.args.id) c.registered.ensures.tells c.registered.ensures.fault

@@ -14,18 +14,21 @@ returns-clause-decides g c =
     let there = c.in_ok-there.there in
     let hand = c.in_ok-hand.hand in
     let pending = c.args.pending.now in
+    let says = c.receive-decision.ensures in
     decided 0 _ _ _ (Receive asked) (there, hand) c.receive-decision.result c.received.result
     (λ honest.
     let at_hand = c.delivery_at.ensures.kept.honest_before honest in
     let first = c.hand_at.ensures.kept.same_content at_hand in
     record {
       reads = (
-        subst (λ t. ReadsDelivery (changed_by t pending) asked.part asked.number there) first (c.in_ok-there.ensures.row honest),
+        subst (λ t. ReadsDelivery (changed_by t pending) asked.part asked.number there) first
+            (c.in_ok-there.ensures.row honest),
         c.in_ok-hand.ensures.row at_hand,
       );
-      whole = neither (subst (λ t. ¬ HasDamagedDelivery (changed_by t pending) asked.part asked.number) first (c.in_ok-there.ensures.whole honest))
-          (c.in_ok-hand.ensures.whole at_hand);
+      whole =
+          neither (subst (λ t. ¬ HasDamagedDelivery (changed_by t pending) asked.part asked.number)
+          first (c.in_ok-there.ensures.whole honest)) (c.in_ok-hand.ensures.whole at_hand);
     })
-    c.receive-decision.ensures.line (c.receive-decision.ensures.makes 0)
-    (received_tells 0 asked (receive_line there hand asked) hand c.receive-decision.result c.received.result c.receive-decision.ensures.line c.received.ensures.tells)
-    c.received.ensures.fault
+    says.line (says.makes 0)
+    (received_tells 0 asked (receive_line there hand asked) hand c.receive-decision.result
+    c.received.result says.line c.received.ensures.tells) c.received.ensures.fault
