@@ -9,8 +9,8 @@ use Rattle.std.proofs.lemmas.Bool.Decides.{nat_tests}
 use Rattle.std.proofs.lemmas.List.{length-set, get_or-replicate, get_or-set_same, get_or-set_other}
 use Rattle.std.proofs.lemmas.List.Folds.{list_any-append}
 use Rattle.signal_records.specs.declared.number.TheConstants.{PHASES}
-use Rattle.signal_records.specs.PhaseList.{is_phase, may_follow}
-use Rattle.signal_records.proofs.Lists.{and_parts}
+use Rattle.signal_records.specs.PhaseList.{is_phase}
+use Rattle.signal_records.proofs.Lists.{may_follow, and_parts}
 
 -- whether a list has a number
 abbrev has : List ℕ → ℕ → Bool

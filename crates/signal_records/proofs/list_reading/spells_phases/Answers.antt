@@ -3,8 +3,8 @@ use Rattle.std.specs.Str.Parse.{digits_value}
 use Rattle.std.proofs.lemmas.Iterator.Splits.{YieldsList-from_slice_split}
 use Rattle.std.proofs.lemmas.Iterator.Consumers.{YieldsList-at}
 use Rattle.std.proofs.lemmas.List.{map_push}
-use Rattle.signal_records.specs.PhaseList.{may_follow}
 use Rattle.signal_records.specs.Reading.{texts}
+use Rattle.signal_records.proofs.Lists.{may_follow}
 use Rattle.signal_records.proofs.Marks.{none_met, met_tells, met_more}
 use Rattle.signal_records.proofs.Parts.{values, spells, split_turn, split_end}
 use Rattle.signal_records.proofs.Parts.{no_numeral, no_phase, small_phase, one_more}
