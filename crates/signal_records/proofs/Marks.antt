@@ -1,5 +1,7 @@
 -- The phases that were met, as marks at their places.
-use Rattle.std.proofs.Common.{◌≡◌, ℕ, ◌<◌, ◌≤◌, Bool, true, false, eqb, eq-eqb, List, [], ◌∷◌, ◌++◌, length, get_or, set, replicate, inl, inr, refl, sym, ap, ◌∙◌, arith}
+use Rattle.std.proofs.Common.{◌≡◌, ℕ, ◌<◌, ◌≤◌, Bool, true, false, eqb, eq-eqb, inl, inr}
+use Rattle.std.proofs.Common.{List, [], ◌∷◌, ◌++◌, length, get_or, set, replicate}
+use Rattle.std.proofs.Common.{refl, sym, ap, ◌∙◌, arith}
 use Rattle.std.specs.Prelude.{nat_le, not, ◌&&◌, ◌||◌}
 use Rattle.std.specs.List.{list_any}
 use Rattle.std.proofs.lemmas.Bool.{cases_eq, ne_eqb, or_right}
@@ -7,8 +9,12 @@ use Rattle.std.proofs.lemmas.Bool.Decides.{nat_tests}
 use Rattle.std.proofs.lemmas.List.{length-set, get_or-replicate, get_or-set_same, get_or-set_other}
 use Rattle.std.proofs.lemmas.List.Folds.{list_any-append}
 use Rattle.signal_records.specs.declared.number.TheConstants.{PHASES}
-use Rattle.signal_records.specs.PhaseList.{is_phase, may_follow}
-use Rattle.signal_records.proofs.Lists.{and_parts}
+use Rattle.signal_records.specs.PhaseList.{is_phase}
+use Rattle.signal_records.proofs.Lists.{may_follow, and_parts}
+
+-- whether a list has a number
+abbrev has : List ℕ → ℕ → Bool
+has ns n = list_any (λ m. eqb m n) ns
 
 -- each phase, and 0, is marked where the list has it
 pub record AreMet (marks : List Bool) (ns : List ℕ) : Type 0 where
@@ -34,28 +40,36 @@ or_false true = refl
 or_false false = refl
 
 -- the marks tell what may follow
-pub met_tells : (last n : ℕ) (marks : List Bool) (ns : List ℕ) → last ≤ PHASES → AreMet marks ns → (is_phase last n && not (get_or marks n false)) ≡ may_follow last ns n
+pub met_tells : (last n : ℕ) (marks : List Bool) (ns : List ℕ) → last ≤ PHASES → AreMet marks ns
+    → (is_phase last n && not (get_or marks n false)) ≡ may_follow last ns n
 met_tells last n marks ns room met =
-    same_behind (is_phase last n) (not (get_or marks n false)) (not (list_any (λ m. eqb m n) ns)) (λ is. ap not (met.each n (at_phase last n room is)))
+    same_behind (is_phase last n) (not (get_or marks n false)) (not (has ns n))
+    (λ is. ap not (met.each n (at_phase last n room is)))
 
-more_each : (marks : List Bool) (ns : List ℕ) (n k : ℕ) → n < length marks → get_or marks k false ≡ list_any (λ m. eqb m k) ns → get_or (set marks n true) k false ≡ (list_any (λ m. eqb m k) ns || (eqb n k || false))
+more_each : (marks : List Bool) (ns : List ℕ) (n k : ℕ) → n < length marks
+    → get_or marks k false ≡ has ns k
+    → get_or (set marks n true) k false ≡ (has ns k || (eqb n k || false))
 more_each marks ns n k there so_far =
     elim (cases_eq n k) [
       | inl same ↦
-          let here : get_or (set marks n true) k false ≡ true = rw (← same) (get_or-set_same marks n true false there) in
+          let here : get_or (set marks n true) k false ≡ true =
+          rw (← same) (get_or-set_same marks n true false there) in
           let is : (eqb n k || false) ≡ true = rw (eq-eqb n k same) refl in
-          here ∙ sym (or_right (list_any (λ m. eqb m k) ns) (eqb n k || false) is)
+          here ∙ sym (or_right (has ns k) (eqb n k || false) is)
       | inr other ↦
           let as_was = get_or-set_other marks n k true false (λ e. other (sym e)) ∙ so_far in
-          as_was ∙ rw (ne_eqb n k other) (sym (or_false (list_any (λ m. eqb m k) ns)))
+          as_was ∙ rw (ne_eqb n k other) (sym (or_false (has ns k)))
     ]
 
 -- one more phase
-pub met_more : (last n : ℕ) (marks next : List Bool) (ns : List ℕ) → last ≤ PHASES → AreMet marks ns → may_follow last ns n ≡ true → next ≡ set marks n true → AreMet next (ns ++ n ∷ [])
+pub met_more : (last n : ℕ) (marks next : List Bool) (ns : List ℕ) → last ≤ PHASES → AreMet marks ns
+    → may_follow last ns n ≡ true → next ≡ set marks n true → AreMet next (ns ++ n ∷ [])
 met_more last n marks next ns room met may e =
     let long = met.long in
-    let le : n ≤ PHASES = at_phase last n room (and_parts (is_phase last n) (not (list_any (λ m. eqb m n) ns)) may).0 in
+    let phase = (and_parts (is_phase last n) (not (has ns n)) may).0 in
+    let le : n ≤ PHASES = at_phase last n room phase in
     let there : n < length marks = omega arith in
-    let each : (k : ℕ) → k ≤ PHASES → get_or (set marks n true) k false ≡ list_any (λ m. eqb m k) (ns ++ n ∷ []) =
-    λ k small. more_each marks ns n k there (met.each k small) ∙ sym (list_any-append (λ m. eqb m k) ns (n ∷ [])) in
+    let each : (k : ℕ) → k ≤ PHASES → get_or (set marks n true) k false ≡ has (ns ++ n ∷ []) k =
+    λ k small. more_each marks ns n k there (met.each k small)
+    ∙ sym (list_any-append (λ m. eqb m k) ns (n ∷ [])) in
     rw e (record { long = length-set marks n true ∙ long; each = each })

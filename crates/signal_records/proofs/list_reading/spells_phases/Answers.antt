@@ -3,10 +3,11 @@ use Rattle.std.specs.Str.Parse.{digits_value}
 use Rattle.std.proofs.lemmas.Iterator.Splits.{YieldsList-from_slice_split}
 use Rattle.std.proofs.lemmas.Iterator.Consumers.{YieldsList-at}
 use Rattle.std.proofs.lemmas.List.{map_push}
-use Rattle.signal_records.specs.PhaseList.{may_follow}
 use Rattle.signal_records.specs.Reading.{texts}
+use Rattle.signal_records.proofs.Lists.{may_follow}
 use Rattle.signal_records.proofs.Marks.{none_met, met_tells, met_more}
-use Rattle.signal_records.proofs.Parts.{values, spells, split_turn, split_end, no_numeral, no_phase, small_phase, one_more}
+use Rattle.signal_records.proofs.Parts.{values, spells, split_turn, split_end}
+use Rattle.signal_records.proofs.Parts.{no_numeral, no_phase, small_phase, one_more}
 use Rattle.signal_records.proofs.list_reading.spells_phases.Goals as goal
 
 pub loop-part-init : goal.loop-part-init
@@ -19,31 +20,55 @@ loop-part-init c = record {
 
 pub returns-in_default : goal.returns-in_default
 returns-in_default c =
-    let here = split_turn c.args.bytes.now c.if-is_empty.ensures
-    (YieldsList-at c.into_iter-part-iterator.ensures.into_iter_gives (YieldsList-from_slice_split _ (λ b. eqb b 32) c.args.bytes.now c.split-part-items.ensures.rest c.split-part-items.ensures.done c.split-part-items.ensures.closure (λ x b q k. search (rules, tests))))
-    c.loop-part.yielded _ c.loop-part.yielded_by _ c.next.new.self c.in-Some.part c.in-Some.is c.next.ensures.steps in
-    sym (ap (spells c.args.last) here.1 ∙ no_numeral c.args.last (texts c.loop-part.yielded) c.in-Some.part.now here.0 c.in_default.ensures.none)
+    let ts = texts c.loop-part.yielded in
+    let t = c.in-Some.part.now in
+    let here = split_turn
+    c.args.bytes.now c.if-is_empty.ensures
+    (YieldsList-at c.into_iter-part-iterator.ensures.into_iter_gives
+    (YieldsList-from_slice_split _ (λ b. eqb b 32) c.args.bytes.now c.split-part-items.ensures.rest
+    c.split-part-items.ensures.done c.split-part-items.ensures.closure
+    (λ x b q k. search (rules, tests))))
+    c.loop-part.yielded _ c.loop-part.yielded_by _ c.next.new.self
+    c.in-Some.part c.in-Some.is c.next.ensures.steps in
+    let fails = no_numeral c.args.last ts t here.0 c.in_default.ensures.none in
+    sym (ap (spells c.args.last) here.1 ∙ fails)
 
 pub returns-then-not-meets : goal.returns-then-not-meets
 returns-then-not-meets c =
-    let here = split_turn c.args.bytes.now c.if-is_empty.ensures
-    (YieldsList-at c.into_iter-part-iterator.ensures.into_iter_gives (YieldsList-from_slice_split _ (λ b. eqb b 32) c.args.bytes.now c.split-part-items.ensures.rest c.split-part-items.ensures.done c.split-part-items.ensures.closure (λ x b q k. search (rules, tests))))
-    c.loop-part.yielded _ c.loop-part.yielded_by _ c.next.new.self c.in-Some.part c.in-Some.is c.next.ensures.steps in
-    let n = c.in-Some-numeral.n in
-    let may : may_follow c.args.last (values (texts c.loop-part.yielded)) n ≡ false =
-    sym (met_tells c.args.last n c.loop-part.met.met (values (texts c.loop-part.yielded)) c.requires c.loop-part.invariant.met) ∙ sym c.meets.ensures.told ∙ c.if-not-meets.true in
-    sym (ap (spells c.args.last) here.1 ∙ no_phase c.args.last c.requires (texts c.loop-part.yielded) c.in-Some.part.now here.0 n c.in-Some-numeral.ensures.value may)
-
-pub loop-part-preserved : goal.loop-part-preserved
-loop-part-preserved c =
+    let last = c.args.last in
     let n = c.in-Some-numeral.n in
     let ts = texts c.loop-part.yielded in
     let t = c.in-Some.part.now in
-    let may : may_follow c.args.last (values ts) n ≡ true =
-    sym (met_tells c.args.last n c.loop-part.met.met (values ts) c.requires c.loop-part.invariant.met) ∙ sym c.meets.ensures.told ∙ c.if-not-meets.false in
-    let same = small_phase c.args.last c.requires (values ts) (digits_value 10 t) n c.in-Some-numeral.ensures.value may in
-    let met = met_more c.args.last n c.loop-part.met.met c.meets.new.self.met (values ts) c.requires c.loop-part.invariant.met may (c.meets.ensures.met c.if-not-meets.false) in
-    let fits = one_more c.args.last ts t c.loop-part.invariant.fits c.in-Some-numeral.ensures.some (rw same at may) in
+    let here = split_turn
+    c.args.bytes.now c.if-is_empty.ensures
+    (YieldsList-at c.into_iter-part-iterator.ensures.into_iter_gives
+    (YieldsList-from_slice_split _ (λ b. eqb b 32) c.args.bytes.now c.split-part-items.ensures.rest
+    c.split-part-items.ensures.done c.split-part-items.ensures.closure
+    (λ x b q k. search (rules, tests))))
+    c.loop-part.yielded _ c.loop-part.yielded_by _ c.next.new.self
+    c.in-Some.part c.in-Some.is c.next.ensures.steps in
+    let so_far = c.loop-part.invariant in
+    let tells = met_tells last n c.loop-part.met.met (values ts) c.requires so_far.met in
+    let may : may_follow last (values ts) n ≡ false =
+    sym tells ∙ sym c.meets.ensures.told ∙ c.if-not-meets.true in
+    let fails = no_phase last c.requires ts t here.0 n c.in-Some-numeral.ensures.value may in
+    sym (ap (spells last) here.1 ∙ fails)
+
+pub loop-part-preserved : goal.loop-part-preserved
+loop-part-preserved c =
+    let last = c.args.last in
+    let n = c.in-Some-numeral.n in
+    let ts = texts c.loop-part.yielded in
+    let t = c.in-Some.part.now in
+    let so_far = c.loop-part.invariant in
+    let tells = met_tells last n c.loop-part.met.met (values ts) c.requires so_far.met in
+    let may : may_follow last (values ts) n ≡ true =
+    sym tells ∙ sym c.meets.ensures.told ∙ c.if-not-meets.false in
+    let value = c.in-Some-numeral.ensures.value in
+    let same = small_phase last c.requires (values ts) (digits_value 10 t) n value may in
+    let met = met_more last n c.loop-part.met.met c.meets.new.self.met (values ts) c.requires
+    so_far.met may (c.meets.ensures.met c.if-not-meets.false) in
+    let fits = one_more last ts t so_far.fits c.in-Some-numeral.ensures.some (rw same at may) in
     record {
       can_next = search of_calls;
       finite = search of_calls;
@@ -53,7 +78,12 @@ loop-part-preserved c =
 
 pub returns : goal.returns
 returns c =
-    let whole = split_end c.args.bytes.now c.if-is_empty.ensures
-    (YieldsList-at c.into_iter-part-iterator.ensures.into_iter_gives (YieldsList-from_slice_split _ (λ b. eqb b 32) c.args.bytes.now c.split-part-items.ensures.rest c.split-part-items.ensures.done c.split-part-items.ensures.closure (λ x b q k. search (rules, tests))))
-    c.loop-part.yielded _ c.loop-part.yielded_by _ c.next.new.self c.in-None.is c.next.ensures.steps in
+    let whole = split_end
+    c.args.bytes.now c.if-is_empty.ensures
+    (YieldsList-at c.into_iter-part-iterator.ensures.into_iter_gives
+    (YieldsList-from_slice_split _ (λ b. eqb b 32) c.args.bytes.now c.split-part-items.ensures.rest
+    c.split-part-items.ensures.done c.split-part-items.ensures.closure
+    (λ x b q k. search (rules, tests))))
+    c.loop-part.yielded _ c.loop-part.yielded_by _ c.next.new.self
+    c.in-None.is c.next.ensures.steps in
     sym (ap (spells c.args.last) whole ∙ c.loop-part.invariant.fits)

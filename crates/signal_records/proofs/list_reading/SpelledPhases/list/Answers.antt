@@ -10,20 +10,26 @@ use Rattle.signal_records.proofs.list_reading.SpelledPhases.list.Goals as goal
 
 pub from_phases-requires-2 : goal.from_phases-requires-2
 from_phases-requires-2 c =
-    let found = bytes_found c.self.inside.bytes.now c.in_ok-phases.phases.items c.if-is_empty.ensures c.self.invariant
+    let found = bytes_found c.self.inside.bytes.now c.in_ok-phases.phases.items
+    c.if-is_empty.ensures c.self.invariant
     (items_from_collect {E = ℕ} (Ok c.in_ok-phases.phases) c.in_ok-phases.ensures.ran
     (YieldsList-from_filter_map _ phase_in
     (YieldsList-at c.filter_map.ensures.source
-    (YieldsList-from_slice_split _ (λ b. eqb b 32) c.self.inside.bytes.now c.split-parts.ensures.rest c.split-parts.ensures.done c.split-parts.ensures.closure (λ x b q k. search (rules, tests))))
+    (YieldsList-from_slice_split _ (λ b. eqb b 32) c.self.inside.bytes.now
+    c.split-parts.ensures.rest c.split-parts.ensures.done c.split-parts.ensures.closure
+    (λ x b q k. search (rules, tests))))
     c.filter_map.ensures.closure (λ x r q k. search (rules, tests)))) in
     ap (is_phase_list PHASES) found.0 ∙ found.1
 
 pub returns-clause-list : goal.returns-clause-list
 returns-clause-list c =
-    let found = bytes_found c.self.inside.bytes.now c.in_ok-phases.phases.items c.if-is_empty.ensures c.self.invariant
+    let found = bytes_found c.self.inside.bytes.now c.in_ok-phases.phases.items
+    c.if-is_empty.ensures c.self.invariant
     (items_from_collect {E = ℕ} (Ok c.in_ok-phases.phases) c.in_ok-phases.ensures.ran
     (YieldsList-from_filter_map _ phase_in
     (YieldsList-at c.filter_map.ensures.source
-    (YieldsList-from_slice_split _ (λ b. eqb b 32) c.self.inside.bytes.now c.split-parts.ensures.rest c.split-parts.ensures.done c.split-parts.ensures.closure (λ x b q k. search (rules, tests))))
+    (YieldsList-from_slice_split _ (λ b. eqb b 32) c.self.inside.bytes.now
+    c.split-parts.ensures.rest c.split-parts.ensures.done c.split-parts.ensures.closure
+    (λ x b q k. search (rules, tests))))
     c.filter_map.ensures.closure (λ x r q k. search (rules, tests)))) in
     c.from_phases-2.ensures ∙ found.0 ∙ c.self.view_is
