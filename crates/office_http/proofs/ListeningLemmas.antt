@@ -54,7 +54,7 @@ asks_connection told old new sink sink' fresh asks reads = record {
 
 -- a call of `serve` that had its buffer serves a connection
 pub one_connection : {Shelf : Type 0} (storage : Storage Shelf Office Content) (first : Shelf) (held : Content) (before : Office) (last : Shelf) (kept : Content) (after : Office) (start end : Ends) (outcome : Result Served ServeFault)
-    → Did office_protocol (Serves storage (storage.may_leave first) held before last kept after) connection_limit start end outcome
+    → Did office_protocol (Serves storage (storage.may_leave first) held (storage.written first) before last kept after) connection_limit start end outcome
     → TellsFault start end outcome → AsksConnection start end
     → start.source.counts ≡ no_calls → start.sink.counts ≡ no_calls → outcome ≢ Err NoMemory → ServesConnection storage first held before last kept after (connected start end)
 one_connection storage first held before last kept after start end outcome did fault asks source_is_fresh sink_is_fresh has_memory = record {

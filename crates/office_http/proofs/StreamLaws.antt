@@ -11,6 +11,7 @@ use Rattle.office_desk.proofs.RegisterLaws.{runs_register}
 use Rattle.office_desk.proofs.Repeats.{runs_repeat}
 use Rattle.office_desk.proofs.TimingLaw.{runs_timing}
 use Rattle.office_tables_shelf.specs.Content.{Content}
+use Rattle.office_tables_shelf.specs.declared.counts.WriteCounts.{WriteCounts}
 use Rattle.office_http.specs.Laws.{Serves, TellsRead, TellsReplies, asked_in, command_read}
 use Rattle.office_http.specs.Protocol.{AnswersRead, office_protocol, office_storage, read_of}
 use Rattle.office_http_requests.specs.declared.fault.AskFault.{AskFault}
@@ -43,31 +44,31 @@ one_more (Err fault) before mid after answer commands replies rest (inr same) fi
     let here = subst (λ o. (r : Run o commands replies after) × AreSound o commands replies after r) same.1 (run, sound) in
     (replies, here.0, here.1, (inr same.0, tells))
 
-module _ {Shelf : Type 0} (is_honest : Shelf → Type 0) (content : Shelf → Content) (may_leave : Shelf → Content → Type 0) where
+module _ {Shelf : Type 0} (is_honest : Shelf → Type 0) (content : Shelf → Content) (written : Shelf → WriteCounts) (may_leave : Shelf → Content → Type 0) where
   -- what is kept after a request stands for a sound office
-  sound_after : (held kept : Content) (before : Office) (request : PlainRequest) (answer : List ℕ) (after : Office) (how : MayAnswer office_protocol before request answer after)
-      → IsKept office_protocol (office_storage is_honest content may_leave) held kept before request answer after how → IsSound before → IsSound after
-  sound_after held kept before request answer after (inl step) stands sound = stands.sound
-  sound_after held kept before request answer after (inr refused) same sound = subst IsSound (sym refused.1) sound
+  sound_after : (held kept : Content) (old new : WriteCounts) (before : Office) (request : PlainRequest) (answer : List ℕ) (after : Office) (how : MayAnswer office_protocol before request answer after)
+      → IsKept office_protocol (office_storage is_honest content written may_leave) held kept old new before request answer after how → IsSound before → IsSound after
+  sound_after held kept old new before request answer after (inl step) is sound = is.0.sound
+  sound_after held kept old new before request answer after (inr refused) same sound = subst IsSound (sym refused.1) sound
 
-  told : (may : Content → Type 0) (held : Content) (before : Office) (requests : List PlainRequest) (answers : List (List ℕ)) (after : Office) (kept : Content) (at_end : Content → Type 0)
+  told : (may : Content → Type 0) (held : Content) (old : WriteCounts) (before : Office) (requests : List PlainRequest) (answers : List (List ℕ)) (after : Office) (at_end : Content → Type 0) (kept : Content) (new : WriteCounts)
       (run : ProtocolRun office_protocol before requests answers after) → IsSound before
-      → Leaves office_protocol (office_storage is_honest content may_leave) may held before requests answers after run kept at_end → Told before requests answers after
-  told may held before [] [] after kept at_end run sound leaves = record { replies = []; run = sym run; sound = sound; tells = tt }
-  told may held before (request ∷ requests) (answer ∷ answers) after kept at_end run sound leaves =
-      let so_far = told (LeavesOne office_protocol (office_storage is_honest content may_leave) may held leaves.0 before request answer run.0 run.1) leaves.0 run.0 requests answers after kept at_end run.2
-      (sound_after held leaves.0 before request answer run.0 run.1 leaves.1 sound) leaves.2 in
+      → Leaves office_protocol (office_storage is_honest content written may_leave) may held old before requests answers after run at_end kept new → Told before requests answers after
+  told may held old before [] [] after at_end kept new run sound leaves = record { replies = []; run = sym run; sound = sound; tells = tt }
+  told may held old before (request ∷ requests) (answer ∷ answers) after at_end kept new run sound leaves =
+      let so_far = told (LeavesOne office_protocol (office_storage is_honest content written may_leave) may held leaves.0 before request answer run.0 run.1) leaves.0 leaves.1 run.0 requests answers after at_end kept new run.2
+      (sound_after held leaves.0 old leaves.1 before request answer run.0 run.1 leaves.2 sound) leaves.3 in
       let all = one_more (read_of request) before run.0 after answer (asked_in requests) so_far.replies (λ rest. TellsReplies requests rest answers) run.1 sound so_far.run so_far.sound so_far.tells in
       record { replies = all.0; run = all.1; sound = all.2; tells = all.3 }
-  told may held before [] (answer ∷ answers) after kept at_end run sound leaves = absurd run
-  told may held before (request ∷ requests) [] after kept at_end run sound leaves = absurd run
+  told may held old before [] (answer ∷ answers) after at_end kept new run sound leaves = absurd run
+  told may held old before (request ∷ requests) [] after at_end kept new run sound leaves = absurd run
 
   -- a run from a sound office keeps the laws of the office machine
-  pub serves : (may : Content → Type 0) (held : Content) (before : Office) (last : Shelf) (kept : Content) (after : Office) → IsSound before
-      → (requests : List PlainRequest) (answers : List (List ℕ)) → Ran office_protocol (office_storage is_honest content may_leave) may held before last kept after requests answers
-      → Serves (office_storage is_honest content may_leave) may held before last kept after requests answers
-  serves may held before last kept after first requests answers ran =
-      let all = told may held before requests answers after kept (may_leave last) ran.run first ran.leaves in
+  pub serves : (may : Content → Type 0) (held : Content) (old : WriteCounts) (before : Office) (last : Shelf) (kept : Content) (after : Office) → IsSound before
+      → (requests : List PlainRequest) (answers : List (List ℕ)) → Ran office_protocol (office_storage is_honest content written may_leave) may held old before last kept after requests answers
+      → Serves (office_storage is_honest content written may_leave) may held old before last kept after requests answers
+  serves may held old before last kept after first requests answers ran =
+      let all = told may held old before requests answers after (may_leave last) kept (written last) ran.run first ran.leaves in
       record {
         ran = ran;
         laws = record {

@@ -11,7 +11,6 @@ use Rattle.office_desk.specs.declared.reply.Reply.{Reply}
 use Rattle.office_desk.specs.declared.reply.Reply.TheVariants.{Refused}
 use Rattle.office_http_requests.specs.declared.fault.AskFault.{AskFault}
 use Rattle.office_http_framing.specs.Front.{PlainRequest}
-use Rattle.office_http_framing.specs.Protocol.{Run as ProtocolRun}
 use Rattle.office_http_framing.specs.Stops.{Ran, Storage}
 use Rattle.office_tables_shelf.specs.Content.{Content}
 use Rattle.office_http.specs.Protocol.{office_protocol, read_of}
@@ -72,16 +71,12 @@ pub record KeepsLaws (before : Office) (requests : List PlainRequest) (answers :
   pub register : RegisterRuns before (asked_in requests) replies after run
   pub repeats : Repeats before (asked_in requests) replies after run
 
--- a run of the office machine over the requests, which keeps the laws
-abbrev pub RunsLawfully : (before after : Office) → List PlainRequest → List (List ℕ) → Type 0
-RunsLawfully before after requests answers = ProtocolRun office_protocol before requests answers after × KeepsLaws before requests answers after
-
--- What the office did over requests and their answers: it ran over them; the tables that are kept stand for the office after them; a crash
--- leaves no more than the run lets it; and the run keeps the laws.
+-- What the office did over requests and their answers: it ran over them; each wrote the rows that it may; the tables that are kept stand for the
+-- office after them; a crash leaves no more than the run lets it; and the run keeps the laws.
 pub record Serves
-    {Shelf : Type 0} (storage : Storage Shelf Office Content) (may : Content → Type 0) (held : Content) (before : Office) (last : Shelf) (kept : Content) (after : Office)
-    (requests : List PlainRequest) (answers : List (List ℕ)) : Type 0 where
-  pub ran : Ran office_protocol storage may held before last kept after requests answers
+    {Shelf : Type 0} (storage : Storage Shelf Office Content) (may : Content → Type 0) (held : Content) (old : storage.Counts)
+    (before : Office) (last : Shelf) (kept : Content) (after : Office) (requests : List PlainRequest) (answers : List (List ℕ)) : Type 0 where
+  pub ran : Ran office_protocol storage may held old before last kept after requests answers
   pub laws : KeepsLaws before requests answers after
 
 -- whichever the sound office: what each of its committed timing sets means on the street

@@ -99,7 +99,7 @@ pub record ServesConnection
   pub outcome : Result Served ServeFault
   pub source_is_fresh : connection.start.source.counts ≡ no_calls
   pub sink_is_fresh : connection.start.sink.counts ≡ no_calls
-  pub did : Did office_protocol (Serves storage (storage.may_leave first) held before last kept after) connection_limit connection.start connection.end outcome
+  pub did : Did office_protocol (Serves storage (storage.may_leave first) held (storage.written first) before last kept after) connection_limit connection.start connection.end outcome
   pub fault : TellsFault connection.start connection.end outcome
   pub asks : AsksConnection connection.start connection.end
   pub has_memory : outcome ≢ Err NoMemory

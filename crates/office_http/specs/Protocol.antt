@@ -1,13 +1,16 @@
 -- How the office answers requests.
-use Rattle.std.specs.Prelude.{◌≡◌, ℕ, List, Result, Ok, Err}
+use Rattle.std.specs.Prelude.{◌≡◌, ◌⊎◌, ℕ, List, Result, Ok, Err}
+use Rattle.office_desk.specs.Changes.{IsQuery, IsRefused, RiseAtMost}
 use Rattle.office_desk.specs.Office.{Office}
 use Rattle.office_desk.specs.StandFor.{StandForSound}
 use Rattle.office_desk.specs.Step.{answered}
+use Rattle.office_desk.specs.declared.command.Command.{Command}
 use Rattle.office_desk.specs.declared.reply.Reply.{Reply}
 use Rattle.office_http_framing.specs.Front.{PlainRequest}
 use Rattle.office_http_framing.specs.Protocol.{Protocol}
 use Rattle.office_http_framing.specs.Stops.{Storage}
 use Rattle.office_tables_shelf.specs.Content.{Content}
+use Rattle.office_tables_shelf.specs.declared.counts.WriteCounts.{WriteCounts}
 use Rattle.office_http_responses.specs.Answers.{answer_bytes, unavailable_bytes}
 use Rattle.office_http_requests.specs.Commands.{command_at}
 use Rattle.office_http_responses.specs.Faults.{ask_fault_text, framing_fault_text}
@@ -33,9 +36,41 @@ read_of request = command_at request.method request.path request.body
 abbrev pub AnswersRequest : Office → PlainRequest → List ℕ → Office → Type 0
 AnswersRequest before request answer after = AnswersRead (read_of request) before answer after
 
--- how the office is stored in tables
-abbrev pub office_storage : {Shelf : Type 0} → (Shelf → Type 0) → (Shelf → Content) → (Shelf → Content → Type 0) → Storage Shelf Office Content
-office_storage is_honest content may_leave = record { is_honest = is_honest; holds = content; may_leave = may_leave; stands = StandForSound }
+-- from this office the command asks, or is refused
+abbrev pub ChangesNothing : Office → Command → Type 0
+ChangesNothing before command = IsQuery command ⊎ IsRefused (answered before command).0
+
+-- The step of a command wrote at most the rows of its kind, table by table; where it changes
+-- nothing it wrote none, and the tables are the same.
+pub record WritesAsked
+    (before : Office) (command : Command) (held kept : Content) (old new : WriteCounts) : Type 0 where
+  pub bounds : RiseAtMost held command old new
+  pub nothing : ChangesNothing before command → (kept ≡ held) × (new ≡ old)
+
+-- a request that asks nothing wrote no row, and the tables are the same
+abbrev pub WritesRead :
+    Result Asked AskFault → Office → (held kept : Content) → (old new : WriteCounts) → Type 0
+WritesRead (Ok asked) before held kept old new = WritesAsked before asked.command held kept old new
+WritesRead (Err fault) before held kept old new = (kept ≡ held) × (new ≡ old)
+
+-- a request wrote as what it is read as
+abbrev pub WritesRequest :
+    Office → PlainRequest → (held kept : Content) → (old new : WriteCounts) → Type 0
+WritesRequest before request = WritesRead (read_of request) before
+
+-- how the office is stored in tables, whose row writes are counted
+abbrev pub office_storage : {Shelf : Type 0} →
+    (Shelf → Type 0) → (Shelf → Content) → (Shelf → WriteCounts) → (Shelf → Content → Type 0) →
+    Storage Shelf Office Content
+office_storage is_honest content written may_leave = record {
+  is_honest = is_honest;
+  holds = content;
+  may_leave = may_leave;
+  stands = StandForSound;
+  Counts = WriteCounts;
+  written = written;
+  may_write = WritesRequest;
+}
 
 -- the answers of the office
 abbrev pub office_protocol : Protocol Office

@@ -197,7 +197,7 @@ fn serve_connection<S: Shelf, R: Source, W: Sink>(
     requires writer { (W.told connection.old.writer).counts ≡ no_calls }
     ensures clean { S.is_clean office.new → S.is_clean office.old }
     ensures honest { S.is_honest office.new → S.is_honest office.old }
-    ensures did { let storage = office_storage S.is_honest S.content S.may_leave in
+    ensures did { let storage = office_storage S.is_honest S.content S.written S.may_leave in
         S.is_clean office.new →
         (before : OfficeState) (tables : Content) → Keeps storage office.old tables before →
         OnOk result ((after : OfficeState) × (kept : Content)
@@ -232,7 +232,7 @@ pub fn serve_each<S: Shelf, L: Listen>(
 
     // Each connection that the listener gave was served once, as `serve` does, from its first call
     // to its being given back, and no other one.
-    ensures did { let storage = office_storage S.is_honest S.content S.may_leave in
+    ensures did { let storage = office_storage S.is_honest S.content S.written S.may_leave in
         S.is_clean office.new →
         (before : OfficeState) (tables : Content) → Keeps storage office.old tables before →
         (served : List Connected) × Listens storage office.old tables before office.new served
@@ -267,7 +267,7 @@ pub fn serve_on<S: Shelf>(
     ensures honest { S.is_honest office.new → S.is_honest office.old }
 
     // The office served each connection as `serve` does, and no other one; all where it says so.
-    ensures did { let storage = office_storage S.is_honest S.content S.may_leave in
+    ensures did { let storage = office_storage S.is_honest S.content S.written S.may_leave in
         S.is_clean office.new →
         (before : OfficeState) (tables : Content) → Keeps storage office.old tables before →
         (served : List Connected) × Listens storage office.old tables before office.new served

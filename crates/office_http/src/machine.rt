@@ -66,7 +66,7 @@ fn answer_asked<S: Shelf>(
     ensures clean { S.is_clean office.new → S.is_clean office.old }
     ensures honest { S.is_honest office.new → S.is_honest office.old }
     // A request that is read as this is dealt with, whichever office the kept tables stand for.
-    ensures deals { let storage = office_storage S.is_honest S.content S.may_leave in
+    ensures deals { let storage = office_storage S.is_honest S.content S.written S.may_leave in
         S.is_clean office.new → (before : OfficeState) (tables : Content) (request : PlainRequest) →
         read_of request ≡ Ok asked.now → Keeps storage office.old tables before →
         DealsBy office_protocol storage office.old office.new tables before request result }
@@ -94,7 +94,7 @@ impl<S: Shelf> Machine<StreamTools> for Office<S> {
 
     ghost Stored = { Content };
 
-    ghost storage = { office_storage S.is_honest S.content S.may_leave };
+    ghost storage = { office_storage S.is_honest S.content S.written S.may_leave };
 
     ghost is_clean = { λ shelf. S.is_clean shelf };
 

@@ -35,14 +35,17 @@ pub fn serve<S: Shelf, R: Source, W: Sink>(
     ensures honest { S.is_honest office.new → S.is_honest office.old }
 
     // On a clean disk, whether or not a failure shut the tables: the bytes answered are those of
-    // the office machine, run over the requests of the bytes read; the tables that are kept stand
-    // for the office after them; a crash leaves the office after the last request that was answered
-    // and changed rows, or after a later one; and the run keeps the laws.
-    ensures did { let storage = office_storage S.is_honest S.content S.may_leave in
+    // the office machine, run over the requests of the bytes read; each request wrote the rows that
+    // its command may, and a query, a refused command or no command left the tables as they were;
+    // the tables that are kept stand for the office after them; a crash leaves the office after the
+    // last request that was answered and changed rows, or after a later one; and the run keeps the
+    // laws.
+    ensures did { let storage = office_storage S.is_honest S.content S.written S.may_leave in
         S.is_clean office.new →
         (before : OfficeState) (tables : Content) → Keeps storage office.old tables before →
         (after : OfficeState) × (kept : Content) × Did office_protocol
-        (Serves storage (S.may_leave office.old) tables before office.new kept after)
+        (Serves storage (S.may_leave office.old) tables (S.written office.old) before
+        office.new kept after)
         max_requests (ends_of (R.told reader.old) (W.told writer.old))
         (ends_of (R.told reader.new) (W.told writer.new)) result }
 

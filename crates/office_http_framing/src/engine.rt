@@ -92,13 +92,13 @@ pub fn serve<Tools, M: Machine<Tools>, R: Source, W: Sink>(
     ensures honest { M.storage.is_honest machine.new → M.storage.is_honest machine.old }
 
     // What was read, answered and written is a run of the protocol, whether or not a failure shut
-    // the machine; what is kept stands for the state after it; and a crash leaves no more than the
-    // run lets it.
+    // the machine; each request made the writes that it may; what is kept stands for the state
+    // after it; and a crash leaves no more than the run lets it.
     ensures did { M.is_clean machine.new →
         (before : M.State) (held : M.Stored) → Keeps M.storage machine.old held before →
         (after : M.State) × (kept : M.Stored) × Did M.protocol
-        (Ran M.protocol M.storage (M.storage.may_leave machine.old) held before
-        machine.new kept after)
+        (Ran M.protocol M.storage (M.storage.may_leave machine.old) held
+        (M.storage.written machine.old) before machine.new kept after)
         max_requests (ends_of (R.told reader.old) (W.told writer.old))
         (ends_of (R.told reader.new) (W.told writer.new)) result }
     // Read and Write are answered only where that end told a failure, or a write of no byte.

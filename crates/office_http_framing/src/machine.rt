@@ -48,7 +48,7 @@ pub trait Machine<Tools> {
 
     // What it holds now, what a crash may leave of that, the states for which either stands, and
     // whether the machine is honest: what it keeps its state on has returned what was written, and
-    // no failure has shut it.
+    // no failure has shut it. How often it has written, and what a request may write.
     ghost storage: { Storage Self State Stored };
 
     // What the machine keeps its state on has returned what was written, so far, whether or not a
@@ -70,7 +70,8 @@ pub trait Machine<Tools> {
         ensures clean { is_clean self.new → is_clean self.old }
         ensures honest { storage.is_honest self.new → storage.is_honest self.old }
         // Whichever state is kept: the answer is its step, what is kept then stands for the state
-        // after it, and a crash leaves that alone once it has changed. Refused, the state stays.
+        // after it, with no writes but what the step may, and a crash leaves that alone once it has
+        // changed. Refused, what is kept and the count of writes stay.
         ensures deals { is_clean self.new →
             (before : State) (held : Stored) → Keeps storage self.old held before →
             DealsBy protocol storage self.old self.new held before (plain request.now) result };

@@ -43,7 +43,7 @@ returns-then-is_err-clause-did g c clean before tables keeps =
     let so_far = c.loop.invariant.did (served.ensures.clean clean) before tables keeps in
     let same = when_err _ served.result (sym c.if-is_err.ensures.value) served.ensures.untouched in (
       so_far.0,
-      subst (λ office. Listens (office_storage g.S.Shelf.is_honest g.S.Shelf.content g.S.Shelf.may_leave) c.args.office.now tables before office so_far.0) (sym same.1) so_far.1,
+      subst (λ office. Listens (office_storage g.S.Shelf.is_honest g.S.Shelf.content g.S.Shelf.written g.S.Shelf.may_leave) c.args.office.now tables before office so_far.0) (sym same.1) so_far.1,
       (
         omega (arith, c.loop-test.true, so_far.2),
         c.take_back.ensures.counts ∙ (c.in-Ok.ensures.counts ∙ ap one_accepted (c.loop.invariant.counts ∙ ap (λ n. more_accepted n (g.L.Listen.told c.args.listener.now).counts) (sym so_far.2))),

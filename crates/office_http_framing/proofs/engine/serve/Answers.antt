@@ -41,7 +41,7 @@ returns-then-is_err-clause-did g c clean before held keeps =
           (ends_of (g.R.Source.told c.args.reader.now) (g.W.Sink.told c.args.writer.now))
           (ends_of (g.R.Source.told c.loop-left.reader) (g.W.Sink.told c.loop-left.writer))
           (ends_of (g.R.Source.told c.loop-left.reader) (g.W.Sink.told c.serve_request.new.writer)) so_far.2 _ (plain c.in-Whole.request) c.in-Whole.length step.0 c.loop-left-test.true whole
-          (ran-next g.M.Machine.protocol g.M.Machine.storage _ held before c.loop-left.machine c.serve_request.new.machine so_far.1 step.2 so_far.0 (plain c.in-Whole.request) step.0 step.1 step.3 step.4)
+          (ran-next g.M.Machine.protocol g.M.Machine.storage _ held _ before c.loop-left.machine c.serve_request.new.machine so_far.1 step.2 so_far.0 (plain c.in-Whole.request) step.0 step.1 step.3 step.4)
           (Consumes-nil _) (written_in_part c.serve_request.result _ _ step.0 (sym c.if-is_err.ensures.value) step.5),
     )
 
@@ -65,7 +65,7 @@ loop-left-preserved-then-last g c =
             step.2,
             Progress-as _ _ _ _ _ _ _ _ _ _ _ (left_after-last c.loop-left.left request c.if-last.true) (sym c.consume.ensures)
                 (Progress-next _ c.args.max_requests c.loop-left.requests c.loop-left.left buffer (g.R.Source.told c.args.reader.now).bytes (g.R.Source.told c.loop-left.reader).bytes (g.W.Sink.told c.args.writer.now).bytes (g.W.Sink.told c.loop-left.writer).bytes so_far.2 _ request len step.0 (g.W.Sink.told c.serve_request.new.writer).bytes c.loop-left-test.true whole
-                (ran-next g.M.Machine.protocol g.M.Machine.storage _ held before c.loop-left.machine c.serve_request.new.machine so_far.1 step.2 so_far.0 request step.0 step.1 step.3 step.4)
+                (ran-next g.M.Machine.protocol g.M.Machine.storage _ held _ before c.loop-left.machine c.serve_request.new.machine so_far.1 step.2 so_far.0 request step.0 step.1 step.3 step.4)
                 (written_whole c.serve_request.result _ _ step.0 (sym c.if-is_err.ensures.value) step.5)),
           );
       asks = asks-next _ _ _ buffer _ _ c.loop-left.invariant.asks request len _ _ c.loop-left-test.true whole (left_after-last c.loop-left.left request c.if-last.true) (sym c.consume.ensures);
@@ -93,7 +93,7 @@ loop-left-preserved-else-last g c =
             step.2,
             Progress-as _ _ _ _ _ _ _ _ _ _ _ (left_after-other c.loop-left.left request c.if-last.false) (sym c.consume.ensures)
                 (Progress-next _ c.args.max_requests c.loop-left.requests c.loop-left.left buffer (g.R.Source.told c.args.reader.now).bytes (g.R.Source.told c.loop-left.reader).bytes (g.W.Sink.told c.args.writer.now).bytes (g.W.Sink.told c.loop-left.writer).bytes so_far.2 _ request len step.0 (g.W.Sink.told c.serve_request.new.writer).bytes c.loop-left-test.true whole
-                (ran-next g.M.Machine.protocol g.M.Machine.storage _ held before c.loop-left.machine c.serve_request.new.machine so_far.1 step.2 so_far.0 request step.0 step.1 step.3 step.4)
+                (ran-next g.M.Machine.protocol g.M.Machine.storage _ held _ before c.loop-left.machine c.serve_request.new.machine so_far.1 step.2 so_far.0 request step.0 step.1 step.3 step.4)
                 (written_whole c.serve_request.result _ _ step.0 (sym c.if-is_err.ensures.value) step.5)),
           );
       asks = asks-next _ _ _ buffer _ _ c.loop-left.invariant.asks request len _ _ c.loop-left-test.true whole (left_after-other c.loop-left.left request c.if-last.false) (sym c.consume.ensures);

@@ -11,7 +11,7 @@ invariant-loop-left g l = record {
   honest : g.M.Machine.storage.is_honest l.machine → g.M.Machine.storage.is_honest l.fn.machine;
   progress : g.M.Machine.is_clean l.machine → (before : g.M.Machine.State) (held : g.M.Machine.Stored) → Keeps g.M.Machine.storage l.fn.machine held before →
       (after : g.M.Machine.State) × (kept : g.M.Machine.Stored)
-      × Progress (Ran g.M.Machine.protocol g.M.Machine.storage (g.M.Machine.storage.may_leave l.fn.machine) held before l.machine kept after) l.fn.max_requests l.requests l.left l.buffer
+      × Progress (Ran g.M.Machine.protocol g.M.Machine.storage (g.M.Machine.storage.may_leave l.fn.machine) held (g.M.Machine.storage.written l.fn.machine) before l.machine kept after) l.fn.max_requests l.requests l.left l.buffer
       (g.R.Source.told l.fn.reader).bytes (g.R.Source.told l.reader).bytes
       (g.W.Sink.told l.fn.writer).bytes (g.W.Sink.told l.writer).bytes;
   asks : AsksSoFar g.R.Source.told l.fn.max_requests l.left l.buffer l.fn.reader l.reader;

@@ -7,4 +7,4 @@ returns-in-Ok-clause-deals g c clean before tables keeps = c.answer_asked.ensure
 
 pub returns-in-Err-clause-deals : goal.returns-in-Err-clause-deals
 returns-in-Err-clause-deals g c clean before tables keeps =
-    fault_dealt g.S.Shelf.is_honest g.S.Shelf.content g.S.Shelf.may_leave tables before (plain c.args.request.now) keeps.stands c.args.self.now c.in-Err.fault c.answer_fault.result keeps.held c.in-Err.ensures.gives c.answer_fault.ensures
+    fault_dealt g.S.Shelf.is_honest g.S.Shelf.content g.S.Shelf.written g.S.Shelf.may_leave tables before (plain c.args.request.now) keeps.stands c.args.self.now c.in-Err.fault c.answer_fault.result keeps.held c.in-Err.ensures.gives c.answer_fault.ensures
