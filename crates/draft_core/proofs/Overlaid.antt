@@ -1,7 +1,6 @@
 -- What changes leave of a set, key by key, and the draft as the committed set with its rows over it.
-use Rattle.std.proofs.Common.{◌≡◌, ◌+◌, Bool, true, false, cond, List, [], ◌∷◌, map, Option, Some, None, refl, ap, sym, subst, ◌∙◌, arith, add-one}
+use Rattle.std.proofs.Common.{◌≡◌, ◌+◌, Bool, true, false, cond, List, [], ◌∷◌, map, Option, Some, refl, ap, sym, subst, ◌∙◌, arith, add-one}
 use Rattle.std.specs.declared.cmp.Ordering.TheVariants.{Less, Equal, Greater}
-use Rattle.std.specs.Option.{option_or}
 use Rattle.std.specs.List.{Contains}
 use Rattle.std.specs.FinMap.{get, get-insert, get-remove, same_map}
 use Rattle.std.specs.Ordering.{is_eq}
@@ -20,20 +19,21 @@ use Rattle.draft_core.specs.declared.timing.Timing.{Timing}
 use Rattle.draft_core.specs.declared.timing.Reach.{Reach}
 use Rattle.draft_core.specs.declared.timing.Reach.TheVariants as reach
 use Rattle.draft_core.specs.Transaction.{TimingSide, Draft}
-use Rattle.draft_core.specs.DraftRows.{RowsByKey, RowStands, Stands, changed_key, left_by, said_at}
-use Rattle.draft_core.specs.DraftRows.{row_at, overlaid}
+use Rattle.draft_core.specs.DraftRows.{Said, silent, leaves, removes, RowsByKey, RowStands, Stands}
+use Rattle.draft_core.specs.DraftRows.{changed_key, said_by, said_at, later_of, row_at, overlaid}
 
-over : (b : Bool) (row committed : Option Row) → cond b row committed ≡ overlaid committed (cond b (Some row) None)
-over true row committed = refl
-over false row committed = refl
+over : (b : Bool) (said : Said) (committed : Option Row) → cond b (overlaid committed said) committed ≡ overlaid committed (cond b said silent)
+over true said committed = refl
+over false said committed = refl
 
 get-after_change : (set : Rows) (change : Change) (key : Key) → get (after_change set change) key ≡ overlaid (get set key) (said_at change key)
-get-after_change set (Put row) key = get-insert key_total set (key_of row) row key ∙ over (is_eq (key_cmp key (key_of row))) (Some row) (get set key)
-get-after_change set (Remove k) key = get-remove key_total set k key ∙ over (is_eq (key_cmp key k)) None (get set key)
+get-after_change set (Put row) key = get-insert key_total set (key_of row) row key ∙ over (is_eq (key_cmp key (key_of row))) (leaves row) (get set key)
+get-after_change set (Remove k) key = get-remove key_total set k key ∙ over (is_eq (key_cmp key k)) removes (get set key)
 
-pub overlaid-overlaid : (committed : Option Row) (a b : Option (Option Row)) → overlaid (overlaid committed b) a ≡ overlaid committed (option_or a b)
-overlaid-overlaid committed None b = refl
-overlaid-overlaid committed (Some row) b = refl
+pub overlaid-overlaid : (committed : Option Row) (late early : Said) → overlaid (overlaid committed early) late ≡ overlaid committed (later_of late early)
+overlaid-overlaid committed silent early = refl
+overlaid-overlaid committed (leaves row) early = refl
+overlaid-overlaid committed removes early = refl
 
 -- what changes leave of a set, key by key
 pub get-after_changes : (changes : List Change) (set : Rows) (key : Key) → get (after_changes set changes) key ≡ overlaid (get set key) (row_at changes key)
@@ -78,14 +78,14 @@ contains_later : (k key : Key) (keys : List Key) → Contains keys key → Conta
 contains_later k key keys h = (h.0 + 1, omega (arith, h.1), rw add-one h.2)
 
 -- changes say nothing of a key that they do not name
-unnamed : (changes : List Change) (key : Key) → ¬ Contains (map changed_key changes) key → row_at changes key ≡ None
+unnamed : (changes : List Change) (key : Key) → ¬ Contains (map changed_key changes) key → row_at changes key ≡ silent
 unnamed [] key h = refl
 unnamed (change ∷ changes) key h =
-    let later : row_at changes key ≡ None = unnamed changes key (λ has. h (contains_later (changed_key change) key (map changed_key changes) has)) in
-    elim (key_cmp key (changed_key change)) as (λ o. key_cmp key (changed_key change) ≡ o → option_or (row_at changes key) (cond (is_eq o) (Some (left_by change)) None) ≡ None) [
-      | Less ↦ λ is. ap (λ o. option_or o None) later
+    let later : row_at changes key ≡ silent = unnamed changes key (λ has. h (contains_later (changed_key change) key (map changed_key changes) has)) in
+    elim (key_cmp key (changed_key change)) as (λ o. key_cmp key (changed_key change) ≡ o → later_of (row_at changes key) (cond (is_eq o) (said_by change) silent) ≡ silent) [
+      | Less ↦ λ is. ap (λ said. later_of said silent) later
       | Equal ↦ λ is. absurd (h (0, omega arith, sym (key_exact key (changed_key change) is)))
-      | Greater ↦ λ is. ap (λ o. option_or o None) later
+      | Greater ↦ λ is. ap (λ said. later_of said silent) later
     ] refl
 
 -- a set differs from what changes make of it at most at the keys that they name

@@ -1,12 +1,11 @@
 -- What the changes that edit, commit and abandon write make of the rows, and how many they are.
-use Rattle.std.proofs.Common.{◌≡◌, ◌≤◌, Bool, true, false, cond, List, [], ◌∷◌, length, Option, Some, None, refl, ap, ◌∙◌, arith}
-use Rattle.std.specs.Option.{option_or}
+use Rattle.std.proofs.Common.{◌≡◌, ◌≤◌, Bool, true, false, cond, List, [], ◌∷◌, length, Option, refl, ap, sym, ◌∙◌, arith}
 use Rattle.std.specs.Ordering.{eq_by_cmp}
 use Rattle.signal_records.specs.declared.key.Key.{Key}
 use Rattle.signal_records.specs.declared.record.Row.{Row}
 use Rattle.signal_records.specs.declared.record.Change.{Change}
 use Rattle.signal_records.specs.Key.{key_cmp}
-use Rattle.draft_core.specs.DraftRows.{changed_key, left_by, said_at, row_at, overlaid}
+use Rattle.draft_core.specs.DraftRows.{Said, silent, changed_key, said_by, said_at, later_of, row_at, overlaid}
 use Rattle.draft_core.specs.Moves.{committed_after, drafted_in, row_after, timing_writes}
 use Rattle.draft_core.specs.Moves.{draft_writes}
 use Rattle.draft_core.specs.Writes.{drafting, settling, dropping}
@@ -18,17 +17,13 @@ pub committed_after-drafting : (changes : List Change) (key : Key) (committed : 
 committed_after-drafting [] key committed = refl
 committed_after-drafting (change ∷ changes) key committed = committed_after-drafting changes key committed
 
-put_over : (b : Bool) (committed left : Option Row) (row : Option (Option Row)) → overlaid committed (cond b (Some left) row) ≡ overlaid (overlaid committed row) (cond b (Some left) None)
-put_over true committed left row = refl
-put_over false committed left row = refl
-
-pub row_after-drafting : (changes : List Change) (key : Key) (committed : Option Row) (row : Option (Option Row))
-    → overlaid committed (row_after (drafting changes) key row) ≡ overlaid (overlaid committed row) (row_at changes key)
-row_after-drafting [] key committed row = refl
-row_after-drafting (change ∷ changes) key committed row =
+pub row_after-drafting : (changes : List Change) (key : Key) (committed : Option Row) (said : Said)
+    → overlaid committed (row_after (drafting changes) key said) ≡ overlaid (overlaid committed said) (row_at changes key)
+row_after-drafting [] key committed said = refl
+row_after-drafting (change ∷ changes) key committed said =
     row_after-drafting changes key committed _
-    ∙ ap (λ o. overlaid o (row_at changes key)) (put_over (eq_by_cmp key_cmp key (changed_key change)) committed (left_by change) row)
-    ∙ overlaid-overlaid (overlaid committed row) (row_at changes key) (said_at change key)
+    ∙ ap (λ o. overlaid o (row_at changes key)) (sym (overlaid-overlaid committed (said_at change key) said))
+    ∙ overlaid-overlaid (overlaid committed said) (row_at changes key) (said_at change key)
 
 -- ---- a commit makes the draft rows changes of the committed ones, and none is left
 
@@ -39,14 +34,14 @@ committed_after-settling (change ∷ changes) key committed =
     ∙ overlaid-overlaid committed (row_at changes key) (said_at change key)
 
 -- where the changes name the key, or no row is there, none is left
-gone_step : (b : Bool) (at row : Option (Option Row)) (left : Option Row) → (option_or at (cond b (Some left) None) ≡ None → row ≡ None) → at ≡ None → cond b None row ≡ None
-gone_step true at row left h e = refl
-gone_step false at row left h e = h (ap (λ (o : Option (Option Row)). option_or o None) e)
+gone_step : (b : Bool) (at said by : Said) → (later_of at (cond b by silent) ≡ silent → said ≡ silent) → at ≡ silent → cond b silent said ≡ silent
+gone_step true at said by h e = refl
+gone_step false at said by h e = h (ap (λ s. later_of s silent) e)
 
-pub row_after-settling : (changes : List Change) (key : Key) (row : Option (Option Row)) → (row_at changes key ≡ None → row ≡ None) → row_after (settling changes) key row ≡ None
-row_after-settling [] key row h = h refl
-row_after-settling (change ∷ changes) key row h =
-    row_after-settling changes key _ (gone_step (eq_by_cmp key_cmp key (changed_key change)) (row_at changes key) row (left_by change) h)
+pub row_after-settling : (changes : List Change) (key : Key) (said : Said) → (row_at changes key ≡ silent → said ≡ silent) → row_after (settling changes) key said ≡ silent
+row_after-settling [] key said h = h refl
+row_after-settling (change ∷ changes) key said h =
+    row_after-settling changes key _ (gone_step (eq_by_cmp key_cmp key (changed_key change)) (row_at changes key) said (said_by change) h)
 
 -- ---- an abandoned draft leaves the committed rows, and no draft row
 
@@ -54,10 +49,10 @@ pub committed_after-dropping : (changes : List Change) (key : Key) (committed : 
 committed_after-dropping [] key committed = refl
 committed_after-dropping (change ∷ changes) key committed = committed_after-dropping changes key committed
 
-pub row_after-dropping : (changes : List Change) (key : Key) (row : Option (Option Row)) → (row_at changes key ≡ None → row ≡ None) → row_after (dropping changes) key row ≡ None
-row_after-dropping [] key row h = h refl
-row_after-dropping (change ∷ changes) key row h =
-    row_after-dropping changes key _ (gone_step (eq_by_cmp key_cmp key (changed_key change)) (row_at changes key) row (left_by change) h)
+pub row_after-dropping : (changes : List Change) (key : Key) (said : Said) → (row_at changes key ≡ silent → said ≡ silent) → row_after (dropping changes) key said ≡ silent
+row_after-dropping [] key said h = h refl
+row_after-dropping (change ∷ changes) key said h =
+    row_after-dropping changes key _ (gone_step (eq_by_cmp key_cmp key (changed_key change)) (row_at changes key) said (said_by change) h)
 
 -- ---- which draft rows are written, and how many rows
 

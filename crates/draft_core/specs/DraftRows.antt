@@ -1,6 +1,6 @@
 -- The form in which a draft is kept: its changed rows over the committed ones.
 use Rattle.std.specs.Prelude.{◌≡◌, List, [], ◌∷◌, cond, Option, Some, None}
-use Rattle.std.specs.Option.{option_map, option_or}
+use Rattle.std.specs.Option.{option_map}
 use Rattle.std.specs.FinMap.{get}
 use Rattle.std.specs.Ordering.{eq_by_cmp}
 use Rattle.signal_records.specs.Key.{key_cmp}
@@ -24,28 +24,46 @@ abbrev pub left_by : Change → Option Row
 left_by (Put row) = Some row
 left_by (Remove key) = None
 
--- what a change leaves at a key, where it names it
-abbrev pub said_at : Change → Key → Option (Option Row)
-said_at change key = cond (eq_by_cmp key_cmp key (changed_key change)) (Some (left_by change)) None
+-- what draft rows say of a key: nothing, that a row stands there, or that none does
+pub data Said : Type 0 where
+  silent : Said
+  leaves : Row → Said
+  removes : Said
 
--- what changes leave at a key, where they name it; the last one decides
-abbrev pub row_at : List Change → Key → Option (Option Row)
-row_at [] key = None
-row_at (change ∷ changes) key = option_or (row_at changes key) (said_at change key)
+-- what a change says of its key
+abbrev pub said_by : Change → Said
+said_by (Put row) = leaves row
+said_by (Remove key) = removes
 
--- a draft row in place of what is committed: a removal leaves nothing
-abbrev pub overlaid : Option Row → Option (Option Row) → Option Row
-overlaid committed None = committed
-overlaid committed (Some row) = row
+-- what a change says of any key
+abbrev pub said_at : Change → Key → Said
+said_at change key = cond (eq_by_cmp key_cmp key (changed_key change)) (said_by change) silent
+
+-- the later of two, unless it is silent
+abbrev pub later_of : Said → Said → Said
+later_of silent earlier = earlier
+later_of (leaves row) earlier = leaves row
+later_of removes earlier = removes
+
+-- what changes say of a key; the last one that names it decides
+abbrev pub row_at : List Change → Key → Said
+row_at [] key = silent
+row_at (change ∷ changes) key = later_of (row_at changes key) (said_at change key)
+
+-- what stands at a key once that is laid over what is committed there
+abbrev pub overlaid : Option Row → Said → Option Row
+overlaid committed silent = committed
+overlaid committed (leaves row) = Some row
+overlaid committed removes = None
 
 -- THE FORM OF A DRAFT. A draft row overlays the committed row of its key; no draft row stands where nobody holds a draft.
-abbrev pub RowStands : Option Row → Option (Option Row) → Option Draft → Key → Type 0
-RowStands committed row None key = row ≡ None
-RowStands committed row (Some draft) key = get draft.set key ≡ overlaid committed row
+abbrev pub RowStands : Option Row → Said → Option Draft → Key → Type 0
+RowStands committed said None key = said ≡ silent
+RowStands committed said (Some draft) key = get draft.set key ≡ overlaid committed said
 
--- the draft rows of an intersection, each with what it leaves at its key
+-- the draft rows of an intersection: what they say of each key
 abbrev pub RowsByKey : Type 0
-RowsByKey = Key → Option (Option Row)
+RowsByKey = Key → Said
 
 -- what a step reads of a timing side beside its revision and its holder
 abbrev pub IsRead : Reach → Timing → RowsByKey → TimingSide → Type 0

@@ -22,8 +22,7 @@ use Rattle.draft_core.specs.declared.timing.TimingChange.{TimingChange}
 use Rattle.draft_core.specs.declared.timing.TimingChange.TheVariants.{Committed, Drafted, DraftGone}
 use Rattle.draft_core.specs.declared.refusal.DraftRefusal.{DraftRefusal}
 use Rattle.draft_core.specs.declared.refusal.DraftRefusal.TheVariants.{NotNormal, NotTransaction, NotOwner, NotVerify, NotDone, VerifyFailed, RevisionFull, NoMemory}
-use Rattle.draft_core.specs.DraftRows.{RowsByKey, RowStands, Stands, said_at, changed_key, left_by}
-use Rattle.draft_core.specs.DraftRows.{overlaid}
+use Rattle.draft_core.specs.DraftRows.{Said, silent, RowsByKey, RowStands, Stands, later_of, overlaid, said_at}
 use Rattle.draft_core.specs.Transaction.{TimingSide, holder_of, in_stage, state_of, verdict_of}
 
 -- ---- what a list of changes makes of the rows
@@ -36,11 +35,11 @@ committed_after (Drafted change ∷ changes) key committed = committed_after cha
 committed_after (DraftGone gone ∷ changes) key committed = committed_after changes key committed
 
 -- the draft row at a key after changes
-abbrev pub row_after : List TimingChange → Key → Option (Option Row) → Option (Option Row)
-row_after [] key row = row
-row_after (Committed change ∷ changes) key row = row_after changes key row
-row_after (Drafted change ∷ changes) key row = row_after changes key (cond (eq_by_cmp key_cmp key (changed_key change)) (Some (left_by change)) row)
-row_after (DraftGone gone ∷ changes) key row = row_after changes key (cond (eq_by_cmp key_cmp key gone) None row)
+abbrev pub row_after : List TimingChange → Key → Said → Said
+row_after [] key said = said
+row_after (Committed change ∷ changes) key said = row_after changes key said
+row_after (Drafted change ∷ changes) key said = row_after changes key (later_of (said_at change key) said)
+row_after (DraftGone gone ∷ changes) key said = row_after changes key (cond (eq_by_cmp key_cmp key gone) silent said)
 
 -- how many timing rows changes write
 abbrev pub timing_writes : List TimingChange → ℕ

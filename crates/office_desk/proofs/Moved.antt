@@ -1,20 +1,19 @@
 -- The rows of a move make the tables stand for the office with the next timing side.
 use Rattle.std.proofs.Common.{◌≡◌, ℕ, Bool, true, false, List, [], ◌∷◌, cond, Option, Some, None, refl, ap, sym, ◌∙◌}
 use Rattle.std.proofs.lemmas.Bool.{cases_Bool}
-use Rattle.std.specs.Prelude.{◌⊎◌, IfSome}
+use Rattle.std.specs.Prelude.{◌⊎◌}
 use Rattle.std.proofs.Common.{inl, inr}
 use Rattle.std.specs.Option.{option_map}
 use Rattle.std.specs.Ordering.{eq_by_cmp}
 use Rattle.std.specs.FinMap.{get, insert, remove, get-insert, get-remove}
 use Rattle.signal_records.specs.Key.{key_cmp}
-use Rattle.signal_records.specs.KeyOrder.{key_exact}
 use Rattle.signal_records.specs.Row.{key_of}
 use Rattle.signal_records.specs.declared.key.Key.{Key}
 use Rattle.signal_records.specs.declared.record.Row.{Row}
 use Rattle.signal_records.specs.declared.record.Change.{Change}
 use Rattle.signal_records.specs.declared.record.Change.TheVariants.{Put, Remove}
-use Rattle.signal_records.specs.Within.{IsChangeWithin, current_limits}
-use Rattle.draft_core.specs.DraftRows.{RowsByKey, said_at, overlaid, changed_key, left_by}
+use Rattle.draft_core.specs.DraftRows.{RowsByKey, Said, silent, leaves, removes}
+use Rattle.draft_core.specs.DraftRows.{changed_key, later_of, left_by, overlaid, said_at, said_by}
 use Rattle.draft_core.specs.Moves.{Makes, committed_after, drafted_in, next_holder, row_after}
 use Rattle.draft_core.specs.Transaction.{TimingSide}
 use Rattle.draft_core.specs.Within.{AreChangesWithin}
@@ -35,10 +34,10 @@ use Rattle.office_desk.specs.declared.reading.Found.{Found}
 use Rattle.office_desk.specs.Moving.{row_change_of, row_changes_of, moved_row}
 use Rattle.office_desk.specs.Office.{Office, Intersection, side_of}
 use Rattle.office_desk.specs.Reading.{FoundStands, drafts_at}
-use Rattle.office_desk.specs.StandFor.{StandFor, HasTimingKeys, IsLeft, row_of}
+use Rattle.office_desk.specs.StandFor.{StandFor, HasTimingKeys, IsSaid, row_of, said_columns}
 use Rattle.office_desk.specs.Step.{with_intersection}
 use Rattle.office_desk.proofs.KeptRegister.{KeepsRegister, kept_twice}
-use Rattle.office_desk.proofs.ReadBack.{left_at}
+use Rattle.office_desk.proofs.ReadBack.{later_within, said_at_within}
 use Rattle.office_desk.proofs.Stands.{stand_after}
 
 -- ---- what a table has under the keys of an intersection after one change
@@ -139,11 +138,11 @@ all_stay id (change ∷ changes) tables =
 
 -- ---- the rows of the intersection after a move
 
-put_committed : (b : Bool) (row : Row) (c : Option Row) → cond b (Some (timing_columns row)) (option_map timing_columns c) ≡ option_map timing_columns (overlaid c (cond b (Some (Some row)) None))
+put_committed : (b : Bool) (row : Row) (c : Option Row) → cond b (Some (timing_columns row)) (option_map timing_columns c) ≡ option_map timing_columns (overlaid c (cond b (leaves row) silent))
 put_committed true row c = refl
 put_committed false row c = refl
 
-gone_committed : (b : Bool) (c : Option Row) → cond b None (option_map timing_columns c) ≡ option_map timing_columns (overlaid c (cond b (Some None) None))
+gone_committed : (b : Bool) (c : Option Row) → cond b None (option_map timing_columns c) ≡ option_map timing_columns (overlaid c (cond b removes silent))
 gone_committed true c = refl
 gone_committed false c = refl
 
@@ -159,49 +158,42 @@ timing_after id (Committed (Remove k) ∷ changes) tables key c e =
 timing_after id (Drafted change ∷ changes) tables key c e = timing_after id changes (changed tables (row_change_of id (Drafted change))) key c e
 timing_after id (DraftGone k ∷ changes) tables key c e = timing_after id changes (changed tables (row_change_of id (DraftGone k))) key c e
 
-put_draft : (b : Bool) (left : Option Row) (row : Option (Option Row)) → cond b (Some (left_columns left)) (option_map left_columns row) ≡ option_map left_columns (cond b (Some left) row)
-put_draft true left row = refl
-put_draft false left row = refl
+put_draft : (b : Bool) (change : Change) (said : Said) → cond b (Some (left_columns (left_by change))) (said_columns said) ≡ said_columns (later_of (cond b (said_by change) silent) said)
+put_draft true (Put row) said = refl
+put_draft true (Remove k) said = refl
+put_draft false change said = refl
 
-gone_draft : (b : Bool) (row : Option (Option Row)) → cond b None (option_map left_columns row) ≡ option_map left_columns (cond b None row)
-gone_draft true row = refl
-gone_draft false row = refl
+gone_draft : (b : Bool) (said : Said) → cond b None (said_columns said) ≡ said_columns (cond b silent said)
+gone_draft true said = refl
+gone_draft false said = refl
 
-draft_after : (id : ℕ) (changes : List TimingChange) (tables : Content) (key : Key) (row : Option (Option Row)) → get tables.draft (timing_key id key) ≡ option_map left_columns row
-    → get (changed_by tables (row_changes_of id changes)).draft (timing_key id key) ≡ option_map left_columns (row_after changes key row)
-draft_after id [] tables key row e = e
-draft_after id (Committed (Put r) ∷ changes) tables key row e = draft_after id changes (changed tables (row_change_of id (Committed (Put r)))) key row e
-draft_after id (Committed (Remove k) ∷ changes) tables key row e = draft_after id changes (changed tables (row_change_of id (Committed (Remove k)))) key row e
-draft_after id (Drafted change ∷ changes) tables key row e =
-    draft_after id changes (changed tables (row_change_of id (Drafted change))) key (cond (eq_by_cmp key_cmp key (changed_key change)) (Some (left_by change)) row)
+draft_after : (id : ℕ) (changes : List TimingChange) (tables : Content) (key : Key) (said : Said) → get tables.draft (timing_key id key) ≡ said_columns said
+    → get (changed_by tables (row_changes_of id changes)).draft (timing_key id key) ≡ said_columns (row_after changes key said)
+draft_after id [] tables key said e = e
+draft_after id (Committed (Put r) ∷ changes) tables key said e = draft_after id changes (changed tables (row_change_of id (Committed (Put r)))) key said e
+draft_after id (Committed (Remove k) ∷ changes) tables key said e = draft_after id changes (changed tables (row_change_of id (Committed (Remove k)))) key said e
+draft_after id (Drafted change ∷ changes) tables key said e =
+    draft_after id changes (changed tables (row_change_of id (Drafted change))) key (later_of (said_at change key) said)
     (get-put tables.draft id (changed_key change) (left_columns (left_by change)) key ∙ ap (cond (eq_by_cmp key_cmp key (changed_key change)) (Some (left_columns (left_by change)))) e
-    ∙ put_draft (eq_by_cmp key_cmp key (changed_key change)) (left_by change) row)
-draft_after id (DraftGone k ∷ changes) tables key row e =
-    draft_after id changes (changed tables (row_change_of id (DraftGone k))) key (cond (eq_by_cmp key_cmp key k) None row)
-    (get-gone tables.draft id k key ∙ ap (cond (eq_by_cmp key_cmp key k) None) e ∙ gone_draft (eq_by_cmp key_cmp key k) row)
+    ∙ put_draft (eq_by_cmp key_cmp key (changed_key change)) change said)
+draft_after id (DraftGone k ∷ changes) tables key said e =
+    draft_after id changes (changed tables (row_change_of id (DraftGone k))) key (cond (eq_by_cmp key_cmp key k) silent said)
+    (get-gone tables.draft id k key ∙ ap (cond (eq_by_cmp key_cmp key k) None) e ∙ gone_draft (eq_by_cmp key_cmp key k) said)
 
-drafted_left : (change : Change) (key : Key) (row : Option (Option Row))
-    → IsChangeWithin current_limits change → IfSome row (IsLeft key)
-    → IfSome (cond (eq_by_cmp key_cmp key (changed_key change)) (Some (left_by change)) row) (IsLeft key)
-drafted_left change key row within left =
-    elim (eq_by_cmp key_cmp key (changed_key change)) as (λ b. eq_by_cmp key_cmp key (changed_key change) ≡ b → IfSome (cond b (Some (left_by change)) row) (IsLeft key)) [
-      | true ↦ λ named. left_at change key (key_exact _ _ (tied _ named)) within
-      | false ↦ λ named. left
-    ] refl
+gone_within : (b : Bool) (key : Key) (said : Said) → IsSaid key said → IsSaid key (cond b silent said)
+gone_within true key said within = tt
+gone_within false key said within = within
 
-gone_left : (b : Bool) (key : Key) (row : Option (Option Row)) → IfSome row (IsLeft key) → IfSome (cond b None row) (IsLeft key)
-gone_left true key row left = tt
-gone_left false key row left = left
-
-left_after : (changes : List TimingChange) (key : Key) (row : Option (Option Row))
-    → AreChangesWithin (drafted_in changes) → IfSome row (IsLeft key)
-    → IfSome (row_after changes key row) (IsLeft key)
-left_after [] key row within left = left
-left_after (Committed change ∷ changes) key row within left =
-    left_after changes key row within left
-left_after (Drafted change ∷ changes) key row within left = left_after changes key _ within.1 (drafted_left change key row within.0 left)
-left_after (DraftGone k ∷ changes) key row within left =
-    left_after changes key _ within (gone_left (eq_by_cmp key_cmp key k) key row left)
+after_within : (changes : List TimingChange) (key : Key) (said : Said)
+    → AreChangesWithin (drafted_in changes) → IsSaid key said → IsSaid key (row_after changes key said)
+after_within [] key said within before = before
+after_within (Committed change ∷ changes) key said within before =
+    after_within changes key said within before
+after_within (Drafted change ∷ changes) key said within before =
+    after_within changes key _ within.1
+    (later_within key (said_at change key) said (said_at_within change key within.0) before)
+after_within (DraftGone k ∷ changes) key said within before =
+    after_within changes key _ within (gone_within (eq_by_cmp key_cmp key k) key said before)
 
 -- ---- the tables after a move
 
@@ -246,10 +238,10 @@ move_stands tables office id i found clerk move next stand there stands within m
       timing_elsewhere = rest.timing;
       timing_keys = rest.timing_keys stand.timing_keys;
       draft_here = λ key. let held = stand.draft id key in record {
-        row = row_after changes key held.row;
-        stored = draft_after id changes first key held.row held.stored;
+        said = row_after changes key held.said;
+        stored = draft_after id changes first key held.said held.stored;
         stands = makes.draft key;
-        within = left_after changes key held.row within held.within;
+        within = after_within changes key held.said within held.within;
       };
       draft_elsewhere = rest.draft;
       draft_keys = rest.draft_keys stand.draft_keys;

@@ -44,9 +44,9 @@ new_stands tables office id interval name stand absent =
       timing_elsewhere = λ q ne key. refl;
       timing_keys = stand.timing_keys;
       draft_here = λ key. let held = stand.draft id key in record {
-        row = held.row;
+        said = held.said;
         stored = held.stored;
-        stands = subst (λ (s : TimingSide). RowStands (get s.committed key) held.row s.draft key) empty_side held.stands;
+        stands = subst (λ (s : TimingSide). RowStands (get s.committed key) held.said s.draft key) empty_side held.stands;
         within = held.within;
       };
       draft_elsewhere = λ q ne key. refl;

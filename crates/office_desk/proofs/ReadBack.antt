@@ -1,7 +1,7 @@
 -- What was read of an intersection, for whichever sound office the tables stand for.
 use Rattle.std.proofs.Common.{◌≡◌, ℕ, Bool, true, false, List, [], ◌∷◌, cond, Option, Some, None, refl, ap, sym, subst, ◌∙◌}
 use Rattle.std.specs.Prelude.{IfSome}
-use Rattle.std.specs.Option.{option_map, option_or}
+use Rattle.std.specs.Option.{option_map}
 use Rattle.std.specs.Ordering.{eq_by_cmp}
 use Rattle.std.specs.FinMap.{get, same_map}
 use Rattle.signal_records.specs.Key.{key_cmp}
@@ -12,7 +12,8 @@ use Rattle.signal_records.specs.declared.key.Key.{Key}
 use Rattle.signal_records.specs.declared.record.Row.{Row}
 use Rattle.signal_records.specs.declared.record.Change.{Change}
 use Rattle.signal_records.specs.declared.record.Change.TheVariants.{Put, Remove}
-use Rattle.draft_core.specs.DraftRows.{IsRead, RowStands, row_at, said_at, left_by, changed_key}
+use Rattle.draft_core.specs.DraftRows.{Said, silent, leaves, removes, IsRead, RowStands}
+use Rattle.draft_core.specs.DraftRows.{changed_key, later_of, row_at, said_at, said_by}
 use Rattle.draft_core.specs.Transaction.{TimingSide}
 use Rattle.draft_core.specs.Within.{AreChangesWithin}
 use Rattle.draft_core.specs.declared.timing.Timing.{Timing}
@@ -29,7 +30,7 @@ use Rattle.office_desk.specs.declared.reading.Found.{Found}
 use Rattle.office_desk.specs.Office.{Office, Intersection, side_at, side_of}
 use Rattle.office_desk.specs.Reading.{AreWithin, IsMadeOf, Finds, ListsPlan, drafts_at}
 use Rattle.office_desk.specs.Reading.{set_of_rows}
-use Rattle.office_desk.specs.StandFor.{StandForSound, IsLeft, row_of}
+use Rattle.office_desk.specs.StandFor.{StandForSound, IsSaid, row_of, said_columns}
 use Rattle.office_desk.proofs.Stands.{row_read, records_at}
 
 -- ---- the committed set
@@ -73,43 +74,49 @@ committed_read tables office id rows stands lists within = same_map key_total ke
 
 -- ---- the draft rows
 
-abbrev IsLeftWithin : Option Row → Type 0
-IsLeftWithin left = IfSome left IsWithin
-
 abbrev Named : Change → Key → Bool
 Named change key = eq_by_cmp key_cmp key (changed_key change)
 
-pub left_at : (change : Change) (key : Key) → key ≡ changed_key change → IsChangeWithin current_limits change → IsLeft key (left_by change)
-left_at (Put row) key is within = (within, sym is)
-left_at (Remove k) key is within = subst (λ k. IsLeft k None) (sym is) within
+said_by_within : (change : Change) (key : Key) → key ≡ changed_key change → IsChangeWithin current_limits change → IsSaid key (said_by change)
+said_by_within (Put row) key is within = (within, sym is)
+said_by_within (Remove k) key is within = subst (λ k. IsSaid k removes) (sym is) within
 
-said : (change : Change) (key : Key) → IsChangeWithin current_limits change → IfSome (said_at change key) (IsLeft key)
-said change key within = go (Named change key) refl
+-- what a change within its limits says of a key
+pub said_at_within : (change : Change) (key : Key) → IsChangeWithin current_limits change → IsSaid key (said_at change key)
+said_at_within change key within = go (Named change key) refl
   where
-    go : (b : Bool) → Named change key ≡ b → IfSome (cond b (Some (left_by change)) None) (IsLeft key)
-    go true named = left_at change key (key_exact _ _ (tied _ named)) within
+    go : (b : Bool) → Named change key ≡ b → IsSaid key (cond b (said_by change) silent)
+    go true named = said_by_within change key (key_exact _ _ (tied _ named)) within
     go false named = tt
 
-later_or : (key : Key) (a b : Option (Option Row)) → IfSome a (IsLeft key) → IfSome b (IsLeft key) → IfSome (option_or a b) (IsLeft key)
-later_or key None b in_a in_b = in_b
-later_or key (Some a) b in_a in_b = in_a
+pub later_within : (key : Key) (late early : Said) → IsSaid key late → IsSaid key early → IsSaid key (later_of late early)
+later_within key silent early in_late in_early = in_early
+later_within key (leaves row) early in_late in_early = in_late
+later_within key removes early in_late in_early = in_late
 
--- what changes within their limits leave at a key
-pub left_within : (changes : List Change) (key : Key) → AreChangesWithin changes → IfSome (row_at changes key) (IsLeft key)
-left_within [] key within = tt
-left_within (change ∷ changes) key within = later_or key (row_at changes key) (said_at change key) (left_within changes key within.1) (said change key within.0)
+-- and changes
+pub row_at_within : (changes : List Change) (key : Key) → AreChangesWithin changes → IsSaid key (row_at changes key)
+row_at_within [] key within = tt
+row_at_within (change ∷ changes) key within = later_within key (row_at changes key) (said_at change key) (row_at_within changes key within.1) (said_at_within change key within.0)
 
-is_within : (key : Key) (left : Option Row) → IsLeft key left → IsLeftWithin left
-is_within key None h = tt
-is_within key (Some row) h = h.0
-
-drafts_tell : (key : Key) (a b : Option (Option Row)) → option_map left_columns a ≡ option_map left_columns b → IfSome a (IsLeft key) → IfSome b (IsLeft key) → a ≡ b
-drafts_tell key None None e in_a in_b = refl
-drafts_tell key None (Some y) e in_a in_b = cc
-drafts_tell key (Some x) None e in_a in_b = cc
-drafts_tell key (Some x) (Some y) e in_a in_b =
-    let same : left_columns x ≡ left_columns y = cc in
-    ap (λ (left : Option Row). Some left) (left_columns_tell x y (is_within key x in_a) (is_within key y in_b) same)
+-- the columns of a draft row tell what it says
+drafts_tell : (key : Key) (a b : Said) → said_columns a ≡ said_columns b → IsSaid key a → IsSaid key b → a ≡ b
+drafts_tell key silent silent e in_a in_b = refl
+drafts_tell key silent (leaves y) e in_a in_b = cc
+drafts_tell key silent removes e in_a in_b = cc
+drafts_tell key (leaves x) silent e in_a in_b = cc
+drafts_tell key removes silent e in_a in_b = cc
+drafts_tell key removes removes e in_a in_b = refl
+drafts_tell key (leaves x) (leaves y) e in_a in_b =
+    let cells : left_columns (Some x) ≡ left_columns (Some y) = cc in
+    let same : Some x ≡ Some y = left_columns_tell (Some x) (Some y) in_a.0 in_b.0 cells in
+    let is : x ≡ y = cc in ap (λ (row : Row). leaves row) is
+drafts_tell key (leaves x) removes e in_a in_b =
+    let cells : left_columns (Some x) ≡ left_columns None = cc in
+    let same : Some x ≡ None = left_columns_tell (Some x) None in_a.0 tt cells in cc
+drafts_tell key removes (leaves y) e in_a in_b =
+    let cells : left_columns None ≡ left_columns (Some y) = cc in
+    let same : None ≡ Some y = left_columns_tell None (Some y) tt in_b.0 cells in cc
 
 -- ---- what was read of the plan
 
@@ -119,9 +126,9 @@ drafts_read : (tables : Content) (office : Office) (id : ℕ) (changes : List Ch
     → (key : Key) → row_at changes key ≡ drafts_at stands.stand id key
 drafts_read tables office id changes stands drafts within key =
     let held = stands.stand.draft id key in
-    drafts_tell key (row_at changes key) held.row (sym
+    drafts_tell key (row_at changes key) held.said (sym
     (get_listed_draft tables id changes drafts key) ∙ held.stored)
-    (left_within changes key within) held.within
+    (row_at_within changes key within) held.within
 
 plan_read : (reach : Reach) (tables : Content) (office : Office) (id : ℕ) (rows : List Row)
     (timing : Timing) (stands : StandForSound tables office)

@@ -88,7 +88,7 @@ stands_after tables changes office next stands leaves register = record {
     timing = λ id key. ap (λ (rows : Rows). get rows (timing_key id key)) leaves.timing ∙ stands.stand.timing id key;
     timing_keys = λ cells columns at. stands.stand.timing_keys cells columns (sym (ap (λ (rows : Rows). get rows cells) leaves.timing) ∙ at);
     draft = λ id key. let held = stands.stand.draft id key in record {
-      row = held.row;
+      said = held.said;
       stored = ap (λ (rows : Rows). get rows (timing_key id key)) leaves.draft ∙ held.stored;
       stands = held.stands;
       within = held.within;

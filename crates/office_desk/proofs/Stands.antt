@@ -14,7 +14,7 @@ use Rattle.signal_records.specs.Words.{AreWords}
 use Rattle.signal_records.specs.declared.key.Key.{Key}
 use Rattle.signal_records.specs.declared.record.Row.{Row}
 use Rattle.signal_records.specs.declared.record.Change.TheVariants.{Put, Remove}
-use Rattle.draft_core.specs.DraftRows.{RowStands}
+use Rattle.draft_core.specs.DraftRows.{Said, silent, leaves, removes, RowStands}
 use Rattle.draft_core.specs.Transaction.{Draft, TimingSide, holder_of}
 use Rattle.office_tables_shelf.proofs.CellLemmas.{cell_exact, tied}
 use Rattle.office_tables_shelf.proofs.KeyCells.{intersection_order}
@@ -29,7 +29,7 @@ use Rattle.draft_core.specs.declared.timing.Reach.{Reach}
 use Rattle.draft_core.specs.declared.timing.Reach.TheVariants as reach
 use Rattle.office_desk.specs.Damage.{HasDamageIn, HasDamagedPlan}
 use Rattle.office_desk.specs.Office.{Office, Intersection, IsSound, IsSoundIntersection, IsSoundDraft, AreRecords, side_at, side_of}
-use Rattle.office_desk.specs.StandFor.{StandFor, StandForSound, DraftRowStands, HasTimingKeys, IsLeft, row_of, columns_of}
+use Rattle.office_desk.specs.StandFor.{StandFor, StandForSound, DraftRowStands, HasTimingKeys, IsSaid, row_of, columns_of, said_columns}
 use Rattle.office_desk.specs.Step.{with_intersection}
 use Rattle.office_desk.proofs.EmptySet.{no_records}
 use Rattle.office_desk.proofs.KeptRegister.{KeepsRegister, still_stands}
@@ -110,14 +110,14 @@ no_damaged_draft tables id damaged office stands =
     let keyed = stands.stand.draft_keys damaged.key damaged.columns damaged.stored in
     let here : damaged.key ≡ timing_key id keyed.1 = own_key id keyed.0 keyed.1 damaged.key damaged.of keyed.2 in
     let held = stands.stand.draft id keyed.1 in
-    go keyed.1 here held.row (sym damaged.stored ∙ ap (get tables.draft) here ∙ held.stored) held.within
+    go keyed.1 here held.said (sym damaged.stored ∙ ap (get tables.draft) here ∙ held.stored) held.within
   where
-    go : (key : Key) → damaged.key ≡ timing_key id key → (row : Option (Option Row)) → Some damaged.columns ≡ option_map left_columns row → IfSome row (IsLeft key) → ⊥
-    go key here None is within = cc
-    go key here (Some None) is within =
+    go : (key : Key) → damaged.key ≡ timing_key id key → (said : Said) → Some damaged.columns ≡ said_columns said → IsSaid key said → ⊥
+    go key here silent is within = cc
+    go key here removes is within =
         let same : damaged.columns ≡ left_columns None = cc in
         damaged.no_row (Remove key) within here same
-    go key here (Some (Some row)) is within =
+    go key here (leaves row) is within =
         let same : damaged.columns ≡ left_columns (Some row) = cc in
         damaged.no_row (Put row) within.0 (here ∙ ap (timing_key id) (sym within.1)) same
 
@@ -161,16 +161,16 @@ side_elsewhere office id q i b = ap side_of (get-insert nat_cmp_total office.int
 
 -- the draft row at a key, of a timing side
 pub record RowOf (tables : Content) (side : TimingSide) (id : ℕ) (key : Key) : Type 0 where
-  pub row : Option (Option Row)
-  pub stored : get tables.draft (timing_key id key) ≡ option_map left_columns row
-  pub stands : RowStands (get side.committed key) row side.draft key
-  pub within : IfSome row (IsLeft key)
+  pub said : Said
+  pub stored : get tables.draft (timing_key id key) ≡ said_columns said
+  pub stands : RowStands (get side.committed key) said side.draft key
+  pub within : IsSaid key said
 
 row_at_side : (tables : Content) (office : Office) (id : ℕ) (key : Key) (side : TimingSide) → side_at office id ≡ side → RowOf tables side id key → DraftRowStands tables office id key
 row_at_side tables office id key side same h = record {
-  row = h.row;
+  said = h.said;
   stored = h.stored;
-  stands = subst (λ (s : TimingSide). RowStands (get s.committed key) h.row s.draft key) (sym same) h.stands;
+  stands = subst (λ (s : TimingSide). RowStands (get s.committed key) h.said s.draft key) (sym same) h.stands;
   within = h.within;
 }
 
@@ -199,7 +199,7 @@ draft_at old new office id i stand new_rows q key = elim (compared q id) [
   | two e b ↦
       let held = stand.draft q key in
       row_at_side new (with_intersection office id i) q key (side_at office q) (side_elsewhere office id q i b) (record {
-        row = held.row;
+        said = held.said;
         stored = new_rows.draft_elsewhere q e key ∙ held.stored;
         stands = held.stands;
         within = held.within;

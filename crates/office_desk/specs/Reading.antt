@@ -53,7 +53,7 @@ ListsFound reach tables id found =
 -- the draft rows of an intersection, in tables that stand for an office
 abbrev pub drafts_at : {tables : Content} {office : Office} → StandFor tables office → ℕ
     → RowsByKey
-drafts_at stand id key = (stand.draft id key).row
+drafts_at stand id key = (stand.draft id key).said
 
 -- what was found stands, with draft rows, for the intersection, as far as it was read
 pub record FoundStands (reach : Reach) (rows : RowsByKey) (i : Intersection)

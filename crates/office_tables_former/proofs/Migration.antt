@@ -30,14 +30,14 @@ use Rattle.signal_rules.specs.BeforeLead.{HasNoLead, violations_before_lead}
 use Rattle.signal_rules.specs.Lookup.{the_phase}
 use Rattle.signal_rules.specs.Violations.{violations_of}
 use Rattle.signal_rules.proofs.BeforeLead.{same_violations}
-use Rattle.draft_core.specs.DraftRows.{left_by, changed_key}
+use Rattle.draft_core.specs.DraftRows.{Said, silent, leaves, removes, left_by, changed_key}
 use Rattle.draft_core.specs.Transaction.{Draft}
 use Rattle.office_tables_shelf.specs.Cells.{Cell, text, Rows, cells_cmp, rows_by}
 use Rattle.office_tables_shelf.specs.Change.{changed_by}
 use Rattle.office_tables_shelf.specs.Content.{Content}
 use Rattle.office_tables_shelf.specs.Office.{Office, Intersection, side_at, side_of, AreRecordsIn, IsSoundIntersectionIn, IsSoundDraftIn, today, version_1}
 use Rattle.office_tables_shelf.specs.Rows.{timing_key, timing_columns_in, left_columns_in, body_in}
-use Rattle.office_tables_shelf.specs.StandFor.{IsTimingKey, HasTimingKeys, IsLeftIn, StandForSoundIn}
+use Rattle.office_tables_shelf.specs.StandFor.{IsTimingKey, HasTimingKeys, IsSaidIn, said_columns_in, StandForSoundIn}
 use Rattle.office_tables_shelf.specs.RegisterStands.{RegisterStands}
 use Rattle.office_tables_shelf.proofs.CellLemmas.{cells_total, cells_exact, is_under, find_entry, get_by, tied}
 use Rattle.office_tables_sql.proofs.BodyReading.{same_row}
@@ -224,13 +224,10 @@ key_more (key.Seq n ring) within = let top = within.1.1 in (within.0, (within.1.
 key_more (key.Split n p) within = let top = within.1.1 in (within.0, (within.1.0, omega arith))
 key_more (key.Pattern n) within = within
 
-left_more : (k : Key) (left : Option Row) → IsLeftIn version_1 k left → IsLeftIn today k left
-left_more k None within = key_more k within
-left_more k (Some r) within = (row_more r within.0, within.1)
-
-any_left_more : (k : Key) (row : Option (Option Row)) → IfSome row (IsLeftIn version_1 k) → IfSome row (IsLeftIn today k)
-any_left_more k None within = tt
-any_left_more k (Some left) within = left_more k left within
+said_more : (k : Key) (said : Said) → IsSaidIn version_1 k said → IsSaidIn today k said
+said_more k silent within = tt
+said_more k (leaves r) within = (row_more r within.0, within.1)
+said_more k removes within = key_more k within
 
 record_more : (k : Key) (o : Option Row) → IfSome o (λ r. IsRowWithin version_1_limits r × (key_of r ≡ k)) → IfSome o (λ r. IsRowWithin current_limits r × (key_of r ≡ k))
 record_more k None h = tt
@@ -269,29 +266,42 @@ left_within : (change : Change) → IsChangeWithin version_1_limits change → I
 left_within (Put r) within = within
 left_within (Remove k) within = tt
 
-is_left_within : (k : Key) (left : Option Row) → IsLeftIn version_1 k left → IfSome left (IsRowWithin version_1_limits)
-is_left_within k None within = tt
-is_left_within k (Some r) within = within.0
+-- a row that is said to stand is within the limits of version 1
+abbrev LeavesWithin : Said → Type 0
+LeavesWithin silent = Unit {0}
+LeavesWithin (leaves r) = IsRowWithin version_1_limits r
+LeavesWithin removes = Unit {0}
 
-any_left_within : (k : Key) (row : Option (Option Row)) → IfSome row (IsLeftIn version_1 k) → IfSome row (λ left. IfSome left (IsRowWithin version_1_limits))
-any_left_within k None within = tt
-any_left_within k (Some left) within = is_left_within k left within
+leaves_within : (k : Key) (said : Said) → IsSaidIn version_1 k said → LeavesWithin said
+leaves_within k silent within = tt
+leaves_within k (leaves r) within = within.0
+leaves_within k removes within = tt
 
 module _ (old new : Rows) (ks : List Kept) (anew : IsSpelledAnew old new ks) where
-  left_anew : (q : List Cell) (left : Option (Option Row)) → IfSome left (λ l. IfSome l (IsRowWithin version_1_limits)) → get old q ≡ option_map (left_columns_in version_1_limits) left → get new q ≡ option_map (left_columns_in current_limits) left
-  left_anew q left within is =
+  -- a row that was found, and what it leaves
+  kept_anew : (q : List Cell) (k : Kept) (left : Option Row) → find (is_under kept_key kept_columns q) ks ≡ Some k → IfSome left (IsRowWithin version_1_limits)
+      → left_columns_in version_1_limits (left_by k.1) ≡ left_columns_in version_1_limits left → Some (kept_columns k) ≡ Some (left_columns_in current_limits left)
+  kept_anew q k left at within cells =
+      let in_k = all_has (λ (k : Kept). IsChangeWithin version_1_limits k.1) ks k anew.before.within (found_has (is_under kept_key kept_columns q) ks k at).0 in
+      ap (λ (l : Option Row). Some (left_columns_in current_limits l)) (same_left (left_by k.1) left (left_within k.1 in_k) within cells)
+
+  said_anew : (q : List Cell) (said : Said) → LeavesWithin said → get old q ≡ said_columns_in version_1_limits said → get new q ≡ said_columns_in current_limits said
+  said_anew q said within is =
       ap (λ (rows : Rows). get rows q) anew.after ∙ get_by kept_key kept_columns ks q
-      ∙ go (find (is_under kept_key kept_columns q) ks) refl left within (sym (was old ks anew.before q) ∙ is)
+      ∙ go (find (is_under kept_key kept_columns q) ks) refl said within (sym (was old ks anew.before q) ∙ is)
     where
-      go : (o : Option Kept) → find (is_under kept_key kept_columns q) ks ≡ o → (left : Option (Option Row)) → IfSome left (λ l. IfSome l (IsRowWithin version_1_limits))
-          → option_map former o ≡ option_map (left_columns_in version_1_limits) left → option_map kept_columns o ≡ option_map (left_columns_in current_limits) left
-      go None at None within e = refl
-      go None at (Some l) within e = cc
-      go (Some k) at None within e = cc
-      go (Some k) at (Some l) within e =
-          let cells : left_columns_in version_1_limits (left_by k.1) ≡ left_columns_in version_1_limits l = cc in
-          let in_k = all_has (λ (k : Kept). IsChangeWithin version_1_limits k.1) ks k anew.before.within (found_has (is_under kept_key kept_columns q) ks k at).0 in
-          ap (λ (l : Option Row). Some (left_columns_in current_limits l)) (same_left (left_by k.1) l (left_within k.1 in_k) within cells)
+      go : (o : Option Kept) → find (is_under kept_key kept_columns q) ks ≡ o → (said : Said) → LeavesWithin said
+          → option_map former o ≡ said_columns_in version_1_limits said → option_map kept_columns o ≡ said_columns_in current_limits said
+      go None at silent within e = refl
+      go None at (leaves r) within e = cc
+      go None at removes within e = cc
+      go (Some k) at silent within e = cc
+      go (Some k) at (leaves r) within e =
+          let cells : left_columns_in version_1_limits (left_by k.1) ≡ left_columns_in version_1_limits (Some r) = cc in
+          kept_anew q k (Some r) at within cells
+      go (Some k) at removes within e =
+          let cells : left_columns_in version_1_limits (left_by k.1) ≡ left_columns_in version_1_limits None = cc in
+          kept_anew q k None at tt cells
 
   keys_anew : HasTimingKeys new
   keys_anew q columns is = go (find (is_under kept_key kept_columns q) ks) refl (sym (get_by kept_key kept_columns ks q) ∙ sym (ap (λ (rows : Rows). get rows q) anew.after) ∙ is)
@@ -300,11 +310,16 @@ module _ (old new : Rows) (ks : List Kept) (anew : IsSpelledAnew old new ks) whe
       go None at e = absurd (let none = e in cc)
       go (Some k) at e = (k.0, changed_key k.1, cells_exact q (kept_key k) (tied _ (found_has (is_under kept_key kept_columns q) ks k at).1))
 
-committed_left : (limits : Limits) (o : Option Row) → option_map (timing_columns_in limits) o ≡ option_map (left_columns_in limits) (option_map (λ r. Some r) o)
-committed_left limits None = refl
-committed_left limits (Some r) = refl
+-- a committed row, said as a draft row would say it
+abbrev standing : Option Row → Said
+standing None = silent
+standing (Some r) = leaves r
 
-committed_within : (k : Key) (o : Option Row) → IfSome o (λ r. IsRowWithin version_1_limits r × (key_of r ≡ k)) → IfSome (option_map (λ (r : Row). Some r) o) (λ l. IfSome l (IsRowWithin version_1_limits))
+committed_said : (limits : Limits) (o : Option Row) → option_map (timing_columns_in limits) o ≡ said_columns_in limits (standing o)
+committed_said limits None = refl
+committed_said limits (Some r) = refl
+
+committed_within : (k : Key) (o : Option Row) → IfSome o (λ r. IsRowWithin version_1_limits r × (key_of r ≡ k)) → LeavesWithin (standing o)
 committed_within k None h = tt
 committed_within k (Some r) h = h.0
 
@@ -348,11 +363,11 @@ stand_anew old new count office it before =
           intersection = ap (λ (t : Content). t.intersection) it.others ∙ stand.intersection;
           timing = λ id k.
               let o = get (side_at office id).committed k in
-              left_anew old.timing new.timing it.timing it.timing_rows (timing_key id k) (option_map (λ (r : Row). Some r) o) (committed_within k o (in_timing id k)) (stand.timing id k ∙ committed_left version_1_limits o) ∙ sym (committed_left current_limits o);
+              said_anew old.timing new.timing it.timing it.timing_rows (timing_key id k) (standing o) (committed_within k o (in_timing id k)) (stand.timing id k ∙ committed_said version_1_limits o) ∙ sym (committed_said current_limits o);
           timing_keys = keys_anew old.timing new.timing it.timing it.timing_rows;
           draft = λ id k.
               let d = stand.draft id k in
-              record { row = d.row; stored = left_anew old.draft new.draft it.draft it.draft_rows (timing_key id k) d.row (any_left_within k d.row d.within) d.stored; stands = d.stands; within = any_left_more k d.row d.within };
+              record { said = d.said; stored = said_anew old.draft new.draft it.draft it.draft_rows (timing_key id k) d.said (leaves_within k d.said d.within) d.stored; stands = d.stands; within = said_more k d.said d.within };
           draft_keys = keys_anew old.draft new.draft it.draft it.draft_rows;
           register = subst (λ (t : Content). RegisterStands t office.register) (sym it.others)
               (record { inspection = stand.register.inspection; work_order = stand.register.work_order; used_part = stand.register.used_part; delivery = stand.register.delivery; part = stand.register.part });

@@ -17,11 +17,12 @@ use Rattle.signal_records.specs.TimingSet as set
 use Rattle.signal_records.specs.declared.key.Key.{Key}
 use Rattle.signal_records.specs.declared.record.Row.{Row}
 use Rattle.signal_records.specs.declared.record.Change.{Change}
-use Rattle.signal_records.specs.declared.record.Change.TheVariants.{Put}
-use Rattle.draft_core.specs.DraftRows.{changed_key, left_by, row_at}
+use Rattle.signal_records.specs.declared.record.Change.TheVariants.{Put, Remove}
+use Rattle.draft_core.specs.DraftRows.{Said, silent, leaves, removes, changed_key, said_by, later_of, row_at}
 use Rattle.office_tables_shelf.specs.Cells.{Cell, Rows, number, cells_cmp}
 use Rattle.office_tables_shelf.specs.Content.{Content}
-use Rattle.office_tables_shelf.specs.Rows.{timing_key, timing_columns, left_columns, draft_columns}
+use Rattle.office_tables_shelf.specs.Rows.{timing_key, timing_columns, draft_columns}
+use Rattle.office_tables_shelf.specs.StandFor.{said_columns}
 use Rattle.office_tables_shelf.specs.Shelf.{is_of, rows_of, ListsTiming, ListsDraft}
 use Rattle.office_tables_shelf.proofs.CellLemmas.{cells_exact, cell_total, is_under, first_under, find_entry, tied}
 use Rattle.office_tables_shelf.proofs.ListLemmas.{parts, less}
@@ -138,28 +139,39 @@ get_timing tables id rows lists key =
 pub draft_keys_rise : (tables : Content) (id : ℕ) (changes : List Change) → ListsDraft tables id changes → IsStrictlySortedBy key_cmp (map changed_key changes)
 draft_keys_rise tables id changes lists = listed_rise changed_key draft_columns id tables.draft changes lists
 
+-- what a change says of its key, where there is one
+abbrev any_said : Option Change → Said
+any_said None = silent
+any_said (Some change) = said_by change
+
+alone : (said : Said) → later_of said silent ≡ said
+alone silent = refl
+alone (leaves row) = refl
+alone removes = refl
+
 -- where each key is named once, the last change that names it is the first
-pub row_at_first : (changes : List Change) → IsStrictlySortedBy key_cmp (map changed_key changes) → (key : Key) → row_at changes key ≡ option_map left_by (first_at changed_key changes key)
+pub row_at_first : (changes : List Change) → IsStrictlySortedBy key_cmp (map changed_key changes) → (key : Key) → row_at changes key ≡ any_said (first_at changed_key changes key)
 unfolding IsStrictlySortedBy
 row_at_first [] rise key = refl
 row_at_first (change ∷ changes) rise key = go (cases_Bool (eq_by_cmp key_cmp key (changed_key change))) (row_at_first changes rise.1 key)
   where
     go : (eq_by_cmp key_cmp key (changed_key change) ≡ true) ⊎ (eq_by_cmp key_cmp key (changed_key change) ≡ false)
-        → row_at changes key ≡ option_map left_by (first_at changed_key changes key)
-        → row_at (change ∷ changes) key ≡ option_map left_by (first_at changed_key (change ∷ changes) key)
+        → row_at changes key ≡ any_said (first_at changed_key changes key)
+        → row_at (change ∷ changes) key ≡ any_said (first_at changed_key (change ∷ changes) key)
     go (inl hit) later = rw (later, hit, none_above changed_key draft_columns 0 change changes key rise.0 (tied _ hit))
-    go (inr miss) later = rw (miss, later) (or_none (option_map left_by (first_at changed_key changes key)))
+    go (inr miss) later = rw (miss, later) (alone (any_said (first_at changed_key changes key)))
 
-twice : (o : Option Change) → option_map draft_columns o ≡ option_map left_columns (option_map left_by o)
-twice None = refl
-twice (Some change) = refl
+stored_said : (o : Option Change) → option_map draft_columns o ≡ said_columns (any_said o)
+stored_said None = refl
+stored_said (Some (Put row)) = refl
+stored_said (Some (Remove k)) = refl
 
--- the table of draft rows has at a key what the changes of the list leave there
-pub get_listed_draft : (tables : Content) (id : ℕ) (changes : List Change) → ListsDraft tables id changes → (key : Key) → get tables.draft (timing_key id key) ≡ option_map left_columns (row_at changes key)
+-- the table of draft rows has at a key what the changes of the list say of it
+pub get_listed_draft : (tables : Content) (id : ℕ) (changes : List Change) → ListsDraft tables id changes → (key : Key) → get tables.draft (timing_key id key) ≡ said_columns (row_at changes key)
 get_listed_draft tables id changes lists key =
     get_listed changed_key draft_columns id tables.draft changes lists key
-    ∙ twice (first_at changed_key changes key)
-    ∙ ap (option_map left_columns) (sym (row_at_first changes (draft_keys_rise tables id changes lists) key))
+    ∙ stored_said (first_at changed_key changes key)
+    ∙ ap said_columns (sym (row_at_first changes (draft_keys_rise tables id changes lists) key))
 
 -- ---- keys
 

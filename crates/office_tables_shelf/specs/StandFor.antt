@@ -1,13 +1,13 @@
 -- Which office the tables stand for.
-use Rattle.std.specs.Prelude.{◌≡◌, ℕ, List, Option, Some, None, IfSome}
+use Rattle.std.specs.Prelude.{◌≡◌, ℕ, List, Option, Some, None}
 use Rattle.std.specs.Option.{option_map}
 use Rattle.std.specs.FinMap.{entries, get}
 use Rattle.signal_records.specs.Row.{key_of}
-use Rattle.signal_records.specs.Within.{IsRowWithin, IsKeyWithin}
+use Rattle.signal_records.specs.Within.{IsRowWithin, IsKeyWithin, current_limits}
 use Rattle.signal_records.specs.declared.key.Key.{Key}
-use Rattle.signal_records.specs.declared.record.Row.{Row}
+use Rattle.signal_records.specs.declared.limits.Limits.{Limits}
 use Rattle.draft_core.specs.Transaction.{holder_of}
-use Rattle.draft_core.specs.DraftRows.{RowStands}
+use Rattle.draft_core.specs.DraftRows.{Said, silent, leaves, removes, RowStands}
 use Rattle.office_tables_shelf.specs.Cells.{Cell, Rows, tree_rows}
 use Rattle.office_tables_shelf.specs.Content.{Content}
 use Rattle.office_tables_shelf.specs.Rows.{intersection_key, intersection_columns, timing_key, timing_columns_in, left_columns_in}
@@ -35,19 +35,29 @@ abbrev pub HasTimingKeys : Rows → Type 0
 HasTimingKeys rows = (cells columns : List Cell) → get rows cells ≡ Some columns → IsTimingKey cells
 
 -- a draft row keeps a row within its limits, under its own key, or the removal of a key
-abbrev pub IsLeftIn : Version → Key → Option Row → Type 0
-IsLeftIn v key None = IsKeyWithin v.limits key
-IsLeftIn v key (Some row) = IsRowWithin v.limits row × (key_of row ≡ key)
+abbrev pub IsSaidIn : Version → Key → Said → Type 0
+IsSaidIn v key silent = Unit {0}
+IsSaidIn v key (leaves row) = IsRowWithin v.limits row × (key_of row ≡ key)
+IsSaidIn v key removes = IsKeyWithin v.limits key
 
-abbrev pub IsLeft : Key → Option Row → Type 0
-IsLeft = IsLeftIn today
+abbrev pub IsSaid : Key → Said → Type 0
+IsSaid = IsSaidIn today
 
--- the draft row that stands at a key, in the form of a draft
+-- its columns; none where no draft row stands
+abbrev pub said_columns_in : Limits → Said → Option (List Cell)
+said_columns_in limits silent = None
+said_columns_in limits (leaves row) = Some (left_columns_in limits (Some row))
+said_columns_in limits removes = Some (left_columns_in limits None)
+
+abbrev pub said_columns : Said → Option (List Cell)
+said_columns = said_columns_in current_limits
+
+-- what the draft row at a key says, in the form of a draft
 pub record DraftRowStandsIn (v : Version) (tables : Content) (office : Office) (id : ℕ) (key : Key) : Type 0 where
-  pub row : Option (Option Row)
-  pub stored : get tables.draft (timing_key id key) ≡ option_map (left_columns_in v.limits) row
-  pub stands : RowStands (get (side_at office id).committed key) row (side_at office id).draft key
-  pub within : IfSome row (IsLeftIn v key)
+  pub said : Said
+  pub stored : get tables.draft (timing_key id key) ≡ said_columns_in v.limits said
+  pub stands : RowStands (get (side_at office id).committed key) said (side_at office id).draft key
+  pub within : IsSaidIn v key said
 
 abbrev pub DraftRowStands : Content → Office → ℕ → Key → Type 0
 DraftRowStands = DraftRowStandsIn today

@@ -9,7 +9,7 @@ use Rattle.sqlite.specs.Steps.{over_memory}
 use Rattle.sqlite.proofs.Callers.{memory_is_clean}
 use Rattle.sqlite_trees.specs.declared.memory.MemStore.{MemStore}
 use Rattle.signal_records.specs.Key.{key_cmp}
-use Rattle.draft_core.specs.DraftRows.{RowStands}
+use Rattle.draft_core.specs.DraftRows.{RowStands, silent}
 use Rattle.office_tables_shelf.specs.Cells.{Cell, Rows, tree_rows, cells_cmp}
 use Rattle.office_tables_shelf.specs.Content.{Content, no_content}
 use Rattle.office_tables_shelf.specs.Rows.{intersection_key, timing_key, timing_columns}
@@ -46,9 +46,9 @@ nothing_stands tables none = record {
         ∙ sym (ap (λ (o : Option Intersection). option_map timing_columns (get (side_of o).committed key)) (get-empty nat_cmp id) ∙ ap (option_map timing_columns) (get-empty key_cmp key));
     timing_keys = λ cells columns stored. absurd (nothing_at tables.timing cells columns (ap (λ (t : Content). t.timing) none) stored);
     draft = λ id key. record {
-      row = None;
+      said = silent;
       stored = ap (λ (t : Content). get t.draft (timing_key id key)) none ∙ get-empty cells_cmp (timing_key id key);
-      stands = subst (λ (o : Option Intersection). RowStands (get (side_of o).committed key) None (side_of o).draft key) (sym (get-empty nat_cmp id)) refl;
+      stands = subst (λ (o : Option Intersection). RowStands (get (side_of o).committed key) silent (side_of o).draft key) (sym (get-empty nat_cmp id)) refl;
       within = tt;
     };
     draft_keys = λ cells columns stored. absurd (nothing_at tables.draft cells columns (ap (λ (t : Content). t.draft) none) stored);
