@@ -27,7 +27,7 @@ use Rattle.office_tables_sql.specs.Layout.{has_key, values_at}
 use Rattle.office_tables_sql.specs.Stored.{cell_of, cells, rows_in}
 use Rattle.office_tables_sql.proofs.StoredLemmas.{get_columns, sound_rowids}
 use Rattle.office_tables_open.specs.Found.{IsOneOfEight, KeepsVersion, StoresAt, StoresOtherAt, StoreOther, StoreNone, HaveNoRow, IsFoundAt, IsFound}
-use Rattle.office_tables_open.specs.Version.{version_at, current_version}
+use Rattle.office_tables_open.specs.Version.{version_at}
 use Rattle.office_tables_open.specs.declared.found.Found.{Found}
 use Rattle.office_tables_open.specs.declared.found.Found.TheVariants.{Nothing, RowsAlone, OtherVersion, Today, Unknown}
 use Rattle.office_tables_open.specs.declared.found.TheConstants.{KEEPER}

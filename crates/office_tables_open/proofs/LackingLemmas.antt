@@ -1,8 +1,9 @@
 -- Databases that lack tables: when one does, and what its tables hold.
-use Rattle.std.proofs.Common.{◌≡◌, inl, inr, ℕ, ◌<◌, nat_lt, ◌==◌, ◌||◌, Bool, true, false, true≢false, not, List, [], ◌∷◌, ◌++◌, pos, None, Some, Option, refl, sym, ap, subst, ◌∙◌, arith}
+use Rattle.std.proofs.Common.{◌≡◌, inl, inr, ℕ, ◌<◌, nat_lt, ◌==◌, ◌||◌, Bool, true, true≢false, not, List, [], ◌∷◌, ◌++◌, None, Some, Result, Ok, Err, refl, sym, ap, subst, ◌∙◌, arith}
+use Rattle.std.specs.Prelude.{OnOk}
 use Rattle.std.specs.List.{list_all}
 use Rattle.std.proofs.lemmas.Bool.{eqb-true}
-use Rattle.sqlite.specs.Effect.{Database, IsDatabase}
+use Rattle.sqlite.specs.Effect.{Database}
 use Rattle.sqlite.specs.State.{State}
 use Rattle.sqlite.specs.Tree.{Trees}
 use Rattle.sqlite_catalog.specs.Listing.{AreListed}
@@ -13,10 +14,8 @@ use Rattle.sqlite_schema.specs.Names.{same_name}
 use Rattle.sqlite_schema.specs.declared.schema.Index.{Index}
 use Rattle.sqlite_schema.specs.declared.schema.Schema.{Schema}
 use Rattle.sqlite_schema.specs.declared.schema.Table.{Table}
-use Rattle.sqlite_schema.specs.declared.schema.View.{View as Stored}
 use Rattle.sqlite_tied.specs.Compute.{everything}
 use Rattle.sqlite_trees.specs.Objects.{catalog_tree}
-use Rattle.office_tables_shelf.specs.Cells.{Cell}
 use Rattle.office_tables_shelf.specs.Content.{Content, no_content}
 use Rattle.office_tables_sql.specs.Schema.{front_schema, no_schema, place_after}
 use Rattle.office_tables_open.specs.Arranged.{IsArranged}
@@ -42,6 +41,11 @@ pub empty_whole : (trees : Trees) → AreEmpty trees → IsLacking trees → ⊥
 empty_whole trees empty lacks =
     let is = lacks.1 in
     absurd (let e : Some current_version ≡ None = sym is.stored ∙ none_here trees (place_after lacks.0) (empty_place lacks.0 is.some trees empty) in cc)
+
+-- so tell the rows that a call finds
+pub empty_if : {A E : Type 0} (r : Result A E) (was trees : Trees) → trees ≡ was → OnOk r (AreEmpty trees) → OnOk r (¬ IsLacking was)
+empty_if (Ok x) was trees same empty = empty_whole was (subst AreEmpty same empty)
+empty_if (Err e) was trees same empty = tt
 
 -- where the version stands in its place, no table is missing
 pub stored_whole : (trees : Trees) → version_in trees ≡ Some current_version → IsLacking trees → ⊥

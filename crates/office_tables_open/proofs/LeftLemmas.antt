@@ -1,11 +1,11 @@
 -- What is left of a database whose tables were refused.
-use Rattle.std.proofs.Common.{◌≡◌, ◌≢◌, ◌≤◌, ◌⊎◌, inl, inr, ℕ, Result, Ok, Err, IsTrue, refl, sym, ap, subst, ◌∙◌, arith}
+use Rattle.std.proofs.Common.{◌≡◌, ◌≢◌, ◌⊎◌, inl, inr, ℕ, Result, Ok, IsTrue, refl, sym, ap, subst, ◌∙◌, arith}
 use Rattle.sqlite.specs.Effect.{Database}
 use Rattle.sqlite.specs.Held.{Held, state}
 use Rattle.sqlite.specs.State.{State, HasCleanDisk, Survives}
 use Rattle.sqlite.specs.Tree.{Trees}
 use Rattle.sqlite.specs.View.{IsClean}
-use Rattle.sqlite_trees.specs.View.{doubt, IsQuiet, IsRolledBack}
+use Rattle.sqlite_trees.specs.View.{IsQuiet, IsRolledBack}
 use Rattle.sqlite_trees.specs.declared.store.Store.{Ghosts}
 use Rattle.office_tables_sql.specs.Calls.{IsHonest}
 use Rattle.office_tables_open.specs.Arranged.{IsCheckedAgain}

@@ -1,14 +1,14 @@
 -- Databases that lack tables: the first of the eight stand as today, then that of the version, which stores today's, and no other.
 use Rattle.std.specs.Prelude.{◌≡◌, ◌⊎◌, ℕ, ◌<◌, nat_lt, if◌then◌else◌, [], Some, None}
 use Rattle.std.specs.List.{AllByRecursion}
-use Rattle.sqlite.specs.State.{State, HasCleanDisk}
+use Rattle.sqlite.specs.State.{State}
 use Rattle.sqlite.specs.Tree.{Trees}
 use Rattle.sqlite.specs.View.{IsShaped}
 use Rattle.sqlite_catalog.specs.Listing.{AreListed}
 use Rattle.sqlite_trees.specs.Objects.{catalog_tree}
 use Rattle.sqlite_trees.specs.declared.store.Shape.TheVariants as shape
 use Rattle.office_tables_shelf.specs.Content.{Content}
-use Rattle.office_tables_sql.specs.Calls.{IsHonest, IsReady}
+use Rattle.office_tables_sql.specs.Calls.{IsReady}
 use Rattle.office_tables_sql.specs.Schema.{front_schema, place_after}
 use Rattle.office_tables_sql.specs.Stored.{content_now, content_of}
 use Rattle.office_tables_open.specs.Version.{version_at, version_in, current_version}
