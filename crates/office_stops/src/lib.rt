@@ -2,5 +2,6 @@
 #![tactic(auto)]
 
 mod files;
+mod lacking;
 mod migrating;
 pub mod stops;

@@ -15,5 +15,6 @@ pub use Rattle.office_tables_open.specs.Version
 pub use Rattle.office_tables_open.specs.SqlShelf
 pub use Rattle.office_tables_open.specs.Arranged
 pub use Rattle.office_tables_open.specs.Found
+pub use Rattle.office_tables_open.specs.Lacking
 pub use Rattle.office_tables_open.specs.Opening
 pub use Rattle.office_tables_open.specs.Promises

@@ -51,8 +51,9 @@ impl<S: Alter> Model for SqlShelf<S> {
 impl<S: Alter> SqlShelf<S> {
     /// Takes the tables of the office. Where no table has a row they are made, also where some are
     /// missing or another layout has them. Version 2 is stored where none is and no table has a
-    /// row. A transaction that is under way is refused. Where it refuses, what `open_returning`
-    /// gives back is dropped.
+    /// row. Where it is stored behind the first tables and the others are missing, these are made,
+    /// and the first ones keep their rows. A transaction that is under way is refused. Where it
+    /// refuses, what `open_returning` gives back is dropped.
     pub fn open(alloc: Global, conn: Connection<S>) -> Result<SqlShelf<S>, OpenFault>
     where
         S: Drop,

@@ -53,7 +53,7 @@ sixteen : (trees : Trees) → ((t : ℕ) → t < 16 → trees t ≡ []) → AreE
 sixteen trees none = (none 0 (omega arith), (none 1 (omega arith), (none 3 (omega arith), (none 5 (omega arith), (none 7 (omega arith), (none 9 (omega arith), (none 11 (omega arith), (none 13 (omega arith), tt))))))))
 
 module _ (trees : Trees) (it : IsArranged trees) where
-  empty_if_absent : (tree : ℕ) → tree < 65536 → it.shape tree ≡ shape.Absent → trees tree ≡ []
+  pub empty_if_absent : (tree : ℕ) → tree < 65536 → it.shape tree ≡ shape.Absent → trees tree ≡ []
   empty_if_absent tree low none = subst (λ s. IsShaped s (trees tree)) none (it.ordered tree low)
 
   module _ (none : AreListed (trees catalog_tree) no_schema) where

@@ -26,10 +26,10 @@ use Rattle.office_tables_sql.specs.Layout as layout
 use Rattle.office_tables_sql.specs.Layout.{has_key, values_at}
 use Rattle.office_tables_sql.specs.Stored.{cell_of, cells, rows_in}
 use Rattle.office_tables_sql.proofs.StoredLemmas.{get_columns, sound_rowids}
-use Rattle.office_tables_open.specs.Found.{IsOneOfEight, IsOtherNumber, KeepsVersion, StoresOtherAt, StoreOther, StoreNone, HaveNoRow, IsFoundAt, IsFound}
-use Rattle.office_tables_open.specs.Version.{version_at, current_version}
+use Rattle.office_tables_open.specs.Found.{IsOneOfEight, KeepsVersion, StoresAt, StoresOtherAt, StoreOther, StoreNone, HaveNoRow, IsFoundAt, IsFound}
+use Rattle.office_tables_open.specs.Version.{version_at}
 use Rattle.office_tables_open.specs.declared.found.Found.{Found}
-use Rattle.office_tables_open.specs.declared.found.Found.TheVariants.{Nothing, RowsAlone, OtherVersion, Unknown}
+use Rattle.office_tables_open.specs.declared.found.Found.TheVariants.{Nothing, RowsAlone, OtherVersion, Today, Unknown}
 use Rattle.office_tables_open.specs.declared.found.TheConstants.{KEEPER}
 
 -- ---- the first row of a tree
@@ -86,8 +86,8 @@ module _ (table : Table) (trees : Trees) (row : Row) (shaped : IsShaped shape.Ta
       get_columns layout.office_version rows (Int (pos 1) ∷ []) (sound_rowids layout.office_version refl rows shaped) refl
       ∙ ap (λ (o : Option Row). option_map cells (option_map (values_at layout.office_version.columns) o)) (first_found (has_key layout.office_version (Int (pos 1) ∷ [])) (has_rowid (pos 1)) rows row (λ r there. rowid_key r (all_has _ rows r shaped.1 there)) finds)
 
-  pub other_stored : KeepsVersion table → IsOtherNumber (column row 2) → StoresOtherAt table trees
-  other_stored keeps told = record { keeps = keeps; version = told.0; stored = version_is ∙ ap (λ v. Some (cell_of v ∷ [])) told.1; other = told.2 }
+  pub number_stored : KeepsVersion table → (n : ℤ) → column row 2 ≡ Int n → StoresAt table n trees
+  number_stored keeps n told = record { keeps = keeps; stored = version_is ∙ ap (λ v. Some (cell_of v ∷ [])) told }
 
 -- ---- several tables
 
@@ -109,7 +109,7 @@ module _ (trees : Trees) where
   abbrev IsEmptyTable : Table → Type 0
   IsEmptyTable t = trees t.tree ≡ []
 
-  none_here : (tree : ℕ) → trees tree ≡ [] → version_at tree trees ≡ None
+  pub none_here : (tree : ℕ) → trees tree ≡ [] → version_at tree trees ≡ None
   none_here tree empty = ap (λ rows. get (rows_in layout.office_version rows) (number (pos 1) ∷ [])) empty ∙ get-empty cells_cmp (number (pos 1) ∷ [])
 
   pub store_none : (ts : List Table) → IsFound Nothing ts trees → StoreNone ts trees
@@ -123,6 +123,7 @@ module _ (trees : Trees) where
   empty_before t ts Nothing empty h = (empty, h)
   empty_before t ts RowsAlone empty h = ((λ named. none_here t.tree empty, h.0), λ all. h.1 all.1)
   empty_before t ts OtherVersion empty h = (h.0, inr h.1, h.2)
+  empty_before t ts Today empty h = (h.0, inr h.1, h.2)
   empty_before t ts Unknown empty h = tt
 
   -- a table with a row before others that store no version

@@ -1,15 +1,16 @@
 -- What is left of a database whose tables were refused.
-use Rattle.std.proofs.Common.{◌≡◌, ◌≢◌, ◌≤◌, ◌⊎◌, inl, inr, Result, Ok, Err, IsTrue, refl, sym, ap, subst, ◌∙◌, arith}
+use Rattle.std.proofs.Common.{◌≡◌, ◌≢◌, ◌⊎◌, inl, inr, ℕ, Result, Ok, IsTrue, refl, sym, ap, subst, ◌∙◌, arith}
 use Rattle.sqlite.specs.Effect.{Database}
 use Rattle.sqlite.specs.Held.{Held, state}
 use Rattle.sqlite.specs.State.{State, HasCleanDisk, Survives}
 use Rattle.sqlite.specs.Tree.{Trees}
 use Rattle.sqlite.specs.View.{IsClean}
-use Rattle.sqlite_trees.specs.View.{doubt, IsQuiet, IsRolledBack}
+use Rattle.sqlite_trees.specs.View.{IsQuiet, IsRolledBack}
 use Rattle.sqlite_trees.specs.declared.store.Store.{Ghosts}
 use Rattle.office_tables_sql.specs.Calls.{IsHonest}
 use Rattle.office_tables_open.specs.Arranged.{IsCheckedAgain}
 use Rattle.office_tables_open.specs.Found.{HasOtherVersion, HasRowsAlone, IsUnclaimed}
+use Rattle.office_tables_open.specs.Lacking.{Completes, Lacks}
 use Rattle.office_tables_open.specs.Opening.{AreGone, Claims, IsAsFound, IsHonestStore, IsLeft, IsNewOffice, IsRefused, IsSettled, MayBeNew, OnlyReads, WereDropped, store_left}
 use Rattle.office_tables_open.specs.declared.open.OpenFault.{OpenFault}
 use Rattle.office_tables_open.specs.declared.open.OpenFault.TheVariants as fault
@@ -80,7 +81,7 @@ module _ {S : Type 0} (g : Ghosts S) (conn : Held S) where
     committed = λ h. inl (same h);
     crash = λ h trees may. elim (claims.crash h trees may) [
       | inl was ↦ inl was
-      | inr new ↦ inr (subst (λ (d : Database). IsUnclaimed d.trees) (settled new.0.1) new.1, inr new.2)
+      | inr new ↦ inr (inl (subst (λ (d : Database). IsUnclaimed d.trees) (settled new.0.1) new.1, inr new.2))
     ];
   }
 
@@ -93,7 +94,7 @@ module _ {S : Type 0} (g : Ghosts S) (conn : Held S) where
     committed = λ h. inl (same h);
     crash = λ h trees may. elim (survives.crash h trees may) [
       | inl was ↦ inl was
-      | inr new ↦ inr (unclaimed new.0, inr new.1)
+      | inr new ↦ inr (inl (unclaimed new.0, inr new.1))
     ];
   }
 
@@ -153,6 +154,25 @@ module _ {S : Type 0} (g : Ghosts S) (conn found : Held S) (it : IsCheckedAgain 
     left = left_before (AreGone g) (MayBeNew g) (store_left g back) is.left;
   }
 
+  -- tables that were missing were to be made
+  pub mended_left : (c : Held S) (count : ℕ) → (IsHonest (state g c) → IsHonest (state g found)) → (IsHonest (state g c) → (state g c).committed.trees ≡ (state g found).committed.trees)
+      → (HasCleanDisk (state g found) → Lacks count (state g conn).committed.trees)
+      → Survives (state g found) (state g c) (λ trees. IsHonest (state g found) × Completes count (state g found).now.trees trees)
+      → IsLeft g conn (AreGone g (state g conn).committed.trees) (MayBeNew g (state g conn).committed.trees) c.store
+  mended_left c count honest same lacks survives = record {
+    clean = omega (arith, it.clean, survives.clean);
+    was_open = λ h. it.was_open (honest h).0;
+    committed = λ h. inl (same h ∙ same_then (honest h).0);
+    crash = λ h trees may. elim (survives.crash h trees may) [
+      | inl was ↦ inl (it.crash (omega (arith, h, survives.clean)) trees was)
+      | inr grown ↦ inr (inr (record {
+        count = count;
+        lacks = lacks grown.0.0;
+        completes = subst (λ (t : Trees). Completes count t trees) (it.kept grown.0.0) grown.1;
+      }))
+    ];
+  }
+
   -- tables in another layout were dropped, and new ones to be made
   pub anew_left : (c : Held S) → (IsHonest (state g c) → IsHonest (state g found))
       → (IsHonest (state g c) → ((state g c).committed.trees ≡ (state g found).committed.trees) ⊎ WereDropped g (state g found).now.trees (state g c).committed.trees)
@@ -168,8 +188,8 @@ module _ {S : Type 0} (g : Ghosts S) (conn found : Held S) (it : IsCheckedAgain 
     ];
     crash = λ h trees may. elim (survives.crash h trees may) [
       | inl was ↦ inl (it.crash (clean h) trees was)
-      | inr (inl dropped) ↦ inr (unclaimed (clean h), inl (from (clean h) _ dropped))
-      | inr (inr new) ↦ inr (unclaimed (clean h), inr new)
+      | inr (inl dropped) ↦ inr (inl (unclaimed (clean h), inl (from (clean h) _ dropped)))
+      | inr (inr new) ↦ inr (inl (unclaimed (clean h), inr new))
     ];
   }
     where

@@ -5,4 +5,6 @@ pub mod ArrangedLemmas
 pub mod OpenLemmas
 pub mod LeftLemmas
 mod MadeLemmas
+mod FrontLemmas
+pub mod LackingLemmas
 mod FoundLemmas

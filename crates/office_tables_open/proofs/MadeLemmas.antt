@@ -1,5 +1,5 @@
 -- What the texts that make the tables make of a database that has none.
-use Rattle.std.proofs.Common.{◌≡◌, ◌≢◌, ◌≤◌, ℕ, true, false, List, [], ◌∷◌, ◌++◌, map, None, Some, Result, Ok, Err, refl, sym, ap, subst, ◌∙◌, arith}
+use Rattle.std.proofs.Common.{◌≡◌, ◌≢◌, ◌≤◌, ℕ, true, false, List, [], ◌∷◌, ◌++◌, map, Some, Result, Ok, Err, refl, sym, ap, subst, ◌∙◌, arith}
 use Rattle.std.specs.List.{AllByRecursion}
 use Rattle.std.specs.Prelude.{OnOk, ⊤}
 use Rattle.sqlite.specs.Command.TheVariants.{CreateTable}
@@ -26,14 +26,14 @@ use Rattle.office_tables_shelf.specs.Content.{no_content}
 use Rattle.office_tables_sql.specs.Calls.{AreOrdered, IsOffice, IsReady, command_of, statement_of}
 use Rattle.office_tables_sql.specs.Schema.{no_schema, office_schema}
 use Rattle.office_tables_sql.specs.declared.schema.TheConstants.{CREATES}
-use Rattle.office_tables_open.specs.Opening.{AreRun, IsNew, IsNewOffice}
+use Rattle.office_tables_open.specs.Opening.{AreRun, IsNew}
 use Rattle.office_tables_sql.specs.Stored.{content_now}
 use Rattle.office_tables_open.specs.Version.{AreEmpty, version_in, current_version}
 
--- in a transaction over tables that have no row
-pub record IsBare (s : State) (schema : Schema) : Type 0 where
+-- in a transaction over tables that have these rows
+pub record IsOver (rows : Trees) (s : State) (schema : Schema) : Type 0 where
   pub schema_is : s.now.schema ≡ schema
-  pub empty : AllByRecursion (λ t. s.now.trees t.tree ≡ []) schema.tables
+  pub holds : AllByRecursion (λ t. s.now.trees t.tree ≡ rows t.tree) schema.tables
 
 -- the text makes this table
 pub record Makes (schema : Schema) (sql : List ℕ) (table : Table) : Type 0 where
@@ -42,21 +42,21 @@ pub record Makes (schema : Schema) (sql : List ℕ) (table : Table) : Type 0 whe
   pub defined : table_defined_by (statement_of sql (understood schema sql)) ≡ Ok table
   pub uncounted : lacks_sequence (created schema table) ≡ false
 
-kept_empty : (ts : List Table) (old new : Trees) → KeepsRows ts old new → AllByRecursion (λ t. old t.tree ≡ []) ts → AllByRecursion (λ t. new t.tree ≡ []) ts
-kept_empty [] old new kept empty = tt
-kept_empty (t ∷ ts) old new kept empty = (kept.0 ∙ empty.0, kept_empty ts old new kept.1 empty.1)
+pub kept_rows : (ts : List Table) (rows old new : Trees) → KeepsRows ts old new → AllByRecursion (λ t. old t.tree ≡ rows t.tree) ts → AllByRecursion (λ t. new t.tree ≡ rows t.tree) ts
+kept_rows [] rows old new kept held = tt
+kept_rows (t ∷ ts) rows old new kept held = (kept.0 ∙ held.0, kept_rows ts rows old new kept.1 held.1)
 
 all_snoc : {X : Type 0} (P : X → Type 0) (xs : List X) (y : X) → AllByRecursion P xs → P y → AllByRecursion P (xs ++ y ∷ [])
 all_snoc P [] y all h = (h, tt)
 all_snoc P (x ∷ xs) y all h = (all.0, all_snoc P xs y all.1 h)
 
-abbrev second_of : {A B E : Type 0} → B → Result (A × B) E → B
+abbrev pub second_of : {A B E : Type 0} → B → Result (A × B) E → B
 second_of other (Ok both) = both.1
 second_of other (Err e) = other
 
-pub bare_step : (old new : State) (count : ℕ) (schema : Schema) (sql : List ℕ) (table : Table) → Makes schema sql table → IsBare old schema → ExecutesInside 0 sql [] old new (Ok count)
-    → IsBare new (created schema table) × IsDatabase new.now
-bare_step old new count schema sql table makes bare ran =
+pub over_step : (rows : Trees) (old new : State) (count : ℕ) (schema : Schema) (sql : List ℕ) (table : Table) → Makes schema sql table → rows (next_tree schema) ≡ [] → IsOver rows old schema → ExecutesInside 0 sql [] old new (Ok count)
+    → IsOver rows new (created schema table) × IsDatabase new.now
+over_step rows old new count schema sql table makes free bare ran =
     let text = statement_of sql (understood schema sql) in
     let did = runs_as sql [] old new schema bare.schema_is CreateTable makes.is makes.plain count ran.0 in
     let gave = through (Then (MakesTable text old.now) MakesSequence) (λ (after : Database). Gives (no_rows false, after)) (did.tally, new.now) did.changed in
@@ -70,7 +70,7 @@ bare_step old new count schema sql table makes bare ran =
     let empty = subst (λ (d : Database). d.trees (next_tree schema) ≡ []) whole (subst (λ (s : Schema). made.0.trees (next_tree s) ≡ []) bare.schema_is made.1.empty) in (
       record {
         schema_is = ap (λ (d : Database). d.schema) (sym whole) ∙ schema_then;
-        empty = all_snoc (λ (t : Table). new.now.trees t.tree ≡ []) schema.tables _ (kept_empty schema.tables old.now.trees new.now.trees others bare.empty) empty;
+        holds = all_snoc (λ (t : Table). new.now.trees t.tree ≡ rows t.tree) schema.tables _ (kept_rows schema.tables rows old.now.trees new.now.trees others bare.holds) (empty ∙ sym free);
       },
       did.sound,
     )
@@ -86,29 +86,38 @@ AreMaking schema [] (t ∷ ts) = ⊥
 AreMaking schema (sql ∷ more) [] = ⊥
 AreMaking schema (sql ∷ more) (t ∷ ts) = Makes schema sql t × AreMaking (created schema t) more ts
 
-module _ {S : Type 0} (g : Ghosts S) where
-  abbrev Ends : Held S → Schema → Type 0
-  Ends h schema = IsBare (state g h) schema × IsDatabase (state g h).now × ((state g h).in_transaction ≡ true)
+-- the rows that are told for each of them are none
+abbrev pub AreFree : Trees → Schema → List Table → Type 0
+AreFree rows schema [] = Unit {0}
+AreFree rows schema (t ∷ ts) = (rows (next_tree schema) ≡ []) × AreFree rows (created schema t) ts
 
-  bare_run : (texts : List (List ℕ)) (tables : List Table) (schema : Schema) → AreMaking schema texts tables → (old new : Held S) → AreRun g texts old new → Ends old schema → Ends new (made_of schema tables)
-  bare_run [] [] schema making old new run start = subst (λ (h : Held S). Ends h schema) (sym run) start
-  bare_run [] (t ∷ ts) schema making old new run start = absurd making
-  bare_run (sql ∷ more) [] schema making old new run start = absurd making
-  bare_run (sql ∷ more) (t ∷ ts) schema making old new run start =
-      bare_run more ts (created schema t) making.1 run.0 new run.3
-      (let it = bare_step (state g old) (state g run.0) run.1 schema sql t making.0 start.0 run.2 in (it.0, it.1, run.2.1.mode))
+none_free : (schema : Schema) (ts : List Table) → AreFree (λ _. []) schema ts
+none_free schema [] = tt
+none_free schema (t ∷ ts) = (refl, none_free (created schema t) ts)
+
+module _ {S : Type 0} (g : Ghosts S) (rows : Trees) where
+  abbrev pub Ends : Held S → Schema → Type 0
+  Ends h schema = IsOver rows (state g h) schema × IsDatabase (state g h).now × ((state g h).in_transaction ≡ true)
+
+  pub over_run : (texts : List (List ℕ)) (tables : List Table) (schema : Schema) → AreMaking schema texts tables → AreFree rows schema tables → (old new : Held S) → AreRun g texts old new → Ends old schema → Ends new (made_of schema tables)
+  over_run [] [] schema making free old new run start = subst (λ (h : Held S). Ends h schema) (sym run) start
+  over_run [] (t ∷ ts) schema making free old new run start = absurd making
+  over_run (sql ∷ more) [] schema making free old new run start = absurd making
+  over_run (sql ∷ more) (t ∷ ts) schema making free old new run start =
+      over_run more ts (created schema t) making.1 free.1 run.0 new run.3
+      (let it = over_step rows (state g old) (state g run.0) run.1 schema sql t making.0 free.0 start.0 run.2 in (it.0, it.1, run.2.1.mode))
 
   -- the first statement finds a database that is open
-  pub all_made : (texts : List (List ℕ)) (tables : List Table) (schema : Schema) → texts ≢ [] → AreMaking schema texts tables → (old new : Held S) → AreRun g texts old new → IsBare (state g old) schema → Ends new (made_of schema tables)
-  all_made [] tables schema some making old new run start = absurd (some refl)
-  all_made (sql ∷ more) [] schema some making old new run start = absurd making
-  all_made (sql ∷ more) (t ∷ ts) schema some making old new run start =
-      bare_run more ts (created schema t) making.1 run.0 new run.3
-      (let it = bare_step (state g old) (state g run.0) run.1 schema sql t making.0 start run.2 in (it.0, it.1, run.2.1.mode))
+  pub all_made : (texts : List (List ℕ)) (tables : List Table) (schema : Schema) → texts ≢ [] → AreMaking schema texts tables → AreFree rows schema tables → (old new : Held S) → AreRun g texts old new → IsOver rows (state g old) schema → Ends new (made_of schema tables)
+  all_made [] tables schema some making free old new run start = absurd (some refl)
+  all_made (sql ∷ more) [] schema some making free old new run start = absurd making
+  all_made (sql ∷ more) (t ∷ ts) schema some making free old new run start =
+      over_run more ts (created schema t) making.1 free.1 run.0 new run.3
+      (let it = over_step rows (state g old) (state g run.0) run.1 schema sql t making.0 free.0 start run.2 in (it.0, it.1, run.2.1.mode))
 
 -- ---- the tables of the office
 
-abbrev untreed : Table → Table
+abbrev pub untreed : Table → Table
 untreed t = record t { tree = 0 }
 
 abbrev pub office_texts : List (List ℕ)
@@ -154,33 +163,33 @@ all_shaped trees [] all = tt
 all_shaped trees (t ∷ ts) all = (no_row_shaped (trees t.tree) all.0, all_shaped trees ts all.1)
 
 module _ {S : Type 0} (g : Ghosts S) (old new : Held S) (run : AreRun g office_texts old new) (blank : (state g old).now.schema ≡ no_schema) where
-  ended : Ends g new office_schema
-  ended = subst (Ends g new) office_made (all_made g office_texts (map untreed office_schema.tables) no_schema (λ none. absurd (cc)) office_making old new run (record { schema_is = blank; empty = tt }))
+  ended : Ends g (λ _. []) new office_schema
+  ended = subst (Ends g (λ _. []) new) office_made (all_made g (λ _. []) office_texts (map untreed office_schema.tables) no_schema (λ none. absurd (cc)) office_making (none_free no_schema (map untreed office_schema.tables)) old new run (record { schema_is = blank; holds = tt }))
 
   pub office_ready : IsReady (state g new)
-  office_ready = record { inside = rw ended.2; schema = ended.0.schema_is; ordered = all_shaped (state g new).now.trees office_schema.tables ended.0.empty; sound = ended.1 }
+  office_ready = record { inside = rw ended.2; schema = ended.0.schema_is; ordered = all_shaped (state g new).now.trees office_schema.tables ended.0.holds; sound = ended.1 }
 
   pub office_empty : AreEmpty (state g new).now.trees
   office_empty =
-      let e = ended.0.empty in
+      let e = ended.0.holds in
       (e.0, (e.1.0, (e.1.1.0, (e.1.1.1.0, (e.1.1.1.1.0, (e.1.1.1.1.1.0, (e.1.1.1.1.1.1.0, (e.1.1.1.1.1.1.1.0, tt))))))))
 
 -- the transaction was committed
-module _ (mid new : State) (clean : doubt mid.is_clean ≤ doubt new.is_clean) (made : HasCleanDisk mid → IsNew mid) (shows : HasCleanDisk new → Shows mid new mid.now mid.now false) where
-  made_before : HasCleanDisk new → IsNew mid
-  made_before h = made (omega (arith, h, clean))
-
-  pub committed_office : new.in_transaction ≡ false → IsOffice new
-  committed_office mode = record {
+module _ (mid new : State) (clean : doubt mid.is_clean ≤ doubt new.is_clean) (shows : HasCleanDisk new → Shows mid new mid.now mid.now false) where
+  pub committed_office : (HasCleanDisk mid → IsReady mid) → new.in_transaction ≡ false → IsOffice new
+  committed_office ready mode = record {
     autocommit = mode;
-    schema = λ h. ap (λ (d : Database). d.schema) (shows h.0).now_is ∙ (made_before h.0).ready.schema;
+    schema = λ h. ap (λ (d : Database). d.schema) (shows h.0).now_is ∙ (before h.0).schema;
     settled = λ h. (shows h.0).now_is ∙ sym (shows h.0).committed_is;
-    ordered = λ h. subst (λ (d : Database). AreOrdered d.trees) (sym (shows h.0).now_is) (made_before h.0).ready.ordered;
-    sound = λ h. subst IsDatabase (sym (shows h.0).now_is) (made_before h.0).ready.sound;
+    ordered = λ h. subst (λ (d : Database). AreOrdered d.trees) (sym (shows h.0).now_is) (before h.0).ordered;
+    sound = λ h. subst IsDatabase (sym (shows h.0).now_is) (before h.0).sound;
   }
+    where
+      before : HasCleanDisk new → IsReady mid
+      before h = ready (omega (arith, h, clean))
 
-  pub committed_new : HasCleanDisk new → IsNewOffice new.now.trees
-  committed_new h = subst (λ (d : Database). IsNewOffice d.trees) (sym (shows h).now_is) (made_before h).office
+  pub committed_rows : (P : Trees → Type 0) → (HasCleanDisk mid → P mid.now.trees) → HasCleanDisk new → P new.now.trees
+  committed_rows P holds h = subst (λ (d : Database). P d.trees) (sym (shows h).now_is) (holds (omega (arith, h, clean)))
 
 -- the version was stored in them
 pub new_if : {E : Type 0} (r : Result ⊤ E) (old new : State) (ready_old : IsReady old) → content_now old ≡ no_content → OnOk r (IsReady old → IsReady new) → OnOk r (IsReady old → content_now new ≡ content_now old)

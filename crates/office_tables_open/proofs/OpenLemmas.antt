@@ -1,5 +1,5 @@
 -- What the steps of an opening come to.
-use Rattle.std.proofs.Common.{◌≡◌, ◌≢◌, ◌≤◌, inl, inr, [], Option, None, Some, option_map, IsTrue, Bool, true, false, not, refl, sym, ap, subst, ◌∙◌, arith}
+use Rattle.std.proofs.Common.{◌≡◌, ◌≤◌, inl, inr, [], Option, None, Some, option_map, IsTrue, Bool, true, false, not, refl, sym, ap, subst, ◌∙◌, arith}
 use Rattle.sqlite.specs.Effect.{Database, IsDatabase}
 use Rattle.sqlite.specs.Held.{Held, state}
 use Rattle.sqlite.specs.State.{State, HasCleanDisk, Opens, IsLive}
@@ -17,7 +17,8 @@ use Rattle.office_tables_sql.specs.Schema.{office_schema, no_schema, version_tab
 use Rattle.office_tables_sql.specs.Stored.{cells, content_now, content_of}
 use Rattle.office_tables_open.specs.Arranged.{IsArranged, IsUnchanged, IsTaken, IsCheckedAgain}
 use Rattle.office_tables_open.specs.Found.{HasOtherVersion, HasRowsAlone, IsFound, IsFoundIn, IsOneOfEight, IsUnclaimed, StoreNone}
-use Rattle.office_tables_open.specs.Opening.{IsMadeNew, IsOpened, IsSettled, MayBeTaken, IsOpenIfClean}
+use Rattle.office_tables_open.specs.Opening.{AreMade, IsMadeNew, IsOpened, IsSettled, MayBeTaken, IsOpenIfClean}
+use Rattle.office_tables_open.specs.Lacking.{Hold, IsLacking, Rise}
 use Rattle.office_tables_open.specs.SqlShelf.{SqlView}
 use Rattle.office_tables_open.specs.Version.{AreEmpty, HasRow, TellsOther, version_in, current_version}
 use Rattle.office_tables_open.specs.declared.found.Found.{Found}
@@ -26,6 +27,7 @@ use Rattle.office_tables_open.specs.declared.found.TheConstants.{KEEPER}
 use Rattle.office_tables_open.proofs.ArrangedLemmas.{tables_rise}
 use Rattle.office_tables_open.proofs.BlankLemmas.{found_empty}
 use Rattle.office_tables_open.proofs.FoundLemmas.{apart, differ, store_none, have_no_row}
+use Rattle.office_tables_open.proofs.LackingLemmas.{empty_whole, hold_none}
 use Rattle.office_tables_open.proofs.VersionLemmas.{empty_content}
 
 pub not_true : (b : Bool) → not b ≡ true → b ≡ false
@@ -79,13 +81,13 @@ module _ {S : Type 0} (g : Ghosts S) (conn : Held S) (shelf : SqlView S) where
 
     -- tables that were found
     pub opened_looked : IsSettled (state g conn) → (IsHonest (state g new) → IsHonest (state g conn)) → (IsHonest (state g new) → content_now (state g new) ≡ content_now (state g conn))
-        → ((state g conn).now.schema ≡ no_schema → ⊥) → (IsHonest (state g new) → MayBeTaken (state g conn).now.trees)
+        → ((state g conn).now.schema ≡ no_schema → ⊥) → (IsHonest (state g new) → MayBeTaken (state g conn).now.trees) → (IsHonest (state g new) → ¬ IsLacking (state g conn).now.trees)
         → (IsHonest (state g new) → version_in (state g new).now.trees ≡ Some current_version) → IsOpened g conn shelf
-    opened_looked settled honest same foreign taken stored = subst (λ (s : SqlView S). IsOpened g conn s) shown (record {
+    opened_looked settled honest same foreign taken whole stored = subst (λ (s : SqlView S). IsOpened g conn s) shown (record {
       opened = opened;
       honest = λ h. (honest h).0;
       taken = λ h. subst (λ (d : Database). MayBeTaken d.trees) (settled (honest h).1) (taken h);
-      kept = λ h. same h ∙ ap (λ (d : Database). content_of d.trees) (settled (honest h).1);
+      kept = λ h. inl (subst (λ (d : Database). ¬ IsLacking d.trees) (settled (honest h).1) (whole h), same h ∙ ap (λ (d : Database). content_of d.trees) (settled (honest h).1));
       made = λ h blank. absurd (foreign blank);
       stored = stored;
       schema = office.schema;
@@ -93,15 +95,20 @@ module _ {S : Type 0} (g : Ghosts S) (conn : Held S) (shelf : SqlView S) where
       unwritten = none;
     })
 
+    made_new : (IsHonest (state g new) → IsMadeNew (state g conn) (state g new)) → IsHonest (state g new) → Hold (state g conn).committed.trees (content_now (state g new))
+    made_new made h =
+        let was = (state g conn).committed.trees in
+        inl (empty_whole was (made h).empty, (made h).office.content ∙ sym (empty_content was (made h).empty))
+
     -- tables that were made
-    pub opened_made : (IsHonest (state g new) → IsMadeNew (state g conn) (state g new)) → IsOpened g conn shelf
+    pub opened_made : (IsHonest (state g new) → AreMade (state g conn) (state g new)) → IsOpened g conn shelf
     opened_made made = subst (λ (s : SqlView S). IsOpened g conn s) shown (record {
       opened = opened;
-      honest = λ h. (made h).was_clean;
-      taken = λ h. inr (made h).unclaimed;
-      kept = λ h. (made h).office.content ∙ sym (empty_content (state g conn).committed.trees (made h).empty);
-      made = λ h blank. (made h).office.content;
-      stored = λ h. (made h).office.stored;
+      honest = λ h. elim (made h) [ inl all ↦ all.was_clean | inr some ↦ some.was_clean ];
+      taken = λ h. elim (made h) [ inl all ↦ inr (inl all.unclaimed) | inr some ↦ inr (inr (some.completed.count, some.completed.lacks)) ];
+      kept = λ h. elim (made h) [ inl all ↦ made_new (λ _. all) h | inr some ↦ inr (some.completed.count, some.completed.lacks, some.completed.completes.content) ];
+      made = λ h blank. elim (made h) [ inl all ↦ all.office.content | inr some ↦ absurd (some.some blank) ];
+      stored = λ h. elim (made h) [ inl all ↦ all.office.stored | inr some ↦ some.completed.completes.stored ];
       schema = office.schema;
       crash = crash;
       unwritten = none;
@@ -141,6 +148,12 @@ again old new view it autocommit clean opens trees settled = record {
 pub same_committed : (old new : State) → IsCheckedAgain old new → HasCleanDisk new → new.committed.trees ≡ old.committed.trees
 same_committed old new it h = sym (ap (λ (d : Database). d.trees) (it.opens h).0.clean) ∙ it.kept h
 
+-- the rows of its tables rise
+pub again_rises : (old new : State) → IsCheckedAgain old new → IsHonest new → Rise new
+again_rises old new it h =
+    let opens = it.opens h.0 in
+    tables_rise new.now.trees (subst (λ (d : Database). IsArranged d.trees) (sym opens.0.clean) (it.arranged h.0)) new.now.schema (opens.1 opens.0.is_open).0.lists.listed
+
 -- what its tables hold, whatever their layout
 module _ (s : State) (settled : s.now ≡ s.committed) where
   found_listed : (f : Found) → IsFoundIn f s → IsDatabase s.committed × IsFound f s.committed.schema.tables s.committed.trees
@@ -170,8 +183,9 @@ module _ {S : Type 0} (g : Ghosts S) (conn found : Held S) (clean : HasCleanDisk
     opened = it.opened;
     honest = λ h. clean (it.honest h);
     taken = λ h. subst MayBeTaken (same (it.honest h)) (it.taken h);
-    kept = λ h. it.kept h ∙ ap content_of (same (it.honest h));
-    made = λ h is. it.kept h ∙ ap content_of (same (it.honest h)) ∙ empty_content (state g conn).committed.trees (blank (it.honest h) is);
+    kept = λ h. subst (λ (t : Trees). Hold t (content_now (state g shelf.conn))) (same (it.honest h)) (it.kept h);
+    made = λ h is. hold_none (state g conn).committed.trees (content_now (state g shelf.conn)) (blank (it.honest h) is)
+        (subst (λ (t : Trees). Hold t (content_now (state g shelf.conn))) (same (it.honest h)) (it.kept h));
     stored = it.stored;
     schema = it.schema;
     crash = it.crash;

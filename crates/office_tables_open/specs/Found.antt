@@ -10,12 +10,10 @@ use Rattle.sqlite_schema.specs.declared.schema.Column.{Column}
 use Rattle.sqlite_schema.specs.declared.schema.Schema.{Schema}
 use Rattle.sqlite_schema.specs.declared.schema.Table.{Table}
 use Rattle.sqlite_trees.specs.Objects.{catalog_tree}
-use Rattle.sqlite_value.specs.declared.value.Value.{Value}
-use Rattle.sqlite_value.specs.declared.value.Value.TheVariants.{Int}
 use Rattle.office_tables_shelf.specs.Cells.{number}
 use Rattle.office_tables_open.specs.Version.{version_at}
 use Rattle.office_tables_open.specs.declared.found.Found.{Found}
-use Rattle.office_tables_open.specs.declared.found.Found.TheVariants.{Nothing, RowsAlone, OtherVersion, Unknown}
+use Rattle.office_tables_open.specs.declared.found.Found.TheVariants.{Nothing, RowsAlone, OtherVersion, Today, Unknown}
 use Rattle.office_tables_open.specs.declared.found.TheConstants.{EIGHT, KEEPER, COLUMNS}
 
 -- the name is one of these
@@ -37,9 +35,10 @@ pub record KeepsVersion (table : Table) : Type 0 where
   pub rowid : table.key ≡ Some 0
   pub columns : map (λ (c : Column). c.name) table.columns ≡ map (λ text. text.now) COLUMNS
 
--- the value is a number, and not that of today's version
-abbrev pub IsOtherNumber : Value → Type 0
-IsOtherNumber value = (n : ℤ) × (value ≡ Int n) × (n ≢ pos 2)
+-- and it stores that number
+pub record StoresAt (table : Table) (version : ℤ) (trees : Trees) : Type 0 where
+  pub keeps : KeepsVersion table
+  pub stored : version_at table.tree trees ≡ Some (number version ∷ [])
 
 -- and it stores a number, and another one than today's
 pub record StoresOtherAt (table : Table) (trees : Trees) : Type 0 where
@@ -50,6 +49,10 @@ pub record StoresOtherAt (table : Table) (trees : Trees) : Type 0 where
 
 abbrev pub StoreOther : List Table → Trees → Type 0
 StoreOther tables trees = (table : Table) × Has tables table × StoresOtherAt table trees
+
+-- a table keeps today's version
+abbrev pub StoreToday : List Table → Trees → Type 0
+StoreToday tables trees = (table : Table) × Has tables table × StoresAt table (pos 2) trees
 
 -- no version is stored
 abbrev pub StoreNone : List Table → Trees → Type 0
@@ -81,12 +84,14 @@ abbrev pub IsFoundAt : Found → Table → Trees → Type 0
 IsFoundAt Nothing table trees = trees table.tree ≡ []
 IsFoundAt RowsAlone table trees = IsOneOfEight table.name × (trees table.tree ≢ [])
 IsFoundAt OtherVersion table trees = StoresOtherAt table trees
+IsFoundAt Today table trees = StoresAt table (pos 2) trees
 IsFoundAt Unknown table trees = Unit {0}
 
 abbrev pub IsFound : Found → List Table → Trees → Type 0
 IsFound Nothing tables trees = AllByRecursion (λ t. trees t.tree ≡ []) tables
 IsFound RowsAlone tables trees = StoreNone tables trees × ¬ HaveNoRow tables trees
 IsFound OtherVersion tables trees = StoreOther tables trees
+IsFound Today tables trees = StoreToday tables trees
 IsFound Unknown tables trees = Unit {0}
 
 -- that is what the tables of a connection held when they were committed

@@ -13,14 +13,15 @@ use Rattle.office_tables_sql.specs.Stored.{content_now, content_of}
 use Rattle.office_tables_open.specs.SqlShelf.{SqlView}
 use Rattle.office_tables_open.specs.Found.{IsUnclaimed}
 pub use Rattle.office_tables_open.specs.Found.{HasOtherVersion, HasRowsAlone}
+use Rattle.office_tables_open.specs.Lacking.{AreCompleted, Hold, IsLacking}
 use Rattle.office_tables_open.specs.Version.{AreEmpty, version_in, current_version}
 use Rattle.office_tables_open.specs.declared.open.TheConstants.{DROPS}
 use Rattle.office_tables_open.specs.declared.open.OpenFault.{OpenFault}
 use Rattle.office_tables_open.specs.declared.open.OpenFault.TheVariants as fault
 
--- version 2 is stored, or none is and no table has a row
+-- version 2 is stored, also where tables are missing behind the first ones; or none is and no table has a row
 abbrev pub MayBeTaken : Trees → Type 0
-MayBeTaken trees = (version_in trees ≡ Some current_version) ⊎ IsUnclaimed trees
+MayBeTaken trees = (version_in trees ≡ Some current_version) ⊎ (IsUnclaimed trees ⊎ IsLacking trees)
 
 -- what is seen is what was committed
 abbrev pub IsSettled : State → Type 0
@@ -50,6 +51,16 @@ pub record IsMadeNew (old new : State) : Type 0 where
   pub unclaimed : IsUnclaimed old.committed.trees
   pub empty : AreEmpty old.committed.trees
   pub office : IsNewOffice new.now.trees
+
+-- it lacked tables, and has all of the office's now
+pub record IsMended (old new : State) : Type 0 where
+  pub was_clean : HasCleanDisk old
+  pub some : old.now.schema ≢ no_schema
+  pub completed : AreCompleted old.committed.trees new.now.trees
+
+-- tables were made: all of them, or those that were missing
+abbrev pub AreMade : State → State → Type 0
+AreMade old new = IsMadeNew old new ⊎ IsMended old new
 
 -- a stop leaves what it could before, or an office without a row, once its version is stored
 abbrev pub ClaimsEmpty : State → State → Type 0
@@ -81,7 +92,7 @@ module _ {S : Type 0} (g : Ghosts S) where
     pub opened : IsOpenIfClean (state g shelf.conn)
     pub honest : IsHonest (state g shelf.conn) → HasCleanDisk (state g conn)
     pub taken : IsHonest (state g shelf.conn) → MayBeTaken (state g conn).committed.trees
-    pub kept : IsHonest (state g shelf.conn) → content_now (state g shelf.conn) ≡ content_of (state g conn).committed.trees
+    pub kept : IsHonest (state g shelf.conn) → Hold (state g conn).committed.trees (content_now (state g shelf.conn))
     pub made : IsHonest (state g shelf.conn) → (state g conn).now.schema ≡ no_schema → content_now (state g shelf.conn) ≡ no_content
     pub stored : IsHonest (state g shelf.conn) → version_in (state g shelf.conn).now.trees ≡ Some current_version
     pub schema : IsHonest (state g shelf.conn) → (state g shelf.conn).now.schema ≡ office_schema
@@ -112,9 +123,9 @@ module _ {S : Type 0} (g : Ghosts S) where
   abbrev pub AreGone : Trees → Trees → Type 0
   AreGone old new = IsUnclaimed old × WereDropped old new
 
-  -- and a commit that failed may have made the office's tables
+  -- and a commit that failed may have made the office's tables, all of them or those that were missing
   abbrev pub MayBeNew : Trees → Trees → Type 0
-  MayBeNew old new = IsUnclaimed old × (WereDropped old new ⊎ IsNewOffice new)
+  MayBeNew old new = (IsUnclaimed old × (WereDropped old new ⊎ IsNewOffice new)) ⊎ AreCompleted old new
 
   -- What is known where an opening is refused. Tables of the office's names in another layout that store nothing may be gone.
   pub record IsRefused (conn : Held S) (why : OpenFault) (back : Result (Held S) S) : Type 0 where

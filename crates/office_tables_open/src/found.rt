@@ -1,14 +1,16 @@
 //! What a database holds whose tables are the office's in another layout.
 
-ghost use Rattle.std.specs.Prelude.{◌≡◌, ◌≢◌, ◌∷◌, Some, [], map, IsTrue, IfOk, IfErr, OnOk};
+ghost use Rattle.std.specs.Prelude.{◌≡◌, ◌≢◌, ◌∷◌, Some, [], map};
+ghost use Rattle.std.specs.Prelude.{IsTrue, IfOk, IfErr, IfSome, OnOk};
 ghost use Rattle.sqlite.specs.Held.{state};
 ghost use Rattle.sqlite.specs.State.{HasCleanDisk};
 ghost use Rattle.sqlite_schema.specs.declared.schema.Table.{Table};
 ghost use Rattle.sqlite_trees.specs.Tree.{Trees};
 ghost use Rattle.sqlite_trees.specs.View.{IsClean, IsQuiet};
 ghost use Rattle.sqlite_value.specs.Value.{owned};
+ghost use Rattle.sqlite_value.specs.declared.value.Value.TheVariants.{Int};
 ghost use Rattle.office_tables_open.specs.Arranged.{IsUnchanged, IsTaken, IsCheckedAgain};
-ghost use Rattle.office_tables_open.specs.Found.{IsOneOf, IsOtherNumber, StoresOtherAt, IsFound};
+ghost use Rattle.office_tables_open.specs.Found.{IsOneOf, StoresAt, IsFound};
 ghost use Rattle.office_tables_open.specs.Found.{IsFoundAt, IsFoundIn};
 ghost use Rattle.office_tables_open.specs.Opening.{IsAsFound};
 
@@ -49,7 +51,9 @@ pub enum Found {
     RowsAlone,
     /// The number of another version than today's.
     OtherVersion,
-    /// Today's version, or rows that tell no number of a version.
+    /// Today's version.
+    Today,
+    /// Rows that tell no number of a version.
     Unknown,
 }
 
@@ -104,36 +108,40 @@ fn is_vacant<S: Store>(alloc: Global, store: &mut S, tree: u32) -> Result<bool, 
     Ok(!found)
 }
 
-/// Whether this is the number of another version than today's.
-fn is_other(value: ValueRef<'_>) -> bool
-    ensures { IsTrue result → IsOtherNumber (owned value.entry) }
+/// The number that a value is, if it is one.
+fn number_of(value: ValueRef<'_>) -> Option<i64>
+    ensures { IfSome result (λ number. owned value.entry ≡ Int number) }
 {
     match value {
-        ValueRef::Int(number) => number != i64::from(VERSION),
-        _ => false,
+        ValueRef::Int(number) => Some(number),
+        _ => None,
     }
 }
 
-/// Whether the table stores another version than today's.
-fn stores_other<S: Store>(alloc: Global, store: &mut S, table: &Table) -> Result<bool, StoreError>
-    ensures other { IsClean (S.Store.view store.new) → IfOk result (λ other.
-        IsTrue other → StoresOtherAt table.now (S.Store.view store.old).trees) }
+/// The number that a table stores as its version, where it keeps one as the office does.
+fn stored_number<S: Store>(
+    alloc: Global,
+    store: &mut S,
+    table: &Table,
+) -> Result<Option<i64>, StoreError>
+    ensures stored { IsClean (S.Store.view store.new) → IfOk result (λ told.
+        IfSome told (λ number. StoresAt table.now number (S.Store.view store.old).trees)) }
     ensures same { IsClean (S.Store.view store.new) →
         OnOk result (IsUnchanged (S.Store.view store.old) (S.Store.view store.new)) }
     ensures quiet { IsQuiet S.Store.view S.Store.faults S.Store.recovers S.Store.is_shielded
         store.old store.new }
 {
     if !keeps_version(table) {
-        return Ok(false);
+        return Ok(None);
     }
     let Shape::Table = store.shape(table.tree) else {
-        return Ok(false);
+        return Ok(None);
     };
     let mut row = Row::new(alloc);
     if !store.get(table.tree, 1, &mut row)? {
-        return Ok(false);
+        return Ok(None);
     }
-    Ok(is_other(row.get(2)))
+    Ok(number_of(row.get(2)))
 }
 
 /// What one table holds.
@@ -151,10 +159,13 @@ fn found_at<S: Store>(alloc: Global, store: &mut S, table: &Table) -> Result<Fou
     if is_one_of(table.name.as_slice(), &EIGHT) {
         return Ok(Found::RowsAlone);
     }
-    if stores_other(alloc, store, table)? {
+    let Some(number) = stored_number(alloc, store, table)? else {
+        return Ok(Found::Unknown);
+    };
+    if number != i64::from(VERSION) {
         return Ok(Found::OtherVersion);
     }
-    Ok(Found::Unknown)
+    Ok(Found::Today)
 }
 
 /// What a table and the tables after it hold.
@@ -165,10 +176,12 @@ fn both(first: Found, more: Found) -> Found
     match first {
         Found::Nothing => more,
         Found::OtherVersion => Found::OtherVersion,
+        Found::Today => Found::Today,
         Found::RowsAlone => match more {
             Found::Nothing => Found::RowsAlone,
             Found::RowsAlone => Found::RowsAlone,
             Found::OtherVersion => Found::OtherVersion,
+            Found::Today => Found::Today,
             Found::Unknown => Found::Unknown,
         },
         Found::Unknown => match more {

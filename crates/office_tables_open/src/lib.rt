@@ -2,5 +2,6 @@
 #![tactic(auto)]
 
 pub mod found;
+mod missing;
 pub mod open;
 pub mod version;

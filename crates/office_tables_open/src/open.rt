@@ -9,18 +9,20 @@ ghost use Rattle.office_tables_sql.specs.Schema.{no_schema};
 ghost use Rattle.office_tables_sql.specs.Calls.{IsHonest, IsOffice, StandsOn, StaysOpen};
 ghost use Rattle.office_tables_open.specs.Version.{AreEmpty, HasRow};
 ghost use Rattle.office_tables_open.specs.Found.{HasOtherVersion, HasRowsAlone, IsOurs};
+ghost use Rattle.office_tables_open.specs.Lacking.{IsLacking};
 ghost use Rattle.office_tables_open.specs.Opening.{AreRun, WereDropped, KeepsOrDrops, IsRefused};
 ghost use Rattle.office_tables_open.specs.Opening.{IsOpenIfClean};
-ghost use Rattle.office_tables_open.specs.Opening.{IsNew, IsNewOffice, IsMadeNew, IsSettled};
+ghost use Rattle.office_tables_open.specs.Opening.{IsNew, IsNewOffice, AreMade, IsSettled};
 ghost use Rattle.office_tables_open.specs.Opening.{Claims, ClaimsEmpty, MayBeTaken, OnlyReads};
 ghost use Rattle.office_tables_open.specs.Promises.{KeepsContent, KeepsCommitted, EndsToday};
 ghost use Rattle.office_tables_open.specs.Promises.{LeavesNoMore, WasHonest};
 ghost use Rattle.office_tables_open.specs.Promises.{IsArrangedIfClean};
 
 use crate::found::{EIGHT, Found, KEEPER, is_one_of, looked};
+use crate::missing::complete;
 use crate::version::{VERSION, are_empty, is_version, put_version, store_version, stored_version};
 use office_tables_shelf::shelf::ShelfFault;
-use office_tables_sql::schema::{CREATES, is_blank, is_office};
+use office_tables_sql::schema::{CREATES, front_of, is_blank, is_office};
 use office_tables_sql::statement::SqlFault;
 use signal_records::NoMemory;
 use sqlite::{Alter, Connection, Transaction};
@@ -84,7 +86,7 @@ impl From<NoMemory> for OpenFault {
 }
 
 /// What drops the tables of the nine names, those first that refer to others.
-const DROPS: [&str; 9] = [
+pub(crate) const DROPS: [&str; 9] = [
     "DROP TABLE IF EXISTS used_part",
     "DROP TABLE IF EXISTS delivery",
     "DROP TABLE IF EXISTS work_order",
@@ -115,7 +117,7 @@ pub fn has_only_ours(schema: &Schema) -> bool
 }
 
 /// Runs the statements one after another.
-fn run_all<S: Alter>(tx: &mut Transaction<'_, S>, texts: &[&str]) -> Result<(), SqlFault>
+pub(crate) fn run_all<S: Alter>(tx: &mut Transaction<'_, S>, texts: &[&str]) -> Result<(), SqlFault>
     ensures same_reference { tx.new.conn.ghost_name ≡ tx.old.conn.ghost_name }
     ensures stands { StandsOn (state S.Store tx.old.conn.now) (state S.Store tx.new.conn.now) }
     ensures crash { LeavesNoMore (state S.Store tx.old.conn.now) (state S.Store tx.new.conn.now) }
@@ -237,6 +239,8 @@ pub fn claim<S: Alter>(conn: &mut Connection<S>) -> Result<(), OpenFault>
     ensures open { StaysOpen result (state S.Store conn.new) }
     ensures taken { IsHonest (state S.Store conn.new) →
         OnOk result (MayBeTaken (state S.Store conn.old).now.trees) }
+    ensures whole { IsHonest (state S.Store conn.new) →
+        OnOk result (¬ IsLacking (state S.Store conn.old).now.trees) }
     ensures version { IsHonest (state S.Store conn.new) → result ≡ Err OpenFault.Version →
         HasOtherVersion (state S.Store conn.old).now.trees }
     ensures damaged { IsHonest (state S.Store conn.new) → result ≡ Err OpenFault.Damaged →
@@ -278,7 +282,7 @@ pub fn prepared<S: Alter + Drop>(
     ensures kept { IfOk result (λ p. p.1 ≡ false → p.0 ≡ conn) }
     ensures settled { IfOk result (λ p. p.1 ≡ false → IsSettled (state S.Store conn)) }
     ensures made { IfOk result (λ p. p.1 ≡ true → IsHonest (state S.Store p.0) →
-        IsMadeNew (state S.Store conn) (state S.Store p.0)) }
+        AreMade (state S.Store conn) (state S.Store p.0)) }
     ensures blank { IfOk result (λ p.
         (state S.Store conn).now.schema ≡ no_schema → p.1 ≡ true) }
     ensures ours { IfOk result (λ p. p.1 ≡ true →
@@ -317,9 +321,10 @@ fn laid_anew<S: Alter + Drop>(
     ensures office { IfOk result (λ c. IsOffice (state S.Store c)) }
     ensures open { IfOk result (λ c. IsOpenIfClean (state S.Store c)) }
     ensures made { IfOk result (λ c. IsHonest (state S.Store c) →
-        IsMadeNew (state S.Store conn) (state S.Store c)) }
+        AreMade (state S.Store conn) (state S.Store c)) }
     ensures refused { IfErr result (λ e. IsRefused S.Store conn e.0 e.1) }
 {
+    let front = front_of(conn.schema());
     let (held, mut conn) = match looked(alloc, conn) {
         Ok(found) => found,
         Err((fault, store)) => return Err((OpenFault::from(fault), Err(store))),
@@ -331,6 +336,15 @@ fn laid_anew<S: Alter + Drop>(
         },
         Found::RowsAlone => Err((OpenFault::Damaged, Ok(conn))),
         Found::OtherVersion => Err((OpenFault::Version, Ok(conn))),
+        Found::Today => {
+            let Some(count) = front else {
+                return Err((OpenFault::Store, Ok(conn)));
+            };
+            match complete(&mut conn, count) {
+                Ok(()) => Ok(conn),
+                Err(fault) => Err((OpenFault::from(fault), Ok(conn))),
+            }
+        }
         Found::Unknown => Err((OpenFault::Store, Ok(conn))),
     }
 }

@@ -1,13 +1,14 @@
 //! Whether a database has the tables of the office.
 
-ghost use Rattle.std.specs.Prelude.{◌≡◌, IsTrue};
-ghost use Rattle.office_tables_sql.specs.Schema.{office_schema, no_schema};
+ghost use Rattle.std.specs.Prelude.{◌≡◌, ◌<◌, take, length, IsTrue, IfSome};
+ghost use Rattle.office_tables_sql.specs.Schema.{office_schema, no_schema, version_table};
+ghost use Rattle.office_tables_sql.specs.Schema.{numbered, place_after, front_schema};
 
 mod parts;
 mod tables;
 
-use parts::{are_indexes, are_tables};
-use sqlite_schema::schema::Schema;
+use parts::{are_first_indexes, are_first_tables, are_indexes, are_tables, is_alike};
+use sqlite_schema::schema::{Index, Schema, Table};
 use tables::TABLES;
 
 /// The texts that make the tables, in the order of their numbers.
@@ -32,6 +33,46 @@ pub fn is_office(schema: &Schema) -> bool
     schema.views.is_empty()
         && are_indexes(schema.indexes.as_slice(), tables)
         && are_tables(schema.tables.as_slice(), tables)
+}
+
+/// Whether these are the first tables of the office, and the first of its indexes.
+fn are_first(tables: &[Table], indexes: &[Index]) -> bool
+    ensures tables { IsTrue result →
+        tables.now ≡ take (length tables.now) office_schema.tables }
+    ensures indexes { IsTrue result →
+        indexes.now ≡ take (length indexes.now) office_schema.indexes }
+{
+    let wanted = &TABLES;
+    are_first_tables(tables, wanted) && are_first_indexes(indexes, wanted)
+}
+
+/// Whether this is the table of the version, under the number that follows so many other tables.
+fn is_keeper_after(table: &Table, count: usize) -> bool
+    requires { count < 8 }
+    ensures { IsTrue result → table.now ≡ numbered version_table (place_after count) }
+{
+    table.tree as usize == (2 * count).saturating_sub(1) && is_alike(table, &TABLES[8])
+}
+
+/// How many of the eight tables are there, where they are the first ones, and then comes that of
+/// the version, and nothing else.
+pub fn front_of(schema: &Schema) -> Option<usize>
+    ensures few { IfSome result (λ count. count < 8) }
+    ensures is { IfSome result (λ count. schema.now ≡ front_schema count) }
+{
+    let Some((last, tables)) = schema.tables.as_slice().split_last() else {
+        return None;
+    };
+    let indexes = schema.indexes.as_slice();
+    let count = tables.len();
+    if count >= 8 || indexes.len() != count.saturating_sub(1) || !schema.views.is_empty() {
+        return None;
+    }
+    if are_first(tables, indexes) && is_keeper_after(last, count) {
+        Some(count)
+    } else {
+        None
+    }
 }
 
 /// Whether there is no table yet.

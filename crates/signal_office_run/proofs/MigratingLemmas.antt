@@ -15,12 +15,14 @@ use Rattle.sqlite_disk.specs.declared.Disk.{Ghosts as Disk}
 use Rattle.sqlite_disk.specs.declared.Files.{Files}
 use Rattle.sqlite_trees.specs.Props.{Trees-set}
 use Rattle.office_tables_shelf.specs.Office.{Office, version_1}
-use Rattle.office_tables_shelf.specs.StandFor.{StandForSoundIn}
+use Rattle.office_tables_shelf.specs.Content.{Content}
+use Rattle.office_tables_shelf.specs.StandFor.{StandForSound, StandForSoundIn}
 use Rattle.office_tables.specs.Calls.{IsHonest}
 use Rattle.office_tables.specs.Stored.{content_now, content_of}
 use Rattle.office_tables.specs.Migrate.{IsBrought, MayBecome}
 use Rattle.office_tables_open.specs.Version.{version_in, current_version, first_version}
 use Rattle.office_tables_open.specs.declared.open.OpenFault.{OpenFault}
+use Rattle.office_tables_open.proofs.LackingLemmas.{stored_whole}
 use Rattle.office_tables_former.specs.Migration.{StandAnew}
 use Rattle.office_tables_former.specs.declared.puts.Migrated.{Migrated}
 use Rattle.office_tables_former.proofs.Migration.{stand_anew}
@@ -65,7 +67,10 @@ held_today image db office holds stand = λ trees those.
 
 -- tables that stand today stand in the files as a run of the program needs it
 pub in_files : (image : Image) (office : Office) → StandTodayInFiles image office → StandInFiles image office
-in_files image office today = λ trees those. (today trees those).stand.stand
+in_files image office today = λ trees those tables hold. elim hold [
+  | inl whole ↦ subst (λ (t : Content). StandForSound t office) (sym whole.1) (today trees those).stand.stand
+  | inr lacks ↦ absurd (stored_whole trees (today trees those).version (lacks.0, lacks.1))
+]
 
 -- what holds on either side of a result
 pub on_ok : {A B : Type 0} (r : Result A B) (P Q : Type 0) → (P → Q) → OnOk r P → OnOk r Q

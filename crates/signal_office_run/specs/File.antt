@@ -16,8 +16,9 @@ use Rattle.sqlite.specs.Held.{Held}
 use Rattle.sqlite.specs.State.{State, HasCleanDisk}
 use Rattle.office_tables.specs.Calls.{IsHonest}
 use Rattle.office_tables.specs.Content.{Content}
+use Rattle.office_tables_open.specs.Lacking.{Hold}
 use Rattle.office_tables_open.specs.SqlShelf.{MayLeave, SqlView}
-use Rattle.office_tables.specs.Stored.{content_now, content_of}
+use Rattle.office_tables.specs.Stored.{content_now}
 use Rattle.office_desk.specs.Office.{Office}
 use Rattle.office_desk.specs.StandFor.{StandForSound}
 use Rattle.office_http.specs.Laws.{Serves}
@@ -30,9 +31,9 @@ pub record AreThoseOf (image : Image) (trees : Trees) : Type 0 where
   pub holds : (db : Trees) → HoldsDatabase image db → trees ≡ db
   pub reads : AreFoundIn image trees
 
--- the tables in the files stand for the office
+-- what the tables in the files hold stands for the office; a table that they lack holds nothing
 abbrev pub StandInFiles : Image → Office → Type 0
-StandInFiles image office = (trees : Trees) → AreThoseOf image trees → StandForSound (content_of trees) office
+StandInFiles image office = (trees : Trees) → AreThoseOf image trees → (tables : Content) → Hold trees tables → StandForSound tables office
 
 -- how the office is stored in the tables of a database, whose connection has these states
 abbrev pub sql_storage : {S : Type 0} → (Held S → State) → Storage (SqlView S) Office Content

@@ -1,11 +1,13 @@
 //! The parts of a schema, compared with what they have to be.
 
-ghost use Rattle.std.specs.Prelude.{◌≡◌, ◌<◌, ◌^◌, None, Some, [], ◌∷◌, false, map, slice_get, IsTrue};
+ghost use Rattle.std.specs.Prelude.{◌≡◌, ◌<◌, ◌^◌, None, Some, [], ◌∷◌, false, map, take};
+ghost use Rattle.std.specs.Prelude.{length, slice_get, IsTrue};
 ghost use Rattle.std.specs.List.{AllByRecursion};
 ghost use Rattle.sqlite.specs.declared.types.Value.TheVariants.{Int};
 ghost use Rattle.sqlite_value.specs.Keys.{plain};
 ghost use Rattle.sqlite_schema.specs.declared.code.Op.TheVariants.{Column as AColumn, Literal as ALiteral};
 ghost use Rattle.office_tables_sql.specs.Wanted.{column_wanted, reference_wanted, ComparesAt, checks_wanted, key_of, primary_of, uniques_of, orders_of, table_wanted, index_wanted, indexes_wanted};
+ghost use Rattle.office_tables_sql.specs.Schema.{numbered};
 
 use sqlite_items::Items;
 use sqlite_schema::code::{Op, Terms};
@@ -211,17 +213,24 @@ fn is_plain(table: &Table) -> bool
         && !table.is_counted
 }
 
-fn is_table(table: &Table, want: &WantedTable<'_>) -> bool
-    ensures is { IsTrue result → table.now ≡ table_wanted want.now }
-    ensures other { table.now ≡ table_wanted want.now → IsTrue result }
+/// Whether this is the table, whatever its number.
+pub(crate) fn is_alike(table: &Table, want: &WantedTable<'_>) -> bool
+    ensures is { IsTrue result → table.now ≡ numbered (table_wanted want.now) table.now.tree }
+    ensures other { table.now ≡ numbered (table_wanted want.now) table.now.tree → IsTrue result }
 {
     table.name.as_slice() == want.name.as_bytes()
-        && table.tree == want.tree
         && are_columns(table.columns.as_slice(), want.columns)
         && is_keyed(table, &want.key)
         && are_checks(&table.checks, &want.check)
         && are_references(table.references.as_slice(), want.references)
         && is_plain(table)
+}
+
+fn is_table(table: &Table, want: &WantedTable<'_>) -> bool
+    ensures is { IsTrue result → table.now ≡ table_wanted want.now }
+    ensures other { table.now ≡ table_wanted want.now → IsTrue result }
+{
+    table.tree == want.tree && is_alike(table, want)
 }
 
 pub(crate) fn are_tables(tables: &[Table], wanted: &[WantedTable<'_>]) -> bool
@@ -235,6 +244,20 @@ pub(crate) fn are_tables(tables: &[Table], wanted: &[WantedTable<'_>]) -> bool
         return false;
     };
     is_table(table, want) && are_tables(tables, wanted)
+}
+
+/// Whether these are the first of the wanted tables.
+pub(crate) fn are_first_tables(tables: &[Table], wanted: &[WantedTable<'_>]) -> bool
+    ensures { IsTrue result →
+        tables.now ≡ take (length tables.now) (map table_wanted wanted.now) }
+{
+    let Some((table, tables)) = tables.split_first() else {
+        return true;
+    };
+    let Some((want, wanted)) = wanted.split_first() else {
+        return false;
+    };
+    is_table(table, want) && are_first_tables(tables, wanted)
 }
 
 /// Whether this is the index of that table's PRIMARY KEY.
@@ -267,4 +290,22 @@ pub(crate) fn are_indexes(indexes: &[Index], wanted: &[WantedTable<'_>]) -> bool
         return false;
     };
     is_index(index, name, want.tree, places) && are_indexes(indexes, wanted)
+}
+
+/// Whether these are the first indexes of the tables' PRIMARY KEYs.
+pub(crate) fn are_first_indexes(indexes: &[Index], wanted: &[WantedTable<'_>]) -> bool
+    requires { AllByRecursion (λ w. w.tree < 2 ^ 31) wanted.now }
+    ensures { IsTrue result →
+        indexes.now ≡ take (length indexes.now) (indexes_wanted wanted.now) }
+{
+    let Some((index, others)) = indexes.split_first() else {
+        return true;
+    };
+    let Some((want, wanted)) = wanted.split_first() else {
+        return false;
+    };
+    let WantedKey::Places(places, name) = &want.key else {
+        return are_first_indexes(indexes, wanted);
+    };
+    is_index(index, name, want.tree, places) && are_first_indexes(others, wanted)
 }

@@ -1,4 +1,3 @@
-use Rattle.std.proofs.Common.{sym}
 use Rattle.sqlite.specs.Held.{state}
 use Rattle.office_tables_open.proofs.LeftLemmas.{still_found}
 use Rattle.office_tables_open.proofs.OpenLemmas.{again}

@@ -1,13 +1,15 @@
-use Rattle.std.proofs.Common.{◌≡◌, subst, arith}
+use Rattle.std.proofs.Common.{◌≡◌, inl, inr, ℕ, ◌<◌, Option, IfSome, sym, subst, ◌∙◌, arith}
 use Rattle.sqlite.specs.Held.{state}
-use Rattle.sqlite.specs.State.{HasCleanDisk}
+use Rattle.sqlite.specs.Tree.{Trees}
+use Rattle.office_tables_sql.specs.Schema.{front_schema}
 use Rattle.office_tables_open.specs.Arranged.{IsArranged}
 use Rattle.office_tables_open.specs.Found.{IsFoundIn}
-use Rattle.office_tables_open.specs.Opening.{AreGone, MayBeNew}
+use Rattle.office_tables_open.specs.Lacking.{Completes}
 use Rattle.office_tables_open.specs.declared.found.Found.{Found}
 use Rattle.office_tables_open.specs.declared.open.OpenFault.TheVariants.{Version, Damaged, Store}
-use Rattle.office_tables_open.proofs.OpenLemmas.{found_unclaimed, found_none, found_other, found_rows, same_committed}
-use Rattle.office_tables_open.proofs.LeftLemmas.{again_found, anew_left, as_left, refused_found, refused_left}
+use Rattle.office_tables_open.proofs.OpenLemmas.{again_rises, found_unclaimed, found_none, found_other, found_rows, same_committed}
+use Rattle.office_tables_open.proofs.LeftLemmas.{again_found, anew_left, as_left, mended_left, refused_found, refused_left}
+use Rattle.office_tables_open.proofs.LackingLemmas.{found_lacks, front_some}
 use Rattle.office_tables_open.proofs.open.laid_anew.Goals as goal
 
 pub returns-in-Err-clause-refused : goal.returns-in-Err-clause-refused
@@ -23,12 +25,12 @@ returns-in-Ok-make_anew-clause-made g c honest =
     let again = c.in-Ok.ensures.again in
     let early = c.in-Ok-make_anew.ensures.honest honest in
     let held = subst (λ (f : Found). IsFoundIn f s) c.in-Nothing.is (c.in-Ok.ensures.found early.0) in
-    record {
+    inl (record {
       was_clean = omega (arith, early.0, again.clean);
       unclaimed = found_unclaimed s (c.requires.settled (again.was_open early.0)) held;
       empty = found_none s (c.requires.settled (again.was_open early.0)) held (subst IsArranged (same_committed s found again early.0) (again.arranged early.0)) c.requires.no_views;
       office = c.in-Ok-make_anew.ensures.made honest;
-    }
+    })
 
 pub returns-in-Err-make_anew-clause-refused : goal.returns-in-Err-make_anew-clause-refused
 returns-in-Err-make_anew-clause-refused g c =
@@ -61,3 +63,38 @@ returns-in-Unknown-clause-refused g c =
     let again = c.in-Ok.ensures.again in
     refused_found g.S.Store c.args.conn Store _ (λ is. absurd (let e : Store ≡ Version = is in cc)) (λ is. absurd (let e : Store ≡ Damaged = is in cc))
     (again_found g.S.Store c.args.conn c.in-Ok.found.1 again)
+
+pub complete-requires-clause-rise : goal.complete-requires-clause-rise
+complete-requires-clause-rise g c = again_rises (state g.S.Store c.args.conn) (state g.S.Store c.in-Ok.found.1) c.in-Ok.ensures.again
+
+pub returns-in-Ok-complete-clause-made : goal.returns-in-Ok-complete-clause-made
+returns-in-Ok-complete-clause-made g c honest =
+    let s = state g.S.Store c.args.conn in
+    let found = state g.S.Store c.in-Ok.found.1 in
+    let again = c.in-Ok.ensures.again in
+    let early = c.in-Ok-complete.ensures.honest honest in
+    let held = subst (λ (f : Found). IsFoundIn f s) c.in-Today.is (c.in-Ok.ensures.found early.0) in
+    let few = subst (λ (o : Option ℕ). IfSome o (λ n. n < 8)) c.in-Some.is c.front_of-front.ensures.few in
+    let is = sym c.schema.ensures.value ∙ subst (λ (o : Option ℕ). IfSome o (λ n. c.schema.result.now ≡ front_schema n)) c.in-Some.is c.front_of-front.ensures.is in
+    inr (record {
+      was_clean = omega (arith, early.0, again.clean);
+      some = front_some c.in-Some.count s.now.schema is;
+      completed = record {
+        count = c.in-Some.count;
+        lacks = found_lacks s (c.requires.settled (again.was_open early.0)) held (subst IsArranged (same_committed s found again early.0) (again.arranged early.0)) c.in-Some.count few is;
+        completes = subst (λ (t : Trees). Completes c.in-Some.count t (state g.S.Store c.complete.new.conn).now.trees) (again.kept early.0) (c.in-Ok-complete.ensures.made honest);
+      };
+    })
+
+pub returns-in-Err-complete-clause-refused : goal.returns-in-Err-complete-clause-refused
+returns-in-Err-complete-clause-refused g c =
+    let s = state g.S.Store c.args.conn in
+    let found = state g.S.Store c.in-Ok.found.1 in
+    let again = c.in-Ok.ensures.again in
+    let it = c.in-Err-complete.ensures in
+    let fault = c.from-in-Err-complete.ensures in
+    let few = subst (λ (o : Option ℕ). IfSome o (λ n. n < 8)) c.in-Some.is c.front_of-front.ensures.few in
+    let is = sym c.schema.ensures.value ∙ subst (λ (o : Option ℕ). IfSome o (λ n. c.schema.result.now ≡ front_schema n)) c.in-Some.is c.front_of-front.ensures.is in
+    refused_left g.S.Store c.args.conn _ _ fault.0 fault.1
+    (mended_left g.S.Store c.args.conn c.in-Ok.found.1 again c.complete.new.conn c.in-Some.count it.honest it.kept
+    (λ clean. found_lacks s (c.requires.settled (again.was_open clean)) (subst (λ (f : Found). IsFoundIn f s) c.in-Today.is (c.in-Ok.ensures.found clean)) (subst IsArranged (same_committed s found again clean) (again.arranged clean)) c.in-Some.count few is) it.crash)

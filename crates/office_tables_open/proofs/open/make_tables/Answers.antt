@@ -6,7 +6,7 @@ use Rattle.sqlite.proofs.StateLemmas.{survives_then}
 use Rattle.sqlite.proofs.Callers.{survives_begin}
 use Rattle.office_tables_sql.specs.Calls.{IsHonest, IsOffice}
 use Rattle.office_tables_open.specs.Opening.{IsNew, IsNewOffice}
-use Rattle.office_tables_open.proofs.MadeLemmas.{committed_office, committed_new}
+use Rattle.office_tables_open.proofs.MadeLemmas.{committed_office, committed_rows}
 use Rattle.office_tables_open.proofs.open.make_tables.Goals as goal
 
 pub returns-clause-office : goal.returns-clause-office
@@ -15,7 +15,7 @@ returns-clause-office g c =
     let begun = c.transaction-tx.ensures.begun in
     let it = c.in_ok-commit.ensures in
     let made : HasCleanDisk (state g.S.Store mid) → IsNew (state g.S.Store mid) = λ clean. (rw begun at (c.in_ok-make_all.ensures.made clean)) refl c.requires.blank in
-    let whole = committed_office (state g.S.Store mid) (state g.S.Store c.commit.new.self.0) it.survives.clean made (λ clean. (it.ok clean).1) it.ended in
+    let whole = committed_office (state g.S.Store mid) (state g.S.Store c.commit.new.self.0) it.survives.clean (λ clean. (it.ok clean).1) (λ clean. (made clean).ready) it.ended in
     let same : c.commit.new.self.0 ≡ c.conn-2-1.given.0 = search rules in
     subst (λ h. IsOffice (state g.S.Store h)) same whole
 
@@ -25,7 +25,7 @@ returns-clause-made g c =
     let begun = c.transaction-tx.ensures.begun in
     let it = c.in_ok-commit.ensures in
     let made : HasCleanDisk (state g.S.Store mid) → IsNew (state g.S.Store mid) = λ clean. (rw begun at (c.in_ok-make_all.ensures.made clean)) refl c.requires.blank in
-    let whole : IsHonest (state g.S.Store c.commit.new.self.0) → IsNewOffice (state g.S.Store c.commit.new.self.0).now.trees = λ honest. committed_new (state g.S.Store mid) (state g.S.Store c.commit.new.self.0) it.survives.clean made (λ clean. (it.ok clean).1) honest.0 in
+    let whole : IsHonest (state g.S.Store c.commit.new.self.0) → IsNewOffice (state g.S.Store c.commit.new.self.0).now.trees = λ honest. committed_rows (state g.S.Store mid) (state g.S.Store c.commit.new.self.0) it.survives.clean (λ clean. (it.ok clean).1) IsNewOffice (λ clean. (made clean).office) honest.0 in
     let same : c.commit.new.self.0 ≡ c.conn-2-1.given.0 = search rules in
     subst (λ h. IsHonest (state g.S.Store h) → IsNewOffice (state g.S.Store h).now.trees) same whole
 

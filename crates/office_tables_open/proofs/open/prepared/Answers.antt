@@ -1,4 +1,4 @@
-use Rattle.std.proofs.Common.{◌≡◌, IsTrue, sym, subst, ◌∙◌, arith}
+use Rattle.std.proofs.Common.{◌≡◌, inl, IsTrue, sym, subst, ◌∙◌}
 use Rattle.sqlite.specs.Effect.{Database}
 use Rattle.sqlite.specs.Held.{state}
 use Rattle.sqlite_trees.specs.Objects.{catalog_tree}
@@ -18,7 +18,7 @@ returns-in-Ok-clause-made g c made honest =
     let is : s.now.schema ≡ no_schema = sym c.schema.ensures.value ∙ c.is_blank.ensures.blank c.if-is_blank.true in
     let listed : AreListed (s.now.trees catalog_tree) no_schema = subst (AreListed (s.now.trees catalog_tree)) is (c.schema.ensures.live opened).0.lists.listed in
     let none = subst (λ (d : Database). AreListed (d.trees catalog_tree) no_schema) (c.is_autocommit.ensures.settled c.if-not-is_autocommit.false opened) listed in
-    record { was_clean = early.0; unclaimed = blank_unclaimed s.committed.trees (c.requires early.0) none; empty = blank_rows s.committed.trees (c.requires early.0) none; office = c.in-Ok.ensures.made honest }
+    inl (record { was_clean = early.0; unclaimed = blank_unclaimed s.committed.trees (c.requires early.0) none; empty = blank_rows s.committed.trees (c.requires early.0) none; office = c.in-Ok.ensures.made honest })
 
 pub returns-in-Err-clause-refused : goal.returns-in-Err-clause-refused
 returns-in-Err-clause-refused g c =

@@ -2,6 +2,7 @@ use Rattle.std.proofs.Common.{sym, subst, ◌∙◌}
 use Rattle.std.proofs.lemmas.Result.{IfOk-weaker, IfErr-weaker}
 use Rattle.sqlite.specs.Files.{file_state}
 use Rattle.office_tables_open.proofs.ArrangedLemmas.{found_arranged}
+use Rattle.office_tables.specs.Stored.{content_now}
 use Rattle.office_desk.specs.StandFor.{StandForSound}
 use Rattle.sqlite.specs.WalFiles.{image_at}
 use Rattle.signal_office_run.proofs.FileLemmas.{turned_from}
@@ -15,7 +16,7 @@ returns-in-Ok-clause-opened g c =
     IfOk-weaker c.office_over.result _ _ (λ office it clean before stands.
     let honest = it.opened clean in
     let found = c.in-Ok.ensures.found (it.honest honest) in
-    let stand = subst (λ tables. StandForSound tables before) (sym (it.kept honest)) (stands (file_state c.in-Ok.conn).committed.trees (record { holds = found.holds; reads = found.reads })) in
+    let stand = stands (file_state c.in-Ok.conn).committed.trees (record { holds = found.holds; reads = found.reads }) (content_now (file_state office.conn)) (it.kept honest) in
     record {
       stand = stand;
       crash = λ tables left. subst (λ t. StandForSound t before) (sym (it.crash honest left.1 left.2) ∙ left.3) stand;

@@ -5,6 +5,7 @@ use Rattle.sqlite.specs.Tree.{Trees}
 use Rattle.office_tables_sql.specs.Calls.{IsHonest, IsOffice}
 use Rattle.office_tables_sql.specs.Stored.{content_now, content_of}
 use Rattle.office_tables_open.specs.Found.{HasOtherVersion, HasRowsAlone}
+use Rattle.office_tables_open.specs.Lacking.{IsLacking}
 use Rattle.office_tables_open.specs.Opening.{Claims, MayBeTaken, OnlyReads}
 use Rattle.office_tables_open.specs.declared.open.OpenFault.TheVariants.{Version, Damaged}
 use Rattle.office_tables_open.proofs.LeftLemmas.{refused_claimed}
@@ -32,7 +33,7 @@ returns-in-Ok-claim-clause-opened g c =
     it.open
     (c.in-Ok.ensures.settled is) (λ h. subst (λ x. IsHonest (state g.S.Store x)) same (it.honest h))
     (λ h. it.same h ∙ ap (λ x. content_now (state g.S.Store x)) same) (λ blank. true≢false (sym (c.in-Ok.ensures.blank blank) ∙ is))
-    (λ h. subst (λ x. MayBeTaken (state g.S.Store x).now.trees) same (it.taken h)) it.stored
+    (λ h. subst (λ x. MayBeTaken (state g.S.Store x).now.trees) same (it.taken h)) (λ h. subst (λ x. ¬ IsLacking (state g.S.Store x).now.trees) same (it.whole h)) it.stored
 
 pub returns-in-Err-claim-clause-refused : goal.returns-in-Err-claim-clause-refused
 returns-in-Err-claim-clause-refused g c =

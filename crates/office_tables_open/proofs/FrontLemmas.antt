@@ -1,0 +1,308 @@
+-- Tables that are missing behind the first ones: what is known of each number of them, and what making the others comes to.
+use Rattle.std.proofs.Common.{◌≡◌, ℕ, zero, suc, ◌<◌, ◌-◌, nat_lt, Bool, true, false, not, cond, if◌then◌else◌, List, [], ◌∷◌, ◌++◌, codes, map, take, drop, Option, None, Some, slice_get, Result, Ok, Err, refl, sym, ap, subst, ◌∙◌, arith}
+use Rattle.std.specs.Prelude.{OnOk, ⊤}
+use Rattle.std.specs.List.{AllByRecursion, list_all}
+use Rattle.std.proofs.lemmas.Bool.{and_parts}
+use Rattle.std.proofs.lemmas.List.{take-append-drop}
+use Rattle.sqlite.specs.Command.TheVariants.{DropTable}
+use Rattle.sqlite.specs.Does.{AtPlace, Drops as DoesDrop, Empties, HoldWithout, Leaves, Redefines, Tally, Tested, Uncounts, UncountsIn, is_acted_on, no_rows}
+use Rattle.sqlite.specs.Effect.{Database, IsDatabase}
+use Rattle.sqlite.specs.Given.{IsPlain}
+use Rattle.sqlite.specs.Held.{Held, state}
+use Rattle.sqlite.specs.Listing.{understood}
+use Rattle.sqlite.specs.Rows.{Gives, Outcome, Part, Task, Then, sequence}
+use Rattle.sqlite.specs.State.{State, ExecutesInside, mode_of}
+use Rattle.sqlite.specs.declared.run.Mode.{Mode}
+use Rattle.sqlite.specs.Tree.{Trees}
+use Rattle.sqlite.specs.View.{IsShaped}
+use Rattle.sqlite.proofs.Callers.{runs_as, through}
+use Rattle.sqlite_catalog.specs.Change.{without_table, KeepsRows}
+use Rattle.sqlite_schema.specs.declared.schema.Keys.TheVariants.{Enforced}
+use Rattle.sqlite_schema.specs.declared.schema.Schema.{Schema}
+use Rattle.sqlite_schema.specs.declared.schema.Table.{Table}
+use Rattle.sqlite_tied.specs.Compute.{everything}
+use Rattle.sqlite_trees.specs.declared.store.Shape.TheVariants as shape
+use Rattle.sqlite_trees.specs.declared.store.Store.{Ghosts}
+use Rattle.office_tables_sql.specs.Calls.{IsReady, command_of, statement_of}
+use Rattle.office_tables_sql.specs.Layout as layout
+use Rattle.office_tables_sql.specs.Schema.{front_schema, numbered, office_schema, place_after, version_table}
+use Rattle.office_tables_sql.specs.Stored.{content_now, content_of, rows_in}
+use Rattle.office_tables_sql.specs.declared.schema.TheConstants.{CREATES}
+use Rattle.office_tables_open.specs.Lacking.{IsGrown, IsSpread, SeesFront, content_before, emptied_from}
+use Rattle.office_tables_open.specs.Opening.{AreRun}
+use Rattle.office_tables_open.specs.Version.{version_in, current_version}
+use Rattle.office_tables_open.proofs.MadeLemmas.{AreFree, AreMaking, Ends, kept_rows, made_of, office_making, over_run, second_of, untreed}
+
+-- each number below eight
+pub below_8 : (P : ℕ → Type 0) → P 0 → P 1 → P 2 → P 3 → P 4 → P 5 → P 6 → P 7 → (n : ℕ) → n < 8 → P n
+below_8 P a b c d e f g h zero low = a
+below_8 P a b c d e f g h (suc zero) low = b
+below_8 P a b c d e f g h (suc (suc zero)) low = c
+below_8 P a b c d e f g h (suc (suc (suc zero))) low = d
+below_8 P a b c d e f g h (suc (suc (suc (suc zero)))) low = e
+below_8 P a b c d e f g h (suc (suc (suc (suc (suc zero))))) low = f
+below_8 P a b c d e f g h (suc (suc (suc (suc (suc (suc zero)))))) low = g
+below_8 P a b c d e f g h (suc (suc (suc (suc (suc (suc (suc zero))))))) low = h
+below_8 P a b c d e f g h (suc (suc (suc (suc (suc (suc (suc (suc n)))))))) low = absurd (omega (arith, low))
+
+-- ---- a table is dropped to which no foreign key with an action refers
+
+pub record IsDropping (schema : Schema) (sql : List ℕ) (table : Table) : Type 0 where
+  pub at : ℕ
+  pub is : command_of (understood schema sql) ≡ DropTable at
+  pub plain : IsPlain (understood schema sql)
+  pub found : slice_get schema.tables at ≡ Some table
+  pub unacted : is_acted_on schema Enforced table ≡ false
+  pub uncounted : table.is_counted ≡ false
+
+module _ (task : Task) (mode : Mode) where
+  abbrev Leaving : Trees → Bool → Part (Tally × Database)
+  Leaving now in_doubt = Then (Leaves (without_table task.schema task.table.tree) now (λ _. ⊥)) (λ (after : Database). Gives (no_rows in_doubt, after))
+
+  abbrev Testing : Trees → Part (Tally × Database)
+  Testing now = Then (Tested mode (HoldWithout task now)) (Leaving now)
+
+  abbrev Uncounting : Trees → Part (Tally × Database)
+  Uncounting emptied = Then (Uncounts task emptied) Testing
+
+pub drop_step : (old new : State) (count : ℕ) (schema : Schema) (sql : List ℕ) (table : Table) → IsDropping schema sql table → old.now.schema ≡ schema → ExecutesInside 0 sql [] old new (Ok count)
+    → (new.now.schema ≡ without_table schema table.tree) × KeepsRows (without_table schema table.tree).tables old.now.trees new.now.trees × IsDatabase new.now
+drop_step old new count schema sql table drops is ran =
+    let text = statement_of sql (understood schema sql) in
+    let db = old.now.trees in
+    let mode = mode_of old in
+    let did = runs_as sql [] old new schema is (DropTable drops.at) drops.is drops.plain count ran.0 in
+    let out : Outcome (Tally × Database) = Ok (did.tally, new.now) in
+    let task_of : Table → Task = λ t. record { limit = old.step_limit; keys = Enforced; schema = schema; table = t; params = [] } in
+    let task = task_of table in
+    let known = subst (λ (s : Schema). Redefines old.step_limit mode [] (record { schema = s; trees = db }) text (DropTable drops.at) out) is did.changed in
+    let whole = subst (λ (o : Option Table). AtPlace (λ (t : Table). DoesDrop (task_of t) mode db) o out) drops.found known in
+    let one = through (Empties task db) (Uncounting task mode) (did.tally, new.now) whole in
+    let emptied : one.0 ≡ db = (let e : Ok one.0 ≡ Ok db = rw drops.unacted at one.1 in cc) in
+    let two = through (Uncounts task one.0) (Testing task mode) (did.tally, new.now) one.2 in
+    let uncounted : two.0 ≡ one.0 = (let e : Ok two.0 ≡ Ok one.0 = subst (λ (b : Bool). UncountsIn task one.0 (if b then sequence schema else None) (Ok two.0)) drops.uncounted two.1 in cc) in
+    let three = through (Tested mode (HoldWithout task two.0)) (Leaving task mode two.0) (did.tally, new.now) two.2 in
+    let four = through (Leaves (without_table schema table.tree) two.0 (λ _. ⊥)) (λ (after : Database). Gives (no_rows three.0, after)) (did.tally, new.now) three.2 in
+    let last : four.0 ≡ new.now = sym (ap (second_of new.now) four.2) in (
+      ap (λ (d : Database). d.schema) (sym last) ∙ four.1.0,
+      subst (λ (d : Database). KeepsRows (without_table schema table.tree).tables db d.trees) last
+          (subst (λ (t : Trees). KeepsRows (without_table schema table.tree).tables t four.0.trees) (uncounted ∙ emptied) four.1.1),
+      did.sound,
+    )
+
+-- ---- the first tables of the office
+
+abbrev pub first_tables : ℕ → List Table
+first_tables count = take count office_schema.tables
+
+abbrev pub later_tables : ℕ → List Table
+later_tables count = drop count office_schema.tables
+
+abbrev pub bare_schema : ℕ → Schema
+bare_schema count = record { tables = first_tables count; indexes = take (count - 1) office_schema.indexes; views = [] }
+
+abbrev pub made_again : ℕ → List Table
+made_again count = drop count (map untreed office_schema.tables)
+
+abbrev pub creating_texts : ℕ → List (List ℕ)
+creating_texts count = map (λ text. text.now) (drop count CREATES)
+
+abbrev pub dropping_text : List ℕ
+dropping_text = codes "DROP TABLE IF EXISTS office_version"
+
+abbrev pub last_table : ℕ → Table
+last_table count = numbered version_table (place_after count)
+
+-- what making the others needs of their number
+pub record IsMakeable (count : ℕ) : Type 0 where
+  pub drops : IsDropping (front_schema count) dropping_text (last_table count)
+  pub bare : without_table (front_schema count) (place_after count) ≡ bare_schema count
+  pub making : AreMaking (bare_schema count) (creating_texts count) (made_again count)
+  pub made : made_of (bare_schema count) (made_again count) ≡ office_schema
+  pub free : (trees : Trees) → AreFree (emptied_from (place_after count) trees) (bare_schema count) (made_again count)
+  pub first : list_all (λ (t : Table). nat_lt t.tree (place_after count)) (first_tables count) ≡ true
+  pub later : list_all (λ (t : Table). not (nat_lt t.tree (place_after count))) (later_tables count) ≡ true
+
+makeable_0 : IsMakeable 0
+unfolding understood everything
+makeable_0 = record {
+  drops = record { at = 0; is = refl; plain = (refl, refl); found = refl; unacted = refl; uncounted = refl };
+  bare = refl;
+  making = office_making;
+  made = refl;
+  free = λ trees. (refl, (refl, (refl, (refl, (refl, (refl, (refl, (refl, (refl, tt)))))))));
+  first = refl;
+  later = refl;
+}
+
+makeable_1 : IsMakeable 1
+unfolding understood everything
+makeable_1 = record {
+  drops = record { at = 1; is = refl; plain = (refl, refl); found = refl; unacted = refl; uncounted = refl };
+  bare = refl;
+  making = office_making.1;
+  made = refl;
+  free = λ trees. (refl, (refl, (refl, (refl, (refl, (refl, (refl, (refl, tt))))))));
+  first = refl;
+  later = refl;
+}
+
+makeable_2 : IsMakeable 2
+unfolding understood everything
+makeable_2 = record {
+  drops = record { at = 2; is = refl; plain = (refl, refl); found = refl; unacted = refl; uncounted = refl };
+  bare = refl;
+  making = office_making.1.1;
+  made = refl;
+  free = λ trees. (refl, (refl, (refl, (refl, (refl, (refl, (refl, tt)))))));
+  first = refl;
+  later = refl;
+}
+
+makeable_3 : IsMakeable 3
+unfolding understood everything
+makeable_3 = record {
+  drops = record { at = 3; is = refl; plain = (refl, refl); found = refl; unacted = refl; uncounted = refl };
+  bare = refl;
+  making = office_making.1.1.1;
+  made = refl;
+  free = λ trees. (refl, (refl, (refl, (refl, (refl, (refl, tt))))));
+  first = refl;
+  later = refl;
+}
+
+makeable_4 : IsMakeable 4
+unfolding understood everything
+makeable_4 = record {
+  drops = record { at = 4; is = refl; plain = (refl, refl); found = refl; unacted = refl; uncounted = refl };
+  bare = refl;
+  making = office_making.1.1.1.1;
+  made = refl;
+  free = λ trees. (refl, (refl, (refl, (refl, (refl, tt)))));
+  first = refl;
+  later = refl;
+}
+
+makeable_5 : IsMakeable 5
+unfolding understood everything
+makeable_5 = record {
+  drops = record { at = 5; is = refl; plain = (refl, refl); found = refl; unacted = refl; uncounted = refl };
+  bare = refl;
+  making = office_making.1.1.1.1.1;
+  made = refl;
+  free = λ trees. (refl, (refl, (refl, (refl, tt))));
+  first = refl;
+  later = refl;
+}
+
+makeable_6 : IsMakeable 6
+unfolding understood everything
+makeable_6 = record {
+  drops = record { at = 6; is = refl; plain = (refl, refl); found = refl; unacted = refl; uncounted = refl };
+  bare = refl;
+  making = office_making.1.1.1.1.1.1;
+  made = refl;
+  free = λ trees. (refl, (refl, (refl, tt)));
+  first = refl;
+  later = refl;
+}
+
+makeable_7 : IsMakeable 7
+unfolding understood everything
+makeable_7 = record {
+  drops = record { at = 7; is = refl; plain = (refl, refl); found = refl; unacted = refl; uncounted = refl };
+  bare = refl;
+  making = office_making.1.1.1.1.1.1.1;
+  made = refl;
+  free = λ trees. (refl, (refl, tt));
+  first = refl;
+  later = refl;
+}
+
+pub makeable : (count : ℕ) → count < 8 → IsMakeable count
+makeable = below_8 IsMakeable makeable_0 makeable_1 makeable_2 makeable_3 makeable_4 makeable_5 makeable_6 makeable_7
+
+-- ---- the rows that are kept
+
+module _ (place : ℕ) (trees : Trees) where
+  kept_at : (tree : ℕ) → nat_lt tree place ≡ true → trees tree ≡ emptied_from place trees tree
+  kept_at tree low = rw low
+
+  first_kept : (ts : List Table) → list_all (λ (t : Table). nat_lt t.tree place) ts ≡ true → AllByRecursion (λ t. trees t.tree ≡ emptied_from place trees t.tree) ts
+  first_kept [] low = tt
+  first_kept (t ∷ ts) low = let both = and_parts _ _ low in (kept_at t.tree both.0, first_kept ts both.1)
+
+  shaped_at : (tree : ℕ) → IsShaped shape.Table (trees tree) → IsShaped shape.Table (emptied_from place trees tree)
+  shaped_at tree was = elim (nat_lt tree place) as (λ b. IsShaped shape.Table (cond b (trees tree) [])) [ true ↦ was | false ↦ (tt, tt) ]
+
+  none_shaped : (tree : ℕ) → not (nat_lt tree place) ≡ true → IsShaped shape.Table (emptied_from place trees tree)
+  none_shaped tree high = elim (nat_lt tree place) as (λ b. not b ≡ true → IsShaped shape.Table (cond b (trees tree) [])) [ true ↦ (λ h. absurd (cc)) | false ↦ (λ h. (tt, tt)) ] high
+
+  -- the rows of the first of the tables rise, and so do those of all
+  all_shaped : (xs ys more : List Table) → AllByRecursion (λ t. IsShaped shape.Table (trees t.tree)) (xs ++ more) → list_all (λ (t : Table). not (nat_lt t.tree place)) ys ≡ true
+      → AllByRecursion (λ t. IsShaped shape.Table (emptied_from place trees t.tree)) (xs ++ ys)
+  all_shaped [] [] more rise high = tt
+  all_shaped [] (y ∷ ys) more rise high = let both = and_parts _ _ high in (none_shaped y.tree both.0, all_shaped [] ys more rise both.1)
+  all_shaped (x ∷ xs) ys more rise high = (shaped_at x.tree rise.0, all_shaped xs ys more rise.1 high)
+
+-- rows that are the same have the same shape
+same_shaped : (a b : Trees) (ts : List Table) → AllByRecursion (λ t. a t.tree ≡ b t.tree) ts → AllByRecursion (λ t. IsShaped shape.Table (b t.tree)) ts → AllByRecursion (λ t. IsShaped shape.Table (a t.tree)) ts
+same_shaped a b [] same rise = tt
+same_shaped a b (t ∷ ts) same rise = (subst (IsShaped shape.Table) (sym same.0) rise.0, same_shaped a b ts same.1 rise.1)
+
+-- trees that hold the same rows of the office's tables have the same content
+same_content : (a b : Trees) → AllByRecursion (λ t. a t.tree ≡ b t.tree) office_schema.tables → content_of a ≡ content_of b
+same_content a b e = λ i. record {
+  intersection = rows_in layout.intersection (e.0 i);
+  timing = rows_in layout.timing (e.1.0 i);
+  draft = rows_in layout.draft (e.1.1.0 i);
+  inspection = rows_in layout.inspection (e.1.1.1.0 i);
+  work_order = rows_in layout.work_order (e.1.1.1.1.0 i);
+  part = rows_in layout.part (e.1.1.1.1.1.0 i);
+  delivery = rows_in layout.delivery (e.1.1.1.1.1.1.0 i);
+  used_part = rows_in layout.used_part (e.1.1.1.1.1.1.1.0 i);
+}
+
+module _ {S : Type 0} (g : Ghosts S) (count : ℕ) (old mid new : Held S) (dropped : AreRun g (dropping_text ∷ []) old mid) (created : AreRun g (creating_texts count) mid new)
+    (sees : SeesFront count (state g old)) where
+  abbrev was : Trees
+  was = (state g old).now.trees
+
+  abbrev rows : Trees
+  rows = emptied_from (place_after count) was
+
+  begun : IsMakeable count → Ends g rows mid (bare_schema count)
+  begun can =
+      let did = drop_step (state g old) (state g dropped.0) dropped.1 (front_schema count) dropping_text (last_table count) can.drops sees.schema dropped.2 in
+      let kept : KeepsRows (first_tables count) was (state g dropped.0).now.trees = subst (λ (s : Schema). KeepsRows s.tables was (state g dropped.0).now.trees) can.bare did.1 in
+      subst (λ (h : Held S). Ends g rows h (bare_schema count)) (sym dropped.3)
+      (record { schema_is = did.0 ∙ can.bare; holds = kept_rows (first_tables count) rows was (state g dropped.0).now.trees kept (first_kept (place_after count) was (first_tables count) can.first) }, did.2, dropped.2.1.mode)
+
+  ended : IsMakeable count → Ends g rows new office_schema
+  ended can = subst (Ends g rows new) can.made (over_run g rows (creating_texts count) (made_again count) (bare_schema count) can.making (can.free was) mid new created (begun can))
+
+  rows_shaped : IsMakeable count → AllByRecursion (λ t. IsShaped shape.Table (rows t.tree)) office_schema.tables
+  rows_shaped can =
+      let rise : AllByRecursion (λ (t : Table). IsShaped shape.Table (was t.tree)) (first_tables count ++ last_table count ∷ []) = subst (λ (s : Schema). AllByRecursion (λ t. IsShaped shape.Table (was t.tree)) s.tables) sees.schema sees.rise in
+      subst (AllByRecursion (λ t. IsShaped shape.Table (emptied_from (place_after count) was t.tree))) (take-append-drop count office_schema.tables)
+      (all_shaped (place_after count) was (first_tables count) (later_tables count) (last_table count ∷ []) rise can.later)
+
+  pub grown_ready : IsReady (state g new)
+  grown_ready =
+      let can = makeable count sees.some in
+      let it = ended can in
+      record { inside = rw it.2; schema = it.0.schema_is; ordered = same_shaped (state g new).now.trees rows office_schema.tables it.0.holds (rows_shaped can); sound = it.1 }
+
+  pub grown_content : content_now (state g new) ≡ content_before count (state g old).now.trees
+  grown_content = same_content (state g new).now.trees rows (ended (makeable count sees.some)).0.holds
+
+pub spread_if : {S E : Type 0} (g : Ghosts S) (count : ℕ) (old mid new : Held S) → AreRun g (dropping_text ∷ []) old mid → SeesFront count (state g old)
+    → (r : Result ⊤ E) → OnOk r (AreRun g (creating_texts count) mid new) → OnOk r (IsSpread count (state g old) (state g new))
+spread_if g count old mid new dropped sees (Ok x) created = record { ready = grown_ready g count old mid new dropped created sees; content = grown_content g count old mid new dropped created sees }
+spread_if g count old mid new dropped sees (Err e) created = tt
+
+-- the version was stored in them
+pub grown_if : {E : Type 0} (r : Result ⊤ E) (count : ℕ) (old mid new : State) → IsReady mid → content_now mid ≡ content_before count old.now.trees → OnOk r (IsReady mid → IsReady new) → OnOk r (IsReady mid → content_now new ≡ content_now mid)
+    → OnOk r (IsReady mid → version_in new.now.trees ≡ Some current_version) → OnOk r (IsGrown count old new)
+grown_if (Ok x) count old mid new ready held goes same stored = record { ready = goes ready; completes = record { content = same ready ∙ held; stored = stored ready } }
+grown_if (Err e) count old mid new ready held goes same stored = tt
