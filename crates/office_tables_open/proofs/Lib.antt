@@ -4,5 +4,6 @@ pub mod BlankLemmas
 pub mod ArrangedLemmas
 pub mod OpenLemmas
 pub mod LeftLemmas
+pub mod MemoryLemmas
 mod MadeLemmas
 mod FoundLemmas
