@@ -9,7 +9,7 @@ use Rattle.sqlite_trees.specs.declared.store.Shape.{Shape}
 use Rattle.sqlite_trees.specs.declared.store.Shape.TheVariants as shape
 use Rattle.sqlite_trees.specs.Objects.{catalog_tree, shape_code, number_in, row_for}
 use Rattle.sqlite.specs.Tree.{Trees}
-use Rattle.sqlite_catalog.specs.Listing.{AreListed, IsSound, is_table_row, is_index_row, is_view_row}
+use Rattle.sqlite_catalog.specs.Listing.{AreListed, IsSound, IsTableRow, is_table_row, is_index_row, is_view_row}
 use Rattle.sqlite_catalog.proofs.LayoutLemmas.{row_kind, index_row, index_owner, named_tree}
 use Rattle.sqlite_rules.proofs.ListLemmas.{all_has}
 use Rattle.sqlite_rules.specs.Lists.{Has}
@@ -48,7 +48,8 @@ no_objects (r ∷ rows) h = absurd (go (row_kind r))
 module _ (trees : Trees) (none : AreListed (trees catalog_tree) no_schema) where
   no_tables : (schema : Schema) → AreListed (trees catalog_tree) schema → schema.tables ≡ []
   no_tables schema listed =
-      no_partners _ schema.tables (subst (λ rows. AreListed rows schema) (no_objects _ none) listed).tables
+      no_partners {X = Row} IsTableRow schema.tables
+      (subst (λ (rows : List Row). AreListed rows schema) (no_objects _ none) listed).tables
 
   pub blank_other : HasOtherVersion trees → ⊥
   blank_other other =

@@ -1,5 +1,5 @@
 -- What an opening of the tables makes of a database, and what it leaves where it refuses.
-use Rattle.std.specs.Prelude.{◌≡◌, ◌≢◌, ◌⊎◌, ◌≤◌, ℕ, true, List, [], ◌∷◌, map, Some, Result, Ok, Err, OnErr, IfOk, IsTrue}
+use Rattle.std.specs.Prelude.{◌≡◌, ◌≢◌, ◌⊎◌, ◌≤◌, ℕ, true, false, List, [], ◌∷◌, map, Some, Result, Ok, Err, OnErr, IfOk, IsTrue}
 use Rattle.sqlite.specs.Held.{Held, state}
 use Rattle.sqlite.specs.State.{State, HasCleanDisk, ExecutesInside, Survives}
 use Rattle.sqlite.specs.Tree.{Trees}
