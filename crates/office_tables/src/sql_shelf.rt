@@ -1,15 +1,19 @@
 //! The tables in SQL.
 
-ghost use Rattle.std.specs.Prelude.{◌≡◌, ◌≢◌, false, Err, IfOk, IfErr};
+ghost use Rattle.std.specs.Prelude.{◌≡◌, ◌≢◌, true, false, Ok, Err, IfOk, IfErr};
 ghost use Rattle.sqlite.specs.State.{Survives};
 ghost use Rattle.sqlite.specs.Held.{state};
+ghost use Rattle.sqlite.specs.Steps.{over_memory};
 ghost use Rattle.office_tables_sql.specs.Calls.{IsHonest};
 ghost use Rattle.office_tables.specs.Migrate.{Brings, StandsAnew, MayBecome};
 ghost use Rattle.office_tables.specs.Migrate.{TellsVersion, TellsDamage};
 ghost use Rattle.office_tables_open.specs.Promises.{KeepsCommitted, Settles, IsArrangedIfClean};
 ghost use Rattle.office_tables_open.specs.Arranged.{IsCheckedAgain};
-ghost use Rattle.office_tables_open.specs.Opening.{HasOtherVersion, HasRowsAlone, StaysHonest};
+ghost use Rattle.office_tables_open.specs.Opening.{HasOtherVersion, HasRowsAlone, StaysClean};
 ghost use Rattle.office_tables_open.specs.Opening.{IsAsFound, IsOpened, IsRefused};
+ghost use Rattle.office_tables_open.specs.Opening.{MayBeTaken, TellsOfTables};
+ghost use Rattle.office_tables_shelf.specs.Content.{no_content};
+ghost use Rattle.office_tables_sql.specs.Stored.{content_now, content_of};
 ghost use Rattle.office_tables_sql.specs.Schema.{office_schema};
 
 use crate::change;
@@ -23,7 +27,7 @@ use office_tables_shelf::rows::{IntersectionRow, RowChange, Table};
 use office_tables_shelf::shelf::{Shelf, ShelfFault};
 use office_tables_sql::{each_row, inspection, intersection, part, stored_row, timing};
 use signal_records::{Change, InterId, LineNo, RecordNo, Row};
-use sqlite::{Alter, Connection, params};
+use sqlite::{Alter, Connection, MemStore, params};
 use std::alloc::Global;
 use std::marker::Model;
 
@@ -48,31 +52,45 @@ impl<S: Alter> Model for SqlShelf<S> {
     ghost invariant = { λ s. IsOffice (state S.Store s.conn) };
 }
 
+/// Why tables were refused. What is left of their database is dropped, and as it is: code over any
+/// type can do nothing else with it.
+fn told<L: Drop>(refused: (OpenFault, L)) -> OpenFault
+    ensures { result ≡ refused.0 }
+{
+    let (fault, _) = refused;
+    fault
+}
+
 impl<S: Alter> SqlShelf<S> {
     /// Takes the tables of the office. Where no table has a row they are made, also where some are
     /// missing or another layout has them. Version 2 is stored where none is and no table has a
     /// row. Where it is stored behind the first tables and the others are missing, these are made,
     /// and the first ones keep their rows. A transaction that is under way is refused. Where it
-    /// refuses, what `open_returning` gives back is dropped.
+    /// refuses, what `open_returning` gives back is dropped: no clause can say what a body does to
+    /// that, so the body is one call. When Version and Damaged are told is known where no disk can
+    /// fail, as in memory; over files nothing is known of a store that was dropped, and
+    /// `open_returning` says it.
     pub fn open(alloc: Global, conn: Connection<S>) -> Result<SqlShelf<S>, OpenFault>
     where
         S: Drop,
         ensures opened { IfOk result (IsOpened S.Store conn) }
         ensures refused { IfErr result (λ fault. (left : _) × IsRefused S.Store conn fault left) }
-        ensures version { result ≡ Err OpenFault.Version → StaysHonest S.Store conn →
+        ensures under_way { (state S.Store conn).in_transaction ≡ true →
+            result ≡ Err OpenFault.Store }
+        ensures version { result ≡ Err OpenFault.Version → StaysClean S.Store conn →
             HasOtherVersion (state S.Store conn).committed.trees }
-        ensures damaged { result ≡ Err OpenFault.Damaged → StaysHonest S.Store conn →
+        ensures damaged { result ≡ Err OpenFault.Damaged → StaysClean S.Store conn →
             HasRowsAlone (state S.Store conn).committed.trees }
     {
         match SqlShelf::open_returning(alloc, conn) {
             Ok(shelf) => Ok(shelf),
-            Err((fault, _)) => Err(fault),
+            Err(refused) => Err(told(refused)),
         }
     }
 
     /// As `open`, and gives back what is left where it refuses: the connection, or its store where
-    /// the database was not checked again. The database is checked again first, which shows that
-    /// the rows of each table are in order.
+    /// the database was not checked again. A transaction that was under way goes on in it. The
+    /// database is checked again first, which shows that the rows of each table are in order.
     pub fn open_returning(
         alloc: Global,
         conn: Connection<S>,
@@ -81,6 +99,8 @@ impl<S: Alter> SqlShelf<S> {
         S: Drop,
         ensures opened { IfOk result (IsOpened S.Store conn) }
         ensures refused { IfErr result (λ e. IsRefused S.Store conn e.0 e.1) }
+        ensures under_way { (state S.Store conn).in_transaction ≡ true →
+            result ≡ Err (OpenFault.Store, Ok conn) }
     {
         if !conn.is_autocommit() {
             return Err((OpenFault::Store, Ok(conn)));
@@ -106,6 +126,8 @@ impl<S: Alter> SqlShelf<S> {
         requires { IsArrangedIfClean (state S.Store conn) }
         ensures opened { IfOk result (IsOpened S.Store conn) }
         ensures refused { IfErr result (λ e. IsRefused S.Store conn e.0 e.1) }
+        ensures under_way { (state S.Store conn).in_transaction ≡ true →
+            result ≡ Err (OpenFault.Store, Ok conn) }
     {
         let (mut conn, is_new) = match prepared(alloc, conn) {
             Ok(found) => found,
@@ -177,6 +199,39 @@ impl<S: Alter> SqlShelf<S> {
     {
         let SqlShelf { conn, .. } = self;
         conn
+    }
+}
+
+impl SqlShelf<MemStore> {
+    /// The tables of a new office, in a new database in memory. No version is told of it, and no
+    /// row.
+    pub fn open_in_memory(alloc: Global) -> Result<SqlShelf<MemStore>, OpenFault>
+        ensures empty { IfOk result (λ shelf.
+            content_now (state over_memory shelf.conn) ≡ no_content) }
+        ensures fault { IfErr result (λ fault. ¬ TellsOfTables fault) }
+    {
+        match Connection::open_in_memory(alloc) {
+            Ok(conn) => SqlShelf::open(alloc, conn),
+            Err(_) => Err(OpenFault::NoMemory),
+        }
+    }
+
+    /// As `open`, over a database in memory, of which nothing has to be supposed: what it has
+    /// committed is what is told, or what is taken.
+    pub fn open_over_memory(
+        alloc: Global,
+        conn: Connection<MemStore>,
+    ) -> Result<SqlShelf<MemStore>, OpenFault>
+        ensures taken { IfOk result (λ _.
+            MayBeTaken (state over_memory conn).committed.trees) }
+        ensures kept { IfOk result (λ shelf. content_now (state over_memory shelf.conn)
+            ≡ content_of (state over_memory conn).committed.trees) }
+        ensures version { result ≡ Err OpenFault.Version →
+            HasOtherVersion (state over_memory conn).committed.trees }
+        ensures damaged { result ≡ Err OpenFault.Damaged →
+            HasRowsAlone (state over_memory conn).committed.trees }
+    {
+        SqlShelf::open(alloc, conn)
     }
 }
 

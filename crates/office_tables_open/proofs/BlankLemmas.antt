@@ -9,7 +9,7 @@ use Rattle.sqlite_trees.specs.declared.store.Shape.{Shape}
 use Rattle.sqlite_trees.specs.declared.store.Shape.TheVariants as shape
 use Rattle.sqlite_trees.specs.Objects.{catalog_tree, shape_code, number_in, row_for}
 use Rattle.sqlite.specs.Tree.{Trees}
-use Rattle.sqlite_catalog.specs.Listing.{AreListed, IsSound, is_table_row, is_index_row, is_view_row}
+use Rattle.sqlite_catalog.specs.Listing.{AreListed, IsSound, IsTableRow, is_table_row, is_index_row, is_view_row}
 use Rattle.sqlite_catalog.proofs.LayoutLemmas.{row_kind, index_row, index_owner, named_tree}
 use Rattle.sqlite_rules.proofs.ListLemmas.{all_has}
 use Rattle.sqlite_rules.specs.Lists.{Has}
@@ -20,13 +20,17 @@ use Rattle.sqlite_schema.specs.declared.schema.View.{View as Stored}
 use Rattle.sqlite_sql.specs.Catalog.{IsIndexOf, entry_of}
 use Rattle.office_tables_sql.specs.Schema.{no_schema}
 use Rattle.office_tables_open.specs.Arranged.{IsArranged}
-use Rattle.office_tables_open.specs.Found.{IsUnclaimed}
+use Rattle.office_tables_open.specs.Found.{HasOtherVersion, HasRowsAlone, HaveNoRow, IsUnclaimed}
 use Rattle.office_tables_open.specs.Version.{AreEmpty}
 use Rattle.office_tables_open.proofs.VersionLemmas.{none_left}
 
 no_pairs : {X Y : Type 0} (R : X → Y → Type 0) (xs : List X) → AllZip R xs [] → xs ≡ []
 no_pairs R [] h = refl
 no_pairs R (x ∷ xs) h = absurd h
+
+no_partners : {X Y : Type 0} (R : X → Y → Type 0) (ys : List Y) → AllZip R [] ys → ys ≡ []
+no_partners R [] h = refl
+no_partners R (y ∷ ys) h = absurd h
 
 kept_first : (p : Row → Bool) (r : Row) (rows : List Row) → p r ≡ true → filter p (r ∷ rows) ≡ [] → ⊥
 kept_first p r rows hit none = absurd (let e = rw hit at none in cc)
@@ -39,6 +43,21 @@ no_objects (r ∷ rows) h = absurd (go (row_kind r))
     go (inl hit) = kept_first is_table_row r rows hit (no_pairs _ _ h.tables)
     go (inr (inl hit)) = kept_first is_index_row r rows hit (no_pairs _ _ h.indexes)
     go (inr (inr hit)) = kept_first is_view_row r rows hit (no_pairs _ _ h.views)
+
+-- it has no tables whatever schema it lists, so it tells nothing
+module _ (trees : Trees) (none : AreListed (trees catalog_tree) no_schema) where
+  no_tables : (schema : Schema) → AreListed (trees catalog_tree) schema → schema.tables ≡ []
+  no_tables schema listed =
+      no_partners {X = Row} IsTableRow schema.tables
+      (subst (λ (rows : List Row). AreListed rows schema) (no_objects _ none) listed).tables
+
+  pub blank_other : HasOtherVersion trees → ⊥
+  blank_other other =
+      subst (λ (ts : List Table). Has ts other.2.0) (no_tables other.0 other.1) other.2.1
+
+  pub blank_alone : HasRowsAlone trees → ⊥
+  blank_alone rows =
+      rows.2.1 (subst (λ (ts : List Table). HaveNoRow ts trees) (sym (no_tables rows.0 rows.1)) tt)
 
 absent : (s : Shape) → shape_code s ≡ 0 → s ≡ shape.Absent
 absent shape.Absent h = refl

@@ -1,5 +1,6 @@
 -- What is left of a database whose tables were refused.
-use Rattle.std.proofs.Common.{◌≡◌, ◌≢◌, ◌⊎◌, inl, inr, ℕ, Result, Ok, IsTrue, refl, sym, ap, subst, ◌∙◌, arith}
+use Rattle.std.proofs.Common.{◌≡◌, ◌≢◌, ◌⊎◌, inl, inr, ℕ, false, Result, Ok, Err, IsTrue, refl, sym, ap, subst, ◌∙◌, arith}
+use Rattle.std.proofs.lemmas.Result.{IfOk-weaker}
 use Rattle.sqlite.specs.Effect.{Database}
 use Rattle.sqlite.specs.Held.{Held, state}
 use Rattle.sqlite.specs.State.{State, HasCleanDisk, Survives}
@@ -11,7 +12,7 @@ use Rattle.office_tables_sql.specs.Calls.{IsHonest}
 use Rattle.office_tables_open.specs.Arranged.{IsCheckedAgain}
 use Rattle.office_tables_open.specs.Found.{HasOtherVersion, HasRowsAlone, IsUnclaimed}
 use Rattle.office_tables_open.specs.Lacking.{Completes, Lacks}
-use Rattle.office_tables_open.specs.Opening.{AreGone, Claims, IsAsFound, IsHonestStore, IsLeft, IsNewOffice, IsRefused, IsSettled, MayBeNew, OnlyReads, WereDropped, store_left}
+use Rattle.office_tables_open.specs.Opening.{AreGone, Claims, IsAsFound, IsCleanStore, IsHonestStore, IsIdleOrSame, IsLeft, IsNewOffice, IsRefused, IsSettled, MayBeNew, OnlyReads, TellsOfTables, WereDropped, store_left}
 use Rattle.office_tables_open.specs.declared.open.OpenFault.{OpenFault}
 use Rattle.office_tables_open.specs.declared.open.OpenFault.TheVariants as fault
 
@@ -99,28 +100,56 @@ module _ {S : Type 0} (g : Ghosts S) (conn : Held S) where
   }
 
   -- why it is refused: by the database, or for want of memory
-  pub refused_left : (why : OpenFault) (back : Result (Held S) S) → why ≢ fault.Version → why ≢ fault.Damaged → IsLeft g conn (AreGone g old.committed.trees) (MayBeNew g old.committed.trees) (store_left g back) → IsRefused g conn why back
-  refused_left why back no_version no_damage it = record {
+  pub refused_left : (why : OpenFault) (back : Result (Held S) S) → why ≢ fault.Version → why ≢ fault.Damaged
+      → IsLeft g conn (AreGone g old.committed.trees) (MayBeNew g old.committed.trees) (store_left g back)
+      → IsIdleOrSame g conn back → IsRefused g conn why back
+  refused_left why back no_version no_damage it idle = record {
     version = λ is. absurd (no_version is);
     damaged = λ is. absurd (no_damage is);
-    found = λ told. elim told [ inl is ↦ absurd (no_version is) | inr is ↦ absurd (no_damage is) ];
+    found = λ told. neither told;
+    is_open = λ told. neither told;
     left = it;
+    idle = idle;
   }
+    where
+      neither : {A : Type 0} → TellsOfTables why → A
+      neither told = elim told [ inl is ↦ absurd (no_version is) | inr is ↦ absurd (no_damage is) ]
 
-  pub refused_found : (why : OpenFault) (back : Result (Held S) S) → (why ≡ fault.Version → IsHonestStore g (store_left g back) → HasOtherVersion old.committed.trees)
-      → (why ≡ fault.Damaged → IsHonestStore g (store_left g back) → HasRowsAlone old.committed.trees) → IsAsFound g conn (store_left g back) → IsRefused g conn why back
-  refused_found why back other rows it = record { version = other; damaged = rows; found = λ told. it; left = as_left _ _ (store_left g back) it }
+  -- before it was looked at
+  pub refused_given : IsRefused g conn fault.Store (Ok conn)
+  refused_given =
+      refused_left fault.Store (Ok conn) (λ is. absurd (let e : fault.Store ≡ fault.Version = is in cc))
+      (λ is. absurd (let e : fault.Store ≡ fault.Damaged = is in cc)) (as_left _ _ conn.store untouched) (inr refl)
+
+  -- once its database was checked again
+  pub refused_again : (c : Held S) (why : OpenFault) → IsCheckedAgain old (state g c)
+      → (why ≡ fault.Version → HasCleanDisk (state g c) → HasOtherVersion old.committed.trees)
+      → (why ≡ fault.Damaged → HasCleanDisk (state g c) → HasRowsAlone old.committed.trees) → IsRefused g conn why (Ok c)
+  refused_again c why it other rows = record {
+    version = other;
+    damaged = rows;
+    found = λ told. again_found c it;
+    is_open = λ told clean. (clean, (it.opens clean).0.is_open);
+    left = as_left _ _ c.store (again_found c it);
+    idle = inl it.autocommit;
+  }
 
   -- why tables that were found are not taken
   pub refused_claimed : (c : Held S) (why : OpenFault) → IsSettled old → (IsHonest (state g c) → IsHonest old)
       → (why ≡ fault.Version → IsHonest (state g c) → HasOtherVersion old.now.trees) → (why ≡ fault.Damaged → IsHonest (state g c) → HasRowsAlone old.now.trees)
-      → ((why ≡ fault.Version) ⊎ (why ≡ fault.Damaged) → OnlyReads old (state g c)) → (IsHonest (state g c) → (state g c).committed.trees ≡ old.committed.trees) → Claims old (state g c)
-      → IsRefused g conn why (Ok c)
-  refused_claimed c why settled honest other rows reads same claims = record {
-    version = λ is h. subst (λ (d : Database). HasOtherVersion d.trees) (settled (honest h).1) (other is h);
-    damaged = λ is h. subst (λ (d : Database). HasRowsAlone d.trees) (settled (honest h).1) (rows is h);
+      → (TellsOfTables why → OnlyReads old (state g c)) → (IsHonest (state g c) → (state g c).committed.trees ≡ old.committed.trees) → Claims old (state g c)
+      → (state g c).in_transaction ≡ false → IsRefused g conn why (Ok c)
+  refused_claimed c why settled honest other rows reads same claims idle = record {
+    version = λ is h.
+        let it = (reads (inl is)).2 h in
+        subst (λ (d : Database). HasOtherVersion d.trees) (settled (honest it).1) (other is it);
+    damaged = λ is h.
+        let it = (reads (inr is)).2 h in
+        subst (λ (d : Database). HasRowsAlone d.trees) (settled (honest it).1) (rows is it);
     found = λ told. read_found c settled (reads told);
+    is_open = λ told. (reads told).2;
     left = claimed_left c settled honest same claims;
+    idle = inl idle;
   }
 
 -- the connection as it was before its database was checked again
@@ -148,10 +177,15 @@ module _ {S : Type 0} (g : Ghosts S) (conn found : Held S) (it : IsCheckedAgain 
 
   pub refused_before : (why : OpenFault) (back : Result (Held S) S) → IsRefused g found why back → IsRefused g conn why back
   refused_before why back is = record {
-    version = λ told h. subst HasOtherVersion (same_then (omega (arith, h.0, is.left.clean))) (is.version told h);
-    damaged = λ told h. subst HasRowsAlone (same_then (omega (arith, h.0, is.left.clean))) (is.damaged told h);
+    version = λ told h. subst HasOtherVersion (same_then (omega (arith, h, is.left.clean))) (is.version told h);
+    damaged = λ told h. subst HasRowsAlone (same_then (omega (arith, h, is.left.clean))) (is.damaged told h);
     found = λ told. left_before (λ _ _. ⊥) (λ _ _. ⊥) (store_left g back) (is.found told);
+    is_open = is.is_open;
     left = left_before (AreGone g) (MayBeNew g) (store_left g back) is.left;
+    idle = IfOk-weaker back _ _ (λ c was. elim was [
+      | inl none ↦ inl none
+      | inr same ↦ inl (ap (λ (h : Held S). h.in_transaction) same ∙ it.autocommit)
+    ]) is.idle;
   }
 
   -- tables that were missing were to be made

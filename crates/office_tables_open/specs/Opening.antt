@@ -1,5 +1,5 @@
 -- What an opening of the tables makes of a database, and what it leaves where it refuses.
-use Rattle.std.specs.Prelude.{◌≡◌, ◌≢◌, ◌⊎◌, ◌≤◌, ℕ, true, List, [], ◌∷◌, map, Some, Result, Ok, Err, OnErr, IsTrue}
+use Rattle.std.specs.Prelude.{◌≡◌, ◌≢◌, ◌⊎◌, ◌≤◌, ℕ, true, false, List, [], ◌∷◌, map, Some, Result, Ok, Err, OnErr, IfOk, IsTrue}
 use Rattle.sqlite.specs.Held.{Held, state}
 use Rattle.sqlite.specs.State.{State, HasCleanDisk, ExecutesInside, Survives}
 use Rattle.sqlite.specs.Tree.{Trees}
@@ -31,9 +31,9 @@ IsSettled s = IsTrue s.is_open → s.now ≡ s.committed
 abbrev pub IsOpenIfClean : State → Type 0
 IsOpenIfClean s = HasCleanDisk s → IsHonest s
 
--- nothing was written, and the shelf goes on
+-- nothing was written, and on a clean disk no failure has shut the database
 abbrev pub OnlyReads : State → State → Type 0
-OnlyReads old new = Keeps old new × Survives old new (λ _. ⊥)
+OnlyReads old new = Keeps old new × Survives old new (λ _. ⊥) × IsOpenIfClean new
 
 -- the office's tables without a row, and today's version
 pub record IsNewOffice (trees : Trees) : Type 0 where
@@ -68,6 +68,10 @@ ClaimsEmpty old new = Survives old new (λ trees. IsHonest old × AreEmpty old.n
 
 abbrev pub Claims : State → State → Type 0
 Claims old new = Survives old new (λ trees. IsHonest old × IsUnclaimed old.now.trees × IsNewOffice trees)
+
+-- the fault tells what the tables hold
+abbrev pub TellsOfTables : OpenFault → Type 0
+TellsOfTables why = (why ≡ fault.Version) ⊎ (why ≡ fault.Damaged)
 
 module _ {S : Type 0} (g : Ghosts S) where
   -- the statements were run one after another in a transaction
@@ -127,13 +131,27 @@ module _ {S : Type 0} (g : Ghosts S) where
   abbrev pub MayBeNew : Trees → Trees → Type 0
   MayBeNew old new = (IsUnclaimed old × (WereDropped old new ⊎ IsNewOffice new)) ⊎ AreCompleted old new
 
-  -- What is known where an opening is refused. Tables of the office's names in another layout that store nothing may be gone.
-  pub record IsRefused (conn : Held S) (why : OpenFault) (back : Result (Held S) S) : Type 0 where
-    pub version : why ≡ fault.Version → IsHonestStore (store_left back) → HasOtherVersion (state g conn).committed.trees
-    pub damaged : why ≡ fault.Damaged → IsHonestStore (store_left back) → HasRowsAlone (state g conn).committed.trees
-    pub found : (why ≡ fault.Version) ⊎ (why ≡ fault.Damaged) → IsAsFound conn (store_left back)
-    pub left : IsLeft conn (AreGone (state g conn).committed.trees) (MayBeNew (state g conn).committed.trees) (store_left back)
+  -- a connection that comes back is in no transaction, or it is the one that was given
+  abbrev pub IsIdleOrSame : Held S → Result (Held S) S → Type 0
+  IsIdleOrSame conn back = IfOk back (λ c. (c.in_transaction ≡ false) ⊎ (c ≡ conn))
 
-  -- whatever store is left as it was found has returned what was written, and is open: so over memory
-  abbrev pub StaysHonest : Held S → Type 0
-  StaysHonest conn = (left : S) → IsAsFound conn left → IsHonestStore left
+  -- the disk has returned what was written
+  abbrev pub IsCleanStore : S → Type 0
+  IsCleanStore s = IsClean (g.view s)
+
+  -- What is known where an opening is refused. Tables of the office's names in another layout that
+  -- store nothing may be gone.
+  pub record IsRefused (conn : Held S) (why : OpenFault) (back : Result (Held S) S) : Type 0 where
+    pub version : why ≡ fault.Version → IsCleanStore (store_left back)
+        → HasOtherVersion (state g conn).committed.trees
+    pub damaged : why ≡ fault.Damaged → IsCleanStore (store_left back)
+        → HasRowsAlone (state g conn).committed.trees
+    pub found : TellsOfTables why → IsAsFound conn (store_left back)
+    pub is_open : TellsOfTables why → IsCleanStore (store_left back) → IsHonestStore (store_left back)
+    pub left : IsLeft conn (AreGone (state g conn).committed.trees)
+        (MayBeNew (state g conn).committed.trees) (store_left back)
+    pub idle : IsIdleOrSame conn back
+
+  -- whatever store is left as it was found has returned what was written: so over memory
+  abbrev pub StaysClean : Held S → Type 0
+  StaysClean conn = (left : S) → IsAsFound conn left → IsCleanStore left

@@ -1,5 +1,5 @@
 -- What a call that may fail promises of a connection, by the state that it found and the one that it left.
-use Rattle.std.specs.Prelude.{◌≡◌, Result, Some, OnOk, OnErr}
+use Rattle.std.specs.Prelude.{◌≡◌, Bool, Result, Some, IsTrue, IfOk, OnOk, OnErr}
 use Rattle.sqlite.specs.State.{State, HasCleanDisk, Survives}
 use Rattle.sqlite.specs.Tree.{Trees}
 use Rattle.office_tables_sql.specs.Calls.{IsHonest, IsReady}
@@ -11,6 +11,10 @@ use Rattle.office_tables_open.specs.Version.{version_in, current_version}
 -- a step of a transaction that succeeds on a clean disk found it honest
 abbrev pub WasHonest : {A E : Type 0} → Result A E → State → State → Type 0
 WasHonest result old new = HasCleanDisk new → OnOk result (IsHonest old)
+
+-- on a clean disk, a row is seen only in a database that no failure has shut
+abbrev pub SeesOpen : {E : Type 0} → Result Bool E → State → Type 0
+SeesOpen empty new = HasCleanDisk new → IfOk empty (λ none. ¬ IsTrue none → IsHonest new)
 
 -- it leaves the transaction as ready as it was
 abbrev pub StaysReady : {A E : Type 0} → Result A E → State → State → Type 0

@@ -64,6 +64,7 @@ fn make_missing<S: Alter>(conn: &mut Connection<S>, count: usize) -> Result<(), 
     requires front { IsHonest (state S.Store conn.old) → SeesFront count (state S.Store conn.old) }
     ensures office { OnOk result (IsOffice (state S.Store conn.new)) }
     ensures open { StaysOpen result (state S.Store conn.new) }
+    ensures autocommit { (state S.Store conn.new).in_transaction ≡ false }
     ensures honest { IsHonest (state S.Store conn.new) → IsHonest (state S.Store conn.old) }
     ensures made { IsHonest (state S.Store conn.new) → OnOk result (Completes count
         (state S.Store conn.old).now.trees (state S.Store conn.new).now.trees) }
@@ -84,6 +85,7 @@ pub(crate) fn complete<S: Alter>(conn: &mut Connection<S>, count: usize) -> Resu
     requires rise { IsHonest (state S.Store conn.old) → Rise (state S.Store conn.old) }
     ensures office { OnOk result (IsOffice (state S.Store conn.new)) }
     ensures open { StaysOpen result (state S.Store conn.new) }
+    ensures autocommit { (state S.Store conn.new).in_transaction ≡ false }
     ensures honest { IsHonest (state S.Store conn.new) → IsHonest (state S.Store conn.old) }
     ensures made { IsHonest (state S.Store conn.new) → OnOk result (Completes count
         (state S.Store conn.old).now.trees (state S.Store conn.new).now.trees) }

@@ -152,6 +152,7 @@ fn make_tables<S: Alter>(conn: &mut Connection<S>) -> Result<(), SqlFault>
     requires autocommit { (state S.Store conn.old).in_transaction ≡ false }
     requires blank { (state S.Store conn.old).now.schema ≡ no_schema }
     ensures office { OnOk result (IsOffice (state S.Store conn.new)) }
+    ensures autocommit { (state S.Store conn.new).in_transaction ≡ false }
     ensures open { StaysOpen result (state S.Store conn.new) }
     ensures honest { IsHonest (state S.Store conn.new) → IsHonest (state S.Store conn.old) }
     ensures made { IsHonest (state S.Store conn.new) →
@@ -189,6 +190,7 @@ fn drop_tables<S: Alter>(conn: &mut Connection<S>) -> Result<(), SqlFault>
 fn make_anew<S: Alter>(conn: &mut Connection<S>) -> Result<(), SqlFault>
     requires { (state S.Store conn.old).in_transaction ≡ false }
     ensures office { OnOk result (IsOffice (state S.Store conn.new)) }
+    ensures autocommit { (state S.Store conn.new).in_transaction ≡ false }
     ensures open { StaysOpen result (state S.Store conn.new) }
     ensures honest { IsHonest (state S.Store conn.new) → IsHonest (state S.Store conn.old) }
     ensures made { IsHonest (state S.Store conn.new) →
@@ -287,6 +289,8 @@ pub fn prepared<S: Alter + Drop>(
         (state S.Store conn).now.schema ≡ no_schema → p.1 ≡ true) }
     ensures ours { IfOk result (λ p. p.1 ≡ true →
         AllByRecursion (λ t. IsOurs t.name) (state S.Store conn).now.schema.tables) }
+    ensures under_way { (state S.Store conn).in_transaction ≡ true →
+        result ≡ Err (OpenFault.Store, Ok conn) }
     ensures refused { IfErr result (λ e. IsRefused S.Store conn e.0 e.1) }
 {
     if !conn.is_autocommit() {

@@ -11,7 +11,7 @@ ghost use Rattle.office_tables_open.specs.Version.{AreEmpty, HasRow, IsListing, 
 ghost use Rattle.office_tables_open.specs.Version.{TellsOther, version_in, version_cells};
 ghost use Rattle.office_tables_open.specs.Promises.{WasHonest, StaysReady, StaysSame, StoresToday};
 ghost use Rattle.office_tables_open.specs.Promises.{LeavesNoMore, KeepsContent, KeepsCommitted};
-ghost use Rattle.office_tables_open.specs.Promises.{LeavesToday, EndsToday};
+ghost use Rattle.office_tables_open.specs.Promises.{LeavesToday, EndsToday, SeesOpen};
 
 use office_tables_sql::statement::{SqlFault, select, select_one, write};
 use sqlite::{Alter, Connection, Row, Transaction, params};
@@ -144,6 +144,7 @@ fn is_empty<S: Alter>(conn: &mut Connection<S>, sql: &str) -> Result<bool, SqlFa
         (tree : ℕ) → ListsRows sql.now tree → (state S.Store conn.old).now.trees tree ≡ []) }
     ensures has_row { IsHonest (state S.Store conn.new) → IfOk result (λ empty. ¬ IsTrue empty →
         (tree : ℕ) → ListsRows sql.now tree → (state S.Store conn.old).now.trees tree ≢ []) }
+    ensures open { StaysOpen result (state S.Store conn.new) }
     ensures kept { Keeps (state S.Store conn.old) (state S.Store conn.new) }
     ensures crash { LeavesNoMore (state S.Store conn.old) (state S.Store conn.new) }
 {
@@ -161,6 +162,7 @@ fn show_none<S: Alter>(conn: &mut Connection<S>, queries: &[&str]) -> Result<boo
     ensures has_row { IsHonest (state S.Store conn.new) → IfOk result (λ empty. ¬ IsTrue empty →
         ¬ AllByRecursion (λ sql. (tree : ℕ) → ListsRows sql.now tree →
         (state S.Store conn.old).now.trees tree ≡ []) queries.now) }
+    ensures open { SeesOpen result (state S.Store conn.new) }
     ensures kept { Keeps (state S.Store conn.old) (state S.Store conn.new) }
     ensures crash { LeavesNoMore (state S.Store conn.old) (state S.Store conn.new) }
 {
@@ -180,6 +182,7 @@ pub fn are_empty<S: Alter>(conn: &mut Connection<S>) -> Result<bool, SqlFault>
         AreEmpty (state S.Store conn.old).now.trees) }
     ensures has_row { IsHonest (state S.Store conn.new) → IfOk result (λ empty. ¬ IsTrue empty →
         HasRow (state S.Store conn.old).now.trees) }
+    ensures open { SeesOpen result (state S.Store conn.new) }
     ensures kept { Keeps (state S.Store conn.old) (state S.Store conn.new) }
     ensures crash { LeavesNoMore (state S.Store conn.old) (state S.Store conn.new) }
 {

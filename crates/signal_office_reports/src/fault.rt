@@ -128,6 +128,11 @@ impl From<ServeFault> for Fault {
 }
 
 impl From<Error> for Fault {
+    ghost use Rattle.std.specs.Prelude.{◌≢◌};
+    ghost use Rattle.signal_office_reports.specs.declared.fault.Fault.TheVariants as told;
+
+    ghost from_gives = { λ _ fault. (fault ≢ told.Version) × (fault ≢ told.Damaged) };
+
     fn from(error: Error) -> Fault {
         match error {
             Error::SqliteFailure(ErrorCode::OutOfMemory) => Fault::Memory,

@@ -1,27 +1,18 @@
--- New tables in memory stand for a new office, and memory needs no premise.
+-- New tables in memory stand for a new office.
 use Rattle.std.proofs.Common.{◌≡◌, ℕ, List, [], ◌∷◌, length, Option, Some, None, option_map, refl, sym, ap, subst, ◌∙◌, arith}
 use Rattle.std.specs.Prelude.{IfSome}
 use Rattle.std.specs.Int.{IsInRange}
 use Rattle.std.specs.Ordering.{nat_cmp}
 use Rattle.std.specs.FinMap.{empty, entries, get, get-empty, len-empty, len-entries}
-use Rattle.sqlite.specs.Held.{Held, state}
-use Rattle.sqlite.specs.Steps.{over_memory}
-use Rattle.sqlite.proofs.Callers.{memory_is_clean}
-use Rattle.sqlite_trees.specs.declared.memory.MemStore.{MemStore}
 use Rattle.signal_records.specs.Key.{key_cmp}
 use Rattle.draft_core.specs.DraftRows.{RowStands, silent}
 use Rattle.office_tables_shelf.specs.Cells.{Cell, Rows, tree_rows, cells_cmp}
 use Rattle.office_tables_shelf.specs.Content.{Content, no_content}
 use Rattle.office_tables_shelf.specs.Rows.{intersection_key, timing_key, timing_columns}
-use Rattle.office_tables.specs.Calls.{IsHonest}
 use Rattle.office_desk_cabinet.proofs.EmptyRegister.{nothing_registered}
 use Rattle.office_desk.specs.Office.{Intersection, IsSoundIntersection, side_of}
 use Rattle.office_desk.specs.StandFor.{StandForSound, columns_of}
 use Rattle.signal_office_run.specs.Memory.{new_office}
-
--- memory returns what was written, and no failure shuts it
-pub memory_is_honest : (conn : Held MemStore) → IsHonest (state over_memory conn)
-memory_is_honest conn = (memory_is_clean conn, refl)
 
 no_items : {X : Type 0} (xs : List X) → length xs ≡ 0 → xs ≡ []
 no_items [] e = refl

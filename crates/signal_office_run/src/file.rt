@@ -67,7 +67,9 @@ fn office_over<S: Alter + Drop>(
 }
 
 /// Why a file was not opened. What is left of it is dropped.
-pub(crate) fn unopened<L: Drop>(refused: (Error, L)) -> Fault {
+pub(crate) fn unopened<L: Drop>(refused: (Error, L)) -> Fault
+    ensures { (result ≢ Fault.Version) × (result ≢ Fault.Damaged) }
+{
     let (error, _) = refused;
     Fault::from(error)
 }
@@ -92,6 +94,7 @@ pub(crate) fn is_missing(rt: &HostRuntime, alloc: Global, path: &str) -> Result<
 
 /// The office over the tables of a file, which is made where there is none. Where its tables are
 /// refused, what is left of its database comes back with the fault, and holds what the files held.
+/// Nothing comes back where no database was opened, which is never told as Version or Damaged.
 pub(crate) fn open_file<S: Start>(
     rt: &HostRuntime,
     alloc: Global,
@@ -102,6 +105,8 @@ pub(crate) fn open_file<S: Start>(
         (before : OfficeState) → StandInFiles (image_at S.Start) before →
         AreOpenedFor file_state office before) }
     ensures refused { IfErr result (λ e. IfSome e.1 (IsTurnedAwayFrom (image_at S.Start) e.0)) }
+    ensures unopened { IfErr result (λ e.
+        e.1 ≡ None → (e.0 ≢ Fault.Version) × (e.0 ≢ Fault.Damaged)) }
 {
     match Connection::open_from(rt, path, false, start) {
         Ok(conn) => office_over(alloc, conn),

@@ -1,6 +1,6 @@
 //! The office over new tables in memory, of which nothing has to be assumed.
 
-ghost use Rattle.std.specs.Prelude.{◌≡◌, ◌≤◌, ◌+◌, ◌*◌, IfOk, IfErr};
+ghost use Rattle.std.specs.Prelude.{◌≡◌, ◌≢◌, ◌≤◌, ◌+◌, ◌*◌, IfOk, IfErr};
 ghost use Rattle.office_desk.specs.Office.{Office as OfficeState};
 ghost use Rattle.office_http.specs.Laws.{RunsLawfully};
 ghost use Rattle.office_http.specs.Protocol.{office_protocol};
@@ -13,21 +13,22 @@ use office_desk::office::Office;
 use office_http::{ServeFault, Served, Sink, Source, serve};
 use office_tables::sql_shelf::SqlShelf;
 use signal_office_reports::Fault;
-use sqlite::{Connection, MemStore};
+use sqlite::MemStore;
 use std::alloc::Global;
 
 /// An office without intersections, over tables in memory.
 pub(crate) fn open_in_memory(alloc: Global) -> Result<Office<SqlShelf<MemStore>>, Fault>
-    ensures { IfOk result (λ office. StandsInMemory office new_office) }
+    ensures stands { IfOk result (λ office. StandsInMemory office new_office) }
+    ensures fault { IfErr result (λ fault. (fault ≢ Fault.Version) × (fault ≢ Fault.Damaged)) }
 {
-    let conn = Connection::open_in_memory(alloc)?;
-    let shelf = SqlShelf::open(alloc, conn)?;
+    let shelf = SqlShelf::open_in_memory(alloc)?;
     Ok(Office::new(shelf))
 }
 
 /// Serves the requests that the reader gives by a new office over tables in memory. The headline
 /// holds of it with no premise on the tables or a disk. Where it answers a fault of its own, memory
-/// or the database refused the tables, and nothing was read or written.
+/// or the database refused the tables, which is never for a version or a row of theirs, and nothing
+/// was read or written.
 pub fn serve_new_office<R: Source, W: Sink>(
     alloc: Global,
     reader: &mut R,
@@ -44,6 +45,7 @@ pub fn serve_new_office<R: Source, W: Sink>(
     ensures fault { IfOk result (TellsFault (ends_of (R.told reader.old) (W.told writer.old))
         (ends_of (R.told reader.new) (W.told writer.new))) }
     ensures refused { IfErr result (λ _. (reader.new ≡ reader.old) × (writer.new ≡ writer.old)) }
+    ensures told { IfErr result (λ fault. (fault ≢ Fault.Version) × (fault ≢ Fault.Damaged)) }
     // The reader is called only while a request is awaited, and so often at most.
     ensures asks { OnlyAsks R.told max_requests reader.old reader.new }
     ensures reads { (R.told reader.new).counts.calls

@@ -8,7 +8,7 @@ use Rattle.office_tables_open.specs.Lacking.{Completes}
 use Rattle.office_tables_open.specs.declared.found.Found.{Found}
 use Rattle.office_tables_open.specs.declared.open.OpenFault.TheVariants.{Version, Damaged, Store}
 use Rattle.office_tables_open.proofs.OpenLemmas.{again_rises, found_unclaimed, found_none, found_other, found_rows, same_committed}
-use Rattle.office_tables_open.proofs.LeftLemmas.{again_found, anew_left, as_left, mended_left, refused_found, refused_left}
+use Rattle.office_tables_open.proofs.LeftLemmas.{anew_left, as_left, mended_left, refused_again, refused_left}
 use Rattle.office_tables_open.proofs.LackingLemmas.{found_lacks, front_some}
 use Rattle.office_tables_open.proofs.open.laid_anew.Goals as goal
 
@@ -16,7 +16,7 @@ pub returns-in-Err-clause-refused : goal.returns-in-Err-clause-refused
 returns-in-Err-clause-refused g c =
     let s = state g.S.Store c.args.conn in
     let fault = c.from.ensures in
-    refused_left g.S.Store c.args.conn _ _ fault.0 fault.1 (as_left g.S.Store c.args.conn _ _ _ c.in-Err.ensures.left)
+    refused_left g.S.Store c.args.conn _ _ fault.0 fault.1 (as_left g.S.Store c.args.conn _ _ _ c.in-Err.ensures.left) tt
 
 pub returns-in-Ok-make_anew-clause-made : goal.returns-in-Ok-make_anew-clause-made
 returns-in-Ok-make_anew-clause-made g c honest =
@@ -41,28 +41,27 @@ returns-in-Err-make_anew-clause-refused g c =
     refused_left g.S.Store c.args.conn _ _ fault.0 fault.1
     (anew_left g.S.Store c.args.conn c.in-Ok.found.1 again c.make_anew.new.conn it.honest it.kept
     (λ clean. found_unclaimed s (c.requires.settled (again.was_open clean)) (subst (λ (f : Found). IsFoundIn f s) c.in-Nothing.is (c.in-Ok.ensures.found clean))) it.crash)
+    (inl it.autocommit)
 
 pub returns-in-RowsAlone-clause-refused : goal.returns-in-RowsAlone-clause-refused
 returns-in-RowsAlone-clause-refused g c =
     let s = state g.S.Store c.args.conn in
     let again = c.in-Ok.ensures.again in
-    refused_found g.S.Store c.args.conn Damaged _ (λ is. absurd (let e : Damaged ≡ Version = is in cc))
-    (λ is honest. found_rows s (c.requires.settled (again.was_open honest.0)) (subst (λ (f : Found). IsFoundIn f s) c.in-RowsAlone.is (c.in-Ok.ensures.found honest.0)))
-    (again_found g.S.Store c.args.conn c.in-Ok.found.1 again)
+    refused_again g.S.Store c.args.conn c.in-Ok.found.1 Damaged again (λ is. absurd (let e : Damaged ≡ Version = is in cc))
+    (λ is clean. found_rows s (c.requires.settled (again.was_open clean)) (subst (λ (f : Found). IsFoundIn f s) c.in-RowsAlone.is (c.in-Ok.ensures.found clean)))
 
 pub returns-in-OtherVersion-clause-refused : goal.returns-in-OtherVersion-clause-refused
 returns-in-OtherVersion-clause-refused g c =
     let s = state g.S.Store c.args.conn in
     let again = c.in-Ok.ensures.again in
-    refused_found g.S.Store c.args.conn Version _
-    (λ is honest. found_other s (c.requires.settled (again.was_open honest.0)) (subst (λ (f : Found). IsFoundIn f s) c.in-OtherVersion.is (c.in-Ok.ensures.found honest.0)))
-    (λ is. absurd (let e : Version ≡ Damaged = is in cc)) (again_found g.S.Store c.args.conn c.in-Ok.found.1 again)
+    refused_again g.S.Store c.args.conn c.in-Ok.found.1 Version again
+    (λ is clean. found_other s (c.requires.settled (again.was_open clean)) (subst (λ (f : Found). IsFoundIn f s) c.in-OtherVersion.is (c.in-Ok.ensures.found clean)))
+    (λ is. absurd (let e : Version ≡ Damaged = is in cc))
 
 pub returns-in-Unknown-clause-refused : goal.returns-in-Unknown-clause-refused
 returns-in-Unknown-clause-refused g c =
-    let again = c.in-Ok.ensures.again in
-    refused_found g.S.Store c.args.conn Store _ (λ is. absurd (let e : Store ≡ Version = is in cc)) (λ is. absurd (let e : Store ≡ Damaged = is in cc))
-    (again_found g.S.Store c.args.conn c.in-Ok.found.1 again)
+    refused_again g.S.Store c.args.conn c.in-Ok.found.1 Store c.in-Ok.ensures.again (λ is. absurd (let e : Store ≡ Version = is in cc))
+    (λ is. absurd (let e : Store ≡ Damaged = is in cc))
 
 pub complete-requires-clause-rise : goal.complete-requires-clause-rise
 complete-requires-clause-rise g c = again_rises (state g.S.Store c.args.conn) (state g.S.Store c.in-Ok.found.1) c.in-Ok.ensures.again
@@ -98,3 +97,4 @@ returns-in-Err-complete-clause-refused g c =
     refused_left g.S.Store c.args.conn _ _ fault.0 fault.1
     (mended_left g.S.Store c.args.conn c.in-Ok.found.1 again c.complete.new.conn c.in-Some.count it.honest it.kept
     (λ clean. found_lacks s (c.requires.settled (again.was_open clean)) (subst (λ (f : Found). IsFoundIn f s) c.in-Today.is (c.in-Ok.ensures.found clean)) (subst IsArranged (same_committed s found again clean) (again.arranged clean)) c.in-Some.count few is) it.crash)
+    (inl it.autocommit)

@@ -1,12 +1,11 @@
-use Rattle.std.proofs.Common.{◌≡◌, inl, IsTrue, sym, subst, ◌∙◌}
+use Rattle.std.proofs.Common.{◌≡◌, inl, IsTrue, sym, subst, ◌∙◌, arith}
 use Rattle.sqlite.specs.Effect.{Database}
 use Rattle.sqlite.specs.Held.{state}
 use Rattle.sqlite_trees.specs.Objects.{catalog_tree}
 use Rattle.sqlite_catalog.specs.Listing.{AreListed}
 use Rattle.office_tables_sql.specs.Schema.{no_schema}
-use Rattle.office_tables_open.specs.declared.open.OpenFault.TheVariants.{Version, Damaged, Store}
 use Rattle.office_tables_open.proofs.BlankLemmas.{blank_rows, blank_unclaimed}
-use Rattle.office_tables_open.proofs.LeftLemmas.{made_left, refused_found, refused_left, untouched}
+use Rattle.office_tables_open.proofs.LeftLemmas.{made_left, refused_given, refused_left}
 use Rattle.office_tables_open.proofs.OpenLemmas.{arranged_office, not_true}
 use Rattle.office_tables_open.proofs.open.prepared.Goals as goal
 
@@ -31,6 +30,7 @@ returns-in-Err-clause-refused g c =
     let listed : AreListed (s.now.trees catalog_tree) no_schema = subst (AreListed (s.now.trees catalog_tree)) is (c.schema.ensures.live early.1).0.lists.listed in
     let none = subst (λ (d : Database). AreListed (d.trees catalog_tree) no_schema) (c.is_autocommit.ensures.settled c.if-not-is_autocommit.false early.1) listed in
     blank_unclaimed s.committed.trees (c.requires early.0) none) it.crash)
+    (inl it.autocommit)
 
 pub returns-then-is_office-clause-office : goal.returns-then-is_office-clause-office
 returns-then-is_office-clause-office g c =
@@ -39,9 +39,7 @@ returns-then-is_office-clause-office g c =
     (λ h. c.is_autocommit.ensures.settled c.if-not-is_autocommit.false h.1) (λ h. (c.schema.ensures.live h.1).0) c.requires
 
 pub returns-then-not-is_autocommit-clause-refused : goal.returns-then-not-is_autocommit-clause-refused
-returns-then-not-is_autocommit-clause-refused g c =
-    refused_found g.S.Store c.args.conn Store _ (λ is. absurd (let e : Store ≡ Version = is in cc)) (λ is. absurd (let e : Store ≡ Damaged = is in cc)) (untouched g.S.Store c.args.conn)
+returns-then-not-is_autocommit-clause-refused g c = refused_given g.S.Store c.args.conn
 
 pub returns-then-not-has_only_ours-clause-refused : goal.returns-then-not-has_only_ours-clause-refused
-returns-then-not-has_only_ours-clause-refused g c =
-    refused_found g.S.Store c.args.conn Store _ (λ is. absurd (let e : Store ≡ Version = is in cc)) (λ is. absurd (let e : Store ≡ Damaged = is in cc)) (untouched g.S.Store c.args.conn)
+returns-then-not-has_only_ours-clause-refused g c = refused_given g.S.Store c.args.conn

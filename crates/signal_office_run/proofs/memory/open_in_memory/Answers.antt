@@ -4,10 +4,10 @@ use Rattle.sqlite.specs.Steps.{over_memory}
 use Rattle.sqlite_trees.specs.declared.memory.MemStore.{MemStore}
 use Rattle.office_tables_open.specs.SqlShelf.{SqlView}
 use Rattle.office_tables.specs.Stored.{content_now}
-use Rattle.signal_office_run.proofs.MemoryLemmas.{memory_is_honest, nothing_stands}
+use Rattle.signal_office_run.proofs.MemoryLemmas.{nothing_stands}
 use Rattle.signal_office_run.proofs.memory.open_in_memory.Goals as goal
 
-pub returns : goal.returns
-returns c = nothing_stands _ (
+pub returns-clause-stands : goal.returns-clause-stands
+returns-clause-stands c = nothing_stands _ (
     ap (λ (shelf : SqlView MemStore). content_now (state over_memory shelf.conn)) c.new.ensures
-    ∙ c.in_ok-shelf.ensures.opened.made (memory_is_honest c.in_ok-shelf.shelf.conn) c.in_ok-conn.ensures.empty.2)
+    ∙ c.in_ok-shelf.ensures.empty)

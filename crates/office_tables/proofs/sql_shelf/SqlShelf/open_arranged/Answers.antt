@@ -48,4 +48,4 @@ returns-in-Err-claim-clause-refused g c =
     (λ (told : (why ≡ Version) ⊎ (why ≡ Damaged)). subst (λ x. OnlyReads (state g.S.Store x) (state g.S.Store new)) same
     (it.left (elim told [ inl is ↦ inl (ap Err is) | inr is ↦ inr (ap Err is) ])))
     (λ h. it.kept h ∙ ap (λ x. (state g.S.Store x).committed.trees) same)
-    (subst (λ x. Claims (state g.S.Store x) (state g.S.Store new)) same it.crash)
+    (subst (λ x. Claims (state g.S.Store x) (state g.S.Store new)) same it.crash) it.office.autocommit

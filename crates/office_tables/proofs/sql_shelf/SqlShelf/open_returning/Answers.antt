@@ -8,24 +8,21 @@ use Rattle.sqlite_catalog.specs.Listing.{AreListed}
 use Rattle.office_tables_sql.specs.Schema.{no_schema}
 use Rattle.office_tables_open.specs.Arranged.{IsArranged}
 use Rattle.office_tables_open.specs.Version.{AreEmpty}
-use Rattle.office_tables_open.specs.declared.open.OpenFault.TheVariants.{Version, Damaged, Store}
 use Rattle.office_tables_open.proofs.BlankLemmas.{blank_rows}
-use Rattle.office_tables_open.proofs.LeftLemmas.{as_left, refused_before, refused_found, refused_left, untouched}
+use Rattle.office_tables_open.proofs.LeftLemmas.{as_left, refused_before, refused_given, refused_left}
 use Rattle.office_tables_open.proofs.OpenLemmas.{opened_before}
 use Rattle.office_tables.proofs.sql_shelf.SqlShelf.open_returning.Goals as goal
 
 pub returns-then-not-is_autocommit-clause-refused : goal.returns-then-not-is_autocommit-clause-refused
-returns-then-not-is_autocommit-clause-refused g c =
-    refused_found g.S.Store c.args.conn Store _ (λ is. absurd (let e : Store ≡ Version = is in cc)) (λ is. absurd (let e : Store ≡ Damaged = is in cc)) (untouched g.S.Store c.args.conn)
+returns-then-not-is_autocommit-clause-refused g c = refused_given g.S.Store c.args.conn
 
 pub returns-then-not-has_only_ours-clause-refused : goal.returns-then-not-has_only_ours-clause-refused
-returns-then-not-has_only_ours-clause-refused g c =
-    refused_found g.S.Store c.args.conn Store _ (λ is. absurd (let e : Store ≡ Version = is in cc)) (λ is. absurd (let e : Store ≡ Damaged = is in cc)) (untouched g.S.Store c.args.conn)
+returns-then-not-has_only_ours-clause-refused g c = refused_given g.S.Store c.args.conn
 
 pub returns-in-Err-clause-refused : goal.returns-in-Err-clause-refused
 returns-in-Err-clause-refused g c =
     let fault = c.from.ensures in
-    refused_left g.S.Store c.args.conn _ _ fault.0 fault.1 (as_left g.S.Store c.args.conn _ _ _ c.in-Err.ensures.left)
+    refused_left g.S.Store c.args.conn _ _ fault.0 fault.1 (as_left g.S.Store c.args.conn _ _ _ c.in-Err.ensures.left) tt
 
 pub returns-in-Ok-clause-opened : goal.returns-in-Ok-clause-opened
 returns-in-Ok-clause-opened g c =
