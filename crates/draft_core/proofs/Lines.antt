@@ -21,14 +21,16 @@ use Rattle.draft_core.specs.Writes.{next_revision}
 owned_passed : (held : Option Draft) (stage : Stage) (wrong : DraftRefusal) (clerk : List ℕ)
     (step : Draft → Result TimingSide DraftRefusal)
     → refused_by (option_map holder_of held) stage wrong clerk ≡ None
-    → (draft : Draft) × (held ≡ Some draft) × (owned holder_of held stage wrong clerk step ≡ step draft)
+    → (draft : Draft) × (held ≡ Some draft) ×
+    (owned holder_of held stage wrong clerk step ≡ step draft)
 owned_passed None stage wrong clerk step e = absurd (let f : Some wrong ≡ None = e in cc)
 owned_passed (Some draft) stage wrong clerk step e =
     (draft, refl, go (is_stage draft.stage stage) (bytes_eq draft.owner clerk) e)
   where
     go : (in_stage is_owner : Bool) → result_err (cond (not in_stage) (Err wrong)
         (cond (not is_owner) (Err NotOwner) (Ok (holder_of draft)))) ≡ None
-        → cond (not in_stage) (Err wrong) (cond (not is_owner) (Err NotOwner) (step draft)) ≡ step draft
+        → cond (not in_stage) (Err wrong) (cond (not is_owner) (Err NotOwner)
+        (step draft)) ≡ step draft
     go true true e = refl
     go true false e = absurd (let f : Some NotOwner ≡ None = e in cc)
     go false is_owner e = absurd (let f : Some wrong ≡ None = e in cc)

@@ -22,15 +22,19 @@ use Rattle.draft_core.specs.Transaction.{TimingSide, Draft}
 use Rattle.draft_core.specs.DraftRows.{Said, silent, leaves, removes, RowsByKey, RowStands, Stands}
 use Rattle.draft_core.specs.DraftRows.{changed_key, said_by, said_at, later_of, row_at, overlaid}
 
-over : (b : Bool) (said : Said) (committed : Option Row) → cond b (overlaid committed said) committed ≡ overlaid committed (cond b said silent)
+over : (b : Bool) (said : Said) (committed : Option Row) → cond b
+    (overlaid committed said) committed ≡ overlaid committed (cond b said silent)
 over true said committed = refl
 over false said committed = refl
 
 get-after_change : (set : Rows) (change : Change) (key : Key) → get (after_change set change) key ≡ overlaid (get set key) (said_at change key)
-get-after_change set (Put row) key = get-insert key_total set (key_of row) row key ∙ over (is_eq (key_cmp key (key_of row))) (leaves row) (get set key)
-get-after_change set (Remove k) key = get-remove key_total set k key ∙ over (is_eq (key_cmp key k)) removes (get set key)
+get-after_change set (Put row) key = get-insert key_total set (key_of row) row key
+    ∙ over (is_eq (key_cmp key (key_of row))) (leaves row) (get set key)
+get-after_change set (Remove k) key = get-remove key_total set k key
+    ∙ over (is_eq (key_cmp key k)) removes (get set key)
 
-pub overlaid-overlaid : (committed : Option Row) (late early : Said) → overlaid (overlaid committed early) late ≡ overlaid committed (later_of late early)
+pub overlaid-overlaid : (committed : Option Row) (late early : Said)
+    → overlaid (overlaid committed early) late ≡ overlaid committed (later_of late early)
 overlaid-overlaid committed silent early = refl
 overlaid-overlaid committed (leaves row) early = refl
 overlaid-overlaid committed removes early = refl
@@ -78,10 +82,12 @@ contains_later : (k key : Key) (keys : List Key) → Contains keys key → Conta
 contains_later k key keys h = (h.0 + 1, omega (arith, h.1), rw add-one h.2)
 
 -- changes say nothing of a key that they do not name
-unnamed : (changes : List Change) (key : Key) → ¬ Contains (map changed_key changes) key → row_at changes key ≡ silent
+unnamed : (changes : List Change) (key : Key) → ¬ Contains (map changed_key changes) key
+    → row_at changes key ≡ silent
 unnamed [] key h = refl
 unnamed (change ∷ changes) key h =
-    let later : row_at changes key ≡ silent = unnamed changes key (λ has. h (contains_later (changed_key change) key (map changed_key changes) has)) in
+    let later : row_at changes key ≡ silent = unnamed changes key (λ has. h (contains_later
+    (changed_key change) key (map changed_key changes) has)) in
     elim (key_cmp key (changed_key change)) as (λ o. key_cmp key (changed_key change) ≡ o → later_of (row_at changes key) (cond (is_eq o) (said_by change) silent) ≡ silent) [
       | Less ↦ λ is. ap (λ said. later_of said silent) later
       | Equal ↦ λ is. absurd (h (0, omega arith, sym (key_exact key (changed_key change) is)))

@@ -32,9 +32,11 @@ pub owned_inverts : (side : TimingSide) (stage : Stage) (wrong : DraftRefusal) (
     → owned holder_of side.draft stage wrong clerk step ≡ Ok next → OwnedStep side step next
 owned_inverts side stage wrong clerk step next e = go side.draft refl e
   where
-    go : (held : Option Draft) → side.draft ≡ held → owned holder_of held stage wrong clerk step ≡ Ok next → OwnedStep side step next
+    go : (held : Option Draft) → side.draft ≡ held
+        → owned holder_of held stage wrong clerk step ≡ Ok next → OwnedStep side step next
     go None is e = absurd (let f : Err wrong ≡ Ok next = e in cc)
-    go (Some draft) is e = tests_invert (is_stage draft.stage stage) (bytes_eq draft.owner clerk) side draft wrong step next is e
+    go (Some draft) is e = tests_invert (is_stage draft.stage stage)
+        (bytes_eq draft.owner clerk) side draft wrong step next is e
 
 -- a commit: the draft breaks no rule and becomes the committed set, the revision was not the last and rises by one, and nobody holds a draft
 pub record Commits (side : TimingSide) (draft : Draft) (next : TimingSide) : Type 0 where

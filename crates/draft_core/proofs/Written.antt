@@ -18,11 +18,13 @@ committed_after-drafting [] key committed = refl
 committed_after-drafting (change ∷ changes) key committed = committed_after-drafting changes key committed
 
 pub row_after-drafting : (changes : List Change) (key : Key) (committed : Option Row) (said : Said)
-    → overlaid committed (row_after (drafting changes) key said) ≡ overlaid (overlaid committed said) (row_at changes key)
+    → overlaid committed (row_after (drafting changes) key said) ≡ overlaid
+    (overlaid committed said) (row_at changes key)
 row_after-drafting [] key committed said = refl
 row_after-drafting (change ∷ changes) key committed said =
     row_after-drafting changes key committed _
-    ∙ ap (λ o. overlaid o (row_at changes key)) (sym (overlaid-overlaid committed (said_at change key) said))
+    ∙ ap (λ o. overlaid o (row_at changes key)) (sym (overlaid-overlaid committed
+    (said_at change key) said))
     ∙ overlaid-overlaid (overlaid committed said) (row_at changes key) (said_at change key)
 
 -- ---- a commit makes the draft rows changes of the committed ones, and none is left
@@ -34,14 +36,17 @@ committed_after-settling (change ∷ changes) key committed =
     ∙ overlaid-overlaid committed (row_at changes key) (said_at change key)
 
 -- where the changes name the key, or no row is there, none is left
-gone_step : (b : Bool) (at said by : Said) → (later_of at (cond b by silent) ≡ silent → said ≡ silent) → at ≡ silent → cond b silent said ≡ silent
+gone_step : (b : Bool) (at said by : Said) → (later_of at (cond b by silent) ≡ silent
+    → said ≡ silent) → at ≡ silent → cond b silent said ≡ silent
 gone_step true at said by h e = refl
 gone_step false at said by h e = h (ap (λ s. later_of s silent) e)
 
-pub row_after-settling : (changes : List Change) (key : Key) (said : Said) → (row_at changes key ≡ silent → said ≡ silent) → row_after (settling changes) key said ≡ silent
+pub row_after-settling : (changes : List Change) (key : Key) (said : Said)
+    → (row_at changes key ≡ silent → said ≡ silent) → row_after (settling changes) key said ≡ silent
 row_after-settling [] key said h = h refl
 row_after-settling (change ∷ changes) key said h =
-    row_after-settling changes key _ (gone_step (eq_by_cmp key_cmp key (changed_key change)) (row_at changes key) said (said_by change) h)
+    row_after-settling changes key _ (gone_step (eq_by_cmp key_cmp key (changed_key change))
+    (row_at changes key) said (said_by change) h)
 
 -- ---- an abandoned draft leaves the committed rows, and no draft row
 
@@ -49,10 +54,12 @@ pub committed_after-dropping : (changes : List Change) (key : Key) (committed : 
 committed_after-dropping [] key committed = refl
 committed_after-dropping (change ∷ changes) key committed = committed_after-dropping changes key committed
 
-pub row_after-dropping : (changes : List Change) (key : Key) (said : Said) → (row_at changes key ≡ silent → said ≡ silent) → row_after (dropping changes) key said ≡ silent
+pub row_after-dropping : (changes : List Change) (key : Key) (said : Said)
+    → (row_at changes key ≡ silent → said ≡ silent) → row_after (dropping changes) key said ≡ silent
 row_after-dropping [] key said h = h refl
 row_after-dropping (change ∷ changes) key said h =
-    row_after-dropping changes key _ (gone_step (eq_by_cmp key_cmp key (changed_key change)) (row_at changes key) said (said_by change) h)
+    row_after-dropping changes key _ (gone_step (eq_by_cmp key_cmp key (changed_key change))
+    (row_at changes key) said (said_by change) h)
 
 -- ---- which draft rows are written, and how many rows
 

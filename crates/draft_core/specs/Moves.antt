@@ -22,7 +22,8 @@ use Rattle.draft_core.specs.declared.timing.TimingChange.{TimingChange}
 use Rattle.draft_core.specs.declared.timing.TimingChange.TheVariants.{Committed, Drafted, DraftGone}
 use Rattle.draft_core.specs.declared.refusal.DraftRefusal.{DraftRefusal}
 use Rattle.draft_core.specs.declared.refusal.DraftRefusal.TheVariants.{NotNormal, NotTransaction, NotOwner, NotVerify, NotDone, VerifyFailed, RevisionFull, NoMemory}
-use Rattle.draft_core.specs.DraftRows.{Said, silent, RowsByKey, RowStands, Stands, later_of, overlaid, said_at}
+use Rattle.draft_core.specs.DraftRows.{Said, silent, RowsByKey, RowStands, Stands}
+use Rattle.draft_core.specs.DraftRows.{later_of, overlaid, said_at}
 use Rattle.draft_core.specs.Transaction.{TimingSide, holder_of, in_stage, state_of, verdict_of}
 
 -- ---- what a list of changes makes of the rows
@@ -34,12 +35,14 @@ committed_after (Committed change ∷ changes) key committed = committed_after c
 committed_after (Drafted change ∷ changes) key committed = committed_after changes key committed
 committed_after (DraftGone gone ∷ changes) key committed = committed_after changes key committed
 
--- the draft row at a key after changes
+-- what the draft rows say of a key after changes
 abbrev pub row_after : List TimingChange → Key → Said → Said
 row_after [] key said = said
 row_after (Committed change ∷ changes) key said = row_after changes key said
-row_after (Drafted change ∷ changes) key said = row_after changes key (later_of (said_at change key) said)
-row_after (DraftGone gone ∷ changes) key said = row_after changes key (cond (eq_by_cmp key_cmp key gone) silent said)
+row_after (Drafted change ∷ changes) key said =
+    row_after changes key (later_of (said_at change key) said)
+row_after (DraftGone gone ∷ changes) key said =
+    row_after changes key (cond (eq_by_cmp key_cmp key gone) silent said)
 
 -- how many timing rows changes write
 abbrev pub timing_writes : List TimingChange → ℕ
@@ -67,7 +70,8 @@ drafted_in (DraftGone gone ∷ changes) = drafted_in changes
 -- who holds the draft after a step that this clerk asked for
 abbrev pub next_holder : Holding → List ℕ → Option Holder → Option Holder
 next_holder Begun clerk holder = Some (record { stage = Transaction; owner = clerk })
-next_holder (Kept stage) clerk holder = option_map (λ (who : Holder). record who { stage = stage }) holder
+next_holder (Kept stage) clerk holder =
+    option_map (λ (who : Holder). record who { stage = stage }) holder
 next_holder Dropped clerk holder = None
 
 -- the state then

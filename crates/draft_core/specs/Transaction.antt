@@ -63,9 +63,9 @@ is_stage Verify Verify = true
 is_stage Done Done = true
 is_stage _ _ = false
 
--- A COMMAND OF THE OWNER, in one stage. Without a draft, or with one in another stage, the state is
--- wrong; for another clerk it is NotOwner; else the step is taken. It is asked of a draft, or of its
--- holder alone.
+-- A COMMAND OF THE OWNER, in one stage. Without a draft, or with one in another stage, the state
+-- is wrong; for another clerk it is NotOwner; else the step is taken. It is asked of a draft, or of
+-- its holder alone.
 abbrev pub owned : {Held T : Type 0} → (Held → Holder) → Option Held → Stage → DraftRefusal
     → List ℕ → (Held → Result T DraftRefusal) → Result T DraftRefusal
 owned holder None stage wrong clerk step = Err wrong
@@ -101,16 +101,21 @@ abbrev pub begun : TimingSide → List ℕ → Result TimingSide DraftRefusal
 begun side clerk = begun_from side clerk side.draft
 
 abbrev pub edited : TimingSide → List ℕ → List Change → Result TimingSide DraftRefusal
-edited side clerk changes = owned holder_of side.draft Transaction NotTransaction clerk (λ draft. Ok (with_draft side (record draft { stage = Transaction; set = after_changes draft.set changes })))
+edited side clerk changes = owned holder_of side.draft Transaction NotTransaction clerk (λ draft.
+    Ok (with_draft side
+    (record draft { stage = Transaction; set = after_changes draft.set changes })))
 
 abbrev pub verified : TimingSide → List ℕ → Result TimingSide DraftRefusal
-verified side clerk = owned holder_of side.draft Transaction NotTransaction clerk (λ draft. Ok (with_draft side (record draft { stage = Verify })))
+verified side clerk = owned holder_of side.draft Transaction NotTransaction clerk (λ draft.
+    Ok (with_draft side (record draft { stage = Verify })))
 
 abbrev pub checked : TimingSide → List ℕ → Result TimingSide DraftRefusal
-checked side clerk = owned holder_of side.draft Verify NotVerify clerk (λ draft. Ok (with_draft side (record draft { stage = Done })))
+checked side clerk = owned holder_of side.draft Verify NotVerify clerk (λ draft.
+    Ok (with_draft side (record draft { stage = Done })))
 
 abbrev pub reopened : TimingSide → List ℕ → Result TimingSide DraftRefusal
-reopened side clerk = owned holder_of side.draft Done NotDone clerk (λ draft. Ok (with_draft side (record draft { stage = Transaction })))
+reopened side clerk = owned holder_of side.draft Done NotDone clerk (λ draft.
+    Ok (with_draft side (record draft { stage = Transaction })))
 
 -- with violations first, and then at the last revision, nothing is committed
 abbrev pub committed_with : TimingSide → Draft → List Violation → Result TimingSide DraftRefusal
@@ -118,7 +123,8 @@ committed_with side draft [] = if side.revision == LAST_REVISION then Err Revisi
 committed_with side draft (violation ∷ violations) = Err (VerifyFailed (length (violation ∷ violations)))
 
 abbrev pub committed : TimingSide → List ℕ → Result TimingSide DraftRefusal
-committed side clerk = owned holder_of side.draft Done NotDone clerk (λ draft. committed_with side draft (violations_of draft.set))
+committed side clerk = owned holder_of side.draft Done NotDone clerk (λ draft.
+    committed_with side draft (violations_of draft.set))
 
 -- any clerk may abandon a draft
 abbrev pub abandoned_from : TimingSide → Option Draft → Result TimingSide DraftRefusal

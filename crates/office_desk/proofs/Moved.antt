@@ -138,11 +138,14 @@ all_stay id (change ∷ changes) tables =
 
 -- ---- the rows of the intersection after a move
 
-put_committed : (b : Bool) (row : Row) (c : Option Row) → cond b (Some (timing_columns row)) (option_map timing_columns c) ≡ option_map timing_columns (overlaid c (cond b (leaves row) silent))
+put_committed : (b : Bool) (row : Row) (c : Option Row) → cond b (Some (timing_columns row))
+    (option_map timing_columns c) ≡ option_map timing_columns (overlaid c (cond b
+    (leaves row) silent))
 put_committed true row c = refl
 put_committed false row c = refl
 
-gone_committed : (b : Bool) (c : Option Row) → cond b None (option_map timing_columns c) ≡ option_map timing_columns (overlaid c (cond b removes silent))
+gone_committed : (b : Bool) (c : Option Row) → cond b None
+    (option_map timing_columns c) ≡ option_map timing_columns (overlaid c (cond b removes silent))
 gone_committed true c = refl
 gone_committed false c = refl
 
@@ -158,34 +161,46 @@ timing_after id (Committed (Remove k) ∷ changes) tables key c e =
 timing_after id (Drafted change ∷ changes) tables key c e = timing_after id changes (changed tables (row_change_of id (Drafted change))) key c e
 timing_after id (DraftGone k ∷ changes) tables key c e = timing_after id changes (changed tables (row_change_of id (DraftGone k))) key c e
 
-put_draft : (b : Bool) (change : Change) (said : Said) → cond b (Some (left_columns (left_by change))) (said_columns said) ≡ said_columns (later_of (cond b (said_by change) silent) said)
+put_draft : (b : Bool) (change : Change) (said : Said) → cond b (Some (left_columns
+    (left_by change))) (said_columns said) ≡ said_columns (later_of (cond b
+    (said_by change) silent) said)
 put_draft true (Put row) said = refl
 put_draft true (Remove k) said = refl
 put_draft false change said = refl
 
-gone_draft : (b : Bool) (said : Said) → cond b None (said_columns said) ≡ said_columns (cond b silent said)
+gone_draft : (b : Bool) (said : Said) → cond b None (said_columns said) ≡ said_columns
+    (cond b silent said)
 gone_draft true said = refl
 gone_draft false said = refl
 
-draft_after : (id : ℕ) (changes : List TimingChange) (tables : Content) (key : Key) (said : Said) → get tables.draft (timing_key id key) ≡ said_columns said
-    → get (changed_by tables (row_changes_of id changes)).draft (timing_key id key) ≡ said_columns (row_after changes key said)
+draft_after : (id : ℕ) (changes : List TimingChange) (tables : Content) (key : Key) (said : Said)
+    → get tables.draft (timing_key id key) ≡ said_columns said
+    → get (changed_by tables (row_changes_of id changes)).draft (timing_key id key) ≡ said_columns
+    (row_after changes key said)
 draft_after id [] tables key said e = e
-draft_after id (Committed (Put r) ∷ changes) tables key said e = draft_after id changes (changed tables (row_change_of id (Committed (Put r)))) key said e
-draft_after id (Committed (Remove k) ∷ changes) tables key said e = draft_after id changes (changed tables (row_change_of id (Committed (Remove k)))) key said e
+draft_after id (Committed (Put r) ∷ changes) tables key said e = draft_after id changes
+    (changed tables (row_change_of id (Committed (Put r)))) key said e
+draft_after id (Committed (Remove k) ∷ changes) tables key said e = draft_after id changes
+    (changed tables (row_change_of id (Committed (Remove k)))) key said e
 draft_after id (Drafted change ∷ changes) tables key said e =
-    draft_after id changes (changed tables (row_change_of id (Drafted change))) key (later_of (said_at change key) said)
+    draft_after id changes (changed tables (row_change_of id (Drafted change))) key (later_of
+    (said_at change key) said)
     (get-put tables.draft id (changed_key change) (left_columns (left_by change)) key ∙ ap (cond (eq_by_cmp key_cmp key (changed_key change)) (Some (left_columns (left_by change)))) e
     ∙ put_draft (eq_by_cmp key_cmp key (changed_key change)) change said)
 draft_after id (DraftGone k ∷ changes) tables key said e =
-    draft_after id changes (changed tables (row_change_of id (DraftGone k))) key (cond (eq_by_cmp key_cmp key k) silent said)
-    (get-gone tables.draft id k key ∙ ap (cond (eq_by_cmp key_cmp key k) None) e ∙ gone_draft (eq_by_cmp key_cmp key k) said)
+    draft_after id changes (changed tables (row_change_of id (DraftGone k))) key (cond
+    (eq_by_cmp key_cmp key k) silent said)
+    (get-gone tables.draft id k key ∙ ap (cond (eq_by_cmp key_cmp key k) None) e
+    ∙ gone_draft (eq_by_cmp key_cmp key k) said)
 
-gone_within : (b : Bool) (key : Key) (said : Said) → IsSaid key said → IsSaid key (cond b silent said)
+gone_within : (b : Bool) (key : Key) (said : Said) → IsSaid key said
+    → IsSaid key (cond b silent said)
 gone_within true key said within = tt
 gone_within false key said within = within
 
 after_within : (changes : List TimingChange) (key : Key) (said : Said)
-    → AreChangesWithin (drafted_in changes) → IsSaid key said → IsSaid key (row_after changes key said)
+    → AreChangesWithin (drafted_in changes) → IsSaid key said
+    → IsSaid key (row_after changes key said)
 after_within [] key said within before = before
 after_within (Committed change ∷ changes) key said within before =
     after_within changes key said within before

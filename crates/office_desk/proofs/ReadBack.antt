@@ -77,30 +77,36 @@ committed_read tables office id rows stands lists within = same_map key_total ke
 abbrev Named : Change → Key → Bool
 Named change key = eq_by_cmp key_cmp key (changed_key change)
 
-said_by_within : (change : Change) (key : Key) → key ≡ changed_key change → IsChangeWithin current_limits change → IsSaid key (said_by change)
+said_by_within : (change : Change) (key : Key) → key ≡ changed_key change
+    → IsChangeWithin current_limits change → IsSaid key (said_by change)
 said_by_within (Put row) key is within = (within, sym is)
 said_by_within (Remove k) key is within = subst (λ k. IsSaid k removes) (sym is) within
 
 -- what a change within its limits says of a key
-pub said_at_within : (change : Change) (key : Key) → IsChangeWithin current_limits change → IsSaid key (said_at change key)
+pub said_at_within : (change : Change) (key : Key) → IsChangeWithin current_limits change
+    → IsSaid key (said_at change key)
 said_at_within change key within = go (Named change key) refl
   where
     go : (b : Bool) → Named change key ≡ b → IsSaid key (cond b (said_by change) silent)
     go true named = said_by_within change key (key_exact _ _ (tied _ named)) within
     go false named = tt
 
-pub later_within : (key : Key) (late early : Said) → IsSaid key late → IsSaid key early → IsSaid key (later_of late early)
+pub later_within : (key : Key) (late early : Said) → IsSaid key late → IsSaid key early
+    → IsSaid key (later_of late early)
 later_within key silent early in_late in_early = in_early
 later_within key (leaves row) early in_late in_early = in_late
 later_within key removes early in_late in_early = in_late
 
 -- and changes
-pub row_at_within : (changes : List Change) (key : Key) → AreChangesWithin changes → IsSaid key (row_at changes key)
+pub row_at_within : (changes : List Change) (key : Key) → AreChangesWithin changes
+    → IsSaid key (row_at changes key)
 row_at_within [] key within = tt
-row_at_within (change ∷ changes) key within = later_within key (row_at changes key) (said_at change key) (row_at_within changes key within.1) (said_at_within change key within.0)
+row_at_within (change ∷ changes) key within = later_within key (row_at changes key)
+    (said_at change key) (row_at_within changes key within.1) (said_at_within change key within.0)
 
 -- the columns of a draft row tell what it says
-drafts_tell : (key : Key) (a b : Said) → said_columns a ≡ said_columns b → IsSaid key a → IsSaid key b → a ≡ b
+drafts_tell : (key : Key) (a b : Said) → said_columns a ≡ said_columns b → IsSaid key a
+    → IsSaid key b → a ≡ b
 drafts_tell key silent silent e in_a in_b = refl
 drafts_tell key silent (leaves y) e in_a in_b = cc
 drafts_tell key silent removes e in_a in_b = cc

@@ -110,9 +110,11 @@ no_damaged_draft tables id damaged office stands =
     let keyed = stands.stand.draft_keys damaged.key damaged.columns damaged.stored in
     let here : damaged.key ≡ timing_key id keyed.1 = own_key id keyed.0 keyed.1 damaged.key damaged.of keyed.2 in
     let held = stands.stand.draft id keyed.1 in
-    go keyed.1 here held.said (sym damaged.stored ∙ ap (get tables.draft) here ∙ held.stored) held.within
+    go keyed.1 here held.said (sym damaged.stored ∙ ap (get tables.draft) here
+    ∙ held.stored) held.within
   where
-    go : (key : Key) → damaged.key ≡ timing_key id key → (said : Said) → Some damaged.columns ≡ said_columns said → IsSaid key said → ⊥
+    go : (key : Key) → damaged.key ≡ timing_key id key → (said : Said)
+        → Some damaged.columns ≡ said_columns said → IsSaid key said → ⊥
     go key here silent is within = cc
     go key here removes is within =
         let same : damaged.columns ≡ left_columns None = cc in
@@ -170,7 +172,8 @@ row_at_side : (tables : Content) (office : Office) (id : ℕ) (key : Key) (side 
 row_at_side tables office id key side same h = record {
   said = h.said;
   stored = h.stored;
-  stands = subst (λ (s : TimingSide). RowStands (get s.committed key) h.said s.draft key) (sym same) h.stands;
+  stands = subst (λ (s : TimingSide). RowStands (get s.committed key) h.said s.draft key)
+      (sym same) h.stands;
   within = h.within;
 }
 

@@ -33,9 +33,12 @@ use Rattle.office_desk.specs.declared.refusal.Refusal.{Refusal}
 abbrev Keeps : (TimingSide → Result TimingSide DraftRefusal) → Type 0
 Keeps line = (side next : TimingSide) → line side ≡ Ok next → next.committed ≡ side.committed
 
-owned_keeps : (stage : Stage) (wrong : DraftRefusal) (clerk : List ℕ) (next_draft : Draft → Draft) → Keeps (λ side. owned holder_of side.draft stage wrong clerk (λ draft. Ok (with_draft side (next_draft draft))))
+owned_keeps : (stage : Stage) (wrong : DraftRefusal) (clerk : List ℕ) (next_draft : Draft
+    → Draft) → Keeps (λ side. owned holder_of side.draft stage wrong clerk (λ draft. Ok
+    (with_draft side (next_draft draft))))
 owned_keeps stage wrong clerk next_draft side next e =
-    let took = owned_inverts side stage wrong clerk (λ draft. Ok (with_draft side (next_draft draft))) next e in
+    let took = owned_inverts side stage wrong clerk (λ draft. Ok (with_draft side
+    (next_draft draft))) next e in
     let step : Ok (with_draft side (next_draft took.draft)) ≡ Ok next = took.gives in
     let same : next ≡ with_draft side (next_draft took.draft) = cc in
     ap (λ (s : TimingSide). s.committed) same
@@ -64,8 +67,10 @@ abandoned_keeps side next e = go side.draft e
 
 commit_takes : (clerk : List ℕ) (side next : TimingSide) (instead : Rows) → committed side clerk ≡ Ok next → next.committed ≡ set_of_draft side.draft instead
 commit_takes clerk side next instead e =
-    let took = owned_inverts side Done NotDone clerk (λ draft. committed_with side draft (violations_of draft.set)) next e in
-    go took.draft (violations_of took.draft.set) took.gives ∙ sym (ap (λ d. set_of_draft d instead) took.held)
+    let took = owned_inverts side Done NotDone clerk (λ draft. committed_with side draft
+    (violations_of draft.set)) next e in
+    go took.draft (violations_of took.draft.set) took.gives ∙ sym (ap
+    (λ d. set_of_draft d instead) took.held)
   where
     go : (draft : Draft) (violations : List Violation) → committed_with side draft violations ≡ Ok next → next.committed ≡ draft.set
     go draft (v ∷ vs) e = absurd (let f : Err (VerifyFailed (length (v ∷ vs))) ≡ Ok next = e in cc)

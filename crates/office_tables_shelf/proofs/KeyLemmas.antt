@@ -150,7 +150,8 @@ alone (leaves row) = refl
 alone removes = refl
 
 -- where each key is named once, the last change that names it is the first
-pub row_at_first : (changes : List Change) → IsStrictlySortedBy key_cmp (map changed_key changes) → (key : Key) → row_at changes key ≡ any_said (first_at changed_key changes key)
+pub row_at_first : (changes : List Change) → IsStrictlySortedBy key_cmp (map changed_key changes)
+    → (key : Key) → row_at changes key ≡ any_said (first_at changed_key changes key)
 unfolding IsStrictlySortedBy
 row_at_first [] rise key = refl
 row_at_first (change ∷ changes) rise key = go (cases_Bool (eq_by_cmp key_cmp key (changed_key change))) (row_at_first changes rise.1 key)
@@ -167,7 +168,9 @@ stored_said (Some (Put row)) = refl
 stored_said (Some (Remove k)) = refl
 
 -- the table of draft rows has at a key what the changes of the list say of it
-pub get_listed_draft : (tables : Content) (id : ℕ) (changes : List Change) → ListsDraft tables id changes → (key : Key) → get tables.draft (timing_key id key) ≡ said_columns (row_at changes key)
+pub get_listed_draft : (tables : Content) (id : ℕ) (changes : List Change)
+    → ListsDraft tables id changes → (key : Key) → get tables.draft
+    (timing_key id key) ≡ said_columns (row_at changes key)
 get_listed_draft tables id changes lists key =
     get_listed changed_key draft_columns id tables.draft changes lists key
     ∙ stored_said (first_at changed_key changes key)
