@@ -1,4 +1,5 @@
--- What is promised of a decision on a command of the register, on what the shelf holds once the pending rows are written.
+-- What is promised of a decision on a command of the register, on what the shelf holds once the
+-- pending rows are written.
 use Rattle.std.specs.Prelude.{◌≤◌, List, Result, IfOk}
 use Rattle.cabinet_core.specs.declared.command.RecordCommand.{RecordCommand}
 use Rattle.office_tables_shelf.specs.Change.{changed_by}
@@ -9,7 +10,8 @@ use Rattle.office_tables_shelf.specs.declared.rows.Table.{Table}
 use Rattle.office_tables_shelf.specs.declared.shelf.ShelfFault.{ShelfFault}
 use Rattle.office_desk_cabinet.specs.Lines.{TellsLine}
 use Rattle.office_desk_cabinet.specs.RegisterDamage.{IsWhole, SparesDamage}
-use Rattle.office_desk_cabinet.specs.Registers.{IsNamed, LeavesTiming, Registers, line_told, most_record_writes, rows_told}
+use Rattle.office_desk_cabinet.specs.Registers.{IsNamed, LeavesTiming, Registers, line_told}
+use Rattle.office_desk_cabinet.specs.Registers.{most_record_writes, rows_told}
 use Rattle.office_desk_cabinet.specs.declared.registered.Registered.{Registered}
 
 pub record DecidesRecord (honest : Type 0) (stored : Content) (pending : List RowChange)
