@@ -9,11 +9,13 @@ ghost use Rattle.office_tables.specs.Migrate.{Brings, StandsAnew, MayBecome};
 ghost use Rattle.office_tables.specs.Migrate.{TellsVersion, TellsDamage};
 ghost use Rattle.office_tables_open.specs.Promises.{KeepsCommitted, Settles, IsArrangedIfClean};
 ghost use Rattle.office_tables_open.specs.Arranged.{IsCheckedAgain};
+ghost use Rattle.office_tables_open.specs.Lacking.{Hold};
 ghost use Rattle.office_tables_open.specs.Opening.{HasOtherVersion, HasRowsAlone, StaysClean};
 ghost use Rattle.office_tables_open.specs.Opening.{IsAsFound, IsOpened, IsRefused};
 ghost use Rattle.office_tables_open.specs.Opening.{MayBeTaken, TellsOfTables};
 ghost use Rattle.office_tables_shelf.specs.Content.{no_content};
-ghost use Rattle.office_tables_sql.specs.Stored.{content_now, content_of};
+ghost use Rattle.office_tables_shelf.specs.Counts.{no_writes};
+ghost use Rattle.office_tables_sql.specs.Stored.{content_now};
 ghost use Rattle.office_tables_sql.specs.Schema.{office_schema};
 
 use crate::change;
@@ -208,6 +210,7 @@ impl SqlShelf<MemStore> {
     pub fn open_in_memory(alloc: Global) -> Result<SqlShelf<MemStore>, OpenFault>
         ensures empty { IfOk result (λ shelf.
             content_now (state over_memory shelf.conn) ≡ no_content) }
+        ensures unwritten { IfOk result (λ shelf. shelf.counts ≡ no_writes) }
         ensures fault { IfErr result (λ fault. ¬ TellsOfTables fault) }
     {
         match Connection::open_in_memory(alloc) {
@@ -224,8 +227,8 @@ impl SqlShelf<MemStore> {
     ) -> Result<SqlShelf<MemStore>, OpenFault>
         ensures taken { IfOk result (λ _.
             MayBeTaken (state over_memory conn).committed.trees) }
-        ensures kept { IfOk result (λ shelf. content_now (state over_memory shelf.conn)
-            ≡ content_of (state over_memory conn).committed.trees) }
+        ensures kept { IfOk result (λ shelf. Hold (state over_memory conn).committed.trees
+            (content_now (state over_memory shelf.conn))) }
         ensures version { result ≡ Err OpenFault.Version →
             HasOtherVersion (state over_memory conn).committed.trees }
         ensures damaged { result ≡ Err OpenFault.Damaged →

@@ -20,6 +20,10 @@ returns-in-Ok-clause-empty c =
     IfOk-weaker c.open.result _ _
     (λ shelf it. it.made (memory_is_honest shelf.conn) c.in-Ok.ensures.empty.2) c.open.ensures.opened
 
+pub returns-in-Ok-clause-unwritten : goal.returns-in-Ok-clause-unwritten
+returns-in-Ok-clause-unwritten c =
+    IfOk-weaker c.open.result _ _ (λ shelf it. it.unwritten) c.open.ensures.opened
+
 pub returns-in-Ok-clause-fault : goal.returns-in-Ok-clause-fault
 returns-in-Ok-clause-fault c =
     let new = c.in-Ok.ensures.empty in
