@@ -1,3 +1,4 @@
 pub mod MemoryLemmas
 pub mod MigratingLemmas
 mod FileLemmas
+mod ServedLemmas

@@ -19,6 +19,7 @@ use Rattle.office_tables.specs.Content.{Content}
 use Rattle.office_tables_open.specs.Lacking.{Hold}
 use Rattle.office_tables_open.specs.SqlShelf.{MayLeave, SqlView}
 use Rattle.office_tables.specs.Stored.{content_now}
+use Rattle.office_tables_shelf.specs.Counts.{no_writes}
 use Rattle.office_desk.specs.Office.{Office}
 use Rattle.office_desk.specs.StandFor.{StandForSound}
 use Rattle.office_http.specs.Laws.{Serves}
@@ -37,12 +38,13 @@ StandInFiles image office = (trees : Trees) → AreThoseOf image trees → (tabl
 
 -- how the office is stored in the tables of a database, whose connection has these states
 abbrev pub sql_storage : {S : Type 0} → (Held S → State) → Storage (SqlView S) Office Content
-sql_storage state_of = office_storage (λ shelf. IsHonest (state_of shelf.conn)) (λ shelf. content_now (state_of shelf.conn)) (λ shelf tables. MayLeave (state_of shelf.conn) tables)
+sql_storage state_of = office_storage (λ shelf. IsHonest (state_of shelf.conn)) (λ shelf. content_now (state_of shelf.conn)) (λ shelf. shelf.counts) (λ shelf tables. MayLeave (state_of shelf.conn) tables)
 
--- the tables stand for the office, and so does whatever a crash may leave of them
+-- the tables stand for the office, and so does whatever a crash may leave of them; no row was written yet
 pub record AreOpenedFor {S : Type 0} (state_of : Held S → State) (opened : SqlView S) (office : Office) : Type 0 where
   pub stand : StandForSound (content_now (state_of opened.conn)) office
   pub crash : (tables : Content) → MayLeave (state_of opened.conn) tables → StandForSound tables office
+  pub unwritten : opened.counts ≡ no_writes
 
 -- What was done over the requests from the office that the tables in the files stood for, and their answers: what a crash could leave
 -- before them stood for that office, and `Serves` says the rest.
@@ -50,7 +52,7 @@ pub record ServesFiles {S : Type 0} (state_of : Held S → State) (before : Offi
   pub held : Content
   pub stands : StandForSound held before
   pub kept : Content
-  pub serves : Serves (sql_storage state_of) (λ tables. StandForSound tables before) held before last kept after requests answers
+  pub serves : Serves (sql_storage state_of) (λ tables. StandForSound tables before) held no_writes before last kept after requests answers
 
 -- the tables of a connection were refused, which is told so, and it is as an opening leaves it
 pub record IsTurnedAway {S : Type 0} (g : Ghosts S) (conn : Held S) (told : Fault) (left : Result (Held S) S) : Type 0 where

@@ -2,12 +2,11 @@
 
 ghost use Rattle.std.specs.Prelude.{◌≡◌, ◌≢◌, ◌≤◌, ◌+◌, ◌*◌, IfOk, IfErr};
 ghost use Rattle.office_desk.specs.Office.{Office as OfficeState};
-ghost use Rattle.office_http.specs.Laws.{RunsLawfully};
 ghost use Rattle.office_http.specs.Protocol.{office_protocol};
 ghost use Rattle.office_http_framing.specs.Asks.{OnlyAsks};
 ghost use Rattle.office_http_framing.specs.Limits.{longest_request};
 ghost use Rattle.office_http_framing.specs.Serve.{Did, TellsFault, ends_of};
-ghost use Rattle.signal_office_run.specs.Memory.{StandsInMemory, new_office};
+ghost use Rattle.signal_office_run.specs.Memory.{ServesInMemory, StandsInMemory, new_office};
 
 use office_desk::office::Office;
 use office_http::{ServeFault, Served, Sink, Source, serve};
@@ -35,10 +34,11 @@ pub fn serve_new_office<R: Source, W: Sink>(
     writer: &mut W,
     max_requests: u32,
 ) -> Result<Result<Served, ServeFault>, Fault>
-    // The bytes answered are those of the office machine, run over the requests of the bytes read,
-    // and the run keeps the laws of the office: each office of it is sound.
+    // The bytes answered are those of the office machine, run over the requests of the bytes read;
+    // each request wrote the rows that its command may, and one that changes nothing left the
+    // tables as they were; and the run keeps the laws of the office: each office of it is sound.
     ensures did { IfOk result (λ outcome. (after : OfficeState)
-        × Did office_protocol (RunsLawfully new_office after) max_requests
+        × Did office_protocol (ServesInMemory after) max_requests
         (ends_of (R.told reader.old) (W.told writer.old))
         (ends_of (R.told reader.new) (W.told writer.new)) outcome) }
     // Read and Write are answered only where that end told a fault.

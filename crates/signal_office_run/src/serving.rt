@@ -44,7 +44,7 @@ pub fn serve_port<S: Shelf, W: Sink>(
     ensures honest { S.is_honest office.new → S.is_honest office.old }
 
     // The office served each connection as `serve` does, and no other one; all where it says so.
-    ensures did { let storage = office_storage S.is_honest S.content S.may_leave in
+    ensures did { let storage = office_storage S.is_honest S.content S.written S.may_leave in
         S.is_clean office.new →
         (before : OfficeState) (tables : Content) → Keeps storage office.old tables before →
         (served : List Connected) × Listens storage office.old tables before office.new served

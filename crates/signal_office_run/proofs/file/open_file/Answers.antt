@@ -20,6 +20,7 @@ returns-in-Ok-clause-opened g c =
     record {
       stand = stand;
       crash = λ tables left. subst (λ t. StandForSound t before) (sym (it.crash honest left.1 left.2) ∙ left.3) stand;
+      unwritten = it.unwritten;
     }) c.office_over.ensures.opened
 
 pub returns-in-Ok-clause-refused : goal.returns-in-Ok-clause-refused

@@ -2,9 +2,8 @@ use Rattle.std.proofs.Common.{refl}
 use Rattle.sqlite.specs.Files.{file_state}
 use Rattle.office_http.specs.Protocol.{office_protocol}
 use Rattle.office_http_framing.proofs.ServeLemmas.{Did-weaker}
-use Rattle.office_http_framing.proofs.StopLemmas.{ran-wider}
 use Rattle.office_tables.specs.Stored.{content_now}
-use Rattle.signal_office_run.specs.File.{sql_storage}
+use Rattle.signal_office_run.proofs.ServedLemmas.{from_unwritten}
 use Rattle.signal_office_run.proofs.file.serve_file.Goals as goal
 
 -- what was opened is what the tables in the files stood for, and so is what a crash may leave of it
@@ -20,9 +19,6 @@ returns-clause-did g c clean before stand =
             held = content_now (file_state office.conn);
             stands = opened.stand;
             kept = served.1;
-            serves = record {
-              ran = ran-wider office_protocol (sql_storage file_state) _ _ (content_now (file_state office.conn)) before _ served.1 served.0 requests answers opened.crash serves.ran;
-              laws = serves.laws;
-            };
+            serves = from_unwritten file_state _ _ (content_now (file_state office.conn)) _ opened.unwritten opened.crash before _ served.1 served.0 requests answers serves;
           }) served.2,
     )
