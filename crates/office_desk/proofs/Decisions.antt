@@ -13,12 +13,12 @@ use Rattle.office_desk.specs.Changes.{most_writes}
 use Rattle.office_desk.specs.Damage.{MeetsDamage}
 use Rattle.office_desk.specs.Deciding.{Decides, IsDecision}
 use Rattle.office_desk.specs.Named.{RefusesBy, number_of, numbers_of}
-use Rattle.office_desk.specs.declared.command.Command.{Command}
+use Rattle.office_machine.specs.declared.command.Command.{Command}
 use Rattle.office_desk.specs.declared.decided.Decided.{Decided}
-use Rattle.office_desk.specs.declared.refusal.Refusal.{Refusal}
-use Rattle.office_desk.specs.declared.refusal.Refusal.TheVariants as refusal
-use Rattle.office_desk.specs.declared.reply.Reply.{Reply}
-use Rattle.office_desk.specs.declared.reply.Reply.TheVariants.{Refused}
+use Rattle.office_machine.specs.declared.refusal.Refusal.{Refusal}
+use Rattle.office_machine.specs.declared.refusal.Refusal.TheVariants as refusal
+use Rattle.office_machine.specs.declared.reply.Reply.{Reply}
+use Rattle.office_machine.specs.declared.reply.Reply.TheVariants.{Refused}
 
 -- a refusal whose number is one of them
 pub refuses_so : (numbers : List ℕ) (told : Refusal) → IsOneOf numbers (number_of told) → RefusesBy numbers (Refused told)

@@ -12,7 +12,7 @@ use Rattle.signal_records.specs.declared.record.Row.{Row}
 use Rattle.signal_rules.specs.Lookup.{phase_at, split_at, pattern_at, has_sequence, phase_numbers, ring_numbers, sequence_numbers, split_numbers, pattern_numbers, the_phase, the_list, the_split, the_pattern}
 use Rattle.signal_rules.specs.Violations.{violations_of, violations_at, subjects, split_subjects}
 use Rattle.signal_rules.specs.declared.violation.Subject.TheVariants as subject
-use Rattle.office_desk.specs.Office.{AreRecords}
+use Rattle.office_machine.specs.Office.{AreRecords}
 
 abbrev nothing : Rows
 nothing = empty

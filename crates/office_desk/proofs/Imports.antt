@@ -28,22 +28,22 @@ use Rattle.office_desk.specs.Changes.{IsRefused, most_import_writes, most_writes
 use Rattle.office_desk.specs.Damage.{MeetsCabinetDamage, MeetsImportDamage}
 use Rattle.office_desk.specs.Deciding.{IsDecision}
 use Rattle.office_desk.specs.Importing.{ImportsAny, LeavesAnyTiming, TakesFrom, TakesLine, TakesRecord, TakesWhole, goes_on}
-use Rattle.office_desk.specs.Office.{Office}
+use Rattle.office_machine.specs.Office.{Office}
 use Rattle.office_desk.specs.Recording.{HasDamagedAbout, TellsAbout}
-use Rattle.office_desk.specs.Refusal.{line_of}
+use Rattle.office_machine.specs.Refusal.{line_of}
 use Rattle.office_desk.specs.StandFor.{StandForSound}
 use Rattle.office_desk.specs.Blaming.{IsRefusedAfter}
 use Rattle.office_desk.specs.Named.{number_of}
-use Rattle.office_desk.specs.Step.{cabinet_of, import_by, import_from, imported, is_known, refusal_of_record}
-use Rattle.office_desk.specs.declared.command.Command.TheVariants as command
+use Rattle.office_machine.specs.Step.{cabinet_of, import_by, import_from, imported, is_known, refusal_of_record}
+use Rattle.office_machine.specs.declared.command.Command.TheVariants as command
 use Rattle.office_desk.specs.declared.decided.Decided.{Decided}
 use Rattle.office_desk.specs.declared.importing.Taken.{Taken}
 use Rattle.office_desk.specs.declared.importing.Taken.TheVariants as taken
-use Rattle.office_desk.specs.declared.refusal.Refusal.{Refusal}
-use Rattle.office_desk.specs.declared.refusal.Refusal.TheVariants as refusal
-use Rattle.office_desk.specs.declared.refusal.Refusal.TheVariants.{ImportRow}
-use Rattle.office_desk.specs.declared.reply.Reply.{Reply}
-use Rattle.office_desk.specs.declared.reply.Reply.TheVariants.{Imported, Refused}
+use Rattle.office_machine.specs.declared.refusal.Refusal.{Refusal}
+use Rattle.office_machine.specs.declared.refusal.Refusal.TheVariants as refusal
+use Rattle.office_machine.specs.declared.refusal.Refusal.TheVariants.{ImportRow}
+use Rattle.office_machine.specs.declared.reply.Reply.{Reply}
+use Rattle.office_machine.specs.declared.reply.Reply.TheVariants.{Imported, Refused}
 use Rattle.office_desk.proofs.Decisions.{refuses_so}
 use Rattle.office_desk.proofs.Recorded.{gone_whole, record_whole, register_of, stands_after}
 use Rattle.office_desk.proofs.Shown.{query_answers}

@@ -12,7 +12,7 @@ use Rattle.std.specs.Ordering.{nat_cmp, is_eq, is_lt, eq_by_cmp}
 use Rattle.std.specs.Prelude.{IfSome}
 use Rattle.office_tables_shelf.proofs.CellLemmas.{tied}
 use Rattle.office_tables_shelf.proofs.ListLemmas.{parts}
-use Rattle.office_desk.specs.Office.{Office, IsSound}
+use Rattle.office_machine.specs.Office.{Office, IsSound}
 use Rattle.office_desk.proofs.IntersectionTable.{Entry}
 
 -- ---- each number that stands is 1 to 9999

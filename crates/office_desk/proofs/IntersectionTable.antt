@@ -10,7 +10,7 @@ use Rattle.office_tables_shelf.specs.Damage.{HasAnyDamagedIntersection}
 use Rattle.office_tables_shelf.specs.Rows.{intersection_key}
 use Rattle.office_tables_shelf.proofs.KeyCells.{intersection_order}
 use Rattle.office_tables_shelf.proofs.StoredMaps.{stored_entries, stored_found}
-use Rattle.office_desk.specs.Office.{Office, Intersection, IsSoundIntersection}
+use Rattle.office_machine.specs.Office.{Office, Intersection, IsSoundIntersection}
 use Rattle.office_desk.specs.StandFor.{StandFor, StandForSound, columns_of, row_of}
 use Rattle.office_desk.proofs.Stands.{sound_row}
 

@@ -23,7 +23,7 @@ use Rattle.draft_core.specs.declared.refusal.DraftRefusal.TheVariants.{NotNormal
 use Rattle.draft_core.specs.declared.state.Stage.TheVariants.{Transaction, Verify, Done}
 use Rattle.draft_core.proofs.Sound.{owned_inverts, committed_inverts}
 use Rattle.office_tables_shelf.proofs.CellLemmas.{tied}
-use Rattle.office_desk.specs.Office.{Intersection, IsSoundIntersection, IsSoundDraft, AreRecords}
+use Rattle.office_machine.specs.Office.{Intersection, IsSoundIntersection, IsSoundDraft, AreRecords}
 use Rattle.office_desk.specs.Transacting.{line_of, IsAskWithin}
 use Rattle.office_desk.specs.declared.transacting.Ask.{Ask}
 use Rattle.office_desk.specs.declared.transacting.Ask.TheVariants.{Begin, Edit, Verify as AskVerify, Check, Commit, Reopen, Abandon}

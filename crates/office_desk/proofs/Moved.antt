@@ -32,10 +32,10 @@ use Rattle.office_tables_shelf.proofs.KeyLemmas.{timing_key_tells}
 use Rattle.office_tables_shelf.proofs.TreeLemmas.{timing_ties}
 use Rattle.office_desk.specs.declared.reading.Found.{Found}
 use Rattle.office_desk.specs.Moving.{row_change_of, row_changes_of, moved_row}
-use Rattle.office_desk.specs.Office.{Office, Intersection, side_of}
+use Rattle.office_machine.specs.Office.{Office, Intersection, side_of}
 use Rattle.office_desk.specs.Reading.{FoundStands, drafts_at}
 use Rattle.office_desk.specs.StandFor.{StandFor, HasTimingKeys, IsSaid, row_of, said_columns}
-use Rattle.office_desk.specs.Step.{with_intersection}
+use Rattle.office_machine.specs.Step.{with_intersection}
 use Rattle.office_desk.proofs.KeptRegister.{KeepsRegister, kept_twice}
 use Rattle.office_desk.proofs.ReadBack.{later_within, said_at_within}
 use Rattle.office_desk.proofs.Stands.{stand_after}

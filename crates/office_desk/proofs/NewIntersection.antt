@@ -22,14 +22,14 @@ use Rattle.office_desk.specs.Answers.{Answers}
 use Rattle.office_desk.specs.Changes.{IsRefused, most_writes}
 use Rattle.office_desk.specs.Deciding.{IsDecision}
 use Rattle.office_desk.specs.Named.{RefusesBy}
-use Rattle.office_desk.specs.Office.{Office, IsSoundIntersection, no_timing, side_of, side_at}
+use Rattle.office_machine.specs.Office.{Office, IsSoundIntersection, no_timing, side_of, side_at}
 use Rattle.office_desk.specs.StandFor.{StandFor, StandForSound, row_of}
-use Rattle.office_desk.specs.Step.{added, new_intersection, with_intersection}
-use Rattle.office_desk.specs.declared.command.Command.TheVariants.{AddIntersection}
+use Rattle.office_machine.specs.Step.{added, new_intersection, with_intersection}
+use Rattle.office_machine.specs.declared.command.Command.TheVariants.{AddIntersection}
 use Rattle.office_desk.specs.declared.decided.Decided.{Decided}
-use Rattle.office_desk.specs.declared.refusal.Refusal.TheVariants as refusal
-use Rattle.office_desk.specs.declared.reply.Reply.{Reply}
-use Rattle.office_desk.specs.declared.reply.Reply.TheVariants as reply
+use Rattle.office_machine.specs.declared.refusal.Refusal.TheVariants as refusal
+use Rattle.office_machine.specs.declared.reply.Reply.{Reply}
+use Rattle.office_machine.specs.declared.reply.Reply.TheVariants as reply
 use Rattle.office_desk.proofs.Decisions.{refuses_so, told_decides}
 use Rattle.office_desk.proofs.EmptySet.{no_records, no_violations}
 use Rattle.office_desk.proofs.Stands.{row_read, stand_after, sound_with}

@@ -17,12 +17,12 @@ use Rattle.cabinet_core.specs.Register.{Register}
 use Rattle.office_desk_cabinet.specs.RegisterStands.{RegisterStandsSound}
 use Rattle.office_desk_cabinet.proofs.ListedRecords.{inspections_listed, rows_tell}
 use Rattle.office_desk.specs.Answers.{Answers}
-use Rattle.office_desk.specs.Office.{Office, IsSound}
+use Rattle.office_machine.specs.Office.{Office, IsSound}
 use Rattle.office_desk.specs.StandFor.{StandForSound, row_of}
-use Rattle.office_desk.specs.Step.{overdue_on, seen_of}
-use Rattle.office_desk.specs.declared.command.Command.TheVariants as command
-use Rattle.office_desk.specs.declared.reply.Reply.{Reply}
-use Rattle.office_desk.specs.declared.reply.Reply.TheVariants as reply
+use Rattle.office_machine.specs.Step.{overdue_on, seen_of}
+use Rattle.office_machine.specs.declared.command.Command.TheVariants as command
+use Rattle.office_machine.specs.declared.reply.Reply.{Reply}
+use Rattle.office_machine.specs.declared.reply.Reply.TheVariants as reply
 use Rattle.office_desk.proofs.IntersectionCount.{at_most_9999}
 use Rattle.office_desk.proofs.IntersectionTable.{Entry, cells, stored}
 use Rattle.office_desk.proofs.Rows.{row_from_cells}

@@ -27,7 +27,7 @@ use Rattle.office_tables_shelf.proofs.CellLemmas.{tied}
 use Rattle.office_tables_shelf.proofs.KeyLemmas.{row_in, timing_keys_rise, get_set_of_rows, get_listed_timing, get_listed_draft}
 use Rattle.office_tables_shelf.proofs.RowLemmas.{timing_columns_tell, left_columns_tell}
 use Rattle.office_desk.specs.declared.reading.Found.{Found}
-use Rattle.office_desk.specs.Office.{Office, Intersection, side_at, side_of}
+use Rattle.office_machine.specs.Office.{Office, Intersection, side_at, side_of}
 use Rattle.office_desk.specs.Reading.{AreWithin, IsMadeOf, Finds, ListsPlan, drafts_at}
 use Rattle.office_desk.specs.Reading.{set_of_rows}
 use Rattle.office_desk.specs.StandFor.{StandForSound, IsSaid, row_of, said_columns}

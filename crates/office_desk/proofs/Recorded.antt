@@ -29,17 +29,17 @@ use Rattle.office_desk.specs.Answers.{Answers}
 use Rattle.office_desk.specs.Changes.{IsRefused}
 use Rattle.office_desk.specs.Damage.{MeetsAfter, MeetsCabinetDamage}
 use Rattle.office_desk.specs.Deciding.{IsDecision}
-use Rattle.office_desk.specs.Office.{Office, Intersection}
+use Rattle.office_machine.specs.Office.{Office, Intersection}
 use Rattle.office_desk.specs.Named.{RefusesBy, number_of, numbers_about, numbers_of}
 use Rattle.office_desk.specs.Recording.{HasDamagedAbout, IsKnownIn, TellsAbout}
 use Rattle.office_desk.specs.StandFor.{StandForSound, row_of}
-use Rattle.office_desk.specs.Step.{cabinet_of, cabinet_shown, is_known, known, recorded, recorded_at, refusal_of_record, shown, told}
-use Rattle.office_desk.specs.declared.command.Command.TheVariants as command
+use Rattle.office_machine.specs.Step.{cabinet_of, cabinet_shown, is_known, known, recorded, recorded_at, refusal_of_record, shown, told}
+use Rattle.office_machine.specs.declared.command.Command.TheVariants as command
 use Rattle.office_desk.specs.declared.decided.Decided.{Decided}
-use Rattle.office_desk.specs.declared.refusal.Refusal.{Refusal}
-use Rattle.office_desk.specs.declared.refusal.Refusal.TheVariants as refusal
-use Rattle.office_desk.specs.declared.reply.Reply.{Reply}
-use Rattle.office_desk.specs.declared.reply.Reply.TheVariants as reply
+use Rattle.office_machine.specs.declared.refusal.Refusal.{Refusal}
+use Rattle.office_machine.specs.declared.refusal.Refusal.TheVariants as refusal
+use Rattle.office_machine.specs.declared.reply.Reply.{Reply}
+use Rattle.office_machine.specs.declared.reply.Reply.TheVariants as reply
 use Rattle.office_desk.proofs.Decisions.{refuses_so}
 use Rattle.office_desk.proofs.Shown.{query_answers}
 use Rattle.office_desk.proofs.Stands.{row_read}

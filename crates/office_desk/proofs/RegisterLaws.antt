@@ -10,17 +10,17 @@ use Rattle.cabinet_core.specs.Register.{Register}
 use Rattle.cabinet_core.specs.Runs.{AreAccepted}
 use Rattle.cabinet_core.specs.Step.{line_at, with_record, after_line}
 use Rattle.cabinet_core.proofs.RecordLaws.{open_law, stock_law}
-use Rattle.office_desk.specs.Office.{Office, Intersection, IsSound}
+use Rattle.office_machine.specs.Office.{Office, Intersection, IsSound}
 use Rattle.office_desk.proofs.Imports.{import_goes_on}
 use Rattle.office_desk.proofs.ShownRegister.{IsTidy, accepted_more, accepted_tidy, open_shown, sound_tidy, stock_shown}
-use Rattle.office_desk.specs.RegisterRuns.{is_accepted, records_asked, accepted_of, accepted, new_by, new_among, RegisterRuns, ShowsAccepted, ShowAccepted}
-use Rattle.office_desk.specs.Step.{Step, Run, answered, added, moved, shown, transacted, told, recorded, recorded_at, known, cabinet_of, is_known, with_recorded, import_from, imported}
-use Rattle.office_desk.specs.declared.command.Command.{Command}
-use Rattle.office_desk.specs.declared.command.Command.TheVariants as command
-use Rattle.office_desk.specs.declared.refusal.Refusal.{Refusal}
-use Rattle.office_desk.specs.declared.refusal.Refusal.TheVariants.{Unavailable}
-use Rattle.office_desk.specs.declared.reply.Reply.{Reply}
-use Rattle.office_desk.specs.declared.reply.Reply.TheVariants.{OpenOrders, Refused}
+use Rattle.office_machine.specs.RegisterRuns.{is_accepted, records_asked, accepted_of, accepted, new_by, new_among, RegisterRuns, ShowsAccepted, ShowAccepted}
+use Rattle.office_machine.specs.Step.{Step, Run, answered, added, moved, shown, transacted, told, recorded, recorded_at, known, cabinet_of, is_known, with_recorded, import_from, imported}
+use Rattle.office_machine.specs.declared.command.Command.{Command}
+use Rattle.office_machine.specs.declared.command.Command.TheVariants as command
+use Rattle.office_machine.specs.declared.refusal.Refusal.{Refusal}
+use Rattle.office_machine.specs.declared.refusal.Refusal.TheVariants.{Unavailable}
+use Rattle.office_machine.specs.declared.reply.Reply.{Reply}
+use Rattle.office_machine.specs.declared.reply.Reply.TheVariants.{OpenOrders, Refused}
 
 -- ---- one step
 

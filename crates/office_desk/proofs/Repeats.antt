@@ -10,15 +10,15 @@ use Rattle.draft_core.specs.Transaction.{TimingSide, begun, edited, verified, ch
 use Rattle.draft_core.specs.declared.refusal.DraftRefusal.{DraftRefusal}
 use Rattle.cabinet_core.specs.Step.{line_at, with_record, after_line}
 use Rattle.cabinet_core.proofs.RecordKept.{same_after, same_kept}
-use Rattle.office_desk.specs.Office.{Office, Intersection}
-use Rattle.office_desk.specs.Repeats.{IsRepeat, AreRepeats, Repeats}
-use Rattle.office_desk.specs.Step.{Step, Run, answered, added, moved, transacted, with_intersection, new_intersection, recorded, recorded_at, known, cabinet_of, is_known, with_recorded, import_by, import_from, imported}
-use Rattle.office_desk.specs.declared.command.Command.{Command}
-use Rattle.office_desk.specs.declared.command.Command.TheVariants as command
-use Rattle.office_desk.specs.declared.refusal.Refusal.{Refusal}
-use Rattle.office_desk.specs.declared.refusal.Refusal.TheVariants.{Unavailable}
-use Rattle.office_desk.specs.declared.reply.Reply.{Reply}
-use Rattle.office_desk.specs.declared.reply.Reply.TheVariants.{Imported, Refused}
+use Rattle.office_machine.specs.Office.{Office, Intersection}
+use Rattle.office_machine.specs.Repeats.{IsRepeat, AreRepeats, Repeats}
+use Rattle.office_machine.specs.Step.{Step, Run, answered, added, moved, transacted, with_intersection, new_intersection, recorded, recorded_at, known, cabinet_of, is_known, with_recorded, import_by, import_from, imported}
+use Rattle.office_machine.specs.declared.command.Command.{Command}
+use Rattle.office_machine.specs.declared.command.Command.TheVariants as command
+use Rattle.office_machine.specs.declared.refusal.Refusal.{Refusal}
+use Rattle.office_machine.specs.declared.refusal.Refusal.TheVariants.{Unavailable}
+use Rattle.office_machine.specs.declared.reply.Reply.{Reply}
+use Rattle.office_machine.specs.declared.reply.Reply.TheVariants.{Imported, Refused}
 use Rattle.office_desk.proofs.Imports.{import_goes_on}
 
 -- ---- records that are there

@@ -22,18 +22,18 @@ use Rattle.office_tables_shelf.specs.declared.rows.IntersectionRow.{Intersection
 use Rattle.office_tables_shelf.specs.declared.rows.RowChange.{RowChange}
 use Rattle.office_desk.specs.Answers.{Answers}
 use Rattle.office_desk.specs.Decisions.{row_shown, IsVerdictOf, ShowsDraft}
-use Rattle.office_desk.specs.Office.{Office, Intersection, IsSoundIntersection, side_of}
+use Rattle.office_machine.specs.Office.{Office, Intersection, IsSoundIntersection, side_of}
 use Rattle.office_desk.specs.Reading.{AreWithin, FoundStands, Finds, FindsAny, drafts_at}
 use Rattle.office_desk.specs.Reading.{set_of_rows}
 use Rattle.office_desk.specs.StandFor.{StandForSound, row_of}
-use Rattle.office_desk.specs.Step.{answered, shown, state_shown, draft_shown, timing_shown}
-use Rattle.office_desk.specs.declared.command.Command.{Command}
-use Rattle.office_desk.specs.declared.command.Command.TheVariants as command
+use Rattle.office_machine.specs.Step.{answered, shown, state_shown, draft_shown, timing_shown}
+use Rattle.office_machine.specs.declared.command.Command.{Command}
+use Rattle.office_machine.specs.declared.command.Command.TheVariants as command
 use Rattle.office_desk.specs.declared.reading.Found.{Found}
 use Rattle.draft_core.specs.declared.refusal.DraftRefusal.TheVariants as draft
-use Rattle.office_desk.specs.declared.refusal.Refusal.TheVariants as refusal
-use Rattle.office_desk.specs.declared.reply.Reply.{Reply}
-use Rattle.office_desk.specs.declared.reply.Reply.TheVariants as reply
+use Rattle.office_machine.specs.declared.refusal.Refusal.TheVariants as refusal
+use Rattle.office_machine.specs.declared.reply.Reply.{Reply}
+use Rattle.office_machine.specs.declared.reply.Reply.TheVariants as reply
 use Rattle.office_desk.proofs.Stands.{row_read}
 use Rattle.office_desk.proofs.ReadBack.{committed_read}
 use Rattle.office_desk.proofs.TimingCount.{committed_counted}

@@ -24,7 +24,7 @@ use Rattle.cabinet_core.specs.Runs.{AreAccepted, open_by, received_by, spent_by}
 use Rattle.cabinet_core.specs.Sound.{IsOrderAt, IsSoundRegister}
 use Rattle.cabinet_core.specs.Step.{line_at, with_closed, with_record}
 use Rattle.cabinet_core.specs.Stock.{IsStocked, delivered, hand_of, pieces, stock_by_code, stock_of, used}
-use Rattle.office_desk.specs.RegisterRuns.{is_among, pieces_in}
+use Rattle.office_machine.specs.RegisterRuns.{is_among, pieces_in}
 
 -- ---- what stays over records that are accepted
 

@@ -28,9 +28,9 @@ use Rattle.office_tables_shelf.specs.declared.rows.IntersectionRow.{Intersection
 use Rattle.draft_core.specs.declared.timing.Reach.{Reach}
 use Rattle.draft_core.specs.declared.timing.Reach.TheVariants as reach
 use Rattle.office_desk.specs.Damage.{HasDamageIn, HasDamagedPlan}
-use Rattle.office_desk.specs.Office.{Office, Intersection, IsSound, IsSoundIntersection, IsSoundDraft, AreRecords, side_at, side_of}
+use Rattle.office_machine.specs.Office.{Office, Intersection, IsSound, IsSoundIntersection, IsSoundDraft, AreRecords, side_at, side_of}
 use Rattle.office_desk.specs.StandFor.{StandFor, StandForSound, DraftRowStands, HasTimingKeys, IsSaid, row_of, columns_of, said_columns}
-use Rattle.office_desk.specs.Step.{with_intersection}
+use Rattle.office_machine.specs.Step.{with_intersection}
 use Rattle.office_desk.proofs.EmptySet.{no_records}
 use Rattle.office_desk.proofs.KeptRegister.{KeepsRegister, still_stands}
 use Rattle.office_desk.proofs.Rows.{read_from_cells}

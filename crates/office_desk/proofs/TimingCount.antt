@@ -20,7 +20,7 @@ use Rattle.office_tables_shelf.proofs.CellLemmas.{cell_total, cells_total, cells
 use Rattle.office_tables_shelf.proofs.ListLemmas.{both, parts}
 use Rattle.office_tables_shelf.proofs.TreeLemmas.{timing_order, timing_ties}
 use Rattle.office_desk_cabinet.proofs.Undamaged.{of_tells}
-use Rattle.office_desk.specs.Office.{Office, side_at}
+use Rattle.office_machine.specs.Office.{Office, side_at}
 use Rattle.office_desk.specs.StandFor.{StandForSound}
 
 -- ---- the cells of a set's rows

@@ -16,16 +16,16 @@ use Rattle.draft_core.specs.declared.revision.TheConstants.{LAST_REVISION}
 use Rattle.draft_core.specs.declared.state.Stage.{Stage}
 use Rattle.draft_core.specs.declared.state.Stage.TheVariants.{Transaction, Done}
 use Rattle.draft_core.proofs.Sound.{owned_inverts}
-use Rattle.office_desk.specs.Office.{Office, Intersection, side_of, side_at}
+use Rattle.office_machine.specs.Office.{Office, Intersection, side_of, side_at}
 use Rattle.cabinet_core.specs.declared.command.RecordCommand.{RecordCommand}
 use Rattle.cabinet_core.specs.Step.{line_at}
-use Rattle.office_desk.specs.Step.{Step, Run, answered, added, moved, transacted, with_intersection, new_intersection, cabinet_of, known, recorded, recorded_at, is_known, with_recorded, import_from, imported}
-use Rattle.office_desk.specs.Timing.{is_commit_of, is_moved, set_of_draft, running}
-use Rattle.office_desk.specs.declared.command.Command.{Command}
-use Rattle.office_desk.specs.declared.command.Command.TheVariants as command
+use Rattle.office_machine.specs.Step.{Step, Run, answered, added, moved, transacted, with_intersection, new_intersection, cabinet_of, known, recorded, recorded_at, is_known, with_recorded, import_from, imported}
+use Rattle.office_machine.specs.Timing.{is_commit_of, is_moved, set_of_draft, running}
+use Rattle.office_machine.specs.declared.command.Command.{Command}
+use Rattle.office_machine.specs.declared.command.Command.TheVariants as command
 use Rattle.office_desk.proofs.Imports.{import_goes_on}
-use Rattle.office_desk.specs.declared.reply.Reply.{Reply}
-use Rattle.office_desk.specs.declared.refusal.Refusal.{Refusal}
+use Rattle.office_machine.specs.declared.reply.Reply.{Reply}
+use Rattle.office_machine.specs.declared.refusal.Refusal.{Refusal}
 
 -- ---- the lines of the table
 

@@ -39,18 +39,18 @@ use Rattle.office_desk.specs.Damage.{HasDamageIn, MeetsDamage}
 use Rattle.office_desk.specs.Deciding.{Decides, IsDecision}
 use Rattle.office_desk.specs.Moving.{WritesMove, WritesDecision, moved_row, row_changes_of}
 use Rattle.office_desk.specs.Named.{RefusesBy, number_of, numbers_of}
-use Rattle.office_desk.specs.Office.{Office, Intersection, IsSoundIntersection}
+use Rattle.office_machine.specs.Office.{Office, Intersection, IsSoundIntersection}
 use Rattle.office_desk.specs.Reading.{FoundStands, Finds, FindsAny, ListsFound, drafts_at}
 use Rattle.office_desk.specs.StandFor.{StandForSound}
-use Rattle.office_desk.specs.Step.{answered, transacted, moved, moved_to, refusal_of_draft, with_intersection}
+use Rattle.office_machine.specs.Step.{answered, transacted, moved, moved_to, refusal_of_draft, with_intersection}
 use Rattle.office_desk.specs.Transacting.{command_of, first_refusal, line_of, reach_of}
 use Rattle.office_desk.specs.Transacting.{IsAskWithin, IsBounded, IsLater, most_committed}
 use Rattle.office_desk.specs.Transacting.{most_drafted}
 use Rattle.office_desk.specs.declared.decided.Decided.{Decided}
 use Rattle.office_desk.specs.declared.reading.Found.{Found}
-use Rattle.office_desk.specs.declared.refusal.Refusal.TheVariants as refusal
-use Rattle.office_desk.specs.declared.reply.Reply.{Reply}
-use Rattle.office_desk.specs.declared.reply.Reply.TheVariants.{Moved, Refused}
+use Rattle.office_machine.specs.declared.refusal.Refusal.TheVariants as refusal
+use Rattle.office_machine.specs.declared.reply.Reply.{Reply}
+use Rattle.office_machine.specs.declared.reply.Reply.TheVariants.{Moved, Refused}
 use Rattle.office_desk.specs.declared.transacting.Ask.{Ask}
 use Rattle.office_desk.specs.declared.transacting.Ask.TheVariants.{Begin, Edit, Verify, Check, Commit, Reopen, Abandon}
 use Rattle.office_desk.proofs.Decisions.{refuses_so, unknown_decides}

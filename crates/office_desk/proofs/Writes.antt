@@ -13,8 +13,8 @@ use Rattle.office_tables_shelf.specs.declared.rows.Table.TheVariants as table
 use Rattle.office_desk_cabinet.specs.Registers.{most_record_writes}
 use Rattle.office_desk.specs.Changes.{RiseAtMost, most_import_writes, most_writes}
 use Rattle.office_tables_shelf.specs.Counts.{is_same_table, writes_in}
-use Rattle.office_desk.specs.declared.command.Command.{Command}
-use Rattle.office_desk.specs.declared.command.Command.TheVariants as command
+use Rattle.office_machine.specs.declared.command.Command.{Command}
+use Rattle.office_machine.specs.declared.command.Command.TheVariants as command
 
 capped : (n : ℕ) → counted n ≤ n + 1
 capped n = grind (arith, nat_tests)

@@ -6,11 +6,11 @@ use Rattle.signal_records.specs.Words.{AreWords}
 use Rattle.office_tables_shelf.specs.declared.rows.IntersectionRow.{IntersectionRow}
 use Rattle.office_tables_shelf.specs.declared.rows.RowChange.{RowChange}
 use Rattle.office_tables_shelf.specs.declared.rows.RowChange.TheVariants.{PutIntersection}
-use Rattle.office_desk.specs.declared.reply.Reply.{Reply}
-use Rattle.office_desk.specs.declared.reply.Reply.TheVariants.{Added, Same, Refused}
-use Rattle.office_desk.specs.declared.refusal.Refusal.TheVariants.{IntersectionDiffers}
+use Rattle.office_machine.specs.declared.reply.Reply.{Reply}
+use Rattle.office_machine.specs.declared.reply.Reply.TheVariants.{Added, Same, Refused}
+use Rattle.office_machine.specs.declared.refusal.Refusal.TheVariants.{IntersectionDiffers}
 use Rattle.office_desk.specs.StandFor.{row_of}
-use Rattle.office_desk.specs.Step.{new_intersection}
+use Rattle.office_machine.specs.Step.{new_intersection}
 
 -- a number, a name and an interval within their limits
 pub record AreLimited (id : ℕ) (bytes : List ℕ) (days : ℕ) : Type 0 where

@@ -1,13 +1,13 @@
 -- What it means that a command was answered rightly, on tables that stand for an office.
 use Rattle.std.specs.Prelude.{◌≡◌, ℕ, List}
 use Rattle.office_tables_shelf.specs.Content.{Content}
-use Rattle.office_desk.specs.declared.command.Command.{Command}
-use Rattle.office_desk.specs.declared.reply.Reply.{Reply}
-use Rattle.office_desk.specs.Office.{Office, side_at}
-use Rattle.office_desk.specs.Step.{AreSound, Step, Run, answered}
-use Rattle.office_desk.specs.Timing.{running}
-use Rattle.office_desk.specs.RegisterRuns.{RegisterRuns}
-use Rattle.office_desk.specs.Repeats.{Repeats}
+use Rattle.office_machine.specs.declared.command.Command.{Command}
+use Rattle.office_machine.specs.declared.reply.Reply.{Reply}
+use Rattle.office_machine.specs.Office.{Office, side_at}
+use Rattle.office_machine.specs.Step.{AreSound, Step, Run, answered}
+use Rattle.office_machine.specs.Timing.{running}
+use Rattle.office_machine.specs.RegisterRuns.{RegisterRuns}
+use Rattle.office_machine.specs.Repeats.{Repeats}
 use Rattle.office_desk.specs.StandFor.{StandForSound}
 
 -- From an office, the reply is that of a step, and the tables stand for a sound office after it.

@@ -11,12 +11,12 @@ use Rattle.office_desk_cabinet.specs.Registers.{IsOneOf}
 use Rattle.office_desk.specs.Damage.{MeetsImportDamage}
 use Rattle.office_desk.specs.Named.{number_of, numbers_of}
 use Rattle.office_desk.specs.Recording.{TellsAbout}
-use Rattle.office_desk.specs.Step.{cabinet_of, refusal_of_record}
-use Rattle.office_desk.specs.declared.command.Command.{Command}
-use Rattle.office_desk.specs.declared.command.Command.TheVariants.{Import, Record}
-use Rattle.office_desk.specs.declared.refusal.Refusal.TheVariants.{ImportRow}
-use Rattle.office_desk.specs.declared.reply.Reply.{Reply}
-use Rattle.office_desk.specs.declared.reply.Reply.TheVariants.{Refused}
+use Rattle.office_machine.specs.Step.{cabinet_of, refusal_of_record}
+use Rattle.office_machine.specs.declared.command.Command.{Command}
+use Rattle.office_machine.specs.declared.command.Command.TheVariants.{Import, Record}
+use Rattle.office_machine.specs.declared.refusal.Refusal.TheVariants.{ImportRow}
+use Rattle.office_machine.specs.declared.reply.Reply.{Reply}
+use Rattle.office_machine.specs.declared.reply.Reply.TheVariants.{Refused}
 
 -- ---- records in turn, on tables with rows that are pending, whatever else is stored
 

@@ -15,15 +15,15 @@ use Rattle.office_tables_shelf.specs.CabinetReads.{HasDamagedOrder, HasDamagedPa
 use Rattle.cabinet_core.specs.declared.command.RecordCommand.{RecordCommand}
 use Rattle.office_desk_cabinet.specs.RegisterDamage.{HasDamagedCabinet, MeetsRecordDamage}
 use Rattle.office_desk.specs.Changes.{IsRefused}
-use Rattle.office_desk.specs.Step.{cabinet_of}
+use Rattle.office_machine.specs.Step.{cabinet_of}
 use Rattle.office_desk.specs.Transacting.{edit_of, reach_of}
 use Rattle.office_desk.specs.declared.transacting.Ask.{Ask}
 use Rattle.office_desk.specs.declared.transacting.Ask.TheVariants as ask
-use Rattle.office_desk.specs.declared.command.Command.{Command}
-use Rattle.office_desk.specs.declared.command.Command.TheVariants as command
-use Rattle.office_desk.specs.declared.refusal.Refusal.TheVariants as refusal
-use Rattle.office_desk.specs.declared.reply.Reply.{Reply}
-use Rattle.office_desk.specs.declared.reply.Reply.TheVariants.{Refused}
+use Rattle.office_machine.specs.declared.command.Command.{Command}
+use Rattle.office_machine.specs.declared.command.Command.TheVariants as command
+use Rattle.office_machine.specs.declared.refusal.Refusal.TheVariants as refusal
+use Rattle.office_machine.specs.declared.reply.Reply.{Reply}
+use Rattle.office_machine.specs.declared.reply.Reply.TheVariants.{Refused}
 
 abbrev pub IsImport : Command → Type 0
 IsImport (command.Import records) = Unit {0}

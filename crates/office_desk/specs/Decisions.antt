@@ -12,13 +12,13 @@ use Rattle.office_tables_shelf.specs.declared.shelf.ShelfFault.TheVariants.{NoMe
 use Rattle.std.specs.FinMap.{get}
 use Rattle.office_tables_shelf.specs.Content.{Content}
 use Rattle.office_desk.specs.declared.reading.Found.{Found}
-use Rattle.office_desk.specs.declared.reply.IntersectionState.{IntersectionState}
-use Rattle.office_desk.specs.declared.reply.Reply.{Reply}
-use Rattle.office_desk.specs.declared.refusal.Refusal.{Refusal}
-use Rattle.office_desk.specs.declared.refusal.Refusal.TheVariants.{Unavailable, Damaged}
-use Rattle.office_desk.specs.Office.{Office, Intersection}
+use Rattle.office_machine.specs.declared.reply.IntersectionState.{IntersectionState}
+use Rattle.office_machine.specs.declared.reply.Reply.{Reply}
+use Rattle.office_machine.specs.declared.refusal.Refusal.{Refusal}
+use Rattle.office_machine.specs.declared.refusal.Refusal.TheVariants.{Unavailable, Damaged}
+use Rattle.office_machine.specs.Office.{Office, Intersection}
 use Rattle.office_desk.specs.StandFor.{StandForSound, row_of}
-use Rattle.office_desk.specs.Step.{draft_shown}
+use Rattle.office_machine.specs.Step.{draft_shown}
 
 -- how a fault of the shelf is answered
 abbrev pub refusal_of : ShelfFault → Refusal

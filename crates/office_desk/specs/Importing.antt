@@ -9,19 +9,19 @@ use Rattle.cabinet_core.specs.Step.{line_at, with_record}
 use Rattle.cabinet_core.specs.Cabinet.{added as added_line, same as same_line}
 use Rattle.office_desk_cabinet.specs.Registers.{IsOneOf, LeavesTiming}
 use Rattle.office_desk_cabinet.specs.RegisterStands.{RegisterStandsSound}
-use Rattle.office_desk.specs.Office.{Office}
+use Rattle.office_machine.specs.Office.{Office}
 use Rattle.office_desk_cabinet.specs.RegisterDamage.{KeepsDamage, MeetsRecordDamage}
 use Rattle.office_desk.specs.Blaming.{FollowsLine, IsRefusedAfter}
 use Rattle.office_desk.specs.Named.{number_of, numbers_of}
 use Rattle.office_desk.specs.Recording.{HasDamagedAbout, TellsAbout}
-use Rattle.office_desk.specs.Refusal.{line_of}
+use Rattle.office_machine.specs.Refusal.{line_of}
 use Rattle.office_desk.specs.StandFor.{StandForSound}
-use Rattle.office_desk.specs.Step.{cabinet_of, import_by, import_from, is_known}
-use Rattle.office_desk.specs.declared.command.Command.TheVariants as command
+use Rattle.office_machine.specs.Step.{cabinet_of, import_by, import_from, is_known}
+use Rattle.office_machine.specs.declared.command.Command.TheVariants as command
 use Rattle.office_desk.specs.declared.importing.Taken.{Taken}
 use Rattle.office_desk.specs.declared.importing.Taken.TheVariants.{Added, Same, Refused}
-use Rattle.office_desk.specs.declared.refusal.Refusal.{Refusal}
-use Rattle.office_desk.specs.declared.refusal.Refusal.TheVariants.{ImportRow}
+use Rattle.office_machine.specs.declared.refusal.Refusal.{Refusal}
+use Rattle.office_machine.specs.declared.refusal.Refusal.TheVariants.{ImportRow}
 
 -- of whatever tables, rows of the register alone are written
 abbrev pub LeavesAnyTiming : List RowChange → Type 0

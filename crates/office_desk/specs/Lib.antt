@@ -1,10 +1,4 @@
-pub mod Refusal
-pub use Rattle.office_tables_shelf.specs.Office
-pub mod Step
 pub use Rattle.office_tables_shelf.specs.StandFor
-pub mod Timing
-pub mod RegisterRuns
-pub mod Repeats
 pub mod Answers
 pub mod Changes
 pub mod Recording

@@ -11,9 +11,9 @@ use Rattle.office_tables_shelf.specs.declared.rows.IntersectionRow.{Intersection
 use Rattle.office_tables_shelf.specs.declared.rows.RowChange.{RowChange}
 use Rattle.office_tables_shelf.specs.declared.rows.RowChange.TheVariants.{PutIntersection, PutTiming, RemoveTiming, PutDraft, RemoveDraft}
 use Rattle.office_desk.specs.declared.reading.Found.{Found}
-use Rattle.office_desk.specs.declared.reply.Reply.{Reply}
-use Rattle.office_desk.specs.declared.reply.Reply.TheVariants.{Moved, Refused}
-use Rattle.office_desk.specs.Step.{refusal_of_draft}
+use Rattle.office_machine.specs.declared.reply.Reply.{Reply}
+use Rattle.office_machine.specs.declared.reply.Reply.TheVariants.{Moved, Refused}
+use Rattle.office_machine.specs.Step.{refusal_of_draft}
 
 -- a change of an intersection's timing side, as a row
 abbrev pub row_change_of : ℕ → TimingChange → RowChange

@@ -1,14 +1,14 @@
 -- Which refusals are named for a command, by their numbers in the table.
 use Rattle.std.specs.Prelude.{◌≡◌, ◌⊎◌, ℕ, List, [], ◌∷◌, map, Option, Some, None}
 use Rattle.office_desk_cabinet.specs.Registers.{IsOneOf, refusals_of}
-use Rattle.office_desk.specs.Refusal.{line_of}
-use Rattle.office_desk.specs.Step.{cabinet_of, refusal_of_record}
-use Rattle.office_desk.specs.declared.command.Command.{Command}
-use Rattle.office_desk.specs.declared.command.Command.TheVariants as command
-use Rattle.office_desk.specs.declared.refusal.Refusal.{Refusal}
-use Rattle.office_desk.specs.declared.refusal.Refusal.TheVariants.{Unavailable, Damaged}
-use Rattle.office_desk.specs.declared.reply.Reply.{Reply}
-use Rattle.office_desk.specs.declared.reply.Reply.TheVariants.{Refused}
+use Rattle.office_machine.specs.Refusal.{line_of}
+use Rattle.office_machine.specs.Step.{cabinet_of, refusal_of_record}
+use Rattle.office_machine.specs.declared.command.Command.{Command}
+use Rattle.office_machine.specs.declared.command.Command.TheVariants as command
+use Rattle.office_machine.specs.declared.refusal.Refusal.{Refusal}
+use Rattle.office_machine.specs.declared.refusal.Refusal.TheVariants.{Unavailable, Damaged}
+use Rattle.office_machine.specs.declared.reply.Reply.{Reply}
+use Rattle.office_machine.specs.declared.reply.Reply.TheVariants.{Refused}
 
 abbrev pub number_of : Refusal → ℕ
 number_of why = (line_of why).number

@@ -16,7 +16,7 @@ use Rattle.office_tables_shelf.specs.Content.{Content}
 use Rattle.office_tables_shelf.specs.Shelf.{ListsDraft, ListsTiming}
 use Rattle.office_tables_shelf.specs.declared.rows.IntersectionRow.{IntersectionRow}
 use Rattle.office_desk.specs.declared.reading.Found.{Found}
-use Rattle.office_desk.specs.Office.{Intersection, Office}
+use Rattle.office_machine.specs.Office.{Intersection, Office}
 use Rattle.office_desk.specs.StandFor.{StandFor, StandForSound}
 
 -- each row is within its limits

@@ -4,9 +4,9 @@ use Rattle.std.specs.FinMap.{get}
 use Rattle.office_tables_shelf.specs.Content.{Content}
 use Rattle.office_tables_shelf.specs.Damage.{HasDamagedIntersection}
 use Rattle.office_tables_shelf.specs.Rows.{intersection_key}
-use Rattle.office_desk.specs.Office.{Office}
+use Rattle.office_machine.specs.Office.{Office}
 use Rattle.office_desk.specs.StandFor.{StandForSound}
-use Rattle.office_desk.specs.Step.{is_known}
+use Rattle.office_machine.specs.Step.{is_known}
 
 -- in whichever sound office the tables stand for
 abbrev pub IsKnownIn : Content → Option ℕ → Bool → Type 0

@@ -8,10 +8,10 @@ use Rattle.office_desk.specs.Damage.{IsTurnedAway, MeetsDamage}
 use Rattle.office_desk.specs.Deciding.{IsIdle}
 use Rattle.office_desk.specs.Named.{IsNamedFor}
 use Rattle.office_desk.specs.Blaming.{BlamesRightly}
-use Rattle.office_desk.specs.declared.command.Command.{Command}
-use Rattle.office_desk.specs.declared.refusal.Refusal.TheVariants.{Damaged, Unavailable}
-use Rattle.office_desk.specs.declared.reply.Reply.{Reply}
-use Rattle.office_desk.specs.declared.reply.Reply.TheVariants.{Refused}
+use Rattle.office_machine.specs.declared.command.Command.{Command}
+use Rattle.office_machine.specs.declared.refusal.Refusal.TheVariants.{Damaged, Unavailable}
+use Rattle.office_machine.specs.declared.reply.Reply.{Reply}
+use Rattle.office_machine.specs.declared.reply.Reply.TheVariants.{Refused}
 
 -- What is said of a reply and of the rows that were written, with no word of the new tables.
 pub record IsReply (is_clean : Type 0) (tables : Content) (command : Command) (reply : Reply) (before after : WriteCounts) : Type 0 where

@@ -11,8 +11,8 @@ use Rattle.draft_core.specs.declared.state.Stage.TheVariants as stage
 use Rattle.draft_core.specs.declared.timing.Reach.{Reach}
 use Rattle.draft_core.specs.declared.timing.Reach.TheVariants as reach
 use Rattle.draft_core.specs.declared.timing.TimingChange.{TimingChange}
-use Rattle.office_desk.specs.declared.command.Command.{Command}
-use Rattle.office_desk.specs.declared.command.Command.TheVariants as command
+use Rattle.office_machine.specs.declared.command.Command.{Command}
+use Rattle.office_machine.specs.declared.command.Command.TheVariants as command
 use Rattle.office_desk.specs.declared.transacting.Ask.{Ask}
 use Rattle.office_desk.specs.declared.transacting.Ask.TheVariants.{Begin, Edit, Verify, Check, Commit, Reopen, Abandon}
 

@@ -4,12 +4,12 @@ ghost use Rattle.office_tables_shelf.specs.Shelf.{AnswersOpen, IsKept};
 ghost use Rattle.office_desk.specs.Adding.{AddsRow};
 ghost use Rattle.office_desk.specs.Deciding.{Decides};
 
-use crate::command::Command;
 use crate::decided::Decided;
 use crate::reading::intersection_row;
-use crate::refusal::Refusal;
-use crate::reply::Reply;
 use draft_core::revision::Revision;
+use office_machine::command::Command;
+use office_machine::refusal::Refusal;
+use office_machine::reply::Reply;
 use office_tables_shelf::rows::{IntersectionRow, RowChange};
 use office_tables_shelf::shelf::{Shelf, ShelfFault};
 use signal_records::{InterId, Interval, NoMemory, Words};

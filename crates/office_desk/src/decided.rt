@@ -1,7 +1,7 @@
 //! A reply, and what is to be written for it.
 
-use crate::refusal::Refusal;
-use crate::reply::Reply;
+use office_machine::refusal::Refusal;
+use office_machine::reply::Reply;
 use office_tables_shelf::rows::RowChange;
 use std::alloc::Global;
 

@@ -7,15 +7,15 @@ ghost use Rattle.office_desk.specs.Deciding.{AddsNothing, Decides};
 ghost use Rattle.office_desk.specs.Decisions.{refusal_of};
 
 use crate::adding::decide_add;
-use crate::command::Command;
 use crate::decided::Decided;
 use crate::importing::decide_import;
 use crate::overdue::decide_overdue;
 use crate::recording::decide_record_command;
-use crate::refusal::Refusal;
 use crate::register_showing::{decide_cabinet, decide_open_orders, decide_stock};
 use crate::showing::{decide_draft, decide_state, decide_timing};
 use crate::transacting::{Ask, transact};
+use office_machine::command::Command;
+use office_machine::refusal::Refusal;
 use office_tables_shelf::shelf::{Shelf, ShelfFault};
 use std::alloc::Global;
 

@@ -10,16 +10,16 @@ ghost use Rattle.office_desk.specs.Deciding.{AddsNothing, Decides};
 ghost use Rattle.office_desk.specs.Damage.{MeetsCabinetDamage};
 ghost use Rattle.office_desk.specs.Importing.{IsNamedTaken, LeavesAnyTiming};
 ghost use Rattle.office_desk.specs.Importing.{TakesLine, TakesRecord, TakesWhole};
-ghost use Rattle.office_desk.specs.Step.{cabinet_of as about_of};
+ghost use Rattle.office_machine.specs.Step.{cabinet_of as about_of};
 
-use crate::command::Command;
 use crate::decided::Decided;
 use crate::recording::{cabinet_of, is_known, refused};
-use crate::records::Records;
-use crate::refusal::Refusal;
-use crate::reply::Reply;
 use cabinet_core::RecordCommand;
 use office_desk_cabinet::{Pending, Registered, decide_record};
+use office_machine::command::Command;
+use office_machine::records::Records;
+use office_machine::refusal::Refusal;
+use office_machine::reply::Reply;
 use office_tables_shelf::shelf::{Shelf, ShelfFault};
 use std::alloc::Global;
 

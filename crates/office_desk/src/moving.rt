@@ -2,13 +2,13 @@
 ghost use Rattle.std.specs.Prelude.{◌≡◌, ◌∷◌, IfOk, OnErr};
 ghost use Rattle.office_desk.specs.Moving.{WantsMemory, WritesDecision, WritesMove};
 ghost use Rattle.office_desk.specs.Moving.{row_change_of, row_changes_of};
-ghost use Rattle.office_desk.specs.Step.{refusal_of_draft};
+ghost use Rattle.office_machine.specs.Step.{refusal_of_draft};
 
 use crate::decided::Decided;
 use crate::reading::Found;
-use crate::refusal::Refusal;
-use crate::reply::Reply;
 use draft_core::{DraftRefusal, Move, TimingChange, TimingChanges, next_holder};
+use office_machine::refusal::Refusal;
+use office_machine::reply::Reply;
 use office_tables_shelf::rows::{IntersectionRow, RowChange};
 use office_tables_shelf::shelf::ShelfFault;
 use signal_records::{Change, InterId, NoMemory, Words};

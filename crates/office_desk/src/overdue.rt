@@ -2,10 +2,10 @@
 ghost use Rattle.office_tables_shelf.specs.Shelf.{AnswersOpen, IsKept};
 ghost use Rattle.office_desk.specs.Deciding.{Decides};
 
-use crate::command::Command;
 use crate::decided::Decided;
-use crate::reply::{OverdueList, Reply};
 use cabinet_core::Day;
+use office_machine::command::Command;
+use office_machine::reply::{OverdueList, Reply};
 use office_tables_shelf::shelf::{Shelf, ShelfFault};
 use std::alloc::Global;
 

@@ -4,7 +4,7 @@ ghost use Rattle.office_tables_shelf.specs.Damage.{HasDamagedIntersection, HasDa
 ghost use Rattle.office_tables_shelf.specs.Shelf.{AnswersOpen, IsKept, ReadsIntersection};
 ghost use Rattle.office_desk_cabinet.specs.Open.{StaysOpen};
 ghost use Rattle.office_desk.specs.Damage.{HasDamageIn, HasDamagedPlan};
-ghost use Rattle.office_desk.specs.Office.{Office, side_at};
+ghost use Rattle.office_machine.specs.Office.{Office, side_at};
 ghost use Rattle.office_desk.specs.Reading.{AreWithin, FindsAny, IsMadeOf};
 ghost use Rattle.office_desk.specs.Reading.{ListsFound, ListsPlan, set_of_rows};
 ghost use Rattle.office_desk.specs.StandFor.{StandForSound};

@@ -2,12 +2,12 @@
 ghost use Rattle.office_tables_shelf.specs.Shelf.{AnswersOpen, IsKept};
 ghost use Rattle.office_desk.specs.Deciding.{Decides};
 
-use crate::command::Command;
 use crate::decided::Decided;
 use crate::recording::is_known;
-use crate::refusal::Refusal;
-use crate::reply::{CabinetShown, OrderNumbers, Reply, Stock};
 use office_desk_cabinet::{cabinet_view, open_orders, stock};
+use office_machine::command::Command;
+use office_machine::refusal::Refusal;
+use office_machine::reply::{CabinetShown, OrderNumbers, Reply, Stock};
 use office_tables_shelf::shelf::{Shelf, ShelfFault};
 use signal_records::InterId;
 use std::alloc::Global;

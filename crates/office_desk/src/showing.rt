@@ -8,15 +8,15 @@ ghost use Rattle.office_desk.specs.Damage.{HasDamage, IsDone};
 ghost use Rattle.office_desk.specs.Decisions.{row_shown, IsVerdictOf, ShowsDraft};
 ghost use Rattle.office_desk.specs.Named.{RefusesBy};
 
-use crate::command::Command;
 use crate::decided::Decided;
 use crate::reading::{Found, find, intersection_row, set_of};
-use crate::refusal::Refusal;
-use crate::reply::{IntersectionState, OpenDraft, Reply, RunningTiming, Violations};
 use draft_core::refusal::DraftRefusal;
 use draft_core::state::{DbState, Holder, Stage, Verdict};
 use draft_core::timing::{Reach, Timing};
 use draft_core::{overlay, verdict};
+use office_machine::command::Command;
+use office_machine::refusal::Refusal;
+use office_machine::reply::{IntersectionState, OpenDraft, Reply, RunningTiming, Violations};
 use office_tables_shelf::rows::IntersectionRow;
 use office_tables_shelf::shelf::{Shelf, ShelfFault};
 use signal_records::{InterId, NoMemory};

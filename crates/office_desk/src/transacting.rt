@@ -10,11 +10,11 @@ ghost use Rattle.office_desk.specs.Transacting.{first_refusal, line_of, reach_of
 use crate::decided::Decided;
 use crate::moving::answer;
 use crate::reading::find;
-use crate::refusal::Refusal;
 use draft_core::changes::Changes;
 use draft_core::decide::{abandon, begin, check, commit, edit, reopen, verify};
 use draft_core::refusal::DraftRefusal;
 use draft_core::timing::{Move, Reach, Timing};
+use office_machine::refusal::Refusal;
 use office_tables_shelf::shelf::{Shelf, ShelfFault};
 use signal_records::{InterId, Words};
 use std::alloc::Global;

@@ -6,13 +6,13 @@ use Rattle.office_tables_shelf.specs.Content.{Content}
 use Rattle.office_tables_shelf.specs.declared.counts.WriteCounts.{WriteCounts}
 use Rattle.office_desk.specs.Answers.{AnswersAny}
 use Rattle.office_desk.specs.Changes.{IsQuery, IsRefused, RiseAtMost}
-use Rattle.office_desk.specs.Office.{Office}
+use Rattle.office_machine.specs.Office.{Office}
 use Rattle.office_desk.specs.StandFor.{StandForSound}
-use Rattle.office_desk.specs.Step.{Step, answered}
-use Rattle.office_desk.specs.declared.command.Command.{Command}
-use Rattle.office_desk.specs.declared.refusal.Refusal.TheVariants.{Unavailable}
-use Rattle.office_desk.specs.declared.reply.Reply.{Reply}
-use Rattle.office_desk.specs.declared.reply.Reply.TheVariants.{Refused}
+use Rattle.office_machine.specs.Step.{Step, answered}
+use Rattle.office_machine.specs.declared.command.Command.{Command}
+use Rattle.office_machine.specs.declared.refusal.Refusal.TheVariants.{Unavailable}
+use Rattle.office_machine.specs.declared.reply.Reply.{Reply}
+use Rattle.office_machine.specs.declared.reply.Reply.TheVariants.{Refused}
 use Rattle.office_desk.proofs.Writes.{no_rise}
 use Rattle.office_http_responses.specs.Answers.{answer_bytes}
 use Rattle.office_http_responses.specs.Faults.{ask_fault_text}

@@ -1,12 +1,12 @@
 -- How a run over requests is a run of the office machine over their commands, and so keeps its laws.
 use Rattle.std.proofs.Common.{◌≡◌, ◌⊎◌, ◌++◌, ℕ, List, [], ◌∷◌, inl, inr, refl, sym, subst}
 use Rattle.std.specs.Prelude.{Result, Ok, Err}
-use Rattle.office_desk.specs.Office.{IsSound, Office}
-use Rattle.office_desk.specs.Step.{AreSound, Run}
-use Rattle.office_desk.specs.declared.command.Command.{Command}
-use Rattle.office_desk.specs.declared.refusal.Refusal.TheVariants.{Unavailable}
-use Rattle.office_desk.specs.declared.reply.Reply.{Reply}
-use Rattle.office_desk.specs.declared.reply.Reply.TheVariants.{Refused}
+use Rattle.office_machine.specs.Office.{IsSound, Office}
+use Rattle.office_machine.specs.Step.{AreSound, Run}
+use Rattle.office_machine.specs.declared.command.Command.{Command}
+use Rattle.office_machine.specs.declared.refusal.Refusal.TheVariants.{Unavailable}
+use Rattle.office_machine.specs.declared.reply.Reply.{Reply}
+use Rattle.office_machine.specs.declared.reply.Reply.TheVariants.{Refused}
 use Rattle.office_desk.proofs.RegisterLaws.{runs_register}
 use Rattle.office_desk.proofs.Repeats.{runs_repeat}
 use Rattle.office_desk.proofs.TimingLaw.{runs_timing}

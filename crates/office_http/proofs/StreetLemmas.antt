@@ -2,7 +2,7 @@
 use Rattle.std.proofs.Common.{◌≡◌, [], Option, Some, None, IfSome}
 use Rattle.std.specs.FinMap.{get}
 use Rattle.office_desk.proofs.EmptySet.{no_violations}
-use Rattle.office_desk.specs.Office.{Intersection, IsSoundIntersection, side_at, side_of}
+use Rattle.office_machine.specs.Office.{Intersection, IsSoundIntersection, side_at, side_of}
 use Rattle.office_http.specs.Laws.{KeepsTheStreet}
 use Rattle.signal_rules.specs.Violations.{violations_of}
 use Rattle.signal_street.proofs.Laws.{street_laws}

@@ -1,14 +1,14 @@
 -- What the requests of a whole stream make of the office: the run of the commands that they ask, and its laws.
 use Rattle.std.specs.Prelude.{◌≡◌, ◌⊎◌, ℕ, List, [], ◌∷◌, ◌++◌, Result, Ok, Err}
-use Rattle.office_desk.specs.Office.{IsSound, Office, side_at}
-use Rattle.office_desk.specs.RegisterRuns.{RegisterRuns}
-use Rattle.office_desk.specs.Repeats.{Repeats}
-use Rattle.office_desk.specs.Step.{AreSound, Run}
-use Rattle.office_desk.specs.Timing.{running}
-use Rattle.office_desk.specs.declared.command.Command.{Command}
-use Rattle.office_desk.specs.declared.refusal.Refusal.TheVariants.{Unavailable}
-use Rattle.office_desk.specs.declared.reply.Reply.{Reply}
-use Rattle.office_desk.specs.declared.reply.Reply.TheVariants.{Refused}
+use Rattle.office_machine.specs.Office.{IsSound, Office, side_at}
+use Rattle.office_machine.specs.RegisterRuns.{RegisterRuns}
+use Rattle.office_machine.specs.Repeats.{Repeats}
+use Rattle.office_machine.specs.Step.{AreSound, Run}
+use Rattle.office_machine.specs.Timing.{running}
+use Rattle.office_machine.specs.declared.command.Command.{Command}
+use Rattle.office_machine.specs.declared.refusal.Refusal.TheVariants.{Unavailable}
+use Rattle.office_machine.specs.declared.reply.Reply.{Reply}
+use Rattle.office_machine.specs.declared.reply.Reply.TheVariants.{Refused}
 use Rattle.office_http_requests.specs.declared.fault.AskFault.{AskFault}
 use Rattle.office_http_framing.specs.Front.{PlainRequest}
 use Rattle.office_http_framing.specs.Stops.{Ran, Storage}

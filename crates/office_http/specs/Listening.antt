@@ -1,6 +1,6 @@
 -- What a listener tells of its calls, and what the office did for its connections.
 use Rattle.std.specs.Prelude.{◌≡◌, ◌≢◌, ℕ, zero, suc, ◌+◌, ◌*◌, ◌<◌, ◌≤◌, List, [], ◌∷◌, ◌++◌, length, map, Option, Some, None, Result, Ok, Err, ⊤}
-use Rattle.office_desk.specs.Office.{Office}
+use Rattle.office_machine.specs.Office.{Office}
 use Rattle.office_http.specs.Laws.{Serves}
 use Rattle.office_http.specs.Protocol.{office_protocol}
 use Rattle.office_http.specs.declared.listening.ListenCounts.{ListenCounts}

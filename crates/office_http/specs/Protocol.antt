@@ -1,11 +1,11 @@
 -- How the office answers requests.
 use Rattle.std.specs.Prelude.{◌≡◌, ◌⊎◌, ℕ, List, Result, Ok, Err}
 use Rattle.office_desk.specs.Changes.{IsQuery, IsRefused, RiseAtMost}
-use Rattle.office_desk.specs.Office.{Office}
+use Rattle.office_machine.specs.Office.{Office}
 use Rattle.office_desk.specs.StandFor.{StandForSound}
-use Rattle.office_desk.specs.Step.{answered}
-use Rattle.office_desk.specs.declared.command.Command.{Command}
-use Rattle.office_desk.specs.declared.reply.Reply.{Reply}
+use Rattle.office_machine.specs.Step.{answered}
+use Rattle.office_machine.specs.declared.command.Command.{Command}
+use Rattle.office_machine.specs.declared.reply.Reply.{Reply}
 use Rattle.office_http_framing.specs.Front.{PlainRequest}
 use Rattle.office_http_framing.specs.Protocol.{Protocol}
 use Rattle.office_http_framing.specs.Stops.{Storage}

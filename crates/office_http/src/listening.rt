@@ -1,7 +1,7 @@
 //! The office served to the connections of a listener, one after another.
 
 ghost use Rattle.std.specs.Prelude.{◌≡◌, ◌↔◌, List, Err, IsTrue, IfOk, OnOk, OnErr, None};
-ghost use Rattle.office_desk.specs.Office.{Office as OfficeState};
+ghost use Rattle.office_machine.specs.Office.{Office as OfficeState};
 ghost use Rattle.office_tables_shelf.specs.Content.{Content};
 ghost use Rattle.office_http_framing.specs.Ends.{no_calls};
 ghost use Rattle.office_http_framing.specs.Serve.{ends_of};

@@ -2,7 +2,7 @@
 
 ghost use Rattle.std.specs.Prelude.{◌≡◌, ◌≢◌, Ok, IsOk, IfOk};
 ghost use Rattle.office_http_responses.specs.Faults.{ask_fault_text};
-ghost use Rattle.office_desk.specs.Office.{Office as OfficeState};
+ghost use Rattle.office_machine.specs.Office.{Office as OfficeState};
 ghost use Rattle.office_tables_shelf.specs.Content.{Content};
 ghost use Rattle.office_http_framing.specs.Front.{PlainRequest};
 ghost use Rattle.office_http_framing.specs.Protocol.{bytes_of};
@@ -11,14 +11,14 @@ ghost use Rattle.office_http_responses.specs.Answers.{answer_bytes};
 ghost use Rattle.office_http.specs.Protocol.{office_protocol, office_storage, read_of};
 
 use office_desk::office::Office;
-use office_desk::refusal::Refusal;
-use office_desk::reply::Reply;
 use office_http_framing::front::{Fault, Request};
 use office_http_framing::machine::{Answer, Machine, Unavailable};
 use office_http_requests::{AskFault, Asked, Form, RouteCache};
 use office_http_responses::{
     answer_of, ask_fault_answer, damaged, framing_fault_answer, unavailable,
 };
+use office_machine::refusal::Refusal;
+use office_machine::reply::Reply;
 use office_tables_shelf::shelf::Shelf;
 use std::alloc::{AllocError, Global};
 
@@ -86,7 +86,7 @@ fn answer_asked<S: Shelf>(
 }
 
 impl<S: Shelf> Machine<StreamTools> for Office<S> {
-    ghost use Rattle.office_desk.specs.Office.{Office as OfficeState};
+    ghost use Rattle.office_machine.specs.Office.{Office as OfficeState};
     ghost use Rattle.office_tables_shelf.specs.Content.{Content};
     ghost use Rattle.office_http.specs.Protocol.{office_protocol, office_storage};
 

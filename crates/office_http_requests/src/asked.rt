@@ -1,6 +1,6 @@
 //! What a request asks.
 
-use office_desk::command::Command;
+use office_machine::command::Command;
 
 /// The form of an answer's content.
 #[derive(Clone, Copy)]

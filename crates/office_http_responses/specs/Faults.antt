@@ -1,7 +1,7 @@
 -- The answers of requests that ask nothing.
 use Rattle.std.specs.Prelude.{◌≡◌, ℕ, ◌≤◌, List, [], ◌∷◌, codes, ◌==◌, if◌then◌else◌, unwrap_or}
 use Rattle.serde_json.specs.Data.{Data}
-use Rattle.office_desk.specs.Refusal.{Line}
+use Rattle.office_machine.specs.Refusal.{Line}
 use Rattle.office_http_framing.specs.declared.front.Fault.{Fault}
 use Rattle.office_http_framing.specs.declared.front.Fault.TheVariants as framing
 use Rattle.office_http_requests.specs.declared.fault.AskFault.{AskFault}

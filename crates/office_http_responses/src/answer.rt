@@ -1,9 +1,9 @@
 //! The bytes of an answer.
 ghost use Rattle.std.specs.Prelude.{◌≡◌, IfOk};
 ghost use Rattle.serde_json.specs.Written.{compact_text};
-ghost use Rattle.office_desk.specs.Refusal.{line_of};
-ghost use Rattle.office_desk.specs.declared.refusal.Refusal.TheVariants.{Damaged};
-ghost use Rattle.office_desk.specs.declared.reply.Reply.TheVariants.{Refused};
+ghost use Rattle.office_machine.specs.Refusal.{line_of};
+ghost use Rattle.office_machine.specs.declared.refusal.Refusal.TheVariants.{Damaged};
+ghost use Rattle.office_machine.specs.declared.reply.Reply.TheVariants.{Refused};
 ghost use Rattle.office_http_requests.specs.declared.asked.Form.{Form};
 ghost use Rattle.office_http_responses.specs.Answers.{answer_bytes, status_of, unavailable_bytes};
 ghost use Rattle.office_http_responses.specs.Trees.{tree_in};
@@ -12,9 +12,9 @@ use crate::head::with_head;
 use crate::reply::write_in_form;
 use http::StatusCode;
 use json::Writer;
-use office_desk::refusal::Refusal;
-use office_desk::reply::Reply;
 use office_http_requests::Form;
+use office_machine::refusal::Refusal;
+use office_machine::reply::Reply;
 use std::alloc::{AllocError, Global};
 
 const UNAVAILABLE: &[u8] =

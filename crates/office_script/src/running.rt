@@ -4,9 +4,9 @@ use crate::script::Line;
 use crate::talking::{Words, told_answer, words};
 use crate::trouble::{Trouble, compare};
 use office_desk::office::Office;
-use office_desk::refusal::Refusal;
-use office_desk::reply::Reply;
 use office_http::{AskFault, Asked, Request, answer_of, command_of};
+use office_machine::refusal::Refusal;
+use office_machine::reply::Reply;
 use office_tables_shelf::shelf::Shelf;
 use std::alloc::Global;
 

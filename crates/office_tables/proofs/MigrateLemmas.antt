@@ -22,7 +22,7 @@ use Rattle.sqlite.specs.Effect.{Database}
 use Rattle.sqlite.specs.State.{State}
 use Rattle.office_tables_shelf.specs.Change.{changed_by, changed}
 use Rattle.office_tables_shelf.specs.Content.{Content}
-use Rattle.office_tables_shelf.specs.Office.{Office, version_1}
+use Rattle.office_machine.specs.Office.{Office, version_1}
 use Rattle.office_tables_shelf.specs.StandFor.{StandForSoundIn}
 use Rattle.office_tables_shelf.specs.declared.rows.RowChange.{RowChange}
 use Rattle.office_tables_sql.specs.Stored.{content_of, content_now}

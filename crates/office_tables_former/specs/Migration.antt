@@ -7,7 +7,7 @@ use Rattle.signal_rules.specs.Violations.{violations_of}
 use Rattle.signal_rules.specs.BeforeLead.{violations_before_lead}
 use Rattle.office_tables_shelf.specs.Cells.{Cell, Rows, rows_by}
 use Rattle.office_tables_shelf.specs.Content.{Content}
-use Rattle.office_tables_shelf.specs.Office.{Office, side_at}
+use Rattle.office_machine.specs.Office.{Office, side_at}
 use Rattle.office_tables_shelf.specs.Rows.{draft_key, draft_columns}
 use Rattle.office_tables_shelf.specs.StandFor.{StandForSound}
 use Rattle.office_tables_former.specs.declared.puts.Migrated.{Migrated}

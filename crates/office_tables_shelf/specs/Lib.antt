@@ -11,5 +11,4 @@ pub mod MapShelf
 pub mod CabinetReads
 pub mod Overdue
 pub mod RegisterStands
-pub mod Office
 pub mod StandFor

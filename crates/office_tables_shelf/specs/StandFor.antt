@@ -13,7 +13,7 @@ use Rattle.office_tables_shelf.specs.Content.{Content}
 use Rattle.office_tables_shelf.specs.Rows.{intersection_key, intersection_columns, timing_key, timing_columns_in, left_columns_in}
 use Rattle.office_tables_shelf.specs.declared.rows.IntersectionRow.{IntersectionRow}
 use Rattle.office_tables_shelf.specs.RegisterStands.{RegisterStands}
-use Rattle.office_tables_shelf.specs.Office.{Office, Intersection, Version, IsSoundIn, side_at, today}
+use Rattle.office_machine.specs.Office.{Office, Intersection, Version, IsSoundIn, side_at, today}
 
 -- the row of an intersection
 abbrev pub row_of : Intersection → IntersectionRow

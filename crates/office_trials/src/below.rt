@@ -4,13 +4,13 @@
 use crate::database::open_new;
 use crate::more::more;
 use cabinet_core::read_day;
-use office_desk::command::Command;
 use office_desk::office::Office;
-use office_desk::reply::Reply;
 use office_http::{
     Asked, Fault, Field, Form, Front, More, answer_of, fault_answer, next_request, unavailable,
 };
 use office_http_framing::laws::{one_front, one_list_of_requests};
+use office_machine::command::Command;
+use office_machine::reply::Reply;
 use office_script::running::{answers, asked, does};
 use office_script::script::{Line, UNAVAILABLE, UNKNOWN, commands};
 use office_script::state::{is_unchanged, state_of};

@@ -4,8 +4,8 @@ use Rattle.office_tables_shelf.specs.Content.{Content}
 use Rattle.office_files.specs.declared.fault.CsvFault.{CsvFault}
 use Rattle.office_files.specs.declared.fault.CsvFault.TheVariants as file
 use Rattle.office_desk.specs.Answers.{AnswersAny, RunsAny}
-use Rattle.office_desk.specs.declared.command.Command.{Command}
-use Rattle.office_desk.specs.declared.reply.Reply.{Reply}
+use Rattle.office_machine.specs.declared.command.Command.{Command}
+use Rattle.office_machine.specs.declared.reply.Reply.{Reply}
 use Rattle.signal_office_reports.specs.declared.fault.Fault.{Fault}
 use Rattle.signal_office_reports.specs.declared.fault.Fault.TheVariants as told
 

@@ -4,7 +4,7 @@ use Rattle.signal_records.specs.TimingSet.{Rows}
 use Rattle.office_tables_shelf.specs.Content.{Content}
 use Rattle.office_files.specs.Timing.{timing_csv_text}
 use Rattle.office_files.specs.Records.{records_csv_text}
-use Rattle.office_desk.specs.declared.reply.CabinetShown.{CabinetShown}
+use Rattle.office_machine.specs.declared.reply.CabinetShown.{CabinetShown}
 use Rattle.signal_office_exchange.specs.Showing.{ShowsTiming, ShowsDraft, ShowsCabinet}
 
 -- the text is the CSV of the committed timing set

@@ -3,9 +3,9 @@ use Rattle.std.specs.Prelude.{◌≡◌, ◌⊎◌, ℕ, List, Result, Ok, Err}
 use Rattle.office_tables_shelf.specs.Content.{Content}
 use Rattle.cabinet_core.specs.declared.command.RecordCommand.{RecordCommand}
 use Rattle.office_files.specs.Records.{commands_of}
-use Rattle.office_desk.specs.declared.command.Command.TheVariants as command
-use Rattle.office_desk.specs.declared.reply.Reply.{Reply}
-use Rattle.office_desk.specs.declared.reply.Reply.TheVariants as reply
+use Rattle.office_machine.specs.declared.command.Command.TheVariants as command
+use Rattle.office_machine.specs.declared.reply.Reply.{Reply}
+use Rattle.office_machine.specs.declared.reply.Reply.TheVariants as reply
 use Rattle.signal_office_reports.specs.declared.fault.Fault.{Fault}
 use Rattle.signal_office_reports.specs.declared.fault.Fault.TheVariants as told
 use Rattle.signal_office_exchange.specs.declared.importing.Imported.{Imported}

@@ -1,9 +1,9 @@
 -- How the program tells what the office refused.
 use Rattle.std.specs.Prelude.{ℕ, ◌==◌, List, [], ◌∷◌, Option, Some, None, find, map}
 use Rattle.cabinet_core.specs.declared.refusal.CabinetRefusal.TheVariants as cabinet
-use Rattle.office_desk.specs.Refusal.{line_of}
-use Rattle.office_desk.specs.declared.refusal.Refusal.{Refusal}
-use Rattle.office_desk.specs.declared.refusal.Refusal.TheVariants as refusal
+use Rattle.office_machine.specs.Refusal.{line_of}
+use Rattle.office_machine.specs.declared.refusal.Refusal.{Refusal}
+use Rattle.office_machine.specs.declared.refusal.Refusal.TheVariants as refusal
 use Rattle.signal_office_reports.specs.declared.fault.Fault.{Fault}
 use Rattle.signal_office_reports.specs.declared.fault.Fault.TheVariants as told
 

@@ -9,11 +9,11 @@ ghost use Rattle.signal_office_exchange.specs.Editing.{is_due, Does, EditsAs, Go
 use crate::refused::fault_of;
 use draft_core::changes::Changes;
 use draft_core::refusal::DraftRefusal;
-use office_desk::command::Command;
 use office_desk::office::Office;
-use office_desk::refusal::Refusal;
-use office_desk::reply::{Reply, Violations};
 use office_files::read_timing_csv;
+use office_machine::command::Command;
+use office_machine::refusal::Refusal;
+use office_machine::reply::{Reply, Violations};
 use office_tables_shelf::shelf::Shelf;
 use signal_office_reports::Fault;
 use signal_records::{InterId, Words};

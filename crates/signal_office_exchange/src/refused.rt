@@ -4,7 +4,7 @@ ghost use Rattle.std.specs.Prelude.{◌≡◌};
 ghost use Rattle.signal_office_exchange.specs.Refused.{fault_of, record_refusal, with_number};
 
 use cabinet_core::CabinetRefusal;
-use office_desk::refusal::Refusal;
+use office_machine::refusal::Refusal;
 use signal_office_reports::Fault;
 
 /// The refusals that a record of the register may get.

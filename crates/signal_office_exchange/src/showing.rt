@@ -6,9 +6,9 @@ ghost use Rattle.signal_office_exchange.specs.Showing.{timing_shown, draft_shown
 ghost use Rattle.signal_office_exchange.specs.Showing.{ShowsTiming, ShowsDraft, ShowsCabinet};
 
 use crate::refused::fault_of;
-use office_desk::command::Command;
 use office_desk::office::Office;
-use office_desk::reply::{CabinetShown, Reply};
+use office_machine::command::Command;
+use office_machine::reply::{CabinetShown, Reply};
 use office_tables_shelf::shelf::Shelf;
 use signal_office_reports::{Fault, ask};
 use signal_records::{InterId, TimingSet};

@@ -5,14 +5,14 @@ use Rattle.office_tables_shelf.specs.Content.{Content}
 use Rattle.office_tables_shelf.specs.Change.{changed_by}
 use Rattle.office_tables_shelf.specs.declared.rows.RowChange.{RowChange}
 use Rattle.office_desk.specs.Answers.{Answers, AnswersAny}
-use Rattle.office_desk.specs.Office.{Office, Intersection}
-use Rattle.office_desk.specs.Step.{Step, answered, shown, timing_shown}
-use Rattle.office_desk.specs.declared.command.Command.{Command}
-use Rattle.office_desk.specs.declared.command.Command.TheVariants as command
-use Rattle.office_desk.specs.declared.refusal.Refusal.TheVariants as refusal
-use Rattle.office_desk.specs.declared.reply.Reply.{Reply}
-use Rattle.office_desk.specs.declared.reply.Reply.TheVariants.{Timing as Running, Refused}
-use Rattle.office_desk.specs.declared.reply.RunningTiming.{RunningTiming}
+use Rattle.office_machine.specs.Office.{Office, Intersection}
+use Rattle.office_machine.specs.Step.{Step, answered, shown, timing_shown}
+use Rattle.office_machine.specs.declared.command.Command.{Command}
+use Rattle.office_machine.specs.declared.command.Command.TheVariants as command
+use Rattle.office_machine.specs.declared.refusal.Refusal.TheVariants as refusal
+use Rattle.office_machine.specs.declared.reply.Reply.{Reply}
+use Rattle.office_machine.specs.declared.reply.Reply.TheVariants.{Timing as Running, Refused}
+use Rattle.office_machine.specs.declared.reply.RunningTiming.{RunningTiming}
 use Rattle.office_files.specs.Sheet.{sheet_text}
 use Rattle.signal_office_reports.specs.Sheet.{IsSheetOf, IsTimingOf}
 

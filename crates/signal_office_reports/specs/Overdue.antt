@@ -2,8 +2,8 @@
 use Rattle.std.specs.Prelude.{◌≡◌, ℕ, List, map, take}
 use Rattle.cabinet_core.specs.Overdue.{listed}
 use Rattle.cabinet_core.specs.declared.overdue_inspections.OverdueRow.{OverdueRow}
-use Rattle.office_desk.specs.Office.{Office}
-use Rattle.office_desk.specs.Step.{overdue_on}
+use Rattle.office_machine.specs.Office.{Office}
+use Rattle.office_machine.specs.Step.{overdue_on}
 use Rattle.office_files.specs.Overdue.{overdue_report}
 
 -- the text is the report of the first so many intersections that are overdue in the office on the day

@@ -1,9 +1,9 @@
 -- What the sheet of an intersection shows.
 use Rattle.std.specs.Prelude.{◌≡◌, ℕ, List, Some}
 use Rattle.std.specs.FinMap.{get, values}
-use Rattle.office_desk.specs.Office.{Office, Intersection}
-use Rattle.office_desk.specs.Step.{timing_shown}
-use Rattle.office_desk.specs.declared.reply.RunningTiming.{RunningTiming}
+use Rattle.office_machine.specs.Office.{Office, Intersection}
+use Rattle.office_machine.specs.Step.{timing_shown}
+use Rattle.office_machine.specs.declared.reply.RunningTiming.{RunningTiming}
 use Rattle.office_files.specs.Sheet.{sheet_text}
 
 -- the office has the intersection, and this is its committed set, with its name

@@ -6,10 +6,10 @@ ghost use Rattle.office_desk.specs.Answers.{AnswersAny};
 ghost use Rattle.office_desk.specs.Changes.{IsQuery};
 ghost use Rattle.office_desk.specs.Damage.{MeetsDamage};
 
-use office_desk::command::Command;
 use office_desk::office::Office;
-use office_desk::refusal::Refusal;
-use office_desk::reply::Reply;
+use office_machine::command::Command;
+use office_machine::refusal::Refusal;
+use office_machine::reply::Reply;
 use office_tables_shelf::shelf::Shelf;
 use std::alloc::Global;
 

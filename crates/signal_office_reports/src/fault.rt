@@ -2,10 +2,11 @@
 
 ghost use Rattle.std.specs.Prelude.{◌≤◌};
 
-use office_desk::refusal::Refusal;
 use office_files::CsvFault;
-use office_http::{ServeFault, WriteFailed};
-use office_tables::open::OpenFault;
+use office_http_framing::ends::WriteFailed;
+use office_http_framing::engine::ServeFault;
+use office_machine::refusal::Refusal;
+use office_tables_open::open::OpenFault;
 use signal_records::NoMemory;
 use sqlite::{Error, ErrorCode};
 use std::fmt;

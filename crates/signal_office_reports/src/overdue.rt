@@ -3,10 +3,10 @@
 ghost use Rattle.std.specs.Prelude.{◌≡◌, ◌⊎◌, IfOk, IfErr, Err};
 ghost use Rattle.office_tables_shelf.specs.Shelf.{IsKept};
 ghost use Rattle.office_desk.specs.Damage.{MeetsDamage};
-ghost use Rattle.office_desk.specs.Office.{Office as OfficeState};
+ghost use Rattle.office_machine.specs.Office.{Office as OfficeState};
 ghost use Rattle.office_desk.specs.StandFor.{StandForSound};
 ghost use Rattle.signal_office_reports.specs.Overdue.{IsReportOf};
-ghost use Rattle.office_desk.specs.declared.command.Command.TheVariants as command;
+ghost use Rattle.office_machine.specs.declared.command.Command.TheVariants as command;
 
 use crate::fault::Fault;
 use cabinet_core::Day;

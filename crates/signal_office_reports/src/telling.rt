@@ -3,7 +3,7 @@
 ghost use Rattle.std.specs.Prelude.{◌≤◌};
 
 use crate::fault::Fault;
-use office_http::{Sink, write_all};
+use office_http_framing::ends::{Sink, write_all};
 use std::alloc::Global;
 
 /// Says a fault on standard error, as far as that takes it, and gives the status.

@@ -10,7 +10,7 @@ use Rattle.office_tables_shelf.specs.Cells.{Cell, Rows, tree_rows, cells_cmp}
 use Rattle.office_tables_shelf.specs.Content.{Content, no_content}
 use Rattle.office_tables_shelf.specs.Rows.{intersection_key, timing_key, timing_columns}
 use Rattle.office_desk_cabinet.proofs.EmptyRegister.{nothing_registered}
-use Rattle.office_desk.specs.Office.{Intersection, IsSoundIntersection, side_of}
+use Rattle.office_machine.specs.Office.{Intersection, IsSoundIntersection, side_of}
 use Rattle.office_desk.specs.StandFor.{StandForSound, columns_of}
 use Rattle.signal_office_run.specs.Memory.{new_office}
 

@@ -14,7 +14,7 @@ use Rattle.sqlite.specs.declared.FileStore.{FileStore}
 use Rattle.sqlite_disk.specs.declared.Disk.{Ghosts as Disk}
 use Rattle.sqlite_disk.specs.declared.Files.{Files}
 use Rattle.sqlite_trees.specs.Props.{Trees-set}
-use Rattle.office_tables_shelf.specs.Office.{Office, version_1}
+use Rattle.office_machine.specs.Office.{Office, version_1}
 use Rattle.office_tables_shelf.specs.Content.{Content}
 use Rattle.office_tables_shelf.specs.StandFor.{StandForSound, StandForSoundIn}
 use Rattle.office_tables.specs.Calls.{IsHonest}

@@ -6,7 +6,7 @@ use Rattle.office_tables_open.specs.SqlShelf.{SqlView}
 use Rattle.office_tables_shelf.specs.Content.{Content}
 use Rattle.office_tables_shelf.specs.Counts.{no_writes}
 use Rattle.office_tables_shelf.specs.declared.counts.WriteCounts.{WriteCounts}
-use Rattle.office_desk.specs.Office.{Office}
+use Rattle.office_machine.specs.Office.{Office}
 use Rattle.office_http.specs.Laws.{Serves}
 use Rattle.office_http.specs.Protocol.{office_protocol}
 use Rattle.office_http_framing.specs.Front.{PlainRequest}

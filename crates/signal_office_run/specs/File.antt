@@ -20,7 +20,7 @@ use Rattle.office_tables_open.specs.Lacking.{Hold}
 use Rattle.office_tables_open.specs.SqlShelf.{MayLeave, SqlView}
 use Rattle.office_tables.specs.Stored.{content_now}
 use Rattle.office_tables_shelf.specs.Counts.{no_writes}
-use Rattle.office_desk.specs.Office.{Office}
+use Rattle.office_machine.specs.Office.{Office}
 use Rattle.office_desk.specs.StandFor.{StandForSound}
 use Rattle.office_http.specs.Laws.{Serves}
 use Rattle.office_http.specs.Protocol.{office_storage}

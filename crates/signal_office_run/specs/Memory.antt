@@ -9,7 +9,7 @@ use Rattle.office_tables.specs.Content.{Content}
 use Rattle.office_tables.specs.Stored.{content_now}
 use Rattle.office_tables_shelf.specs.Counts.{no_writes}
 use Rattle.cabinet_core.specs.Register.{no_register}
-use Rattle.office_desk.specs.Office.{Office}
+use Rattle.office_machine.specs.Office.{Office}
 use Rattle.office_desk.specs.StandFor.{StandForSound}
 use Rattle.office_http.specs.Laws.{Serves}
 use Rattle.office_http_framing.specs.Front.{PlainRequest}

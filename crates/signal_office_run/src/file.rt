@@ -9,7 +9,7 @@ ghost use Rattle.sqlite.specs.WalFiles.{image_at};
 ghost use Rattle.sqlite.specs.WalReads.{AreClean};
 ghost use Rattle.office_tables_open.specs.Opening.{IsOpened, IsRefused};
 ghost use Rattle.office_tables_open.specs.Promises.{IsArrangedIfClean};
-ghost use Rattle.office_desk.specs.Office.{Office as OfficeState};
+ghost use Rattle.office_machine.specs.Office.{Office as OfficeState};
 ghost use Rattle.office_http_framing.specs.Asks.{OnlyAsks};
 ghost use Rattle.office_http_framing.specs.Limits.{longest_request};
 ghost use Rattle.office_http_framing.specs.Serve.{Did, TellsFault, ends_of};

@@ -1,7 +1,7 @@
 //! The office on a port of the loopback network.
 
 ghost use Rattle.std.specs.Prelude.{List};
-ghost use Rattle.office_desk.specs.Office.{Office as OfficeState};
+ghost use Rattle.office_machine.specs.Office.{Office as OfficeState};
 ghost use Rattle.office_tables_shelf.specs.Content.{Content};
 ghost use Rattle.office_http_framing.specs.Stops.{Keeps};
 ghost use Rattle.office_http.specs.Listening.{Connected, Listens};

@@ -10,12 +10,12 @@ use Rattle.office_tables_shelf.specs.Shelf.{IsTold}
 use Rattle.office_desk_cabinet.proofs.KeptDamage.{kept_after, nothing_kept}
 use Rattle.office_desk_cabinet.proofs.Opened.{handed_told}
 use Rattle.office_desk.specs.Damage.{MeetsCabinetDamage, MeetsImportDamage}
-use Rattle.office_desk.specs.Step.{cabinet_of}
+use Rattle.office_machine.specs.Step.{cabinet_of}
 use Rattle.office_desk.specs.Blaming.{AreTaken}
 use Rattle.office_desk.specs.Importing.{ImportsAny, IsNamedTaken, LeavesAnyTiming, TakesLine, TakesRecord}
 use Rattle.office_desk.specs.declared.importing.Taken.{Taken}
 use Rattle.office_desk.specs.declared.importing.Taken.TheVariants.{Added, Same, Refused}
-use Rattle.office_desk.specs.declared.reply.Reply.TheVariants.{Imported}
+use Rattle.office_machine.specs.declared.reply.Reply.TheVariants.{Imported}
 use Rattle.office_desk.proofs.Decisions.{fault_decides}
 use Rattle.office_desk.proofs.Blames.{blames_next, taken_blames, none_met, one_further, taken_next}
 use Rattle.office_desk.proofs.Imports.{counted_on, damage_of_record, import_decides, imports_on, imports_start, never_met, next_left, none_next, some_read, taken_open, whole_stored, nothing_leaves, nothing_written, refused_decides, same_stored, writes_left, writes_whole}

@@ -6,7 +6,7 @@ use Rattle.office_desk.specs.Recording.{HasDamagedAbout}
 use Rattle.office_desk_cabinet.specs.Registers.{IsNamed, line_told, rows_told}
 use Rattle.office_desk_cabinet.proofs.Opened.{handed_told}
 use Rattle.office_desk.proofs.Imports.{added_whole, few_more, leaves_more, line_added, line_refused, line_same, record_added, same_whole, unknown_whole}
-use Rattle.office_desk.specs.Step.{cabinet_of}
+use Rattle.office_machine.specs.Step.{cabinet_of}
 use Rattle.office_desk.proofs.Recorded.{about_known, refused_named, tells_about, unknown_named}
 use Rattle.office_desk.proofs.importing.take_record.Goals as goal
 

@@ -7,7 +7,7 @@ use Rattle.office_desk_cabinet.specs.RegisterDamage.{MeetsRecordDamage}
 use Rattle.office_desk_cabinet.specs.RegisterStands.{RegisterStandsSound}
 use Rattle.office_desk_cabinet.specs.Registers.{Registers, RegistersFrom}
 use Rattle.office_desk.specs.Recording.{HasDamagedAbout}
-use Rattle.office_desk.specs.Step.{cabinet_of}
+use Rattle.office_machine.specs.Step.{cabinet_of}
 use Rattle.office_desk_cabinet.proofs.Opened.{handed_told}
 use Rattle.office_desk.proofs.Decisions.{fault_decides, unknown_decides}
 use Rattle.office_desk.proofs.Recorded.{about_known, gone_whole, meets_record, record_answers, record_decides, record_unknown, record_whole, tells_about, unknown_named}

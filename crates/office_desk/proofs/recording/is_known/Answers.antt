@@ -1,6 +1,6 @@
 use Rattle.std.proofs.Common.{◌≡◌, ◌∙◌, true, refl, subst, sym}
 use Rattle.office_desk.specs.Recording.{HasDamagedAbout, TellsAbout}
-use Rattle.office_desk.specs.Step.{is_known}
+use Rattle.office_machine.specs.Step.{is_known}
 use Rattle.office_desk.proofs.Recorded.{known_read, row_stands}
 use Rattle.office_desk.proofs.recording.is_known.Goals as goal
 

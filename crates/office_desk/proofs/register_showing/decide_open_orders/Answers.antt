@@ -5,7 +5,7 @@ use Rattle.cabinet_core.specs.Register.{Register}
 use Rattle.office_tables_shelf.specs.CabinetReads.{HasDamagedOrder}
 use Rattle.office_tables_shelf.specs.declared.shelf.ShelfFault.{ShelfFault}
 use Rattle.office_desk_cabinet.specs.RegisterStands.{RegisterStandsSound}
-use Rattle.office_desk.specs.declared.reply.Reply.TheVariants.{OpenOrders}
+use Rattle.office_machine.specs.declared.reply.Reply.TheVariants.{OpenOrders}
 use Rattle.office_desk.proofs.Decisions.{fault_decides, told_decides, unknown_decides}
 use Rattle.office_desk.proofs.Recorded.{about_known, gone_after, orders_answer, orders_unknown}
 use Rattle.office_desk.proofs.Recorded.{tells_about}

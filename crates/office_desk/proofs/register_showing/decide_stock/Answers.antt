@@ -1,5 +1,5 @@
 use Rattle.std.proofs.Common.{◌∙◌, ℕ, List, ap}
-use Rattle.office_desk.specs.declared.reply.Reply.TheVariants.{Stock}
+use Rattle.office_machine.specs.declared.reply.Reply.TheVariants.{Stock}
 use Rattle.office_desk.proofs.Decisions.{told_decides}
 use Rattle.office_desk.proofs.Recorded.{stock_answers}
 use Rattle.office_desk.proofs.register_showing.decide_stock.Goals as goal

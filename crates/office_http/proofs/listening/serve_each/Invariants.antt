@@ -1,5 +1,5 @@
 use Rattle.std.proofs.Common.{◌≡◌, List, length}
-use Rattle.office_desk.specs.Office.{Office}
+use Rattle.office_machine.specs.Office.{Office}
 use Rattle.office_tables_shelf.specs.Content.{Content}
 use Rattle.office_http_framing.specs.Stops.{Keeps}
 use Rattle.office_http.specs.Listening.{Connected, Listens, Turns, ends_after, more_accepted, starts_of}

@@ -1,6 +1,6 @@
 use Rattle.std.proofs.Common.{inl, subst}
 use Rattle.office_desk.specs.Answers.{AnswersAny}
-use Rattle.office_desk.specs.declared.command.Command.TheVariants as command
+use Rattle.office_machine.specs.declared.command.Command.TheVariants as command
 use Rattle.signal_office_exchange.proofs.importing.import_csv.Goals as goal
 
 pub returns-clause-imports : goal.returns-clause-imports

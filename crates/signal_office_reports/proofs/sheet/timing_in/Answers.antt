@@ -1,5 +1,5 @@
 use Rattle.std.proofs.Common.{refl, subst, sym}
-use Rattle.office_desk.specs.declared.command.Command.TheVariants as command
+use Rattle.office_machine.specs.declared.command.Command.TheVariants as command
 use Rattle.signal_office_reports.proofs.FaultLemmas.{refused_tells, store_tells}
 use Rattle.signal_office_reports.proofs.SheetLemmas.{timed}
 use Rattle.signal_office_reports.specs.Fault.{TellsUnknown}

@@ -15,7 +15,7 @@ returns-clause-did g c =
     let opened = c.in_ok-office.ensures.stands in
     let tables = content_now (state over_memory c.in_ok-office.office.conn) in
     let served = c.serve.ensures.did (memory_is_honest c.serve.new.office.conn).0 new_office tables
-        (record { stands = opened.stand; held = λ _. refl }) in (
+    (record { stands = opened.stand; held = λ _. refl }) in (
       served.0,
       Did-weaker office_protocol _ _ _ _ _ c.serve.result
           (λ requests answers serves. record {

@@ -4,8 +4,8 @@ use Rattle.draft_core.specs.Refusal.{line_of as draft_line}
 use Rattle.draft_core.specs.declared.refusal.DraftRefusal.TheVariants as draft
 use Rattle.cabinet_core.specs.Refusal.{line_of as record_line}
 use Rattle.cabinet_core.specs.declared.refusal.CabinetRefusal.TheVariants as cabinet
-use Rattle.office_desk.specs.declared.refusal.Refusal.{Refusal}
-use Rattle.office_desk.specs.declared.refusal.Refusal.TheVariants.{UnknownIntersection, IntersectionDiffers, Draft, Cabinet, ImportRow, Unavailable, Damaged}
+use Rattle.office_machine.specs.declared.refusal.Refusal.{Refusal}
+use Rattle.office_machine.specs.declared.refusal.Refusal.TheVariants.{UnknownIntersection, IntersectionDiffers, Draft, Cabinet, ImportRow, Unavailable, Damaged}
 
 -- number, name, and status code of an HTTP answer
 pub record Line : Type 0 where

@@ -1,13 +1,13 @@
 -- Imports that are sent again over a run of commands.
 use Rattle.std.specs.Prelude.{◌≡◌, ◌⊎◌, ℕ, List, [], ◌∷◌, length}
 use Rattle.cabinet_core.specs.declared.command.RecordCommand.{RecordCommand}
-use Rattle.office_desk.specs.Office.{Office}
-use Rattle.office_desk.specs.Step.{Run}
-use Rattle.office_desk.specs.declared.command.Command.{Command}
-use Rattle.office_desk.specs.declared.command.Command.TheVariants.{Import}
-use Rattle.office_desk.specs.declared.refusal.Refusal.TheVariants.{Unavailable}
-use Rattle.office_desk.specs.declared.reply.Reply.{Reply}
-use Rattle.office_desk.specs.declared.reply.Reply.TheVariants.{Imported, Refused}
+use Rattle.office_machine.specs.Office.{Office}
+use Rattle.office_machine.specs.Step.{Run}
+use Rattle.office_machine.specs.declared.command.Command.{Command}
+use Rattle.office_machine.specs.declared.command.Command.TheVariants.{Import}
+use Rattle.office_machine.specs.declared.refusal.Refusal.TheVariants.{Unavailable}
+use Rattle.office_machine.specs.declared.reply.Reply.{Reply}
+use Rattle.office_machine.specs.declared.reply.Reply.TheVariants.{Imported, Refused}
 
 -- none of the records is new and each is there, or the import is answered Unavailable; and the office is as it was
 abbrev pub IsRepeat : Office → List RecordCommand → Reply → Office → Type 0

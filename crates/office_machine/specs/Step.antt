@@ -18,17 +18,17 @@ use Rattle.cabinet_core.specs.Orders.{open_at}
 use Rattle.cabinet_core.specs.Register.{Register, records_at}
 use Rattle.cabinet_core.specs.Step.{line_at, with_record, after_record}
 use Rattle.cabinet_core.specs.Stock.{stock_of}
-use Rattle.office_desk.specs.declared.reply.CabinetShown.{CabinetShown}
-use Rattle.office_desk.specs.declared.command.Command.{Command}
-use Rattle.office_desk.specs.declared.command.Command.TheVariants as command
-use Rattle.office_desk.specs.declared.reply.Reply.{Reply}
-use Rattle.office_desk.specs.declared.reply.Reply.TheVariants.{Added, Same, Moved, Imported, State as Shown, Timing as Running, Draft as Drafted, Cabinet, OpenOrders, Stock, Overdue, Refused}
-use Rattle.office_desk.specs.declared.reply.IntersectionState.{IntersectionState}
-use Rattle.office_desk.specs.declared.reply.RunningTiming.{RunningTiming}
-use Rattle.office_desk.specs.declared.refusal.Refusal.{Refusal}
-use Rattle.office_desk.specs.declared.refusal.Refusal.TheVariants as refusal
-use Rattle.office_desk.specs.Office.{Office, Intersection, IsSound, no_timing}
-use Rattle.office_desk.specs.Refusal.{line_of}
+use Rattle.office_machine.specs.declared.reply.CabinetShown.{CabinetShown}
+use Rattle.office_machine.specs.declared.command.Command.{Command}
+use Rattle.office_machine.specs.declared.command.Command.TheVariants as command
+use Rattle.office_machine.specs.declared.reply.Reply.{Reply}
+use Rattle.office_machine.specs.declared.reply.Reply.TheVariants.{Added, Same, Moved, Imported, State as Shown, Timing as Running, Draft as Drafted, Cabinet, OpenOrders, Stock, Overdue, Refused}
+use Rattle.office_machine.specs.declared.reply.IntersectionState.{IntersectionState}
+use Rattle.office_machine.specs.declared.reply.RunningTiming.{RunningTiming}
+use Rattle.office_machine.specs.declared.refusal.Refusal.{Refusal}
+use Rattle.office_machine.specs.declared.refusal.Refusal.TheVariants as refusal
+use Rattle.office_machine.specs.Office.{Office, Intersection, IsSound, no_timing}
+use Rattle.office_machine.specs.Refusal.{line_of}
 
 -- the office with an intersection more, or with another in its place
 abbrev pub with_intersection : Office → ℕ → Intersection → Office

@@ -11,12 +11,12 @@ use Rattle.cabinet_core.specs.Register.{Register}
 use Rattle.cabinet_core.specs.Runs.{open_by, received_by, spent_by}
 use Rattle.cabinet_core.specs.Step.{line_at, with_record}
 use Rattle.cabinet_core.specs.Stock.{pieces}
-use Rattle.office_desk.specs.Office.{Office}
-use Rattle.office_desk.specs.Step.{Run}
-use Rattle.office_desk.specs.declared.command.Command.{Command}
-use Rattle.office_desk.specs.declared.command.Command.TheVariants as command
-use Rattle.office_desk.specs.declared.reply.Reply.{Reply}
-use Rattle.office_desk.specs.declared.reply.Reply.TheVariants.{Added, Imported, OpenOrders, Stock}
+use Rattle.office_machine.specs.Office.{Office}
+use Rattle.office_machine.specs.Step.{Run}
+use Rattle.office_machine.specs.declared.command.Command.{Command}
+use Rattle.office_machine.specs.declared.command.Command.TheVariants as command
+use Rattle.office_machine.specs.declared.reply.Reply.{Reply}
+use Rattle.office_machine.specs.declared.reply.Reply.TheVariants.{Added, Imported, OpenOrders, Stock}
 
 -- ---- the records that are accepted
 

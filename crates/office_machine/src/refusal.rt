@@ -2,7 +2,7 @@
 //! transaction and of the register in it.
 
 ghost use Rattle.std.specs.Prelude.{◌≡◌};
-ghost use Rattle.office_desk.specs.Refusal.{line_of};
+ghost use Rattle.office_machine.specs.Refusal.{line_of};
 
 use cabinet_core::CabinetRefusal;
 use draft_core::refusal::DraftRefusal;
