@@ -1,9 +1,8 @@
 //! Plays the row files of the working folder: each over maps, over a database in memory and over one
 //! in files, with its streams whole and in single bytes. Then it makes calls that no row makes, and
-//! tries the office on hostile use, on files that stop and on files that are refused. It prints a
-//! line for each row and each thing tried, and ends with status 1 where one is not as told. With the
-//! word `requests`, `maps` or `tables` it tries what is meant for runs in which an allocation is
-//! refused from outside.
+//! tries the office on hostile use and on files that stop. It prints a line for each row and each
+//! thing tried, and ends with status 1 where one is not as told. With the word `requests`, `maps`
+//! or `tables` it tries what is meant for runs in which an allocation is refused from outside.
 #![tactic(auto)]
 
 mod ends;
@@ -24,7 +23,6 @@ use crate::reading::read_row;
 use crate::row::Row;
 use crate::way::Way;
 use office_script::trouble::Trouble;
-use office_stops::refused::try_refused;
 use office_stops::stops::try_stops;
 use office_trials::calls::try_calls;
 use office_trials::hostile::try_hostile;
@@ -115,7 +113,6 @@ fn is_as_told(rt: &HostRuntime) -> Result<bool, Trouble> {
     try_calls(rt)?;
     try_hostile(rt)?;
     try_stops(rt)?;
-    try_refused(rt)?;
     Ok(is_told)
 }
 

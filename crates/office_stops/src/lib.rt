@@ -1,8 +1,6 @@
-//! Files that stop at each of their calls, and files that are refused, tried beside the worked rows.
+//! Files that stop at each of their calls, tried beside the worked rows.
 #![tactic(auto)]
 
 mod files;
-mod lacking;
 mod migrating;
-pub mod refused;
 pub mod stops;

@@ -2,7 +2,6 @@
 //! line is printed for each thing tried.
 
 use crate::files::{close, connect, crashed, found, stopping};
-use crate::lacking::stop_opening;
 use crate::migrating::{stop_migration, with_tables};
 use office_desk::office::Office;
 use office_script::script::{ANSWERS, STREAM, UNAVAILABLE, UNKNOWN, commands};
@@ -18,7 +17,7 @@ use std::alloc::Global;
 
 /// What an office shows at first, and after each command. The first four are also those of the
 /// stream.
-pub(crate) fn states(alloc: Global) -> Result<Vec<Vec<u8>>, Trouble> {
+fn states(alloc: Global) -> Result<Vec<Vec<u8>>, Trouble> {
     let mut office = Office::new(MapShelf::new(alloc));
     let mut states = Vec::new(alloc);
     let mut seen = shown(alloc, &mut office)?;
@@ -139,10 +138,7 @@ fn stop<D: Disk + Drop>(
 }
 
 /// What the office over these files shows.
-pub(crate) fn seen_after<D: Disk + Drop>(
-    alloc: Global,
-    files: Files<D>,
-) -> Result<Vec<u8>, Trouble> {
+fn seen_after<D: Disk + Drop>(alloc: Global, files: Files<D>) -> Result<Vec<u8>, Trouble> {
     if let Some(conn) = connect(alloc, files) {
         if let Some(seen) = shown_in(alloc, conn)? {
             return Ok(seen);
@@ -201,15 +197,6 @@ fn try_migration(rt: &HostRuntime, is_log: bool, name: &str) -> Result<(), Troub
     Ok(())
 }
 
-/// Stops an opening that makes a table again at each call of a file, of which there are some.
-fn try_opening(rt: &HostRuntime, is_log: bool, name: &str) -> Result<(), Trouble> {
-    if stop_opening(rt.alloc(), is_log)? == 0 {
-        return Err(Trouble::Unprepared("a stop of an opening"));
-    }
-    println!(rt; "a table made again, stopped at each call of the {name}: all as it was")?;
-    Ok(())
-}
-
 /// Stops a stream and commands at each call of a file, of which there are some.
 fn try_work(rt: &HostRuntime, is_log: bool, name: &str) -> Result<(), Trouble> {
     for (is_stream, asked) in [(true, "3 requests"), (false, "12 commands")] {
@@ -225,7 +212,6 @@ fn try_work(rt: &HostRuntime, is_log: bool, name: &str) -> Result<(), Trouble> {
 pub fn try_stops(rt: &HostRuntime) -> Result<(), Trouble> {
     for (is_log, name) in [(true, "log"), (false, "database")] {
         try_migration(rt, is_log, name)?;
-        try_opening(rt, is_log, name)?;
         try_work(rt, is_log, name)?;
     }
     Ok(())
