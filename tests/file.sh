@@ -119,7 +119,7 @@ printf 'GET /intersections/12 HTTP/1.1\r\n\r\n' | batch
 same "the answer after the migration" "$(tail -n 1 "$folder/answers")" \
   '{"id":12,"interval":365,"name":"Main St","owner":"Ana","revision":1,"rows":2,"state":"transaction","verify":"notDone"}'
 
-# A file that is not there is made, and has no intersection; a folder and a file of another kind are refused.
+# A report makes no file; a folder and a file of another kind are refused.
 faulty() {
   status=0
   "$program" "${@:2}" >"$folder/answers" 2>"$folder/errors" || status=$?
@@ -127,7 +127,8 @@ faulty() {
   same "what $2 prints over $1" "$(cat "$folder/answers")" ""
 }
 faulty "no file" sheet --db "$folder/new.db" 12
-same "the fault over no file" "$(cat "$folder/errors")" "fault: unknown intersection"
+same "the fault over no file" "$(cat "$folder/errors")" "fault: file"
+same "what a report makes" "$(find "$folder" -name 'new.db*')" ""
 faulty "a file that is not there" migrate --db "$folder/none.db"
 same "what a migration says of no file" "$(cat "$folder/errors")" "fault: version"
 same "what a migration makes" "$(find "$folder" -name 'none.db*')" ""
