@@ -1,7 +1,7 @@
 #!/usr/bin/env python3
-"""Sees that what the documents name is there: each specs file in the tables of docs/ARCHITECTURE.md,
-each file that a link leads to, and, the other way round, that each public call of a library stands
-in ARCHITECTURE's list of calls or in its list of those that are left out.
+"""Sees that what the documents name is there: each specs file in the tables of
+docs/ARCHITECTURE.md, each file that a link leads to, and, the other way round, that each public
+call of a library stands in ARCHITECTURE's list of calls or in its list of those that are left out.
 
     tests/documents.py
 

@@ -1,5 +1,6 @@
 #!/usr/bin/env python3
-"""Prints the lines of each crate, blank ones in, and its must-fail edits, as the table of docs/MEASUREMENTS.md.
+"""Prints the lines of each crate, blank ones in, and its must-fail edits, as the table of
+docs/MEASUREMENTS.md.
 
     tests/sizes.py [--write]      with --write the table in docs/MEASUREMENTS.md is replaced
 

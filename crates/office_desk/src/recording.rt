@@ -5,7 +5,8 @@ ghost use Rattle.office_desk_cabinet.specs.Open.{StaysOpen};
 ghost use Rattle.office_desk_cabinet.specs.Registers.{line_told, rows_told};
 ghost use Rattle.office_desk.specs.Deciding.{Decides};
 ghost use Rattle.office_desk.specs.Recording.{IsKnownIn, HasDamagedAbout, TellsAbout};
-ghost use Rattle.office_machine.specs.Step.{cabinet_of as about_of, refusal_of_record, told as reply_of};
+ghost use Rattle.office_machine.specs.Step.{cabinet_of as about_of, refusal_of_record};
+ghost use Rattle.office_machine.specs.Step.{told as reply_of};
 
 use crate::decided::Decided;
 use crate::reading::intersection_row;
