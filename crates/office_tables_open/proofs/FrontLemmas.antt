@@ -1,8 +1,8 @@
 -- Tables that are missing behind the first ones: what is known of each number of them, and what making the others comes to.
-use Rattle.std.proofs.Common.{◌≡◌, ℕ, zero, suc, ◌<◌, ◌-◌, nat_lt, Bool, true, false, not, cond, if◌then◌else◌, List, [], ◌∷◌, ◌++◌, codes, map, take, drop, Option, None, Some, slice_get, Result, Ok, Err, refl, sym, ap, subst, ◌∙◌, arith}
+use Rattle.std.proofs.Common.{◌≡◌, ℕ, zero, suc, ◌<◌, ◌≤◌, ◌-◌, ◌==◌, nat_lt, Bool, true, false, not, cond, if◌then◌else◌, List, [], ◌∷◌, ◌++◌, codes, map, filter, take, drop, Option, None, Some, slice_get, Result, Ok, Err, refl, sym, ap, subst, ◌∙◌, arith}
 use Rattle.std.specs.Prelude.{OnOk, ⊤}
 use Rattle.std.specs.List.{AllByRecursion, list_all}
-use Rattle.std.proofs.lemmas.Bool.{and_parts}
+use Rattle.std.proofs.lemmas.Bool.{and_parts, eq-eqb, ltb-true, ne_eqb}
 use Rattle.std.proofs.lemmas.List.{take-append-drop}
 use Rattle.sqlite.specs.Command.TheVariants.{DropTable}
 use Rattle.sqlite.specs.Does.{AtPlace, Drops as DoesDrop, Empties, HoldWithout, Leaves, Redefines, Tally, Tested, Uncounts, UncountsIn, is_acted_on, no_rows}
@@ -18,6 +18,7 @@ use Rattle.sqlite.specs.View.{IsShaped}
 use Rattle.sqlite.proofs.Callers.{runs_as, through}
 use Rattle.sqlite_catalog.specs.Change.{without_table, KeepsRows}
 use Rattle.sqlite_schema.specs.declared.schema.Keys.TheVariants.{Enforced}
+use Rattle.sqlite_schema.specs.declared.schema.Index.{Index}
 use Rattle.sqlite_schema.specs.declared.schema.Schema.{Schema}
 use Rattle.sqlite_schema.specs.declared.schema.Table.{Table}
 use Rattle.sqlite_tied.specs.Compute.{everything}
@@ -30,7 +31,7 @@ use Rattle.office_tables_sql.specs.Stored.{content_now, content_of, rows_in}
 use Rattle.office_tables_sql.specs.declared.schema.TheConstants.{CREATES}
 use Rattle.office_tables_open.specs.Lacking.{IsGrown, IsSpread, SeesFront, content_before, emptied_from}
 use Rattle.office_tables_open.specs.Opening.{AreRun}
-use Rattle.office_tables_open.specs.Version.{version_in, current_version}
+use Rattle.office_tables_open.specs.Version.{stored_trees, version_in, current_version}
 use Rattle.office_tables_open.proofs.MadeLemmas.{AreFree, AreMaking, Ends, kept_rows, made_of, office_making, over_run, second_of, untreed}
 
 -- each number below eight
@@ -98,8 +99,11 @@ first_tables count = take count office_schema.tables
 abbrev pub later_tables : ℕ → List Table
 later_tables count = drop count office_schema.tables
 
+abbrev pub first_indexes : ℕ → List Index
+first_indexes count = take (count - 1) office_schema.indexes
+
 abbrev pub bare_schema : ℕ → Schema
-bare_schema count = record { tables = first_tables count; indexes = take (count - 1) office_schema.indexes; views = [] }
+bare_schema count = record { tables = first_tables count; indexes = first_indexes count; views = [] }
 
 abbrev pub made_again : ℕ → List Table
 made_again count = drop count (map untreed office_schema.tables)
@@ -111,12 +115,12 @@ abbrev pub dropping_text : List ℕ
 dropping_text = codes "DROP TABLE IF EXISTS office_version"
 
 abbrev pub last_table : ℕ → Table
-last_table count = numbered version_table (place_after count)
+last_table place = numbered version_table place
 
 -- what making the others needs of their number
 pub record IsMakeable (count : ℕ) : Type 0 where
-  pub drops : IsDropping (front_schema count) dropping_text (last_table count)
-  pub bare : without_table (front_schema count) (place_after count) ≡ bare_schema count
+  pub drops : (place : ℕ) → IsDropping (front_schema count place) dropping_text (last_table place)
+  pub owners : list_all (λ (i : Index). nat_lt i.table (place_after count)) (first_indexes count) ≡ true
   pub making : AreMaking (bare_schema count) (creating_texts count) (made_again count)
   pub made : made_of (bare_schema count) (made_again count) ≡ office_schema
   pub free : (trees : Trees) → AreFree (emptied_from (place_after count) trees) (bare_schema count) (made_again count)
@@ -126,8 +130,8 @@ pub record IsMakeable (count : ℕ) : Type 0 where
 makeable_0 : IsMakeable 0
 unfolding understood everything
 makeable_0 = record {
-  drops = record { at = 0; is = refl; plain = (refl, refl); found = refl; unacted = refl; uncounted = refl };
-  bare = refl;
+  drops = λ place. record { at = 0; is = refl; plain = (refl, refl); found = refl; unacted = refl; uncounted = refl };
+  owners = refl;
   making = office_making;
   made = refl;
   free = λ trees. (refl, (refl, (refl, (refl, (refl, (refl, (refl, (refl, (refl, tt)))))))));
@@ -138,8 +142,8 @@ makeable_0 = record {
 makeable_1 : IsMakeable 1
 unfolding understood everything
 makeable_1 = record {
-  drops = record { at = 1; is = refl; plain = (refl, refl); found = refl; unacted = refl; uncounted = refl };
-  bare = refl;
+  drops = λ place. record { at = 1; is = refl; plain = (refl, refl); found = refl; unacted = refl; uncounted = refl };
+  owners = refl;
   making = office_making.1;
   made = refl;
   free = λ trees. (refl, (refl, (refl, (refl, (refl, (refl, (refl, (refl, tt))))))));
@@ -150,8 +154,8 @@ makeable_1 = record {
 makeable_2 : IsMakeable 2
 unfolding understood everything
 makeable_2 = record {
-  drops = record { at = 2; is = refl; plain = (refl, refl); found = refl; unacted = refl; uncounted = refl };
-  bare = refl;
+  drops = λ place. record { at = 2; is = refl; plain = (refl, refl); found = refl; unacted = refl; uncounted = refl };
+  owners = refl;
   making = office_making.1.1;
   made = refl;
   free = λ trees. (refl, (refl, (refl, (refl, (refl, (refl, (refl, tt)))))));
@@ -162,8 +166,8 @@ makeable_2 = record {
 makeable_3 : IsMakeable 3
 unfolding understood everything
 makeable_3 = record {
-  drops = record { at = 3; is = refl; plain = (refl, refl); found = refl; unacted = refl; uncounted = refl };
-  bare = refl;
+  drops = λ place. record { at = 3; is = refl; plain = (refl, refl); found = refl; unacted = refl; uncounted = refl };
+  owners = refl;
   making = office_making.1.1.1;
   made = refl;
   free = λ trees. (refl, (refl, (refl, (refl, (refl, (refl, tt))))));
@@ -174,8 +178,8 @@ makeable_3 = record {
 makeable_4 : IsMakeable 4
 unfolding understood everything
 makeable_4 = record {
-  drops = record { at = 4; is = refl; plain = (refl, refl); found = refl; unacted = refl; uncounted = refl };
-  bare = refl;
+  drops = λ place. record { at = 4; is = refl; plain = (refl, refl); found = refl; unacted = refl; uncounted = refl };
+  owners = refl;
   making = office_making.1.1.1.1;
   made = refl;
   free = λ trees. (refl, (refl, (refl, (refl, (refl, tt)))));
@@ -186,8 +190,8 @@ makeable_4 = record {
 makeable_5 : IsMakeable 5
 unfolding understood everything
 makeable_5 = record {
-  drops = record { at = 5; is = refl; plain = (refl, refl); found = refl; unacted = refl; uncounted = refl };
-  bare = refl;
+  drops = λ place. record { at = 5; is = refl; plain = (refl, refl); found = refl; unacted = refl; uncounted = refl };
+  owners = refl;
   making = office_making.1.1.1.1.1;
   made = refl;
   free = λ trees. (refl, (refl, (refl, (refl, tt))));
@@ -198,8 +202,8 @@ makeable_5 = record {
 makeable_6 : IsMakeable 6
 unfolding understood everything
 makeable_6 = record {
-  drops = record { at = 6; is = refl; plain = (refl, refl); found = refl; unacted = refl; uncounted = refl };
-  bare = refl;
+  drops = λ place. record { at = 6; is = refl; plain = (refl, refl); found = refl; unacted = refl; uncounted = refl };
+  owners = refl;
   making = office_making.1.1.1.1.1.1;
   made = refl;
   free = λ trees. (refl, (refl, (refl, tt)));
@@ -210,8 +214,8 @@ makeable_6 = record {
 makeable_7 : IsMakeable 7
 unfolding understood everything
 makeable_7 = record {
-  drops = record { at = 7; is = refl; plain = (refl, refl); found = refl; unacted = refl; uncounted = refl };
-  bare = refl;
+  drops = λ place. record { at = 7; is = refl; plain = (refl, refl); found = refl; unacted = refl; uncounted = refl };
+  owners = refl;
   making = office_making.1.1.1.1.1.1.1;
   made = refl;
   free = λ trees. (refl, (refl, tt));
@@ -221,6 +225,41 @@ makeable_7 = record {
 
 pub makeable : (count : ℕ) → count < 8 → IsMakeable count
 makeable = below_8 IsMakeable makeable_0 makeable_1 makeable_2 makeable_3 makeable_4 makeable_5 makeable_6 makeable_7
+
+-- ---- the schema without the version's table, which stands behind the others
+
+apart_from : (tree low place : ℕ) → nat_lt tree low ≡ true → low ≤ place → not (tree == place) ≡ true
+apart_from tree low place below behind = ap not (ne_eqb tree place (λ (e : tree ≡ place). absurd (omega (arith, e, ltb-true tree low below, behind))))
+
+module _ (low place : ℕ) (behind : low ≤ place) where
+  abbrev stays : Table → Bool
+  stays t = not (t.tree == place)
+
+  abbrev index_stays : Index → Bool
+  index_stays i = not (i.table == place)
+
+  tables_left : (ts : List Table) → list_all (λ (t : Table). nat_lt t.tree low) ts ≡ true → filter stays (ts ++ last_table place ∷ []) ≡ ts
+  tables_left [] below = let same : (place == place) ≡ true = eq-eqb place place refl in rw same
+  tables_left (t ∷ ts) below =
+      let both = and_parts _ _ below in
+      let other : stays t ≡ true = apart_from t.tree low place both.0 behind in
+      let first : filter stays (t ∷ (ts ++ last_table place ∷ [])) ≡ t ∷ filter stays (ts ++ last_table place ∷ []) = rw other in
+      first ∙ ap (λ more. t ∷ more) (tables_left ts both.1)
+
+  indexes_left : (is : List Index) → list_all (λ (i : Index). nat_lt i.table low) is ≡ true → filter index_stays is ≡ is
+  indexes_left [] below = refl
+  indexes_left (i ∷ is) below =
+      let both = and_parts _ _ below in
+      let other : index_stays i ≡ true = apart_from i.table low place both.0 behind in
+      let first : filter index_stays (i ∷ is) ≡ i ∷ filter index_stays is = rw other in
+      first ∙ ap (λ more. i ∷ more) (indexes_left is both.1)
+
+bare_is : (count place : ℕ) → IsMakeable count → place_after count ≤ place → without_table (front_schema count place) place ≡ bare_schema count
+bare_is count place can behind = λ n. record {
+  tables = tables_left (place_after count) place behind (first_tables count) can.first n;
+  indexes = indexes_left (place_after count) place behind (first_indexes count) can.owners n;
+  views = [];
+}
 
 -- ---- the rows that are kept
 
@@ -250,9 +289,9 @@ same_shaped : (a b : Trees) (ts : List Table) → AllByRecursion (λ t. a t.tree
 same_shaped a b [] same rise = tt
 same_shaped a b (t ∷ ts) same rise = (subst (IsShaped shape.Table) (sym same.0) rise.0, same_shaped a b ts same.1 rise.1)
 
--- trees that hold the same rows of the office's tables have the same content
-same_content : (a b : Trees) → AllByRecursion (λ t. a t.tree ≡ b t.tree) office_schema.tables → content_of a ≡ content_of b
-same_content a b e = λ i. record {
+-- trees that hold the same rows of the eight tables have the same content
+pub same_eight : (a b : Trees) → AllByRecursion (λ t. a t ≡ b t) stored_trees → content_of a ≡ content_of b
+same_eight a b e = λ i. record {
   intersection = rows_in layout.intersection (e.0 i);
   timing = rows_in layout.timing (e.1.0 i);
   draft = rows_in layout.draft (e.1.1.0 i);
@@ -262,6 +301,9 @@ same_content a b e = λ i. record {
   delivery = rows_in layout.delivery (e.1.1.1.1.1.1.0 i);
   used_part = rows_in layout.used_part (e.1.1.1.1.1.1.1.0 i);
 }
+
+same_content : (a b : Trees) → AllByRecursion (λ t. a t.tree ≡ b t.tree) office_schema.tables → content_of a ≡ content_of b
+same_content a b e = same_eight a b (e.0, (e.1.0, (e.1.1.0, (e.1.1.1.0, (e.1.1.1.1.0, (e.1.1.1.1.1.0, (e.1.1.1.1.1.1.0, (e.1.1.1.1.1.1.1.0, tt))))))))
 
 module _ {S : Type 0} (g : Ghosts S) (count : ℕ) (old mid new : Held S) (dropped : AreRun g (dropping_text ∷ []) old mid) (created : AreRun g (creating_texts count) mid new)
     (sees : SeesFront count (state g old)) where
@@ -273,19 +315,21 @@ module _ {S : Type 0} (g : Ghosts S) (count : ℕ) (old mid new : Held S) (dropp
 
   begun : IsMakeable count → Ends g rows mid (bare_schema count)
   begun can =
-      let did = drop_step (state g old) (state g dropped.0) dropped.1 (front_schema count) dropping_text (last_table count) can.drops sees.schema dropped.2 in
-      let kept : KeepsRows (first_tables count) was (state g dropped.0).now.trees = subst (λ (s : Schema). KeepsRows s.tables was (state g dropped.0).now.trees) can.bare did.1 in
+      let place = sees.front.place in
+      let bare = bare_is count place can sees.front.behind in
+      let did = drop_step (state g old) (state g dropped.0) dropped.1 (front_schema count place) dropping_text (last_table place) (can.drops place) sees.front.is dropped.2 in
+      let kept : KeepsRows (first_tables count) was (state g dropped.0).now.trees = subst (λ (s : Schema). KeepsRows s.tables was (state g dropped.0).now.trees) bare did.1 in
       subst (λ (h : Held S). Ends g rows h (bare_schema count)) (sym dropped.3)
-      (record { schema_is = did.0 ∙ can.bare; holds = kept_rows (first_tables count) rows was (state g dropped.0).now.trees kept (first_kept (place_after count) was (first_tables count) can.first) }, did.2, dropped.2.1.mode)
+      (record { schema_is = did.0 ∙ bare; holds = kept_rows (first_tables count) rows was (state g dropped.0).now.trees kept (first_kept (place_after count) was (first_tables count) can.first) }, did.2, dropped.2.1.mode)
 
   ended : IsMakeable count → Ends g rows new office_schema
   ended can = subst (Ends g rows new) can.made (over_run g rows (creating_texts count) (made_again count) (bare_schema count) can.making (can.free was) mid new created (begun can))
 
   rows_shaped : IsMakeable count → AllByRecursion (λ t. IsShaped shape.Table (rows t.tree)) office_schema.tables
   rows_shaped can =
-      let rise : AllByRecursion (λ (t : Table). IsShaped shape.Table (was t.tree)) (first_tables count ++ last_table count ∷ []) = subst (λ (s : Schema). AllByRecursion (λ t. IsShaped shape.Table (was t.tree)) s.tables) sees.schema sees.rise in
+      let rise : AllByRecursion (λ (t : Table). IsShaped shape.Table (was t.tree)) (first_tables count ++ last_table sees.front.place ∷ []) = subst (λ (s : Schema). AllByRecursion (λ t. IsShaped shape.Table (was t.tree)) s.tables) sees.front.is sees.rise in
       subst (AllByRecursion (λ t. IsShaped shape.Table (emptied_from (place_after count) was t.tree))) (take-append-drop count office_schema.tables)
-      (all_shaped (place_after count) was (first_tables count) (later_tables count) (last_table count ∷ []) rise can.later)
+      (all_shaped (place_after count) was (first_tables count) (later_tables count) (last_table sees.front.place ∷ []) rise can.later)
 
   pub grown_ready : IsReady (state g new)
   grown_ready =

@@ -1,108 +1,177 @@
 -- Databases that lack tables: when one does, and what its tables hold.
-use Rattle.std.proofs.Common.{◌≡◌, inl, inr, ℕ, ◌<◌, nat_lt, ◌==◌, ◌||◌, Bool, true, true≢false, not, List, [], ◌∷◌, ◌++◌, None, Some, Result, Ok, Err, refl, sym, ap, subst, ◌∙◌, arith}
-use Rattle.std.specs.Prelude.{OnOk}
-use Rattle.std.specs.List.{list_all}
-use Rattle.std.proofs.lemmas.Bool.{eqb-true}
+use Rattle.std.proofs.Common.{◌≡◌, ◌≢◌, inl, inr, ℕ, suc, ◌<◌, ◌≤◌, ◌+◌, nat_lt, cond, Bool, true, false, true≢false, not, List, [], ◌∷◌, ◌++◌, filter, length, None, Some, refl, sym, ap, subst, ◌∙◌, arith}
+use Rattle.std.specs.List.{AllZip, list_all}
+use Rattle.std.proofs.lemmas.Bool.{cases_Bool, ltb-false, ltb-true}
+use Rattle.std.proofs.lemmas.Bool.Decides.{eqb_tells}
+use Rattle.std.proofs.lemmas.List.{length-append}
 use Rattle.sqlite.specs.Effect.{Database}
 use Rattle.sqlite.specs.State.{State}
 use Rattle.sqlite.specs.Tree.{Trees}
-use Rattle.sqlite_catalog.specs.Listing.{AreListed}
-use Rattle.sqlite_catalog.proofs.LayoutLemmas.{named_tree}
-use Rattle.sqlite_rules.proofs.ListLemmas.{test_has}
+use Rattle.sqlite_catalog.specs.Listing.{AreListed, IsTableRow, is_table_row}
+use Rattle.sqlite_catalog.proofs.LayoutLemmas.{named_tree, zipped_left, zipped_right}
+use Rattle.sqlite_rules.proofs.ListLemmas.{all_has, has_either, has_right, test_has}
 use Rattle.sqlite_rules.specs.Lists.{Has}
 use Rattle.sqlite_schema.specs.Names.{same_name}
 use Rattle.sqlite_schema.specs.declared.schema.Index.{Index}
 use Rattle.sqlite_schema.specs.declared.schema.Schema.{Schema}
 use Rattle.sqlite_schema.specs.declared.schema.Table.{Table}
 use Rattle.sqlite_tied.specs.Compute.{everything}
-use Rattle.sqlite_trees.specs.Objects.{catalog_tree}
+use Rattle.sqlite_trees.specs.Objects.{catalog_tree, number_in}
+use Rattle.sqlite_value.specs.Order.{bytes}
 use Rattle.office_tables_shelf.specs.Content.{Content, no_content}
-use Rattle.office_tables_sql.specs.Schema.{front_schema, no_schema, place_after}
+use Rattle.office_tables_sql.specs.Calls.{IsHonest, IsOffice}
+use Rattle.office_tables_sql.specs.Schema.{IsFront, front_schema, no_schema, office_schema, place_after}
+use Rattle.office_tables_sql.specs.Stored.{content_of}
 use Rattle.office_tables_open.specs.Arranged.{IsArranged}
-use Rattle.office_tables_open.specs.Found.{IsFoundIn}
-use Rattle.office_tables_open.specs.Lacking.{Hold, IsLacking, Lacks}
+use Rattle.office_tables_open.specs.Found.{IsFoundIn, IsUnclaimed}
+use Rattle.office_tables_open.specs.Lacking.{Hold, IsLacking, Lacks, content_before, emptied_from}
 use Rattle.office_tables_open.specs.Version.{AreEmpty, version_at, version_in, current_version}
 use Rattle.office_tables_open.specs.declared.found.Found.TheVariants.{Today}
 use Rattle.office_tables_open.specs.declared.found.TheConstants.{KEEPER}
 use Rattle.office_tables_open.proofs.BlankLemmas.{empty_if_absent}
 use Rattle.office_tables_open.proofs.FoundLemmas.{none_here}
-use Rattle.office_tables_open.proofs.FrontLemmas.{below_8}
+use Rattle.office_tables_open.proofs.FrontLemmas.{below_8, first_indexes, first_tables, last_table, same_eight}
 use Rattle.office_tables_open.proofs.VersionLemmas.{empty_content}
-
--- ---- tables without a row lack none
-
-abbrev IsFree : ℕ → Type 0
-IsFree count = (trees : Trees) → AreEmpty trees → trees (place_after count) ≡ []
-
-empty_place : (count : ℕ) → count < 8 → IsFree count
-empty_place = below_8 IsFree (λ trees e. e.0) (λ trees e. e.1.0) (λ trees e. e.1.1.0) (λ trees e. e.1.1.1.0) (λ trees e. e.1.1.1.1.0) (λ trees e. e.1.1.1.1.1.0) (λ trees e. e.1.1.1.1.1.1.0) (λ trees e. e.1.1.1.1.1.1.1.0)
-
-pub empty_whole : (trees : Trees) → AreEmpty trees → IsLacking trees → ⊥
-empty_whole trees empty lacks =
-    let is = lacks.1 in
-    absurd (let e : Some current_version ≡ None = sym is.stored ∙ none_here trees (place_after lacks.0) (empty_place lacks.0 is.some trees empty) in cc)
-
--- so tell the rows that a call finds
-pub empty_if : {A E : Type 0} (r : Result A E) (was trees : Trees) → trees ≡ was → OnOk r (AreEmpty trees) → OnOk r (¬ IsLacking was)
-empty_if (Ok x) was trees same empty = empty_whole was (subst AreEmpty same empty)
-empty_if (Err e) was trees same empty = tt
-
--- where the version stands in its place, no table is missing
-pub stored_whole : (trees : Trees) → version_in trees ≡ Some current_version → IsLacking trees → ⊥
-stored_whole trees stored lacks = absurd (let e : Some current_version ≡ None = sym stored ∙ lacks.1.elsewhere in cc)
-
-pub hold_none : (trees : Trees) (tables : Content) → AreEmpty trees → Hold trees tables → tables ≡ no_content
-hold_none trees tables empty (inl whole) = whole.1 ∙ empty_content trees empty
-hold_none trees tables empty (inr lacks) = absurd (empty_whole trees empty (lacks.0, lacks.1))
 
 -- ---- the first tables alone, and then that of the version
 
-abbrev is_keeper_at : ℕ → Table → Bool
-is_keeper_at place t = not (same_name t.name KEEPER.now) || t.tree == place
+abbrev is_other : Table → Bool
+is_other t = not (same_name t.name KEEPER.now)
 
-record IsFront (count : ℕ) : Type 0 where
-  keeper : list_all (is_keeper_at (place_after count)) (front_schema count).tables ≡ true
-  tables : list_all (λ (t : Table). nat_lt t.tree 15) (front_schema count).tables ≡ true
-  indexes : list_all (λ (i : Index). nat_lt i.tree 15) (front_schema count).indexes ≡ true
+-- what is known of the first tables by their number
+record AreFirst (count : ℕ) : Type 0 where
+  long : length (first_tables count) ≡ count
+  named : list_all is_other (first_tables count) ≡ true
+  tables : list_all (λ (t : Table). nat_lt t.tree (place_after count)) (first_tables count) ≡ true
+  indexes : list_all (λ (i : Index). nat_lt i.tree (place_after count)) (first_indexes count) ≡ true
 
-fronts : (count : ℕ) → count < 8 → IsFront count
+are_first : (count : ℕ) → count < 8 → AreFirst count
 unfolding everything
-fronts = below_8 IsFront
-    (record { keeper = refl; tables = refl; indexes = refl }) (record { keeper = refl; tables = refl; indexes = refl })
-    (record { keeper = refl; tables = refl; indexes = refl }) (record { keeper = refl; tables = refl; indexes = refl })
-    (record { keeper = refl; tables = refl; indexes = refl }) (record { keeper = refl; tables = refl; indexes = refl })
-    (record { keeper = refl; tables = refl; indexes = refl }) (record { keeper = refl; tables = refl; indexes = refl })
+are_first = below_8 AreFirst
+    (record { long = refl; named = refl; tables = refl; indexes = refl }) (record { long = refl; named = refl; tables = refl; indexes = refl })
+    (record { long = refl; named = refl; tables = refl; indexes = refl }) (record { long = refl; named = refl; tables = refl; indexes = refl })
+    (record { long = refl; named = refl; tables = refl; indexes = refl }) (record { long = refl; named = refl; tables = refl; indexes = refl })
+    (record { long = refl; named = refl; tables = refl; indexes = refl }) (record { long = refl; named = refl; tables = refl; indexes = refl })
 
 keeper_named : same_name KEEPER.now KEEPER.now ≡ true
 unfolding everything
 keeper_named = refl
 
-keeper_place : (place : ℕ) (t : Table) → t.name ≡ KEEPER.now → is_keeper_at place t ≡ true → t.tree ≡ place
-keeper_place place t named is =
-    let at : (t.tree == place) ≡ true = rw (ap (λ name. same_name name KEEPER.now) named ∙ keeper_named) at is in
-    eqb-true t.tree place at
-
-not_below : (tree : ℕ) → tree ≡ 15 → nat_lt tree 15 ≡ true → ⊥
-not_below tree is low = true≢false (sym low ∙ ap (λ n. nat_lt n 15) is)
-
-module _ (trees : Trees) (it : IsArranged trees) (count : ℕ) (some : count < 8) (listed : AreListed (trees catalog_tree) (front_schema count)) where
-  none_behind : trees 15 ≡ []
-  none_behind = elim (named_tree it.listed it.objects.0 listed 15 (λ e. absurd (omega (arith, e))) (λ e. absurd (omega (arith, e)))) [
-    | inl (t, there, at) ↦ absurd (not_below t.tree at (test_has (λ (t : Table). nat_lt t.tree 15) (front_schema count).tables t (fronts count some).tables there))
-    | inr (inl (i, there, at)) ↦ absurd (not_below i.tree at (test_has (λ (i : Index). nat_lt i.tree 15) (front_schema count).indexes i (fronts count some).indexes there))
-    | inr (inr (inl (w, there, at))) ↦ absurd there
-    | inr (inr (inr none)) ↦ empty_if_absent trees it 15 (omega arith) none
+module _ (count place : ℕ) (some : count < 8) where
+  -- a table of that name is the last one
+  keeper_place : (t : Table) → Has (front_schema count place).tables t → t.name ≡ KEEPER.now → t.tree ≡ place
+  keeper_place t there named = elim (has_either (first_tables count) (last_table place ∷ []) t there) [
+    | inl first ↦ absurd (let other : is_other t ≡ true = test_has is_other (first_tables count) t (are_first count some).named first in
+        let same : same_name t.name KEEPER.now ≡ true = ap (λ name. same_name name KEEPER.now) named ∙ keeper_named in true≢false (sym other ∙ ap not same))
+    | inr (inl last) ↦ ap (λ (x : Table). x.tree) last
+    | inr (inr none) ↦ absurd none
   ]
 
+  module _ (trees : Trees) (it : IsArranged trees) (listed : AreListed (trees catalog_tree) (front_schema count place)) where
+    -- no tree behind those of the first tables has a row, but that of the version
+    none_behind : (tree : ℕ) → place_after count ≤ tree → tree < 16 → tree ≢ place → trees tree ≡ []
+    none_behind tree behind low other = elim (named_tree it.listed it.objects.0 listed tree (λ e. absurd (omega (arith, e, low))) (λ e. absurd (omega (arith, e, low)))) [
+      | inl (t, there, at) ↦ absurd (elim (has_either (first_tables count) (last_table place ∷ []) t there) [
+        | inl first ↦ below t.tree at (test_has (λ (x : Table). nat_lt x.tree (place_after count)) (first_tables count) t (are_first count some).tables first)
+        | inr (inl last) ↦ other (sym at ∙ ap (λ (x : Table). x.tree) last)
+        | inr (inr none) ↦ none
+      ])
+      | inr (inl (i, there, at)) ↦ absurd (below i.tree at (test_has (λ (x : Index). nat_lt x.tree (place_after count)) (first_indexes count) i (are_first count some).indexes there))
+      | inr (inr (inl (w, there, at))) ↦ absurd there
+      | inr (inr (inr none)) ↦ empty_if_absent trees it tree (omega (arith, low)) none
+    ]
+      where
+        below : (t : ℕ) → t ≡ tree → nat_lt t (place_after count) ≡ true → ⊥
+        below t at high = absurd (omega (arith, at, behind, ltb-true t (place_after count) high))
+
 -- what was found in such tables, where today's version is stored
-pub found_lacks : (s : State) → s.now ≡ s.committed → IsFoundIn Today s → IsArranged s.committed.trees → (count : ℕ) → count < 8 → s.now.schema ≡ front_schema count → Lacks count s.committed.trees
-found_lacks s settled found arranged count some is =
+pub found_lacks : (s : State) → s.now ≡ s.committed → IsFoundIn Today s → IsArranged s.committed.trees → (count : ℕ) → count < 8 → IsFront count s.now.schema → Lacks count s.committed.trees
+found_lacks s settled found arranged count some front =
     let trees = s.committed.trees in
-    let listed : AreListed (trees catalog_tree) (front_schema count) = subst (λ (d : Database). AreListed (d.trees catalog_tree) (front_schema count)) settled (subst (AreListed (s.now.trees catalog_tree)) is found.live.lists.listed) in
+    let schema = front_schema count front.place in
+    let listed : AreListed (trees catalog_tree) schema = subst (λ (d : Database). AreListed (d.trees catalog_tree) schema) settled (subst (AreListed (s.now.trees catalog_tree)) front.is found.live.lists.listed) in
     let at = found.holds in
-    let there : Has (front_schema count).tables at.0 = subst (λ (sc : Schema). Has sc.tables at.0) is at.1 in
-    let place = keeper_place (place_after count) at.0 at.2.keeps.named (test_has (is_keeper_at (place_after count)) (front_schema count).tables at.0 (fronts count some).keeper there) in
-    record { some = some; listed = listed; stored = ap (λ tree. version_at tree trees) (sym place) ∙ at.2.stored; elsewhere = none_here trees 15 (none_behind trees arranged count some listed) }
+    let there : Has schema.tables at.0 = subst (λ (sc : Schema). Has sc.tables at.0) front.is at.1 in
+    let place = keeper_place count front.place some at.0 there at.2.keeps.named in record {
+      some = some;
+      place = front.place;
+      behind = front.behind;
+      listed = listed;
+      stored = ap (λ tree. version_at tree trees) (sym place) ∙ at.2.stored;
+      alone = none_behind count front.place some trees arranged listed;
+    }
+
+-- ---- tables that lack none
+
+zipped_length : {X Y : Type 0} (R : X → Y → Type 0) (xs : List X) (ys : List Y) → AllZip R xs ys → length xs ≡ length ys
+zipped_length R [] [] h = refl
+zipped_length R [] (y ∷ ys) h = absurd h
+zipped_length R (x ∷ xs) [] h = absurd h
+zipped_length R (x ∷ xs) (y ∷ ys) h = ap suc (zipped_length R xs ys h.1)
+
+front_length : (count place : ℕ) → count < 8 → length (front_schema count place).tables ≡ suc count
+front_length count place some = length-append (first_tables count) (last_table place ∷ []) ∙ ap (λ n. n + 1) (are_first count some).long ∙ omega arith
+
+-- nine tables are listed there
+pub listed_whole : (trees : Trees) → AreListed (trees catalog_tree) office_schema → IsLacking trees → ⊥
+listed_whole trees listed lacks =
+    let is = lacks.1 in
+    let nine = zipped_length IsTableRow (filter is_table_row (trees catalog_tree)) office_schema.tables listed.tables in
+    let fewer = zipped_length IsTableRow (filter is_table_row (trees catalog_tree)) (front_schema lacks.0 is.place).tables is.listed.tables in
+    absurd (omega (arith, is.some, sym nine ∙ fewer ∙ front_length lacks.0 is.place is.some))
+
+pub office_whole : (s : State) → IsOffice s → IsHonest s → IsLacking s.now.trees → ⊥
+office_whole s office honest = listed_whole s.now.trees (subst (AreListed (s.now.trees catalog_tree)) (office.schema honest) (office.sound honest).lists.listed)
+
+-- no version is stored there
+pub unclaimed_whole : (trees : Trees) → IsUnclaimed trees → IsLacking trees → ⊥
+unclaimed_whole trees unclaimed lacks =
+    let is = lacks.1 in
+    let last = last_table is.place in
+    let rows = filter is_table_row (trees catalog_tree) in
+    let row = zipped_left IsTableRow rows (front_schema lacks.0 is.place).tables last is.listed.tables (has_right (first_tables lacks.0) (last ∷ []) last (inl refl)) in
+    let same = zipped_right IsTableRow rows unclaimed.0.tables row.0 unclaimed.1.tables row.1 in
+    let named : same.0.name ≡ KEEPER.now = ap bytes (sym same.2.described.name_is ∙ row.2.described.name_is) in
+    let numbers : same.0.tree + 1 ≡ is.place + 1 = ap number_in (sym same.2.described.id ∙ row.2.described.id) in
+    let place : same.0.tree ≡ is.place = omega (arith, numbers) in
+    let none = all_has (λ (t : Table). t.name ≡ KEEPER.now → version_at t.tree trees ≡ None) unclaimed.0.tables same.0 unclaimed.2.0 same.1 named in
+    absurd (let e : Some current_version ≡ None = sym is.stored ∙ ap (λ tree. version_at tree trees) (sym place) ∙ none in cc)
+
+-- ---- what they hold
+
+module _ (place : ℕ) (trees : Trees) where
+  empty_still : (tree : ℕ) → trees tree ≡ [] → emptied_from place trees tree ≡ []
+  empty_still tree empty = elim (nat_lt tree place) as (λ b. cond b (trees tree) [] ≡ []) [ true ↦ empty | false ↦ refl ]
+
+  kept_still : (tree : ℕ) → (nat_lt tree place ≡ false → trees tree ≡ []) → emptied_from place trees tree ≡ trees tree
+  kept_still tree empty = elim (cases_Bool (nat_lt tree place)) [
+    | inl low ↦ rw low
+    | inr high ↦ let shown : emptied_from place trees tree ≡ [] = rw high in shown ∙ sym (empty high)
+  ]
+
+pub hold_none : (trees : Trees) (tables : Content) → AreEmpty trees → Hold trees tables → tables ≡ no_content
+hold_none trees tables e (inl whole) = whole.1 ∙ empty_content trees e
+hold_none trees tables e (inr lacks) =
+    let place = place_after lacks.0 in
+    lacks.2 ∙ empty_content (emptied_from place trees)
+    (empty_still place trees _ e.0, (empty_still place trees _ e.1.0, (empty_still place trees _ e.1.1.0, (empty_still place trees _ e.1.1.1.0, (empty_still place trees _ e.1.1.1.1.0, (empty_still place trees _ e.1.1.1.1.1.0, (empty_still place trees _ e.1.1.1.1.1.1.0, (empty_still place trees _ e.1.1.1.1.1.1.1.0, tt))))))))
+
+-- where the version stands in today's place, the trees of the tables that are missing hold nothing
+module _ (trees : Trees) (count : ℕ) (lacks : Lacks count trees) (stored : version_in trees ≡ Some current_version) where
+  today_place : lacks.place ≡ 15
+  today_place = elim (eqb_tells 15 lacks.place) [
+    | inl same ↦ sym same.1
+    | inr other ↦ absurd (let none = none_here trees 15 (lacks.alone 15 (omega (arith, lacks.some)) (omega arith) other.1) in
+        let e : Some current_version ≡ None = sym stored ∙ none in cc)
+  ]
+
+  kept_here : (tree : ℕ) → tree < 15 → emptied_from (place_after count) trees tree ≡ trees tree
+  kept_here tree low = kept_still (place_after count) trees tree
+      (λ high. lacks.alone tree (ltb-false tree (place_after count) high) (omega (arith, low)) (λ e. absurd (omega (arith, e, low, today_place))))
+
+  pub today_content : content_before count trees ≡ content_of trees
+  today_content = same_eight (emptied_from (place_after count) trees) trees
+      (kept_here 0 (omega arith), (kept_here 1 (omega arith), (kept_here 3 (omega arith), (kept_here 5 (omega arith), (kept_here 7 (omega arith), (kept_here 9 (omega arith), (kept_here 11 (omega arith), (kept_here 13 (omega arith), tt))))))))
 
 -- ---- a schema with a table
 
@@ -110,5 +179,5 @@ snoc_some : {X : Type 0} (xs : List X) (y : X) → xs ++ y ∷ [] ≡ [] → ⊥
 snoc_some [] y e = absurd (cc)
 snoc_some (x ∷ xs) y e = absurd (cc)
 
-pub front_some : (count : ℕ) (schema : Schema) → schema ≡ front_schema count → schema ≡ no_schema → ⊥
-front_some count schema is blank = snoc_some _ _ (ap (λ (s : Schema). s.tables) (sym is ∙ blank))
+pub front_some : (count : ℕ) (schema : Schema) → IsFront count schema → schema ≡ no_schema → ⊥
+front_some count schema front blank = snoc_some _ _ (ap (λ (s : Schema). s.tables) (sym front.is ∙ blank))

@@ -1,5 +1,5 @@
 -- What is left of a database whose tables were refused.
-use Rattle.std.proofs.Common.{◌≡◌, ◌≢◌, ◌⊎◌, inl, inr, ℕ, false, Result, Ok, Err, IsTrue, refl, sym, ap, subst, ◌∙◌, arith}
+use Rattle.std.proofs.Common.{◌≡◌, ◌≢◌, ◌⊎◌, inl, inr, ℕ, false, Result, Ok, IsTrue, refl, sym, ap, subst, ◌∙◌, arith}
 use Rattle.std.proofs.lemmas.Result.{IfOk-weaker}
 use Rattle.sqlite.specs.Effect.{Database}
 use Rattle.sqlite.specs.Held.{Held, state}
@@ -12,7 +12,7 @@ use Rattle.office_tables_sql.specs.Calls.{IsHonest}
 use Rattle.office_tables_open.specs.Arranged.{IsCheckedAgain}
 use Rattle.office_tables_open.specs.Found.{HasOtherVersion, HasRowsAlone, IsUnclaimed}
 use Rattle.office_tables_open.specs.Lacking.{Completes, Lacks}
-use Rattle.office_tables_open.specs.Opening.{AreGone, Claims, IsAsFound, IsCleanStore, IsHonestStore, IsIdleOrSame, IsLeft, IsNewOffice, IsRefused, IsSettled, MayBeNew, OnlyReads, TellsOfTables, WereDropped, store_left}
+use Rattle.office_tables_open.specs.Opening.{AreGone, Claims, IsAsFound, IsIdleOrSame, IsLeft, IsNewOffice, IsRefused, IsSettled, MayBeNew, OnlyReads, TellsOfTables, WereDropped, store_left}
 use Rattle.office_tables_open.specs.declared.open.OpenFault.{OpenFault}
 use Rattle.office_tables_open.specs.declared.open.OpenFault.TheVariants as fault
 

@@ -27,7 +27,7 @@ use Rattle.office_tables_open.specs.declared.found.TheConstants.{KEEPER}
 use Rattle.office_tables_open.proofs.ArrangedLemmas.{tables_rise}
 use Rattle.office_tables_open.proofs.BlankLemmas.{found_empty}
 use Rattle.office_tables_open.proofs.FoundLemmas.{apart, differ, store_none, have_no_row}
-use Rattle.office_tables_open.proofs.LackingLemmas.{empty_whole, hold_none}
+use Rattle.office_tables_open.proofs.LackingLemmas.{hold_none, unclaimed_whole}
 use Rattle.office_tables_open.proofs.VersionLemmas.{empty_content}
 
 pub not_true : (b : Bool) → not b ≡ true → b ≡ false
@@ -98,7 +98,7 @@ module _ {S : Type 0} (g : Ghosts S) (conn : Held S) (shelf : SqlView S) where
     made_new : (IsHonest (state g new) → IsMadeNew (state g conn) (state g new)) → IsHonest (state g new) → Hold (state g conn).committed.trees (content_now (state g new))
     made_new made h =
         let was = (state g conn).committed.trees in
-        inl (empty_whole was (made h).empty, (made h).office.content ∙ sym (empty_content was (made h).empty))
+        inl (unclaimed_whole was (made h).unclaimed, (made h).office.content ∙ sym (empty_content was (made h).empty))
 
     -- tables that were made
     pub opened_made : (IsHonest (state g new) → AreMade (state g conn) (state g new)) → IsOpened g conn shelf

@@ -1,5 +1,5 @@
--- Databases that lack tables: the first of the eight stand as today, then that of the version, which stores today's, and no other.
-use Rattle.std.specs.Prelude.{◌≡◌, ◌⊎◌, ℕ, ◌<◌, nat_lt, if◌then◌else◌, [], Some, None}
+-- Databases that lack tables: the first of the eight stand as today, then that of the version, which stores today's, and no other. The others were never made, or they were dropped.
+use Rattle.std.specs.Prelude.{◌≡◌, ◌≢◌, ◌⊎◌, ◌≤◌, ℕ, ◌<◌, nat_lt, if◌then◌else◌, [], Some}
 use Rattle.std.specs.List.{AllByRecursion}
 use Rattle.sqlite.specs.State.{State}
 use Rattle.sqlite.specs.Tree.{Trees}
@@ -9,16 +9,18 @@ use Rattle.sqlite_trees.specs.Objects.{catalog_tree}
 use Rattle.sqlite_trees.specs.declared.store.Shape.TheVariants as shape
 use Rattle.office_tables_shelf.specs.Content.{Content}
 use Rattle.office_tables_sql.specs.Calls.{IsReady}
-use Rattle.office_tables_sql.specs.Schema.{front_schema, place_after}
+use Rattle.office_tables_sql.specs.Schema.{IsFront, front_schema, place_after}
 use Rattle.office_tables_sql.specs.Stored.{content_now, content_of}
 use Rattle.office_tables_open.specs.Version.{version_at, version_in, current_version}
 
 -- so many of the eight tables are there, the others are missing, and today's version is stored
 pub record Lacks (count : ℕ) (trees : Trees) : Type 0 where
   pub some : count < 8
-  pub listed : AreListed (trees catalog_tree) (front_schema count)
-  pub stored : version_at (place_after count) trees ≡ Some current_version
-  pub elsewhere : version_in trees ≡ None
+  pub place : ℕ
+  pub behind : place_after count ≤ place
+  pub listed : AreListed (trees catalog_tree) (front_schema count place)
+  pub stored : version_at place trees ≡ Some current_version
+  pub alone : (tree : ℕ) → place_after count ≤ tree → tree < 16 → tree ≢ place → trees tree ≡ []
 
 abbrev pub IsLacking : Trees → Type 0
 IsLacking trees = (count : ℕ) × Lacks count trees
@@ -55,7 +57,7 @@ Rise s = AllByRecursion (λ t. IsShaped shape.Table (s.now.trees t.tree)) s.now.
 -- a connection sees so many of the tables, and then that of the version
 pub record SeesFront (count : ℕ) (s : State) : Type 0 where
   pub some : count < 8
-  pub schema : s.now.schema ≡ front_schema count
+  pub front : IsFront count s.now.schema
   pub rise : Rise s
 
 -- inside the transaction in which the others were made

@@ -1,4 +1,5 @@
-//! Tables that are missing behind the first ones, made where today's version is stored.
+//! Tables that are missing behind the first ones, never made or dropped, made where today's version
+//! is stored.
 
 ghost use Rattle.std.specs.Prelude.{◌≡◌, ◌<◌, true, false, drop, map, OnOk};
 ghost use Rattle.sqlite.specs.Held.{state};

@@ -9,7 +9,6 @@ ghost use Rattle.office_tables_sql.specs.Schema.{no_schema};
 ghost use Rattle.office_tables_sql.specs.Calls.{IsHonest, IsOffice, StandsOn, StaysOpen};
 ghost use Rattle.office_tables_open.specs.Version.{AreEmpty, HasRow};
 ghost use Rattle.office_tables_open.specs.Found.{HasOtherVersion, HasRowsAlone, IsOurs};
-ghost use Rattle.office_tables_open.specs.Lacking.{IsLacking};
 ghost use Rattle.office_tables_open.specs.Opening.{AreRun, WereDropped, KeepsOrDrops, IsRefused};
 ghost use Rattle.office_tables_open.specs.Opening.{IsOpenIfClean};
 ghost use Rattle.office_tables_open.specs.Opening.{IsNew, IsNewOffice, AreMade, IsSettled};
@@ -241,8 +240,6 @@ pub fn claim<S: Alter>(conn: &mut Connection<S>) -> Result<(), OpenFault>
     ensures open { StaysOpen result (state S.Store conn.new) }
     ensures taken { IsHonest (state S.Store conn.new) →
         OnOk result (MayBeTaken (state S.Store conn.old).now.trees) }
-    ensures whole { IsHonest (state S.Store conn.new) →
-        OnOk result (¬ IsLacking (state S.Store conn.old).now.trees) }
     ensures version { IsHonest (state S.Store conn.new) → result ≡ Err OpenFault.Version →
         HasOtherVersion (state S.Store conn.old).now.trees }
     ensures damaged { IsHonest (state S.Store conn.new) → result ≡ Err OpenFault.Damaged →

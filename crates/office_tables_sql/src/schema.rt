@@ -1,8 +1,8 @@
 //! Whether a database has the tables of the office.
 
-ghost use Rattle.std.specs.Prelude.{◌≡◌, ◌<◌, take, length, IsTrue, IfSome};
+ghost use Rattle.std.specs.Prelude.{◌≡◌, ◌<◌, ◌≤◌, take, length, IsTrue, IfSome};
 ghost use Rattle.office_tables_sql.specs.Schema.{office_schema, no_schema, version_table};
-ghost use Rattle.office_tables_sql.specs.Schema.{numbered, place_after, front_schema};
+ghost use Rattle.office_tables_sql.specs.Schema.{numbered, place_after, IsFront};
 
 mod parts;
 mod tables;
@@ -46,19 +46,20 @@ fn are_first(tables: &[Table], indexes: &[Index]) -> bool
     are_first_tables(tables, wanted) && are_first_indexes(indexes, wanted)
 }
 
-/// Whether this is the table of the version, under the number that follows so many other tables.
+/// Whether this is the table of the version, under a number behind those of so many other tables.
 fn is_keeper_after(table: &Table, count: usize) -> bool
     requires { count < 8 }
-    ensures { IsTrue result → table.now ≡ numbered version_table (place_after count) }
+    ensures behind { IsTrue result → place_after count ≤ table.now.tree }
+    ensures is { IsTrue result → table.now ≡ numbered version_table table.now.tree }
 {
-    table.tree as usize == (2 * count).saturating_sub(1) && is_alike(table, &TABLES[8])
+    table.tree as usize >= (2 * count).saturating_sub(1) && is_alike(table, &TABLES[8])
 }
 
 /// How many of the eight tables are there, where they are the first ones, and then comes that of
-/// the version, and nothing else.
+/// the version, and nothing else. A table that was dropped leaves a gap before it.
 pub fn front_of(schema: &Schema) -> Option<usize>
     ensures few { IfSome result (λ count. count < 8) }
-    ensures is { IfSome result (λ count. schema.now ≡ front_schema count) }
+    ensures is { IfSome result (λ count. IsFront count schema.now) }
 {
     let Some((last, tables)) = schema.tables.as_slice().split_last() else {
         return None;

@@ -22,7 +22,7 @@ use Rattle.office_tables.specs.Stored.{content_now, content_of}
 use Rattle.office_tables.specs.Migrate.{IsBrought, MayBecome}
 use Rattle.office_tables_open.specs.Version.{version_in, current_version, first_version}
 use Rattle.office_tables_open.specs.declared.open.OpenFault.{OpenFault}
-use Rattle.office_tables_open.proofs.LackingLemmas.{stored_whole}
+use Rattle.office_tables_open.proofs.LackingLemmas.{today_content}
 use Rattle.office_tables_former.specs.Migration.{StandAnew}
 use Rattle.office_tables_former.specs.declared.puts.Migrated.{Migrated}
 use Rattle.office_tables_former.proofs.Migration.{stand_anew}
@@ -69,7 +69,7 @@ held_today image db office holds stand = λ trees those.
 pub in_files : (image : Image) (office : Office) → StandTodayInFiles image office → StandInFiles image office
 in_files image office today = λ trees those tables hold. elim hold [
   | inl whole ↦ subst (λ (t : Content). StandForSound t office) (sym whole.1) (today trees those).stand.stand
-  | inr lacks ↦ absurd (stored_whole trees (today trees those).version (lacks.0, lacks.1))
+  | inr lacks ↦ subst (λ (t : Content). StandForSound t office) (sym (lacks.2 ∙ today_content trees lacks.0 lacks.1 (today trees those).version)) (today trees those).stand.stand
 ]
 
 -- what holds on either side of a result

@@ -17,7 +17,7 @@ returns-clause-office g c =
     let first = state g.S.Store (record c.args.conn.now { in_transaction = true }) in
     let made : HasCleanDisk (state g.S.Store mid) → IsGrown c.args.count first (state g.S.Store mid) = λ clean.
     let sees = c.requires.front (rw begun at (c.in_ok-grow.ensures.honest clean)) in
-    (rw begun at (c.in_ok-grow.ensures.made clean)) refl (record { some = sees.some; schema = sees.schema; rise = sees.rise }) in
+    (rw begun at (c.in_ok-grow.ensures.made clean)) refl (record { some = sees.some; front = sees.front; rise = sees.rise }) in
     let whole = committed_office (state g.S.Store mid) (state g.S.Store c.commit.new.self.0) it.survives.clean (λ clean. (it.ok clean).1) (λ clean. (made clean).ready) it.ended in
     let same : c.commit.new.self.0 ≡ c.conn-2-1.given.0 = search rules in
     subst (λ h. IsOffice (state g.S.Store h)) same whole
@@ -30,7 +30,7 @@ returns-clause-made g c =
     let first = state g.S.Store (record c.args.conn.now { in_transaction = true }) in
     let made : HasCleanDisk (state g.S.Store mid) → IsGrown c.args.count first (state g.S.Store mid) = λ clean.
     let sees = c.requires.front (rw begun at (c.in_ok-grow.ensures.honest clean)) in
-    (rw begun at (c.in_ok-grow.ensures.made clean)) refl (record { some = sees.some; schema = sees.schema; rise = sees.rise }) in
+    (rw begun at (c.in_ok-grow.ensures.made clean)) refl (record { some = sees.some; front = sees.front; rise = sees.rise }) in
     let P = Completes c.args.count (state g.S.Store c.args.conn.now).now.trees in
     let whole : IsHonest (state g.S.Store c.commit.new.self.0) → P (state g.S.Store c.commit.new.self.0).now.trees = λ honest. committed_rows (state g.S.Store mid) (state g.S.Store c.commit.new.self.0) it.survives.clean (λ clean. (it.ok clean).1) P (λ clean. (made clean).completes) honest.0 in
     let same : c.commit.new.self.0 ≡ c.conn-2-1.given.0 = search rules in
@@ -48,7 +48,7 @@ returns-clause-crash g c =
     let early : HasCleanDisk (state g.S.Store mid) = omega (arith, clean, c.commit.ensures.survives.clean) in
     let honest : IsHonest (state g.S.Store old) = rw begun at (it.honest early) in
     let sees = c.requires.front honest in
-    let made : IsGrown c.args.count (state g.S.Store (record old { in_transaction = true })) (state g.S.Store mid) = (rw begun at (it.made early)) refl (record { some = sees.some; schema = sees.schema; rise = sees.rise }) in
+    let made : IsGrown c.args.count (state g.S.Store (record old { in_transaction = true })) (state g.S.Store mid) = (rw begun at (it.made early)) refl (record { some = sees.some; front = sees.front; rise = sees.rise }) in
     (honest, subst Q (sym is) made.completes))
     (survives_begin g.S.Store old (state g.S.Store mid) _ (rw begun at it.crash)) c.commit.ensures.survives in
     let same : c.commit.new.self.0 ≡ c.conn-2-1.given.0 = search rules in
@@ -66,7 +66,7 @@ returns-in_err-commit-clause-crash g c =
     let early : HasCleanDisk (state g.S.Store mid) = omega (arith, clean, c.commit.ensures.survives.clean) in
     let honest : IsHonest (state g.S.Store old) = rw begun at (it.honest early) in
     let sees = c.requires.front honest in
-    let made : IsGrown c.args.count (state g.S.Store (record old { in_transaction = true })) (state g.S.Store mid) = (rw begun at (it.made early)) refl (record { some = sees.some; schema = sees.schema; rise = sees.rise }) in
+    let made : IsGrown c.args.count (state g.S.Store (record old { in_transaction = true })) (state g.S.Store mid) = (rw begun at (it.made early)) refl (record { some = sees.some; front = sees.front; rise = sees.rise }) in
     (honest, subst Q (sym is) made.completes))
     (survives_begin g.S.Store old (state g.S.Store mid) _ (rw begun at it.crash)) c.commit.ensures.survives in
     let same : c.commit.new.self.0 ≡ c.conn-2-1.given.0 = search rules in

@@ -1,9 +1,7 @@
-use Rattle.std.proofs.Common.{◌≡◌, true≢false, length, Option, sym, ap, subst, ◌∙◌}
+use Rattle.std.proofs.Common.{◌≡◌, true≢false, length, Option, sym, subst, ◌∙◌}
 use Rattle.std.specs.Prelude.{IfSome}
-use Rattle.sqlite.specs.Effect.{Database}
 use Rattle.sqlite.specs.Held.{state}
 use Rattle.sqlite.specs.Order.{Row}
-use Rattle.office_tables_open.proofs.LackingLemmas.{empty_if}
 use Rattle.office_tables_open.proofs.OpenLemmas.{office_told}
 use Rattle.office_tables_open.proofs.open.claim.Goals as goal
 
@@ -12,9 +10,3 @@ returns-clause-version g c honest told =
     let early = c.in_ok-row.ensures.kept.honest honest in
     office_told (state g.S.Store c.args.conn.now).now (c.requires.schema early) (c.requires.sound early) c.in_ok-row.field-0 c.in-Some.row c.in-Some.is (c.in_ok-row.ensures.found honest)
     (c.in_ok-is_version.ensures.number (subst (λ (o : Option Row). IfSome o (λ r. length r ≡ 1)) c.in-Some.is (c.in_ok-row.ensures.width honest)) (λ yes. true≢false (sym yes ∙ c.if-branch.false)))
-
-pub returns-in_default-clause-whole : goal.returns-in_default-clause-whole
-returns-in_default-clause-whole g c honest =
-    let was = (state g.S.Store c.args.conn.now).now.trees in
-    let it = c.claim_empty.ensures in
-    empty_if c.claim_empty.result was (state g.S.Store c.stored_version.new.conn).now.trees (ap (λ (d : Database). d.trees) (c.in_ok-row.ensures.kept.same (it.honest honest))) (it.empty honest)

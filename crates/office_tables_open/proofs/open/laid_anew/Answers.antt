@@ -1,7 +1,7 @@
-use Rattle.std.proofs.Common.{◌≡◌, inl, inr, ℕ, ◌<◌, Option, IfSome, sym, subst, ◌∙◌, arith}
+use Rattle.std.proofs.Common.{◌≡◌, inl, inr, ℕ, ◌<◌, Option, IfSome, subst, arith}
 use Rattle.sqlite.specs.Held.{state}
 use Rattle.sqlite.specs.Tree.{Trees}
-use Rattle.office_tables_sql.specs.Schema.{front_schema}
+use Rattle.office_tables_sql.specs.Schema.{IsFront}
 use Rattle.office_tables_open.specs.Arranged.{IsArranged}
 use Rattle.office_tables_open.specs.Found.{IsFoundIn}
 use Rattle.office_tables_open.specs.Lacking.{Completes}
@@ -74,7 +74,7 @@ returns-in-Ok-complete-clause-made g c honest =
     let early = c.in-Ok-complete.ensures.honest honest in
     let held = subst (λ (f : Found). IsFoundIn f s) c.in-Today.is (c.in-Ok.ensures.found early.0) in
     let few = subst (λ (o : Option ℕ). IfSome o (λ n. n < 8)) c.in-Some.is c.front_of-front.ensures.few in
-    let is = sym c.schema.ensures.value ∙ subst (λ (o : Option ℕ). IfSome o (λ n. c.schema.result.now ≡ front_schema n)) c.in-Some.is c.front_of-front.ensures.is in
+    let is = subst (IsFront c.in-Some.count) c.schema.ensures.value (subst (λ (o : Option ℕ). IfSome o (λ n. IsFront n c.schema.result.now)) c.in-Some.is c.front_of-front.ensures.is) in
     inr (record {
       was_clean = omega (arith, early.0, again.clean);
       some = front_some c.in-Some.count s.now.schema is;
@@ -93,7 +93,7 @@ returns-in-Err-complete-clause-refused g c =
     let it = c.in-Err-complete.ensures in
     let fault = c.from-in-Err-complete.ensures in
     let few = subst (λ (o : Option ℕ). IfSome o (λ n. n < 8)) c.in-Some.is c.front_of-front.ensures.few in
-    let is = sym c.schema.ensures.value ∙ subst (λ (o : Option ℕ). IfSome o (λ n. c.schema.result.now ≡ front_schema n)) c.in-Some.is c.front_of-front.ensures.is in
+    let is = subst (IsFront c.in-Some.count) c.schema.ensures.value (subst (λ (o : Option ℕ). IfSome o (λ n. IsFront n c.schema.result.now)) c.in-Some.is c.front_of-front.ensures.is) in
     refused_left g.S.Store c.args.conn _ _ fault.0 fault.1
     (mended_left g.S.Store c.args.conn c.in-Ok.found.1 again c.complete.new.conn c.in-Some.count it.honest it.kept
     (λ clean. found_lacks s (c.requires.settled (again.was_open clean)) (subst (λ (f : Found). IsFoundIn f s) c.in-Today.is (c.in-Ok.ensures.found clean)) (subst IsArranged (same_committed s found again clean) (again.arranged clean)) c.in-Some.count few is) it.crash)

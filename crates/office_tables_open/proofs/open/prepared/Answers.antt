@@ -1,4 +1,4 @@
-use Rattle.std.proofs.Common.{◌≡◌, inl, IsTrue, sym, subst, ◌∙◌, arith}
+use Rattle.std.proofs.Common.{◌≡◌, inl, IsTrue, sym, subst, ◌∙◌}
 use Rattle.sqlite.specs.Effect.{Database}
 use Rattle.sqlite.specs.Held.{state}
 use Rattle.sqlite_trees.specs.Objects.{catalog_tree}

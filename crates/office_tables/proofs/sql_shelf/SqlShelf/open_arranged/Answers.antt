@@ -8,6 +8,7 @@ use Rattle.office_tables_open.specs.Found.{HasOtherVersion, HasRowsAlone}
 use Rattle.office_tables_open.specs.Lacking.{IsLacking}
 use Rattle.office_tables_open.specs.Opening.{Claims, MayBeTaken, OnlyReads}
 use Rattle.office_tables_open.specs.declared.open.OpenFault.TheVariants.{Version, Damaged}
+use Rattle.office_tables_open.proofs.LackingLemmas.{office_whole}
 use Rattle.office_tables_open.proofs.LeftLemmas.{refused_claimed}
 use Rattle.office_tables_open.proofs.OpenLemmas.{opened_looked, opened_made}
 use Rattle.office_tables.proofs.sql_shelf.SqlShelf.open_arranged.Goals as goal
@@ -33,7 +34,7 @@ returns-in-Ok-claim-clause-opened g c =
     it.open
     (c.in-Ok.ensures.settled is) (λ h. subst (λ x. IsHonest (state g.S.Store x)) same (it.honest h))
     (λ h. it.same h ∙ ap (λ x. content_now (state g.S.Store x)) same) (λ blank. true≢false (sym (c.in-Ok.ensures.blank blank) ∙ is))
-    (λ h. subst (λ x. MayBeTaken (state g.S.Store x).now.trees) same (it.taken h)) (λ h. subst (λ x. ¬ IsLacking (state g.S.Store x).now.trees) same (it.whole h)) it.stored
+    (λ h. subst (λ x. MayBeTaken (state g.S.Store x).now.trees) same (it.taken h)) (λ h. subst (λ x. ¬ IsLacking (state g.S.Store x).now.trees) same (office_whole (state g.S.Store c.in-Ok.found.0) c.in-Ok.ensures.office (it.honest h))) it.stored
 
 pub returns-in-Err-claim-clause-refused : goal.returns-in-Err-claim-clause-refused
 returns-in-Err-claim-clause-refused g c =
