@@ -69,21 +69,16 @@ fn drafted(reply: Reply) -> Result<Violations, Fault>
 }
 
 /// What is told of the replies to an edit.
-fn edit_told(replies: Vec<Reply>) -> Result<Violations, Fault>
+fn edit_told(mut replies: Vec<Reply>) -> Result<Violations, Fault>
     ensures { result ≡ edit_told replies.items }
 {
-    let mut replies = replies.into_iter();
-    match (
-        replies.next(),
-        replies.next(),
-        replies.next(),
-        replies.next(),
-    ) {
-        (Some(first), Some(second), Some(third), None) => match opened(&first, &second) {
-            Ok(()) => drafted(third),
-            Err(fault) => Err(fault),
-        },
-        _ => Err(Fault::Store),
+    let [first, second, _] = replies.as_slice() else {
+        return Err(Fault::Store);
+    };
+    opened(first, second)?;
+    match replies.pop() {
+        Some(third) => drafted(third),
+        None => Err(Fault::Store),
     }
 }
 
