@@ -1,15 +1,11 @@
 #!/usr/bin/env bash
-# Checks a file that the program writes with a tool that is none of ours: the stock sqlite3 where it is there,
-# and else the module sqlite3 of python3. It builds nothing, and prints `ok` at the end.
+# Checks a file that the program writes with a tool that is none of ours: the stock sqlite3 where
+# it is there, and else the module sqlite3 of python3. It prints `ok` at the end.
 #
-#     tests/file.sh [PROGRAM]      the program is the one that ./office runs, where none is named
+#     tests/file.sh [PROGRAM]      the program that ./office built, where none is named
 set -eu
 top=$(cd "$(dirname "$0")/.." && pwd)
-program=${1:-$top/crates/signal_office/out/signal_office}
-[ -x "$program" ] || {
-  echo "file.sh: there is no program $program: ./office builds it" >&2
-  exit 2
-}
+program=$(python3 "$top/tests/program.py" "${@:1:1}") || exit 2
 folder=$(mktemp -d)
 trap 'rm -rf "$folder"' EXIT
 file=$folder/office.db
@@ -44,8 +40,6 @@ batch() {
 same() {
   [ "$2" = "$3" ] || fail "$1: found '$2', wanted '$3'"
 }
-
-[ -x "$program" ] || fail "there is no program at $program"
 
 body='{"id":12,"interval":365,"name":"Main St"}'
 printf 'POST /intersections HTTP/1.1\r\nContent-Length: %d\r\n\r\n%s' "${#body}" "$body" | batch

@@ -1,11 +1,13 @@
 #!/usr/bin/env python3
-"""Runs the program on what it must not be broken by, with real files: files that are none of its own, that another process
-holds, that can't be written, a full disk, outputs that are closed, and random bytes. Each run must end by itself within
-30 seconds with its status and its line on standard error, never by a signal, and what it refused must stay byte for byte.
+"""Runs the program on what it must not be broken by, with real files: files that are none of its
+own, that another process holds, that can't be written, a full disk, outputs that are closed, and
+random bytes. Each run must end by itself within 30 seconds with its status and its line on standard
+error, never by a signal, and what it refused must stay byte for byte.
 
-    tests/hostile.py [PROGRAM]      the program is the one that ./office runs, where none is named
+    tests/hostile.py [PROGRAM]      the program that ./office built, where none is named
 
-Needs Python 3.8 or later; as root it also tries a file without leave to write and a full disk. Prints a line a case, and ok."""
+As root it also tries a file without leave to write and a full disk. Prints a line a case, and ok.
+"""
 import os
 import random
 import resource
@@ -16,11 +18,9 @@ import subprocess
 import sys
 import tempfile
 
-TOP = os.path.dirname(os.path.dirname(os.path.abspath(__file__)))
-BUILT = os.path.join(TOP, "crates", "signal_office", "out", "signal_office")
-PROGRAM = os.path.abspath(sys.argv[1]) if len(sys.argv) > 1 else BUILT
-if not os.access(PROGRAM, os.X_OK):
-    sys.exit(f"hostile.py: there is no program {PROGRAM}: ./office builds it")
+from program import TOP, found
+
+PROGRAM = found(sys.argv[1:2])
 ADD = (
     b"POST /intersections HTTP/1.1\r\nContent-Length: 41\r\n\r\n"
     b'{"id":12,"interval":365,"name":"Main St"}'
@@ -37,7 +37,15 @@ ON_FILES = (
     ["edit", "--clerk", "Ana", "12", PLAN],
     ["compare", "12"],
     ["diagram", "12", "1"],
+    ["add", "12", "365", "Main St"],
+    ["abandon", "--clerk", "Ana", "12"],
+    ["list"],
+    ["stock"],
+    ["orders"],
+    ["cabinet", "12"],
+    ["page", "12"],
 )
+MAKERS = ("batch", "import", "add")  # they make the file where there is none
 failed = []
 
 
@@ -69,7 +77,7 @@ def refused(name, path, line=b"fault: store\n", migrate=None, making=None, **how
     before = held(path)
     for words in ON_FILES:
         status, out, err = run([words[0], "--db", path, *words[1:]], ADD, **how)
-        other = {"migrate": migrate, "batch": making, "import": making}.get(words[0])
+        other = {"migrate": migrate, **dict.fromkeys(MAKERS, making)}.get(words[0])
         case(f"{name}, {words[0]}", (status, out, err), (1, b"", other or line))
     case(f"{name}, the file", held(path), before)
 
@@ -78,7 +86,7 @@ def makes_none(name, path):
     """The commands that make no file tell that there is none, and leave what is there."""
     before = held(path)
     for words in ON_FILES:
-        if words[0] not in ("batch", "import"):
+        if words[0] not in MAKERS:
             told = b"fault: version\n" if words == ["migrate"] else b"fault: file\n"
             case(f"{name}, {words[0]}", run([words[0], "--db", path, *words[1:]]), (1, b"", told))
     case(f"{name}, the file", (held(path), os.path.exists(path + "-wal")), (before, False))

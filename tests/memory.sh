@@ -7,22 +7,16 @@
 # when it is run again. Each ends with the run that was refused nothing. Prints how often which
 # came, and ends with status 1 where anything else did.
 #
-#     tests/memory.sh [PROGRAM [OFFICE]]
+#     tests/memory.sh [PROGRAM [ROWS]]
 #
-# The program is crates/office_rows/out/office_rows where none is named, and the office's
-# program the one that ./office runs; `rt run` in their folders makes them. Needs a C compiler,
-# `cc`, for an allocator that is loaded before the system's and refuses one call. Takes some
-# minutes.
+# The program is the one that ./office built where none is named, and ROWS the program `office_rows`
+# as `rt run` in its folder makes it; where that is not there, its pieces are passed over, which is
+# told. Needs a C compiler, `cc`, for an allocator that is loaded before the system's and refuses
+# one call. Takes some minutes.
 set -eu
 top=$(cd "$(dirname "$0")/.." && pwd)
-program=${1:-$top/crates/office_rows/out/office_rows}
-office=${2:-$top/crates/signal_office/out/signal_office}
-for it in "$program" "$office"; do
-  [ -x "$it" ] || {
-    echo "memory.sh: there is no program $it: \`rt run\` in its crate makes it" >&2
-    exit 2
-  }
-done
+office=$(python3 "$top/tests/program.py" "${@:1:1}") || exit 2
+program=${2:-$top/crates/office_rows/out/office_rows}
 folder=$(mktemp -d)
 trap 'rm -rf "$folder"' EXIT
 
@@ -114,18 +108,29 @@ try_command() {
   return $status
 }
 
-printf 'POST /intersections HTTP/1.1\r\nContent-Length: 41\r\n\r\n%s' \
-  '{"id":12,"interval":365,"name":"Main St"}' |
-  "$office" batch --db "$folder/office.db" >"$folder/added"
+"$office" add --db "$folder/office.db" 12 365 "Main St" >"$folder/added"
 plan=$top/bench/plan.csv
 "$office" edit --db "$folder/office.db" --clerk Ana --commit 12 "$plan" >"$folder/committed"
 "$office" edit --db "$folder/office.db" --clerk Ana 12 "$plan" >"$folder/opened"
 sed 's/^split,1,2,35/split,1,2,34/' "$plan" >"$folder/changed.csv"
 printf 'inspection,12,1,2026-03-01,Ana,Fan cleaned\n' >"$folder/records.csv"
 
-try requests & pieces=$!
-try maps & pieces="$pieces $!"
-try tables & pieces="$pieces $!"
+pieces=
+if [ -x "$program" ]; then
+  for piece in requests maps tables; do
+    try "$piece" & pieces="$pieces $!"
+  done
+else
+  echo "memory.sh: the pieces of office_rows are passed over: there is no program $program"
+fi
+try_command same add --db office.db 13 365 Elm & pieces="$pieces $!"
+try_command "" list --db office.db & pieces="$pieces $!"
+try_command "" stock --db office.db & pieces="$pieces $!"
+try_command "" orders --db office.db & pieces="$pieces $!"
+try_command "" cabinet --db office.db 12 & pieces="$pieces $!"
+try_command "fault: NotTransaction" abandon --db office.db --clerk Ana 12 & pieces="$pieces $!"
+try_command "" page --db office.db 12 & pieces="$pieces $!"
+try_command "" page --file "$plan" & pieces="$pieces $!"
 try_command "" sheet --db office.db 12 & pieces="$pieces $!"
 try_command "" overdue --db office.db 2027-03-02 & pieces="$pieces $!"
 try_command "" verify-file "$folder/changed.csv" & pieces="$pieces $!"

@@ -1,21 +1,19 @@
 #!/usr/bin/env bash
-# Starts the program as a server on the loopback network over a file, asks it over one connection that is
-# kept open, makes a whole transaction and a run of the cabinet register over seventeen more, and compares
-# what it answers. Then come clients that send nothing, half a head, or read nothing of a large answer, each
-# of which the server ends after 30 seconds, and clients that close in the middle: after each the next one is
-# answered. It waits for the server's end, and prints the timing sheet from the file. Needs curl and Python 3,
-# and takes some two minutes. Prints ok.
+# Starts the program as a server on the loopback network over a file, asks it over one connection
+# that is kept open, makes a whole transaction and a run of the cabinet register over seventeen
+# more, and compares what it answers. Then come clients that send nothing, half a head, or read
+# nothing of a large answer, each of which the server ends after 30 seconds, and clients that close
+# in the middle: after each the next one is answered. It waits for the server's end, and prints the
+# timing sheet from the file. Needs curl and Python 3, and takes some two minutes. Prints ok.
 #
-#     tests/server.sh [PROGRAM [PORT]]      the program is the one that ./office runs, the port 8312, where none is named
+#     tests/server.sh [PROGRAM [PORT]]      the program that ./office built, and a port that is
+#                                           free, where none is named
 set -eu
 top=$(cd "$(dirname "$0")/.." && pwd)
-program=${1:-$top/crates/signal_office/out/signal_office}
-port=${2:-8312}
+program=$(python3 "$top/tests/program.py" "${@:1:1}") || exit 2
+free='import socket; it = socket.create_server(("127.0.0.1", 0)); print(it.getsockname()[1])'
+port=${2:-$(python3 -c "$free")}
 address=http://127.0.0.1:$port
-[ -x "$program" ] || {
-  echo "server.sh: there is no program $program: ./office builds it" >&2
-  exit 2
-}
 folder=$(mktemp -d)
 server=
 client=

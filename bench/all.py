@@ -1,0 +1,194 @@
+"""Measures the program beside Python over `sqlite3` that does the same work, and prints one table.
+
+    python3 bench/all.py [PROGRAM] [--only WORK] [--times N] [--instructions] [--write]
+
+The program is the one at that path, or the one that `./office` built. A figure is the processor
+seconds of the least of three runs, less those of a run without the work, and memory the most that
+the program held. Of requests and reports the answers of both programs are compared. With
+--instructions, which needs valgrind, a twentieth of each stream is done once, and instructions are
+counted: seconds swing by a third on many machines, and these do not. With --times each stream is
+so many times as long. With --write the table is put into docs/MEASUREMENTS.md.
+"""
+import argparse
+import dataclasses
+import os
+import pathlib
+import re
+import shutil
+import socket
+import subprocess
+import sys
+import tempfile
+
+import work
+
+HERE = pathlib.Path(__file__).resolve().parent
+sys.path.insert(0, str(HERE.parent / "tests"))
+import measured
+from program import found
+
+RUNS = 3
+DAY = "2027-03-02"
+VALGRIND = ("valgrind", "--tool=callgrind", "--callgrind-out-file=/dev/null")
+PYTHON = (sys.executable, str(HERE / "baseline.py"))
+
+
+@dataclasses.dataclass
+class Work:
+    """Some work: its name, the words of both programs, the requests before it and its own."""
+    name: str
+    words: tuple = ("batch",)
+    theirs: tuple = ("serve",)
+    before: bytes = b""
+    requests: bytes = b""
+    file: str = ""
+    made: str = ""
+
+    def arguments(self, words):
+        return [self.made if it == "FILE" else it for it in words]
+
+
+def streams(times):
+    """The works that are streams of requests."""
+    def stream(name, before, requests):
+        before = b"".join(before)
+        return Work(name, before=before, requests=before + b"".join(requests))
+
+    count, plans, several = round(200_000 * times), round(200 * times), max(1, round(5 * times))
+    new = [*work.many_intersections(), *work.imports(several)]
+    yield stream(f"adding and asking, {count:,} requests", [], work.adding_and_asking(count))
+    for name, every, four in (("all rows", 1, 0), ("four rows", 0, 1)):
+        title = f"whole plans of 60 rows, {name} changed, {plans:,} transactions"
+        yield stream(title, work.committed(), work.transactions(plans, every, four))
+    records = f"{several * work.IMPORTED:,} records"
+    yield stream(f"imports, new, {records}", new[:work.INTERSECTIONS], new[work.INTERSECTIONS:])
+    yield stream(f"imports, sent again, {records}", new, new[work.INTERSECTIONS:])
+    count = round(20_000 * times)
+    yield stream(f"inspections into one cabinet, {count:,} requests", [work.opened(12)],
+                 work.inspections(count))
+
+
+def on_files(program, folder):
+    """The works on files, which are made first."""
+    for name, words, theirs, size, fill in (
+        ("overdue over 9,999 intersections", ("overdue", "--db", "FILE", DAY),
+         ("overdue", "FILE", DAY), 9_999, work.with_inspections),
+        ("opening a file of 120,000 rows", ("batch", "--db", "FILE"),
+         ("open", "FILE"), 2_000, work.with_plans),
+        ("migrating a file of 120,000 rows", ("migrate", "--db", "FILE"),
+         ("migrate", "FILE"), 2_000, work.with_old_plans),
+    ):
+        path = os.path.join(folder, f"{name.split()[0]}.db")
+        work.filled(program, path, size, fill)
+        yield Work(name, words, theirs, file=path, made=path + ".copy")
+
+
+def ran(words, requests, folder):
+    """The processor seconds of a run, the MiB that it held, what it told, and its answers."""
+    names = [os.path.join(folder, it) for it in ("requests", "answers", "told")]
+    pathlib.Path(names[0]).write_bytes(requests)
+    with open(names[0], "rb") as source, open(names[1], "wb") as sink, open(names[2], "wb") as told:
+        child = subprocess.Popen(words, stdin=source, stdout=sink, stderr=told)
+        _, status, usage = os.wait4(child.pid, 0)
+        child.returncode = os.waitstatus_to_exitcode(status)
+    answers, said = (pathlib.Path(it).read_bytes() for it in names[1:])
+    if child.returncode:
+        sys.exit(f"{' '.join(words)} ended with {child.returncode}: {said.decode()[-400:]}")
+    return usage.ru_utime + usage.ru_stime, usage.ru_maxrss / 1024, said.decode(), answers
+
+
+def once(words, it, requests, folder):
+    if it.file:
+        shutil.copyfile(it.file, it.made)
+        pathlib.Path(it.made + "-wal").unlink(missing_ok=True)
+    return ran(words, requests, folder)
+
+
+def cost(words, it, folder, counts):
+    """What the work costs a program, in seconds or instructions, the MiB, and its answers."""
+    def least(requests):
+        if counts:
+            _, _, told, answers = once([*VALGRIND, *words], it, requests, folder)
+            return int(re.search(r"Collected : (\d+)", told)[1]), 0, answers
+        runs = [once(words, it, requests, folder) for _ in range(RUNS)]
+        return min(run[0] for run in runs), max(run[1] for run in runs), runs[0][3]
+
+    value, held, answers = least(it.requests)
+    return value - (least(it.before)[0] if it.requests else 0), held, answers
+
+
+def talk(port, requests, at_once):
+    """Sends requests over one connection, so many on the way at a time."""
+    with socket.create_connection(("127.0.0.1", port)) as wire:
+        wire.setsockopt(socket.IPPROTO_TCP, socket.TCP_NODELAY, 1)
+        for first in range(0, len(requests), at_once):
+            several, data = requests[first : first + at_once], b""
+            wire.sendall(b"".join(several))
+            while data.count(b"HTTP/1.1 200 OK") < len(several) or not data.endswith(b"}"):
+                data += wire.recv(1 << 16) or sys.exit("the server closed the connection")
+
+
+def served(program, at_once):
+    """The processor seconds of a server for 10,000 requests over one connection, and its MiB."""
+    requests = list(work.adding_and_asking(10_000))
+    with socket.create_server(("127.0.0.1", 0)) as free:
+        port = free.getsockname()[1]
+    words = [program, "serve", "--port", str(port), "--count", "1"]
+    server = subprocess.Popen(words, stdin=subprocess.DEVNULL, stdout=subprocess.PIPE)
+    server.stdout.readline()
+    talk(port, requests, at_once)
+    _, status, usage = os.wait4(server.pid, 0)
+    server.returncode = os.waitstatus_to_exitcode(status)
+    return usage.ru_utime + usage.ru_stime, usage.ru_maxrss / 1024
+
+
+def shown(value, counts):
+    return f"{value / 1e6:,.1f}" if counts else f"{value:.2f}"
+
+
+def row(program, it, folder, counts):
+    ours, held, answers = cost([program, *it.arguments(it.words)], it, folder, counts)
+    theirs, _, wanted = cost([*PYTHON, *it.arguments(it.theirs)], it, folder, counts)
+    if answers != wanted:
+        sys.exit(f"{it.name}: the two programs answer differently")
+    cells = [it.name, shown(ours, counts), shown(theirs, counts), f"{theirs / ours:.2f}"]
+    return cells if counts else [*cells, f"{held:.0f}"]
+
+
+def rows(program, only, times, counts):
+    with tempfile.TemporaryDirectory() as folder:
+        works = [*streams(times / 20 if counts else times), *on_files(program, folder)]
+        for it in works:
+            if only in it.name:
+                yield row(program, it, folder, counts)
+    for at_once in () if counts else (1, 100):
+        name = f"one kept connection, 10,000 requests, {at_once} at once"
+        if only in name:
+            ours, held = min(served(program, at_once) for _ in range(RUNS))
+            yield [name, shown(ours, counts), "-", "-", f"{held:.0f}"]
+
+
+def main():
+    parser = argparse.ArgumentParser(usage=__doc__.split("\n\n")[1].strip())
+    parser.add_argument("program", nargs="?")
+    parser.add_argument("--only", default="")
+    parser.add_argument("--times", type=float, default=1)
+    parser.add_argument("--instructions", action="store_true")
+    parser.add_argument("--write", action="store_true")
+    asked = parser.parse_args()
+    program, counts = found([asked.program] if asked.program else []), asked.instructions
+    unit = "million instructions" if counts else "processor seconds"
+    head = ["Work", f"Office, {unit}", f"Python, {unit}", "Python by office"]
+    told = []
+    for it in rows(program, asked.only, asked.times, counts):
+        told.append(it)
+        print(" | ".join(it), file=sys.stderr, flush=True)
+    text = measured.table(head if counts else [*head, "Office, MiB"], told)
+    print(text, end="")
+    if asked.write:
+        name = "instructions" if counts else "speed"
+        measured.written(name, f"{measured.machine()}:\n\n{text}")
+
+
+if __name__ == "__main__":
+    main()

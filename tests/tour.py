@@ -1,0 +1,131 @@
+#!/usr/bin/env python3
+"""Runs each command that the README's tour and docs/REFERENCE.md show, and compares what it prints
+with what stands below it.
+
+    tests/tour.py [PROGRAM]
+
+A command stands on a line that begins with four spaces and `$ `; a backslash at its end carries it
+on to the next line. What it prints stands below it, four spaces in, up to the next command or the
+end of the block. One that ends in ` &` runs on, once its first line was seen, until its document
+is done. The commands of a document run in order in one new folder, in which `./office` is the
+program and all else is as in the repository. Needs bash, and curl for what is asked by HTTP. It
+prints a line for each command, and ends with status 1 where one printed something else.
+"""
+import os
+import pathlib
+import re
+import select
+import signal
+import subprocess
+import sys
+import tempfile
+
+from program import TOP, found
+
+PARTS = (("README.md", {"A tour", "Over HTTP"}), ("docs/REFERENCE.md", None))
+LONGEST = 60  # seconds of one command
+CURL = 'silent\nshow-error\nnoproxy = "*"\n'
+
+
+def blocks(text, parts):
+    """The indented blocks of a document, or of those of its parts that are named."""
+    part, block = None, []
+    for line in [*text.splitlines(), "the end"]:
+        if line.startswith("    ") or not line.strip():
+            block.append(line[4:].rstrip())
+            continue
+        if block and (parts is None or part in parts):
+            yield block
+        block = []
+        heading = re.match(r"#+ (.*)", line)
+        part = heading[1].strip() if heading else part
+
+
+def commands(block):
+    """Each command of a block, with the lines that it has to print."""
+    shown, is_open = [], False
+    for line in block:
+        if is_open:
+            shown[-1][0] += "\n" + line
+        elif line.startswith("$ "):
+            shown.append([line[2:], []])
+        elif shown:
+            shown[-1][1].append(line)
+        is_open = bool(shown) and shown[-1][0].endswith("\\") and not shown[-1][1]
+    for command, lines in shown:
+        yield command, "\n".join(lines).rstrip("\n")
+
+
+def printed(data):
+    """What was printed as a reader sees it: without the ends of lines of HTTP and spaces at the end."""
+    text = data.decode(errors="replace").replace("\r", "")
+    return "\n".join(line.rstrip() for line in text.splitlines()).rstrip("\n")
+
+
+def furnish(folder, program):
+    """A folder that looks like the repository's, with another program and without what runs left."""
+    for path in TOP.iterdir():
+        if path.name != "office" and not path.name.startswith("."):
+            (folder / path.name).symlink_to(path)
+    (folder / "office").symlink_to(program)
+    (folder / ".curlrc").write_text(CURL)
+
+
+class Tour:
+    def __init__(self, folder):
+        self.folder, self.running = folder, []
+        self.how = {
+            "cwd": folder, "stdin": subprocess.DEVNULL, "stderr": subprocess.STDOUT,
+            "stdout": subprocess.PIPE, "env": {**os.environ, "CURL_HOME": str(folder)},
+        }
+
+    def run(self, command, wanted):
+        """What a command printed: the first line of one that runs on."""
+        if command.endswith(" &"):
+            words = ["bash", "-c", command[:-2]]
+            process = subprocess.Popen(words, start_new_session=True, **self.how)
+            self.running.append(process)
+            told = wanted and select.select([process.stdout], [], [], LONGEST)[0]
+            return printed(process.stdout.readline()) if told else ""
+        try:
+            return printed(subprocess.run(["bash", "-c", command], timeout=LONGEST, **self.how).stdout)
+        except subprocess.TimeoutExpired:
+            return f"(had not ended after {LONGEST} seconds)"
+
+    def end(self):
+        for process in self.running:
+            os.killpg(process.pid, signal.SIGKILL)
+            process.wait()
+
+
+def wrong_in(document, parts, program):
+    """How many commands of a document printed something else, and how many there are."""
+    wrong = count = 0
+    with tempfile.TemporaryDirectory() as room:
+        furnish(pathlib.Path(room), program)
+        tour = Tour(pathlib.Path(room))
+        try:
+            for block in blocks((TOP / document).read_text(), parts):
+                for command, wanted in commands(block):
+                    found_text, count = tour.run(command, wanted), count + 1
+                    is_right = found_text == wanted
+                    print(f"{'ok   ' if is_right else 'WRONG'} {document}: {command}", flush=True)
+                    if not is_right:
+                        wrong += 1
+                        print(f"--- printed\n{found_text}\n--- shown\n{wanted}\n---", flush=True)
+        finally:
+            tour.end()
+    return wrong, count
+
+
+def main():
+    program, wrong = found(sys.argv[1:2]), 0
+    for document, parts in PARTS:
+        several, count = wrong_in(document, parts, program)
+        wrong += several
+        print(f"{document}: {count} commands, of which {several} printed something else")
+    sys.exit(1 if wrong else 0)
+
+
+if __name__ == "__main__":
+    main()
