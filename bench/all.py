@@ -57,12 +57,12 @@ def streams(times):
     count, plans, several = round(200_000 * times), round(200 * times), max(1, round(5 * times))
     new = [*work.many_intersections(), *work.imports(several)]
     yield stream(f"adding and asking, {count:,} requests", [], work.adding_and_asking(count))
-    for name, every, four in (("all rows", 1, 0), ("four rows", 0, 1)):
-        title = f"whole plans of 60 rows, {name} changed, {plans:,} transactions"
+    for many, every, four in (("all", 1, 0), ("4", 0, 1)):
+        title = f"whole plans changed in {many} of 60 rows, {plans:,} transactions"
         yield stream(title, work.committed(), work.transactions(plans, every, four))
     records = f"{several * work.IMPORTED:,} records"
-    yield stream(f"imports, new, {records}", new[:work.INTERSECTIONS], new[work.INTERSECTIONS:])
-    yield stream(f"imports, sent again, {records}", new, new[work.INTERSECTIONS:])
+    yield stream(f"new imports, {records}", new[:work.INTERSECTIONS], new[work.INTERSECTIONS:])
+    yield stream(f"imports sent again, {records}", new, new[work.INTERSECTIONS:])
     count = round(20_000 * times)
     yield stream(f"inspections into one cabinet, {count:,} requests", [work.opened(12)],
                  work.inspections(count))
@@ -176,6 +176,8 @@ def main():
     parser.add_argument("--instructions", action="store_true")
     parser.add_argument("--write", action="store_true")
     asked = parser.parse_args()
+    if asked.write and (asked.only or asked.times != 1):
+        parser.error("--write wants the whole table, with streams of their own length")
     program, counts = found([asked.program] if asked.program else []), asked.instructions
     unit = "million instructions" if counts else "processor seconds"
     head = ["Work", f"Office, {unit}", f"Python, {unit}", "Python by office"]
@@ -185,9 +187,14 @@ def main():
         print(" | ".join(it), file=sys.stderr, flush=True)
     text = measured.table(head if counts else [*head, "Office, MiB"], told)
     print(text, end="")
-    if asked.write:
-        name = "instructions" if counts else "speed"
-        measured.written(name, f"{measured.machine()}:\n\n{text}")
+    if not asked.write:
+        return
+    measured.written("instructions" if counts else "speed", f"{measured.machine()}:\n\n{text}")
+    if not counts:
+        compared = [it for it in told if it[3] != "-"]
+        head = ["State", *(it[0].partition(", ")[0] for it in compared)]
+        cells = [measured.state(), *(it[3] for it in compared)]
+        measured.add_state("speed of three states", head, cells)
 
 
 if __name__ == "__main__":

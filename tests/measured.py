@@ -1,45 +1,62 @@
-"""Writes tables of docs/MEASUREMENTS.md, each between its own marks, and names the machine."""
+"""Writes tables of docs/MEASUREMENTS.md, each between its own marks, and names state and machine."""
 import datetime
 import os
 import pathlib
 import re
+import subprocess
 
 DOCUMENT = pathlib.Path(__file__).resolve().parent.parent / "docs" / "MEASUREMENTS.md"
+STATES = 3  # rows of a table that has one for each state of the repository
 
 
-def marks(name):
-    return f"<!-- {name}: begin -->\n", f"<!-- {name}: end -->\n"
+def line(cells):
+    return f"| {' | '.join(cells)} |\n"
 
 
 def table(head, rows):
     """The text of a table; what is not in the first column stands right."""
-    line = lambda cells: f"| {' | '.join(cells)} |\n"
     return line(head) + "|---|" + "---:|" * (len(head) - 1) + "\n" + "".join(map(line, rows))
 
 
-def written(name, text):
-    """Puts a text between the marks of that name in the place of what stands there."""
-    begin, end = marks(name)
+def parted(name):
+    """The document before the marks of that name, between them, and after them."""
+    begin, end = f"<!-- {name}: begin -->\n", f"<!-- {name}: end -->\n"
     whole = DOCUMENT.read_text()
     if whole.count(begin) != 1 or whole.count(end) != 1:
         raise SystemExit(f"{DOCUMENT.name} has not the marks of {name!r} once each")
     before, rest = whole.split(begin)
-    DOCUMENT.write_text(before + begin + text + end + rest.split(end)[1])
+    between, after = rest.split(end)
+    return before + begin, between, end + after
 
 
-def rows_of(name):
-    """The rows of the table that stands there, each as its cells."""
-    begin, end = marks(name)
-    text = DOCUMENT.read_text().split(begin)[1].split(end)[0]
-    lines = [line for line in text.splitlines() if line.startswith("| ")]
-    return [[cell.strip() for cell in line.strip("|").split("|")] for line in lines[1:]]
+def written(name, text):
+    """Puts a text between the marks of that name in the place of what stands there."""
+    before, _, after = parted(name)
+    DOCUMENT.write_text(before + text + after)
+
+
+def add_state(name, head, cells):
+    """Puts a row into the table of that name: under its own first cell, and the last three stay."""
+    lines = [it for it in parted(name)[1].splitlines() if it.startswith("| ")][1:]
+    rows = [[cell.strip() for cell in it.strip("|").split("|")] for it in lines]
+    rows = [*(row for row in rows if row[0] != cells[0]), cells]
+    written(name, table(head, rows[-STATES:]))
+
+
+def state():
+    """The day, and the commit that the checkout stands on."""
+    told = subprocess.run(
+        ["git", "-C", DOCUMENT.parent, "rev-parse", "--short=7", "HEAD"],
+        stdout=subprocess.PIPE, stderr=subprocess.DEVNULL, text=True,
+    )
+    return f"{datetime.date.today()}, {told.stdout.strip() or 'no commit'}"
 
 
 def machine():
     """How many processors of which kind, and the day."""
-    kind = "an unknown processor"
+    kind = "an unknown kind"
     with open("/proc/cpuinfo") as told:
         for found in re.finditer(r"^model name\s*:\s*(.*)$", told.read(), re.MULTILINE):
             kind = found[1]
     count = len(os.sched_getaffinity(0))
-    return f"{count} x {kind}, {datetime.date.today()}"
+    return f"{count} processor{'s' * (count != 1)} of {kind}, {datetime.date.today()}"

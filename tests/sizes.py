@@ -1,16 +1,20 @@
 #!/usr/bin/env python3
-"""Prints the lines of each crate, blank ones in, and its must-fail edits, as the table of
+"""Prints the lines of each crate, blank ones in, and its must-fail edits, as the first table of
 docs/MEASUREMENTS.md.
 
-    tests/sizes.py [--write]      with --write the table in docs/MEASUREMENTS.md is replaced
+    tests/sizes.py [--write]      with --write that table is replaced, and the row of today's state
+                                  put into the one below it
 
-Builds nothing."""
+Builds nothing.
+"""
 import pathlib
 import sys
 
+import measured
+
 TOP = pathlib.Path(__file__).resolve().parent.parent
 TESTS = {"signal_core_tests", "office_slow", "office_script", "office_trials", "office_stops"}
-HEAD = "| Crate | Code | Tests | Specs | Proofs | Edits that the gate tries | Others |\n|---|---|---|---|---|---|---|\n"
+KINDS = ["Code", "Tests", "Specs", "Proofs", "Edits of the gate", "Other edits"]
 
 
 def lines(folder, kind):
@@ -32,25 +36,23 @@ def row(name):
     return [*split, lines(crate / "specs", ".antt"), lines(crate / "proofs", ".antt"), *edits]
 
 
-def table():
-    rows = {name: row(name) for name in crates()}
-    shown = "".join(shown_row(f"`{name}`", found) for name, found in rows.items())
-    return HEAD + shown + shown_row("together", [sum(column) for column in zip(*rows.values())])
-
-
-def shown_row(name, found):
-    return f"| {name} | " + " | ".join(f"{it:,}" for it in found) + " |\n"
+def shown(name, counts):
+    return [name, *(f"{it:,}" for it in counts)]
 
 
 def main():
-    if sys.argv[1:] != ["--write"]:
-        print(table(), end="")
+    if sys.argv[1:] not in ([], ["--write"]):
+        sys.exit("usage: tests/sizes.py [--write]")
+    found = {name: row(name) for name in crates()}
+    together = [sum(column) for column in zip(*found.values())]
+    rows = [shown(f"`{name}`", counts) for name, counts in found.items()]
+    text = measured.table(["Crate", *KINDS], [*rows, shown("together", together)])
+    if not sys.argv[1:]:
+        print(text, end="")
         return
-    path = TOP / "docs" / "MEASUREMENTS.md"
-    text = path.read_text()
-    begin = text.index(HEAD)
-    end = text.index("\n", text.index("\n| together |", begin) + 1) + 1
-    path.write_text(text[:begin] + table() + text[end:])
+    measured.written("lines", text)
+    measured.add_state("lines of three states", ["State", *KINDS], shown(measured.state(), together))
 
 
-main()
+if __name__ == "__main__":
+    main()

@@ -1,0 +1,58 @@
+"""Measures the first build: clones the repository, runs `./office batch` there on no request, and
+tells how many crates were proved after how many minutes.
+
+    python3 bench/first_build.py [--write]
+
+With --write the row goes into docs/MEASUREMENTS.md. A machine on which the same crates were proved
+before has a part of the work kept, so this is to be run on one where they were not. It takes the
+time of the build, and some gigabytes below the folder for temporary files.
+"""
+import pathlib
+import re
+import subprocess
+import sys
+import tempfile
+
+TOP = pathlib.Path(__file__).resolve().parent.parent
+sys.path.insert(0, str(TOP / "tests"))
+import measured
+
+MINUTES = (10, 20, 30, 40, 50)
+HEAD = ["State and machine", "Crates", *(f"{it} min" for it in MINUTES), "All"]
+
+
+def built(folder):
+    """How many crates there are, how many were proved in which minute, and the minutes of all."""
+    subprocess.run(["git", "clone", "--quiet", TOP, folder], check=True)
+    build = subprocess.Popen(
+        ["./office", "batch"], cwd=folder, stdin=subprocess.DEVNULL, stderr=subprocess.PIPE, text=True
+    )
+    crates, proved, minutes = 0, {}, None
+    for line in build.stderr:
+        print(line, end="", file=sys.stderr, flush=True)
+        done = re.search(r"(\d+) of (\d+) crates proved after (\d+) min", line)
+        ended = re.search(r"built after (\d+) min", line)
+        if done:
+            crates, proved[int(done[3])] = int(done[2]), int(done[1])
+        minutes = int(ended[1]) if ended else minutes
+    if build.wait() or minutes is None:
+        sys.exit("the build did not end well")
+    return crates, proved, minutes
+
+
+def main():
+    if sys.argv[1:] not in ([], ["--write"]):
+        sys.exit("usage: python3 bench/first_build.py [--write]")
+    with tempfile.TemporaryDirectory() as room:
+        crates, proved, minutes = built(pathlib.Path(room) / "clone")
+    after = lambda limit: max((many for minute, many in proved.items() if minute < limit), default=0)
+    shown = [str(after(it)) if it <= minutes else "" for it in MINUTES]
+    commit = measured.state().split(", ")[1]
+    cells = [f"{commit}, {measured.machine()}", str(crates), *shown, f"{minutes} min"]
+    print(measured.table(HEAD, [cells]), end="")
+    if sys.argv[1:]:
+        measured.add_state("first build", HEAD, cells)
+
+
+if __name__ == "__main__":
+    main()

@@ -1,0 +1,146 @@
+"""Runs the gate and tells what it costs, crate by crate, in processor seconds.
+
+    python3 bench/gate.py RECORD [--write]
+
+Where there is no file RECORD, `rt ci` is run at the top of the repository, what it prints is handed
+on, and RECORD is made: a line for each crate with the seconds of its proofs, with its tests and its
+programs, and of its must-fail edits. With --write the table of RECORD is put into
+docs/MEASUREMENTS.md. What an earlier run on the machine kept costs nothing and is told as such: for
+the whole cost, run it where none was. Needs /proc, as Linux has it.
+"""
+import collections
+import os
+import pathlib
+import re
+import subprocess
+import sys
+import threading
+import time
+
+TOP = pathlib.Path(__file__).resolve().parent.parent
+sys.path.insert(0, str(TOP / "tests"))
+import measured
+
+TICKS = os.sysconf("SC_CLK_TCK")
+PAUSE = 0.2  # seconds between two looks at the processes
+HEAD = ["Crate", "Proof, tests and programs, s", "Edits, s"]
+STATE = ["State", "Proofs, min", "Edits, min", "All, min", "By the clock, min", "Machine"]
+REST = "linking, runs, all else"
+
+
+def looked():
+    """Each process: its parent, its start, and the ticks that it and its ended children took."""
+    found = {}
+    for folder in os.listdir("/proc"):
+        if folder.isdigit():
+            try:
+                text = pathlib.Path("/proc", folder, "stat").read_text()
+            except OSError:
+                continue
+            cells = text.rpartition(")")[2].split()
+            found[int(folder)] = int(cells[1]), cells[19], sum(map(int, cells[11:15]))
+    return found
+
+
+def crate_of(process):
+    """The crate that a process checks, and whether with an edit; None of any other process."""
+    try:
+        words = pathlib.Path("/proc", str(process), "cmdline").read_text().split("\0")
+        folder = os.readlink(f"/proc/{process}/cwd")
+    except OSError:
+        return None
+    if "--crate-name" not in words[:-1]:
+        return None
+    name = words[words.index("--crate-name") + 1]
+    return name, not folder.endswith(f"/crates/{name}")
+
+
+def check_above(process, top, found, known):
+    """The highest check among a process and those above it, up to the gate; None where it is none
+    of the gate's."""
+    highest = None
+    while process in found and process != top:
+        parent, start, _ = found[process]
+        place = process, start
+        if place not in known and (crate := crate_of(process)):
+            known[place] = crate
+        highest = place if place in known else highest
+        process = parent
+    return highest if process == top else None
+
+
+def watch(top, known, seconds, is_over):
+    """Notes what the checks below a process took, until it is over: the most that was seen of each,
+    with what those took that it forked."""
+    while not is_over.wait(PAUSE):
+        found, now = looked(), collections.Counter()
+        for process, (_, _, ticks) in found.items():
+            now[check_above(process, top, found, known)] += ticks / TICKS
+        for place in now.keys() - {None}:
+            seconds[place] = max(seconds[place], now[place])
+
+
+def run(path):
+    """Runs the gate and writes the record."""
+    known, seconds, kept = {}, collections.Counter(), []
+    is_over, begun = threading.Event(), time.monotonic()
+    gate = subprocess.Popen(["rt", "ci"], cwd=TOP, stdout=subprocess.PIPE, text=True)
+    watcher = threading.Thread(target=watch, args=(gate.pid, known, seconds, is_over))
+    watcher.start()
+    last = ""
+    for line in gate.stdout:
+        print(line, end="", flush=True)
+        kept += re.findall(r"(\w+) is kept: an earlier run", line)
+        last = line.strip() or last
+    _, status, usage = os.wait4(gate.pid, 0)
+    gate.returncode = os.waitstatus_to_exitcode(status)
+    is_over.set()
+    watcher.join()
+    sums = collections.Counter()
+    for place, took in seconds.items():
+        sums[known[place]] += took
+    whole, minutes = usage.ru_utime + usage.ru_stime, (time.monotonic() - begun) / 60
+    with open(path, "w") as record:
+        print(f"# {measured.state()}; {measured.machine()}; {minutes:.0f} min; {last}", file=record)
+        for name in dict.fromkeys(name for name, _ in sums):
+            print(f"{name} {sums[name, False]:.0f} {sums[name, True]:.0f}", file=record)
+        print(f"{REST.replace(' ', '_')} {whole - sum(sums.values()):.0f} 0", file=record)
+        for name in kept:
+            print(f"# kept {name}", file=record)
+
+
+def of_record(text):
+    """The heading of a record, its rows, and the crates that were kept."""
+    lines = text.splitlines()
+    rows = [line.split() for line in lines if line and not line.startswith("#")]
+    rows = [(name.replace("_", " ") if "," in name else f"`{name}`", int(proof), int(edits))
+            for name, proof, edits in rows]
+    kept = [line.split()[2] for line in lines if line.startswith("# kept ")]
+    return lines[0][2:].split("; "), rows, kept
+
+
+def main():
+    words = [it for it in sys.argv[1:] if it != "--write"]
+    if len(words) != 1:
+        sys.exit("usage: python3 bench/gate.py RECORD [--write]")
+    if not os.path.exists(words[0]):
+        run(words[0])
+    heading, rows, kept = of_record(pathlib.Path(words[0]).read_text())
+    state, machine, clock, last = heading
+    order = [f"`{line.partition(':')[0]}`" for line in (TOP / "crates.txt").read_text().splitlines()]
+    rows.sort(key=lambda it: order.index(it[0]) if it[0] in order else len(order))
+    proofs, edits = (sum(row[column] for row in rows) for column in (1, 2))
+    cells = [[name, f"{proof:,}", f"{edit:,}" if edit else ""] for name, proof, edit in rows]
+    text = measured.table(HEAD, [*cells, ["together", f"{proofs:,}", f"{edits:,}"]])
+    text = f"{state}; {machine}; {last}:\n\n{text}"
+    if kept:
+        text += f"\nKept from an earlier run, and not measured: {', '.join(kept)}.\n"
+    print(text, end="")
+    if "--write" in sys.argv:
+        measured.written("gate", text)
+        minutes = [f"{it / 60:.0f}" for it in (proofs, edits, proofs + edits)]
+        measured.add_state("gate of three states", STATE, [state, *minutes, clock.split()[0], machine])
+
+
+if __name__ == "__main__":
+    main()
