@@ -1,11 +1,22 @@
 #!/usr/bin/env bash
-# Tries the wrong bodies that the gate passes over: those in the folders wrong-bodies, each an edit in the form of
-# those in must-fail. Each has to be refused by the prover. It takes some half a minute for each, over kept work, and
-# works on a copy. It prints a line for each, and ends with status 1 where one is not refused.
+# Tries the wrong bodies that the gate passes over: those in the folders wrong-bodies, each an edit
+# in the form of those in must-fail. Each has to be refused by the prover. It takes some half a
+# minute for each, over kept work, and works on a copy. It prints a line for each, and ends with
+# status 1 where one is not refused. Needs the kit of Rattle on the path.
 #
 #     tests/wrong_bodies.sh [CRATE..]      all crates that have some, where none is named
 set -eu
 top=$(cd "$(dirname "$0")/.." && pwd)
+[ -n "$(command -v rt)" ] || {
+  echo "wrong_bodies.sh: the kit of Rattle is missing: there is no command rt on the path" >&2
+  exit 2
+}
+for name in "$@"; do
+  [ -d "$top/crates/$name/wrong-bodies" ] || {
+    echo "wrong_bodies.sh: there are no wrong bodies of a crate $name" >&2
+    exit 2
+  }
+done
 copy=$(mktemp -d)
 trap 'rm -rf "$copy"' EXIT
 
