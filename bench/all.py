@@ -189,7 +189,8 @@ def main():
     print(text, end="")
     if not asked.write:
         return
-    measured.written("instructions" if counts else "speed", f"{measured.machine()}:\n\n{text}")
+    heading = measured.paragraph(f"{measured.state()}; {measured.machine()}:")
+    measured.written("instructions" if counts else "speed", f"{heading}\n{text}")
     if not counts:
         compared = [it for it in told if it[3] != "-"]
         head = ["State", *(it[0].partition(", ")[0] for it in compared)]

@@ -47,8 +47,7 @@ def main():
         crates, proved, minutes = built(pathlib.Path(room) / "clone")
     after = lambda limit: max((many for minute, many in proved.items() if minute < limit), default=0)
     shown = [str(after(it)) if it <= minutes else "" for it in MINUTES]
-    commit = measured.state().split(", ")[1]
-    cells = [f"{commit}, {measured.machine()}", str(crates), *shown, f"{minutes} min"]
+    cells = [f"{measured.state()}, {measured.machine()}", str(crates), *shown, f"{minutes} min"]
     print(measured.table(HEAD, [cells]), end="")
     if sys.argv[1:]:
         measured.add_state("first build", HEAD, cells)

@@ -119,6 +119,21 @@ def of_record(text):
     return lines[0][2:].split("; "), rows, kept
 
 
+def below():
+    """The crates of crates.txt in their order, each with those that it names."""
+    lines = [line.partition(":") for line in (TOP / "crates.txt").read_text().splitlines()]
+    return {name: words.split() for name, colon, words in lines if colon and name[0] != "#"}
+
+
+def longest_chain(seconds):
+    """The chain of crates that takes longest by itself, lowest first, and its seconds."""
+    chains = {}
+    for name, lower in below().items():
+        under = max((chains[it] for it in lower if it in chains), default=(0, []))
+        chains[name] = under[0] + seconds.get(name, 0), [*under[1], name]
+    return max(chains.values())
+
+
 def main():
     words = [it for it in sys.argv[1:] if it != "--write"]
     if len(words) != 1:
@@ -127,14 +142,19 @@ def main():
         run(words[0])
     heading, rows, kept = of_record(pathlib.Path(words[0]).read_text())
     state, machine, clock, last = heading
-    order = [f"`{line.partition(':')[0]}`" for line in (TOP / "crates.txt").read_text().splitlines()]
+    order = [f"`{name}`" for name in below()]
     rows.sort(key=lambda it: order.index(it[0]) if it[0] in order else len(order))
     proofs, edits = (sum(row[column] for row in rows) for column in (1, 2))
     cells = [[name, f"{proof:,}", f"{edit:,}" if edit else ""] for name, proof, edit in rows]
     text = measured.table(HEAD, [*cells, ["together", f"{proofs:,}", f"{edits:,}"]])
-    text = f"{state}; {machine}; {last}:\n\n{text}"
+    text = measured.paragraph(f"{state}; {machine}; {last}:") + "\n" + text
+    took, chain = longest_chain({name.strip("`"): proof for name, proof, _ in rows})
+    names = ", ".join(f"`{it}`" for it in chain)
+    told = f"The longest chain of crates takes {took / 60:.0f} minutes by itself: {names}."
+    text += "\n" + measured.paragraph(told)
     if kept:
-        text += f"\nKept from an earlier run, and not measured: {', '.join(kept)}.\n"
+        names = ", ".join(kept)
+        text += "\n" + measured.paragraph(f"Kept by an earlier run, and not measured: {names}.")
     print(text, end="")
     if "--write" in sys.argv:
         measured.written("gate", text)

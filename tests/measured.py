@@ -4,6 +4,7 @@ import os
 import pathlib
 import re
 import subprocess
+import textwrap
 
 DOCUMENT = pathlib.Path(__file__).resolve().parent.parent / "docs" / "MEASUREMENTS.md"
 STATES = 3  # rows of a table that has one for each state of the repository
@@ -35,6 +36,10 @@ def written(name, text):
     DOCUMENT.write_text(before + text + after)
 
 
+def paragraph(text):
+    return textwrap.fill(text, 100, break_on_hyphens=False) + "\n"
+
+
 def add_state(name, head, cells):
     """Puts a row into the table of that name: under its own first cell, and the last three stay."""
     lines = [it for it in parted(name)[1].splitlines() if it.startswith("| ")][1:]
@@ -53,10 +58,10 @@ def state():
 
 
 def machine():
-    """How many processors of which kind, and the day."""
+    """How many processors there are, and of which kind."""
     kind = "an unknown kind"
     with open("/proc/cpuinfo") as told:
         for found in re.finditer(r"^model name\s*:\s*(.*)$", told.read(), re.MULTILINE):
             kind = found[1]
     count = len(os.sched_getaffinity(0))
-    return f"{count} processor{'s' * (count != 1)} of {kind}, {datetime.date.today()}"
+    return f"{count} processor{'s' * (count != 1)} of {kind}"
