@@ -41,6 +41,7 @@ class Work:
     theirs: tuple = ("serve",)
     before: bytes = b""
     requests: bytes = b""
+    checked: bool = False
     file: str = ""
     made: str = ""
 
@@ -50,19 +51,19 @@ class Work:
 
 def streams(times):
     """The works that are streams of requests."""
-    def stream(name, before, requests):
+    def stream(name, before, requests, checked=False):
         before = b"".join(before)
-        return Work(name, before=before, requests=before + b"".join(requests))
+        return Work(name, before=before, requests=before + b"".join(requests), checked=checked)
 
     count, plans, several = round(200_000 * times), round(200 * times), max(1, round(5 * times))
     new = [*work.many_intersections(), *work.imports(several)]
     yield stream(f"adding and asking, {count:,} requests", [], work.adding_and_asking(count))
     for many, every, four in (("all", 1, 0), ("4", 0, 1)):
         title = f"whole plans changed in {many} of 60 rows, {plans:,} transactions"
-        yield stream(title, work.committed(), work.transactions(plans, every, four))
+        yield stream(title, work.committed(), work.transactions(plans, every, four), True)
     records = f"{several * work.IMPORTED:,} records"
-    yield stream(f"new imports, {records}", new[:work.INTERSECTIONS], new[work.INTERSECTIONS:])
-    yield stream(f"imports sent again, {records}", new, new[work.INTERSECTIONS:])
+    yield stream(f"new imports, {records}", new[:work.INTERSECTIONS], new[work.INTERSECTIONS:], True)
+    yield stream(f"imports sent again, {records}", new, new[work.INTERSECTIONS:], True)
     count = round(20_000 * times)
     yield stream(f"inspections into one cabinet, {count:,} requests", [work.opened(12)],
                  work.inspections(count))
@@ -148,10 +149,15 @@ def shown(value, counts):
 
 def row(program, it, folder, counts):
     ours, held, answers = cost([program, *it.arguments(it.words)], it, folder, counts)
-    theirs, _, wanted = cost([*PYTHON, *it.arguments(it.theirs)], it, folder, counts)
-    if answers != wanted:
-        sys.exit(f"{it.name}: the two programs answer differently")
-    cells = [it.name, shown(ours, counts), shown(theirs, counts), f"{theirs / ours:.2f}"]
+    cells = [it.name, shown(ours, counts)]
+    for words in ((), ("--checking",)):
+        if words and not it.checked:
+            cells += ["-", "-"]
+            continue
+        theirs, _, wanted = cost([*PYTHON, *it.arguments(it.theirs), *words], it, folder, counts)
+        if answers != wanted:
+            sys.exit(f"{it.name}: the two programs answer differently")
+        cells += [shown(theirs, counts), f"{theirs / ours:.2f}"]
     return cells if counts else [*cells, f"{held:.0f}"]
 
 
@@ -165,7 +171,7 @@ def rows(program, only, times, counts):
         name = f"one kept connection, 10,000 requests, {at_once} at once"
         if only in name:
             ours, held = min(served(program, at_once) for _ in range(RUNS))
-            yield [name, shown(ours, counts), "-", "-", f"{held:.0f}"]
+            yield [name, shown(ours, counts), *["-"] * 4, f"{held:.0f}"]
 
 
 def main():
@@ -180,7 +186,8 @@ def main():
         parser.error("--write wants the whole table, with streams of their own length")
     program, counts = found([asked.program] if asked.program else []), asked.instructions
     unit = "million instructions" if counts else "processor seconds"
-    head = ["Work", f"Office, {unit}", f"Python, {unit}", "Python by office"]
+    head = ["Work", f"Office, {unit}", "Python", "Python by office"]
+    head += ["Python that checks", "by office"]
     told = []
     for it in rows(program, asked.only, asked.times, counts):
         told.append(it)

@@ -1,7 +1,8 @@
 """The work of bench/all.py by Python over its `sqlite3`: a yardstick, and no more. It reads, writes
-and answers what the office does, and checks next to nothing of what the office checks.
+and answers what the office does, and checks next to nothing of what the office checks; with
+--checking it also tests rows, plans and records as the office does.
 
-    python3 bench/baseline.py serve                answers requests, over tables in memory
+    python3 bench/baseline.py serve [--checking]   answers requests, over tables in memory
     python3 bench/baseline.py overdue FILE DAY     prints the report
     python3 bench/baseline.py open FILE            has SQLite check the file
     python3 bench/baseline.py migrate FILE         makes a file of version 1 one of version 2
@@ -13,6 +14,9 @@ import json
 import sqlite3
 import sys
 
+import rules
+
+IS_CHECKING = "--checking" in sys.argv
 EPOCH = datetime.date(1970, 1, 1)
 KINDS = {"phase": 1, "seq": 2, "split": 3, "pattern": 4}
 STATES = ("normal", "transaction", "verify", "done")
@@ -64,14 +68,27 @@ def key_and_body(row):
     return KINDS[row[0]], int(row[1]), int(second), ",".join(row)
 
 
+def check_plan(committed, draft):
+    """Ends where the draft, which is these rows over the committed ones, breaks a rule."""
+    whole = {row[:3]: row[3] for row in committed} | {row[1:4]: row[4] for row in draft}
+    found = rules.Plan(body.split(",") for body in whole.values()).violations()
+    if found:
+        sys.exit(f"the draft breaks rules: {found}")
+
+
 def step(db, number, name, asked):
     """The reads and writes of one step of the transaction."""
     revision, stage, clerk = found(db, number)[2], 1, asked["clerk"]
     if name != "begin":
-        db.execute("SELECT kind, a, b, body FROM timing WHERE inter = ?", (number,)).fetchall()
+        text = "SELECT kind, a, b, body FROM timing WHERE inter = ?"
+        committed = db.execute(text, (number,)).fetchall()
         text = "SELECT kind, a, b, body FROM draft WHERE inter = ?"
         draft = [(number, *row) for row in db.execute(text, (number,)).fetchall()]
+        if IS_CHECKING and name in ("check", "commit"):
+            check_plan(committed, draft)
     if name == "edit":
+        if IS_CHECKING:
+            rules.Plan(asked["rows"])
         rows = [(number, *key_and_body(row)) for row in asked["rows"]]
         db.executemany("INSERT OR REPLACE INTO draft VALUES (?, ?, ?, ?, ?)", rows)
     elif name == "commit":
@@ -95,10 +112,32 @@ TAKEN = {
 }
 
 
+def test_taking(db, kind, fields, there):
+    """Ends where the office would refuse the record."""
+    rules.test_record(kind, fields)
+    one = lambda text, *values: db.execute(text, values).fetchone()
+    is_right = kind == "delivery" or one("SELECT 1 FROM intersection WHERE id = ?", fields[0])
+    if there:
+        is_right = is_right and list(map(str, there[: len(fields)])) == list(map(str, fields))
+    elif kind == "use":
+        order = one("SELECT closed FROM work_order WHERE inter = ? AND number = ?", *fields[:2])
+        hand = one("SELECT hand FROM part WHERE code = ?", fields[3])
+        is_right = is_right and order == (None,) and hand and hand[0] >= int(fields[4])
+    elif kind == "delivery":
+        hand = one("SELECT hand FROM part WHERE code = ?", fields[0])
+        is_right = (hand[0] if hand else 0) + int(fields[3]) <= 999_999_999
+    if not is_right:
+        sys.exit(f"refused: {kind} {fields}")
+
+
 def take(db, kind, fields):
     """Looks a record up by its key, and writes it where it is not there: whether it was new."""
     place, keys, values = TAKEN[kind]
-    if db.execute(f"SELECT 1 FROM {place}", fields[:keys]).fetchone():
+    columns = "*" if IS_CHECKING else "1"
+    there = db.execute(f"SELECT {columns} FROM {place}", fields[:keys]).fetchone()
+    if IS_CHECKING:
+        test_taking(db, kind, fields, there)
+    if there:
         return False
     db.execute(f"INSERT INTO {place.split()[0]} VALUES {values}", fields)
     if kind == "use":
