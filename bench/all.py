@@ -56,14 +56,14 @@ def streams(times):
         return Work(name, before=before, requests=before + b"".join(requests), checked=checked)
 
     count, plans, several = round(200_000 * times), round(200 * times), max(1, round(5 * times))
-    new = [*work.many_intersections(), *work.imports(several)]
+    first, imports = work.many_intersections(), list(work.imports(several))
     yield stream(f"adding and asking, {count:,} requests", [], work.adding_and_asking(count))
     for many, every, four in (("all", 1, 0), ("4", 0, 1)):
         title = f"whole plans changed in {many} of 60 rows, {plans:,} transactions"
         yield stream(title, work.committed(), work.transactions(plans, every, four), True)
     records = f"{several * work.IMPORTED:,} records"
-    yield stream(f"new imports, {records}", new[:work.INTERSECTIONS], new[work.INTERSECTIONS:], True)
-    yield stream(f"imports sent again, {records}", new, new[work.INTERSECTIONS:], True)
+    yield stream(f"new imports, {records}", first, imports, True)
+    yield stream(f"imports sent again, {records}", [*first, *imports], imports, True)
     count = round(20_000 * times)
     yield stream(f"inspections into one cabinet, {count:,} requests", [work.opened(12)],
                  work.inspections(count))

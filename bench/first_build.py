@@ -24,9 +24,8 @@ HEAD = ["State and machine", "Crates", *(f"{it} min" for it in MINUTES), "All"]
 def built(folder):
     """How many crates there are, how many were proved in which minute, and the minutes of all."""
     subprocess.run(["git", "clone", "--quiet", TOP, folder], check=True)
-    build = subprocess.Popen(
-        ["./office", "batch"], cwd=folder, stdin=subprocess.DEVNULL, stderr=subprocess.PIPE, text=True
-    )
+    how = {"cwd": folder, "stdin": subprocess.DEVNULL, "stderr": subprocess.PIPE, "text": True}
+    build = subprocess.Popen(["./office", "batch"], **how)
     crates, proved, minutes = 0, {}, None
     for line in build.stderr:
         print(line, end="", file=sys.stderr, flush=True)
@@ -45,7 +44,7 @@ def main():
         sys.exit("usage: python3 bench/first_build.py [--write]")
     with tempfile.TemporaryDirectory() as room:
         crates, proved, minutes = built(pathlib.Path(room) / "clone")
-    after = lambda limit: max((many for minute, many in proved.items() if minute < limit), default=0)
+    after = lambda limit: max((many for at, many in proved.items() if at < limit), default=0)
     shown = [str(after(it)) if it <= minutes else "" for it in MINUTES]
     cells = [f"{measured.state()}, {measured.machine()}", str(crates), *shown, f"{minutes} min"]
     print(measured.table(HEAD, [cells]), end="")

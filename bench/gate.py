@@ -159,7 +159,8 @@ def main():
     if "--write" in sys.argv:
         measured.written("gate", text)
         minutes = [f"{it / 60:.0f}" for it in (proofs, edits, proofs + edits)]
-        measured.add_state("gate of three states", STATE, [state, *minutes, clock.split()[0], machine])
+        cells = [state, *minutes, clock.split()[0], machine]
+        measured.add_state("gate of three states", STATE, cells)
 
 
 if __name__ == "__main__":

@@ -91,7 +91,8 @@ class Plan:
 
     def of_pattern(self, n):
         cycle, offset, split, sequence = self.patterns[n]
-        has_rows = sequence in self.sequences and all((split, p) in self.splits for p in self.phases)
+        has_splits = all((split, p) in self.splits for p in self.phases)
+        has_rows = sequence in self.sequences and has_splits
         rules = {"V9": has_rows, "V10": offset < cycle}
         rules["V11"] = any(self.splits.get((split, p), (0, 0, 0))[2] for p in self.phases)
         if has_rows:

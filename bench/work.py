@@ -42,8 +42,9 @@ def plan(every, four):
     times = {split: (30 + split + every, 25 + split % 3 + every) for split in range(1, 11)}
     times[10] = (times[10][0] + four, times[10][1] - four)
     for split, (main, side) in times.items():
-        for phase, seconds, coord in (("2", main, 1), ("4", side, 0), ("6", main, 1), ("8", side, 0)):
-            yield ("split", str(split), phase, str(seconds), "2", str(coord))
+        for phase, _, _, _ in PHASES:
+            seconds, coord = (side, "0") if phase in ("4", "8") else (main, "1")
+            yield ("split", str(split), phase, str(seconds), "2", coord)
     for pattern in range(1, 15):
         split = (pattern - 1) % 10 + 1
         yield ("pattern", str(pattern), str(sum(times[split])), str(3 * pattern), str(split), "1")

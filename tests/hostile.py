@@ -72,8 +72,8 @@ def held(path):
 
 
 def refused(name, path, line=b"fault: store\n", migrate=None, making=None, **how):
-    """The commands on a file refuse it with the same line, `migrate` and those that make a file perhaps with
-    another, and leave it as it was."""
+    """The commands on a file refuse it with the same line, `migrate` and those that make a file
+    perhaps with another, and leave it as it was."""
     before = held(path)
     for words in ON_FILES:
         status, out, err = run([words[0], "--db", path, *words[1:]], ADD, **how)
@@ -111,7 +111,8 @@ def old_office(folder, name, intersections):
     with sqlite3.connect(path) as db:
         db.execute("UPDATE office_version SET version = 1")
         for number in range(12, 12 + intersections):
-            db.execute("INSERT OR IGNORE INTO intersection VALUES (?, 'Main St', 365, 1, 0, NULL)", (number,))
+            text = "INSERT OR IGNORE INTO intersection VALUES (?, 'Main St', 365, 1, 0, NULL)"
+            db.execute(text, (number,))
             db.execute("INSERT INTO timing VALUES (?, 1, 2, 0, ?)", (number, OLD_ROW))
     db.close()
     return path
@@ -169,14 +170,17 @@ def versions(folder):
     old = old_office(folder, "old.db", 1)
     status, out, err = run(["batch", "--db", old], ADD)
     case("tables of version 1, batch", (status, out, err), (1, b"", b"fault: version\n"))
-    case("tables of version 1, migrate", run(["migrate", "--db", old]), (0, b"migrated 1 rows\n", b""))
+    told = run(["migrate", "--db", old])
+    case("tables of version 1, migrate", told, (0, b"migrated 1 rows\n", b""))
     case("tables of version 1, afterwards", stored(old), TODAY)
 
 
 def another_process(folder):
-    """While one run of the program holds the file, another is refused. The locks of SQLite's own tools are not seen."""
+    """While one run of the program holds the file, another is refused. The locks of SQLite's own
+    tools are not seen."""
     path = office(folder, "locked.db")
-    first = subprocess.Popen([PROGRAM, "batch", "--db", path], stdin=subprocess.PIPE, stdout=subprocess.PIPE, bufsize=0)
+    how = {"stdin": subprocess.PIPE, "stdout": subprocess.PIPE, "bufsize": 0}
+    first = subprocess.Popen([PROGRAM, "batch", "--db", path], **how)
     first.stdin.write(STATE)
     first.stdout.read(1)
     refused("a file that another process holds", path)
@@ -193,8 +197,10 @@ def without_leave(folder):
 
 def additions(count):
     """Requests that add so many intersections."""
-    bodies = (b'{"id":%d,"interval":365,"name":"%s"}' % (n, b"x" * 100) for n in range(1, count + 1))
-    return b"".join(b"POST /intersections HTTP/1.1\r\nContent-Length: %d\r\n\r\n%s" % (len(body), body) for body in bodies)
+    head = b"POST /intersections HTTP/1.1\r\nContent-Length: %d\r\n\r\n%s"
+    body = b'{"id":%d,"interval":365,"name":"%s"}'
+    bodies = (body % (number, b"x" * 100) for number in range(1, count + 1))
+    return b"".join(head % (len(it), it) for it in bodies)
 
 
 def statuses(out):
@@ -203,23 +209,28 @@ def statuses(out):
 
 
 def refused_for_room(name, path, left, **how):
-    """A stream of additions meets a refusal for want of room in its middle: all answers before it, then 503 and nothing else;
-    and what is left of the file holds the office of the last answer that was no 503, or of the first that was."""
+    """A stream of additions meets a refusal for want of room in its middle: all answers before it,
+    then 503 and nothing else; and what is left of the file holds the office of the last answer that
+    was no 503, or of the first that was."""
     status, out, err = run(["batch", "--db", path], additions(3999), **how)
     told = statuses(out)
     done = told.index(503) if 503 in told else len(told)
     case(f"{name}, the answers", told, [200] * done + [503] * (3999 - done))
-    case(f"{name}, the end", (0 < done < 3999, status in (0, 1), err in (b"", b"fault: store\n")), (True, True, True))
+    ended = (0 < done < 3999, status in (0, 1), err in (b"", b"fault: store\n"))
+    case(f"{name}, the end", ended, (True, True, True))
     asked = b"".join(b"GET /intersections/%d HTTP/1.1\r\n\r\n" % n for n in range(1, done + 3))
     status, out, err = run(["batch", "--db", left()], asked)
     found = statuses(out)
-    case(f"{name}, what is left", (status, found[:done], found[done] in (200, 404), found[done + 1 :], err), (0, [200] * done, True, [404], b""))
+    is_either = found[done] in (200, 404)
+    left_over = (status, found[:done], is_either, found[done + 1 :], err)
+    case(f"{name}, what is left", left_over, (0, [200] * done, True, [404], b""))
 
 
 def full_disk(folder):
     disk = os.path.join(folder, "disk")
     os.mkdir(disk)
-    if subprocess.run(["mount", "-t", "tmpfs", "-o", "size=400k", "none", disk], stderr=subprocess.DEVNULL).returncode:
+    words = ["mount", "-t", "tmpfs", "-o", "size=400k", "none", disk]
+    if subprocess.run(words, stderr=subprocess.DEVNULL).returncode:
         print("a full disk: not tried, since nothing can be mounted here")
         return
 
@@ -235,7 +246,8 @@ def full_disk(folder):
 
 
 def largest_file(folder):
-    """A file may grow to 256 KiB. The signal that comes with this limit is ignored, as a shell's trap '' XFSZ does."""
+    """A file may grow to 256 KiB. The signal that comes with this limit is ignored, as a shell's
+    trap '' XFSZ does."""
     def limit():
         signal.signal(signal.SIGXFSZ, signal.SIG_IGN)
         resource.setrlimit(resource.RLIMIT_FSIZE, (262144, 262144))
@@ -249,7 +261,8 @@ def outputs(folder):
         with open("/dev/full" if name == "full" else "/dev/null", "wb") as out:
             status, _, err = run(["batch"], ADD, stdout=out, **how)
         case(f"a {name} standard output", (status, err), (1, b"fault: write\n"))
-    reader = subprocess.Popen(["head", "-c", "10"], stdin=subprocess.PIPE, stdout=subprocess.DEVNULL)
+    how = {"stdin": subprocess.PIPE, "stdout": subprocess.DEVNULL}
+    reader = subprocess.Popen(["head", "-c", "10"], **how)
     status, _, err = run(["batch"], STATE * 20000, stdout=reader.stdin)
     reader.stdin.close()
     reader.wait()
@@ -269,9 +282,15 @@ def inputs(folder):
         case("a plan that can't be read", run(["verify-file", path]), (1, b"", b"fault: file\n"))
 
 
+def keep_to(limit):
+    """Called in a child: it may take so many bytes of memory."""
+    resource.setrlimit(resource.RLIMIT_AS, (limit, limit))
+
+
 def little_memory(folder):
-    """Each command under a limit of memory that rises from where the program can't start: it ends done, or tells that memory was
-    refused, or that the database refused, which does not always say why."""
+    """Each command under a limit of memory that rises from where the program can't start: it ends
+    done, or tells that memory was refused, or that the database refused, which does not always say
+    why."""
     path = office(folder, "memory.db")
     plan = os.path.join(folder, "plan.csv")
     with open(plan, "wb") as file:
@@ -287,50 +306,63 @@ def little_memory(folder):
         ["export", "--db", path, "12"],
         ["compare", PLAN, plan],
         ["diagram", "--file", PLAN, "1"],
+        ["add", "--db", path, "12", "365", "Main St"],
+        ["list", "--db", path],
+        ["stock", "--db", path],
+        ["orders", "--db", path],
+        ["cabinet", "--db", path, "12"],
+        ["page", "--db", path, "12"],
+        ["page", "--file", PLAN],
     ):
-        told, done, other = 0, 0, []
+        told, done, other, refusals = 0, 0, [], (b"fault: memory\n", b"fault: store\n")
         for limit in range(1 << 20, 40 << 20, 1 << 17):
             try:
-                status, out, err = run(words, STATE, preexec_fn=lambda: resource.setrlimit(resource.RLIMIT_AS, (limit, limit)))
+                status, out, err = run(words, STATE, preexec_fn=lambda: keep_to(limit))
             except OSError:
                 continue
-            if status == 1 and err == b"fault: memory\n" or "--db" in words and status == 1 and err == b"fault: store\n":
+            if status == 1 and err in refusals[: 1 + ("--db" in words)]:
                 told += 1
             elif status in (0, 3, 4) and not err:
                 done += 1
             elif told or done:
                 other.append((limit, status, out[:40], err))
-        case(f"{words[0]} with little memory ({told} told, {done} done)", (other, told > 0, done > 0), ([], True, True))
+        found = (other, told > 0, done > 0)
+        case(f"{words[0]} with little memory ({told} told, {done} done)", found, ([], True, True))
     case("the file after want of memory", held(path), kept)
 
 
 def little_memory_to_migrate(folder):
-    """A migration under a rising limit of memory: the file is as it was, or migrated where it is told to be."""
+    """A migration under a rising limit of memory: the file is as it was, or migrated where it is
+    told to be."""
     old = old_office(folder, "old_memory.db", 500)
     path = os.path.join(folder, "copy_memory.db")
-    told, done, other = 0, 0, []
+    told, done, other, refusals = 0, 0, [], (b"fault: memory\n", b"fault: store\n")
     for limit in range(1 << 20, 40 << 20, 1 << 18):
         shutil.copyfile(old, path)
         try:
-            status, out, err = run(
-                ["migrate", "--db", path], preexec_fn=lambda: resource.setrlimit(resource.RLIMIT_AS, (limit, limit))
-            )
+            words = ["migrate", "--db", path]
+            status, out, err = run(words, preexec_fn=lambda: keep_to(limit))
         except OSError:
             continue
         if (status, out) == (0, b"migrated 500 rows\n") and stored(path) == TODAY:
             done += 1
-        elif status == 1 and err in (b"fault: memory\n", b"fault: store\n") and stored(path) in (OLD, TODAY):
+        elif status == 1 and err in refusals and stored(path) in (OLD, TODAY):
             told += 1
         elif told or done:
             other.append((limit, status, out[:40], err))
         for left in (path, path + "-wal"):
             if os.path.exists(left):
                 os.remove(left)
-    case(f"migrate with little memory ({told} told, {done} done)", (other, told > 0, done > 0), ([], True, True))
+    found = (other, told > 0, done > 0)
+    case(f"migrate with little memory ({told} told, {done} done)", found, ([], True, True))
 
 
+PARTS = (
+    little_memory, little_memory_to_migrate, other_files, versions, another_process, outputs,
+    inputs, largest_file,
+)
 with tempfile.TemporaryDirectory() as folder:
-    for part in (little_memory, little_memory_to_migrate, other_files, versions, another_process, outputs, inputs, largest_file):
+    for part in PARTS:
         part(folder)
     if os.geteuid() == 0:
         without_leave(folder)

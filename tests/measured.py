@@ -1,4 +1,4 @@
-"""Writes tables of docs/MEASUREMENTS.md, each between its own marks, and names state and machine."""
+"""Writes tables of docs/MEASUREMENTS.md, each between its marks, and names state and machine."""
 import datetime
 import os
 import pathlib

@@ -51,7 +51,8 @@ def main():
         print(text, end="")
         return
     measured.written("lines", text)
-    measured.add_state("lines of three states", ["State", *KINDS], shown(measured.state(), together))
+    cells = shown(measured.state(), together)
+    measured.add_state("lines of three states", ["State", *KINDS], cells)
 
 
 if __name__ == "__main__":

@@ -57,13 +57,13 @@ def commands(block):
 
 
 def printed(data):
-    """What was printed as a reader sees it: without the ends of lines of HTTP and spaces at the end."""
+    """What was printed as a reader sees it: without HTTP's ends of lines and spaces at the end."""
     text = data.decode(errors="replace").replace("\r", "")
     return "\n".join(line.rstrip() for line in text.splitlines()).rstrip("\n")
 
 
 def furnish(folder, program):
-    """A folder that looks like the repository's, with another program and without what runs left."""
+    """Makes a folder look like the repository, with this program."""
     for path in TOP.iterdir():
         if path.name != "office" and not path.name.startswith("."):
             (folder / path.name).symlink_to(path)
@@ -88,7 +88,8 @@ class Tour:
             told = wanted and select.select([process.stdout], [], [], LONGEST)[0]
             return printed(process.stdout.readline()) if told else ""
         try:
-            return printed(subprocess.run(["bash", "-c", command], timeout=LONGEST, **self.how).stdout)
+            ran = subprocess.run(["bash", "-c", command], timeout=LONGEST, **self.how)
+            return printed(ran.stdout)
         except subprocess.TimeoutExpired:
             return f"(had not ended after {LONGEST} seconds)"
 
