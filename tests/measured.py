@@ -7,6 +7,7 @@ import subprocess
 import textwrap
 
 DOCUMENT = pathlib.Path(__file__).resolve().parent.parent / "docs" / "MEASUREMENTS.md"
+DAY = len("2026-11-26")
 STATES = 3  # rows of a table that has one for each state of the repository
 
 
@@ -41,10 +42,11 @@ def paragraph(text):
 
 
 def add_state(name, head, cells):
-    """Puts a row into the table of that name: under its own first cell, and the last three stay."""
+    """Puts a row into the table of that name, in the place of one of the same day, of which its
+    first cell tells. The last three stay."""
     lines = [it for it in parted(name)[1].splitlines() if it.startswith("| ")][1:]
     rows = [[cell.strip() for cell in it.strip("|").split("|")] for it in lines]
-    rows = [*(row for row in rows if row[0] != cells[0]), cells]
+    rows = [*(row for row in rows if row[0][:DAY] != cells[0][:DAY]), cells]
     written(name, table(head, rows[-STATES:]))
 
 
