@@ -5,7 +5,7 @@ use Rattle.office_tables_shelf.specs.Content.{Content}
 use Rattle.office_files.specs.Timing.{timing_csv_text}
 use Rattle.office_files.specs.Records.{records_csv_text}
 use Rattle.office_machine.specs.declared.reply.CabinetShown.{CabinetShown}
-use Rattle.signal_office_exchange.specs.Showing.{ShowsTiming, ShowsDraft, ShowsCabinet}
+use Rattle.signal_office_asking.specs.Showing.{ShowsTiming, ShowsDraft, ShowsCabinet}
 
 -- the text is the CSV of the committed timing set
 pub record ExportsTiming (tables : Content) (id : ℕ) (text : List ℕ) : Type 0 where

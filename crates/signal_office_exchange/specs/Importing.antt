@@ -6,11 +6,11 @@ use Rattle.office_files.specs.Records.{commands_of}
 use Rattle.office_machine.specs.declared.command.Command.TheVariants as command
 use Rattle.office_machine.specs.declared.reply.Reply.{Reply}
 use Rattle.office_machine.specs.declared.reply.Reply.TheVariants as reply
-use Rattle.signal_office_reports.specs.declared.fault.Fault.{Fault}
-use Rattle.signal_office_reports.specs.declared.fault.Fault.TheVariants as told
+use Rattle.signal_office_asking.specs.declared.fault.Fault.{Fault}
+use Rattle.signal_office_asking.specs.declared.fault.Fault.TheVariants as told
 use Rattle.signal_office_exchange.specs.declared.importing.Imported.{Imported}
-use Rattle.signal_office_exchange.specs.Asking.{Answered, IsUnread}
-use Rattle.signal_office_exchange.specs.Refused.{fault_of}
+use Rattle.signal_office_asking.specs.Asking.{Answered, IsUnread}
+use Rattle.signal_office_asking.specs.Refused.{fault_of}
 
 -- what is told of the reply to an import
 abbrev pub import_told : Reply → Result Imported Fault

@@ -4,13 +4,12 @@ ghost use Rattle.std.specs.Prelude.{◌≢◌, Err, IfOk, IfErr};
 ghost use Rattle.office_tables_shelf.specs.Shelf.{IsKept};
 ghost use Rattle.signal_office_exchange.specs.Exporting.{ExportsTiming, ExportsDraft};
 ghost use Rattle.signal_office_exchange.specs.Exporting.{ExportsCabinet};
-ghost use Rattle.signal_office_exchange.specs.Showing.{ShowsTiming, ShowsDraft, ShowsCabinet};
+ghost use Rattle.signal_office_asking.specs.Showing.{ShowsTiming, ShowsDraft, ShowsCabinet};
 
-use crate::showing::{cabinet_in, draft_in, timing_in};
 use office_desk::office::Office;
 use office_files::{records_csv, timing_csv};
 use office_tables_shelf::shelf::Shelf;
-use signal_office_reports::Fault;
+use signal_office_asking::{Fault, cabinet_in, draft_in, timing_in};
 use signal_records::InterId;
 use std::alloc::Global;
 

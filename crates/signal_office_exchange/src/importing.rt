@@ -3,14 +3,13 @@
 ghost use Rattle.signal_office_exchange.specs.Importing.{Imports, import_told};
 ghost use Rattle.std.specs.Prelude.{◌≡◌};
 
-use crate::refused::fault_of;
 use office_desk::office::Office;
 use office_files::read_records_csv;
 use office_machine::command::Command;
 use office_machine::records::Records;
 use office_machine::reply::Reply;
 use office_tables_shelf::shelf::Shelf;
-use signal_office_reports::Fault;
+use signal_office_asking::{Fault, fault_of};
 use std::alloc::Global;
 
 /// What an import made of its records.

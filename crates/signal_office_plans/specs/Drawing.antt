@@ -4,11 +4,11 @@ use Rattle.signal_records.specs.TimingSet.{Rows}
 use Rattle.signal_rules.specs.Lookup.{pattern_at}
 use Rattle.signal_diagram.specs.Diagram.{diagram_text}
 use Rattle.office_tables_shelf.specs.Content.{Content}
-use Rattle.signal_office_reports.specs.declared.fault.Fault.{Fault}
-use Rattle.signal_office_reports.specs.declared.fault.Fault.TheVariants as told
+use Rattle.signal_office_asking.specs.declared.fault.Fault.{Fault}
+use Rattle.signal_office_asking.specs.declared.fault.Fault.TheVariants as told
 use Rattle.office_files.specs.Changes.{changes_of}
-use Rattle.signal_office_exchange.specs.Asking.{IsUnread}
-use Rattle.signal_office_exchange.specs.Showing.{ShowsTiming}
+use Rattle.signal_office_asking.specs.Asking.{IsUnread}
+use Rattle.signal_office_asking.specs.Showing.{ShowsTiming}
 use Rattle.signal_office_plans.specs.Plan.{IsPlan}
 
 -- the plan has the pattern, and the text is its picture

@@ -9,8 +9,8 @@ use Rattle.signal_compare.specs.Difference.{ExactlyWhereTheyDiffer}
 use Rattle.office_files.specs.Changes.{changes_of}
 use Rattle.office_files.specs.declared.fault.CsvFault.{CsvFault}
 use Rattle.office_tables_shelf.specs.Content.{Content}
-use Rattle.signal_office_reports.specs.declared.fault.Fault.{Fault}
-use Rattle.signal_office_exchange.specs.Showing.{ShowsTiming, ShowsDraft}
+use Rattle.signal_office_asking.specs.declared.fault.Fault.{Fault}
+use Rattle.signal_office_asking.specs.Showing.{ShowsTiming, ShowsDraft}
 
 -- the set is what the changes of the file make of the empty one
 pub record IsPlan (bytes : List ℕ) (plan : Rows) : Type 0 where

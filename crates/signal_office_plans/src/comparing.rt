@@ -10,8 +10,7 @@ use office_desk::office::Office;
 use office_files::CsvFault;
 use office_tables_shelf::shelf::Shelf;
 use signal_compare::{Difference, compare};
-use signal_office_exchange::{draft_in, timing_in};
-use signal_office_reports::Fault;
+use signal_office_asking::{Fault, draft_in, timing_in};
 use signal_records::InterId;
 use std::alloc::Global;
 

@@ -9,8 +9,7 @@ use crate::plan::plan_in;
 use office_desk::office::Office;
 use office_tables_shelf::shelf::Shelf;
 use signal_diagram::diagram;
-use signal_office_exchange::timing_in;
-use signal_office_reports::Fault;
+use signal_office_asking::{Fault, timing_in};
 use signal_records::{InterId, PatternNo, TimingSet};
 use std::alloc::Global;
 

@@ -1,30 +1,17 @@
 -- What the queries of the office show, and the sheet that they make.
-use Rattle.std.proofs.Common.{◌≡◌, ◌≢◌, inl, inr, ℕ, List, [], Option, Some, None, refl, sym, ap, subst, ◌∙◌}
+use Rattle.std.proofs.Common.{◌≡◌, ℕ, List, Option, Some, None, refl, sym, ap, ◌∙◌}
 use Rattle.std.specs.FinMap.{get, values}
 use Rattle.office_tables_shelf.specs.Content.{Content}
-use Rattle.office_tables_shelf.specs.Change.{changed_by}
-use Rattle.office_tables_shelf.specs.declared.rows.RowChange.{RowChange}
-use Rattle.office_desk.specs.Answers.{Answers, AnswersAny}
+use Rattle.office_desk.specs.Answers.{Answers}
 use Rattle.office_machine.specs.Office.{Office, Intersection}
-use Rattle.office_machine.specs.Step.{Step, answered, shown, timing_shown}
-use Rattle.office_machine.specs.declared.command.Command.{Command}
+use Rattle.office_machine.specs.Step.{shown, timing_shown}
 use Rattle.office_machine.specs.declared.command.Command.TheVariants as command
-use Rattle.office_machine.specs.declared.refusal.Refusal.TheVariants as refusal
 use Rattle.office_machine.specs.declared.reply.Reply.{Reply}
-use Rattle.office_machine.specs.declared.reply.Reply.TheVariants.{Timing as Running, Refused}
+use Rattle.office_machine.specs.declared.reply.Reply.TheVariants.{Timing as Running}
 use Rattle.office_machine.specs.declared.reply.RunningTiming.{RunningTiming}
 use Rattle.office_files.specs.Sheet.{sheet_text}
+use Rattle.signal_office_asking.proofs.AskingLemmas.{step_taken}
 use Rattle.signal_office_reports.specs.Sheet.{IsSheetOf, IsTimingOf}
-
--- a reply without changes is a step that leaves the tables
-pub unchanged : (tables : Content) (asked : Command) (reply : Reply) (changes : List RowChange) → changes ≡ [] → AnswersAny tables asked reply (changed_by tables changes) → AnswersAny tables asked reply tables
-unchanged tables asked reply changes none answers = subst (λ cs. AnswersAny tables asked reply (changed_by tables cs)) none answers
-
--- a command that was not answered unavailable took its step
-step_taken : (office next : Office) (asked : Command) (reply : Reply) → Step office asked reply next → reply ≢ Refused refusal.Unavailable
-    → answered office asked ≡ (reply, next)
-step_taken office next asked reply (inl h) available = absurd (available h.0)
-step_taken office next asked reply (inr h) available = h
 
 shown_timing : (found : Option Intersection) (timing : RunningTiming)
     → shown found (λ i. Running (timing_shown i)) ≡ Running timing

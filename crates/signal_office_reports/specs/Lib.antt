@@ -1,4 +1,3 @@
-pub mod Fault
 pub mod Overdue
 pub mod Plan
 pub mod Sheet

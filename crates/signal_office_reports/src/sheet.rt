@@ -6,16 +6,15 @@ ghost use Rattle.office_desk.specs.Damage.{MeetsDamage};
 ghost use Rattle.office_machine.specs.Office.{Office as OfficeState};
 ghost use Rattle.office_desk.specs.StandFor.{StandForSound};
 ghost use Rattle.office_machine.specs.declared.command.Command.TheVariants as command;
-ghost use Rattle.signal_office_reports.specs.Fault.{IsFaultOfQuery, TellsUnknown};
+ghost use Rattle.signal_office_asking.specs.Fault.{IsFaultOfQuery, TellsUnknown};
 ghost use Rattle.signal_office_reports.specs.Sheet.{IsSheetOf, IsTimingOf};
 
-use crate::asking::ask;
-use crate::fault::Fault;
 use office_desk::office::Office;
 use office_files::timing_sheet;
 use office_machine::command::Command;
 use office_machine::reply::{Reply, RunningTiming};
 use office_tables_shelf::shelf::Shelf;
+use signal_office_asking::{Fault, ask};
 use signal_records::InterId;
 use std::alloc::Global;
 

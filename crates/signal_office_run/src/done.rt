@@ -3,8 +3,9 @@
 use office_files::{changes_csv, violation_text};
 use office_http::{Sink, write_all};
 use signal_compare::{Difference, changes, comparison_text};
-use signal_office_exchange::{Edited, Imported};
-use signal_office_reports::Fault;
+use signal_office_asking::Fault;
+use signal_office_editing::Edited;
+use signal_office_exchange::Imported;
 use signal_rules::Violation;
 use std::alloc::Global;
 

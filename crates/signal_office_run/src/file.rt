@@ -21,7 +21,7 @@ use office_desk::office::Office;
 use office_http::{ServeFault, Served, Sink, Source, serve};
 use office_tables::open::{Left, OpenFault};
 use office_tables::sql_shelf::SqlShelf;
-use signal_office_reports::Fault;
+use signal_office_asking::Fault;
 use sqlite::{Alter, Connection, Error, FileFrom, FileStore, Start};
 use sqlite_disk::{Disk, Files};
 use std::alloc::{AllocError, Global};

@@ -14,4 +14,5 @@ pub use memory::serve_new_office;
 pub use migrating::{FileConnection, migrate_file, open_and_migrate};
 pub use program::run_words;
 pub use serving::serve_port;
-pub use signal_office_reports::{Fault, overdue_of, report, sheet_of, violations_in};
+pub use signal_office_asking::{Fault, report};
+pub use signal_office_reports::{overdue_of, sheet_of, violations_in};

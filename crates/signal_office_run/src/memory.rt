@@ -11,7 +11,7 @@ ghost use Rattle.signal_office_run.specs.Memory.{ServesInMemory, StandsInMemory,
 use office_desk::office::Office;
 use office_http::{ServeFault, Served, Sink, Source, serve};
 use office_tables::sql_shelf::SqlShelf;
-use signal_office_reports::Fault;
+use signal_office_asking::Fault;
 use sqlite::MemStore;
 use std::alloc::Global;
 

@@ -15,7 +15,7 @@ use crate::file::{close_files, is_missing, unopened};
 use office_tables::Migrated;
 use office_tables::open::OpenFault;
 use office_tables::sql_shelf::SqlShelf;
-use signal_office_reports::Fault;
+use signal_office_asking::Fault;
 use sqlite::{Alter, Connection, Error, FileFrom, FileStore, Start};
 use sqlite_disk::{Disk, Files};
 use std::alloc::Global;

@@ -1,5 +1,5 @@
 use Rattle.std.proofs.Common.{Ok, subst}
-use Rattle.signal_office_exchange.specs.Showing.{ShowsDraft}
+use Rattle.signal_office_asking.specs.Showing.{ShowsDraft}
 use Rattle.signal_office_plans.proofs.comparing.draft_differences.Goals as goal
 
 pub returns-clause-found : goal.returns-clause-found

@@ -1,8 +1,8 @@
 use Rattle.std.proofs.Common.{refl, subst, sym}
 use Rattle.office_machine.specs.declared.command.Command.TheVariants as command
-use Rattle.signal_office_reports.proofs.FaultLemmas.{refused_tells, store_tells}
+use Rattle.signal_office_asking.proofs.FaultLemmas.{refused_tells, store_tells}
 use Rattle.signal_office_reports.proofs.SheetLemmas.{timed}
-use Rattle.signal_office_reports.specs.Fault.{TellsUnknown}
+use Rattle.signal_office_asking.specs.Fault.{TellsUnknown}
 use Rattle.signal_office_reports.proofs.sheet.timing_in.Goals as goal
 
 pub returns-in-Timing-clause-timing : goal.returns-in-Timing-clause-timing

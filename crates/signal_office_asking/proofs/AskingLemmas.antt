@@ -1,0 +1,22 @@
+-- What is known of the reply to a query.
+use Rattle.std.proofs.Common.{◌≡◌, ◌≢◌, inl, inr, List, [], subst}
+use Rattle.office_tables_shelf.specs.Content.{Content}
+use Rattle.office_tables_shelf.specs.Change.{changed_by}
+use Rattle.office_tables_shelf.specs.declared.rows.RowChange.{RowChange}
+use Rattle.office_desk.specs.Answers.{AnswersAny}
+use Rattle.office_machine.specs.Office.{Office}
+use Rattle.office_machine.specs.Step.{Step, answered}
+use Rattle.office_machine.specs.declared.command.Command.{Command}
+use Rattle.office_machine.specs.declared.refusal.Refusal.TheVariants as refusal
+use Rattle.office_machine.specs.declared.reply.Reply.{Reply}
+use Rattle.office_machine.specs.declared.reply.Reply.TheVariants.{Refused}
+
+-- a reply without changes is a step that leaves the tables
+pub unchanged : (tables : Content) (asked : Command) (reply : Reply) (changes : List RowChange) → changes ≡ [] → AnswersAny tables asked reply (changed_by tables changes) → AnswersAny tables asked reply tables
+unchanged tables asked reply changes none answers = subst (λ cs. AnswersAny tables asked reply (changed_by tables cs)) none answers
+
+-- a command that was not answered unavailable took its step
+pub step_taken : (office next : Office) (asked : Command) (reply : Reply) → Step office asked reply next → reply ≢ Refused refusal.Unavailable
+    → answered office asked ≡ (reply, next)
+step_taken office next asked reply (inl h) available = absurd (available h.0)
+step_taken office next asked reply (inr h) available = h

@@ -1,0 +1,4 @@
+pub mod Asking
+pub mod Fault
+pub mod Refused
+pub mod Showing
