@@ -116,9 +116,10 @@ def definitions():
 
 
 def words():
-    """All words of the sources."""
-    paths = [*(TOP / "crates").rglob("*.rt"), *(TOP / "crates").rglob("*.antt")]
-    return {word for path in paths for word in re.findall(r"\w+", path.read_text())}
+    """All words of the sources, and the names of their files and crates."""
+    paths = [path for kind in ("rt", "antt", "row") for path in (TOP / "crates").rglob(f"*.{kind}")]
+    found = {word for path in paths for word in re.findall(r"\w+", path.read_text())}
+    return found | {path.stem for path in paths} | {it.name for it in (TOP / "crates").iterdir()}
 
 
 def row_names():
@@ -191,7 +192,7 @@ class Proof:
                 elif re.match("rows", sentence, re.IGNORECASE):
                     there = name in self.rows
                 else:
-                    there = name in self.words or (TOP / "crates" / name).exists()
+                    there = name in self.words
                 if not there:
                     yield f"PROOF.md: {crate}: there is no {name}"
 
@@ -214,7 +215,7 @@ class Proof:
                     if not self.is_told(name, clauses):
                         yield f"PROOF.md: {crate}: {row[0]} has no {name}"
             for name in NAME.findall(BRACKETS.sub("", cell)):
-                if not set(re.findall(r"\w+", name)) <= self.words | set(self.calls):
+                if not set(re.findall(r"\w+", name)) <= self.words:
                     yield f"PROOF.md: {crate}: {row[0]}: there is no {name}"
         if any(call.asks for call in meant) and not self.says_asks(crate, names, rest):
             yield f"PROOF.md: {crate}: {row[0]} asks something, which is not told"
@@ -251,9 +252,12 @@ class Proof:
                     yield f"PROOF.md says nothing of {max(names, key=len)} in {crate}"
 
 
-def missing_rules():
-    """Files of definitions and of code that docs/ARCHITECTURE.md names and that are not there."""
+def missing_rules(known):
+    """What docs/ARCHITECTURE.md names, and is not in the sources."""
     text = (TOP / "docs" / "ARCHITECTURE.md").read_text()
+    for name in NAME.findall(text):
+        if re.fullmatch(r"\w+(::\w+|\.rt)?", name) and not known >= {*re.findall(r"\w+", name)}:
+            yield f"ARCHITECTURE.md: there is no {name}"
     for crate, name in re.findall(r"(\w+)/specs/([A-Z]\w*)", text):
         if not (TOP / "crates" / crate / "specs" / f"{name}.antt").exists():
             yield f"ARCHITECTURE.md: there is no file {name} in the specs of {crate}"
@@ -280,7 +284,7 @@ def missing_links():
 
 def missing_files():
     """The files of the repository that a document names by their paths."""
-    pattern = re.compile(rf"(?<![\w/.])(?:\./)?((?:{'|'.join(FOLDERS)})/[\w./]*\w)")
+    pattern = re.compile(rf"(?<![\w/.])(?:\./)?((?:{'|'.join(FOLDERS)})/[\w./-]*\w)")
     for document in DOCUMENTS:
         for path in sorted(set(pattern.findall(document.read_text()))):
             if not (TOP / path).exists() and "/out/" not in path:
@@ -317,8 +321,9 @@ def wrong_drawing():
 def main():
     if sys.argv[1:]:
         sys.exit("documents.py: it takes no words")
-    wrong = [*Proof().wrong(), *missing_rules(), *missing_links(), *missing_files(), *long_lines()]
-    wrong += [*wrong_readme(), *wrong_drawing()]
+    proof = Proof()
+    wrong = [*proof.wrong(), *missing_rules(proof.words), *missing_links(), *missing_files()]
+    wrong += [*long_lines(), *wrong_readme(), *wrong_drawing()]
     print("\n".join(wrong) if wrong else "ok")
     sys.exit(1 if wrong else 0)
 
