@@ -313,8 +313,7 @@ def wrong_readme():
 
 
 def wrong_drawing():
-    drawn = "\n".join(drawing.picture()) + "\n"
-    if not drawing.PICTURE.exists() or drawing.PICTURE.read_text() != drawn:
+    if not drawing.is_drawn():
         yield "docs/crates.svg is another picture than tests/drawing.py draws"
 
 

@@ -1,8 +1,8 @@
 #!/usr/bin/env python3
 """Draws which crate stands on which, from crates.txt, as the picture docs/crates.svg.
 
-    tests/drawing.py             prints the picture
-    tests/drawing.py --write     writes docs/crates.svg
+    tests/drawing.py             sees that docs/crates.svg is that picture
+    tests/drawing.py --write     writes it
 
 A crate stands above all that it stands on. An arrow leads from it to each of these, but to none
 that it reaches by other arrows. Builds nothing, and draws the same picture each time.
@@ -225,7 +225,6 @@ def picture():
     reached, layer = below(named), layers(named)
     arrows = {name: [it for it in others if not any(it in reached[x] for x in others)]
               for name, others in named.items()}
-    arrows = {name: others for name, others in arrows.items()}
     lines = list(threads(arrows, layer))
     up, down = neighbours(lines)
     rows = ordered(rows_of(layer, lines), up, down)
@@ -254,14 +253,22 @@ def picture():
     yield "</svg>"
 
 
+def drawn():
+    return "\n".join(picture()) + "\n"
+
+
+def is_drawn():
+    return PICTURE.exists() and PICTURE.read_text() == drawn()
+
+
 def main():
     if sys.argv[1:] not in ([], ["--write"]):
-        sys.exit("drawing.py: the words are none, or --write")
-    text = "\n".join(picture()) + "\n"
+        sys.exit("drawing.py: it takes no words, or --write")
     if sys.argv[1:]:
-        PICTURE.write_text(text)
-    else:
-        print(text, end="")
+        PICTURE.write_text(drawn())
+    elif not is_drawn():
+        sys.exit("docs/crates.svg is another picture: tests/drawing.py --write")
+    print("ok")
 
 
 if __name__ == "__main__":
