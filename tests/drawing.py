@@ -4,8 +4,9 @@
     tests/drawing.py             sees that docs/crates.svg is that picture
     tests/drawing.py --write     writes it
 
-A crate stands above all that it stands on. An arrow leads from it to each of these, but to none
-that it reaches by other arrows. Builds nothing, and draws the same picture each time.
+A crate stands above all that it stands on. A line leads from it to each of these, but to none that
+it reaches by other lines; lines that lead to one crate run together. Builds nothing, and draws the
+same picture each time.
 """
 import pathlib
 import sys
@@ -14,24 +15,27 @@ TOP = pathlib.Path(__file__).resolve().parent.parent
 PICTURE = TOP / "docs" / "crates.svg"
 TESTS = {"signal_core_tests", "office_slow", "office_script", "office_trials", "office_stops"}
 TESTS |= {"office_rows", "rules_bench"}
-FAMILIES = ("office_tables", "office_desk", "office_http", "office_machine", "office_", "signal_")
-BOX, HEIGHT, APART, BEND, STEP = 184, 28, 16, 26, 62  # of boxes, gaps, lines and layers, in pixels
-SWEEPS = 60
+MOST = 4  # crates side by side
+LETTER, EDGE, HEIGHT, STEP = 7.3, 9, 26, 58  # of a name, beside it, of a box, of a layer, in pixels
+APART, NEAR, MARGIN = 22, 12, 10  # between boxes, beside a line, around all
+SWEEPS = 80
 
 STYLE = """
-  rect.paper { fill: #ffffff }
-  rect { fill: #eef2f7; stroke: #5b6b7f; rx: 5px }
-  rect.tables { fill: #e7f3e6 } rect.desk { fill: #f7efdc }
-  rect.http { fill: #e3effb } rect.program { fill: #f0e6f7 }
+  rect { fill: #eef2f7; stroke: #5b6b7f }
+  rect.paper { fill: #ffffff; stroke: none }
+  rect.tables { fill: #e3f2e1 } rect.desk { fill: #f8edd3 }
+  rect.http { fill: #dfecfb } rect.program { fill: #efe3f8 }
   rect.tests { fill: none; stroke-dasharray: 4 3 }
   text { fill: #16202c; font: 12px ui-monospace, Menlo, Consolas, monospace; text-anchor: middle }
-  path { fill: none; stroke: #7c8a9b; stroke-width: 1.2 } marker path { fill: #7c8a9b }
+  path { fill: none; stroke: #74849a; stroke-width: 1.3 }
+  marker path { fill: #74849a; stroke: none }
   @media (prefers-color-scheme: dark) {
+    rect { fill: #263243; stroke: #93a4b8 }
     rect.paper { fill: #12171d }
-    rect { fill: #243040; stroke: #93a4b8 }
-    rect.tables { fill: #22382a } rect.desk { fill: #40361f }
-    rect.http { fill: #1d3550 } rect.program { fill: #3a2948 }
-    text { fill: #eef3f8 } path { stroke: #8797a8 } marker path { fill: #8797a8 }
+    rect.tables { fill: #213a29 } rect.desk { fill: #43381d }
+    rect.http { fill: #1b3654 } rect.program { fill: #3c2a4b }
+    rect.tests { fill: none }
+    text { fill: #eef3f8 } path { stroke: #8c9db0 } marker path { fill: #8c9db0 }
   }
 """
 
@@ -63,26 +67,48 @@ def below(named):
     return found
 
 
-def layers(named):
+def arrows_of(named):
+    """What each crate stands on and reaches by no other one."""
+    reached = below(named)
+    return {name: [it for it in others if not any(it in reached[x] for x in others)]
+            for name, others in named.items()}
+
+
+def chain(arrows):
     """How many crates stand below each one, in the longest chain of them."""
-    layer = {}
+    found = {}
 
     def visit(name):
-        if name not in layer:
-            layer[name] = 1 + max((visit(it) for it in named[name]), default=-1)
-        return layer[name]
+        if name not in found:
+            found[name] = 1 + max(map(visit, arrows[name]), default=-1)
+        return found[name]
 
-    for name in named:
+    for name in arrows:
         visit(name)
-    return layer
+    return found
+
+
+def layers(arrows):
+    """The layer of each crate, counted from below: as high as those above it let it stand, and few
+    to a layer. A test that nothing stands on stands right above what it tests."""
+    above = {name: [it for it in arrows if name in arrows[it]] for name in arrows}
+    alone = [it for it in arrows if it in TESTS and not above[it] and it != "office_rows"]
+    length, rows, left = chain(arrows), [], [it for it in arrows if it not in alone]
+    while left:
+        ready = [it for it in left if not any(x in left for x in above[it])]
+        row = sorted(ready, key=lambda it: -length[it])[:MOST]
+        rows.insert(0, row)
+        left = [it for it in left if it not in row]
+    found = {name: number for number, row in enumerate(rows) for name in row}
+    return found | {it: 1 + max(found[x] for x in arrows[it]) for it in alone}
 
 
 def threads(arrows, layer):
-    """Each arrow as the places that it passes, one in each layer; a bend is a pair."""
+    """Each line as the places that it passes, one in each layer. A bend is a pair; lines to one
+    crate share theirs."""
     for name, others in arrows.items():
         for other in others:
-            bends = [((name, other), at) for at in range(layer[name] - 1, layer[other], -1)]
-            yield [name, *bends, other]
+            yield [name, *((other, at) for at in range(layer[name] - 1, layer[other], -1)), other]
 
 
 def rows_of(layer, lines):
@@ -90,18 +116,17 @@ def rows_of(layer, lines):
     rows = [[] for _ in range(max(layer.values()) + 1)]
     for name in layer:
         rows[layer[name]].append(name)
-    for line in lines:
-        for bend in line[1:-1]:
-            rows[bend[1]].append(bend)
+    for bend in dict.fromkeys(bend for line in lines for bend in line[1:-1]):
+        rows[bend[1]].append(bend)
     return rows
 
 
 def neighbours(lines):
+    """What each place is joined with above it, and below it."""
     up, down = {}, {}
-    for line in lines:
-        for high, low in zip(line, line[1:]):
-            down.setdefault(high, []).append(low)
-            up.setdefault(low, []).append(high)
+    for high, low in dict.fromkeys(pair for line in lines for pair in zip(line, line[1:])):
+        down.setdefault(high, []).append(low)
+        up.setdefault(low, []).append(high)
     return up, down
 
 
@@ -116,21 +141,33 @@ def crossings(rows, down):
 
 def ordered(rows, up, down):
     """The rows with the places in an order that crosses few lines."""
-    best, least = [list(row) for row in rows], crossings(rows, down)
+    best, least = rows, crossings(rows, down)
     for sweep in range(SWEEPS):
-        rows = [list(row) for row in rows]
-        upward = sweep % 2 == 0
-        order = range(1, len(rows)) if upward else range(len(rows) - 2, -1, -1)
-        for index in order:
-            beside = rows[index - 1] if upward else rows[index + 1]
+        rows, upward = [list(row) for row in rows], sweep % 2 == 0
+        for index in range(1, len(rows)) if upward else range(len(rows) - 2, -1, -1):
+            beside, near = (rows[index - 1], down) if upward else (rows[index + 1], up)
             at = {place: number / len(beside) for number, place in enumerate(beside)}
-            near = down if upward else up
             own = {place: number / len(rows[index]) for number, place in enumerate(rows[index])}
             rows[index].sort(key=lambda it: mean([at[x] for x in near.get(it, [])], own[it]))
+        rows = swapped(rows, down)
         found = crossings(rows, down)
         if found < least:
             best, least = rows, found
     return best
+
+
+def swapped(rows, down):
+    """The rows with neighbours changed where that crosses fewer lines."""
+    least = crossings(rows, down)
+    for row in rows:
+        for index in range(len(row) - 1):
+            row[index], row[index + 1] = row[index + 1], row[index]
+            found = crossings(rows, down)
+            if found < least:
+                least = found
+            else:
+                row[index], row[index + 1] = row[index + 1], row[index]
+    return rows
 
 
 def mean(numbers, default):
@@ -138,118 +175,92 @@ def mean(numbers, default):
 
 
 def width(place):
-    return BOX if isinstance(place, str) else BEND
+    return LETTER * len(place) + 2 * EDGE if isinstance(place, str) else 0
+
+
+def gap(left, right):
+    """How far the middles of two neighbours stand apart at least."""
+    beside = APART if isinstance(left, str) and isinstance(right, str) else NEAR
+    return (width(left) + width(right)) / 2 + beside
 
 
 def spread(row, wanted):
-    """Where the places of a row stand: near where they are wanted, in order, and apart."""
+    """Where the places of a row stand: in order, apart, and together near where they want to be."""
     groups = []
     for place in row:
-        groups.append([[place], [wanted[place]]])
-        while len(groups) > 1 and begin_of(groups[-1]) < end_of(groups[-2]) + APART:
-            places, middles = groups.pop()
-            shift = end_in(groups[-1][0]) + APART
-            groups[-1][1] += [it - shift for it in middles]
-            groups[-1][0] += places
-    return {place: middle for group in groups for place, middle in middles_of(group)}
-
-
-def end_in(places):
-    return sum(width(it) for it in places) + APART * (len(places) - 1)
-
-
-def begin_of(group):
-    """Where a group begins: its middle value of where its places would have it begin."""
-    begins = sorted(want for want in group[1])
-    half = len(begins) // 2
-    middle = begins[half] if len(begins) % 2 else (begins[half - 1] + begins[half]) / 2
-    return middle - width(group[0][0]) / 2
-
-
-def end_of(group):
-    return begin_of(group) + end_in(group[0])
-
-
-def middles_of(group):
-    begin = begin_of(group)
-    for place in group[0]:
-        yield place, begin + width(place) / 2
-        begin += width(place) + APART
+        groups.append([[place], [0], wanted[place]])
+        while len(groups) > 1:
+            first, last = groups[-2:]
+            room = first[1][-1] + gap(first[0][-1], last[0][0])
+            if first[2] + room <= last[2]:
+                break
+            few, many = len(last[0]), len(first[0])
+            begin = (many * first[2] + few * (last[2] - room)) / (many + few)
+            groups[-2:] = [[first[0] + last[0], first[1] + [room + it for it in last[1]], begin]]
+    return {place: begin + at for places, ats, begin in groups for place, at in zip(places, ats)}
 
 
 def placed(rows, up, down):
     """The middle of each place, from left."""
     middle = {}
     for row in rows:
-        left = 0
-        for place in row:
-            middle[place] = left + width(place) / 2
-            left += width(place) + APART
+        middle.update(spread(row, dict.fromkeys(row, 0)))
     for sweep in range(SWEEPS):
-        for row in rows if sweep % 2 == 0 else reversed(rows):
-            both = [*zip(row, row)]
+        for row in rows if sweep % 2 else reversed(rows):
             wanted = {}
-            for place, _ in both:
+            for place in row:
                 near = up.get(place, []) + down.get(place, [])
                 wanted[place] = mean([middle[it] for it in near], middle[place])
             middle.update(spread(row, wanted))
     least = min(middle[place] - width(place) / 2 for place in middle)
-    return {place: at - least + APART for place, at in middle.items()}
+    return {place: at - least + MARGIN for place, at in middle.items()}
 
 
 def family(name):
+    """How a crate is filled."""
     if name in TESTS:
         return "tests"
-    if name.startswith("signal_office") or name == "signal_page":
-        return "program"
-    for part in ("tables", "desk", "http"):
-        if name.startswith(f"office_{part}"):
-            return part
-    return "rules"
+    parts = [part for part in ("tables", "desk", "http") if name.startswith(f"office_{part}")]
+    return parts[0] if parts else "program" if name.startswith("signal_office") else "rules"
 
 
-def curve(line, middle, top):
-    """One line from a box down to a box, by its bends."""
-    x, y = middle[line[0]], top(line[0]) + HEIGHT
-    parts = [f"M{x:.0f} {y}"]
-    for place in line[1:]:
-        to, end = middle[place], top(place) + (0 if isinstance(place, str) else HEIGHT // 2)
-        half = (end - y) // 2
-        parts.append(f"C{x:.0f} {y + half} {to:.0f} {end - half} {to:.0f} {end}")
-        x, y = to, end
-    return " ".join(parts)
+def curve(high, low, middle, top):
+    """The line from one place to the next one below it."""
+    x, to = middle[high], middle[low]
+    y, end = top(high) + (HEIGHT if isinstance(high, str) else HEIGHT // 2), top(low)
+    end += 0 if isinstance(low, str) else HEIGHT // 2
+    half = (y + end) // 2
+    marker = ' marker-end="url(#end)"' if isinstance(low, str) else ""
+    return f'<path{marker} d="M{x:.0f} {y}C{x:.0f} {half} {to:.0f} {half} {to:.0f} {end}"/>'
 
 
 def picture():
     named, remarks = crates()
-    reached, layer = below(named), layers(named)
-    arrows = {name: [it for it in others if not any(it in reached[x] for x in others)]
-              for name, others in named.items()}
+    arrows = arrows_of(named)
+    layer = layers(arrows)
     lines = list(threads(arrows, layer))
     up, down = neighbours(lines)
     rows = ordered(rows_of(layer, lines), up, down)
     middle = placed(rows, up, down)
-    across = max(middle[it] + width(it) / 2 for it in middle) + APART
+    across = max(middle[it] + width(it) / 2 for it in middle) + MARGIN
+    high = 2 * MARGIN + (len(rows) - 1) * STEP + HEIGHT
 
     def top(place):
-        at = layer[place] if isinstance(place, str) else place[1]
-        return APART + (len(rows) - 1 - at) * STEP
+        return MARGIN + (len(rows) - 1 - (layer.get(place, place[1]))) * STEP
 
-    high = 2 * APART + (len(rows) - 1) * STEP + HEIGHT
     yield f'<svg xmlns="http://www.w3.org/2000/svg" viewBox="0 0 {across:.0f} {high}" role="img">'
     yield "<title>Which crate stands on which</title>"
     yield f"<style>{STYLE}</style>"
     yield ('<marker id="end" viewBox="0 0 8 8" refX="7" refY="4" markerWidth="7" markerHeight="7" '
            'orient="auto"><path d="M0 0L8 4L0 8z"/></marker>')
-    yield f'<rect class="paper" width="{across:.0f}" height="{high}" stroke="none"/>'
-    for line in lines:
-        yield f'<path marker-end="url(#end)" d="{curve(line, middle, top)}"/>'
+    yield f'<rect class="paper" width="{across:.0f}" height="{high}"/>'
+    yield from (curve(place, low, middle, top) for place, lows in down.items() for low in lows)
     for name in layer:
-        left = middle[name] - BOX / 2
-        yield f'<g><title>{remarks[name]}</title>'
-        yield (f'<rect class="{family(name)}" x="{left:.0f}" y="{top(name)}" width="{BOX}" '
-               f'height="{HEIGHT}"/>')
-        yield f'<text x="{middle[name]:.0f}" y="{top(name) + 18}">{name}</text></g>'
+        left, wide = middle[name] - width(name) / 2, width(name)
+        yield f"<g><title>{remarks[name]}</title>"
+        yield (f'<rect class="{family(name)}" x="{left:.0f}" y="{top(name)}" width="{wide:.0f}" '
+               f'height="{HEIGHT}" rx="5"/>')
+        yield f'<text x="{middle[name]:.0f}" y="{top(name) + 17}">{name}</text></g>'
     yield "</svg>"
 
 
