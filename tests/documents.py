@@ -8,9 +8,9 @@
   that it names is there; a call that asks something of its caller says so; and each public call of
   a library is in the table or in the list of those that are left out, once.
 - docs/crates.svg is what tests/drawing.py draws.
-- In all documents: each link leads somewhere, each file named by its path is there, and no line
-  passes 100 columns but in tables. README.md has at most 150 lines, and its headline is that of
-  docs/PROOF.md.
+- In all documents: each link leads somewhere, each file named by its path is there, no line passes
+  100 columns but in tables, and nothing is named that a reader has not. README.md has at most 150
+  lines, and its headline is that of docs/PROOF.md.
 
 Builds nothing. Prints what is wrong, and ends with status 1 then.
 """
@@ -298,6 +298,13 @@ def long_lines():
                 yield f"{document.name}:{number} has {len(line)} columns"
 
 
+def private_words():
+    """What only those who wrote the documents can look up."""
+    for document in DOCUMENTS:
+        for found in re.findall(r"\b(?:issue|paper) \d+|/(?:work|opt|home|root)/", document.read_text()):
+            yield f"{document.name} names {found}, which no reader has"
+
+
 def headline(document):
     """The first sentence in bold, without its breaks."""
     found = re.search(r"\*\*(For every stream.*?)\*\*", (TOP / document).read_text(), re.DOTALL)
@@ -322,7 +329,7 @@ def main():
         sys.exit("documents.py: it takes no words")
     proof = Proof()
     wrong = [*proof.wrong(), *missing_rules(proof.words), *missing_links(), *missing_files()]
-    wrong += [*long_lines(), *wrong_readme(), *wrong_drawing()]
+    wrong += [*long_lines(), *private_words(), *wrong_readme(), *wrong_drawing()]
     print("\n".join(wrong) if wrong else "ok")
     sys.exit(1 if wrong else 0)
 
