@@ -253,17 +253,25 @@ class Proof:
 
 
 def missing_rules(known):
-    """What docs/ARCHITECTURE.md names, and is not in the sources."""
+    """What docs/ARCHITECTURE.md names, and is not where it says."""
     text = (TOP / "docs" / "ARCHITECTURE.md").read_text()
     for name in NAME.findall(text):
         if re.fullmatch(r"\w+(::\w+|\.rt)?", name) and not known >= {*re.findall(r"\w+", name)}:
             yield f"ARCHITECTURE.md: there is no {name}"
-    for crate, name in re.findall(r"(\w+)/specs/([A-Z]\w*)", text):
-        if not (TOP / "crates" / crate / "specs" / f"{name}.antt").exists():
-            yield f"ARCHITECTURE.md: there is no file {name} in the specs of {crate}"
-    for crate, name in re.findall(r"(\w+)/src/([\w/]+\.rt)", text):
-        if not (TOP / "crates" / crate / "src" / name).exists():
-            yield f"ARCHITECTURE.md: there is no file {name} in the code of {crate}"
+    for name in re.findall(r"`(\w+/(?:specs|src)/[\w/.]+)`", text):
+        if not file_named(name).exists():
+            yield f"ARCHITECTURE.md: there is no file {name}"
+    file = r"`(\w+/(?:specs|src)/[\w/.]+)`"
+    for names, file in re.findall(rf"((?:`\w+`(?: and )?)+)\s+in\s+{file}", text):
+        there = re.findall(r"\w+", file_named(file).read_text())
+        for name in NAME.findall(names):
+            if name not in there:
+                yield f"ARCHITECTURE.md: there is no {name} in {file}"
+
+
+def file_named(name):
+    """The file of definitions or of code that stands for this name."""
+    return TOP / "crates" / (name if name.endswith(".rt") else f"{name}.antt")
 
 
 def anchors(text):
@@ -300,8 +308,9 @@ def long_lines():
 
 def private_words():
     """What only those who wrote the documents can look up."""
+    pattern = re.compile(r"\b(?:issue|paper) \d+|/(?:work|opt|home|root)/")
     for document in DOCUMENTS:
-        for found in re.findall(r"\b(?:issue|paper) \d+|/(?:work|opt|home|root)/", document.read_text()):
+        for found in pattern.findall(document.read_text()):
             yield f"{document.name} names {found}, which no reader has"
 
 
