@@ -19,6 +19,7 @@ import socket
 import subprocess
 import sys
 import tempfile
+import time
 
 import work
 
@@ -28,6 +29,7 @@ import measured
 from program import found
 
 RUNS = 3
+PAUSE = 0.005  # seconds between two looks at what a program holds
 DAY = "2027-03-02"
 VALGRIND = ("valgrind", "--tool=callgrind", "--callgrind-out-file=/dev/null")
 PYTHON = (sys.executable, str(HERE / "baseline.py"))
@@ -84,18 +86,39 @@ def on_files(program, folder):
         yield Work(name, words, theirs, file=path, made=path + ".copy")
 
 
+def held_by(process):
+    """The most MiB that a process held until now; 0 once it has ended."""
+    try:
+        told = pathlib.Path("/proc", str(process), "status").read_text()
+    except OSError:
+        return 0
+    found = re.search(r"^VmHWM:\s*(\d+) kB", told, re.MULTILINE)
+    return int(found[1]) / 1024 if found else 0
+
+
+def awaited(child):
+    """The processor seconds of a child and the most MiB that it held, once it has ended. The system
+    counts what its parent held in the figure that it gives itself."""
+    held, ended = 0, 0
+    while not ended:
+        held = max(held, held_by(child.pid))
+        time.sleep(PAUSE)
+        ended, status, usage = os.wait4(child.pid, os.WNOHANG)
+    child.returncode = os.waitstatus_to_exitcode(status)
+    return usage.ru_utime + usage.ru_stime, held
+
+
 def ran(words, requests, folder):
     """The processor seconds of a run, the MiB that it held, what it told, and its answers."""
     names = [os.path.join(folder, it) for it in ("requests", "answers", "told")]
     pathlib.Path(names[0]).write_bytes(requests)
     with open(names[0], "rb") as source, open(names[1], "wb") as sink, open(names[2], "wb") as told:
         child = subprocess.Popen(words, stdin=source, stdout=sink, stderr=told)
-        _, status, usage = os.wait4(child.pid, 0)
-        child.returncode = os.waitstatus_to_exitcode(status)
+        seconds, held = awaited(child)
     answers, said = (pathlib.Path(it).read_bytes() for it in names[1:])
     if child.returncode:
         sys.exit(f"{' '.join(words)} ended with {child.returncode}: {said.decode()[-400:]}")
-    return usage.ru_utime + usage.ru_stime, usage.ru_maxrss / 1024, said.decode(), answers
+    return seconds, held, said.decode(), answers
 
 
 def once(words, it, requests, folder):
@@ -118,8 +141,9 @@ def cost(words, it, folder, counts):
     return value - (least(it.before)[0] if it.requests else 0), held, answers
 
 
-def talk(port, requests, at_once):
-    """Sends requests over one connection, so many on the way at a time."""
+def talk(server, port, requests, at_once):
+    """Sends requests to a server over one connection, so many on the way at a time, and tells the
+    most MiB that it held."""
     with socket.create_connection(("127.0.0.1", port)) as wire:
         wire.setsockopt(socket.IPPROTO_TCP, socket.TCP_NODELAY, 1)
         for first in range(0, len(requests), at_once):
@@ -127,6 +151,7 @@ def talk(port, requests, at_once):
             wire.sendall(b"".join(several))
             while data.count(b"HTTP/1.1 200 OK") < len(several) or not data.endswith(b"}"):
                 data += wire.recv(1 << 16) or sys.exit("the server closed the connection")
+        return held_by(server)
 
 
 def served(program, at_once):
@@ -137,10 +162,8 @@ def served(program, at_once):
     words = [program, "serve", "--port", str(port), "--count", "1"]
     server = subprocess.Popen(words, stdin=subprocess.DEVNULL, stdout=subprocess.PIPE)
     server.stdout.readline()
-    talk(port, requests, at_once)
-    _, status, usage = os.wait4(server.pid, 0)
-    server.returncode = os.waitstatus_to_exitcode(status)
-    return usage.ru_utime + usage.ru_stime, usage.ru_maxrss / 1024
+    held = talk(server.pid, port, requests, at_once)
+    return awaited(server)[0], held
 
 
 def shown(value, counts):
