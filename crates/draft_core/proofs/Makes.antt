@@ -109,8 +109,8 @@ pub edit_makes : {timing : Timing} {rows : RowsByKey} {side : TimingSide}
     → move ≡ move_to timing.revision (Kept Transaction) NotJudged written
     → Makes rows side clerk move (with_draft side
     (record draft { stage = Transaction; set = after_changes draft.set changes }))
-edit_makes {timing = timing} {rows = rows} {side = side} stands draft clerk move changes written held
-    drafts is =
+edit_makes {timing = timing} {rows = rows} {side = side} stands draft clerk move changes written
+    held drafts is =
     let next : TimingSide = with_draft side
     (record draft { stage = Transaction; set = after_changes draft.set changes }) in
     let keeps : (key : Key) → KeepsOnlyChange (get side.committed key) (rows key)

@@ -251,7 +251,8 @@ module _ (committed : Rows) (delta done : List Change) (written : List TimingCha
     keeps = λ key. at_key key (written ++ Drafted change ∷ []) _
         (row_after-push written (Drafted change) key (row_at delta key))
         (one_drafted (get committed key) (row_at delta key) (row_at done key)
-        (row_after written key (row_at delta key)) change (eq_by_cmp key_cmp key (changed_key change))
+        (row_after written key (row_at delta key)) change
+        (eq_by_cmp key_cmp key (changed_key change))
         (said_other differs key) (so_far.keeps key));
     among = λ kept has. from kept (Contains-push_cases (drafted_in written) change kept
         (subst (λ list. Contains list kept) (drafted_in-push written (Drafted change)) has));
@@ -277,7 +278,8 @@ module _ (committed : Rows) (delta done : List Change) (written : List TimingCha
     keeps = λ key. at_key key (written ++ DraftGone (changed_key change) ∷ []) _
         (row_after-push written (DraftGone (changed_key change)) key (row_at delta key))
         (one_gone (get committed key) (row_at delta key) (row_at done key)
-        (row_after written key (row_at delta key)) change (eq_by_cmp key_cmp key (changed_key change))
+        (row_after written key (row_at delta key)) change
+        (eq_by_cmp key_cmp key (changed_key change))
         (said_same says key) (so_far.keeps key));
     among = λ kept has. longer kept (subst (λ list. Contains list kept)
         (drafted_in-push written (DraftGone (changed_key change)) ∙ append-nil (drafted_in written))
@@ -302,9 +304,11 @@ module _ (committed : Rows) (delta done : List Change) (written : List TimingCha
   drafts_nothing says none = record {
     keeps = λ key. at_key key written _ refl
         (one_passed (get committed key) (row_at delta key) (row_at done key)
-        (row_after written key (row_at delta key)) change (eq_by_cmp key_cmp key (changed_key change))
+        (row_after written key (row_at delta key)) change
+        (eq_by_cmp key_cmp key (changed_key change))
         (said_same says key)
-        (λ here. ap (λ k. row_after written k (row_at delta k)) (same_key key (changed_key change) here)
+        (λ here. ap (λ k. row_after written k (row_at delta k))
+        (same_key key (changed_key change) here)
         ∙ nothing_said _ none) (so_far.keeps key));
     among = longer;
     no_timing = so_far.no_timing;
@@ -417,5 +421,6 @@ pub moved_within : (result : Result Move DraftRefusal) (changes : List Change)
     → IfOk result (λ move. AreAmong (drafted_in move.changes) changes)
     → AreChangesWithin changes
     → IfOk result (λ move. AreChangesWithin (drafted_in move.changes))
-moved_within (Ok move) changes among within = among_within (drafted_in move.changes) changes among within
+moved_within (Ok move) changes among within =
+    among_within (drafted_in move.changes) changes among within
 moved_within (Err refusal) changes among within = tt

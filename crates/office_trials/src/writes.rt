@@ -1,5 +1,5 @@
-//! How many rows of the timing and draft tables a transaction writes: a draft is the rows in which it
-//! differs from what is committed, and nothing else of it is written, at the commit neither.
+//! How many rows of the timing and draft tables a transaction writes: a draft is the rows in which
+//! it differs from what is committed, and nothing else of it is written, at the commit neither.
 
 use office_desk::office::Office;
 use office_script::running::does;

@@ -15,7 +15,8 @@ returns-clause-line c = λ rows side stands. owned_moves stands _ _ _ _ _ (sym c
 pub returns-clause-keeps : goal.returns-clause-keeps
 returns-clause-keeps c =
     let timing = c.args.timing.now in
-    subst (λ (m : Move). KeepsOnlyChanges timing.committed timing.delta c.args.changes.now m.changes)
+    subst (λ (m : Move).
+    KeepsOnlyChanges timing.committed timing.delta c.args.changes.now m.changes)
     (sym c.moves_to.ensures) c.in_ok-changes.ensures.keeps
 
 pub returns-clause-drafts : goal.returns-clause-drafts

@@ -13,7 +13,9 @@ use Rattle.draft_core.specs.Drafting.{DraftsChanges, is_said}
 use Rattle.draft_core.proofs.OnlyChanges.{DraftsSoFar, drafts_none, is_gone, is_kept, is_passed}
 use Rattle.draft_core.proofs.OnlyChanges.{one_more}
 use Rattle.draft_core.proofs.drafting.drafting.Goals as goal
-use Rattle.draft_core.proofs.drafting.drafting.Goals.{then-not-says_committed+in_ok-insert+in_ok-copy_change+in_ok-push, else-not-says_committed+then-remove+in_ok-push-2, else-not-says_committed+else-remove}
+use Rattle.draft_core.proofs.drafting.drafting.Goals.{then-not-says_committed+in_ok-insert+in_ok-copy_change+in_ok-push}
+use Rattle.draft_core.proofs.drafting.drafting.Goals.{else-not-says_committed+then-remove+in_ok-push-2}
+use Rattle.draft_core.proofs.drafting.drafting.Goals.{else-not-says_committed+else-remove}
 
 pub loop-change-init : goal.loop-change-init
 loop-change-init c =
@@ -58,7 +60,8 @@ loop-change-preserved c =
           ∙ ap (λ (key : Key). written ++ DraftGone key ∷ []) c.changed_key-key.ensures)
       | else-not-says_committed+else-remove w ↦
           let updates = rw c.changed_key-key.ensures at w.remove.ensures.updates.0 in
-          let none = rw c.changed_key-key.ensures at (sym w.remove.ensures.test ∙ w.if-remove.false) in
+          let none = rw c.changed_key-key.ensures at (sym w.remove.ensures.test
+          ∙ w.if-remove.false) in
           is_passed (c.says_committed.ensures.is w.if-not-says_committed.false)
           (λ key. ap (λ (set : BTreeSet Key). contains key_cmp set key) w.drafted-is ∙ updates key)
           none (ap (λ (v : Vec TimingChange). v.items) w.written-is)
