@@ -15,10 +15,14 @@ use Rattle.draft_core.specs.declared.timing.Reach.{Reach}
 use Rattle.draft_core.specs.declared.timing.Move.{Move}
 use Rattle.draft_core.specs.Transaction.{TimingSide, Draft, holder_of, verdict_of, with_draft}
 use Rattle.draft_core.specs.DraftRows.{RowsByKey, RowStands, Stands, row_at, overlaid}
-use Rattle.draft_core.specs.Moves.{Makes, move_to, next_holder}
-use Rattle.draft_core.specs.Writes.{drafting, settling, dropping}
+use Rattle.draft_core.specs.Moves.{Makes, move_to, next_holder, row_after}
+use Rattle.draft_core.specs.Writes.{settling, dropping}
+use Rattle.draft_core.specs.Drafting.{DraftsChanges, KeepsOnlyChange}
+use Rattle.draft_core.specs.declared.timing.Reach.TheVariants as reach
+use Rattle.draft_core.specs.declared.timing.TimingChange.{TimingChange}
+use Rattle.draft_core.proofs.OnlyChanges.{kept_differs, kept_makes, no_committed}
 use Rattle.draft_core.proofs.Overlaid.{get-after_changes, draft_row}
-use Rattle.draft_core.proofs.Written.{committed_after-drafting, row_after-drafting, committed_after-settling, row_after-settling, committed_after-dropping, row_after-dropping}
+use Rattle.draft_core.proofs.Written.{committed_after-settling, row_after-settling, committed_after-dropping, row_after-dropping}
 
 module _ {reach : Reach} {timing : Timing} {rows : RowsByKey} {side : TimingSide}
     (stands : Stands reach timing rows side) where
@@ -37,6 +41,7 @@ module _ {reach : Reach} {timing : Timing} {rows : RowsByKey} {side : TimingSide
         same_holder = ap (λ d. next_holder (Kept stage) clerk (option_map holder_of d)) held;
         committed = λ key. refl;
         draft = λ key. draft_row stands draft held key;
+        only_changes = λ only. only;
       })
 
   pub begin_makes : (clerk : List ℕ) (move : Move) → side.draft ≡ None
@@ -55,25 +60,7 @@ module _ {reach : Reach} {timing : Timing} {rows : RowsByKey} {side : TimingSide
         draft = λ key. sym (ap (overlaid (get side.committed key)) (subst
             (λ d. RowStands (get side.committed key) (rows key) d key) no_draft
             (stands.draft key)));
-      })
-
-  pub edit_makes : (draft : Draft) (clerk : List ℕ) (move : Move) (changes : List Change)
-      → side.draft ≡ Some draft
-      → move ≡ move_to timing.revision (Kept Transaction) NotJudged (drafting changes)
-      → Makes rows side clerk move (with_draft side
-      (record draft { stage = Transaction; set = after_changes draft.set changes }))
-  edit_makes draft clerk move changes held is =
-      let next : TimingSide = with_draft side
-      (record draft { stage = Transaction; set = after_changes draft.set changes }) in
-      subst (λ m. Makes rows side clerk m next) (sym is) (record {
-        same_revision = stands.same_revision;
-        same_state = refl;
-        same_verdict = refl;
-        same_holder = ap (λ d. next_holder (Kept Transaction) clerk (option_map holder_of d)) held;
-        committed = λ key. sym (committed_after-drafting changes key _);
-        draft = λ key. get-after_changes changes draft.set key
-            ∙ ap (λ o. overlaid o (row_at changes key)) (draft_row stands draft held key)
-            ∙ sym (row_after-drafting changes key (get side.committed key) (rows key));
+        only_changes = λ only. only;
       })
 
   -- where the draft rows were read, none is left
@@ -94,6 +81,8 @@ module _ {reach : Reach} {timing : Timing} {rows : RowsByKey} {side : TimingSide
               ∙ ap (overlaid (get side.committed key)) (sym (read key))
               ∙ sym (committed_after-settling timing.delta key _);
           draft = λ key. row_after-settling timing.delta key _ (λ e. sym (read key) ∙ e);
+          only_changes = λ only key same. row_after-settling timing.delta key _
+              (λ e. sym (read key) ∙ e);
         })
 
     pub abandon_makes : (clerk : List ℕ) (move : Move)
@@ -108,4 +97,38 @@ module _ {reach : Reach} {timing : Timing} {rows : RowsByKey} {side : TimingSide
           same_holder = refl;
           committed = λ key. sym (committed_after-dropping timing.delta key _);
           draft = λ key. row_after-dropping timing.delta key _ (λ e. sym (read key) ∙ e);
+          only_changes = λ only key same. row_after-dropping timing.delta key _
+              (λ e. sym (read key) ∙ e);
         })
+
+-- an edit, which reads the whole plan
+pub edit_makes : {timing : Timing} {rows : RowsByKey} {side : TimingSide}
+    (stands : Stands reach.Plan timing rows side) (draft : Draft) (clerk : List ℕ) (move : Move)
+    (changes : List Change) (written : List TimingChange) → side.draft ≡ Some draft
+    → DraftsChanges timing.committed timing.delta changes written
+    → move ≡ move_to timing.revision (Kept Transaction) NotJudged written
+    → Makes rows side clerk move (with_draft side
+    (record draft { stage = Transaction; set = after_changes draft.set changes }))
+edit_makes {timing = timing} {rows = rows} {side = side} stands draft clerk move changes written
+    held drafts is =
+    let next : TimingSide = with_draft side
+    (record draft { stage = Transaction; set = after_changes draft.set changes }) in
+    let keeps : (key : Key) → KeepsOnlyChange (get side.committed key) (rows key)
+    (row_at changes key) (row_after written key (rows key)) = λ key.
+    subst (λ said. KeepsOnlyChange (get side.committed key) said (row_at changes key)
+    (row_after written key said)) (stands.read.0 key)
+    (subst (λ set. KeepsOnlyChange (get set key) (row_at timing.delta key) (row_at changes key)
+    (row_after written key (row_at timing.delta key))) stands.read.1 (drafts.keeps key)) in
+    subst (λ m. Makes rows side clerk m next) (sym is) (record {
+      same_revision = stands.same_revision;
+      same_state = refl;
+      same_verdict = refl;
+      same_holder = ap (λ d. next_holder (Kept Transaction) clerk (option_map holder_of d)) held;
+      committed = λ key. sym (no_committed written drafts.no_timing key (get side.committed key));
+      draft = λ key. get-after_changes changes draft.set key
+          ∙ ap (λ o. overlaid o (row_at changes key)) (draft_row stands draft held key)
+          ∙ kept_makes (get side.committed key) (rows key) (row_at changes key)
+          (row_after written key (rows key)) (keeps key);
+      only_changes = λ only key. kept_differs (get side.committed key) (rows key)
+          (row_at changes key) (row_after written key (rows key)) (keeps key) (only key);
+    })

@@ -1,5 +1,5 @@
--- What the changes that edit, commit and abandon write make of the rows, and how many they are.
-use Rattle.std.proofs.Common.{◌≡◌, ◌≤◌, Bool, true, false, cond, List, [], ◌∷◌, length, Option, refl, ap, sym, ◌∙◌, arith}
+-- What the changes that commit and abandon write make of the rows, and how many they are.
+use Rattle.std.proofs.Common.{◌≡◌, ◌≤◌, Bool, true, false, cond, List, [], ◌∷◌, length, Option, refl, ap, ◌∙◌, arith}
 use Rattle.std.specs.Ordering.{eq_by_cmp}
 use Rattle.signal_records.specs.declared.key.Key.{Key}
 use Rattle.signal_records.specs.declared.record.Row.{Row}
@@ -8,24 +8,8 @@ use Rattle.signal_records.specs.Key.{key_cmp}
 use Rattle.draft_core.specs.DraftRows.{Said, silent, changed_key, said_by, said_at, later_of, row_at, overlaid}
 use Rattle.draft_core.specs.Moves.{committed_after, drafted_in, row_after, timing_writes}
 use Rattle.draft_core.specs.Moves.{draft_writes}
-use Rattle.draft_core.specs.Writes.{drafting, settling, dropping}
+use Rattle.draft_core.specs.Writes.{settling, dropping}
 use Rattle.draft_core.proofs.Overlaid.{overlaid-overlaid}
-
--- ---- an edit keeps the committed rows, and makes its changes to the draft
-
-pub committed_after-drafting : (changes : List Change) (key : Key) (committed : Option Row) → committed_after (drafting changes) key committed ≡ committed
-committed_after-drafting [] key committed = refl
-committed_after-drafting (change ∷ changes) key committed = committed_after-drafting changes key committed
-
-pub row_after-drafting : (changes : List Change) (key : Key) (committed : Option Row) (said : Said)
-    → overlaid committed (row_after (drafting changes) key said) ≡ overlaid
-    (overlaid committed said) (row_at changes key)
-row_after-drafting [] key committed said = refl
-row_after-drafting (change ∷ changes) key committed said =
-    row_after-drafting changes key committed _
-    ∙ ap (λ o. overlaid o (row_at changes key)) (sym (overlaid-overlaid committed
-    (said_at change key) said))
-    ∙ overlaid-overlaid (overlaid committed said) (row_at changes key) (said_at change key)
 
 -- ---- a commit makes the draft rows changes of the committed ones, and none is left
 
@@ -63,10 +47,6 @@ row_after-dropping (change ∷ changes) key said h =
 
 -- ---- which draft rows are written, and how many rows
 
-pub drafted_in-drafting : (changes : List Change) → drafted_in (drafting changes) ≡ changes
-drafted_in-drafting [] = refl
-drafted_in-drafting (change ∷ changes) = ap (λ list. change ∷ list) (drafted_in-drafting changes)
-
 pub drafted_in-settling : (changes : List Change) → drafted_in (settling changes) ≡ []
 drafted_in-settling [] = refl
 drafted_in-settling (change ∷ changes) = drafted_in-settling changes
@@ -74,10 +54,6 @@ drafted_in-settling (change ∷ changes) = drafted_in-settling changes
 pub drafted_in-dropping : (changes : List Change) → drafted_in (dropping changes) ≡ []
 drafted_in-dropping [] = refl
 drafted_in-dropping (change ∷ changes) = drafted_in-dropping changes
-
-pub drafting_writes : (changes : List Change) → (timing_writes (drafting changes) ≡ 0) × (draft_writes (drafting changes) ≤ length changes)
-drafting_writes [] = (refl, omega arith)
-drafting_writes (change ∷ changes) = let rest = drafting_writes changes in (rest.0, omega (arith, rest.1))
 
 pub settling_writes : (changes : List Change) → (timing_writes (settling changes) ≤ length changes) × (draft_writes (settling changes) ≤ length changes)
 settling_writes [] = (omega arith, omega arith)

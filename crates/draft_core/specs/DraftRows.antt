@@ -5,6 +5,7 @@ use Rattle.std.specs.FinMap.{get}
 use Rattle.std.specs.Ordering.{eq_by_cmp}
 use Rattle.signal_records.specs.Key.{key_cmp}
 use Rattle.signal_records.specs.Row.{key_of}
+use Rattle.signal_records.specs.TimingSet.{Rows}
 use Rattle.signal_records.specs.declared.key.Key.{Key}
 use Rattle.signal_records.specs.declared.record.Row.{Row}
 use Rattle.signal_records.specs.declared.record.Change.{Change}
@@ -80,3 +81,11 @@ pub record Stands (reach : Reach) (timing : Timing) (rows : RowsByKey)
   pub same_holder : timing.holder ≡ option_map holder_of side.draft
   pub draft : (key : Key) → RowStands (get side.committed key) (rows key) side.draft key
   pub read : IsRead reach timing rows side
+
+-- a draft row, where one stands, says otherwise than what is committed at its key
+abbrev pub SaysOtherwise : Option Row → Said → Type 0
+SaysOtherwise committed said = overlaid committed said ≡ committed → said ≡ silent
+
+-- each draft row is a change of the committed set
+abbrev pub HaveOnlyChanges : Rows → RowsByKey → Type 0
+HaveOnlyChanges committed rows = (key : Key) → SaysOtherwise (get committed key) (rows key)

@@ -22,7 +22,7 @@ use Rattle.draft_core.specs.declared.timing.TimingChange.{TimingChange}
 use Rattle.draft_core.specs.declared.timing.TimingChange.TheVariants.{Committed, Drafted, DraftGone}
 use Rattle.draft_core.specs.declared.refusal.DraftRefusal.{DraftRefusal}
 use Rattle.draft_core.specs.declared.refusal.DraftRefusal.TheVariants.{NotNormal, NotTransaction, NotOwner, NotVerify, NotDone, VerifyFailed, RevisionFull, NoMemory}
-use Rattle.draft_core.specs.DraftRows.{Said, silent, RowsByKey, RowStands, Stands}
+use Rattle.draft_core.specs.DraftRows.{HaveOnlyChanges, Said, silent, RowsByKey, RowStands, Stands}
 use Rattle.draft_core.specs.DraftRows.{later_of, overlaid, said_at}
 use Rattle.draft_core.specs.Transaction.{TimingSide, holder_of, in_stage, state_of, verdict_of}
 
@@ -102,6 +102,9 @@ pub record Makes (rows : RowsByKey) (side : TimingSide) (clerk : List ℕ) (move
       get next.committed key ≡ committed_after move.changes key (get side.committed key)
   pub draft : (key : Key) →
       RowStands (get next.committed key) (row_after move.changes key (rows key)) next.draft key
+  -- where each draft row was a change of the committed set, each is one after the move
+  pub only_changes : HaveOnlyChanges side.committed rows →
+      HaveOnlyChanges next.committed (λ key. row_after move.changes key (rows key))
 
 -- a decision follows its line of the table, or found no memory
 abbrev pub Follows : RowsByKey → TimingSide → List ℕ → Result Move DraftRefusal

@@ -1,18 +1,13 @@
--- The rows that edit, commit and abandon write for the changes that they are given.
+-- The rows that commit and abandon write for the draft rows that they are given.
 use Rattle.std.specs.Prelude.{ℕ, ◌+◌, List, [], ◌∷◌, length, ◌==◌, if◌then◌else◌, Result, Ok, Err}
 use Rattle.signal_records.specs.declared.record.Change.{Change}
 use Rattle.signal_rules.specs.declared.violation.Violation.{Violation}
 use Rattle.draft_core.specs.declared.timing.TimingChange.{TimingChange}
-use Rattle.draft_core.specs.declared.timing.TimingChange.TheVariants.{Committed, Drafted, DraftGone}
+use Rattle.draft_core.specs.declared.timing.TimingChange.TheVariants.{Committed, DraftGone}
 use Rattle.draft_core.specs.declared.refusal.DraftRefusal.{DraftRefusal}
 use Rattle.draft_core.specs.declared.refusal.DraftRefusal.TheVariants.{RevisionFull, VerifyFailed}
 use Rattle.draft_core.specs.declared.revision.TheConstants.{LAST_REVISION}
 use Rattle.draft_core.specs.DraftRows.{changed_key}
-
--- each change is kept as a draft row
-abbrev pub drafting : List Change → List TimingChange
-drafting [] = []
-drafting (change ∷ changes) = Drafted change ∷ drafting changes
 
 -- each draft row is made a change of the committed set, and goes
 abbrev pub settling : List Change → List TimingChange

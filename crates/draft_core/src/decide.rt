@@ -4,12 +4,14 @@ ghost use Rattle.std.specs.Prelude.{◌≡◌, ◌≤◌, [], length, Some, IfEr
 ghost use Rattle.signal_rules.specs.Violations.{violations_of};
 ghost use Rattle.draft_core.specs.Transaction as table;
 ghost use Rattle.draft_core.specs.Transaction.{TimingSide, Draft};
+ghost use Rattle.draft_core.specs.Drafting.{AreAmong, KeepsOnlyChanges};
 ghost use Rattle.draft_core.specs.DraftRows.{RowsByKey, Stands};
 ghost use Rattle.draft_core.specs.Moves as moves;
 ghost use Rattle.draft_core.specs.Moves.{Follows, FollowsLine, FollowsSoundLine, IsMemory};
 ghost use Rattle.draft_core.specs.Moves.{IsUnsettled, Never, RefusesFirst};
 ghost use Rattle.draft_core.specs.Moves.{drafted_in, draft_writes, timing_writes};
 
+use crate::drafting::drafting;
 use crate::holding::{refused_by, state_after};
 use crate::judging::{next_revision, verdict_on};
 use crate::overlaying::violations_after;
@@ -17,7 +19,7 @@ use crate::refusal::DraftRefusal;
 use crate::revision::Revision;
 use crate::state::{Holding, Stage, Verdict};
 use crate::timing::{Move, Reach, Timing, TimingChanges};
-use crate::writes::{drafting, dropping, settling};
+use crate::writes::{dropping, settling};
 use signal_records::{Change, Words};
 use std::alloc::Global;
 
@@ -59,7 +61,8 @@ pub fn begin(alloc: Global, timing: &Timing, _clerk: &Words<40>) -> Result<Move,
     Ok(stays(alloc, timing, Holding::Begun, Verdict::NotDone))
 }
 
-/// Makes changes to the draft.
+/// Makes changes to the draft. A draft row is kept of each key at which the draft then differs from
+/// what is committed, of those that the changes name; the others have what they had.
 ///
 /// `NotTransaction` in each state but Transaction, and then `NotOwner` for another clerk.
 pub fn edit(
@@ -68,10 +71,12 @@ pub fn edit(
     clerk: &Words<40>,
     changes: &[Change],
 ) -> Result<Move, DraftRefusal>
-    ensures line { FollowsLine Reach.Row timing.now clerk.now result
+    ensures line { FollowsLine Reach.Plan timing.now clerk.now result
         (λ side. table.edited side clerk.now changes.now) }
     ensures refuses { RefusesFirst (table.refused_by timing.now.holder Stage.Transaction DraftRefusal.NotTransaction clerk.now) IsMemory result }
-    ensures drafts { IfOk result (λ move. drafted_in move.changes ≡ changes.now) }
+    ensures keeps { IfOk result (λ move.
+        KeepsOnlyChanges timing.now.committed timing.now.delta changes.now move.changes) }
+    ensures drafts { IfOk result (λ move. AreAmong (drafted_in move.changes) changes.now) }
     ensures bounds { IfOk result (λ move. (timing_writes move.changes ≡ 0)
         × (draft_writes move.changes ≤ length changes.now)) }
 {
@@ -79,7 +84,7 @@ pub fn edit(
     if let Some(refusal) = refused_by(&timing.holder, Stage::Transaction, wrong, clerk) {
         return Err(refusal);
     }
-    let changes = drafting(alloc, changes)?;
+    let changes = drafting(alloc, timing, changes)?;
     let editing = Holding::Kept(Stage::Transaction);
     Ok(moves_to(timing.revision, editing, Verdict::NotDone, changes))
 }

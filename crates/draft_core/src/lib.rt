@@ -3,6 +3,7 @@
 
 pub mod changes;
 pub mod decide;
+mod drafting;
 mod holding;
 mod judging;
 mod overlaying;

@@ -1,4 +1,4 @@
-//! The rows that edit, commit and abandon write.
+//! The rows that commit and abandon write.
 
 ghost use Rattle.std.specs.Prelude.{◌≡◌, IfOk};
 ghost use Rattle.draft_core.specs.Writes as writes;
@@ -7,17 +7,6 @@ use crate::overlaying::{changed_key, copy_change};
 use crate::timing::{TimingChange, TimingChanges};
 use signal_records::{Change, NoMemory};
 use std::alloc::Global;
-
-/// Each change is kept as a draft row.
-pub(crate) fn drafting(alloc: Global, changes: &[Change]) -> Result<TimingChanges, NoMemory>
-    ensures { IfOk result (λ made. made ≡ writes.drafting changes.now) }
-{
-    let mut made = Vec::new(alloc);
-    for change in changes {
-        made.push(TimingChange::Drafted(copy_change(change)?))?;
-    }
-    Ok(TimingChanges::new(made))
-}
 
 /// Each draft row is made a change of the committed set, and goes.
 pub(crate) fn settling(alloc: Global, changes: &[Change]) -> Result<TimingChanges, NoMemory>

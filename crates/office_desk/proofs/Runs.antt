@@ -73,7 +73,8 @@ damage_refuted : (tables : Content) (command : Command) → MeetsDamage tables c
 damage_refuted tables (command.AddIntersection id interval name) damage =
     no_damage reach.Row tables id (inl damage)
 damage_refuted tables (command.Begin id clerk) damage = no_damage reach.Row tables id damage
-damage_refuted tables (command.Edit id clerk changes) damage = no_damage reach.Row tables id damage
+damage_refuted tables (command.Edit id clerk changes) damage =
+    no_damage reach.Plan tables id damage
 damage_refuted tables (command.Verify id clerk) damage = no_damage reach.Row tables id damage
 damage_refuted tables (command.Check id clerk) damage = no_damage reach.Plan tables id damage
 damage_refuted tables (command.Commit id clerk) damage = no_damage reach.Plan tables id damage

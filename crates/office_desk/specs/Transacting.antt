@@ -30,9 +30,10 @@ command_of id clerk Abandon = command.Abandon id clerk
 abbrev pub edit_of : List Change → Ask
 edit_of changes = Edit (record { ref_ptr = (0, 0); now = changes })
 
--- how much of the timing side it reads: the check and the commit judge the draft, the abandon
--- drops its rows
+-- how much of the timing side it reads: the edit keeps what differs from the committed rows, the
+-- check and the commit judge the draft, the abandon drops its rows
 abbrev pub reach_of : Ask → Reach
+reach_of (Edit changes) = reach.Plan
 reach_of Check = reach.Plan
 reach_of Commit = reach.Plan
 reach_of Abandon = reach.Drafts

@@ -37,9 +37,9 @@ fn reach(ask: Ask) -> Reach
     ensures { result ≡ reach_of ask.entry }
 {
     match ask {
-        Ask::Begin | Ask::Edit(_) | Ask::Verify | Ask::Reopen => Reach::Row,
+        Ask::Begin | Ask::Verify | Ask::Reopen => Reach::Row,
         Ask::Abandon => Reach::Drafts,
-        Ask::Check | Ask::Commit => Reach::Plan,
+        Ask::Edit(_) | Ask::Check | Ask::Commit => Reach::Plan,
     }
 }
 

@@ -1,5 +1,5 @@
-//! How many rows of the timing and draft tables a transaction writes: a draft is its changed rows,
-//! and nothing else of it is written, at the commit neither.
+//! How many rows of the timing and draft tables a transaction writes: a draft is the rows in which
+//! it differs from what is committed, and nothing else of it is written, at the commit neither.
 
 use office_desk::office::Office;
 use office_script::running::does;
@@ -19,13 +19,23 @@ const CHECK: &str = r#"POST /intersections/12/check {"clerk":"Ana"}"#;
 
 const COMMIT: &str = r#"POST /intersections/12/commit {"clerk":"Ana"}"#;
 
-/// Four rows are changed.
+/// The whole plan is sent again, of which four rows are changed.
 const CHANGE: &str = "POST /intersections/12/edit-csv {\"clerk\":\"Ana\",\"csv\":\"\
-    split,1,2,46,2,1\\nsplit,1,4,14,2,0\\nsplit,1,6,46,2,1\\nsplit,1,8,14,2,0\\n\"}";
+    phase,2,1,8,20,40,40,15,6,7,12,490,60,0,0\\n\
+    phase,4,1,8,20,40,40,15,8\\n\
+    phase,6,2,8,20,40,40,15,2\\n\
+    phase,8,2,8,20,40,40,15,4\\n\
+    seq,1,1,2 4\\nseq,1,2,6 8\\n\
+    split,1,2,46,2,1\\nsplit,1,4,14,2,0\\nsplit,1,6,46,2,1\\nsplit,1,8,14,2,0\\n\
+    pattern,1,60,0,1,1\\n\"}";
 
 /// A row is removed.
 const REMOVE: &str =
     r#"POST /intersections/12/edit-csv {"clerk":"Ana","csv":"remove,pattern,1\n"}"#;
+
+/// It is put back as it is committed.
+const PUT_BACK: &str =
+    r#"POST /intersections/12/edit-csv {"clerk":"Ana","csv":"pattern,1,60,0,1,1\n"}"#;
 
 /// What is left at the end.
 const LEFT: Line = (
@@ -45,7 +55,7 @@ const BEGUN: &str = r#"{"revision":1,"state":"transaction","verify":"notDone"}"#
 const BEGUN_AGAIN: &str = r#"{"revision":2,"state":"transaction","verify":"notDone"}"#;
 
 /// Two transactions, and how many rows each step writes of the timing table and of the draft table.
-const STEPS: [(Line, u64, u64); 10] = [
+const STEPS: [(Line, u64, u64); 14] = [
     ((BEGIN, OK, BEGUN), 0, 0),
     ((CHANGE, OK, BEGUN), 0, 4),
     (
@@ -76,6 +86,10 @@ const STEPS: [(Line, u64, u64); 10] = [
         4,
     ),
     ((BEGIN, OK, BEGUN_AGAIN), 0, 0),
+    ((CHANGE, OK, BEGUN_AGAIN), 0, 0),
+    ((REMOVE, OK, BEGUN_AGAIN), 0, 1),
+    ((PUT_BACK, OK, BEGUN_AGAIN), 0, 1),
+    ((PUT_BACK, OK, BEGUN_AGAIN), 0, 0),
     ((REMOVE, OK, BEGUN_AGAIN), 0, 1),
     (
         (

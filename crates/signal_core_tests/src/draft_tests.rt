@@ -69,11 +69,21 @@ fn asked(
     Ok(decided(alloc, call, &timing, &clerk))
 }
 
-/// What a clerk is answered who changes the draft at a stage.
-fn edited(alloc: Global, clerk: &str, stage: Option<Stage>) -> Result<Outcome, Fail> {
-    let (timing, clerk) = (timing(alloc, 7, stage, "")?, words(alloc, clerk)?);
-    let changes = changes(alloc, BROKEN)?;
+/// What a clerk is answered who changes a draft at a stage.
+fn changed(
+    alloc: Global,
+    clerk: &str,
+    (stage, draft): (Option<Stage>, &str),
+    text: &str,
+) -> Result<Outcome, Fail> {
+    let (timing, clerk) = (timing(alloc, 7, stage, draft)?, words(alloc, clerk)?);
+    let changes = changes(alloc, text)?;
     Ok(edit(alloc, &timing, &clerk, &changes))
+}
+
+/// The same of a draft without a row and two changes that break a rule.
+fn edited(alloc: Global, clerk: &str, stage: Option<Stage>) -> Result<Outcome, Fail> {
+    changed(alloc, clerk, (stage, ""), BROKEN)
 }
 
 /// The move leads to this revision and state with this verdict.
@@ -120,6 +130,43 @@ fn a_draft_is_begun_and_edited(rt: HostRuntime) -> Result<(), Fail> {
     assert_eq!(rt;
         edited(alloc, "Ana", None)?.err(),
         Some(DraftRefusal::NotTransaction)
+    );
+    Ok(())
+}
+
+#[test]
+fn an_edit_keeps_what_differs_from_what_is_committed(rt: HostRuntime) -> Result<(), Fail> {
+    let alloc = rt.alloc();
+    let to = (7, DbState::Transaction, Verdict::NotDone);
+    let sent = "split,1,2,35,2,1;split,1,6,35,2,1;split,1,8,26,2,0;remove,pattern,2";
+    assert!(rt;
+        matches!(
+            leads(changed(alloc, "Ana", (BEGUN, ""), sent)?, to).as_deref(),
+            Some([TimingChange::Drafted(_)])
+        )
+    );
+    assert!(rt;
+        matches!(
+            leads(
+                changed(alloc, "Ana", (BEGUN, "split,1,6,34,2,1"), sent)?,
+                to
+            )
+            .as_deref(),
+            Some([
+                TimingChange::DraftGone(Key::Split(..)),
+                TimingChange::Drafted(_)
+            ])
+        )
+    );
+    let turned = "remove,pattern,1;pattern,1,60,0,1,1;pattern,1,60,0,1,1";
+    assert!(rt;
+        matches!(
+            leads(changed(alloc, "Ana", (BEGUN, ""), turned)?, to).as_deref(),
+            Some([
+                TimingChange::Drafted(_),
+                TimingChange::DraftGone(Key::Pattern(_))
+            ])
+        )
     );
     Ok(())
 }

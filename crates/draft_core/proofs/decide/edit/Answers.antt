@@ -1,27 +1,31 @@
-use Rattle.std.proofs.Common.{◌≡◌, sym, ap, ◌∙◌}
-use Rattle.draft_core.specs.declared.state.Holding.TheVariants.{Kept}
-use Rattle.draft_core.specs.declared.state.Stage.TheVariants.{Transaction}
-use Rattle.draft_core.specs.declared.state.Verdict.TheVariants.{NotDone}
+use Rattle.std.proofs.Common.{◌≡◌, ◌≤◌, length, sym, subst}
+use Rattle.draft_core.specs.Drafting.{AreAmong, KeepsOnlyChanges}
+use Rattle.draft_core.specs.Moves.{drafted_in, draft_writes, timing_writes}
 use Rattle.draft_core.specs.declared.timing.Move.{Move}
-use Rattle.draft_core.specs.Moves.{drafted_in, move_to}
-use Rattle.draft_core.specs.Writes.{drafting}
 use Rattle.draft_core.proofs.Lines.{owned_moves}
 use Rattle.draft_core.proofs.Makes.{edit_makes}
-use Rattle.draft_core.proofs.Written.{drafted_in-drafting, drafting_writes}
 use Rattle.draft_core.proofs.decide.edit.Goals as goal
 
 pub returns-clause-line : goal.returns-clause-line
 returns-clause-line c = λ rows side stands. owned_moves stands _ _ _ _ _ (sym c.in_default.ensures)
     (λ draft held.
-    edit_makes stands draft c.args.clerk.now _ c.args.changes.now held (c.moves_to.ensures
-    ∙ ap (move_to c.args.timing.now.revision (Kept Transaction) NotDone) c.in_ok-changes.ensures))
+    edit_makes stands draft c.args.clerk.now _ c.args.changes.now c.in_ok-changes.changes held
+    c.in_ok-changes.ensures c.moves_to.ensures)
+
+pub returns-clause-keeps : goal.returns-clause-keeps
+returns-clause-keeps c =
+    let timing = c.args.timing.now in
+    subst (λ (m : Move).
+    KeepsOnlyChanges timing.committed timing.delta c.args.changes.now m.changes)
+    (sym c.moves_to.ensures) c.in_ok-changes.ensures.keeps
 
 pub returns-clause-drafts : goal.returns-clause-drafts
-returns-clause-drafts c = ap (λ (m : Move). drafted_in m.changes) c.moves_to.ensures
-    ∙ ap drafted_in c.in_ok-changes.ensures ∙ drafted_in-drafting c.args.changes.now
+returns-clause-drafts c =
+    subst (λ (m : Move). AreAmong (drafted_in m.changes) c.args.changes.now)
+    (sym c.moves_to.ensures) c.in_ok-changes.ensures.among
 
 pub returns-clause-bounds : goal.returns-clause-bounds
 returns-clause-bounds c =
-    let made : c.moves_to.result.changes ≡ drafting c.args.changes.now =
-    ap (λ (m : Move). m.changes) c.moves_to.ensures ∙ c.in_ok-changes.ensures in
-    rw made (drafting_writes c.args.changes.now)
+    subst (λ (m : Move). (timing_writes m.changes ≡ 0)
+    × (draft_writes m.changes ≤ length c.args.changes.now)) (sym c.moves_to.ensures)
+    (c.in_ok-changes.ensures.no_timing, c.in_ok-changes.ensures.few)

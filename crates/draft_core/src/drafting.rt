@@ -1,0 +1,59 @@
+//! The rows that an edit writes: only what changes the committed set is kept.
+
+ghost use Rattle.std.specs.Prelude.{IfOk, IsTrue};
+ghost use Rattle.draft_core.specs.Drafting.{AreNamed, DraftsChanges, SaysCommitted};
+
+use crate::overlaying::{changed_key, copy_change};
+use crate::timing::{Timing, TimingChange, TimingChanges};
+use signal_records::{Change, Key, NoMemory, TimingSet};
+use std::alloc::Global;
+use std::collections::BTreeSet;
+
+/// The keys that changes name.
+fn named_keys(alloc: Global, changes: &[Change]) -> Result<BTreeSet<Key>, NoMemory>
+    ensures { IfOk result (AreNamed changes.now) }
+{
+    let mut keys = BTreeSet::new(alloc);
+    for change in changes {
+        keys.insert(changed_key(change))?;
+    }
+    Ok(keys)
+}
+
+/// Whether a change leaves at its key what is committed there.
+fn says_committed(committed: &TimingSet, change: &Change) -> bool
+    ensures is { IsTrue result → SaysCommitted committed.now change.now }
+    ensures other { SaysCommitted committed.now change.now → IsTrue result }
+{
+    let key = changed_key(change);
+    match (committed.get(&key), change) {
+        (Some(stands), Change::Put(row)) => stands == row,
+        (None, Change::Remove(_)) => true,
+        _ => false,
+    }
+}
+
+/// Each change that leaves another row than the committed one is kept as a draft row. Where it
+/// leaves the committed one, the draft row of its key goes, if one is there by then. Changes are
+/// judged in their order, each against the committed set alone, so the last one of a key decides.
+pub(crate) fn drafting(
+    alloc: Global,
+    timing: &Timing,
+    changes: &[Change],
+) -> Result<TimingChanges, NoMemory>
+    ensures { IfOk result
+        (DraftsChanges timing.now.committed timing.now.delta changes.now) }
+{
+    let mut drafted = named_keys(alloc, timing.delta.as_slice())?;
+    let mut written = Vec::new(alloc);
+    for change in changes {
+        let key = changed_key(change);
+        if !says_committed(&timing.committed, change) {
+            drafted.insert(key)?;
+            written.push(TimingChange::Drafted(copy_change(change)?))?;
+        } else if drafted.remove(&key) {
+            written.push(TimingChange::DraftGone(key))?;
+        }
+    }
+    Ok(TimingChanges::new(written))
+}
