@@ -22,5 +22,6 @@ pub fn abandon_draft<S: Shelf>(
         Abandons id clerk.now (S.content office.old) (S.content office.new) result }
 {
     let clerk = clerk.clone()?;
-    moved(&office.run(alloc, &Command::Abandon { id, clerk }))
+    let reply = office.run(alloc, &Command::Abandon { id, clerk });
+    moved(&reply)
 }

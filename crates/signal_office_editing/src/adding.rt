@@ -46,6 +46,6 @@ pub fn add_intersection<S: Shelf>(
         Adds id interval name.now (S.content office.old) (S.content office.new) result }
 {
     let name = name.clone()?;
-    let command = Command::AddIntersection { id, interval, name };
-    entered_told(office.run(alloc, &command))
+    let reply = office.run(alloc, &Command::AddIntersection { id, interval, name });
+    entered_told(reply)
 }
