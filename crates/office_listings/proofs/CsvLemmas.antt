@@ -36,8 +36,8 @@ texts_of (field ∷ row) all = (All-head IsUtf8 field row all, texts_of row (All
 pub file_utf8 : {V E T : Type 0} (items : V → List ℕ) (spelling : T → List (List ℕ)) (result : Result V E) (rows : List (List (List ℕ))) (values : List T)
     → rows ≡ map spelling values → All (λ value. All IsUtf8 (spelling value)) values
     → IfOk result (λ text. items text ≡ csv_text rows) → IfOk result (λ text. IsUtf8 (items text))
-file_utf8 items spelling (Ok text) rows values same texts written =
-    given_utf8 spelling (λ value. All IsUtf8 (spelling value)) (λ value all. texts_of (spelling value) all) items (Ok text) values
+file_utf8 {E = E} items spelling (Ok text) rows values same texts written =
+    given_utf8 {E = E} spelling (λ value. All IsUtf8 (spelling value)) (λ value all. texts_of (spelling value) all) items (Ok text) values
     (written ∙ ap csv_text same) texts
 file_utf8 items spelling (Err why) rows values same texts written = tt
 
