@@ -13,7 +13,7 @@ ghost use Rattle.office_listings.specs.Cabinet.{cabinet_count, cabinet_records};
 ghost use Rattle.office_listings.specs.Cabinet.{cabinet_register};
 
 use crate::columns::{
-    push_date, push_day, push_line_number, push_long_number, push_number, push_word,
+    push_date, push_day, push_last, push_line_number, push_long_number, push_number, push_word,
 };
 use cabinet_core::{CabinetView, Closing, Day, Inspection, Order, UsedLine, due, latest};
 use office_machine::reply::CabinetShown;
@@ -127,10 +127,9 @@ fn push_parts(text: &mut String, order: RecordNo, lines: &[UsedLine]) -> Result<
 fn push_closed(text: &mut String, closing: &Closing) -> Result<(), AllocError>
     ensures { OnOk result (string_bytes text.new ≡ string_bytes text.old ++ closed_line closing.now) }
 {
-    let closer = closing.closer.as_str();
     text.push_str("         closed  ")?;
     push_day(text, closing.day)?;
-    writeln!(text, "  {closer}")
+    push_last(text, closing.closer.as_str())
 }
 
 /// Appends the line of a closing, where there is one.
