@@ -37,7 +37,7 @@ pub file_utf8 : {V E T : Type 0} (items : V → List ℕ) (spelling : T → List
     → rows ≡ map spelling values → All (λ value. All IsUtf8 (spelling value)) values
     → IfOk result (λ text. items text ≡ csv_text rows) → IfOk result (λ text. IsUtf8 (items text))
 file_utf8 {E = E} items spelling (Ok text) rows values same texts written =
-    given_utf8 {E = E} spelling (λ value. All IsUtf8 (spelling value)) (λ value all. texts_of (spelling value) all) items (Ok text) values
+    given_utf8 spelling (λ value. All IsUtf8 (spelling value)) (λ value all. texts_of (spelling value) all) {E = E} items (Ok text) values
     (written ∙ ap csv_text same) texts
 file_utf8 items spelling (Err why) rows values same texts written = tt
 
