@@ -132,7 +132,7 @@ unfolding header
 header_alike shown due =
     before _ (before _ (before _ (joined (joined (before _ (joined (before _ (before _ (after _ (escaped_alike shown.state.name []))))
     (isolated_alike shown.state.name []))) (draft_facts_alike shown.state))
-    (cabinet_facts_alike due shown.cabinet.view.orders)))
+    (cabinet_facts_alike due shown.cabinet.view.orders))))
 
 -- ---- the register
 
