@@ -66,8 +66,8 @@ unfoldable pub open_draft_section : Rows → List Difference → List ℕ
 open_draft_section draft differences =
     codes "<section id='draft' aria-labelledby='draft-title'>\n"
     ++ codes "<h2 id='draft-title'>The draft</h2>\n" ++ violations_note (violations_of draft)
-    ++ changes_part differences ++ plan_part true (violations_of draft) draft
-    ++ codes "</section>\n"
+    ++ changes_part differences ++ codes "<h3>The whole draft</h3>\n"
+    ++ plan_part true (violations_of draft) draft ++ codes "</section>\n"
 
 abbrev pub draft_section : Option Rows → List Difference → List ℕ
 draft_section None differences = []

@@ -138,6 +138,7 @@ fn push_open_draft(
     text.push_str("<h2 id='draft-title'>The draft</h2>\n")?;
     push_violations_note(text, &broken)?;
     push_changes_part(text, differences)?;
+    text.push_str("<h3>The whole draft</h3>\n")?;
     push_plan(text, alloc, true, &broken, draft)?;
     text.push_str("</section>\n")
 }
