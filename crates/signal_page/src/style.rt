@@ -36,11 +36,10 @@ a:focus-visible, .scroll:focus-visible { outline: 3px solid var(--link); outline
   left: 0.6rem; top: 0.6rem; padding: 0.5rem 0.9rem; background: var(--card); border-radius: 0.4rem;
 }
 dl {
-  display: grid; gap: 1px; margin: 0; overflow: hidden; background: var(--line);
-  grid-template-columns: repeat(auto-fit, minmax(9.5rem, 1fr));
-  border: 1px solid var(--line); border-radius: 0.6rem;
+  display: grid; grid-template-columns: repeat(auto-fit, minmax(9.5rem, 1fr)); margin: 0;
+  overflow: hidden; background: var(--card); border: 1px solid var(--line); border-radius: 0.6rem;
 }
-dl div { padding: 0.6rem 0.9rem; background: var(--card); }
+dl div { padding: 0.6rem 0.9rem; box-shadow: 1px 1px 0 var(--line); }
 dt { color: var(--quiet); font-size: 0.82rem; }
 dd { margin: 0; font-weight: 600; font-variant-numeric: tabular-nums; }
 nav ul {
