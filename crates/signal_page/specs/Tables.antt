@@ -65,5 +65,5 @@ table kind told violations rows =
 -- the four tables
 unfoldable pub tables : Bool → List Violation → List Row → List ℕ
 tables told violations rows =
-    table Patterns told violations rows ++ table Splits told violations rows
-    ++ table Sequences told violations rows ++ table Phases told violations rows
+    table Patterns told violations rows ++ table Sequences told violations rows
+    ++ table Splits told violations rows ++ table Phases told violations rows

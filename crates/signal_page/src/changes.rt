@@ -98,8 +98,8 @@ pub(crate) fn push_changes_part(
         text.push_str("<p>It changes nothing of the plan that runs.</p>\n")?;
     }
     push_change_table(text, Kind::Patterns, differences)?;
-    push_change_table(text, Kind::Splits, differences)?;
     push_change_table(text, Kind::Sequences, differences)?;
+    push_change_table(text, Kind::Splits, differences)?;
     push_change_table(text, Kind::Phases, differences)?;
     text.push_str("</div>\n")
 }

@@ -173,7 +173,7 @@ pub(crate) fn push_tables(
         ≡ string_bytes text.old ++ tables told violations.now rows.now) }
 {
     push_table(text, Kind::Patterns, told, violations, rows)?;
-    push_table(text, Kind::Splits, told, violations, rows)?;
     push_table(text, Kind::Sequences, told, violations, rows)?;
+    push_table(text, Kind::Splits, told, violations, rows)?;
     push_table(text, Kind::Phases, told, violations, rows)
 }
