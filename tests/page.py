@@ -164,7 +164,7 @@ def check(browser, pages):
     if drafted.names[1] != "Main St & 3rd Ave" or CLERK not in drafted.names:
         fail(f"the names of 12 are shown as {drafted.names}")
     for page in pages.values():
-        for screen in (1280, 600):
+        for screen in (1280, 400):
             width = browser.width(page, screen)
             if width > screen:
                 fail(f"{page.name} is {width} pixels wide on a screen of {screen}")

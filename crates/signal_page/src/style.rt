@@ -87,6 +87,7 @@ tbody:empty::after {
 .broken { color: var(--red); background: var(--red-ground); }
 .sound { color: var(--green); background: var(--green-ground); }
 .none { color: var(--quiet); }
+.none ~ .scroll { display: none; }
 @media print {
   :root {
     --ground: #ffffff; --card: #ffffff; --ink: #000000; --quiet: #000000; --line: #999999;
