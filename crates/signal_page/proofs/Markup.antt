@@ -16,10 +16,10 @@ use Rattle.signal_page.specs.Words.{escaped_byte, escaped, isolated}
 use Rattle.signal_page.specs.Reading.{is_markup, marks}
 use Rattle.signal_page.specs.Blank.{blank_state, blank_inspection, blank_closing}
 use Rattle.signal_page.specs.Blank.{blank_order, blank_line, blank_view, blank}
-use Rattle.signal_page.specs.Cells.{text_cell}
+use Rattle.signal_page.specs.Cells.{row_heading, text_cell}
 use Rattle.signal_page.specs.State.{fact, owner_text, is_open, is_open_by, open_count, draft_facts}
 use Rattle.signal_page.specs.State.{cabinet_facts}
-use Rattle.signal_page.specs.Register.{part_used, part_of, parts_cell, order_cells, closing_cells}
+use Rattle.signal_page.specs.Register.{day_cell, part_used, part_of, parts_cell, order_cells, closing_cells}
 use Rattle.signal_page.specs.Register.{open_by, open_row, closed_by, closed_row, open_orders}
 use Rattle.signal_page.specs.Register.{closed_orders, inspection_row, inspections_part, register_part}
 use Rattle.signal_page.specs.Page.{header, cabinet_section, page_text}
@@ -140,12 +140,17 @@ part_alike : (order : ℕ) (line : UsedLine) → Alike (part_of order line) (par
 unfolding part_used
 part_alike order line = by_test (eqb line.order order) where
   by_test : (t : Bool) → Alike (cond t (part_used line) []) (cond t (part_used (blank_line line)) [])
-  by_test true = before _ (after _ (isolated_alike line.part []))
+  by_test true =
+      before (codes "</div>")
+      (after (codes "<div>" ++ decimal line.count ++ codes " &times; ") (isolated_alike line.part []))
   by_test false = same []
 
 parts_alike : (lines : List UsedLine) (order : ℕ) → Alike (parts_cell lines order) (parts_cell (map blank_line lines) order)
 unfolding parts_cell
-parts_alike lines order = before _ (after _ (each (part_of order) (part_of order) blank_line (part_alike order) lines))
+parts_alike lines order =
+    before (codes "</td>")
+    (after (codes "<td class='w'>")
+    (each (part_of order) (part_of order) blank_line (part_alike order) lines))
 
 order_alike : (lines : List UsedLine) (order : Order) → Alike (order_cells lines order) (order_cells (map blank_line lines) (blank_order order))
 unfolding order_cells
@@ -160,14 +165,16 @@ closing_alike closing = after _ (text_cell_alike closing.closer [])
 open_alike : (lines : List UsedLine) (order : Order) → Alike (open_row lines order) (open_row (map blank_line lines) (blank_order order))
 open_alike lines order = by_closing order.closing where
   by_closing : (closing : Option Closing) → Alike (open_by lines order closing) (open_by (map blank_line lines) (blank_order order) (option_map blank_closing closing))
-  by_closing None = before _ (after _ (order_alike lines order))
+  by_closing None = before (codes "</tr>\n") (after (codes "<tr>") (order_alike lines order))
   by_closing (Some closing) = same []
 
 closed_alike : (lines : List UsedLine) (order : Order) → Alike (closed_row lines order) (closed_row (map blank_line lines) (blank_order order))
 closed_alike lines order = by_closing order.closing where
   by_closing : (closing : Option Closing) → Alike (closed_by lines order closing) (closed_by (map blank_line lines) (blank_order order) (option_map blank_closing closing))
   by_closing None = same []
-  by_closing (Some closing) = before _ (joined (after _ (order_alike lines order)) (closing_alike closing))
+  by_closing (Some closing) =
+      before (codes "</tr>\n")
+      (joined (after (codes "<tr>") (order_alike lines order)) (closing_alike closing))
 
 open_orders_alike : (lines : List UsedLine) (orders : List Order) → Alike (open_orders lines orders) (open_orders (map blank_line lines) (map blank_order orders))
 unfolding open_orders
@@ -182,7 +189,10 @@ closed_orders_alike lines orders =
 inspection_alike : (inspection : Inspection) → Alike (inspection_row inspection) (inspection_row (blank_inspection inspection))
 unfolding inspection_row
 inspection_alike inspection =
-    before _ (joined (after _ (text_cell_alike inspection.clerk [])) (text_cell_alike inspection.text []))
+    before (codes "</tr>\n")
+    (joined
+    (after (codes "<tr>" ++ row_heading inspection.number ++ day_cell inspection.day)
+    (text_cell_alike inspection.clerk [])) (text_cell_alike inspection.text []))
 
 inspections_alike : (inspections : List Inspection) → Alike (inspections_part inspections) (inspections_part (map blank_inspection inspections))
 unfolding inspections_part
@@ -197,7 +207,12 @@ register_alike interval due view =
 
 cabinet_alike : (shown : IntersectionShown) (due : Option Date) → Alike (cabinet_section shown due) (cabinet_section (blank shown) due)
 unfolding cabinet_section
-cabinet_alike shown due = before _ (after _ (register_alike shown.state.interval due shown.cabinet.view))
+cabinet_alike shown due =
+    before (codes "</section>\n")
+    (after
+    (codes "<section id='cabinet' aria-labelledby='cabinet-title'>\n"
+    ++ codes "<h2 id='cabinet-title'>The cabinet</h2>\n")
+    (register_alike shown.state.interval due shown.cabinet.view))
 
 -- ---- the page
 

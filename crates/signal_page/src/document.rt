@@ -23,7 +23,6 @@ use std::alloc::{AllocError, Global};
 use std::fmt::Write;
 
 /// Opens the head of a page, up to its title.
-#[tactic(auto, unfolding(crate::specs::Page::head_opening))]
 fn open_head(text: &mut String) -> Result<(), AllocError>
     ensures { OnOk result (string_bytes text.new ≡ string_bytes text.old ++ head_opening) }
 {
@@ -32,7 +31,6 @@ fn open_head(text: &mut String) -> Result<(), AllocError>
 }
 
 /// Ends the head of a page after its title, and opens its heading.
-#[tactic(auto, unfolding(crate::specs::Page::head_end))]
 fn end_head(text: &mut String) -> Result<(), AllocError>
     ensures { OnOk result (string_bytes text.new ≡ string_bytes text.old ++ head_end) }
 {
@@ -51,7 +49,6 @@ fn end_page(text: &mut String) -> Result<(), AllocError>
 }
 
 /// Appends the number of an intersection, before its name.
-#[tactic(auto, unfolding(crate::specs::Page::title))]
 fn push_title(text: &mut String, id: InterId) -> Result<(), AllocError>
     ensures { OnOk result (string_bytes text.new ≡ string_bytes text.old ++ title id) }
 {
@@ -71,7 +68,6 @@ fn push_draft_link(text: &mut String, draft: &Option<TimingSet>) -> Result<(), A
 }
 
 /// Appends links to the parts of the page.
-#[tactic(auto, unfolding(crate::specs::Page::links))]
 fn push_links(text: &mut String, draft: &Option<TimingSet>) -> Result<(), AllocError>
     ensures { OnOk result (string_bytes text.new ≡ string_bytes text.old ++ links draft.now) }
 {
@@ -82,7 +78,6 @@ fn push_links(text: &mut String, draft: &Option<TimingSet>) -> Result<(), AllocE
 }
 
 /// Appends the head and what stands above the plan.
-#[tactic(auto, unfolding(crate::specs::Page::header))]
 fn push_header(
     text: &mut String,
     shown: &IntersectionShown,
@@ -107,7 +102,6 @@ fn push_header(
 }
 
 /// Appends the plan that runs.
-#[tactic(auto, unfolding(crate::specs::Page::plan_section))]
 fn push_plan_section(
     text: &mut String,
     alloc: Global,
@@ -160,7 +154,6 @@ fn push_draft_section(
 }
 
 /// Appends the register of the cabinet.
-#[tactic(auto, unfolding(crate::specs::Page::cabinet_section))]
 fn push_cabinet_section(
     text: &mut String,
     alloc: Global,

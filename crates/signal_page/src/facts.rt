@@ -169,7 +169,6 @@ fn push_due_fact(text: &mut String, name: &str, due: &Option<Date>) -> Result<()
 }
 
 /// Appends how the plan and its draft stand.
-#[tactic(auto, unfolding(crate::specs::State::draft_facts))]
 pub(crate) fn push_draft_facts(
     text: &mut String,
     state: &IntersectionState,
@@ -185,7 +184,6 @@ pub(crate) fn push_draft_facts(
 }
 
 /// Appends how the cabinet stands.
-#[tactic(auto, unfolding(crate::specs::State::cabinet_facts))]
 pub(crate) fn push_cabinet_facts(
     text: &mut String,
     due: &Option<Date>,

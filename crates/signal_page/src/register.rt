@@ -18,7 +18,6 @@ use std::alloc::{AllocError, Global};
 use std::fmt::Write;
 
 /// Appends a day.
-#[tactic(auto, unfolding(crate::specs::Register::day_cell))]
 fn push_day(text: &mut String, alloc: Global, day: Day) -> Result<(), NoMemory>
     ensures { OnOk result (string_bytes text.new ≡ string_bytes text.old ++ day_cell day) }
 {
@@ -61,7 +60,6 @@ fn push_each_part(text: &mut String, order: RecordNo, lines: &[UsedLine]) -> Res
 }
 
 /// Appends the parts that were used for an order.
-#[tactic(auto, unfolding(crate::specs::Register::parts_cell))]
 fn push_parts(text: &mut String, lines: &[UsedLine], order: RecordNo) -> Result<(), AllocError>
     ensures { OnOk result (string_bytes text.new
         ≡ string_bytes text.old ++ parts_cell lines.now order) }
@@ -168,7 +166,6 @@ fn push_each_open(
 }
 
 /// Appends the open orders.
-#[tactic(auto, unfolding(crate::specs::Register::open_orders))]
 fn push_open_orders(
     text: &mut String,
     alloc: Global,
@@ -201,7 +198,6 @@ fn push_each_closed(
 }
 
 /// Appends the closed orders.
-#[tactic(auto, unfolding(crate::specs::Register::closed_orders))]
 fn push_closed_orders(
     text: &mut String,
     alloc: Global,
@@ -264,7 +260,6 @@ fn push_inspection_headings(text: &mut String) -> Result<(), AllocError>
 }
 
 /// Appends the inspections.
-#[tactic(auto, unfolding(crate::specs::Register::inspections_part))]
 fn push_inspections(
     text: &mut String,
     alloc: Global,
@@ -293,7 +288,6 @@ fn push_due_words(text: &mut String, due: &Option<Date>) -> Result<(), AllocErro
 }
 
 /// Appends when the next inspection is due, and how many days there are from one to the next.
-#[tactic(auto, unfolding(crate::specs::Register::due_note))]
 fn push_due_note(
     text: &mut String,
     interval: Interval,

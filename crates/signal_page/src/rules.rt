@@ -47,12 +47,23 @@ pub(crate) fn subject_of(row: &Row) -> Subject
 fn is_same(a: &Subject, b: &Subject) -> bool
     ensures { result ≡ is_same a.now b.now }
 {
-    match (*a, *b) {
-        (Subject::Phase(p), Subject::Phase(q)) => p.get() == q.get(),
-        (Subject::Seq(n), Subject::Seq(m)) => n.get() == m.get(),
-        (Subject::Split(n, p), Subject::Split(m, q)) => { n.get() == m.get() && p.get() == q.get() }
-        (Subject::Pattern(n), Subject::Pattern(m)) => n.get() == m.get(),
-        _ => false,
+    match a {
+        Subject::Phase(p) => match b {
+            Subject::Phase(q) => p.get() == q.get(),
+            _ => false,
+        },
+        Subject::Seq(n) => match b {
+            Subject::Seq(m) => n.get() == m.get(),
+            _ => false,
+        },
+        Subject::Split(n, p) => match b {
+            Subject::Split(m, q) => n.get() == m.get() && p.get() == q.get(),
+            _ => false,
+        },
+        Subject::Pattern(n) => match b {
+            Subject::Pattern(m) => n.get() == m.get(),
+            _ => false,
+        },
     }
 }
 
@@ -96,7 +107,6 @@ fn push_each_beside(
 }
 
 /// Appends the cell of the rules that a subject breaks.
-#[tactic(auto, unfolding(crate::specs::Rules::notes_beside))]
 fn push_notes_beside(
     text: &mut String,
     violations: &[Violation],

@@ -1,0 +1,7 @@
+use Rattle.std.proofs.Common.{arith}
+use Rattle.signal_page.proofs.Escaping.{kept_character}
+use Rattle.signal_page.proofs.words.push_character.Goals as goal
+
+pub returns-in_default : goal.returns-in_default
+returns-in_default c =
+    rw (kept_character c.args.c (λ e. omega arith) (λ e. omega arith) (λ e. omega arith) (λ e. omega arith) (λ e. omega arith)) c.push.ensures.bytes
