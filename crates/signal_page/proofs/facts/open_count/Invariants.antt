@@ -1,5 +1,5 @@
 use Rattle.std.proofs.Common.{◌≡◌, ◌≤◌, length, filter, take}
-use Rattle.signal_page.specs.State.{is_open}
+use Rattle.cabinet_core.specs.Orders.{is_open}
 use Rattle.signal_page.proofs.facts.open_count.Given as goal
 
 abbrev pub invariant-loop-order : goal.invariant-loop-order
