@@ -110,11 +110,11 @@ class Browser:
     def width(self, page, screen):
         """How wide the page is on a screen, by a copy of it that says so in its title."""
         copy = self.folder / f"measured-{page.name}"
-        measure = "document.title = document.documentElement.scrollWidth"
-        text = page.read_text().replace("</body>", f"<script>{measure}</script></body>")
+        narrow = f"document.documentElement.style.width = '{screen}px'"
+        measure = "document.title = document.body.scrollWidth"
+        text = page.read_text().replace("</body>", f"<script>{narrow}; {measure}</script></body>")
         copy.write_text(text)
-        shown = Document(self.run(copy, "--dump-dom", f"--window-size={screen},900"))
-        return int(shown.names[0])
+        return int(self.document(copy).names[0])
 
     def picture(self, page, target, screen, *words):
         self.run(page, f"--screenshot={target}", f"--window-size={screen}", *words)
