@@ -99,7 +99,10 @@ class Browser:
     def run(self, page, *words):
         line = [self.path, "--headless", "--no-sandbox", "--disable-gpu", "--hide-scrollbars"]
         line += [f"--user-data-dir={self.folder}/profile", *words, page.as_uri()]
-        done = subprocess.run(line, capture_output=True, timeout=120, check=False)
+        try:
+            done = subprocess.run(line, capture_output=True, timeout=120, check=False)
+        except subprocess.TimeoutExpired:
+            fail(f"chromium came to no end on {page.name}: does a text of it run as a script?")
         if done.returncode:
             fail(f"chromium ended with status {done.returncode} on {page.name}")
         return done.stdout.decode()
