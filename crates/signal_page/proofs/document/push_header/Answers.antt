@@ -1,6 +1,6 @@
 use Rattle.std.proofs.lemmas.Result.{on_ok_weaker}
 use Rattle.signal_page.specs.Page.{header}
-use Rattle.signal_page.proofs.Parts.{two}
+use Rattle.signal_page.proofs.Parts.{pushed, two}
 use Rattle.signal_page.proofs.document.push_header.Goals as goal
 
 pub returns : goal.returns
@@ -20,4 +20,4 @@ returns c =
     let to9 = two _ _ _ _ _ to8 next9 in
     let to10 = two _ _ _ _ _ to9 c.in_ok-push_str-2.ensures.bytes in
     let to11 = two _ _ _ _ _ to10 c.in_ok-push_links.ensures in
-    on_ok_weaker c.push_str-3.result (λ last. two _ _ _ _ _ to11 last) c.push_str-3.ensures.bytes
+    on_ok_weaker c.push_str-3.result (λ last. two _ _ _ _ _ to11 last) (pushed c.push_str-3.result _ _ _ c.push_str-3.ensures.bytes)

@@ -4,4 +4,4 @@ use Rattle.signal_page.proofs.document.push_title.Goals as goal
 
 pub returns : goal.returns
 unfolding title
-returns c = simp append_assoc (simp append_assoc at (rw c.get-id.ensures.value at c.write.ensures.bytes))
+returns c = simp append_assoc (rw c.get-id.ensures.value at c.write.ensures.bytes)

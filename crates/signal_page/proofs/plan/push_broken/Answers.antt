@@ -4,4 +4,4 @@ use Rattle.signal_page.proofs.plan.push_broken.Goals as goal
 
 pub returns : goal.returns
 unfolding broken_note
-returns c = simp append_assoc (simp append_assoc at c.write.ensures.bytes)
+returns c = simp append_assoc c.write.ensures.bytes

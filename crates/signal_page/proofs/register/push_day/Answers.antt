@@ -4,4 +4,4 @@ use Rattle.signal_page.proofs.register.push_day.Goals as goal
 
 pub returns : goal.returns
 unfolding day_cell
-returns c = simp append_assoc (simp append_assoc at (rw c.in_ok-spelling.ensures at c.write.ensures.bytes))
+returns c = simp append_assoc (rw c.in_ok-spelling.ensures at c.write.ensures.bytes)

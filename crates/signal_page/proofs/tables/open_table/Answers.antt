@@ -4,4 +4,4 @@ use Rattle.signal_page.proofs.tables.open_table.Goals as goal
 
 pub returns : goal.returns
 unfolding table_opening
-returns c = simp append_assoc (simp append_assoc at c.write.ensures.bytes)
+returns c = simp append_assoc c.write.ensures.bytes
