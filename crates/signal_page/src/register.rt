@@ -26,7 +26,6 @@ fn push_day(text: &mut String, alloc: Global, day: Day) -> Result<(), NoMemory>
 }
 
 /// Appends a part that was used.
-#[tactic(auto, unfolding(crate::specs::Register::part_used))]
 fn push_part(text: &mut String, line: &UsedLine) -> Result<(), AllocError>
     ensures { OnOk result (string_bytes text.new
         ≡ string_bytes text.old ++ part_used line.now) }

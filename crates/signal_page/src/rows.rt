@@ -120,7 +120,6 @@ fn is_of(kind: Kind, row: &Row) -> bool
 }
 
 /// Appends a row with how it opens, and the rules that it breaks where the table tells them.
-#[tactic(auto, unfolding(crate::specs::Rows::whole_row))]
 fn push_whole_row(
     text: &mut String,
     opening: &str,

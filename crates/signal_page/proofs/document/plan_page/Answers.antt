@@ -1,3 +1,4 @@
+use Rattle.std.proofs.Common.{string_bytes}
 use Rattle.signal_page.specs.Page.{plan_page_text}
 use Rattle.signal_page.proofs.Parts.{from_start, two}
 use Rattle.signal_page.proofs.document.plan_page.Goals as goal
@@ -14,4 +15,5 @@ returns c =
     let next6 = rw (c.deref-2.ensures.value, c.in_ok-broken.ensures) at c.in_ok-push_plan.ensures in
     let to6 = two _ _ _ _ _ to5 next6 in
     let to7 = two _ _ _ _ _ to6 c.in_ok-end_page.ensures in
-    from_start _ _ _ _ c.new-text.ensures.bytes to7 (cc c.into_bytes.ensures.value)
+    from_start _ (string_bytes c.end_page.new.text) c.into_bytes.result.items _ c.new-text.ensures.bytes
+    to7 (cc c.into_bytes.ensures.value)
