@@ -1,3 +1,4 @@
+use Rattle.std.proofs.Common.{string_bytes}
 use Rattle.std.proofs.lemmas.Result.{on_ok_weaker}
 use Rattle.signal_page.specs.Changes.{changes_part}
 use Rattle.signal_page.proofs.Parts.{two}
@@ -7,7 +8,7 @@ pub returns : goal.returns
 unfolding changes_part
 returns c =
     let to1 = c.in_ok-push_markup.ensures in
-    let to2 = two _ _ _ _ _ to1 c.in_ok-push_no_changes.ensures in
+    let to2 = two (string_bytes c.args.text.now) _ _ _ _ to1 c.in_ok-push_no_changes.ensures in
     let to3 = two _ _ _ _ _ to2 c.in_ok-push_change_table.ensures in
     let to4 = two _ _ _ _ _ to3 c.in_ok-push_change_table-2.ensures in
     let to5 = two _ _ _ _ _ to4 c.in_ok-push_change_table-3.ensures in
