@@ -1,0 +1,23 @@
+use Rattle.std.proofs.Common.{List, ap, ◌∙◌}
+use Rattle.std.proofs.lemmas.Result.{IfOk-weaker}
+use Rattle.signal_compare.specs.declared.difference.Difference.{Difference}
+use Rattle.signal_page.specs.Page.{page_text}
+use Rattle.signal_page.proofs.Markup.{own_markup}
+use Rattle.signal_page.proofs.Restored.{restored}
+use Rattle.signal_page.proofs.document.intersection_page.Goals as goal
+
+pub returns-clause-page : goal.returns-clause-page
+returns-clause-page c =
+    let same = ap (λ (found : List Difference). page_text c.args.shown.now found) c.deref.ensures.value in
+    IfOk-weaker c.whole_page.result _ _ (λ text is. record {
+      differences = c.in_ok-differences.differences.items;
+      changes = c.in_ok-differences.ensures;
+      text_is = is ∙ same;
+      markup = own_markup _ _ _ (is ∙ same);
+    }) c.whole_page.ensures
+
+pub returns-clause-read : goal.returns-clause-read
+returns-clause-read c = restored
+
+pub returns-in_err-differences-clause-read : goal.returns-in_err-differences-clause-read
+returns-in_err-differences-clause-read c = restored

@@ -1,0 +1,56 @@
+-- How an intersection stands, above its plan.
+use Rattle.std.specs.Prelude.{ℕ, ◌+◌, List, ◌++◌, filter, length, codes, decimal, Option, Some}
+use Rattle.std.specs.Prelude.{None}
+use Rattle.cabinet_core.specs.Day.{day_text}
+use Rattle.cabinet_core.specs.Orders.{is_open}
+use Rattle.cabinet_core.specs.declared.record.Order.{Order}
+use Rattle.draft_core.specs.declared.state.DbState.{DbState}
+use Rattle.draft_core.specs.declared.state.DbState.TheVariants.{Normal, Transaction, Verify, Done}
+use Rattle.draft_core.specs.declared.state.Verdict.{Verdict}
+use Rattle.draft_core.specs.declared.state.Verdict.TheVariants.{NotDone, DoneWithError}
+use Rattle.draft_core.specs.declared.state.Verdict.TheVariants.{DoneWithNoError}
+use Rattle.office_machine.specs.declared.reply.IntersectionState.{IntersectionState}
+use Rattle.signal_page.specs.Words.{isolated}
+
+-- ---- what is told
+
+abbrev pub state_words : DbState → List ℕ
+state_words Normal = codes "normal"
+state_words Transaction = codes "transaction"
+state_words Verify = codes "verify"
+state_words Done = codes "done"
+
+abbrev pub verdict_words : Verdict → List ℕ
+verdict_words NotDone = codes "not done"
+verdict_words DoneWithError = codes "done, with errors"
+verdict_words DoneWithNoError = codes "done, without errors"
+
+-- who holds a draft
+abbrev pub owner_text : Option (List ℕ) → List ℕ
+owner_text None = codes "nobody"
+owner_text (Some owner) = isolated owner
+
+-- the day on which the next inspection falls due: so many days after the latest one
+abbrev pub due_text : ℕ → Option ℕ → List ℕ
+due_text interval None = codes "never inspected"
+due_text interval (Some latest) = day_text (latest + interval)
+
+-- ---- how it is told
+
+-- what is told, and its name
+unfoldable pub fact : List ℕ → List ℕ → List ℕ
+fact name value =
+    codes "<div><dt>" ++ name ++ codes "</dt><dd>" ++ value ++ codes "</dd></div>\n"
+
+unfoldable pub draft_facts : IntersectionState → List ℕ
+draft_facts state =
+    fact (codes "State") (state_words state.state)
+    ++ fact (codes "Draft held by") (owner_text state.owner)
+    ++ fact (codes "Verify status") (verdict_words state.verify)
+    ++ fact (codes "Revision") (decimal state.revision)
+    ++ fact (codes "Rows that run") (decimal state.rows)
+
+unfoldable pub cabinet_facts : ℕ → Option ℕ → List Order → List ℕ
+cabinet_facts interval latest orders =
+    fact (codes "Next inspection due") (due_text interval latest)
+    ++ fact (codes "Open orders") (decimal (length (filter is_open orders)))

@@ -1,0 +1,242 @@
+//! The page of an intersection, and that of a plan alone.
+
+ghost use Rattle.std.specs.Prelude.{◌≡◌, ◌++◌, ℕ, List, OnOk, IfOk, string_bytes};
+ghost use Rattle.signal_page.specs.Words.{escaped};
+ghost use Rattle.signal_page.specs.Reading.{unescaped};
+ghost use Rattle.signal_page.specs.Page.{head_opening, head_end, page_end, title, draft_link};
+ghost use Rattle.signal_page.specs.Page.{links, header, plan_section, open_draft_section};
+ghost use Rattle.signal_page.specs.Page.{draft_section, cabinet_section, page_text};
+ghost use Rattle.signal_page.specs.Page.{AreChanges, IsPage, plan_page_text};
+
+use crate::changes::push_changes_part;
+use crate::facts::{push_cabinet_facts, push_draft_facts};
+use crate::plan::{push_plan, push_violations_note};
+use crate::register::push_register;
+use crate::shown::IntersectionShown;
+use crate::style::STYLE;
+use crate::words::{push_escaped, push_isolated, push_markup};
+use cabinet_core::latest;
+use signal_compare::{Difference, compare};
+use signal_records::{InterId, NoMemory, TimingSet};
+use signal_rules::violations;
+use std::alloc::{AllocError, Global};
+use std::fmt::Write;
+
+/// Opens the head of a page, up to its title.
+fn open_head(text: &mut String) -> Result<(), AllocError>
+    ensures { OnOk result (string_bytes text.new ≡ string_bytes text.old ++ head_opening) }
+{
+    push_markup(
+        text,
+        "<!DOCTYPE html>\n<html lang='en'>\n<head>\n<meta charset='utf-8'>\n",
+    )?;
+    push_markup(
+        text,
+        "<meta name='viewport' content='width=device-width, initial-scale=1'>\n<title>",
+    )
+}
+
+/// Ends the head of a page after its title, and opens its heading.
+fn end_head(text: &mut String) -> Result<(), AllocError>
+    ensures { OnOk result (string_bytes text.new ≡ string_bytes text.old ++ head_end) }
+{
+    push_markup(text, "</title>\n<style>\n")?;
+    push_markup(text, STYLE)?;
+    push_markup(text, "</style>\n</head>\n<body>\n")?;
+    push_markup(
+        text,
+        "<a class='skip' href='#main'>Skip to the plan</a>\n<header>\n<h1>",
+    )
+}
+
+/// Ends a page.
+#[tactic(auto, unfolding(crate::specs::Page::page_end))]
+fn end_page(text: &mut String) -> Result<(), AllocError>
+    ensures { OnOk result (string_bytes text.new ≡ string_bytes text.old ++ page_end) }
+{
+    text.push_str("</main>\n</body>\n</html>\n")
+}
+
+/// Appends the number of an intersection, before its name.
+fn push_title(text: &mut String, id: InterId) -> Result<(), AllocError>
+    ensures { OnOk result (string_bytes text.new ≡ string_bytes text.old ++ title id) }
+{
+    let id = id.get();
+    write!(text, "Intersection {id}: ")
+}
+
+/// Appends the link to the draft, where there is one.
+fn push_draft_link(text: &mut String, draft: &Option<TimingSet>) -> Result<(), AllocError>
+    ensures { OnOk result (string_bytes text.new
+        ≡ string_bytes text.old ++ draft_link draft.now) }
+{
+    match draft {
+        None => Ok(()),
+        Some(_) => text.push_str("<li><a href='#draft'>The draft</a></li>\n"),
+    }
+}
+
+/// Appends links to the parts of the page.
+fn push_links(text: &mut String, draft: &Option<TimingSet>) -> Result<(), AllocError>
+    ensures { OnOk result (string_bytes text.new ≡ string_bytes text.old ++ links draft.now) }
+{
+    push_markup(text, "<nav aria-label='Parts of this page'>\n<ul>\n")?;
+    push_markup(text, "<li><a href='#plan'>The plan that runs</a></li>\n")?;
+    push_draft_link(text, draft)?;
+    push_markup(
+        text,
+        "<li><a href='#cabinet'>The cabinet</a></li>\n</ul>\n</nav>\n",
+    )
+}
+
+/// Appends the head and what stands above the plan.
+fn push_header(text: &mut String, shown: &IntersectionShown) -> Result<(), AllocError>
+    ensures { OnOk result (string_bytes text.new ≡ string_bytes text.old ++ header shown.now) }
+{
+    let name = shown.state.name.as_str();
+    let last = latest(shown.cabinet.view.inspections.as_slice());
+    let orders = shown.cabinet.view.orders.as_slice();
+    open_head(text)?;
+    push_title(text, shown.state.id)?;
+    push_escaped(text, name)?;
+    end_head(text)?;
+    push_title(text, shown.state.id)?;
+    push_isolated(text, name)?;
+    push_markup(text, "</h1>\n<dl>\n")?;
+    push_draft_facts(text, &shown.state)?;
+    push_cabinet_facts(text, shown.state.interval, last, orders)?;
+    push_markup(text, "</dl>\n")?;
+    push_links(text, &shown.draft)?;
+    push_markup(text, "</header>\n<main id='main'>\n")
+}
+
+/// Appends the plan that runs.
+fn push_plan_section(
+    text: &mut String,
+    alloc: Global,
+    committed: &TimingSet,
+) -> Result<(), NoMemory>
+    ensures { OnOk result (string_bytes text.new
+        ≡ string_bytes text.old ++ plan_section committed.now) }
+{
+    push_markup(text, "<section id='plan' aria-labelledby='plan-title'>\n")?;
+    push_markup(text, "<h2 id='plan-title'>The plan that runs</h2>\n")?;
+    push_plan(text, alloc, false, &[], committed)?;
+    push_markup(text, "</section>\n")
+}
+
+/// Appends a draft, and what it changes.
+#[tactic(auto, unfolding(crate::specs::Page::open_draft_section))]
+fn push_open_draft(
+    text: &mut String,
+    alloc: Global,
+    draft: &TimingSet,
+    differences: &[Difference],
+) -> Result<(), NoMemory>
+    ensures { OnOk result (string_bytes text.new
+        ≡ string_bytes text.old ++ open_draft_section draft.now differences.now) }
+{
+    let broken = violations(alloc, draft)?;
+    push_markup(text, "<section id='draft' aria-labelledby='draft-title'>\n")?;
+    push_markup(text, "<h2 id='draft-title'>The draft</h2>\n")?;
+    push_violations_note(text, &broken)?;
+    push_changes_part(text, differences)?;
+    push_markup(text, "<h3>The whole draft</h3>\n")?;
+    push_plan(text, alloc, true, &broken, draft)?;
+    push_markup(text, "</section>\n")
+}
+
+/// Appends the draft, where there is one.
+fn push_draft_section(
+    text: &mut String,
+    alloc: Global,
+    draft: &Option<TimingSet>,
+    differences: &[Difference],
+) -> Result<(), NoMemory>
+    ensures { OnOk result (string_bytes text.new
+        ≡ string_bytes text.old ++ draft_section draft.now differences.now) }
+{
+    match draft {
+        None => Ok(()),
+        Some(draft) => push_open_draft(text, alloc, draft, differences),
+    }
+}
+
+/// Appends the register of the cabinet.
+fn push_cabinet_section(
+    text: &mut String,
+    alloc: Global,
+    shown: &IntersectionShown,
+) -> Result<(), NoMemory>
+    ensures { OnOk result (string_bytes text.new
+        ≡ string_bytes text.old ++ cabinet_section shown.now) }
+{
+    push_markup(
+        text,
+        "<section id='cabinet' aria-labelledby='cabinet-title'>\n",
+    )?;
+    push_markup(text, "<h2 id='cabinet-title'>The cabinet</h2>\n")?;
+    push_register(text, alloc, shown.state.interval, &shown.cabinet.view)?;
+    push_markup(text, "</section>\n")
+}
+
+/// What the draft changes of the committed plan; nothing where there is none.
+fn changes_of(
+    alloc: Global,
+    committed: &TimingSet,
+    draft: &Option<TimingSet>,
+) -> Result<Vec<Difference>, NoMemory>
+    ensures { IfOk result (λ found. AreChanges committed.now draft.now found.items) }
+{
+    match draft {
+        None => Ok(Vec::new(alloc)),
+        Some(draft) => compare(alloc, committed, draft),
+    }
+}
+
+/// The page by the changes of the draft.
+fn whole_page(
+    alloc: Global,
+    shown: &IntersectionShown,
+    differences: &[Difference],
+) -> Result<Vec<u8>, NoMemory>
+    ensures { IfOk result (λ text. text.items ≡ page_text shown.now differences.now) }
+{
+    let mut text = String::new(alloc);
+    push_header(&mut text, shown)?;
+    push_plan_section(&mut text, alloc, &shown.committed)?;
+    push_draft_section(&mut text, alloc, &shown.draft, differences)?;
+    push_cabinet_section(&mut text, alloc, shown)?;
+    end_page(&mut text)?;
+    Ok(text.into_bytes())
+}
+
+/// The page of an intersection: how it stands, the pictures and tables of the plan that runs, its
+/// draft with the rules that it breaks beside their rows and what it changes, and the register of
+/// its cabinet, open orders first. It is one HTML text, which needs nothing else.
+pub fn intersection_page(alloc: Global, shown: &IntersectionShown) -> Result<Vec<u8>, NoMemory>
+    // It is that of its definition, and whatever names and texts hold, its tags are its own.
+    ensures page { IfOk result (λ text. IsPage shown.now text.items) }
+    // A reader takes each name and text back as it was.
+    ensures read { (words : List ℕ) → unescaped (escaped words) ≡ words }
+{
+    let differences = changes_of(alloc, &shown.committed, &shown.draft)?;
+    whole_page(alloc, shown, &differences)
+}
+
+/// The page of a plan alone: how many rules it breaks, its pictures, and its tables with the rules
+/// that each row breaks beside it.
+pub fn plan_page(alloc: Global, plan: &TimingSet) -> Result<Vec<u8>, NoMemory>
+    ensures { IfOk result (λ text. text.items ≡ plan_page_text plan.now) }
+{
+    let broken = violations(alloc, plan)?;
+    let mut text = String::new(alloc);
+    open_head(&mut text)?;
+    push_markup(&mut text, "Timing plan")?;
+    end_head(&mut text)?;
+    push_markup(&mut text, "Timing plan</h1>\n</header>\n<main id='main'>\n")?;
+    push_violations_note(&mut text, &broken)?;
+    push_plan(&mut text, alloc, true, &broken, plan)?;
+    end_page(&mut text)?;
+    Ok(text.into_bytes())
+}

@@ -1,0 +1,186 @@
+//! How an intersection stands, above its plan.
+
+ghost use Rattle.std.specs.Prelude.{◌≡◌, ◌+◌, ◌++◌, OnOk, codes, decimal, filter, length};
+ghost use Rattle.std.specs.Prelude.{string_bytes};
+ghost use Rattle.cabinet_core.specs.Day.{day_text};
+ghost use Rattle.cabinet_core.specs.Orders.{is_open};
+ghost use Rattle.signal_page.specs.State.{state_words, verdict_words, owner_text, due_text, fact};
+ghost use Rattle.signal_page.specs.State.{draft_facts, cabinet_facts};
+
+use crate::words::push_isolated;
+use cabinet_core::{Day, Order, due};
+use draft_core::state::{DbState, Verdict};
+use office_machine::reply::IntersectionState;
+use signal_records::{Interval, Words};
+use std::alloc::AllocError;
+use std::fmt::Write;
+
+fn state_words(state: DbState) -> &'static str
+    ensures { result.now ≡ state_words state }
+{
+    match state {
+        DbState::Normal => "normal",
+        DbState::Transaction => "transaction",
+        DbState::Verify => "verify",
+        DbState::Done => "done",
+    }
+}
+
+fn verdict_words(verdict: Verdict) -> &'static str
+    ensures { result.now ≡ verdict_words verdict }
+{
+    match verdict {
+        Verdict::NotDone => "not done",
+        Verdict::DoneWithError => "done, with errors",
+        Verdict::DoneWithNoError => "done, without errors",
+    }
+}
+
+fn is_open(order: &Order) -> bool
+    ensures { result ≡ is_open order.now }
+{
+    order.closing.is_none()
+}
+
+/// How many orders are open.
+fn open_count(orders: &[Order]) -> usize
+    ensures { result ≡ length (filter is_open orders.now) }
+{
+    let mut count: usize = 0;
+    for order in orders {
+        if is_open(order) {
+            count += 1;
+        }
+    }
+    count
+}
+
+/// Opens what is told under a name.
+fn open_fact(text: &mut String, name: &str) -> Result<(), AllocError>
+    ensures { OnOk result (string_bytes text.new ≡ string_bytes text.old
+        ++ (codes "<div><dt>" ++ name.now ++ codes "</dt><dd>")) }
+{
+    write!(text, "<div><dt>{name}</dt><dd>")
+}
+
+fn end_fact(text: &mut String) -> Result<(), AllocError>
+    ensures { OnOk result (string_bytes text.new
+        ≡ string_bytes text.old ++ codes "</dd></div>\n") }
+{
+    text.push_str("</dd></div>\n")
+}
+
+/// Appends words of the page's own under a name.
+#[tactic(auto, unfolding(crate::specs::State::fact))]
+fn push_words_fact(text: &mut String, name: &str, words: &str) -> Result<(), AllocError>
+    ensures { OnOk result (string_bytes text.new
+        ≡ string_bytes text.old ++ fact name.now words.now) }
+{
+    open_fact(text, name)?;
+    text.push_str(words)?;
+    end_fact(text)
+}
+
+/// Appends a number under a name.
+#[tactic(auto, unfolding(crate::specs::State::fact))]
+fn push_number_fact(text: &mut String, name: &str, n: usize) -> Result<(), AllocError>
+    ensures { OnOk result (string_bytes text.new
+        ≡ string_bytes text.old ++ fact name.now (decimal n)) }
+{
+    open_fact(text, name)?;
+    write!(text, "{n}")?;
+    end_fact(text)
+}
+
+fn push_owner(text: &mut String, owner: &Option<Words<40>>) -> Result<(), AllocError>
+    ensures { OnOk result (string_bytes text.new
+        ≡ string_bytes text.old ++ owner_text owner.now) }
+{
+    match owner {
+        None => text.push_str("nobody"),
+        Some(owner) => push_isolated(text, owner.as_str()),
+    }
+}
+
+/// Appends who holds the draft.
+#[tactic(auto, unfolding(crate::specs::State::fact))]
+fn push_owner_fact(
+    text: &mut String,
+    name: &str,
+    owner: &Option<Words<40>>,
+) -> Result<(), AllocError>
+    ensures { OnOk result (string_bytes text.new
+        ≡ string_bytes text.old ++ fact name.now (owner_text owner.now)) }
+{
+    open_fact(text, name)?;
+    push_owner(text, owner)?;
+    end_fact(text)
+}
+
+/// Appends the day so many days after another, which may lie past the last day of a record.
+pub(crate) fn push_due_day(
+    text: &mut String,
+    latest: Day,
+    interval: Interval,
+) -> Result<(), AllocError>
+    ensures { OnOk result (string_bytes text.new
+        ≡ string_bytes text.old ++ day_text (latest + interval)) }
+{
+    let date = due(latest, interval);
+    write!(text, "{date}")
+}
+
+fn push_due(text: &mut String, interval: Interval, latest: Option<Day>) -> Result<(), AllocError>
+    ensures { OnOk result (string_bytes text.new
+        ≡ string_bytes text.old ++ due_text interval latest) }
+{
+    match latest {
+        None => text.push_str("never inspected"),
+        Some(latest) => push_due_day(text, latest, interval),
+    }
+}
+
+/// Appends the due day.
+#[tactic(auto, unfolding(crate::specs::State::fact))]
+fn push_due_fact(
+    text: &mut String,
+    name: &str,
+    interval: Interval,
+    latest: Option<Day>,
+) -> Result<(), AllocError>
+    ensures { OnOk result (string_bytes text.new
+        ≡ string_bytes text.old ++ fact name.now (due_text interval latest)) }
+{
+    open_fact(text, name)?;
+    push_due(text, interval, latest)?;
+    end_fact(text)
+}
+
+/// Appends how the plan and its draft stand.
+pub(crate) fn push_draft_facts(
+    text: &mut String,
+    state: &IntersectionState,
+) -> Result<(), AllocError>
+    ensures { OnOk result (string_bytes text.new
+        ≡ string_bytes text.old ++ draft_facts state.now) }
+{
+    push_words_fact(text, "State", state_words(state.state))?;
+    push_owner_fact(text, "Draft held by", &state.owner)?;
+    push_words_fact(text, "Verify status", verdict_words(state.verify))?;
+    push_number_fact(text, "Revision", state.revision.get() as usize)?;
+    push_number_fact(text, "Rows that run", state.rows)
+}
+
+/// Appends how the cabinet stands.
+pub(crate) fn push_cabinet_facts(
+    text: &mut String,
+    interval: Interval,
+    latest: Option<Day>,
+    orders: &[Order],
+) -> Result<(), AllocError>
+    ensures { OnOk result (string_bytes text.new
+        ≡ string_bytes text.old ++ cabinet_facts interval latest orders.now) }
+{
+    push_due_fact(text, "Next inspection due", interval, latest)?;
+    push_number_fact(text, "Open orders", open_count(orders))
+}

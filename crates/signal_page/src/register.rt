@@ -1,0 +1,333 @@
+//! The register of a cabinet in the page: the due day, open orders first, then closed ones, and the
+//! inspections.
+
+ghost use Rattle.std.specs.Prelude.{◌≡◌, ◌+◌, ◌++◌, OnOk, flat_map, string_bytes};
+ghost use Rattle.signal_page.specs.Register.{day_cell, part_used, part_of, parts_cell, order_cells};
+ghost use Rattle.signal_page.specs.Register.{closing_cells, open_row, closed_row, order_headings};
+ghost use Rattle.signal_page.specs.Register.{open_orders, closed_orders, inspection_row};
+ghost use Rattle.signal_page.specs.Register.{inspection_headings, inspections_part, due_words};
+ghost use Rattle.signal_page.specs.Register.{due_on, due_note, register_part};
+
+use crate::cells::{push_heading, push_row_heading, push_text, push_words_heading};
+use crate::facts::push_due_day;
+use crate::tables::{begin_rows, end_table, open_table};
+use crate::words::{push_isolated, push_markup};
+use cabinet_core::{CabinetView, Closing, Day, Inspection, Order, UsedLine, latest, write_day};
+use signal_records::{Interval, NoMemory, RecordNo};
+use std::alloc::{AllocError, Global};
+use std::fmt::Write;
+
+/// Appends a day.
+fn push_day(text: &mut String, alloc: Global, day: Day) -> Result<(), NoMemory>
+    ensures { OnOk result (string_bytes text.new ≡ string_bytes text.old ++ day_cell day) }
+{
+    let spelling = write_day(alloc, day)?;
+    write!(text, "<td class='d'>{spelling}</td>")
+}
+
+/// Appends a part that was used.
+fn push_part(text: &mut String, line: &UsedLine) -> Result<(), AllocError>
+    ensures { OnOk result (string_bytes text.new
+        ≡ string_bytes text.old ++ part_used line.now) }
+{
+    let count = line.count.get();
+    write!(text, "<div>{count} &times; ")?;
+    push_isolated(text, line.part.as_str())?;
+    push_markup(text, "</div>")
+}
+
+/// Appends a part for the order of a number, and nothing for another one.
+fn push_part_of(text: &mut String, order: RecordNo, line: &UsedLine) -> Result<(), AllocError>
+    ensures { OnOk result (string_bytes text.new
+        ≡ string_bytes text.old ++ part_of order line.now) }
+{
+    if line.order.get() == order.get() {
+        push_part(text, line)
+    } else {
+        Ok(())
+    }
+}
+
+fn push_each_part(text: &mut String, order: RecordNo, lines: &[UsedLine]) -> Result<(), AllocError>
+    ensures { OnOk result (string_bytes text.new
+        ≡ string_bytes text.old ++ flat_map (part_of order) lines.now) }
+{
+    for line in lines {
+        push_part_of(text, order, line)?;
+    }
+    Ok(())
+}
+
+/// Appends the parts that were used for an order.
+fn push_parts(text: &mut String, lines: &[UsedLine], order: RecordNo) -> Result<(), AllocError>
+    ensures { OnOk result (string_bytes text.new
+        ≡ string_bytes text.old ++ parts_cell lines.now order) }
+{
+    push_markup(text, "<td class='w'>")?;
+    push_each_part(text, order, lines)?;
+    push_markup(text, "</td>")
+}
+
+/// Appends the cells of an order, open or closed.
+#[tactic(auto, unfolding(crate::specs::Register::order_cells))]
+fn push_order_cells(
+    text: &mut String,
+    alloc: Global,
+    lines: &[UsedLine],
+    order: &Order,
+) -> Result<(), NoMemory>
+    ensures { OnOk result (string_bytes text.new
+        ≡ string_bytes text.old ++ order_cells lines.now order.now) }
+{
+    push_row_heading(text, order.number.get())?;
+    push_day(text, alloc, order.opened)?;
+    push_text(text, order.clerk.as_str())?;
+    push_text(text, order.text.as_str())?;
+    push_parts(text, lines, order.number)
+}
+
+/// Appends when and by whom an order was closed.
+#[tactic(auto, unfolding(crate::specs::Register::closing_cells))]
+fn push_closing(text: &mut String, alloc: Global, closing: &Closing) -> Result<(), NoMemory>
+    ensures { OnOk result (string_bytes text.new
+        ≡ string_bytes text.old ++ closing_cells closing.now) }
+{
+    push_day(text, alloc, closing.day)?;
+    push_text(text, closing.closer.as_str())
+}
+
+/// Appends the row of an order that is open, and nothing for a closed one.
+fn push_open(
+    text: &mut String,
+    alloc: Global,
+    lines: &[UsedLine],
+    order: &Order,
+) -> Result<(), NoMemory>
+    ensures { OnOk result (string_bytes text.new
+        ≡ string_bytes text.old ++ open_row lines.now order.now) }
+{
+    match &order.closing {
+        None => {
+            text.push_str("<tr>")?;
+            push_order_cells(text, alloc, lines, order)?;
+            text.push_str("</tr>\n")
+        }
+        Some(_) => Ok(()),
+    }
+}
+
+/// Appends the row of an order that is closed, and nothing for an open one.
+fn push_closed(
+    text: &mut String,
+    alloc: Global,
+    lines: &[UsedLine],
+    order: &Order,
+) -> Result<(), NoMemory>
+    ensures { OnOk result (string_bytes text.new
+        ≡ string_bytes text.old ++ closed_row lines.now order.now) }
+{
+    match &order.closing {
+        None => Ok(()),
+        Some(closing) => {
+            text.push_str("<tr>")?;
+            push_order_cells(text, alloc, lines, order)?;
+            push_closing(text, alloc, closing)?;
+            text.push_str("</tr>\n")
+        }
+    }
+}
+
+/// Appends the headings of orders.
+#[tactic(auto, unfolding(crate::specs::Register::order_headings))]
+fn push_order_headings(text: &mut String) -> Result<(), AllocError>
+    ensures { OnOk result (string_bytes text.new ≡ string_bytes text.old ++ order_headings) }
+{
+    push_heading(text, "Order")?;
+    push_words_heading(text, "Opened")?;
+    push_words_heading(text, "Clerk")?;
+    push_words_heading(text, "Work")?;
+    push_words_heading(text, "Parts used (pieces)")
+}
+
+fn push_each_open(
+    text: &mut String,
+    alloc: Global,
+    lines: &[UsedLine],
+    orders: &[Order],
+) -> Result<(), NoMemory>
+    ensures { OnOk result (string_bytes text.new
+        ≡ string_bytes text.old ++ flat_map (open_row lines.now) orders.now) }
+{
+    for order in orders {
+        push_open(text, alloc, lines, order)?;
+    }
+    Ok(())
+}
+
+/// Appends the open orders.
+fn push_open_orders(
+    text: &mut String,
+    alloc: Global,
+    lines: &[UsedLine],
+    orders: &[Order],
+) -> Result<(), NoMemory>
+    ensures { OnOk result (string_bytes text.new
+        ≡ string_bytes text.old ++ open_orders lines.now orders.now) }
+{
+    open_table(text, "Open orders")?;
+    push_order_headings(text)?;
+    begin_rows(text)?;
+    push_each_open(text, alloc, lines, orders)?;
+    end_table(text)
+}
+
+fn push_each_closed(
+    text: &mut String,
+    alloc: Global,
+    lines: &[UsedLine],
+    orders: &[Order],
+) -> Result<(), NoMemory>
+    ensures { OnOk result (string_bytes text.new
+        ≡ string_bytes text.old ++ flat_map (closed_row lines.now) orders.now) }
+{
+    for order in orders {
+        push_closed(text, alloc, lines, order)?;
+    }
+    Ok(())
+}
+
+/// Appends the closed orders.
+fn push_closed_orders(
+    text: &mut String,
+    alloc: Global,
+    lines: &[UsedLine],
+    orders: &[Order],
+) -> Result<(), NoMemory>
+    ensures { OnOk result (string_bytes text.new
+        ≡ string_bytes text.old ++ closed_orders lines.now orders.now) }
+{
+    open_table(text, "Closed orders")?;
+    push_order_headings(text)?;
+    push_words_heading(text, "Closed")?;
+    push_words_heading(text, "Closed by")?;
+    begin_rows(text)?;
+    push_each_closed(text, alloc, lines, orders)?;
+    end_table(text)
+}
+
+/// Appends the row of an inspection.
+#[tactic(auto, unfolding(crate::specs::Register::inspection_row))]
+fn push_inspection(
+    text: &mut String,
+    alloc: Global,
+    inspection: &Inspection,
+) -> Result<(), NoMemory>
+    ensures { OnOk result (string_bytes text.new
+        ≡ string_bytes text.old ++ inspection_row inspection.now) }
+{
+    text.push_str("<tr>")?;
+    push_row_heading(text, inspection.number.get())?;
+    push_day(text, alloc, inspection.day)?;
+    push_text(text, inspection.clerk.as_str())?;
+    push_text(text, inspection.text.as_str())?;
+    text.push_str("</tr>\n")
+}
+
+fn push_each_inspection(
+    text: &mut String,
+    alloc: Global,
+    inspections: &[Inspection],
+) -> Result<(), NoMemory>
+    ensures { OnOk result (string_bytes text.new
+        ≡ string_bytes text.old ++ flat_map inspection_row inspections.now) }
+{
+    for inspection in inspections {
+        push_inspection(text, alloc, inspection)?;
+    }
+    Ok(())
+}
+
+/// Appends the headings of inspections.
+#[tactic(auto, unfolding(crate::specs::Register::inspection_headings))]
+fn push_inspection_headings(text: &mut String) -> Result<(), AllocError>
+    ensures { OnOk result (string_bytes text.new ≡ string_bytes text.old ++ inspection_headings) }
+{
+    push_heading(text, "Inspection")?;
+    push_words_heading(text, "Day")?;
+    push_words_heading(text, "Clerk")?;
+    push_words_heading(text, "Findings")
+}
+
+/// Appends the inspections.
+fn push_inspections(
+    text: &mut String,
+    alloc: Global,
+    inspections: &[Inspection],
+) -> Result<(), NoMemory>
+    ensures { OnOk result (string_bytes text.new
+        ≡ string_bytes text.old ++ inspections_part inspections.now) }
+{
+    open_table(text, "Inspections")?;
+    push_inspection_headings(text)?;
+    begin_rows(text)?;
+    push_each_inspection(text, alloc, inspections)?;
+    end_table(text)
+}
+
+/// Appends the due day.
+fn push_due_on(text: &mut String, latest: Day, interval: Interval) -> Result<(), AllocError>
+    ensures { OnOk result (string_bytes text.new
+        ≡ string_bytes text.old ++ due_on (latest + interval)) }
+{
+    push_markup(text, "<p>The next inspection is due on <strong>")?;
+    push_due_day(text, latest, interval)?;
+    push_markup(text, "</strong>.")
+}
+
+fn push_due_words(
+    text: &mut String,
+    interval: Interval,
+    latest: Option<Day>,
+) -> Result<(), AllocError>
+    ensures { OnOk result (string_bytes text.new
+        ≡ string_bytes text.old ++ due_words interval latest) }
+{
+    match latest {
+        None => text.push_str("<p>It was never inspected."),
+        Some(latest) => push_due_on(text, latest, interval),
+    }
+}
+
+/// Appends when the next inspection is due, and how many days there are from one to the next.
+fn push_due_note(
+    text: &mut String,
+    interval: Interval,
+    latest: Option<Day>,
+) -> Result<(), AllocError>
+    ensures { OnOk result (string_bytes text.new
+        ≡ string_bytes text.old ++ due_note interval latest) }
+{
+    push_due_words(text, interval, latest)?;
+    let days = interval.get();
+    write!(text, " Days from one inspection to the next: {days}.</p>\n")
+}
+
+/// Appends the register of a cabinet.
+#[tactic(auto, unfolding(crate::specs::Register::register_part))]
+pub(crate) fn push_register(
+    text: &mut String,
+    alloc: Global,
+    interval: Interval,
+    view: &CabinetView,
+) -> Result<(), NoMemory>
+    ensures { OnOk result (string_bytes text.new
+        ≡ string_bytes text.old ++ register_part interval view.now) }
+{
+    let inspections = view.inspections.as_slice();
+    let lines = view.lines.as_slice();
+    let orders = view.orders.as_slice();
+    push_due_note(text, interval, latest(inspections))?;
+    push_open_orders(text, alloc, lines, orders)?;
+    push_closed_orders(text, alloc, lines, orders)?;
+    push_inspections(text, alloc, inspections)
+}
