@@ -5,6 +5,7 @@ pub mod SplitRule
 pub mod PatternRules
 pub mod OnePass
 pub mod Violations
+pub mod RowWalk
 pub mod Touched
 pub mod CutPoints
 pub mod Starts
