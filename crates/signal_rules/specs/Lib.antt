@@ -3,7 +3,9 @@ pub mod PhaseRules
 pub mod SequenceRule
 pub mod SplitRule
 pub mod PatternRules
+pub mod OnePass
 pub mod Violations
+pub mod RowWalk
 pub mod Touched
 pub mod CutPoints
 pub mod Starts

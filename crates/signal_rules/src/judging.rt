@@ -3,8 +3,9 @@
 ghost use Rattle.std.specs.Prelude.{◌≡◌, [], ◌∷◌, ◌++◌, OnOk, IfOk};
 ghost use Rattle.signal_rules.specs.Violations.{violations_of, violations_at, broken, crossing_findings, phase_findings, lane_findings, pattern_findings};
 ghost use Rattle.signal_rules.specs.Counts.{RisesAtMost, sequence_entries, most_seconds};
+ghost use Rattle.signal_rules.specs.Lookup as set_has;
 
-use crate::lookup::{pattern_at, phase_at, split_at};
+use crate::lookup::{pattern_at, phase_at, phases_of, split_at};
 use crate::sequence::{has_sequence, rows_are_right};
 use crate::split::split_is_right;
 use crate::subjects::subjects;
@@ -46,7 +47,7 @@ pub(crate) fn judge(
             Some(phase) => judge_phase(set, p, phase, found),
             None => Ok(()),
         },
-        Subject::Seq(n) => judge_sequence(set, n, found),
+        Subject::Seq(n) => judge_sequence(alloc, set, n, found),
         Subject::Split(n, p) => match split_at(set, n, p) {
             Some(split) => report(split_is_right(set, p, split), subject, Rule::V8, found),
             None => Ok(()),
@@ -135,11 +136,18 @@ fn judge_crossing(
     )
 }
 
-fn judge_sequence(set: &TimingSet, n: SeqNo, found: &mut Vec<Violation>) -> Result<(), NoMemory>
+fn judge_sequence(
+    alloc: Global,
+    set: &TimingSet,
+    n: SeqNo,
+    found: &mut Vec<Violation>,
+) -> Result<(), NoMemory>
     ensures { OnOk result (found.new.items ≡ found.old.items ++ violations_at set.now (Subject.Seq n)) }
 {
     if has_sequence(set, n) {
-        report(rows_are_right(set, n), Subject::Seq(n), Rule::V7, found)?;
+        let phases = phases_of(alloc, set)?;
+        let right = rows_are_right(set, &phases, n);
+        report(right, Subject::Seq(n), Rule::V7, found)?;
     }
     Ok(())
 }
@@ -155,7 +163,8 @@ fn judge_pattern(
     ensures ticks { RisesAtMost (sequence_entries set.now pattern.now.seq) ticks.old ticks.new }
     ensures found { OnOk result (found.new.items ≡ found.old.items ++ broken (Subject.Pattern n) (pattern_findings set.now pattern.now)) }
 {
-    let has_rows = pattern::has_rows(set, pattern);
+    let phases = phases_of(alloc, set)?;
+    let has_rows = pattern::has_rows(set, &phases, pattern);
     report(has_rows, Subject::Pattern(n), Rule::V9, found)?;
     report(
         pattern::offset_is_right(pattern),
@@ -164,30 +173,33 @@ fn judge_pattern(
         found,
     )?;
     report(
-        pattern::has_coordinated(set, pattern.split),
+        pattern::has_coordinated(set, &phases, pattern.split),
         Subject::Pattern(n),
         Rule::V11,
         found,
     )?;
     if has_rows {
-        judge_lanes(alloc, set, n, pattern, ticks, found)?;
+        judge_lanes(alloc, set, &phases, n, pattern, ticks, found)?;
     }
     Ok(())
 }
 
-/// The rules on the lanes of a pattern, which are compared only where they fill the cycle.
+/// The rules on the lanes of a pattern, which are compared only where they fill the cycle. The
+/// phases are those of the set.
 fn judge_lanes(
     alloc: Global,
     set: &TimingSet,
+    phases: &[PhaseNo],
     n: PatternNo,
     pattern: &Pattern,
     ticks: &mut u64,
     found: &mut Vec<Violation>,
 ) -> Result<(), NoMemory>
+    requires { phases.now ≡ set_has.phases set.now }
     ensures ticks { RisesAtMost (sequence_entries set.now pattern.now.seq) ticks.old ticks.new }
     ensures found { OnOk result (found.new.items ≡ found.old.items ++ broken (Subject.Pattern n) (lane_findings set.now pattern.now)) }
 {
-    let rings = pattern::used_rings(alloc, set)?;
+    let rings = pattern::rings_of(alloc, set, phases)?;
     let fill = lanes::rings_fill(set, pattern, &rings);
     report(fill, Subject::Pattern(n), Rule::V12, found)?;
     if fill {

@@ -1,25 +1,29 @@
 //! V9 to V11, the rules of a pattern that look at no lane.
 
 ghost use Rattle.std.specs.Prelude.{◌≡◌, IfOk};
-ghost use Rattle.signal_rules.specs.PatternRules.{has_splits, has_rows, offset_is_right, is_coordinated, has_coordinated, is_used, used_rings};
+ghost use Rattle.signal_rules.specs.Lookup as set_has;
+ghost use Rattle.signal_rules.specs.OnePass.{rings_at};
+ghost use Rattle.signal_rules.specs.PatternRules.{has_splits, has_rows, offset_is_right, is_coordinated, has_coordinated, used_rings};
 
-use crate::lookup::{has_phase, has_split, phase_at, split_at};
-use crate::sequence::{has_sequence, in_ring};
+use crate::lookup::{has_split, phase_at, phases_of, split_at};
+use crate::sequence::has_sequence;
 use signal_records::{NoMemory, Pattern, PhaseNo, RingNo, Split, SplitNo, TimingSet};
 use std::alloc::Global;
 
-/// V9, of `patternSequenceNumber` and `patternSplitNumber`.
-pub(crate) fn has_rows(set: &TimingSet, pattern: &Pattern) -> bool
+/// V9, of `patternSequenceNumber` and `patternSplitNumber`. The phases are those of the set.
+pub(crate) fn has_rows(set: &TimingSet, phases: &[PhaseNo], pattern: &Pattern) -> bool
+    requires { phases.now ≡ set_has.phases set.now }
     ensures { result ≡ has_rows set.now pattern.now }
 {
-    has_sequence(set, pattern.seq) && has_splits(set, pattern.split)
+    has_sequence(set, pattern.seq) && has_splits(set, phases, pattern.split)
 }
 
-fn has_splits(set: &TimingSet, n: SplitNo) -> bool
+fn has_splits(set: &TimingSet, phases: &[PhaseNo], n: SplitNo) -> bool
+    requires { phases.now ≡ set_has.phases set.now }
     ensures { result ≡ has_splits set.now n }
 {
-    for p in PhaseNo::all() {
-        if has_phase(set, p) && !has_split(set, n, p) {
+    for p in phases {
+        if !has_split(set, n, *p) {
             return false;
         }
     }
@@ -33,12 +37,13 @@ pub(crate) fn offset_is_right(pattern: &Pattern) -> bool
     u32::from(pattern.offset) < pattern.cycle.get()
 }
 
-/// V11, of `splitCoordPhase`.
-pub(crate) fn has_coordinated(set: &TimingSet, n: SplitNo) -> bool
+/// V11, of `splitCoordPhase`. The phases are those of the set.
+pub(crate) fn has_coordinated(set: &TimingSet, phases: &[PhaseNo], n: SplitNo) -> bool
+    requires { phases.now ≡ set_has.phases set.now }
     ensures { result ≡ has_coordinated set.now n }
 {
-    for p in PhaseNo::all() {
-        if has_phase(set, p) && is_coordinated(split_at(set, n, p)) {
+    for p in phases {
+        if is_coordinated(split_at(set, n, *p)) {
             return true;
         }
     }
@@ -58,22 +63,44 @@ fn is_coordinated(split: Option<Split>) -> bool
 pub fn used_rings(alloc: Global, set: &TimingSet) -> Result<Vec<RingNo>, NoMemory>
     ensures { IfOk result (λ rings. rings.items ≡ used_rings set.now) }
 {
+    let phases = phases_of(alloc, set)?;
+    rings_of(alloc, set, &phases)
+}
+
+/// The rings that have one of the phases, which are those of the set, in ascending order.
+pub(crate) fn rings_of(
+    alloc: Global,
+    set: &TimingSet,
+    phases: &[PhaseNo],
+) -> Result<Vec<RingNo>, NoMemory>
+    requires { phases.now ≡ set_has.phases set.now }
+    ensures { IfOk result (λ rings. rings.items ≡ used_rings set.now) }
+{
+    let used = each_ring(alloc, set, phases)?;
     let mut rings = Vec::new(alloc);
     for ring in RingNo::all() {
-        if is_used(set, ring) {
+        if is_among(&used, ring) {
             rings.push(ring)?;
         }
     }
     Ok(rings)
 }
 
-fn is_used(set: &TimingSet, ring: RingNo) -> bool
-    ensures { result ≡ is_used set.now ring }
+fn is_among(rings: &[RingNo], ring: RingNo) -> bool
+    ensures { result ≡ set_has.is_in ring rings.now }
 {
-    for p in PhaseNo::all() {
-        if in_ring(ring, phase_at(set, p)) {
-            return true;
+    rings.contains(&ring)
+}
+
+/// The ring of each of the phases, in their order.
+fn each_ring(alloc: Global, set: &TimingSet, phases: &[PhaseNo]) -> Result<Vec<RingNo>, NoMemory>
+    ensures { IfOk result (λ rings. rings.items ≡ rings_at set.now phases.now) }
+{
+    let mut rings = Vec::new(alloc);
+    for p in phases {
+        if let Some(phase) = phase_at(set, *p) {
+            rings.push(phase.ring)?;
         }
     }
-    false
+    Ok(rings)
 }

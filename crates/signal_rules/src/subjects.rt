@@ -1,76 +1,108 @@
-//! The subjects that a timing set has.
+//! The subjects that a timing set has, from its rows.
 
-ghost use Rattle.std.specs.Prelude.{◌≡◌, ◌++◌, OnOk, IfOk, map, filter, is_some};
-ghost use Rattle.signal_rules.specs.Lookup.{phases, pattern_at, has_sequence, sequence_numbers, pattern_numbers};
-ghost use Rattle.signal_rules.specs.Violations.{subjects, split_rows, split_subjects};
+ghost use Rattle.std.specs.Prelude.{◌≡◌, ◌++◌, true, OnOk, IfOk, map};
+ghost use Rattle.std.specs.List.{flat_map, list_all};
+ghost use Rattle.signal_rules.specs.RowWalk.{subject_of, of_kind, sequence_of, other_than, sequences_after, is_within};
+ghost use Rattle.signal_rules.specs.Violations.{subjects};
 
-use crate::lookup::{pattern_at, phase_at, split_at};
-use crate::sequence::has_sequence;
 use crate::violation::Subject;
-use signal_records::{NoMemory, PatternNo, PhaseNo, SeqNo, SplitNo, TimingSet};
+use signal_records::{NoMemory, Row, SeqNo, TimingSet};
 use std::alloc::Global;
 
 /// Phases, sequences, split rows and patterns, each by ascending number.
 pub(crate) fn subjects(alloc: Global, set: &TimingSet) -> Result<Vec<Subject>, NoMemory>
     ensures { IfOk result (λ found. found.items ≡ subjects set.now) }
 {
+    let rows = set.rows(alloc)?;
+    read_numbers(&rows);
     let mut subjects = Vec::new(alloc);
-    add_phases(set, &mut subjects)?;
-    add_sequences(set, &mut subjects)?;
-    add_all_splits(set, &mut subjects)?;
-    add_patterns(set, &mut subjects)?;
+    add_kind(&rows, 1, &mut subjects)?;
+    add_sequences(&rows, &mut subjects)?;
+    add_kind(&rows, 3, &mut subjects)?;
+    add_kind(&rows, 4, &mut subjects)?;
     Ok(subjects)
 }
 
-fn add_phases(set: &TimingSet, subjects: &mut Vec<Subject>) -> Result<(), NoMemory>
-    ensures { OnOk result (subjects.new.items ≡ subjects.old.items ++ map (λ p. Subject.Phase p) (phases set.now)) }
+/// The numbers of rows are read, so that their ranges are known.
+fn read_numbers(rows: &[Row])
+    ensures { list_all is_within rows.now ≡ true }
 {
-    for n in PhaseNo::all() {
-        if phase_at(set, n).is_some() {
-            subjects.push(Subject::Phase(n))?;
+    for row in rows {
+        read_number(row);
+    }
+}
+
+fn read_number(row: &Row)
+    ensures { is_within row.now ≡ true }
+{
+    match row {
+        Row::Phase(p, _) => {
+            let _phase = p.get();
         }
+        Row::Seq(n, ring, _) => {
+            let _sequence = n.get();
+            let _ring = ring.get();
+        }
+        Row::Split(n, p, _) => {
+            let _split = n.get();
+            let _phase = p.get();
+        }
+        Row::Pattern(n, _) => {
+            let _pattern = n.get();
+        }
+    }
+}
+
+/// The subjects of the rows of a kind, which a key's `kind` tells.
+fn add_kind(rows: &[Row], kind: u32, subjects: &mut Vec<Subject>) -> Result<(), NoMemory>
+    ensures { OnOk result (subjects.new.items ≡ subjects.old.items ++ flat_map (of_kind kind) rows.now) }
+{
+    for row in rows {
+        add_row(row, kind, subjects)?;
     }
     Ok(())
 }
 
-fn add_sequences(set: &TimingSet, subjects: &mut Vec<Subject>) -> Result<(), NoMemory>
-    ensures { OnOk result (subjects.new.items ≡ subjects.old.items ++ map (λ n. Subject.Seq n) (filter (has_sequence set.now) sequence_numbers)) }
+fn add_row(row: &Row, kind: u32, subjects: &mut Vec<Subject>) -> Result<(), NoMemory>
+    ensures { OnOk result (subjects.new.items ≡ subjects.old.items ++ of_kind kind row.now) }
 {
-    for n in SeqNo::all() {
-        if has_sequence(set, n) {
+    if row.key().kind() == kind {
+        subjects.push(subject_of(row))?;
+    }
+    Ok(())
+}
+
+fn subject_of(row: &Row) -> Subject
+    ensures { result ≡ subject_of row.now }
+{
+    match row {
+        Row::Phase(p, _) => Subject::Phase(*p),
+        Row::Seq(n, _, _) => Subject::Seq(*n),
+        Row::Split(n, p, _) => Subject::Split(*n, *p),
+        Row::Pattern(n, _) => Subject::Pattern(*n),
+    }
+}
+
+/// The sequences that have a row, each once: its rows stand one after the other.
+fn add_sequences(rows: &[Row], subjects: &mut Vec<Subject>) -> Result<(), NoMemory>
+    ensures { OnOk result (subjects.new.items ≡ subjects.old.items ++ map (λ n. Subject.Seq n) (sequences_after 0 rows.now)) }
+{
+    let mut last = 0;
+    for row in rows {
+        if let Some(n) = next_sequence(last, row) {
             subjects.push(Subject::Seq(n))?;
+            last = n.get();
         }
     }
     Ok(())
 }
 
-fn add_splits(set: &TimingSet, split: SplitNo, subjects: &mut Vec<Subject>) -> Result<(), NoMemory>
-    ensures { OnOk result (subjects.new.items ≡ subjects.old.items ++ split_rows set.now split) }
+/// The sequence of a row, if it is another than the last one.
+fn next_sequence(last: u32, row: &Row) -> Option<SeqNo>
+    ensures { result ≡ other_than last (sequence_of row.now) }
 {
-    for n in PhaseNo::all() {
-        if split_at(set, split, n).is_some() {
-            subjects.push(Subject::Split(split, n))?;
-        }
+    match row {
+        Row::Seq(n, _, _) => { if n.get() == last { None } else { Some(*n) } }
+        _ => None,
     }
-    Ok(())
-}
-
-fn add_all_splits(set: &TimingSet, subjects: &mut Vec<Subject>) -> Result<(), NoMemory>
-    ensures { OnOk result (subjects.new.items ≡ subjects.old.items ++ split_subjects set.now) }
-{
-    for n in SplitNo::all() {
-        add_splits(set, n, subjects)?;
-    }
-    Ok(())
-}
-
-fn add_patterns(set: &TimingSet, subjects: &mut Vec<Subject>) -> Result<(), NoMemory>
-    ensures { OnOk result (subjects.new.items ≡ subjects.old.items ++ map (λ n. Subject.Pattern n) (filter (λ n. is_some (pattern_at set.now n)) pattern_numbers)) }
-{
-    for n in PatternNo::all() {
-        if pattern_at(set, n).is_some() {
-            subjects.push(Subject::Pattern(n))?;
-        }
-    }
-    Ok(())
 }
