@@ -9,5 +9,5 @@ unfolding cabinet_section
 returns c =
     let to1 = c.in_ok-push_markup.ensures in
     let to2 = two (string_bytes c.args.text.now) _ _ _ _ to1 c.in_ok-push_markup-2.ensures in
-    let to3 = two _ _ _ _ _ to2 c.in_ok-push_register.ensures in
-    on_ok_weaker c.push_markup-3.result (λ last. two _ _ _ _ _ to3 last) c.push_markup-3.ensures
+    let to3 = two (string_bytes c.args.text.now) _ _ _ _ to2 c.in_ok-push_register.ensures in
+    on_ok_weaker c.push_markup-3.result (λ last. two (string_bytes c.args.text.now) _ _ _ _ to3 last) c.push_markup-3.ensures

@@ -9,4 +9,4 @@ unfolding due_on
 returns c =
     let to1 = c.in_ok-push_markup.ensures in
     let to2 = two (string_bytes c.args.text.now) _ _ _ _ to1 c.in_ok-push_due_day.ensures in
-    on_ok_weaker c.push_markup-2.result (λ last. two _ _ _ _ _ to2 last) c.push_markup-2.ensures
+    on_ok_weaker c.push_markup-2.result (λ last. two (string_bytes c.args.text.now) _ _ _ _ to2 last) c.push_markup-2.ensures
