@@ -37,7 +37,15 @@ ON_FILES = (
     ["edit", "--clerk", "Ana", "12", PLAN],
     ["compare", "12"],
     ["diagram", "12", "1"],
+    ["add", "12", "365", "Main St"],
+    ["abandon", "--clerk", "Ana", "12"],
+    ["list"],
+    ["stock"],
+    ["orders"],
+    ["cabinet", "12"],
+    ["page", "12"],
 )
+MAKE_FILES = ("batch", "import", "add")
 failed = []
 
 
@@ -69,7 +77,7 @@ def refused(name, path, line=b"fault: store\n", migrate=None, making=None, **how
     before = held(path)
     for words in ON_FILES:
         status, out, err = run([words[0], "--db", path, *words[1:]], ADD, **how)
-        other = {"migrate": migrate, "batch": making, "import": making}.get(words[0])
+        other = making if words[0] in MAKE_FILES else {"migrate": migrate}.get(words[0])
         case(f"{name}, {words[0]}", (status, out, err), (1, b"", other or line))
     case(f"{name}, the file", held(path), before)
 
@@ -78,7 +86,7 @@ def makes_none(name, path):
     """The commands that make no file tell that there is none, and leave what is there."""
     before = held(path)
     for words in ON_FILES:
-        if words[0] not in ("batch", "import"):
+        if words[0] not in MAKE_FILES:
             told = b"fault: version\n" if words == ["migrate"] else b"fault: file\n"
             case(f"{name}, {words[0]}", run([words[0], "--db", path, *words[1:]]), (1, b"", told))
     case(f"{name}, the file", (held(path), os.path.exists(path + "-wal")), (before, False))
@@ -237,10 +245,13 @@ def largest_file(folder):
 
 
 def outputs(folder):
+    path = office(folder, "outputs.db")
+    printing = [[word, "--db", path, *rest] for word, *rest in ON_FILES[-5:]]
     for name, how in (("closed", {"preexec_fn": lambda: os.close(1)}), ("full", {})):
-        with open("/dev/full" if name == "full" else "/dev/null", "wb") as out:
-            status, _, err = run(["batch"], ADD, stdout=out, **how)
-        case(f"a {name} standard output", (status, err), (1, b"fault: write\n"))
+        for words in (["batch"], ["add", "--db", path, "12", "365", "Main St"], *printing):
+            with open("/dev/full" if name == "full" else "/dev/null", "wb") as out:
+                status, _, err = run(words, ADD, stdout=out, **how)
+            case(f"a {name} standard output, {words[0]}", (status, err), (1, b"fault: write\n"))
     reader = subprocess.Popen(["head", "-c", "10"], stdin=subprocess.PIPE, stdout=subprocess.DEVNULL)
     status, _, err = run(["batch"], STATE * 20000, stdout=reader.stdin)
     reader.stdin.close()
@@ -279,6 +290,11 @@ def little_memory(folder):
         ["export", "--db", path, "12"],
         ["compare", PLAN, plan],
         ["diagram", "--file", PLAN, "1"],
+        ["add", "--db", path, "12", "365", "Main St"],
+        ["list", "--db", path],
+        ["cabinet", "--db", path, "12"],
+        ["page", "--db", path, "12"],
+        ["page", "--file", PLAN],
     ):
         told, done, other = 0, 0, []
         for limit in range(1 << 20, 40 << 20, 1 << 17):
