@@ -19,7 +19,7 @@ pub use command::RecordCommand;
 pub use day::{Day, due, read_day, write_day};
 pub use decide::{CabinetChange, Recorded, close_order, inspect, open_order, receive, use_part};
 pub use ordered::{Ordered, Placed};
-pub use overdue_inspections::{OverdueRow, Seen, overdue, overdue_row};
+pub use overdue_inspections::{OverdueRow, Seen, later, latest, overdue, overdue_row};
 pub use part::{Hand, MOST_ON_HAND, PartCode};
 pub use record::{CabinetView, Closing, Delivery, Inspection, Opening, Order, UsedLine};
 pub use refusal::CabinetRefusal;

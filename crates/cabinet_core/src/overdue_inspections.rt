@@ -1,9 +1,10 @@
 //! Inspections that are overdue.
 
 ghost use Rattle.std.specs.Prelude.{◌≡◌, map, option_map, IfOk};
-ghost use Rattle.cabinet_core.specs.Overdue.{overdue_list, listed, lateness};
+ghost use Rattle.cabinet_core.specs.Overdue.{greater, latest_day, overdue_list, listed, lateness};
 
 use crate::day::{Day, due};
+use crate::record::Inspection;
 use jiff::civil::Date;
 use signal_records::{InterId, Interval, NoMemory, Words};
 use std::alloc::Global;
@@ -26,6 +27,27 @@ pub struct OverdueRow {
     pub name: Words<120>,
     /// The day on which the inspection fell due; nothing where there never was one.
     pub due: Option<Date>,
+}
+
+/// The later of a day and what there is besides.
+pub fn later(day: Day, last: Option<Day>) -> Day
+    ensures { result ≡ greater day last }
+{
+    match last {
+        None => day,
+        Some(last) => day.max(last),
+    }
+}
+
+/// The latest day of some inspections, if there is one.
+pub fn latest(inspections: &[Inspection]) -> Option<Day>
+    ensures { result ≡ latest_day inspections.now }
+{
+    let mut latest = None;
+    for inspection in inspections {
+        latest = Some(later(inspection.day, latest));
+    }
+    latest
 }
 
 /// The row of an intersection that is overdue on the day: that was never inspected, or whose

@@ -7,11 +7,15 @@ use Rattle.std.specs.FinMap.{entries, get}
 use Rattle.office_tables_shelf.specs.Cells.{Cell, Rows}
 use Rattle.office_tables_shelf.specs.Content.{Content}
 use Rattle.office_tables_shelf.specs.Damage.{HasAnyDamagedIntersection}
-use Rattle.office_tables_shelf.specs.Rows.{intersection_key}
+use Rattle.office_tables_shelf.specs.Rows.{intersection_key, intersection_columns}
+use Rattle.office_tables_shelf.specs.Shelf.{ListsIntersections}
+use Rattle.office_tables_shelf.specs.declared.rows.IntersectionRow.{IntersectionRow}
 use Rattle.office_tables_shelf.proofs.KeyCells.{intersection_order}
 use Rattle.office_tables_shelf.proofs.StoredMaps.{stored_entries, stored_found}
+use Rattle.office_desk_cabinet.proofs.ListedRecords.{rows_tell}
 use Rattle.office_machine.specs.Office.{Office, Intersection, IsSoundIntersection}
 use Rattle.office_desk.specs.StandFor.{StandFor, StandForSound, columns_of, row_of}
+use Rattle.office_desk.proofs.Rows.{row_from_cells}
 use Rattle.office_desk.proofs.Stands.{sound_row}
 
 abbrev pub Entry : Type 0
@@ -25,6 +29,25 @@ pub stored : (tables : Content) (office : Office) → StandFor tables office →
 stored tables office stand =
     ap (λ (rows : Rows). entries rows) stand.intersection
     ∙ stored_entries nat_cmp_total intersection_key columns_of intersection_order office.intersections
+
+-- the row of an intersection, beside its number
+abbrev pub of_entry : Entry → ℕ × IntersectionRow
+of_entry e = (e.0, row_of e.1)
+
+abbrev read_cells : ℕ × IntersectionRow → List Cell × List Cell
+read_cells e = (intersection_key e.0, intersection_columns e.1)
+
+one_read : (a : ℕ × IntersectionRow) (e : Entry) → read_cells a ≡ cells e → a ≡ of_entry e
+one_read a e same =
+    let keys : intersection_key a.0 ≡ intersection_key e.0 = ap (λ (p : List Cell × List Cell). p.0) same in
+    let columns : intersection_columns a.1 ≡ intersection_columns (row_of e.1) = ap (λ (p : List Cell × List Cell). p.1) same in
+    let number : a.0 ≡ e.0 = cc in
+    λ k. (number k, row_from_cells a.1 (row_of e.1) columns k)
+
+-- the rows that are read are those of the intersections
+pub rows_read : (tables : Content) (office : Office) → StandFor tables office → (rows : List (ℕ × IntersectionRow)) → ListsIntersections tables rows → rows ≡ map of_entry (entries office.intersections)
+rows_read tables office stand rows lists =
+    rows_tell read_cells cells of_entry one_read rows (entries office.intersections) (lists ∙ stored tables office stand)
 
 pub no_damaged_intersection : (tables : Content) → HasAnyDamagedIntersection tables → (office : Office) → StandForSound tables office → ⊥
 no_damaged_intersection tables damaged office stands =

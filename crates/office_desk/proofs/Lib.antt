@@ -21,5 +21,6 @@ pub mod IntersectionTable
 pub mod Recorded
 pub mod IntersectionCount
 pub mod OverdueRows
+pub mod ListedIntersections
 pub mod Writes
 pub mod Runs

@@ -6,16 +6,14 @@ use Rattle.std.specs.List.{cons_option}
 use Rattle.cabinet_core.specs.Overdue.{Listed, lateness, latest_day, listed, overdue_list}
 use Rattle.cabinet_core.specs.declared.overdue_inspections.OverdueRow.{OverdueRow}
 use Rattle.cabinet_core.specs.declared.overdue_inspections.Seen.{Seen}
-use Rattle.office_tables_shelf.specs.Cells.{Cell}
 use Rattle.office_tables_shelf.specs.Change.{changed_by}
 use Rattle.office_tables_shelf.specs.Content.{Content}
 use Rattle.office_tables_shelf.specs.Overdue.{seen_row, IsSeen, AreSeenOf, AreSeen, ListsOverdue}
-use Rattle.office_tables_shelf.specs.Rows.{intersection_key, intersection_columns}
 use Rattle.office_tables_shelf.specs.declared.rows.IntersectionRow.{IntersectionRow}
 use Rattle.office_tables_shelf.specs.declared.rows.RowChange.{RowChange}
 use Rattle.cabinet_core.specs.Register.{Register}
 use Rattle.office_desk_cabinet.specs.RegisterStands.{RegisterStandsSound}
-use Rattle.office_desk_cabinet.proofs.ListedRecords.{inspections_listed, rows_tell}
+use Rattle.office_desk_cabinet.proofs.ListedRecords.{inspections_listed}
 use Rattle.office_desk.specs.Answers.{Answers}
 use Rattle.office_machine.specs.Office.{Office, IsSound}
 use Rattle.office_desk.specs.StandFor.{StandForSound, row_of}
@@ -24,25 +22,9 @@ use Rattle.office_machine.specs.declared.command.Command.TheVariants as command
 use Rattle.office_machine.specs.declared.reply.Reply.{Reply}
 use Rattle.office_machine.specs.declared.reply.Reply.TheVariants as reply
 use Rattle.office_desk.proofs.IntersectionCount.{at_most_9999}
-use Rattle.office_desk.proofs.IntersectionTable.{Entry, cells, stored}
-use Rattle.office_desk.proofs.Rows.{row_from_cells}
+use Rattle.office_desk.proofs.IntersectionTable.{Entry, of_entry, rows_read}
 use Rattle.office_desk.proofs.Recorded.{register_of}
 use Rattle.office_desk.proofs.Shown.{query_answers}
-
--- ---- each row that was read is that of its intersection
-
-abbrev of_entry : Entry → ℕ × IntersectionRow
-of_entry e = (e.0, row_of e.1)
-
-abbrev read_cells : ℕ × IntersectionRow → List Cell × List Cell
-read_cells e = (intersection_key e.0, intersection_columns e.1)
-
-one_read : (a : ℕ × IntersectionRow) (e : Entry) → read_cells a ≡ cells e → a ≡ of_entry e
-one_read a e same =
-    let keys : intersection_key a.0 ≡ intersection_key e.0 = ap (λ (p : List Cell × List Cell). p.0) same in
-    let columns : intersection_columns a.1 ≡ intersection_columns (row_of e.1) = ap (λ (p : List Cell × List Cell). p.1) same in
-    let number : a.0 ≡ e.0 = cc in
-    λ k. (number k, row_from_cells a.1 (row_of e.1) columns k)
 
 -- ---- what is seen of each is what the office knows
 
@@ -57,7 +39,7 @@ seen_entries tables r stands (e ∷ es) = (here, seen_entries tables r stands es
 pub are_seen : (tables : Content) (office : Office) → StandForSound tables office → AreSeen tables (map (seen_of office.register) (entries office.intersections))
 are_seen tables office stands rows lists =
     let es = entries office.intersections in
-    let read : rows ≡ map of_entry es = rows_tell read_cells cells of_entry one_read rows es (lists ∙ stored tables office stands.stand) in
+    let read : rows ≡ map of_entry es = rows_read tables office stands.stand rows lists in
     subst (λ (list : List (ℕ × IntersectionRow)). AreSeenOf tables list (map (seen_of office.register) es)) (sym read)
     (seen_entries tables office.register (register_of tables office stands) es)
 

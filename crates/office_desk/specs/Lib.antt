@@ -13,3 +13,4 @@ pub mod Moving
 pub mod Transacting
 pub mod Decisions
 pub mod Importing
+pub mod Listing

@@ -5,6 +5,7 @@ mod adding;
 pub mod decided;
 mod deciding;
 mod importing;
+mod listing;
 mod moving;
 pub mod office;
 mod overdue;

@@ -5,6 +5,7 @@ ghost use Rattle.cabinet_core.specs.Overdue.{listed};
 ghost use Rattle.office_tables_shelf.specs.Content.{Content};
 ghost use Rattle.office_tables_shelf.specs.Change.{changed_by};
 ghost use Rattle.office_tables_shelf.specs.Counts.{counts_after};
+ghost use Rattle.office_tables_shelf.specs.Damage.{HasAnyDamagedIntersection};
 ghost use Rattle.office_tables_shelf.specs.Shelf.{IsKept};
 ghost use Rattle.office_desk.specs.Answers.{EndsIn, RunsAny};
 ghost use Rattle.office_desk.specs.Damage.{MeetsDamage};
@@ -12,12 +13,15 @@ ghost use Rattle.office_desk.specs.Deciding.{DecidesIdly, IsAnswered};
 ghost use Rattle.office_machine.specs.Office.{Office as OfficeState};
 ghost use Rattle.office_desk.specs.Running.{AreRun, IsRun};
 ghost use Rattle.office_desk.specs.StandFor.{StandForSound};
+ghost use Rattle.office_machine.specs.Listed.{intersections_of};
 ghost use Rattle.office_machine.specs.Step.{overdue_on};
 
 use crate::decided::Decided;
 use crate::deciding::{refused, try_decide};
+use crate::listing::list_intersections;
 use cabinet_core::{Day, OverdueRow};
 use office_machine::command::Command;
+use office_machine::intersections::ListedIntersection;
 use office_machine::refusal::Refusal;
 use office_machine::reply::Reply;
 use office_tables_shelf::rows::RowChange;
@@ -160,6 +164,27 @@ impl<S: Shelf> Office<S> {
         ensures kept { IsKept S.is_honest S.content S.written S.may_leave self.old self.new }
     {
         match self.shelf.overdue_rows(alloc, day, most) {
+            Ok(found) => return Ok(found),
+            Err(fault) => return Err(refused(fault)),
+        }
+    }
+    /// All intersections, in the order of their numbers. A row of an intersection is read, and those
+    /// of its plan are counted. Where memory or the shelf refuses, the error is Unavailable; where
+    /// the row of an intersection is no record, Damaged.
+    pub fn intersections(&mut self, alloc: Global) -> Result<Vec<ListedIntersection>, Refusal>
+        ensures all { IfOk result (λ found. S.is_honest self.new → (office : OfficeState) →
+            StandForSound (S.content self.old) office → found.items ≡ intersections_of office) }
+        ensures whole { IfOk result (λ _. S.is_honest self.new →
+            ¬ HasAnyDamagedIntersection (S.content self.old)) }
+        ensures refused { IfErr result (λ why. (why ≡ Refusal.Unavailable) ⊎ (why ≡ Refusal.Damaged)) }
+        ensures damaged { result ≡ Err Refusal.Damaged → S.is_honest self.new →
+            HasAnyDamagedIntersection (S.content self.old) }
+        ensures clean { S.is_clean self.new → S.is_clean self.old }
+        ensures shut { S.is_clean self.new →
+            S.is_honest self.new ⊎ (result ≡ Err Refusal.Unavailable) }
+        ensures kept { IsKept S.is_honest S.content S.written S.may_leave self.old self.new }
+    {
+        match list_intersections(&mut self.shelf, alloc) {
             Ok(found) => return Ok(found),
             Err(fault) => return Err(refused(fault)),
         }

@@ -27,3 +27,4 @@ pub use overdue::overdue_text;
 pub use sheet::timing_sheet;
 pub use timing::timing_csv;
 pub use violations::violation_text;
+pub use writing::csv_file;

@@ -40,3 +40,23 @@ pub(crate) fn write_records<T: CsvRecord>(alloc: Global, values: &[T]) -> Result
     }
     writer.into_inner().map_err(|_| NoMemory)
 }
+
+impl CsvRecord for ByteRecord {
+    ghost use Rattle.csv.specs.Records.{fields_of};
+
+    ghost spelling = { fields_of };
+
+    ghost IsWithin = { λ _. Unit {0} };
+
+    fn record(&self, _alloc: Global) -> Result<ByteRecord, NoMemory> {
+        self.clone()
+    }
+}
+
+/// The file of records, in order, as the crate writes it by default; but records may differ in
+/// length.
+pub fn csv_file(alloc: Global, records: &[ByteRecord]) -> Result<Vec<u8>, NoMemory>
+    ensures { IfOk result (λ text. text.items ≡ csv_text (map fields_of records.now)) }
+{
+    write_records(alloc, records)
+}

@@ -1,6 +1,7 @@
 pub mod Office
 pub mod Refusal
 pub mod Step
+pub mod Listed
 pub mod Timing
 pub mod RegisterRuns
 pub mod Repeats

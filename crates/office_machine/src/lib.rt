@@ -3,6 +3,7 @@
 #![tactic(auto)]
 
 pub mod command;
+pub mod intersections;
 pub mod listing;
 pub mod records;
 pub mod refusal;

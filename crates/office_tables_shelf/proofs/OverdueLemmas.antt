@@ -1,5 +1,5 @@
 -- How the list of overdue intersections grows row by row, until enough are found or all were seen.
-use Rattle.std.proofs.Common.{◌≡◌, ◌<◌, ◌≤◌, ◌+◌, ◌++◌, ℕ, zero, suc, List, [], ◌∷◌, map, length, get_or, take, drop, max, Option, Some, None, refl, ap, sym, subst, ◌∙◌, arith, length-append}
+use Rattle.std.proofs.Common.{◌≡◌, ◌<◌, ◌≤◌, ◌+◌, ◌++◌, ℕ, zero, suc, List, [], ◌∷◌, map, length, get_or, take, drop, Option, Some, None, refl, ap, sym, subst, ◌∙◌, arith, length-append}
 use Rattle.std.proofs.Common.{inl, inr}
 use Rattle.std.proofs.Math.Seq.{take-append_seam}
 use Rattle.std.specs.FinMap.{get}
@@ -10,7 +10,6 @@ use Rattle.std.proofs.lemmas.List.Elements.{filter_map-append}
 use Rattle.cabinet_core.specs.Overdue.{Listed, greater, latest_day, listed, lateness, overdue_list}
 use Rattle.cabinet_core.specs.declared.overdue_inspections.OverdueRow.{OverdueRow}
 use Rattle.cabinet_core.specs.declared.overdue_inspections.Seen.{Seen}
-use Rattle.cabinet_core.specs.declared.record.Inspection.{Inspection}
 use Rattle.office_tables_shelf.specs.CabinetReads.{HasDamagedInspection, ListsInspections}
 use Rattle.office_tables_shelf.specs.Content.{Content}
 use Rattle.office_tables_shelf.specs.Overdue.{HasOverdueDamage, ReadsLast, seen_row, AreSeenOf}
@@ -22,24 +21,6 @@ use Rattle.office_tables_shelf.proofs.ListedRows.{inspections_whole, intersectio
 use Rattle.office_tables_shelf.proofs.ListedRows.{table_row}
 
 -- ---- the latest day
-
-exchanged : (x n : ℕ) (o : Option ℕ) → max x (greater n o) ≡ max n (greater x o)
-exchanged x n None = omega arith
-exchanged x n (Some m) = omega arith
-
--- the last one's day counts too
-pub latest_push : (inspections : List Inspection) (inspection : Inspection) → latest_day (inspections ++ inspection ∷ []) ≡ Some (greater inspection.day (latest_day inspections))
-latest_push [] inspection = refl
-latest_push (x ∷ xs) inspection =
-    ap (λ o. Some (greater x.day o)) (latest_push xs inspection)
-    ∙ ap Some (exchanged x.day inspection.day (latest_day xs))
-
--- the next day counts too
-pub latest_more : (inspections : List Inspection) (i : ℕ) (inspection : Inspection) (latest : Option ℕ) → i < length inspections → inspection ≡ get_or inspections i inspection → latest ≡ latest_day (take i inspections)
-    → Some (greater inspection.day latest) ≡ latest_day (take (i + 1) inspections)
-latest_more inspections i inspection latest low at so_far =
-    let next : take (i + 1) inspections ≡ take i inspections ++ inspection ∷ [] = take_more inspections i inspection low ∙ ap (λ x. take i inspections ++ x ∷ []) (sym at) in
-    ap (λ o. Some (greater inspection.day o)) so_far ∙ sym (latest_push (take i inspections) inspection) ∙ ap latest_day (sym next)
 
 -- the latest day of inspections, and another day
 abbrev pub latest_with : Option ℕ → Option ℕ → Option ℕ

@@ -7,7 +7,7 @@ mod map_cabinet;
 mod map_overdue;
 mod map_rows;
 pub mod map_shelf;
-pub mod overdue;
+mod overdue;
 mod place;
 pub mod rows;
 pub mod shelf;

@@ -5,10 +5,10 @@ ghost use Rattle.office_tables_shelf.specs.MapCabinet.{with_inspections};
 ghost use Rattle.office_tables_shelf.specs.Overdue.{ReadsLast, ListsOverdue, HasOverdueDamage};
 
 use crate::map_rows::all_intersections;
-use crate::overdue::{add_overdue, later};
+use crate::overdue::add_overdue;
 use crate::place::RecordPlace;
 use crate::rows::IntersectionRow;
-use cabinet_core::{Day, Inspection, OverdueRow, inspection_is_within};
+use cabinet_core::{Day, Inspection, OverdueRow, inspection_is_within, later};
 use signal_records::{InterId, NoMemory};
 use std::alloc::Global;
 use std::collections::BTreeMap;

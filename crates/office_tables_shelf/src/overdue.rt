@@ -1,33 +1,12 @@
 //! Rows of intersections that are overdue for an inspection.
 
 ghost use Rattle.std.specs.Prelude.{◌≡◌, [], ◌∷◌, ◌++◌, map, OnOk};
-ghost use Rattle.cabinet_core.specs.Overdue.{greater, latest_day, listed, overdue_list};
+ghost use Rattle.cabinet_core.specs.Overdue.{listed, overdue_list};
 ghost use Rattle.office_tables_shelf.specs.Overdue.{seen_row};
 
 use crate::rows::IntersectionRow;
-use cabinet_core::{Day, Inspection, OverdueRow, Seen, overdue_row};
+use cabinet_core::{Day, OverdueRow, Seen, overdue_row};
 use signal_records::{InterId, NoMemory};
-
-/// The later of a day and what there is besides.
-pub fn later(day: Day, last: Option<Day>) -> Day
-    ensures { result ≡ greater day last }
-{
-    match last {
-        None => day,
-        Some(last) => day.max(last),
-    }
-}
-
-/// The latest day of some inspections, if there is one.
-pub(crate) fn latest(inspections: &[Inspection]) -> Option<Day>
-    ensures { result ≡ latest_day inspections.now }
-{
-    let mut latest = None;
-    for inspection in inspections {
-        latest = Some(later(inspection.day, latest));
-    }
-    latest
-}
 
 /// Adds the row of an intersection that was last inspected on this day, if it is overdue on a day.
 pub(crate) fn add_overdue(

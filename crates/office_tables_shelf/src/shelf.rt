@@ -25,9 +25,11 @@ ghost use Rattle.office_tables_shelf.specs.CabinetReads.{IsPartWithin, HasDamage
 ghost use Rattle.office_tables_shelf.specs.Overdue.{ReadsLast, ListsOverdue, HasOverdueDamage};
 ghost use Rattle.office_tables_shelf.specs.declared.counts.WriteCounts.{WriteCounts};
 
-use crate::overdue::{add_overdue, latest};
+use crate::overdue::add_overdue;
 use crate::rows::{IntersectionRow, RowChange, Table};
-use cabinet_core::{Day, Delivery, Hand, Inspection, Order, OverdueRow, PartCode, UsedLine};
+use cabinet_core::{
+    Day, Delivery, Hand, Inspection, Order, OverdueRow, PartCode, UsedLine, latest,
+};
 use signal_records::{Change, InterId, LineNo, NoMemory, RecordNo, Row};
 use std::alloc::Global;
 

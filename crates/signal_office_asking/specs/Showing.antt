@@ -1,8 +1,9 @@
--- What the office shows of an intersection: its committed timing set, its draft, its cabinet.
+-- What the office shows of an intersection: its state, its committed timing set, its draft, its cabinet.
 use Rattle.std.specs.Prelude.{ℕ, Result, Ok, Err}
 use Rattle.signal_records.specs.TimingSet.{Rows}
 use Rattle.office_tables_shelf.specs.Content.{Content}
 use Rattle.office_machine.specs.declared.reply.CabinetShown.{CabinetShown}
+use Rattle.office_machine.specs.declared.reply.IntersectionState.{IntersectionState}
 use Rattle.office_machine.specs.declared.command.Command.TheVariants as command
 use Rattle.office_machine.specs.declared.reply.Reply.{Reply}
 use Rattle.office_machine.specs.declared.reply.Reply.TheVariants as reply
@@ -11,7 +12,13 @@ use Rattle.signal_office_asking.specs.declared.fault.Fault.TheVariants as told
 use Rattle.signal_office_asking.specs.Asking.{Answered}
 use Rattle.signal_office_asking.specs.Refused.{fault_of}
 
--- the rows that a reply shows, or the fault of its refusal: those of a timing set, and of a draft
+-- what a reply shows of an intersection, or the fault of its refusal
+abbrev pub state_shown : Reply → Result IntersectionState Fault
+state_shown (reply.State state) = Ok state
+state_shown (reply.Refused why) = Err (fault_of why)
+state_shown other = Err told.Store
+
+-- the rows that it shows: those of a timing set, and of a draft
 abbrev pub timing_shown : Reply → Result Rows Fault
 timing_shown (reply.Timing timing) = Ok timing.rows
 timing_shown (reply.Refused why) = Err (fault_of why)
@@ -28,8 +35,11 @@ cabinet_shown (reply.Cabinet cabinet) = Ok cabinet
 cabinet_shown (reply.Refused why) = Err (fault_of why)
 cabinet_shown other = Err told.Store
 
--- the office, which stays as it is, shows these rows or lists where it is asked, or this is the
--- fault of its refusal
+-- the office, which stays as it is, shows this where it is asked, or this is the fault of its
+-- refusal
+abbrev pub ShowsState : Content → ℕ → Result IntersectionState Fault → Type 0
+ShowsState tables id state = Answered state_shown tables (command.State id) tables state
+
 abbrev pub ShowsTiming : Content → ℕ → Result Rows Fault → Type 0
 ShowsTiming tables id rows = Answered timing_shown tables (command.Timing id) tables rows
 

@@ -38,6 +38,8 @@ pub enum Fault {
     Day,
     /// The word is no clerk's name: 1 to 40 bytes without control characters.
     Clerk,
+    /// The word is no intersection's name: 1 to 120 bytes without control characters.
+    Name,
     /// The office refused a command.
     Refused(Refusal),
     /// The office refused a record of the CSV file, counted from 1.
@@ -76,6 +78,7 @@ impl fmt::Display for Fault {
             Fault::UnknownPattern => f.write_str("fault: unknown pattern"),
             Fault::Day => f.write_str("fault: day"),
             Fault::Clerk => f.write_str("fault: clerk"),
+            Fault::Name => f.write_str("fault: name"),
             Fault::Refused(refusal) => {
                 let name = refusal.name();
                 write!(f, "fault: {name}")

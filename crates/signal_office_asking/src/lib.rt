@@ -10,5 +10,5 @@ mod telling;
 pub use asking::ask;
 pub use fault::Fault;
 pub use refused::fault_of;
-pub use showing::{cabinet_in, draft_in, timing_in};
+pub use showing::{cabinet_in, draft_in, state_in, timing_in};
 pub use telling::report;

@@ -2,18 +2,31 @@
 
 ghost use Rattle.std.specs.Prelude.{◌≡◌};
 ghost use Rattle.office_tables_shelf.specs.Shelf.{IsKept};
-ghost use Rattle.signal_office_asking.specs.Showing.{timing_shown, draft_shown, cabinet_shown};
-ghost use Rattle.signal_office_asking.specs.Showing.{ShowsTiming, ShowsDraft, ShowsCabinet};
+ghost use Rattle.signal_office_asking.specs.Showing.{state_shown, timing_shown, draft_shown};
+ghost use Rattle.signal_office_asking.specs.Showing.{cabinet_shown};
+ghost use Rattle.signal_office_asking.specs.Showing.{ShowsState, ShowsTiming, ShowsDraft};
+ghost use Rattle.signal_office_asking.specs.Showing.{ShowsCabinet};
 
 use crate::asking::ask;
 use crate::fault::Fault;
 use crate::refused::fault_of;
 use office_desk::office::Office;
 use office_machine::command::Command;
-use office_machine::reply::{CabinetShown, Reply};
+use office_machine::reply::{CabinetShown, IntersectionState, Reply};
 use office_tables_shelf::shelf::Shelf;
 use signal_records::{InterId, TimingSet};
 use std::alloc::Global;
+
+/// What a reply shows of an intersection.
+fn state_shown(reply: Reply) -> Result<IntersectionState, Fault>
+    ensures { result ≡ state_shown reply }
+{
+    match reply {
+        Reply::State(state) => Ok(state),
+        Reply::Refused(refusal) => Err(fault_of(refusal)),
+        _ => Err(Fault::Store),
+    }
+}
 
 /// The rows that a reply shows of a timing set.
 fn timing_shown(reply: Reply) -> Result<TimingSet, Fault>
@@ -46,6 +59,18 @@ fn cabinet_shown(reply: Reply) -> Result<CabinetShown, Fault>
         Reply::Refused(refusal) => Err(fault_of(refusal)),
         _ => Err(Fault::Store),
     }
+}
+
+/// What is known of an intersection, or why it is not shown. The office is as it was.
+pub fn state_in<S: Shelf>(
+    alloc: Global,
+    office: &mut Office<S>,
+    id: InterId,
+) -> Result<IntersectionState, Fault>
+    ensures kept { IsKept S.is_honest S.content S.written S.may_leave office.old office.new }
+    ensures shown { S.is_honest office.new → ShowsState (S.content office.old) id result }
+{
+    state_shown(ask(alloc, office, Command::State { id }))
 }
 
 /// The committed timing set of an intersection, or why it is not shown. The office is as it was.

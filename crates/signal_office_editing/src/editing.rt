@@ -28,7 +28,7 @@ pub struct Edited {
 }
 
 /// A step of the transaction was made, or why not.
-fn moved(reply: &Reply) -> Result<(), Fault>
+pub(crate) fn moved(reply: &Reply) -> Result<(), Fault>
     ensures { result ≡ moved reply.now }
 {
     match reply {

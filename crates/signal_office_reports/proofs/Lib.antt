@@ -1,1 +1,3 @@
+pub mod QueryLemmas
+pub mod OrderLemmas
 pub mod SheetLemmas

@@ -1,3 +1,5 @@
+pub mod Cabinet
+pub mod Listing
 pub mod Overdue
 pub mod Plan
 pub mod Sheet

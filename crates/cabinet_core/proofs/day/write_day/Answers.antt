@@ -5,4 +5,4 @@ use Rattle.cabinet_core.proofs.day.write_day.Goals as goal
 
 pub returns : goal.returns
 returns c =
-    c.in_ok-text.ensures.ok ∙ date_text_is c.date-date.result c.args.day c.date-date.ensures.bound c.date-date.ensures.value
+    c.in_ok-text.ensures.ok ∙ date_text_is c.date-date.result c.args.day c.date-date.ensures.value

@@ -1,6 +1,6 @@
 use Rattle.std.proofs.Common.{Some, ap, sym, ◌∙◌}
 use Rattle.cabinet_core.specs.Overdue.{greater}
-use Rattle.office_tables_shelf.proofs.OverdueLemmas.{latest_push}
+use Rattle.cabinet_core.proofs.OverdueLemmas.{latest_push}
 use Rattle.office_tables_sql.proofs.inspection.LatestDayGatherInspection.take.Goals as goal
 
 pub returns : goal.returns

@@ -1,6 +1,6 @@
 use Rattle.std.proofs.Common.{◌≡◌, take}
 use Rattle.cabinet_core.specs.Overdue.{latest_day}
-use Rattle.office_tables_shelf.proofs.overdue.latest.Given as goal
+use Rattle.cabinet_core.proofs.overdue_inspections.latest.Given as goal
 
 abbrev pub invariant-loop-inspection : goal.invariant-loop-inspection
 invariant-loop-inspection l = l.latest ≡ latest_day (take l.inspection-index l.inspections)

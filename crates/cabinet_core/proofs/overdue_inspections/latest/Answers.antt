@@ -1,6 +1,6 @@
 use Rattle.std.proofs.Common.{◌∙◌, Some, ap, arith}
-use Rattle.office_tables_shelf.proofs.OverdueLemmas.{latest_more}
-use Rattle.office_tables_shelf.proofs.overdue.latest.Goals as goal
+use Rattle.cabinet_core.proofs.OverdueLemmas.{latest_more}
+use Rattle.cabinet_core.proofs.overdue_inspections.latest.Goals as goal
 
 pub loop-inspection-preserved : goal.loop-inspection-preserved
 loop-inspection-preserved c =

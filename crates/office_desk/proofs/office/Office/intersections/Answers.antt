@@ -1,0 +1,16 @@
+use Rattle.std.proofs.Common.{Err, ap, inl}
+use Rattle.office_machine.specs.declared.refusal.Refusal.{Refusal}
+use Rattle.office_desk.proofs.ListedIntersections.{all_listed}
+use Rattle.office_desk.proofs.Runs.{refusal_shut}
+use Rattle.office_desk.proofs.office.Office.intersections.Goals as goal
+
+pub returns-in-Ok-clause-all : goal.returns-in-Ok-clause-all
+returns-in-Ok-clause-all g c = λ honest office stands.
+    all_listed (g.S.Shelf.content c.args.self.now) office stands c.in-Ok.found.items (rw (← c.self.view_is) (c.in-Ok.ensures.lists honest))
+
+pub returns-in-Ok-clause-shut : goal.returns-in-Ok-clause-shut
+returns-in-Ok-clause-shut g c = λ clean. inl (c.in-Ok.ensures.open.told clean tt)
+
+pub returns-in-Err-clause-shut : goal.returns-in-Err-clause-shut
+returns-in-Err-clause-shut g c = λ clean.
+    refusal_shut _ c.in-Err.fault _ (λ damaged. c.in-Err.ensures.open.told clean damaged) (ap (λ (why : Refusal). Err why) c.refused.ensures)

@@ -1,0 +1,34 @@
+-- The columns that are written are those that are defined.
+use Rattle.std.proofs.Common.{◌≡◌, ℕ, ◌+◌, ◌-◌, ◌^◌, false, List, [], ◌∷◌, ◌++◌, length, replicate, decimal, refl, ap, ◌∙◌, arith, append_assoc}
+use Rattle.std.specs.Fmt.{styled_decimal, padded_integral, format_spec}
+use Rattle.std.proofs.Padding.{padded_integral_right}
+use Rattle.std.proofs.lemmas.Grind.{replicate_next}
+use Rattle.office_files.specs.Cells.{right_aligned}
+use Rattle.office_listings.specs.Columns.{left_aligned}
+
+-- a number that is written with a width stands at the right
+in_places : (width n : ℕ) → padded_integral (format_spec 32 3 0 width (2 ^ 64 - 1)) false [] (decimal n) ≡ right_aligned width (decimal n)
+unfolding right_aligned
+in_places width n =
+    padded_integral_right (format_spec 32 3 0 width (2 ^ 64 - 1)) (decimal n) refl refl (λ e. absurd (omega arith)) (λ e. absurd (omega arith)) (omega arith)
+
+pub in_seven : (n : ℕ) → styled_decimal (format_spec 32 3 0 7 (2 ^ 64 - 1)) n ≡ right_aligned 7 (decimal n)
+in_seven n = in_places 7 n
+
+pub in_eight : (n : ℕ) → styled_decimal (format_spec 32 3 0 8 (2 ^ 64 - 1)) n ≡ right_aligned 8 (decimal n)
+in_eight n = in_places 8 n
+
+pub in_ten : (n : ℕ) → styled_decimal (format_spec 32 3 0 10 (2 ^ 64 - 1)) n ≡ right_aligned 10 (decimal n)
+in_ten n = in_places 10 n
+
+-- a place more is filled
+pub place_more : (start word : List ℕ) (n : ℕ) (old new : List ℕ) → old ≡ start ++ (word ++ replicate n 32) → new ≡ old ++ 32 ∷ []
+    → new ≡ start ++ (word ++ replicate (n + 1) 32)
+place_more start word n old new before after = rw (after, before, replicate_next) (simp append_assoc)
+
+-- all places are
+pub places_full : (start word : List ℕ) (width left n : ℕ) (bytes : List ℕ) → n ≡ left → left ≡ width - length word
+    → bytes ≡ start ++ (word ++ replicate n 32) → bytes ≡ start ++ left_aligned width word
+unfolding left_aligned
+places_full start word width left n bytes all count written =
+    written ∙ ap (λ k. start ++ (word ++ replicate k 32)) (all ∙ count)

@@ -1,0 +1,49 @@
+-- The list of the intersections, as a text and as CSV.
+use Rattle.std.specs.Prelude.{ℕ, List, [], ◌∷◌, ◌++◌, length, map, flat_map, codes, decimal, Option, Some, None}
+use Rattle.draft_core.specs.declared.state.Holder.{Holder}
+use Rattle.draft_core.specs.declared.state.Stage.{Stage}
+use Rattle.draft_core.specs.declared.state.Stage.TheVariants.{Transaction, Verify, Done}
+use Rattle.office_files.specs.Csv.{csv_text}
+use Rattle.office_machine.specs.declared.intersections.ListedIntersection.{ListedIntersection}
+use Rattle.office_listings.specs.Columns.{left_aligned, number_in, count_line}
+
+-- the state of its transaction
+abbrev pub stage_word : Stage → List ℕ
+stage_word Transaction = codes "transaction"
+stage_word Verify = codes "verify"
+stage_word Done = codes "done"
+
+abbrev pub state_word : Option Holder → List ℕ
+state_word None = codes "normal"
+state_word (Some holder) = stage_word holder.stage
+
+-- who holds its draft, or a dash
+abbrev pub owner_word : Option Holder → List ℕ
+owner_word None = codes "-"
+owner_word (Some holder) = holder.owner
+
+-- both, left in 11 and 12 places
+abbrev pub holder_columns : Option Holder → List ℕ
+holder_columns holder =
+    codes "  " ++ left_aligned 11 (state_word holder) ++ codes "  " ++ left_aligned 12 (owner_word holder)
+
+-- `    12       1  transaction  Ana             12  Main St`
+abbrev pub intersection_line : ListedIntersection → List ℕ
+intersection_line i =
+    number_in 6 i.id ++ number_in 8 i.revision ++ holder_columns i.holder ++ number_in 6 i.rows
+    ++ codes "  " ++ i.name ++ codes "\n"
+
+-- the heading, a line for each, and their count
+abbrev pub intersections_listing : List ListedIntersection → List ℕ
+intersections_listing list =
+    codes "    No     Rev  State        Owner         Rows  Name\n" ++ flat_map intersection_line list
+    ++ count_line (length list)
+
+-- the fields of one
+abbrev pub intersection_fields : ListedIntersection → List (List ℕ)
+intersection_fields i =
+    decimal i.id ∷ decimal i.revision ∷ state_word i.holder ∷ owner_word i.holder ∷ decimal i.rows ∷ i.name ∷ []
+
+-- a record for each
+abbrev pub intersections_csv_text : List ListedIntersection → List ℕ
+intersections_csv_text list = csv_text (map intersection_fields list)

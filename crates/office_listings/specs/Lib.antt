@@ -1,0 +1,5 @@
+pub mod Columns
+pub mod Intersections
+pub mod Stock
+pub mod Orders
+pub mod Cabinet

@@ -1,0 +1,22 @@
+-- The list of all intersections.
+use Rattle.std.specs.Prelude.{ℕ, List, map}
+use Rattle.std.specs.Option.{option_map}
+use Rattle.std.specs.FinMap.{entries, len}
+use Rattle.draft_core.specs.Transaction.{holder_of}
+use Rattle.office_machine.specs.declared.intersections.ListedIntersection.{ListedIntersection}
+use Rattle.office_machine.specs.Office.{Office, Intersection}
+
+-- what it shows of the intersection with a number
+abbrev pub intersection_listed : ℕ × Intersection → ListedIntersection
+intersection_listed e = record {
+  id = e.0;
+  name = e.1.name;
+  interval = e.1.interval;
+  revision = e.1.timing.revision;
+  holder = option_map holder_of e.1.timing.draft;
+  rows = len e.1.timing.committed;
+}
+
+-- all of them, in the order of their numbers
+abbrev pub intersections_of : Office → List ListedIntersection
+intersections_of office = map intersection_listed (entries office.intersections)
