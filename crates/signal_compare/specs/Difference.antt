@@ -7,7 +7,7 @@ use Rattle.signal_records.specs.declared.record.Change.{Change}
 use Rattle.signal_records.specs.declared.record.Change.TheVariants.{Put, Remove}
 use Rattle.signal_records.specs.Key.{key_cmp}
 use Rattle.signal_records.specs.Row.{key_of}
-use Rattle.signal_records.specs.TimingSet.{Rows}
+use Rattle.signal_records.specs.TimingSet.{Rows, after_changes}
 use Rattle.signal_compare.specs.declared.difference.Difference.{Difference}
 use Rattle.signal_compare.specs.declared.difference.Difference.TheVariants.{Added, Removed, Changed}
 
@@ -48,3 +48,10 @@ ExactlyWhereTheyDiffer first second differences =
 abbrev pub EachKeyExplained : Rows → Rows → List Difference → Type 0
 EachKeyExplained first second differences =
     (key : Key) → Explains (get first key) (get second key) (difference_at key differences)
+
+-- the differences are those of the sets, each told as what stands there, and their changes make
+-- the second set
+pub record AreTold (first second : Rows) (found : List Difference) : Type 0 where
+  pub exact : ExactlyWhereTheyDiffer first second found
+  pub explained : EachKeyExplained first second found
+  pub makes : after_changes first (changes_of found) ≡ second

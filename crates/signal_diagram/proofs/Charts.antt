@@ -27,7 +27,8 @@ use Rattle.signal_diagram.specs.Lanes.{lane_phases, lane_pictures}
 use Rattle.signal_diagram.specs.Barriers.{all_start, barrier, barriers, ring_starts, seconds_within}
 use Rattle.signal_diagram.specs.Scale.{scale}
 use Rattle.signal_diagram.specs.Notes.{head}
-use Rattle.signal_diagram.specs.Diagram.{opening, body, picture, picture_of, diagram_text}
+use Rattle.signal_diagram.specs.Diagram.{opening, body, picture, picture_of}
+use Rattle.signal_diagram.specs.declared.document.Sizing.{Sizing}
 use Rattle.signal_diagram.specs.Chart.{Lane, Chart, IsLane, IsChart, all_change, changes}
 use Rattle.signal_diagram.specs.Chart.{end_of}
 use Rattle.signal_diagram.specs.Drawing.{DrawsChart, bar_drawing, lane_drawings, chart_drawing}
@@ -298,23 +299,23 @@ chart_drawn set pattern =
     ++ scale (top_of m) (shown_seconds set pattern))
     (sym (length-map (used_rings set) (lane_of set pattern)))
 
-pub picture_drawn : (set : Rows) (n : ℕ) (pattern : Pattern)
-    → picture set n pattern ≡ drawing set n pattern (chart_of set pattern)
-picture_drawn set n pattern =
+pub picture_drawn : (sizing : Sizing) (set : Rows) (n : ℕ) (pattern : Pattern)
+    → picture sizing set n pattern ≡ drawing sizing set n pattern (chart_of set pattern)
+picture_drawn sizing set n pattern =
     ap₂
-    (λ (m : ℕ) (xs : List ℕ). opening (width_of (shown_seconds set pattern)) (height_of m)
+    (λ (m : ℕ) (xs : List ℕ). opening sizing n (width_of (shown_seconds set pattern)) (height_of m)
     ++ head set n pattern ++ xs ++ codes "</svg>\n")
     (sym (length-map (used_rings set) (lane_of set pattern))) (chart_drawn set pattern)
 
 -- the text of a pattern's picture draws its chart
-pub draws : (set : Rows) (n : ℕ) (pattern : Pattern) (text : List ℕ)
+pub draws : (sizing : Sizing) (set : Rows) (n : ℕ) (pattern : Pattern) (text : List ℕ)
     → pattern_at set n ≡ Some pattern
-    → text ≡ diagram_text set n
-    → DrawsChart set n text
-draws set n pattern text found same = record {
+    → text ≡ picture_of sizing set n (pattern_at set n)
+    → DrawsChart sizing set n text
+draws sizing set n pattern text found same = record {
   pattern = pattern;
   found = found;
   chart = chart_of set pattern;
   is_chart = is_chart set pattern;
-  drawn = same ∙ ap (picture_of set n) found ∙ picture_drawn set n pattern;
+  drawn = same ∙ ap (picture_of sizing set n) found ∙ picture_drawn sizing set n pattern;
 }

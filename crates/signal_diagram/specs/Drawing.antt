@@ -5,6 +5,7 @@ use Rattle.signal_records.specs.declared.record.Pattern.{Pattern}
 use Rattle.signal_records.specs.TimingSet.{Rows}
 use Rattle.signal_rules.specs.Lookup.{pattern_at, phase_at, split_at}
 use Rattle.signal_rules.specs.PatternRules.{is_coordinated}
+use Rattle.signal_diagram.specs.declared.document.Sizing.{Sizing}
 use Rattle.signal_diagram.specs.declared.geometry.TheConstants.{LABEL_LEFT}
 use Rattle.signal_diagram.specs.Geometry.{shown_seconds, top_of, width_of, height_of}
 use Rattle.signal_diagram.specs.Elements.{words_at}
@@ -43,15 +44,15 @@ chart_drawing set pattern chart =
     ++ scale (top_of (length chart.lanes)) (shown_seconds set pattern)
 
 -- the picture of a chart
-abbrev pub drawing : Rows → ℕ → Pattern → Chart → List ℕ
-drawing set n pattern chart =
-    opening (width_of (shown_seconds set pattern)) (height_of (length chart.lanes))
+abbrev pub drawing : Sizing → Rows → ℕ → Pattern → Chart → List ℕ
+drawing sizing set n pattern chart =
+    opening sizing n (width_of (shown_seconds set pattern)) (height_of (length chart.lanes))
     ++ head set n pattern ++ chart_drawing set pattern chart ++ codes "</svg>\n"
 
--- the picture shows the chart of the pattern of a number
-pub record DrawsChart (set : Rows) (n : ℕ) (text : List ℕ) : Type 0 where
+-- the picture shows the chart of the pattern of a number, whatever it is drawn for
+pub record DrawsChart (sizing : Sizing) (set : Rows) (n : ℕ) (text : List ℕ) : Type 0 where
   pub pattern : Pattern
   pub found : pattern_at set n ≡ Some pattern
   pub chart : Chart
   pub is_chart : IsChart set pattern chart
-  pub drawn : text ≡ drawing set n pattern chart
+  pub drawn : text ≡ drawing sizing set n pattern chart

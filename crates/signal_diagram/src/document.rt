@@ -4,7 +4,9 @@ ghost use Rattle.std.specs.Prelude.{◌≡◌, ◌++◌, ◌≤◌, ◌↔◌, O
 ghost use Rattle.std.specs.Prelude.{length, string_bytes};
 ghost use Rattle.signal_rules.specs.Lookup.{pattern_at};
 ghost use Rattle.signal_diagram.specs.Geometry.{shown_seconds};
-ghost use Rattle.signal_diagram.specs.Diagram.{opening, body, picture, diagram_text};
+ghost use Rattle.signal_diagram.specs.Diagram.{sheet_opening, figure_words, figure_opening};
+ghost use Rattle.signal_diagram.specs.Diagram.{opening, body, picture, picture_of};
+ghost use Rattle.signal_diagram.specs.Diagram.{diagram_text, figure_text};
 ghost use Rattle.signal_diagram.specs.Drawing.{DrawsChart};
 
 use crate::barriers::push_barriers;
@@ -18,9 +20,19 @@ use signal_rules::pattern_at;
 use std::alloc::{AllocError, Global};
 use std::fmt::Write;
 
-/// Appends the opening of a picture of so many units, and its white ground.
-fn push_opening(text: &mut String, width: u32, height: u32) -> Result<(), AllocError>
-    ensures { OnOk result (string_bytes text.new ≡ string_bytes text.old ++ opening width height) }
+/// What a picture is drawn for.
+#[derive(Clone, Copy)]
+pub(crate) enum Sizing {
+    /// A sheet of paper, landscape, which it fills whatever the cycle.
+    Sheet,
+    /// A place in a page: it is as wide and as high as its units.
+    Figure,
+}
+
+/// Appends the opening of a picture on a sheet, and its white ground.
+fn push_sheet_opening(text: &mut String, width: u32, height: u32) -> Result<(), AllocError>
+    ensures { OnOk result (string_bytes text.new
+        ≡ string_bytes text.old ++ sheet_opening width height) }
 {
     write!(
         text,
@@ -29,6 +41,54 @@ fn push_opening(text: &mut String, width: u32, height: u32) -> Result<(), AllocE
          font-family='sans-serif' font-size='20'>\n\
          <rect width='100%' height='100%' fill='white'/>\n"
     )
+}
+
+/// Appends what a picture in a page shows, in words.
+fn push_figure_words(text: &mut String, n: PatternNo) -> Result<(), AllocError>
+    ensures { OnOk result (string_bytes text.new ≡ string_bytes text.old ++ figure_words n) }
+{
+    let n = n.get();
+    write!(
+        text,
+        "<svg xmlns='http://www.w3.org/2000/svg' role='img' aria-label='Pattern {n}\
+         : the phases of each ring in turn, each as long as its split'"
+    )
+}
+
+/// Appends the opening of a picture in a page, and its white ground.
+fn push_figure_opening(
+    text: &mut String,
+    n: PatternNo,
+    width: u32,
+    height: u32,
+) -> Result<(), AllocError>
+    ensures { OnOk result (string_bytes text.new
+        ≡ string_bytes text.old ++ figure_opening n width height) }
+{
+    push_figure_words(text, n)?;
+    write!(
+        text,
+        " width='{width}' height='{height}' viewBox='0 0 {width} {height}' \
+         font-family='sans-serif' font-size='20'>\n\
+         <rect width='100%' height='100%' fill='white'/>\n"
+    )
+}
+
+/// Appends the opening of a picture of so many units.
+fn push_opening(
+    text: &mut String,
+    sizing: Sizing,
+    n: PatternNo,
+    width: u32,
+    height: u32,
+) -> Result<(), AllocError>
+    ensures { OnOk result (string_bytes text.new
+        ≡ string_bytes text.old ++ opening sizing n width height) }
+{
+    match sizing {
+        Sizing::Sheet => push_sheet_opening(text, width, height),
+        Sizing::Figure => push_figure_opening(text, n, width, height),
+    }
 }
 
 /// Appends the lanes of the rings with their barriers and the scale.
@@ -54,20 +114,42 @@ fn push_body(
 /// The picture of a pattern.
 fn picture(
     alloc: Global,
+    sizing: Sizing,
     set: &TimingSet,
     n: PatternNo,
     pattern: &Pattern,
 ) -> Result<String, NoMemory>
-    ensures { IfOk result (λ text. string_bytes text ≡ picture set.now n pattern.now) }
+    ensures { IfOk result (λ text. string_bytes text ≡ picture sizing set.now n pattern.now) }
 {
     let rings = rings_of(alloc, set)?;
     let seconds = longest_of(set, pattern, &rings);
     let mut text = String::new(alloc);
-    push_opening(&mut text, width_of(seconds), height_of(rings.len() as u32))?;
+    let width = width_of(seconds);
+    let height = height_of(rings.len() as u32);
+    push_opening(&mut text, sizing, n, width, height)?;
     push_head(&mut text, set, n, pattern, &rings)?;
     push_body(&mut text, set, pattern, &rings, seconds)?;
     text.push_str("</svg>\n")?;
     Ok(text)
+}
+
+/// The picture of the pattern of a number. Nothing, where the set has no such pattern.
+fn picture_of(
+    alloc: Global,
+    sizing: Sizing,
+    set: &TimingSet,
+    number: PatternNo,
+) -> Result<Option<String>, NoMemory>
+    ensures found { IfOk result (λ shown. IsSome shown ↔ IsSome (pattern_at set.now number)) }
+    ensures text { IfOk result (λ shown. IfSome shown
+        (λ text. string_bytes text ≡ picture_of sizing set.now number (pattern_at set.now number))) }
+    ensures chart { IfOk result (λ shown. IfSome shown
+        (λ text. DrawsChart sizing set.now number (string_bytes text))) }
+{
+    match pattern_at(set, number) {
+        Some(pattern) => Ok(Some(picture(alloc, sizing, set, number, &pattern)?)),
+        None => Ok(None),
+    }
 }
 
 /// The diagram of a pattern: its rings and barriers as an SVG text, in ASCII, which prints on one
@@ -89,10 +171,23 @@ pub fn diagram(
         (λ text. text.items ≡ diagram_text set.now number)) }
     // It shows the chart of the pattern, on which a reader relies.
     ensures chart { IfOk result (λ shown. IfSome shown
-        (λ text. DrawsChart set.now number text.items)) }
+        (λ text. DrawsChart Sizing.Sheet set.now number text.items)) }
 {
-    match pattern_at(set, number) {
-        Some(pattern) => Ok(Some(picture(alloc, set, number, &pattern)?.into_bytes())),
+    match picture_of(alloc, Sizing::Sheet, set, number)? {
+        Some(text) => Ok(Some(text.into_bytes())),
         None => Ok(None),
     }
+}
+
+/// The same picture to stand in a page of HTML: it is as wide and as high as its units, so that the
+/// page may scale it, and is told in words to those who don't see it. Nothing, where the set has no
+/// such pattern.
+pub fn figure(alloc: Global, set: &TimingSet, number: PatternNo) -> Result<Option<String>, NoMemory>
+    ensures found { IfOk result (λ shown. IsSome shown ↔ IsSome (pattern_at set.now number)) }
+    ensures text { IfOk result (λ shown. IfSome shown
+        (λ text. string_bytes text ≡ figure_text set.now number)) }
+    ensures chart { IfOk result (λ shown. IfSome shown
+        (λ text. DrawsChart Sizing.Figure set.now number (string_bytes text))) }
+{
+    picture_of(alloc, Sizing::Figure, set, number)
 }

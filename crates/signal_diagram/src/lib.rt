@@ -16,4 +16,4 @@ mod phase_picture;
 mod rows;
 mod scale;
 
-pub use document::diagram;
+pub use document::{diagram, figure};

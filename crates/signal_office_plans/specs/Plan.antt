@@ -4,8 +4,7 @@ use Rattle.std.specs.FinMap.{empty}
 use Rattle.signal_records.specs.TimingSet.{Rows, after_changes}
 use Rattle.signal_records.specs.declared.record.Change.{Change}
 use Rattle.signal_compare.specs.declared.difference.Difference.{Difference}
-use Rattle.signal_compare.specs.Difference.{changes_of as changes_told, EachKeyExplained}
-use Rattle.signal_compare.specs.Difference.{ExactlyWhereTheyDiffer}
+use Rattle.signal_compare.specs.Difference.{AreTold}
 use Rattle.office_files.specs.Changes.{changes_of}
 use Rattle.office_files.specs.declared.fault.CsvFault.{CsvFault}
 use Rattle.office_tables_shelf.specs.Content.{Content}
@@ -17,13 +16,6 @@ pub record IsPlan (bytes : List ℕ) (plan : Rows) : Type 0 where
   pub changes : List Change
   pub spelled : changes_of bytes ≡ Ok changes
   pub plan_is : plan ≡ after_changes empty changes
-
--- the differences are those of the sets, each told as what stands there, and their changes make
--- the second set
-pub record AreTold (first second : Rows) (found : List Difference) : Type 0 where
-  pub exact : ExactlyWhereTheyDiffer first second found
-  pub explained : EachKeyExplained first second found
-  pub makes : after_changes first (changes_told found) ≡ second
 
 -- they are those of the plans of two files
 pub record ComparesFiles (first second : List ℕ) (found : List Difference) : Type 0 where

@@ -1,0 +1,4 @@
+pub mod Escaping
+pub mod Latest
+pub mod Markup
+pub mod Restored

@@ -1,0 +1,211 @@
+-- The tags of a page are its own, whatever names and texts of others hold.
+use Rattle.std.proofs.Common.{◌≡◌, ℕ, suc, eqb, Bool, true, false, List, [], ◌∷◌, ◌++◌, map, flat_map}
+use Rattle.std.proofs.Common.{filter, length, codes, Option, Some, None, refl, sym, ap, ap₂, ◌∙◌}
+use Rattle.std.proofs.lemmas.List.Elements.{filter-append}
+use Rattle.std.specs.Prelude.{cond, decimal, option_map}
+use Rattle.jiff.specs.declared.civil.dates.Date.{Date}
+use Rattle.cabinet_core.specs.declared.record.CabinetView.{CabinetView}
+use Rattle.cabinet_core.specs.declared.record.Closing.{Closing}
+use Rattle.cabinet_core.specs.declared.record.Inspection.{Inspection}
+use Rattle.cabinet_core.specs.declared.record.Order.{Order}
+use Rattle.cabinet_core.specs.declared.record.UsedLine.{UsedLine}
+use Rattle.office_machine.specs.declared.reply.IntersectionState.{IntersectionState}
+use Rattle.signal_compare.specs.declared.difference.Difference.{Difference}
+use Rattle.signal_page.specs.declared.shown.IntersectionShown.{IntersectionShown}
+use Rattle.signal_page.specs.Words.{escaped_byte, escaped, isolated}
+use Rattle.signal_page.specs.Reading.{is_markup, marks}
+use Rattle.signal_page.specs.Blank.{blank_state, blank_inspection, blank_closing}
+use Rattle.signal_page.specs.Blank.{blank_order, blank_line, blank_view, blank}
+use Rattle.signal_page.specs.Cells.{text_cell}
+use Rattle.signal_page.specs.State.{fact, owner_text, is_open, is_open_by, open_count, draft_facts}
+use Rattle.signal_page.specs.State.{cabinet_facts}
+use Rattle.signal_page.specs.Register.{part_used, part_of, parts_cell, order_cells, closing_cells}
+use Rattle.signal_page.specs.Register.{open_by, open_row, closed_by, closed_row, open_orders}
+use Rattle.signal_page.specs.Register.{closed_orders, inspection_row, inspections_part, register_part}
+use Rattle.signal_page.specs.Page.{header, cabinet_section, page_text}
+
+-- ---- texts with the same markup characters
+
+pub record Alike (a b : List ℕ) : Type 0 where
+  pub marked : marks a ≡ marks b
+
+same : (a : List ℕ) → Alike a a
+same a = record { marked = refl }
+
+equal : (a b : List ℕ) → a ≡ b → Alike a b
+equal a b e = record { marked = ap marks e }
+
+joined : {a b c d : List ℕ} → Alike a b → Alike c d → Alike (a ++ c) (b ++ d)
+unfolding marks
+joined {a = a} {b = b} {c = c} {d = d} p q = record {
+  marked = filter-append is_markup a c ∙ ap₂ (λ (xs ys : List ℕ). xs ++ ys) p.marked q.marked
+      ∙ sym (filter-append is_markup b d);
+}
+
+after : (a : List ℕ) {c d : List ℕ} → Alike c d → Alike (a ++ c) (a ++ d)
+after a p = joined (same a) p
+
+before : {a b : List ℕ} (c : List ℕ) → Alike a b → Alike (a ++ c) (b ++ c)
+before c p = joined p (same c)
+
+each : {A : Type 0} (f g : A → List ℕ) (blanked : A → A)
+    → ((x : A) → Alike (f x) (g (blanked x)))
+    → (xs : List A) → Alike (flat_map f xs) (flat_map g (map blanked xs))
+each f g blanked h [] = same []
+each f g blanked h (x ∷ xs) = joined (h x) (each f g blanked h xs)
+
+-- ---- names and texts have none
+
+in_case : (t : Bool) (x y : List ℕ) → marks x ≡ [] → (t ≡ false → marks y ≡ []) → marks (cond t x y) ≡ []
+in_case true x y p q = p
+in_case false x y p q = q refl
+
+plain : (b : ℕ) → eqb b 60 ≡ false → eqb b 62 ≡ false → eqb b 34 ≡ false → eqb b 39 ≡ false → marks (b ∷ []) ≡ []
+unfolding marks
+plain b lt gt quot apos = rw (lt, gt, quot, apos) refl
+
+byte_marks : (b : ℕ) → marks (escaped_byte b) ≡ []
+unfolding marks
+byte_marks b =
+    in_case (eqb b 38) (codes "&amp;") _ refl (λ _.
+    in_case (eqb b 60) (codes "&lt;") _ refl (λ lt.
+    in_case (eqb b 62) (codes "&gt;") _ refl (λ gt.
+    in_case (eqb b 34) (codes "&quot;") _ refl (λ quot.
+    in_case (eqb b 39) (codes "&#39;") _ refl (λ apos. plain b lt gt quot apos)))))
+
+escaped_marks : (words : List ℕ) → marks (escaped words) ≡ []
+unfolding escaped marks
+escaped_marks [] = refl
+escaped_marks (b ∷ bs) =
+    filter-append is_markup (escaped_byte b) (escaped bs)
+    ∙ ap₂ (λ (xs ys : List ℕ). xs ++ ys) (byte_marks b) (escaped_marks bs)
+
+escaped_alike : (x y : List ℕ) → Alike (escaped x) (escaped y)
+escaped_alike x y = record { marked = escaped_marks x ∙ sym (escaped_marks y) }
+
+isolated_alike : (x y : List ℕ) → Alike (isolated x) (isolated y)
+unfolding isolated
+isolated_alike x y = before (codes "</bdi>") (after (codes "<bdi>") (escaped_alike x y))
+
+text_cell_alike : (x y : List ℕ) → Alike (text_cell x) (text_cell y)
+unfolding text_cell
+text_cell_alike x y = before (codes "</td>") (after (codes "<td class='w'>") (isolated_alike x y))
+
+-- ---- how an intersection stands
+
+fact_alike : (name x y : List ℕ) → Alike x y → Alike (fact name x) (fact name y)
+unfolding fact
+fact_alike name x y p = before (codes "</dd></div>\n") (after (codes "<div><dt>" ++ name ++ codes "</dt><dd>") p)
+
+owner_alike : (owner : Option (List ℕ)) → Alike (owner_text owner) (owner_text (option_map (λ _. []) owner))
+owner_alike None = same _
+owner_alike (Some owner) = isolated_alike owner []
+
+draft_facts_alike : (state : IntersectionState) → Alike (draft_facts state) (draft_facts (blank_state state))
+unfolding draft_facts
+draft_facts_alike state =
+    before _ (before _ (before _ (after _ (fact_alike _ _ _ (owner_alike state.owner)))))
+
+open_same : (closing : Option Closing) → is_open_by (option_map blank_closing closing) ≡ is_open_by closing
+open_same None = refl
+open_same (Some closing) = refl
+
+count_same : (orders : List Order) → open_count (map blank_order orders) ≡ open_count orders
+count_same [] = refl
+count_same (o ∷ os) = step (is_open_by o.closing) (open_same o.closing) (count_same os) where
+  step : (t : Bool) → is_open_by (option_map blank_closing o.closing) ≡ t
+      → length (filter is_open (map blank_order os)) ≡ length (filter is_open os)
+      → length (cond (is_open_by (option_map blank_closing o.closing)) (blank_order o ∷ filter is_open (map blank_order os)) (filter is_open (map blank_order os)))
+      ≡ length (cond t (o ∷ filter is_open os) (filter is_open os))
+  step true e h = rw e (ap (λ n. suc n) h)
+  step false e h = rw e h
+
+cabinet_facts_alike : (due : Option Date) (orders : List Order) → Alike (cabinet_facts due orders) (cabinet_facts due (map blank_order orders))
+unfolding cabinet_facts
+cabinet_facts_alike due orders =
+    after _ (fact_alike _ _ _ (equal _ _ (ap decimal (sym (count_same orders)))))
+
+-- ---- above the plan
+
+header_alike : (shown : IntersectionShown) (due : Option Date) → Alike (header shown due) (header (blank shown) due)
+unfolding header
+header_alike shown due =
+    before _ (before _ (before _ (joined (joined (before _ (joined (before _ (before _ (after _ (escaped_alike shown.state.name []))))
+    (isolated_alike shown.state.name []))) (draft_facts_alike shown.state))
+    (cabinet_facts_alike due shown.cabinet.view.orders))))
+
+-- ---- the register
+
+part_alike : (order : ℕ) (line : UsedLine) → Alike (part_of order line) (part_of order (blank_line line))
+unfolding part_used
+part_alike order line = by_test (eqb line.order order) where
+  by_test : (t : Bool) → Alike (cond t (part_used line) []) (cond t (part_used (blank_line line)) [])
+  by_test true = before _ (after _ (isolated_alike line.part []))
+  by_test false = same []
+
+parts_alike : (lines : List UsedLine) (order : ℕ) → Alike (parts_cell lines order) (parts_cell (map blank_line lines) order)
+unfolding parts_cell
+parts_alike lines order = before _ (after _ (each (part_of order) (part_of order) blank_line (part_alike order) lines))
+
+order_alike : (lines : List UsedLine) (order : Order) → Alike (order_cells lines order) (order_cells (map blank_line lines) (blank_order order))
+unfolding order_cells
+order_alike lines order =
+    joined (joined (after _ (text_cell_alike order.clerk [])) (text_cell_alike order.text []))
+    (parts_alike lines order.number)
+
+closing_alike : (closing : Closing) → Alike (closing_cells closing) (closing_cells (blank_closing closing))
+unfolding closing_cells
+closing_alike closing = after _ (text_cell_alike closing.closer [])
+
+open_alike : (lines : List UsedLine) (order : Order) → Alike (open_row lines order) (open_row (map blank_line lines) (blank_order order))
+open_alike lines order = by_closing order.closing where
+  by_closing : (closing : Option Closing) → Alike (open_by lines order closing) (open_by (map blank_line lines) (blank_order order) (option_map blank_closing closing))
+  by_closing None = before _ (after _ (order_alike lines order))
+  by_closing (Some closing) = same []
+
+closed_alike : (lines : List UsedLine) (order : Order) → Alike (closed_row lines order) (closed_row (map blank_line lines) (blank_order order))
+closed_alike lines order = by_closing order.closing where
+  by_closing : (closing : Option Closing) → Alike (closed_by lines order closing) (closed_by (map blank_line lines) (blank_order order) (option_map blank_closing closing))
+  by_closing None = same []
+  by_closing (Some closing) = before _ (joined (after _ (order_alike lines order)) (closing_alike closing))
+
+open_orders_alike : (lines : List UsedLine) (orders : List Order) → Alike (open_orders lines orders) (open_orders (map blank_line lines) (map blank_order orders))
+unfolding open_orders
+open_orders_alike lines orders =
+    before _ (after _ (each (open_row lines) (open_row (map blank_line lines)) blank_order (open_alike lines) orders))
+
+closed_orders_alike : (lines : List UsedLine) (orders : List Order) → Alike (closed_orders lines orders) (closed_orders (map blank_line lines) (map blank_order orders))
+unfolding closed_orders
+closed_orders_alike lines orders =
+    before _ (after _ (each (closed_row lines) (closed_row (map blank_line lines)) blank_order (closed_alike lines) orders))
+
+inspection_alike : (inspection : Inspection) → Alike (inspection_row inspection) (inspection_row (blank_inspection inspection))
+unfolding inspection_row
+inspection_alike inspection =
+    before _ (joined (after _ (text_cell_alike inspection.clerk [])) (text_cell_alike inspection.text []))
+
+inspections_alike : (inspections : List Inspection) → Alike (inspections_part inspections) (inspections_part (map blank_inspection inspections))
+unfolding inspections_part
+inspections_alike inspections =
+    before _ (after _ (each inspection_row inspection_row blank_inspection inspection_alike inspections))
+
+register_alike : (interval : ℕ) (due : Option Date) (view : CabinetView) → Alike (register_part interval due view) (register_part interval due (blank_view view))
+unfolding register_part
+register_alike interval due view =
+    joined (joined (after _ (open_orders_alike view.lines view.orders))
+    (closed_orders_alike view.lines view.orders)) (inspections_alike view.inspections)
+
+cabinet_alike : (shown : IntersectionShown) (due : Option Date) → Alike (cabinet_section shown due) (cabinet_section (blank shown) due)
+unfolding cabinet_section
+cabinet_alike shown due = before _ (after _ (register_alike shown.state.interval due shown.cabinet.view))
+
+-- ---- the page
+
+page_alike : (shown : IntersectionShown) (due : Option Date) (differences : List Difference) → Alike (page_text shown due differences) (page_text (blank shown) due differences)
+unfolding page_text
+page_alike shown due differences =
+    before _ (joined (before _ (before _ (header_alike shown due))) (cabinet_alike shown due))
+
+-- a page has the tags that it has with its names and texts empty
+pub own_markup : (shown : IntersectionShown) (due : Option Date) (differences : List Difference) (text : List ℕ) → text ≡ page_text shown due differences → marks text ≡ marks (page_text (blank shown) due differences)
+own_markup shown due differences text is = ap marks is ∙ (page_alike shown due differences).marked

@@ -1,0 +1,12 @@
+pub mod Words
+pub mod Reading
+pub mod Cells
+pub mod Rules
+pub mod Rows
+pub mod Tables
+pub mod Changes
+pub mod Plan
+pub mod State
+pub mod Register
+pub mod Blank
+pub mod Page

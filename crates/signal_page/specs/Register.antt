@@ -1,0 +1,107 @@
+-- The register of a cabinet in the page: the due day, open orders first, then closed ones, and the
+-- inspections.
+use Rattle.std.specs.Prelude.{ℕ, ◌==◌, if◌then◌else◌, List, [], ◌++◌, flat_map, codes, decimal}
+use Rattle.std.specs.Prelude.{Option, Some, None}
+use Rattle.jiff.specs.Words.{date_text}
+use Rattle.jiff.specs.declared.civil.dates.Date.{Date}
+use Rattle.cabinet_core.specs.Day.{day_text}
+use Rattle.cabinet_core.specs.declared.record.CabinetView.{CabinetView}
+use Rattle.cabinet_core.specs.declared.record.Closing.{Closing}
+use Rattle.cabinet_core.specs.declared.record.Inspection.{Inspection}
+use Rattle.cabinet_core.specs.declared.record.Order.{Order}
+use Rattle.cabinet_core.specs.declared.record.UsedLine.{UsedLine}
+use Rattle.signal_page.specs.Words.{isolated}
+use Rattle.signal_page.specs.Cells.{heading, words_heading, row_heading, text_cell}
+use Rattle.signal_page.specs.Tables.{table_opening, table_body, table_end}
+
+unfoldable pub day_cell : ℕ → List ℕ
+day_cell day = codes "<td class='d'>" ++ day_text day ++ codes "</td>"
+
+-- ---- orders
+
+-- a part that was used for the order of a number
+unfoldable pub part_used : UsedLine → List ℕ
+part_used line =
+    codes "<div>" ++ decimal line.count ++ codes " &times; " ++ isolated line.part ++ codes "</div>"
+
+abbrev pub part_of : ℕ → UsedLine → List ℕ
+part_of order line = if line.order == order then part_used line else []
+
+unfoldable pub parts_cell : List UsedLine → ℕ → List ℕ
+parts_cell lines order =
+    codes "<td class='w'>" ++ flat_map (part_of order) lines ++ codes "</td>"
+
+-- the cells of an order, open or closed
+unfoldable pub order_cells : List UsedLine → Order → List ℕ
+order_cells lines order =
+    row_heading order.number ++ day_cell order.opened ++ text_cell order.clerk
+    ++ text_cell order.text ++ parts_cell lines order.number
+
+unfoldable pub closing_cells : Closing → List ℕ
+closing_cells closing = day_cell closing.day ++ text_cell closing.closer
+
+-- the row of an order among the open ones, and among the closed ones
+abbrev pub open_by : List UsedLine → Order → Option Closing → List ℕ
+open_by lines order None = codes "<tr>" ++ order_cells lines order ++ codes "</tr>\n"
+open_by lines order (Some closing) = []
+
+abbrev pub open_row : List UsedLine → Order → List ℕ
+open_row lines order = open_by lines order order.closing
+
+abbrev pub closed_by : List UsedLine → Order → Option Closing → List ℕ
+closed_by lines order None = []
+closed_by lines order (Some closing) =
+    codes "<tr>" ++ order_cells lines order ++ closing_cells closing ++ codes "</tr>\n"
+
+abbrev pub closed_row : List UsedLine → Order → List ℕ
+closed_row lines order = closed_by lines order order.closing
+
+unfoldable pub order_headings : List ℕ
+order_headings =
+    heading (codes "Order") ++ words_heading (codes "Opened") ++ words_heading (codes "Clerk")
+    ++ words_heading (codes "Work") ++ words_heading (codes "Parts used (pieces)")
+
+unfoldable pub open_orders : List UsedLine → List Order → List ℕ
+open_orders lines orders =
+    table_opening (codes "Open orders") ++ order_headings ++ table_body
+    ++ flat_map (open_row lines) orders ++ table_end
+
+unfoldable pub closed_orders : List UsedLine → List Order → List ℕ
+closed_orders lines orders =
+    table_opening (codes "Closed orders") ++ order_headings ++ words_heading (codes "Closed")
+    ++ words_heading (codes "Closed by") ++ table_body ++ flat_map (closed_row lines) orders
+    ++ table_end
+
+-- ---- inspections
+
+unfoldable pub inspection_row : Inspection → List ℕ
+inspection_row inspection =
+    codes "<tr>" ++ row_heading inspection.number ++ day_cell inspection.day
+    ++ text_cell inspection.clerk ++ text_cell inspection.text ++ codes "</tr>\n"
+
+unfoldable pub inspection_headings : List ℕ
+inspection_headings =
+    heading (codes "Inspection") ++ words_heading (codes "Day") ++ words_heading (codes "Clerk")
+    ++ words_heading (codes "Findings")
+
+unfoldable pub inspections_part : List Inspection → List ℕ
+inspections_part inspections =
+    table_opening (codes "Inspections") ++ inspection_headings ++ table_body
+    ++ flat_map inspection_row inspections ++ table_end
+
+-- ---- the register
+
+abbrev pub due_words : Option Date → List ℕ
+due_words None = codes "<p>It was never inspected."
+due_words (Some due) =
+    codes "<p>The next inspection is due on <strong>" ++ date_text due ++ codes "</strong>."
+
+unfoldable pub due_note : ℕ → Option Date → List ℕ
+due_note interval due =
+    due_words due ++ codes " Days from one inspection to the next: " ++ decimal interval
+    ++ codes ".</p>\n"
+
+unfoldable pub register_part : ℕ → Option Date → CabinetView → List ℕ
+register_part interval due view =
+    due_note interval due ++ open_orders view.lines view.orders
+    ++ closed_orders view.lines view.orders ++ inspections_part view.inspections

@@ -1,0 +1,243 @@
+//! The page of an intersection, and that of a plan alone.
+
+ghost use Rattle.std.specs.Prelude.{◌≡◌, ◌++◌, ℕ, List, OnOk, IfOk, string_bytes};
+ghost use Rattle.signal_page.specs.Words.{escaped};
+ghost use Rattle.signal_page.specs.Reading.{unescaped};
+ghost use Rattle.signal_page.specs.Page.{head_opening, head_end, page_end, title, draft_link};
+ghost use Rattle.signal_page.specs.Page.{links, header, plan_section, open_draft_section};
+ghost use Rattle.signal_page.specs.Page.{draft_section, cabinet_section, page_text};
+ghost use Rattle.signal_page.specs.Page.{AreChanges, IsPage, plan_page_text};
+
+use crate::changes::push_changes_part;
+use crate::facts::{due_date, push_cabinet_facts, push_draft_facts};
+use crate::plan::{push_plan, push_violations_note};
+use crate::register::push_register;
+use crate::shown::IntersectionShown;
+use crate::style::STYLE;
+use crate::words::{push_escaped, push_isolated};
+use jiff::civil::Date;
+use signal_compare::{Difference, compare};
+use signal_records::{InterId, NoMemory, TimingSet};
+use signal_rules::violations;
+use std::alloc::{AllocError, Global};
+use std::fmt::Write;
+
+/// Opens the head of a page, up to its title.
+#[tactic(auto, unfolding(crate::specs::Page::head_opening))]
+fn open_head(text: &mut String) -> Result<(), AllocError>
+    ensures { OnOk result (string_bytes text.new ≡ string_bytes text.old ++ head_opening) }
+{
+    text.push_str("<!DOCTYPE html>\n<html lang='en'>\n<head>\n<meta charset='utf-8'>\n")?;
+    text.push_str("<meta name='viewport' content='width=device-width, initial-scale=1'>\n<title>")
+}
+
+/// Ends the head of a page after its title, and opens its heading.
+#[tactic(auto, unfolding(crate::specs::Page::head_end))]
+fn end_head(text: &mut String) -> Result<(), AllocError>
+    ensures { OnOk result (string_bytes text.new ≡ string_bytes text.old ++ head_end) }
+{
+    text.push_str("</title>\n<style>\n")?;
+    text.push_str(STYLE)?;
+    text.push_str("</style>\n</head>\n<body>\n")?;
+    text.push_str("<a class='skip' href='#main'>Skip to the plan</a>\n<header>\n<h1>")
+}
+
+/// Ends a page.
+#[tactic(auto, unfolding(crate::specs::Page::page_end))]
+fn end_page(text: &mut String) -> Result<(), AllocError>
+    ensures { OnOk result (string_bytes text.new ≡ string_bytes text.old ++ page_end) }
+{
+    text.push_str("</main>\n</body>\n</html>\n")
+}
+
+/// Appends the number of an intersection, before its name.
+#[tactic(auto, unfolding(crate::specs::Page::title))]
+fn push_title(text: &mut String, id: InterId) -> Result<(), AllocError>
+    ensures { OnOk result (string_bytes text.new ≡ string_bytes text.old ++ title id) }
+{
+    let id = id.get();
+    write!(text, "Intersection {id}: ")
+}
+
+/// Appends the link to the draft, where there is one.
+fn push_draft_link(text: &mut String, draft: &Option<TimingSet>) -> Result<(), AllocError>
+    ensures { OnOk result (string_bytes text.new
+        ≡ string_bytes text.old ++ draft_link draft.now) }
+{
+    match draft {
+        None => Ok(()),
+        Some(_) => text.push_str("<li><a href='#draft'>The draft</a></li>\n"),
+    }
+}
+
+/// Appends links to the parts of the page.
+#[tactic(auto, unfolding(crate::specs::Page::links))]
+fn push_links(text: &mut String, draft: &Option<TimingSet>) -> Result<(), AllocError>
+    ensures { OnOk result (string_bytes text.new ≡ string_bytes text.old ++ links draft.now) }
+{
+    text.push_str("<nav aria-label='Parts of this page'>\n<ul>\n")?;
+    text.push_str("<li><a href='#plan'>The plan that runs</a></li>\n")?;
+    push_draft_link(text, draft)?;
+    text.push_str("<li><a href='#cabinet'>The cabinet</a></li>\n</ul>\n</nav>\n")
+}
+
+/// Appends the head and what stands above the plan.
+#[tactic(auto, unfolding(crate::specs::Page::header))]
+fn push_header(
+    text: &mut String,
+    shown: &IntersectionShown,
+    due: &Option<Date>,
+) -> Result<(), AllocError>
+    ensures { OnOk result (string_bytes text.new
+        ≡ string_bytes text.old ++ header shown.now due.now) }
+{
+    let name = shown.state.name.as_str();
+    open_head(text)?;
+    push_title(text, shown.state.id)?;
+    push_escaped(text, name)?;
+    end_head(text)?;
+    push_title(text, shown.state.id)?;
+    push_isolated(text, name)?;
+    text.push_str("</h1>\n<dl>\n")?;
+    push_draft_facts(text, &shown.state)?;
+    push_cabinet_facts(text, due, shown.cabinet.view.orders.as_slice())?;
+    text.push_str("</dl>\n")?;
+    push_links(text, &shown.draft)?;
+    text.push_str("</header>\n<main id='main'>\n")
+}
+
+/// Appends the plan that runs.
+#[tactic(auto, unfolding(crate::specs::Page::plan_section))]
+fn push_plan_section(
+    text: &mut String,
+    alloc: Global,
+    committed: &TimingSet,
+) -> Result<(), NoMemory>
+    ensures { OnOk result (string_bytes text.new
+        ≡ string_bytes text.old ++ plan_section committed.now) }
+{
+    text.push_str("<section id='plan' aria-labelledby='plan-title'>\n")?;
+    text.push_str("<h2 id='plan-title'>The plan that runs</h2>\n")?;
+    push_plan(text, alloc, false, &[], committed)?;
+    text.push_str("</section>\n")
+}
+
+/// Appends a draft, and what it changes.
+#[tactic(auto, unfolding(crate::specs::Page::open_draft_section))]
+fn push_open_draft(
+    text: &mut String,
+    alloc: Global,
+    draft: &TimingSet,
+    differences: &[Difference],
+) -> Result<(), NoMemory>
+    ensures { OnOk result (string_bytes text.new
+        ≡ string_bytes text.old ++ open_draft_section draft.now differences.now) }
+{
+    let broken = violations(alloc, draft)?;
+    text.push_str("<section id='draft' aria-labelledby='draft-title'>\n")?;
+    text.push_str("<h2 id='draft-title'>The draft</h2>\n")?;
+    push_violations_note(text, &broken)?;
+    push_changes_part(text, differences)?;
+    push_plan(text, alloc, true, &broken, draft)?;
+    text.push_str("</section>\n")
+}
+
+/// Appends the draft, where there is one.
+fn push_draft_section(
+    text: &mut String,
+    alloc: Global,
+    draft: &Option<TimingSet>,
+    differences: &[Difference],
+) -> Result<(), NoMemory>
+    ensures { OnOk result (string_bytes text.new
+        ≡ string_bytes text.old ++ draft_section draft.now differences.now) }
+{
+    match draft {
+        None => Ok(()),
+        Some(draft) => push_open_draft(text, alloc, draft, differences),
+    }
+}
+
+/// Appends the register of the cabinet.
+#[tactic(auto, unfolding(crate::specs::Page::cabinet_section))]
+fn push_cabinet_section(
+    text: &mut String,
+    alloc: Global,
+    shown: &IntersectionShown,
+    due: &Option<Date>,
+) -> Result<(), NoMemory>
+    ensures { OnOk result (string_bytes text.new
+        ≡ string_bytes text.old ++ cabinet_section shown.now due.now) }
+{
+    text.push_str("<section id='cabinet' aria-labelledby='cabinet-title'>\n")?;
+    text.push_str("<h2 id='cabinet-title'>The cabinet</h2>\n")?;
+    push_register(text, alloc, shown.state.interval, due, &shown.cabinet.view)?;
+    text.push_str("</section>\n")
+}
+
+/// What the draft changes of the committed plan; nothing where there is none.
+fn changes_of(
+    alloc: Global,
+    committed: &TimingSet,
+    draft: &Option<TimingSet>,
+) -> Result<Vec<Difference>, NoMemory>
+    ensures { IfOk result (λ found. AreChanges committed.now draft.now found.items) }
+{
+    match draft {
+        None => Ok(Vec::new(alloc)),
+        Some(draft) => compare(alloc, committed, draft),
+    }
+}
+
+/// The page by the due day and the changes.
+fn whole_page(
+    alloc: Global,
+    shown: &IntersectionShown,
+    due: &Option<Date>,
+    differences: &[Difference],
+) -> Result<Vec<u8>, NoMemory>
+    ensures { IfOk result (λ text. text.items
+        ≡ page_text shown.now due.now differences.now) }
+{
+    let mut text = String::new(alloc);
+    push_header(&mut text, shown, due)?;
+    push_plan_section(&mut text, alloc, &shown.committed)?;
+    push_draft_section(&mut text, alloc, &shown.draft, differences)?;
+    push_cabinet_section(&mut text, alloc, shown, due)?;
+    end_page(&mut text)?;
+    Ok(text.into_bytes())
+}
+
+/// The page of an intersection: how it stands, the pictures and tables of the plan that runs, its
+/// draft with the rules that it breaks beside their rows and what it changes, and the register of
+/// its cabinet, open orders first. It is one HTML text, which needs nothing else.
+pub fn intersection_page(alloc: Global, shown: &IntersectionShown) -> Result<Vec<u8>, NoMemory>
+    // It is that of its definition, and whatever names and texts hold, its tags are its own.
+    ensures page { IfOk result (λ text. IsPage shown.now text.items) }
+    // A reader takes each name and text back as it was.
+    ensures read { (words : List ℕ) → unescaped (escaped words) ≡ words }
+{
+    let due = due_date(
+        shown.state.interval,
+        shown.cabinet.view.inspections.as_slice(),
+    );
+    let differences = changes_of(alloc, &shown.committed, &shown.draft)?;
+    whole_page(alloc, shown, &due, &differences)
+}
+
+/// The page of a plan alone: how many rules it breaks, its pictures, and its tables with the rules
+/// that each row breaks beside it.
+pub fn plan_page(alloc: Global, plan: &TimingSet) -> Result<Vec<u8>, NoMemory>
+    ensures { IfOk result (λ text. text.items ≡ plan_page_text plan.now) }
+{
+    let broken = violations(alloc, plan)?;
+    let mut text = String::new(alloc);
+    open_head(&mut text)?;
+    text.push_str("Timing plan")?;
+    end_head(&mut text)?;
+    text.push_str("Timing plan</h1>\n</header>\n<main id='main'>\n")?;
+    push_violations_note(&mut text, &broken)?;
+    push_plan(&mut text, alloc, true, &broken, plan)?;
+    end_page(&mut text)?;
+    Ok(text.into_bytes())
+}

@@ -1,0 +1,118 @@
+//! A plan in the page: the pictures of its patterns, and its tables.
+
+ghost use Rattle.std.specs.Prelude.{◌≡◌, ◌++◌, OnOk, string_bytes};
+ghost use Rattle.std.specs.FinMap.{values};
+ghost use Rattle.signal_diagram.specs.Diagram.{figure_text};
+ghost use Rattle.signal_page.specs.Plan.{picture_for, pictures, plan_rows, plan_part};
+ghost use Rattle.signal_page.specs.Plan.{violations_note};
+
+use crate::tables::push_tables;
+use signal_diagram::figure;
+use signal_records::{NoMemory, PatternNo, Row, TimingSet};
+use signal_rules::Violation;
+use std::alloc::{AllocError, Global};
+use std::fmt::Write;
+
+/// Appends the picture of the pattern of a number.
+fn push_figure(
+    text: &mut String,
+    alloc: Global,
+    set: &TimingSet,
+    n: PatternNo,
+) -> Result<(), NoMemory>
+    ensures { OnOk result (string_bytes text.new
+        ≡ string_bytes text.old ++ figure_text set.now n) }
+{
+    match figure(alloc, set, n)? {
+        Some(picture) => text.push_str(picture.as_str()),
+        None => Ok(()),
+    }
+}
+
+/// Appends the picture of a pattern for its row, and nothing for a row of another kind.
+fn push_picture(
+    text: &mut String,
+    alloc: Global,
+    set: &TimingSet,
+    row: &Row,
+) -> Result<(), NoMemory>
+    ensures { OnOk result (string_bytes text.new
+        ≡ string_bytes text.old ++ picture_for set.now row.now) }
+{
+    let Row::Pattern(n, _) = row else {
+        return Ok(());
+    };
+    text.push_str("<figure>\n")?;
+    push_figure(text, alloc, set, *n)?;
+    text.push_str("</figure>\n")
+}
+
+/// Appends the pictures of all patterns.
+#[tactic(auto, unfolding(crate::specs::Plan::pictures))]
+fn push_pictures(
+    text: &mut String,
+    alloc: Global,
+    set: &TimingSet,
+    rows: &[Row],
+) -> Result<(), NoMemory>
+    ensures { OnOk result (string_bytes text.new
+        ≡ string_bytes text.old ++ pictures set.now rows.now) }
+{
+    for row in rows {
+        push_picture(text, alloc, set, row)?;
+    }
+    Ok(())
+}
+
+/// Appends a plan by its rows.
+#[tactic(auto, unfolding(crate::specs::Plan::plan_rows))]
+fn push_plan_rows(
+    text: &mut String,
+    alloc: Global,
+    told: bool,
+    violations: &[Violation],
+    set: &TimingSet,
+    rows: &[Row],
+) -> Result<(), NoMemory>
+    ensures { OnOk result (string_bytes text.new
+        ≡ string_bytes text.old ++ plan_rows told violations.now set.now rows.now) }
+{
+    if rows.is_empty() {
+        text.push_str("<p class='none'>It has no rows.</p>\n")?;
+    }
+    push_pictures(text, alloc, set, rows)?;
+    push_tables(text, told, violations, rows)
+}
+
+/// Appends a plan, with the rules that its rows break where they are told.
+pub(crate) fn push_plan(
+    text: &mut String,
+    alloc: Global,
+    told: bool,
+    violations: &[Violation],
+    set: &TimingSet,
+) -> Result<(), NoMemory>
+    ensures { OnOk result (string_bytes text.new
+        ≡ string_bytes text.old ++ plan_part told violations.now set.now) }
+{
+    let rows = set.rows(alloc)?;
+    push_plan_rows(text, alloc, told, violations, set, &rows)
+}
+
+/// Appends how many rules are broken.
+pub(crate) fn push_violations_note(
+    text: &mut String,
+    violations: &[Violation],
+) -> Result<(), AllocError>
+    ensures { OnOk result (string_bytes text.new
+        ≡ string_bytes text.old ++ violations_note violations.now) }
+{
+    let count = violations.len();
+    if count == 0 {
+        return text.push_str("<p class='sound'>It breaks no rule.</p>\n");
+    }
+    write!(
+        text,
+        "<p class='broken'>Broken rules: {count}. Each stands beside its row.</p>\n"
+    )
+}

@@ -1,0 +1,328 @@
+//! The register of a cabinet in the page: the due day, open orders first, then closed ones, and the
+//! inspections.
+
+ghost use Rattle.std.specs.Prelude.{◌≡◌, ◌++◌, OnOk, flat_map, string_bytes};
+ghost use Rattle.signal_page.specs.Register.{day_cell, part_used, part_of, parts_cell, order_cells};
+ghost use Rattle.signal_page.specs.Register.{closing_cells, open_row, closed_row, order_headings};
+ghost use Rattle.signal_page.specs.Register.{open_orders, closed_orders, inspection_row};
+ghost use Rattle.signal_page.specs.Register.{inspection_headings, inspections_part, due_words};
+ghost use Rattle.signal_page.specs.Register.{due_note, register_part};
+
+use crate::cells::{push_heading, push_row_heading, push_text, push_words_heading};
+use crate::tables::{begin_rows, end_table, open_table};
+use crate::words::push_isolated;
+use cabinet_core::{CabinetView, Closing, Day, Inspection, Order, UsedLine, write_day};
+use jiff::civil::Date;
+use signal_records::{Interval, NoMemory, RecordNo};
+use std::alloc::{AllocError, Global};
+use std::fmt::Write;
+
+/// Appends a day.
+#[tactic(auto, unfolding(crate::specs::Register::day_cell))]
+fn push_day(text: &mut String, alloc: Global, day: Day) -> Result<(), NoMemory>
+    ensures { OnOk result (string_bytes text.new ≡ string_bytes text.old ++ day_cell day) }
+{
+    let spelling = write_day(alloc, day)?;
+    write!(text, "<td class='d'>{spelling}</td>")
+}
+
+/// Appends a part that was used.
+#[tactic(auto, unfolding(crate::specs::Register::part_used))]
+fn push_part(text: &mut String, line: &UsedLine) -> Result<(), AllocError>
+    ensures { OnOk result (string_bytes text.new
+        ≡ string_bytes text.old ++ part_used line.now) }
+{
+    let count = line.count.get();
+    write!(text, "<div>{count} &times; ")?;
+    push_isolated(text, line.part.as_str())?;
+    text.push_str("</div>")
+}
+
+/// Appends a part for the order of a number, and nothing for another one.
+fn push_part_of(text: &mut String, order: RecordNo, line: &UsedLine) -> Result<(), AllocError>
+    ensures { OnOk result (string_bytes text.new
+        ≡ string_bytes text.old ++ part_of order line.now) }
+{
+    if line.order.get() == order.get() {
+        push_part(text, line)
+    } else {
+        Ok(())
+    }
+}
+
+fn push_each_part(text: &mut String, order: RecordNo, lines: &[UsedLine]) -> Result<(), AllocError>
+    ensures { OnOk result (string_bytes text.new
+        ≡ string_bytes text.old ++ flat_map (part_of order) lines.now) }
+{
+    for line in lines {
+        push_part_of(text, order, line)?;
+    }
+    Ok(())
+}
+
+/// Appends the parts that were used for an order.
+#[tactic(auto, unfolding(crate::specs::Register::parts_cell))]
+fn push_parts(text: &mut String, lines: &[UsedLine], order: RecordNo) -> Result<(), AllocError>
+    ensures { OnOk result (string_bytes text.new
+        ≡ string_bytes text.old ++ parts_cell lines.now order) }
+{
+    text.push_str("<td class='w'>")?;
+    push_each_part(text, order, lines)?;
+    text.push_str("</td>")
+}
+
+/// Appends the cells of an order, open or closed.
+#[tactic(auto, unfolding(crate::specs::Register::order_cells))]
+fn push_order_cells(
+    text: &mut String,
+    alloc: Global,
+    lines: &[UsedLine],
+    order: &Order,
+) -> Result<(), NoMemory>
+    ensures { OnOk result (string_bytes text.new
+        ≡ string_bytes text.old ++ order_cells lines.now order.now) }
+{
+    push_row_heading(text, order.number.get())?;
+    push_day(text, alloc, order.opened)?;
+    push_text(text, order.clerk.as_str())?;
+    push_text(text, order.text.as_str())?;
+    push_parts(text, lines, order.number)
+}
+
+/// Appends when and by whom an order was closed.
+#[tactic(auto, unfolding(crate::specs::Register::closing_cells))]
+fn push_closing(text: &mut String, alloc: Global, closing: &Closing) -> Result<(), NoMemory>
+    ensures { OnOk result (string_bytes text.new
+        ≡ string_bytes text.old ++ closing_cells closing.now) }
+{
+    push_day(text, alloc, closing.day)?;
+    push_text(text, closing.closer.as_str())
+}
+
+/// Appends the row of an order that is open, and nothing for a closed one.
+fn push_open(
+    text: &mut String,
+    alloc: Global,
+    lines: &[UsedLine],
+    order: &Order,
+) -> Result<(), NoMemory>
+    ensures { OnOk result (string_bytes text.new
+        ≡ string_bytes text.old ++ open_row lines.now order.now) }
+{
+    match &order.closing {
+        None => {
+            text.push_str("<tr>")?;
+            push_order_cells(text, alloc, lines, order)?;
+            text.push_str("</tr>\n")
+        }
+        Some(_) => Ok(()),
+    }
+}
+
+/// Appends the row of an order that is closed, and nothing for an open one.
+fn push_closed(
+    text: &mut String,
+    alloc: Global,
+    lines: &[UsedLine],
+    order: &Order,
+) -> Result<(), NoMemory>
+    ensures { OnOk result (string_bytes text.new
+        ≡ string_bytes text.old ++ closed_row lines.now order.now) }
+{
+    match &order.closing {
+        None => Ok(()),
+        Some(closing) => {
+            text.push_str("<tr>")?;
+            push_order_cells(text, alloc, lines, order)?;
+            push_closing(text, alloc, closing)?;
+            text.push_str("</tr>\n")
+        }
+    }
+}
+
+/// Appends the headings of orders.
+#[tactic(auto, unfolding(crate::specs::Register::order_headings))]
+fn push_order_headings(text: &mut String) -> Result<(), AllocError>
+    ensures { OnOk result (string_bytes text.new ≡ string_bytes text.old ++ order_headings) }
+{
+    push_heading(text, "Order")?;
+    push_words_heading(text, "Opened")?;
+    push_words_heading(text, "Clerk")?;
+    push_words_heading(text, "Work")?;
+    push_words_heading(text, "Parts used (pieces)")
+}
+
+fn push_each_open(
+    text: &mut String,
+    alloc: Global,
+    lines: &[UsedLine],
+    orders: &[Order],
+) -> Result<(), NoMemory>
+    ensures { OnOk result (string_bytes text.new
+        ≡ string_bytes text.old ++ flat_map (open_row lines.now) orders.now) }
+{
+    for order in orders {
+        push_open(text, alloc, lines, order)?;
+    }
+    Ok(())
+}
+
+/// Appends the open orders.
+#[tactic(auto, unfolding(crate::specs::Register::open_orders))]
+fn push_open_orders(
+    text: &mut String,
+    alloc: Global,
+    lines: &[UsedLine],
+    orders: &[Order],
+) -> Result<(), NoMemory>
+    ensures { OnOk result (string_bytes text.new
+        ≡ string_bytes text.old ++ open_orders lines.now orders.now) }
+{
+    open_table(text, "Open orders")?;
+    push_order_headings(text)?;
+    begin_rows(text)?;
+    push_each_open(text, alloc, lines, orders)?;
+    end_table(text)
+}
+
+fn push_each_closed(
+    text: &mut String,
+    alloc: Global,
+    lines: &[UsedLine],
+    orders: &[Order],
+) -> Result<(), NoMemory>
+    ensures { OnOk result (string_bytes text.new
+        ≡ string_bytes text.old ++ flat_map (closed_row lines.now) orders.now) }
+{
+    for order in orders {
+        push_closed(text, alloc, lines, order)?;
+    }
+    Ok(())
+}
+
+/// Appends the closed orders.
+#[tactic(auto, unfolding(crate::specs::Register::closed_orders))]
+fn push_closed_orders(
+    text: &mut String,
+    alloc: Global,
+    lines: &[UsedLine],
+    orders: &[Order],
+) -> Result<(), NoMemory>
+    ensures { OnOk result (string_bytes text.new
+        ≡ string_bytes text.old ++ closed_orders lines.now orders.now) }
+{
+    open_table(text, "Closed orders")?;
+    push_order_headings(text)?;
+    push_words_heading(text, "Closed")?;
+    push_words_heading(text, "Closed by")?;
+    begin_rows(text)?;
+    push_each_closed(text, alloc, lines, orders)?;
+    end_table(text)
+}
+
+/// Appends the row of an inspection.
+#[tactic(auto, unfolding(crate::specs::Register::inspection_row))]
+fn push_inspection(
+    text: &mut String,
+    alloc: Global,
+    inspection: &Inspection,
+) -> Result<(), NoMemory>
+    ensures { OnOk result (string_bytes text.new
+        ≡ string_bytes text.old ++ inspection_row inspection.now) }
+{
+    text.push_str("<tr>")?;
+    push_row_heading(text, inspection.number.get())?;
+    push_day(text, alloc, inspection.day)?;
+    push_text(text, inspection.clerk.as_str())?;
+    push_text(text, inspection.text.as_str())?;
+    text.push_str("</tr>\n")
+}
+
+fn push_each_inspection(
+    text: &mut String,
+    alloc: Global,
+    inspections: &[Inspection],
+) -> Result<(), NoMemory>
+    ensures { OnOk result (string_bytes text.new
+        ≡ string_bytes text.old ++ flat_map inspection_row inspections.now) }
+{
+    for inspection in inspections {
+        push_inspection(text, alloc, inspection)?;
+    }
+    Ok(())
+}
+
+/// Appends the headings of inspections.
+#[tactic(auto, unfolding(crate::specs::Register::inspection_headings))]
+fn push_inspection_headings(text: &mut String) -> Result<(), AllocError>
+    ensures { OnOk result (string_bytes text.new ≡ string_bytes text.old ++ inspection_headings) }
+{
+    push_heading(text, "Inspection")?;
+    push_words_heading(text, "Day")?;
+    push_words_heading(text, "Clerk")?;
+    push_words_heading(text, "Findings")
+}
+
+/// Appends the inspections.
+#[tactic(auto, unfolding(crate::specs::Register::inspections_part))]
+fn push_inspections(
+    text: &mut String,
+    alloc: Global,
+    inspections: &[Inspection],
+) -> Result<(), NoMemory>
+    ensures { OnOk result (string_bytes text.new
+        ≡ string_bytes text.old ++ inspections_part inspections.now) }
+{
+    open_table(text, "Inspections")?;
+    push_inspection_headings(text)?;
+    begin_rows(text)?;
+    push_each_inspection(text, alloc, inspections)?;
+    end_table(text)
+}
+
+fn push_due_words(text: &mut String, due: &Option<Date>) -> Result<(), AllocError>
+    ensures { OnOk result (string_bytes text.new ≡ string_bytes text.old ++ due_words due.now) }
+{
+    match due {
+        None => text.push_str("<p>It was never inspected."),
+        Some(due) => write!(
+            text,
+            "<p>The next inspection is due on <strong>{due}</strong>."
+        ),
+    }
+}
+
+/// Appends when the next inspection is due, and how many days there are from one to the next.
+#[tactic(auto, unfolding(crate::specs::Register::due_note))]
+fn push_due_note(
+    text: &mut String,
+    interval: Interval,
+    due: &Option<Date>,
+) -> Result<(), AllocError>
+    ensures { OnOk result (string_bytes text.new
+        ≡ string_bytes text.old ++ due_note interval due.now) }
+{
+    push_due_words(text, due)?;
+    let days = interval.get();
+    write!(text, " Days from one inspection to the next: {days}.</p>\n")
+}
+
+/// Appends the register of a cabinet.
+#[tactic(auto, unfolding(crate::specs::Register::register_part))]
+pub(crate) fn push_register(
+    text: &mut String,
+    alloc: Global,
+    interval: Interval,
+    due: &Option<Date>,
+    view: &CabinetView,
+) -> Result<(), NoMemory>
+    ensures { OnOk result (string_bytes text.new
+        ≡ string_bytes text.old ++ register_part interval due.now view.now) }
+{
+    let lines = view.lines.as_slice();
+    let orders = view.orders.as_slice();
+    push_due_note(text, interval, due)?;
+    push_open_orders(text, alloc, lines, orders)?;
+    push_closed_orders(text, alloc, lines, orders)?;
+    push_inspections(text, alloc, view.inspections.as_slice())
+}
