@@ -1,6 +1,8 @@
 -- The columns that are written are those that are defined.
-use Rattle.std.proofs.Common.{◌≡◌, ℕ, ◌+◌, ◌-◌, ◌^◌, false, List, [], ◌∷◌, ◌++◌, length, replicate, decimal, refl, ap, ◌∙◌, arith, append_assoc}
+use Rattle.std.proofs.Common.{◌≡◌, ℕ, ◌+◌, ◌-◌, ◌^◌, false, List, [], ◌∷◌, ◌++◌, length, replicate, decimal, Result, Ok, Err, refl, ap, ◌∙◌, arith, append_assoc}
 use Rattle.std.specs.Fmt.{styled_decimal, padded_integral, format_spec}
+use Rattle.std.specs.Prelude.{OnOk, if◌then◌else◌}
+use Rattle.std.specs.Result.{is_ok}
 use Rattle.std.proofs.Padding.{padded_integral_right}
 use Rattle.std.proofs.lemmas.Grind.{replicate_next}
 use Rattle.office_files.specs.Cells.{right_aligned}
@@ -32,3 +34,14 @@ pub places_full : (start word : List ℕ) (width left n : ℕ) (bytes : List ℕ
 unfolding left_aligned
 places_full start word width left n bytes all count written =
     written ∙ ap (λ k. start ++ (word ++ replicate k 32)) (all ∙ count)
+
+-- three parts, the last of them by a call that may fail
+pub three_parts : {A E : Type 0} (result : Result A E) (old first second third one two new : List ℕ) → one ≡ old ++ first → two ≡ one ++ second
+    → OnOk result (new ≡ two ++ third) → OnOk result (new ≡ old ++ (first ++ second ++ third))
+three_parts (Ok x) old first second third one two new a b c = rw (c, b, a) (simp append_assoc)
+three_parts (Err e) old first second third one two new a b c = tt
+
+-- what a call that may fail has written where it did not
+pub where_ok : {A E : Type 0} (result : Result A E) (old more new : List ℕ) → new ≡ (if is_ok result then old ++ more else old) → OnOk result (new ≡ old ++ more)
+where_ok (Ok x) old more new is = is
+where_ok (Err e) old more new is = tt

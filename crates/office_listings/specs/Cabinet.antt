@@ -9,17 +9,21 @@ use Rattle.cabinet_core.specs.declared.record.Inspection.{Inspection}
 use Rattle.cabinet_core.specs.declared.record.Order.{Order}
 use Rattle.cabinet_core.specs.declared.record.UsedLine.{UsedLine}
 use Rattle.office_files.specs.Records.{is_line_of}
-use Rattle.office_listings.specs.Columns.{left_aligned, number_in}
+use Rattle.office_listings.specs.Columns.{last_column, left_aligned, number_in}
 
 -- the two lines at the top
 abbrev pub cabinet_title : ℕ → List ℕ → ℕ → List ℕ
 cabinet_title id name interval =
     codes "Cabinet " ++ decimal id ++ codes ": " ++ name ++ codes "\nInterval " ++ decimal interval ++ codes " days\n"
 
--- the next inspection is due so many days after the latest, whichever was recorded last
+-- the day on which the next inspection is due
+abbrev pub next_line : ℕ → List ℕ
+next_line day = codes "Next inspection due " ++ day_text day ++ codes "\n"
+
+-- it is so many days after the latest, whichever was recorded last
 abbrev pub due_line : ℕ → Option ℕ → List ℕ
 due_line interval None = codes "Never inspected\n"
-due_line interval (Some latest) = codes "Next inspection due " ++ day_text (latest + interval) ++ codes "\n"
+due_line interval (Some latest) = next_line (latest + interval)
 
 -- `     1  2026-03-01  Ana           Fan cleaned`
 abbrev pub record_line : (number day : ℕ) → (clerk text : List ℕ) → List ℕ
@@ -34,10 +38,14 @@ abbrev pub used_line : UsedLine → List ℕ
 used_line used =
     codes "           used" ++ number_in 7 used.line ++ codes "  " ++ left_aligned 20 used.part ++ number_in 8 used.count ++ codes "\n"
 
--- the closing, where there is one: `         closed  2026-05-02  Bo`
+-- a closing: `         closed  2026-05-02  Bo`
+abbrev pub closed_line : Closing → List ℕ
+closed_line closing = codes "         closed  " ++ day_text closing.day ++ last_column closing.closer
+
+-- where there is one
 abbrev pub closing_line : Option Closing → List ℕ
 closing_line None = []
-closing_line (Some closing) = codes "         closed  " ++ day_text closing.day ++ codes "  " ++ closing.closer ++ codes "\n"
+closing_line (Some closing) = closed_line closing
 
 -- an order, of which these are the used parts of its cabinet: its opening, its parts, its closing
 abbrev pub order_lines : List UsedLine → Order → List ℕ

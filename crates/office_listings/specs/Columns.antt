@@ -10,6 +10,10 @@ left_aligned width text = text ++ replicate (width - length text) 32
 abbrev pub number_in : ℕ → ℕ → List ℕ
 number_in width n = right_aligned width (decimal n)
 
+-- the last text of a line
+abbrev pub last_column : List ℕ → List ℕ
+last_column text = codes "  " ++ text ++ codes "\n"
+
 -- `Count 12`
 abbrev pub count_line : ℕ → List ℕ
 count_line n = codes "Count " ++ decimal n ++ codes "\n"

@@ -5,15 +5,15 @@ ghost use Rattle.std.specs.Prelude.{string_bytes};
 ghost use Rattle.cabinet_core.specs.Day.{day_text};
 ghost use Rattle.cabinet_core.specs.Orders.{is_open};
 ghost use Rattle.office_files.specs.Records.{is_line_of};
-ghost use Rattle.office_listings.specs.Cabinet.{cabinet_title, due_line, record_line};
-ghost use Rattle.office_listings.specs.Cabinet.{inspection_line, used_line, closing_line};
-ghost use Rattle.office_listings.specs.Cabinet.{order_lines};
+ghost use Rattle.office_listings.specs.Cabinet.{cabinet_title, next_line, due_line, record_line};
+ghost use Rattle.office_listings.specs.Cabinet.{inspection_line, used_line, closed_line};
+ghost use Rattle.office_listings.specs.Cabinet.{closing_line, order_lines};
 ghost use Rattle.office_listings.specs.Cabinet.{inspections_section, orders_section};
 ghost use Rattle.office_listings.specs.Cabinet.{cabinet_count, cabinet_records};
 ghost use Rattle.office_listings.specs.Cabinet.{cabinet_register};
 
 use crate::columns::{
-    push_date, push_day, push_line_number, push_long_number, push_number, push_word,
+    push_date, push_day, push_last, push_line_number, push_long_number, push_number, push_word,
 };
 use cabinet_core::{CabinetView, Closing, Day, Inspection, Order, UsedLine, due, latest};
 use office_machine::reply::CabinetShown;
@@ -43,16 +43,23 @@ fn push_due_day(text: &mut String, latest: Day, interval: Interval) -> Result<()
     push_date(text, due(latest, interval))
 }
 
-/// Appends the day on which the next inspection is due.
-fn push_due(text: &mut String, interval: Interval, latest: Option<Day>) -> Result<(), AllocError>
-    ensures { OnOk result (string_bytes text.new ≡ string_bytes text.old ++ due_line interval latest) }
+/// Appends the line of the day on which the next inspection is due.
+fn push_next(text: &mut String, latest: Day, interval: Interval) -> Result<(), AllocError>
+    ensures { OnOk result (string_bytes text.new ≡ string_bytes text.old ++ next_line (latest + interval)) }
 {
-    let Some(latest) = latest else {
-        return text.push_str("Never inspected\n");
-    };
     text.push_str("Next inspection due ")?;
     push_due_day(text, latest, interval)?;
     text.push_str("\n")
+}
+
+/// Appends the same, or that there never was an inspection.
+fn push_due(text: &mut String, interval: Interval, latest: Option<Day>) -> Result<(), AllocError>
+    ensures { OnOk result (string_bytes text.new ≡ string_bytes text.old ++ due_line interval latest) }
+{
+    match latest {
+        None => text.push_str("Never inspected\n"),
+        Some(latest) => push_next(text, latest, interval),
+    }
 }
 
 /// Appends the columns of an inspection, or of what opened an order.
@@ -116,17 +123,23 @@ fn push_parts(text: &mut String, order: RecordNo, lines: &[UsedLine]) -> Result<
     Ok(())
 }
 
+/// Appends the line of a closing.
+fn push_closed(text: &mut String, closing: &Closing) -> Result<(), AllocError>
+    ensures { OnOk result (string_bytes text.new ≡ string_bytes text.old ++ closed_line closing.now) }
+{
+    text.push_str("         closed  ")?;
+    push_day(text, closing.day)?;
+    push_last(text, closing.closer.as_str())
+}
+
 /// Appends the line of a closing, where there is one.
 fn push_closing(text: &mut String, closing: &Option<Closing>) -> Result<(), AllocError>
     ensures { OnOk result (string_bytes text.new ≡ string_bytes text.old ++ closing_line closing.now) }
 {
-    let Some(closing) = closing else {
-        return Ok(());
-    };
-    let closer = closing.closer.as_str();
-    text.push_str("         closed  ")?;
-    push_day(text, closing.day)?;
-    writeln!(text, "  {closer}")
+    match closing {
+        None => Ok(()),
+        Some(closing) => push_closed(text, closing),
+    }
 }
 
 /// Appends an order, its parts and its closing.

@@ -3,7 +3,7 @@
 ghost use Rattle.std.specs.Prelude.{◌≡◌, ◌++◌, OnOk, string_bytes};
 ghost use Rattle.jiff.specs.Words.{date_text};
 ghost use Rattle.cabinet_core.specs.Day.{day_text};
-ghost use Rattle.office_listings.specs.Columns.{left_aligned, number_in, count_line};
+ghost use Rattle.office_listings.specs.Columns.{left_aligned, number_in, last_column, count_line};
 
 use cabinet_core::Day;
 use jiff::civil::Date;
@@ -48,6 +48,13 @@ pub(crate) fn push_word(text: &mut String, word: &str, width: usize) -> Result<(
         text.push_str(" ")?;
     }
     Ok(())
+}
+
+/// Appends the last text of a line.
+pub(crate) fn push_last(text: &mut String, word: &str) -> Result<(), AllocError>
+    ensures { OnOk result (string_bytes text.new ≡ string_bytes text.old ++ last_column word.now) }
+{
+    writeln!(text, "  {word}")
 }
 
 /// Appends a date as `YYYY-MM-DD`.

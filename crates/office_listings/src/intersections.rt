@@ -1,6 +1,6 @@
 //! The list of the intersections.
 
-ghost use Rattle.std.specs.Prelude.{◌≡◌, ◌++◌, OnOk, IfOk, string_bytes};
+ghost use Rattle.std.specs.Prelude.{◌≡◌, ◌++◌, All, OnOk, IfOk, IsUtf8, string_bytes};
 ghost use Rattle.csv.specs.Records.{fields_of};
 ghost use Rattle.office_listings.specs.Intersections.{owner_word, stage_word, state_word};
 ghost use Rattle.office_listings.specs.Intersections.{holder_columns, intersection_line};
@@ -28,7 +28,7 @@ fn stage_word(stage: Stage) -> &'static str
 }
 
 /// The word for the state of a transaction.
-fn state_word(holder: &Option<Holder>) -> &'static str
+fn state_word(holder: &Option<Holder>) -> &str
     ensures { result.now ≡ state_word holder.now }
 {
     match holder {
@@ -85,29 +85,34 @@ pub fn intersections_text(alloc: Global, list: &[ListedIntersection]) -> Result<
 
 /// The fields of an intersection.
 fn listed_record(alloc: Global, listed: &ListedIntersection) -> Result<ByteRecord, NoMemory>
-    ensures { IfOk result (λ row. fields_of row ≡ intersection_fields listed.now) }
+    ensures fields { IfOk result (λ row. fields_of row ≡ intersection_fields listed.now) }
+    ensures texts { OnOk result (All IsUtf8 (intersection_fields listed.now)) }
 {
     let id = listed.id.get();
     let revision = listed.revision.get();
+    let state = state_word(&listed.holder);
+    let owner = owner_word(&listed.holder);
     let rows = listed.rows;
+    let name = listed.name.as_str();
     let id = format!(in alloc; "{id}")?;
     let revision = format!(in alloc; "{revision}")?;
     let rows = format!(in alloc; "{rows}")?;
     let fields = [
         id.as_bytes(),
         revision.as_bytes(),
-        state_word(&listed.holder).as_bytes(),
-        owner_word(&listed.holder).as_bytes(),
+        state.as_bytes(),
+        owner.as_bytes(),
         rows.as_bytes(),
-        listed.name.as_str().as_bytes(),
+        name.as_bytes(),
     ];
     ByteRecord::from_fields(alloc, &fields)
 }
 
 /// The list of intersections as CSV: a record for each with its number, revision, state, owner or
-/// `-`, number of committed rows, and name.
+/// `-`, number of committed rows, and name. It is UTF-8.
 pub fn intersections_csv(alloc: Global, list: &[ListedIntersection]) -> Result<Vec<u8>, NoMemory>
-    ensures { IfOk result (λ text. text.items ≡ intersections_csv_text list.now) }
+    ensures text { IfOk result (λ text. text.items ≡ intersections_csv_text list.now) }
+    ensures utf8 { IfOk result (λ text. IsUtf8 text.items) }
 {
     let mut records = Vec::new(alloc);
     for listed in list {

@@ -1,6 +1,6 @@
 //! What is on hand of each part.
 
-ghost use Rattle.std.specs.Prelude.{◌≡◌, ◌++◌, OnOk, IfOk, string_bytes};
+ghost use Rattle.std.specs.Prelude.{◌≡◌, ◌++◌, All, OnOk, IfOk, IsUtf8, string_bytes};
 ghost use Rattle.csv.specs.Records.{fields_of};
 ghost use Rattle.office_listings.specs.Stock.{part_fields, part_line};
 ghost use Rattle.office_listings.specs.Stock.{stock_csv_text, stock_listing};
@@ -38,17 +38,20 @@ pub fn stock_text(alloc: Global, parts: &[(PartCode, Hand)]) -> Result<Vec<u8>, 
 
 /// The fields of a part.
 fn part_record(alloc: Global, part: &(PartCode, Hand)) -> Result<ByteRecord, NoMemory>
-    ensures { IfOk result (λ row. fields_of row ≡ part_fields part.now) }
+    ensures fields { IfOk result (λ row. fields_of row ≡ part_fields part.now) }
+    ensures texts { OnOk result (All IsUtf8 (part_fields part.now)) }
 {
+    let code = part.0.as_str();
     let count = part.1.get();
     let count = format!(in alloc; "{count}")?;
-    let fields = [part.0.as_str().as_bytes(), count.as_bytes()];
+    let fields = [code.as_bytes(), count.as_bytes()];
     ByteRecord::from_fields(alloc, &fields)
 }
 
-/// What is on hand as CSV: a record for each part with its code and how many there are.
+/// What is on hand as CSV: a record for each part with its code and how many there are. It is UTF-8.
 pub fn stock_csv(alloc: Global, parts: &[(PartCode, Hand)]) -> Result<Vec<u8>, NoMemory>
-    ensures { IfOk result (λ text. text.items ≡ stock_csv_text parts.now) }
+    ensures text { IfOk result (λ text. text.items ≡ stock_csv_text parts.now) }
+    ensures utf8 { IfOk result (λ text. IsUtf8 text.items) }
 {
     let mut records = Vec::new(alloc);
     for part in parts {

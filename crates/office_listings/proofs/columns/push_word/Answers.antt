@@ -4,7 +4,7 @@ use Rattle.office_listings.proofs.columns.push_word.Goals as goal
 
 pub loop-preserved : goal.loop-preserved
 loop-preserved c =
-    place_more _ c.args.word.now c.loop.counter _ _ c.loop.invariant c.«in_ok-push_str-in-loop».ensures
+    place_more _ c.args.word.now c.loop.counter _ _ c.loop.invariant c.in_ok-push_str-2.ensures.bytes
 
 pub returns : goal.returns
 returns c =
