@@ -5,6 +5,7 @@ ghost use Rattle.office_files.specs.Changes.{changes_of};
 ghost use Rattle.office_machine.specs.Office.{Office as OfficeState};
 ghost use Rattle.office_desk.specs.StandFor.{StandForSound};
 ghost use Rattle.office_tables_shelf.specs.Shelf.{IsKept};
+ghost use Rattle.signal_office_asking.specs.Fault.{TellsUnknown};
 ghost use Rattle.signal_office_page.specs.Asking.{IsRefusedShowing};
 ghost use Rattle.signal_office_page.specs.Paging.{IsPageOf, IsPageOfFile};
 
@@ -31,6 +32,9 @@ pub fn page_of<S: Shelf>(
     // Where it fails, memory was refused, or one of the queries.
     ensures fault { IfErr result (λ why. why ≢ Fault.Memory → S.is_honest office.new →
         IsRefusedShowing (S.content office.old) id why) }
+    // An unknown intersection is told where the office has none, and only there.
+    ensures unknown { IfErr result (λ why. S.is_honest office.new → (before : OfficeState) →
+        StandForSound (S.content office.old) before → TellsUnknown before id why) }
 {
     let shown = intersection_in(alloc, office, id)?;
     Ok(intersection_page(alloc, &shown)?)

@@ -2,8 +2,9 @@
 use Rattle.std.proofs.Common.{◌≡◌, ℕ, suc, eqb, Bool, true, false, List, [], ◌∷◌, ◌++◌, map, flat_map}
 use Rattle.std.proofs.Common.{filter, length, codes, Option, Some, None, refl, sym, ap, ap₂, ◌∙◌}
 use Rattle.std.proofs.lemmas.List.Elements.{filter-append}
-use Rattle.std.specs.Prelude.{cond, decimal, option_map}
-use Rattle.jiff.specs.declared.civil.dates.Date.{Date}
+use Rattle.std.specs.Prelude.{cond, decimal, is_some, not, option_map}
+use Rattle.cabinet_core.specs.Orders.{is_open}
+use Rattle.cabinet_core.specs.Overdue.{greater, latest_day}
 use Rattle.cabinet_core.specs.declared.record.CabinetView.{CabinetView}
 use Rattle.cabinet_core.specs.declared.record.Closing.{Closing}
 use Rattle.cabinet_core.specs.declared.record.Inspection.{Inspection}
@@ -16,13 +17,14 @@ use Rattle.signal_page.specs.Words.{escaped_byte, escaped, isolated}
 use Rattle.signal_page.specs.Reading.{is_markup, marks}
 use Rattle.signal_page.specs.Blank.{blank_state, blank_inspection, blank_closing}
 use Rattle.signal_page.specs.Blank.{blank_order, blank_line, blank_view, blank}
-use Rattle.signal_page.specs.Cells.{text_cell}
-use Rattle.signal_page.specs.State.{fact, owner_text, is_open, is_open_by, open_count, draft_facts}
-use Rattle.signal_page.specs.State.{cabinet_facts}
-use Rattle.signal_page.specs.Register.{part_used, part_of, parts_cell, order_cells, closing_cells}
+use Rattle.signal_page.specs.Cells.{row_heading, text_cell}
+use Rattle.signal_page.specs.State.{fact, owner_text, due_text, draft_facts, cabinet_facts}
+use Rattle.signal_page.specs.Register.{day_cell, part_used, part_of, parts_cell, order_cells, closing_cells}
 use Rattle.signal_page.specs.Register.{open_by, open_row, closed_by, closed_row, open_orders}
-use Rattle.signal_page.specs.Register.{closed_orders, inspection_row, inspections_part, register_part}
-use Rattle.signal_page.specs.Page.{header, cabinet_section, page_text}
+use Rattle.signal_page.specs.Register.{closed_orders, inspection_row, inspections_part, due_note}
+use Rattle.signal_page.specs.Register.{register_part}
+use Rattle.signal_page.specs.Page.{header, plan_section, draft_section, cabinet_section, page_end}
+use Rattle.signal_page.specs.Page.{page_text}
 
 -- ---- texts with the same markup characters
 
@@ -106,33 +108,39 @@ unfolding draft_facts
 draft_facts_alike state =
     before _ (before _ (before _ (after _ (fact_alike _ _ _ (owner_alike state.owner)))))
 
-open_same : (closing : Option Closing) → is_open_by (option_map blank_closing closing) ≡ is_open_by closing
+latest_same : (inspections : List Inspection) → latest_day (map blank_inspection inspections) ≡ latest_day inspections
+latest_same [] = refl
+latest_same (x ∷ xs) = ap (λ (o : Option ℕ). Some (greater x.day o)) (latest_same xs)
+
+open_same : (closing : Option Closing) → not (is_some (option_map blank_closing closing)) ≡ not (is_some closing)
 open_same None = refl
 open_same (Some closing) = refl
 
-count_same : (orders : List Order) → open_count (map blank_order orders) ≡ open_count orders
+count_same : (orders : List Order) → length (filter is_open (map blank_order orders)) ≡ length (filter is_open orders)
 count_same [] = refl
-count_same (o ∷ os) = step (is_open_by o.closing) (open_same o.closing) (count_same os) where
-  step : (t : Bool) → is_open_by (option_map blank_closing o.closing) ≡ t
+count_same (o ∷ os) = step (not (is_some o.closing)) (open_same o.closing) (count_same os) where
+  step : (t : Bool) → not (is_some (option_map blank_closing o.closing)) ≡ t
       → length (filter is_open (map blank_order os)) ≡ length (filter is_open os)
-      → length (cond (is_open_by (option_map blank_closing o.closing)) (blank_order o ∷ filter is_open (map blank_order os)) (filter is_open (map blank_order os)))
+      → length (cond (not (is_some (option_map blank_closing o.closing))) (blank_order o ∷ filter is_open (map blank_order os)) (filter is_open (map blank_order os)))
       ≡ length (cond t (o ∷ filter is_open os) (filter is_open os))
-  step true e h = rw e (ap (λ n. suc n) h)
+  step true e h = rw e (ap (λ (n : ℕ). suc n) h)
   step false e h = rw e h
 
-cabinet_facts_alike : (due : Option Date) (orders : List Order) → Alike (cabinet_facts due orders) (cabinet_facts due (map blank_order orders))
+cabinet_facts_alike : (interval : ℕ) (inspections : List Inspection) (orders : List Order) → Alike (cabinet_facts interval (latest_day inspections) orders) (cabinet_facts interval (latest_day (map blank_inspection inspections)) (map blank_order orders))
 unfolding cabinet_facts
-cabinet_facts_alike due orders =
-    after _ (fact_alike _ _ _ (equal _ _ (ap decimal (sym (count_same orders)))))
+cabinet_facts_alike interval inspections orders =
+    joined
+    (equal _ _ (ap (λ (o : Option ℕ). fact (codes "Next inspection due") (due_text interval o)) (sym (latest_same inspections))))
+    (fact_alike (codes "Open orders") _ _ (equal _ _ (ap decimal (sym (count_same orders)))))
 
 -- ---- above the plan
 
-header_alike : (shown : IntersectionShown) (due : Option Date) → Alike (header shown due) (header (blank shown) due)
+header_alike : (shown : IntersectionShown) → Alike (header shown) (header (blank shown))
 unfolding header
-header_alike shown due =
+header_alike shown =
     before _ (before _ (before _ (joined (joined (before _ (joined (before _ (before _ (after _ (escaped_alike shown.state.name []))))
     (isolated_alike shown.state.name []))) (draft_facts_alike shown.state))
-    (cabinet_facts_alike due shown.cabinet.view.orders))))
+    (cabinet_facts_alike shown.state.interval shown.cabinet.view.inspections shown.cabinet.view.orders))))
 
 -- ---- the register
 
@@ -140,12 +148,17 @@ part_alike : (order : ℕ) (line : UsedLine) → Alike (part_of order line) (par
 unfolding part_used
 part_alike order line = by_test (eqb line.order order) where
   by_test : (t : Bool) → Alike (cond t (part_used line) []) (cond t (part_used (blank_line line)) [])
-  by_test true = before _ (after _ (isolated_alike line.part []))
+  by_test true =
+      before (codes "</div>")
+      (after (codes "<div>" ++ decimal line.count ++ codes " &times; ") (isolated_alike line.part []))
   by_test false = same []
 
 parts_alike : (lines : List UsedLine) (order : ℕ) → Alike (parts_cell lines order) (parts_cell (map blank_line lines) order)
 unfolding parts_cell
-parts_alike lines order = before _ (after _ (each (part_of order) (part_of order) blank_line (part_alike order) lines))
+parts_alike lines order =
+    before (codes "</td>")
+    (after (codes "<td class='w'>")
+    (each (part_of order) (part_of order) blank_line (part_alike order) lines))
 
 order_alike : (lines : List UsedLine) (order : Order) → Alike (order_cells lines order) (order_cells (map blank_line lines) (blank_order order))
 unfolding order_cells
@@ -160,14 +173,16 @@ closing_alike closing = after _ (text_cell_alike closing.closer [])
 open_alike : (lines : List UsedLine) (order : Order) → Alike (open_row lines order) (open_row (map blank_line lines) (blank_order order))
 open_alike lines order = by_closing order.closing where
   by_closing : (closing : Option Closing) → Alike (open_by lines order closing) (open_by (map blank_line lines) (blank_order order) (option_map blank_closing closing))
-  by_closing None = before _ (after _ (order_alike lines order))
+  by_closing None = before (codes "</tr>\n") (after (codes "<tr>") (order_alike lines order))
   by_closing (Some closing) = same []
 
 closed_alike : (lines : List UsedLine) (order : Order) → Alike (closed_row lines order) (closed_row (map blank_line lines) (blank_order order))
 closed_alike lines order = by_closing order.closing where
   by_closing : (closing : Option Closing) → Alike (closed_by lines order closing) (closed_by (map blank_line lines) (blank_order order) (option_map blank_closing closing))
   by_closing None = same []
-  by_closing (Some closing) = before _ (joined (after _ (order_alike lines order)) (closing_alike closing))
+  by_closing (Some closing) =
+      before (codes "</tr>\n")
+      (joined (after (codes "<tr>") (order_alike lines order)) (closing_alike closing))
 
 open_orders_alike : (lines : List UsedLine) (orders : List Order) → Alike (open_orders lines orders) (open_orders (map blank_line lines) (map blank_order orders))
 unfolding open_orders
@@ -182,30 +197,41 @@ closed_orders_alike lines orders =
 inspection_alike : (inspection : Inspection) → Alike (inspection_row inspection) (inspection_row (blank_inspection inspection))
 unfolding inspection_row
 inspection_alike inspection =
-    before _ (joined (after _ (text_cell_alike inspection.clerk [])) (text_cell_alike inspection.text []))
+    before (codes "</tr>\n")
+    (joined
+    (after (codes "<tr>" ++ row_heading inspection.number ++ day_cell inspection.day)
+    (text_cell_alike inspection.clerk [])) (text_cell_alike inspection.text []))
 
 inspections_alike : (inspections : List Inspection) → Alike (inspections_part inspections) (inspections_part (map blank_inspection inspections))
 unfolding inspections_part
 inspections_alike inspections =
     before _ (after _ (each inspection_row inspection_row blank_inspection inspection_alike inspections))
 
-register_alike : (interval : ℕ) (due : Option Date) (view : CabinetView) → Alike (register_part interval due view) (register_part interval due (blank_view view))
+register_alike : (interval : ℕ) (view : CabinetView) → Alike (register_part interval view) (register_part interval (blank_view view))
 unfolding register_part
-register_alike interval due view =
-    joined (joined (after _ (open_orders_alike view.lines view.orders))
+register_alike interval view =
+    joined (joined (joined (equal _ _ (ap (due_note interval) (sym (latest_same view.inspections))))
+    (open_orders_alike view.lines view.orders))
     (closed_orders_alike view.lines view.orders)) (inspections_alike view.inspections)
 
-cabinet_alike : (shown : IntersectionShown) (due : Option Date) → Alike (cabinet_section shown due) (cabinet_section (blank shown) due)
+cabinet_alike : (shown : IntersectionShown) → Alike (cabinet_section shown) (cabinet_section (blank shown))
 unfolding cabinet_section
-cabinet_alike shown due = before _ (after _ (register_alike shown.state.interval due shown.cabinet.view))
+cabinet_alike shown =
+    before (codes "</section>\n")
+    (after
+    (codes "<section id='cabinet' aria-labelledby='cabinet-title'>\n"
+    ++ codes "<h2 id='cabinet-title'>The cabinet</h2>\n")
+    (register_alike shown.state.interval shown.cabinet.view))
 
 -- ---- the page
 
-page_alike : (shown : IntersectionShown) (due : Option Date) (differences : List Difference) → Alike (page_text shown due differences) (page_text (blank shown) due differences)
+page_alike : (shown : IntersectionShown) (differences : List Difference) → Alike (page_text shown differences) (page_text (blank shown) differences)
 unfolding page_text
-page_alike shown due differences =
-    before _ (joined (before _ (before _ (header_alike shown due))) (cabinet_alike shown due))
+page_alike shown differences =
+    before page_end
+    (joined (before (draft_section shown.draft differences) (before (plan_section shown.committed) (header_alike shown)))
+    (cabinet_alike shown))
 
 -- a page has the tags that it has with its names and texts empty
-pub own_markup : (shown : IntersectionShown) (due : Option Date) (differences : List Difference) (text : List ℕ) → text ≡ page_text shown due differences → marks text ≡ marks (page_text (blank shown) due differences)
-own_markup shown due differences text is = ap marks is ∙ (page_alike shown due differences).marked
+pub own_markup : (shown : IntersectionShown) (differences : List Difference) (text : List ℕ) → text ≡ page_text shown differences → marks text ≡ marks (page_text (blank shown) differences)
+own_markup shown differences text is = ap marks is ∙ (page_alike shown differences).marked

@@ -39,5 +39,5 @@ unfoldable pub changes_part : List Difference → List ℕ
 changes_part differences =
     codes "<div class='changes'>\n<h3>What it changes</h3>\n"
     ++ when_empty differences (codes "<p>It changes nothing of the plan that runs.</p>\n")
-    ++ change_table Patterns differences ++ change_table Splits differences
-    ++ change_table Sequences differences ++ change_table Phases differences ++ codes "</div>\n"
+    ++ change_table Patterns differences ++ change_table Sequences differences
+    ++ change_table Splits differences ++ change_table Phases differences ++ codes "</div>\n"

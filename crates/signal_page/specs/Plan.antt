@@ -1,5 +1,6 @@
 -- A plan in the page: the pictures of its patterns, and its tables.
-use Rattle.std.specs.Prelude.{ℕ, Bool, List, [], ◌∷◌, ◌++◌, flat_map, length, codes, decimal}
+use Rattle.std.specs.Prelude.{ℕ, ◌==◌, Bool, if◌then◌else◌, List, [], ◌++◌, flat_map, length}
+use Rattle.std.specs.Prelude.{codes, decimal}
 use Rattle.std.specs.FinMap.{values}
 use Rattle.office_files.specs.Cells.{when_empty}
 use Rattle.signal_diagram.specs.Diagram.{figure_text}
@@ -28,8 +29,12 @@ abbrev pub plan_part : Bool → List Violation → Rows → List ℕ
 plan_part told violations set = plan_rows told violations set (values set)
 
 -- how many rules are broken
-abbrev pub violations_note : List Violation → List ℕ
-violations_note [] = codes "<p class='sound'>It breaks no rule.</p>\n"
-violations_note (first ∷ others) =
-    codes "<p class='broken'>Broken rules: " ++ decimal (length (first ∷ others))
+unfoldable pub broken_note : ℕ → List ℕ
+broken_note count =
+    codes "<p class='broken'>Broken rules: " ++ decimal count
     ++ codes ". Each stands beside its row.</p>\n"
+
+abbrev pub violations_note : List Violation → List ℕ
+violations_note violations =
+    if length violations == 0 then codes "<p class='sound'>It breaks no rule.</p>\n"
+    else broken_note (length violations)

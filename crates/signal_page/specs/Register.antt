@@ -1,15 +1,15 @@
 -- The register of a cabinet in the page: the due day, open orders first, then closed ones, and the
 -- inspections.
-use Rattle.std.specs.Prelude.{ℕ, ◌==◌, if◌then◌else◌, List, [], ◌++◌, flat_map, codes, decimal}
+use Rattle.std.specs.Prelude.{ℕ, ◌+◌, if◌then◌else◌, List, [], ◌++◌, flat_map, codes, decimal}
 use Rattle.std.specs.Prelude.{Option, Some, None}
-use Rattle.jiff.specs.Words.{date_text}
-use Rattle.jiff.specs.declared.civil.dates.Date.{Date}
 use Rattle.cabinet_core.specs.Day.{day_text}
+use Rattle.cabinet_core.specs.Overdue.{latest_day}
 use Rattle.cabinet_core.specs.declared.record.CabinetView.{CabinetView}
 use Rattle.cabinet_core.specs.declared.record.Closing.{Closing}
 use Rattle.cabinet_core.specs.declared.record.Inspection.{Inspection}
 use Rattle.cabinet_core.specs.declared.record.Order.{Order}
 use Rattle.cabinet_core.specs.declared.record.UsedLine.{UsedLine}
+use Rattle.office_files.specs.Records.{is_line_of}
 use Rattle.signal_page.specs.Words.{isolated}
 use Rattle.signal_page.specs.Cells.{heading, words_heading, row_heading, text_cell}
 use Rattle.signal_page.specs.Tables.{table_opening, table_body, table_end}
@@ -25,7 +25,7 @@ part_used line =
     codes "<div>" ++ decimal line.count ++ codes " &times; " ++ isolated line.part ++ codes "</div>"
 
 abbrev pub part_of : ℕ → UsedLine → List ℕ
-part_of order line = if line.order == order then part_used line else []
+part_of order line = if is_line_of order line then part_used line else []
 
 unfoldable pub parts_cell : List UsedLine → ℕ → List ℕ
 parts_cell lines order =
@@ -91,17 +91,21 @@ inspections_part inspections =
 
 -- ---- the register
 
-abbrev pub due_words : Option Date → List ℕ
-due_words None = codes "<p>It was never inspected."
-due_words (Some due) =
-    codes "<p>The next inspection is due on <strong>" ++ date_text due ++ codes "</strong>."
+-- the due day is so many days after the latest inspection
+unfoldable pub due_on : ℕ → List ℕ
+due_on day =
+    codes "<p>The next inspection is due on <strong>" ++ day_text day ++ codes "</strong>."
 
-unfoldable pub due_note : ℕ → Option Date → List ℕ
-due_note interval due =
-    due_words due ++ codes " Days from one inspection to the next: " ++ decimal interval
+abbrev pub due_words : ℕ → Option ℕ → List ℕ
+due_words interval None = codes "<p>It was never inspected."
+due_words interval (Some latest) = due_on (latest + interval)
+
+unfoldable pub due_note : ℕ → Option ℕ → List ℕ
+due_note interval latest =
+    due_words interval latest ++ codes " Days from one inspection to the next: " ++ decimal interval
     ++ codes ".</p>\n"
 
-unfoldable pub register_part : ℕ → Option Date → CabinetView → List ℕ
-register_part interval due view =
-    due_note interval due ++ open_orders view.lines view.orders
+unfoldable pub register_part : ℕ → CabinetView → List ℕ
+register_part interval view =
+    due_note interval (latest_day view.inspections) ++ open_orders view.lines view.orders
     ++ closed_orders view.lines view.orders ++ inspections_part view.inspections

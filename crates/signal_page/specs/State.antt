@@ -1,11 +1,8 @@
 -- How an intersection stands, above its plan.
-use Rattle.std.specs.Prelude.{ℕ, ◌+◌, List, [], ◌∷◌, ◌++◌, codes, decimal, Option, Some, None}
-use Rattle.std.specs.Prelude.{option_map, length, filter, Bool, true, false, ℤ, pos}
-use Rattle.jiff.specs.Words.{date_text}
-use Rattle.jiff.specs.declared.civil.dates.Date.{Date}
-use Rattle.cabinet_core.specs.Overdue.{latest_day}
-use Rattle.cabinet_core.specs.declared.record.Closing.{Closing}
-use Rattle.cabinet_core.specs.declared.record.Inspection.{Inspection}
+use Rattle.std.specs.Prelude.{ℕ, ◌+◌, List, ◌++◌, filter, length, codes, decimal, Option, Some}
+use Rattle.std.specs.Prelude.{None}
+use Rattle.cabinet_core.specs.Day.{day_text}
+use Rattle.cabinet_core.specs.Orders.{is_open}
 use Rattle.cabinet_core.specs.declared.record.Order.{Order}
 use Rattle.draft_core.specs.declared.state.DbState.{DbState}
 use Rattle.draft_core.specs.declared.state.DbState.TheVariants.{Normal, Transaction, Verify, Done}
@@ -33,24 +30,10 @@ abbrev pub owner_text : Option (List ℕ) → List ℕ
 owner_text None = codes "nobody"
 owner_text (Some owner) = isolated owner
 
--- the number of the day on which the next inspection falls due: so many days after the latest one
-abbrev pub due_day : ℕ → List Inspection → Option ℤ
-due_day interval inspections = option_map (λ last. pos (last + interval)) (latest_day inspections)
-
-abbrev pub due_text : Option Date → List ℕ
-due_text None = codes "never inspected"
-due_text (Some due) = date_text due
-
--- an order is open while nothing closes it
-abbrev pub is_open_by : Option Closing → Bool
-is_open_by None = true
-is_open_by (Some closing) = false
-
-abbrev pub is_open : Order → Bool
-is_open order = is_open_by order.closing
-
-abbrev pub open_count : List Order → ℕ
-open_count orders = length (filter is_open orders)
+-- the day on which the next inspection falls due: so many days after the latest one
+abbrev pub due_text : ℕ → Option ℕ → List ℕ
+due_text interval None = codes "never inspected"
+due_text interval (Some latest) = day_text (latest + interval)
 
 -- ---- how it is told
 
@@ -67,7 +50,7 @@ draft_facts state =
     ++ fact (codes "Revision") (decimal state.revision)
     ++ fact (codes "Rows that run") (decimal state.rows)
 
-unfoldable pub cabinet_facts : Option Date → List Order → List ℕ
-cabinet_facts due orders =
-    fact (codes "Next inspection due") (due_text due)
-    ++ fact (codes "Open orders") (decimal (open_count orders))
+unfoldable pub cabinet_facts : ℕ → Option ℕ → List Order → List ℕ
+cabinet_facts interval latest orders =
+    fact (codes "Next inspection due") (due_text interval latest)
+    ++ fact (codes "Open orders") (decimal (length (filter is_open orders)))

@@ -28,16 +28,25 @@ crossing_headings =
     ++ heading (codes "Setback (ft)") ++ words_heading (codes "Short walk")
     ++ heading (codes "Lead (s)") ++ words_heading (codes "Concurrent phases")
 
-abbrev pub headings : Kind → List ℕ
-headings Phases = interval_headings ++ crossing_headings
-headings Sequences =
+unfoldable pub sequence_headings : List ℕ
+sequence_headings =
     heading (codes "Sequence") ++ heading (codes "Ring") ++ words_heading (codes "Phases in turn")
-headings Splits =
+
+unfoldable pub split_headings : List ℕ
+split_headings =
     heading (codes "Split") ++ heading (codes "Phase") ++ heading (codes "Time (s)")
     ++ words_heading (codes "Mode") ++ words_heading (codes "Coordinated")
-headings Patterns =
+
+unfoldable pub pattern_headings : List ℕ
+pattern_headings =
     heading (codes "Pattern") ++ heading (codes "Cycle (s)") ++ heading (codes "Offset (s)")
     ++ heading (codes "Split") ++ heading (codes "Sequence")
+
+abbrev pub headings : Kind → List ℕ
+headings Phases = interval_headings ++ crossing_headings
+headings Sequences = sequence_headings
+headings Splits = split_headings
+headings Patterns = pattern_headings
 
 -- the heading of the rules that rows break, in a table that tells them
 abbrev pub told_heading : Bool → List ℕ
@@ -65,5 +74,5 @@ table kind told violations rows =
 -- the four tables
 unfoldable pub tables : Bool → List Violation → List Row → List ℕ
 tables told violations rows =
-    table Patterns told violations rows ++ table Splits told violations rows
-    ++ table Sequences told violations rows ++ table Phases told violations rows
+    table Patterns told violations rows ++ table Sequences told violations rows
+    ++ table Splits told violations rows ++ table Phases told violations rows

@@ -80,7 +80,6 @@ fn push_numbers(text: &mut String, phases: &[PhaseNo]) -> Result<(), AllocError>
 }
 
 /// Appends a list of phases.
-#[tactic(auto, unfolding(crate::specs::Cells::list_cell))]
 pub(crate) fn push_list(text: &mut String, phases: &[PhaseNo]) -> Result<(), AllocError>
     ensures { OnOk result (string_bytes text.new ≡ string_bytes text.old ++ list_cell phases.now) }
 {
@@ -98,7 +97,6 @@ pub(crate) fn push_words(text: &mut String, words: &str) -> Result<(), AllocErro
 }
 
 /// Appends a name or text of others.
-#[tactic(auto, unfolding(crate::specs::Cells::text_cell))]
 pub(crate) fn push_text(text: &mut String, words: &str) -> Result<(), AllocError>
     ensures { OnOk result (string_bytes text.new ≡ string_bytes text.old ++ text_cell words.now) }
 {

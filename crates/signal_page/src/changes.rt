@@ -1,6 +1,7 @@
 //! What a draft changes of the plan that runs.
 
-ghost use Rattle.std.specs.Prelude.{◌≡◌, ◌++◌, OnOk, flat_map, string_bytes};
+ghost use Rattle.std.specs.Prelude.{◌≡◌, ◌++◌, OnOk, codes, flat_map, string_bytes};
+ghost use Rattle.office_files.specs.Cells.{when_empty};
 ghost use Rattle.signal_page.specs.Changes.{opening_of, marked_row, change_rows, change_table};
 ghost use Rattle.signal_page.specs.Changes.{changes_part};
 
@@ -67,7 +68,6 @@ fn push_changes(text: &mut String, kind: Kind, differences: &[Difference]) -> Re
 }
 
 /// Appends the table of the changes of a kind.
-#[tactic(auto, unfolding(crate::specs::Changes::change_table))]
 fn push_change_table(
     text: &mut String,
     kind: Kind,
@@ -84,8 +84,19 @@ fn push_change_table(
     end_table(text)
 }
 
+/// Appends that there is no change, where that is so.
+fn push_no_changes(text: &mut String, differences: &[Difference]) -> Result<(), AllocError>
+    ensures { OnOk result (string_bytes text.new ≡ string_bytes text.old
+        ++ when_empty differences.now (codes "<p>It changes nothing of the plan that runs.</p>\n")) }
+{
+    if differences.is_empty() {
+        text.push_str("<p>It changes nothing of the plan that runs.</p>\n")
+    } else {
+        Ok(())
+    }
+}
+
 /// Appends the tables of changes, or that there is none.
-#[tactic(auto, unfolding(crate::specs::Changes::changes_part))]
 pub(crate) fn push_changes_part(
     text: &mut String,
     differences: &[Difference],
@@ -94,12 +105,10 @@ pub(crate) fn push_changes_part(
         ≡ string_bytes text.old ++ changes_part differences.now) }
 {
     text.push_str("<div class='changes'>\n<h3>What it changes</h3>\n")?;
-    if differences.is_empty() {
-        text.push_str("<p>It changes nothing of the plan that runs.</p>\n")?;
-    }
+    push_no_changes(text, differences)?;
     push_change_table(text, Kind::Patterns, differences)?;
-    push_change_table(text, Kind::Splits, differences)?;
     push_change_table(text, Kind::Sequences, differences)?;
+    push_change_table(text, Kind::Splits, differences)?;
     push_change_table(text, Kind::Phases, differences)?;
     text.push_str("</div>\n")
 }

@@ -9,13 +9,13 @@ ghost use Rattle.signal_page.specs.Page.{draft_section, cabinet_section, page_te
 ghost use Rattle.signal_page.specs.Page.{AreChanges, IsPage, plan_page_text};
 
 use crate::changes::push_changes_part;
-use crate::facts::{due_date, push_cabinet_facts, push_draft_facts};
+use crate::facts::{push_cabinet_facts, push_draft_facts};
 use crate::plan::{push_plan, push_violations_note};
 use crate::register::push_register;
 use crate::shown::IntersectionShown;
 use crate::style::STYLE;
 use crate::words::{push_escaped, push_isolated};
-use jiff::civil::Date;
+use cabinet_core::latest;
 use signal_compare::{Difference, compare};
 use signal_records::{InterId, NoMemory, TimingSet};
 use signal_rules::violations;
@@ -23,7 +23,6 @@ use std::alloc::{AllocError, Global};
 use std::fmt::Write;
 
 /// Opens the head of a page, up to its title.
-#[tactic(auto, unfolding(crate::specs::Page::head_opening))]
 fn open_head(text: &mut String) -> Result<(), AllocError>
     ensures { OnOk result (string_bytes text.new ≡ string_bytes text.old ++ head_opening) }
 {
@@ -32,7 +31,6 @@ fn open_head(text: &mut String) -> Result<(), AllocError>
 }
 
 /// Ends the head of a page after its title, and opens its heading.
-#[tactic(auto, unfolding(crate::specs::Page::head_end))]
 fn end_head(text: &mut String) -> Result<(), AllocError>
     ensures { OnOk result (string_bytes text.new ≡ string_bytes text.old ++ head_end) }
 {
@@ -51,7 +49,6 @@ fn end_page(text: &mut String) -> Result<(), AllocError>
 }
 
 /// Appends the number of an intersection, before its name.
-#[tactic(auto, unfolding(crate::specs::Page::title))]
 fn push_title(text: &mut String, id: InterId) -> Result<(), AllocError>
     ensures { OnOk result (string_bytes text.new ≡ string_bytes text.old ++ title id) }
 {
@@ -71,7 +68,6 @@ fn push_draft_link(text: &mut String, draft: &Option<TimingSet>) -> Result<(), A
 }
 
 /// Appends links to the parts of the page.
-#[tactic(auto, unfolding(crate::specs::Page::links))]
 fn push_links(text: &mut String, draft: &Option<TimingSet>) -> Result<(), AllocError>
     ensures { OnOk result (string_bytes text.new ≡ string_bytes text.old ++ links draft.now) }
 {
@@ -82,16 +78,12 @@ fn push_links(text: &mut String, draft: &Option<TimingSet>) -> Result<(), AllocE
 }
 
 /// Appends the head and what stands above the plan.
-#[tactic(auto, unfolding(crate::specs::Page::header))]
-fn push_header(
-    text: &mut String,
-    shown: &IntersectionShown,
-    due: &Option<Date>,
-) -> Result<(), AllocError>
-    ensures { OnOk result (string_bytes text.new
-        ≡ string_bytes text.old ++ header shown.now due.now) }
+fn push_header(text: &mut String, shown: &IntersectionShown) -> Result<(), AllocError>
+    ensures { OnOk result (string_bytes text.new ≡ string_bytes text.old ++ header shown.now) }
 {
     let name = shown.state.name.as_str();
+    let last = latest(shown.cabinet.view.inspections.as_slice());
+    let orders = shown.cabinet.view.orders.as_slice();
     open_head(text)?;
     push_title(text, shown.state.id)?;
     push_escaped(text, name)?;
@@ -100,14 +92,13 @@ fn push_header(
     push_isolated(text, name)?;
     text.push_str("</h1>\n<dl>\n")?;
     push_draft_facts(text, &shown.state)?;
-    push_cabinet_facts(text, due, shown.cabinet.view.orders.as_slice())?;
+    push_cabinet_facts(text, shown.state.interval, last, orders)?;
     text.push_str("</dl>\n")?;
     push_links(text, &shown.draft)?;
     text.push_str("</header>\n<main id='main'>\n")
 }
 
 /// Appends the plan that runs.
-#[tactic(auto, unfolding(crate::specs::Page::plan_section))]
 fn push_plan_section(
     text: &mut String,
     alloc: Global,
@@ -138,6 +129,7 @@ fn push_open_draft(
     text.push_str("<h2 id='draft-title'>The draft</h2>\n")?;
     push_violations_note(text, &broken)?;
     push_changes_part(text, differences)?;
+    text.push_str("<h3>The whole draft</h3>\n")?;
     push_plan(text, alloc, true, &broken, draft)?;
     text.push_str("</section>\n")
 }
@@ -159,19 +151,17 @@ fn push_draft_section(
 }
 
 /// Appends the register of the cabinet.
-#[tactic(auto, unfolding(crate::specs::Page::cabinet_section))]
 fn push_cabinet_section(
     text: &mut String,
     alloc: Global,
     shown: &IntersectionShown,
-    due: &Option<Date>,
 ) -> Result<(), NoMemory>
     ensures { OnOk result (string_bytes text.new
-        ≡ string_bytes text.old ++ cabinet_section shown.now due.now) }
+        ≡ string_bytes text.old ++ cabinet_section shown.now) }
 {
     text.push_str("<section id='cabinet' aria-labelledby='cabinet-title'>\n")?;
     text.push_str("<h2 id='cabinet-title'>The cabinet</h2>\n")?;
-    push_register(text, alloc, shown.state.interval, due, &shown.cabinet.view)?;
+    push_register(text, alloc, shown.state.interval, &shown.cabinet.view)?;
     text.push_str("</section>\n")
 }
 
@@ -189,21 +179,19 @@ fn changes_of(
     }
 }
 
-/// The page by the due day and the changes.
+/// The page by the changes of the draft.
 fn whole_page(
     alloc: Global,
     shown: &IntersectionShown,
-    due: &Option<Date>,
     differences: &[Difference],
 ) -> Result<Vec<u8>, NoMemory>
-    ensures { IfOk result (λ text. text.items
-        ≡ page_text shown.now due.now differences.now) }
+    ensures { IfOk result (λ text. text.items ≡ page_text shown.now differences.now) }
 {
     let mut text = String::new(alloc);
-    push_header(&mut text, shown, due)?;
+    push_header(&mut text, shown)?;
     push_plan_section(&mut text, alloc, &shown.committed)?;
     push_draft_section(&mut text, alloc, &shown.draft, differences)?;
-    push_cabinet_section(&mut text, alloc, shown, due)?;
+    push_cabinet_section(&mut text, alloc, shown)?;
     end_page(&mut text)?;
     Ok(text.into_bytes())
 }
@@ -217,12 +205,8 @@ pub fn intersection_page(alloc: Global, shown: &IntersectionShown) -> Result<Vec
     // A reader takes each name and text back as it was.
     ensures read { (words : List ℕ) → unescaped (escaped words) ≡ words }
 {
-    let due = due_date(
-        shown.state.interval,
-        shown.cabinet.view.inspections.as_slice(),
-    );
     let differences = changes_of(alloc, &shown.committed, &shown.draft)?;
-    whole_page(alloc, shown, &due, &differences)
+    whole_page(alloc, shown, &differences)
 }
 
 /// The page of a plan alone: how many rules it breaks, its pictures, and its tables with the rules

@@ -1,16 +1,15 @@
 //! How an intersection stands, above its plan.
 
-ghost use Rattle.std.specs.Prelude.{◌≡◌, ◌++◌, OnOk, codes, decimal, option_map, string_bytes};
-ghost use Rattle.cabinet_core.specs.Overdue.{greater, latest_day};
-ghost use Rattle.jiff.specs.Words.{epoch_day};
-ghost use Rattle.signal_page.specs.State.{state_words, verdict_words, owner_text, due_day};
-ghost use Rattle.signal_page.specs.State.{due_text, is_open, open_count, fact, draft_facts};
-ghost use Rattle.signal_page.specs.State.{cabinet_facts};
+ghost use Rattle.std.specs.Prelude.{◌≡◌, ◌+◌, ◌++◌, OnOk, codes, decimal, filter, length};
+ghost use Rattle.std.specs.Prelude.{string_bytes};
+ghost use Rattle.cabinet_core.specs.Day.{day_text};
+ghost use Rattle.cabinet_core.specs.Orders.{is_open};
+ghost use Rattle.signal_page.specs.State.{state_words, verdict_words, owner_text, due_text, fact};
+ghost use Rattle.signal_page.specs.State.{draft_facts, cabinet_facts};
 
 use crate::words::push_isolated;
-use cabinet_core::{Day, Inspection, Order, due};
+use cabinet_core::{Day, Order, due};
 use draft_core::state::{DbState, Verdict};
-use jiff::civil::Date;
 use office_machine::reply::IntersectionState;
 use signal_records::{Interval, Words};
 use std::alloc::AllocError;
@@ -37,36 +36,6 @@ fn verdict_words(verdict: Verdict) -> &'static str
     }
 }
 
-/// The later of a day and what there is besides.
-fn later(day: Day, last: Option<Day>) -> Day
-    ensures { result ≡ greater day last }
-{
-    match last {
-        None => day,
-        Some(last) => day.max(last),
-    }
-}
-
-/// The latest day of some inspections, if there is one.
-fn latest(inspections: &[Inspection]) -> Option<Day>
-    ensures { result ≡ latest_day inspections.now }
-{
-    let mut latest = None;
-    for inspection in inspections {
-        latest = Some(later(inspection.day, latest));
-    }
-    latest
-}
-
-/// The day on which the next inspection falls due: so many days after the latest one. Nothing where
-/// there was none.
-pub(crate) fn due_date(interval: Interval, inspections: &[Inspection]) -> Option<Date>
-    ensures { option_map epoch_day result ≡ due_day interval inspections.now }
-{
-    let last = latest(inspections)?;
-    Some(due(last, interval))
-}
-
 fn is_open(order: &Order) -> bool
     ensures { result ≡ is_open order.now }
 {
@@ -75,7 +44,7 @@ fn is_open(order: &Order) -> bool
 
 /// How many orders are open.
 fn open_count(orders: &[Order]) -> usize
-    ensures { result ≡ open_count orders.now }
+    ensures { result ≡ length (filter is_open orders.now) }
 {
     let mut count: usize = 0;
     for order in orders {
@@ -148,28 +117,46 @@ fn push_owner_fact(
     end_fact(text)
 }
 
-fn push_due(text: &mut String, due: &Option<Date>) -> Result<(), AllocError>
-    ensures { OnOk result (string_bytes text.new ≡ string_bytes text.old ++ due_text due.now) }
+/// Appends the day so many days after another, which may lie past the last day of a record.
+pub(crate) fn push_due_day(
+    text: &mut String,
+    latest: Day,
+    interval: Interval,
+) -> Result<(), AllocError>
+    ensures { OnOk result (string_bytes text.new
+        ≡ string_bytes text.old ++ day_text (latest + interval)) }
 {
-    match due {
+    let date = due(latest, interval);
+    write!(text, "{date}")
+}
+
+fn push_due(text: &mut String, interval: Interval, latest: Option<Day>) -> Result<(), AllocError>
+    ensures { OnOk result (string_bytes text.new
+        ≡ string_bytes text.old ++ due_text interval latest) }
+{
+    match latest {
         None => text.push_str("never inspected"),
-        Some(due) => write!(text, "{due}"),
+        Some(latest) => push_due_day(text, latest, interval),
     }
 }
 
 /// Appends the due day.
 #[tactic(auto, unfolding(crate::specs::State::fact))]
-fn push_due_fact(text: &mut String, name: &str, due: &Option<Date>) -> Result<(), AllocError>
+fn push_due_fact(
+    text: &mut String,
+    name: &str,
+    interval: Interval,
+    latest: Option<Day>,
+) -> Result<(), AllocError>
     ensures { OnOk result (string_bytes text.new
-        ≡ string_bytes text.old ++ fact name.now (due_text due.now)) }
+        ≡ string_bytes text.old ++ fact name.now (due_text interval latest)) }
 {
     open_fact(text, name)?;
-    push_due(text, due)?;
+    push_due(text, interval, latest)?;
     end_fact(text)
 }
 
 /// Appends how the plan and its draft stand.
-#[tactic(auto, unfolding(crate::specs::State::draft_facts))]
 pub(crate) fn push_draft_facts(
     text: &mut String,
     state: &IntersectionState,
@@ -185,15 +172,15 @@ pub(crate) fn push_draft_facts(
 }
 
 /// Appends how the cabinet stands.
-#[tactic(auto, unfolding(crate::specs::State::cabinet_facts))]
 pub(crate) fn push_cabinet_facts(
     text: &mut String,
-    due: &Option<Date>,
+    interval: Interval,
+    latest: Option<Day>,
     orders: &[Order],
 ) -> Result<(), AllocError>
     ensures { OnOk result (string_bytes text.new
-        ≡ string_bytes text.old ++ cabinet_facts due.now orders.now) }
+        ≡ string_bytes text.old ++ cabinet_facts interval latest orders.now) }
 {
-    push_due_fact(text, "Next inspection due", due)?;
+    push_due_fact(text, "Next inspection due", interval, latest)?;
     push_number_fact(text, "Open orders", open_count(orders))
 }

@@ -1,10 +1,11 @@
 //! A plan in the page: the pictures of its patterns, and its tables.
 
-ghost use Rattle.std.specs.Prelude.{◌≡◌, ◌++◌, OnOk, string_bytes};
+ghost use Rattle.std.specs.Prelude.{◌≡◌, ◌++◌, OnOk, codes, string_bytes};
+ghost use Rattle.office_files.specs.Cells.{when_empty};
 ghost use Rattle.std.specs.FinMap.{values};
 ghost use Rattle.signal_diagram.specs.Diagram.{figure_text};
 ghost use Rattle.signal_page.specs.Plan.{picture_for, pictures, plan_rows, plan_part};
-ghost use Rattle.signal_page.specs.Plan.{violations_note};
+ghost use Rattle.signal_page.specs.Plan.{broken_note, violations_note};
 
 use crate::tables::push_tables;
 use signal_diagram::figure;
@@ -64,6 +65,18 @@ fn push_pictures(
     Ok(())
 }
 
+/// Appends that a plan has no rows, where that is so.
+fn push_no_rows(text: &mut String, rows: &[Row]) -> Result<(), AllocError>
+    ensures { OnOk result (string_bytes text.new ≡ string_bytes text.old
+        ++ when_empty rows.now (codes "<p class='none'>It has no rows.</p>\n")) }
+{
+    if rows.is_empty() {
+        text.push_str("<p class='none'>It has no rows.</p>\n")
+    } else {
+        Ok(())
+    }
+}
+
 /// Appends a plan by its rows.
 #[tactic(auto, unfolding(crate::specs::Plan::plan_rows))]
 fn push_plan_rows(
@@ -77,9 +90,7 @@ fn push_plan_rows(
     ensures { OnOk result (string_bytes text.new
         ≡ string_bytes text.old ++ plan_rows told violations.now set.now rows.now) }
 {
-    if rows.is_empty() {
-        text.push_str("<p class='none'>It has no rows.</p>\n")?;
-    }
+    push_no_rows(text, rows)?;
     push_pictures(text, alloc, set, rows)?;
     push_tables(text, told, violations, rows)
 }
@@ -99,6 +110,16 @@ pub(crate) fn push_plan(
     push_plan_rows(text, alloc, told, violations, set, &rows)
 }
 
+/// Appends that so many rules are broken.
+fn push_broken(text: &mut String, count: usize) -> Result<(), AllocError>
+    ensures { OnOk result (string_bytes text.new ≡ string_bytes text.old ++ broken_note count) }
+{
+    write!(
+        text,
+        "<p class='broken'>Broken rules: {count}. Each stands beside its row.</p>\n"
+    )
+}
+
 /// Appends how many rules are broken.
 pub(crate) fn push_violations_note(
     text: &mut String,
@@ -109,10 +130,8 @@ pub(crate) fn push_violations_note(
 {
     let count = violations.len();
     if count == 0 {
-        return text.push_str("<p class='sound'>It breaks no rule.</p>\n");
+        text.push_str("<p class='sound'>It breaks no rule.</p>\n")
+    } else {
+        push_broken(text, count)
     }
-    write!(
-        text,
-        "<p class='broken'>Broken rules: {count}. Each stands beside its row.</p>\n"
-    )
 }

@@ -1,24 +1,23 @@
 //! The register of a cabinet in the page: the due day, open orders first, then closed ones, and the
 //! inspections.
 
-ghost use Rattle.std.specs.Prelude.{◌≡◌, ◌++◌, OnOk, flat_map, string_bytes};
+ghost use Rattle.std.specs.Prelude.{◌≡◌, ◌+◌, ◌++◌, OnOk, flat_map, string_bytes};
 ghost use Rattle.signal_page.specs.Register.{day_cell, part_used, part_of, parts_cell, order_cells};
 ghost use Rattle.signal_page.specs.Register.{closing_cells, open_row, closed_row, order_headings};
 ghost use Rattle.signal_page.specs.Register.{open_orders, closed_orders, inspection_row};
 ghost use Rattle.signal_page.specs.Register.{inspection_headings, inspections_part, due_words};
-ghost use Rattle.signal_page.specs.Register.{due_note, register_part};
+ghost use Rattle.signal_page.specs.Register.{due_on, due_note, register_part};
 
 use crate::cells::{push_heading, push_row_heading, push_text, push_words_heading};
+use crate::facts::push_due_day;
 use crate::tables::{begin_rows, end_table, open_table};
 use crate::words::push_isolated;
-use cabinet_core::{CabinetView, Closing, Day, Inspection, Order, UsedLine, write_day};
-use jiff::civil::Date;
+use cabinet_core::{CabinetView, Closing, Day, Inspection, Order, UsedLine, latest, write_day};
 use signal_records::{Interval, NoMemory, RecordNo};
 use std::alloc::{AllocError, Global};
 use std::fmt::Write;
 
 /// Appends a day.
-#[tactic(auto, unfolding(crate::specs::Register::day_cell))]
 fn push_day(text: &mut String, alloc: Global, day: Day) -> Result<(), NoMemory>
     ensures { OnOk result (string_bytes text.new ≡ string_bytes text.old ++ day_cell day) }
 {
@@ -61,7 +60,6 @@ fn push_each_part(text: &mut String, order: RecordNo, lines: &[UsedLine]) -> Res
 }
 
 /// Appends the parts that were used for an order.
-#[tactic(auto, unfolding(crate::specs::Register::parts_cell))]
 fn push_parts(text: &mut String, lines: &[UsedLine], order: RecordNo) -> Result<(), AllocError>
     ensures { OnOk result (string_bytes text.new
         ≡ string_bytes text.old ++ parts_cell lines.now order) }
@@ -168,7 +166,6 @@ fn push_each_open(
 }
 
 /// Appends the open orders.
-#[tactic(auto, unfolding(crate::specs::Register::open_orders))]
 fn push_open_orders(
     text: &mut String,
     alloc: Global,
@@ -201,7 +198,6 @@ fn push_each_closed(
 }
 
 /// Appends the closed orders.
-#[tactic(auto, unfolding(crate::specs::Register::closed_orders))]
 fn push_closed_orders(
     text: &mut String,
     alloc: Global,
@@ -264,7 +260,6 @@ fn push_inspection_headings(text: &mut String) -> Result<(), AllocError>
 }
 
 /// Appends the inspections.
-#[tactic(auto, unfolding(crate::specs::Register::inspections_part))]
 fn push_inspections(
     text: &mut String,
     alloc: Global,
@@ -280,29 +275,40 @@ fn push_inspections(
     end_table(text)
 }
 
-fn push_due_words(text: &mut String, due: &Option<Date>) -> Result<(), AllocError>
-    ensures { OnOk result (string_bytes text.new ≡ string_bytes text.old ++ due_words due.now) }
+/// Appends the due day.
+fn push_due_on(text: &mut String, latest: Day, interval: Interval) -> Result<(), AllocError>
+    ensures { OnOk result (string_bytes text.new
+        ≡ string_bytes text.old ++ due_on (latest + interval)) }
 {
-    match due {
+    text.push_str("<p>The next inspection is due on <strong>")?;
+    push_due_day(text, latest, interval)?;
+    text.push_str("</strong>.")
+}
+
+fn push_due_words(
+    text: &mut String,
+    interval: Interval,
+    latest: Option<Day>,
+) -> Result<(), AllocError>
+    ensures { OnOk result (string_bytes text.new
+        ≡ string_bytes text.old ++ due_words interval latest) }
+{
+    match latest {
         None => text.push_str("<p>It was never inspected."),
-        Some(due) => write!(
-            text,
-            "<p>The next inspection is due on <strong>{due}</strong>."
-        ),
+        Some(latest) => push_due_on(text, latest, interval),
     }
 }
 
 /// Appends when the next inspection is due, and how many days there are from one to the next.
-#[tactic(auto, unfolding(crate::specs::Register::due_note))]
 fn push_due_note(
     text: &mut String,
     interval: Interval,
-    due: &Option<Date>,
+    latest: Option<Day>,
 ) -> Result<(), AllocError>
     ensures { OnOk result (string_bytes text.new
-        ≡ string_bytes text.old ++ due_note interval due.now) }
+        ≡ string_bytes text.old ++ due_note interval latest) }
 {
-    push_due_words(text, due)?;
+    push_due_words(text, interval, latest)?;
     let days = interval.get();
     write!(text, " Days from one inspection to the next: {days}.</p>\n")
 }
@@ -313,16 +319,16 @@ pub(crate) fn push_register(
     text: &mut String,
     alloc: Global,
     interval: Interval,
-    due: &Option<Date>,
     view: &CabinetView,
 ) -> Result<(), NoMemory>
     ensures { OnOk result (string_bytes text.new
-        ≡ string_bytes text.old ++ register_part interval due.now view.now) }
+        ≡ string_bytes text.old ++ register_part interval view.now) }
 {
+    let inspections = view.inspections.as_slice();
     let lines = view.lines.as_slice();
     let orders = view.orders.as_slice();
-    push_due_note(text, interval, due)?;
+    push_due_note(text, interval, latest(inspections))?;
     push_open_orders(text, alloc, lines, orders)?;
     push_closed_orders(text, alloc, lines, orders)?;
-    push_inspections(text, alloc, view.inspections.as_slice())
+    push_inspections(text, alloc, inspections)
 }

@@ -133,7 +133,7 @@ fn push_whole_row(
 {
     text.push_str(opening)?;
     push_cells(text, row)?;
-    push_told_beside(text, told, violations, subject_of(row))?;
+    push_told_beside(text, told, violations, &subject_of(row))?;
     text.push_str("</tr>\n")
 }
 

@@ -44,15 +44,26 @@ pub(crate) fn subject_of(row: &Row) -> Subject
 }
 
 /// Whether two subjects are one.
-fn is_same(a: Subject, b: Subject) -> bool
-    ensures { result ≡ is_same a b }
+fn is_same(a: &Subject, b: &Subject) -> bool
+    ensures { result ≡ is_same a.now b.now }
 {
-    match (a, b) {
-        (Subject::Phase(p), Subject::Phase(q)) => p.get() == q.get(),
-        (Subject::Seq(n), Subject::Seq(m)) => n.get() == m.get(),
-        (Subject::Split(n, p), Subject::Split(m, q)) => { n.get() == m.get() && p.get() == q.get() }
-        (Subject::Pattern(n), Subject::Pattern(m)) => n.get() == m.get(),
-        _ => false,
+    match a {
+        Subject::Phase(p) => match b {
+            Subject::Phase(q) => p.get() == q.get(),
+            _ => false,
+        },
+        Subject::Seq(n) => match b {
+            Subject::Seq(m) => n.get() == m.get(),
+            _ => false,
+        },
+        Subject::Split(n, p) => match b {
+            Subject::Split(m, q) => n.get() == m.get() && p.get() == q.get(),
+            _ => false,
+        },
+        Subject::Pattern(n) => match b {
+            Subject::Pattern(m) => n.get() == m.get(),
+            _ => false,
+        },
     }
 }
 
@@ -68,13 +79,13 @@ fn push_rule_note(text: &mut String, rule: Rule) -> Result<(), AllocError>
 /// Appends a violation beside its subject, and nothing beside another.
 fn push_note_beside(
     text: &mut String,
-    subject: Subject,
-    violation: Violation,
+    subject: &Subject,
+    violation: &Violation,
 ) -> Result<(), AllocError>
     ensures { OnOk result (string_bytes text.new
-        ≡ string_bytes text.old ++ note_beside subject violation) }
+        ≡ string_bytes text.old ++ note_beside subject.now violation.now) }
 {
-    if is_same(subject, violation.subject) {
+    if is_same(subject, &violation.subject) {
         push_rule_note(text, violation.rule)
     } else {
         Ok(())
@@ -84,26 +95,25 @@ fn push_note_beside(
 fn push_each_beside(
     text: &mut String,
     violations: &[Violation],
-    subject: Subject,
+    subject: &Subject,
 ) -> Result<(), AllocError>
     ensures { OnOk result (string_bytes text.new
-        ≡ string_bytes text.old ++ flat_map (note_beside subject) violations.now) }
+        ≡ string_bytes text.old ++ flat_map (note_beside subject.now) violations.now) }
 {
     for violation in violations {
-        push_note_beside(text, subject, *violation)?;
+        push_note_beside(text, subject, violation)?;
     }
     Ok(())
 }
 
 /// Appends the cell of the rules that a subject breaks.
-#[tactic(auto, unfolding(crate::specs::Rules::notes_beside))]
 fn push_notes_beside(
     text: &mut String,
     violations: &[Violation],
-    subject: Subject,
+    subject: &Subject,
 ) -> Result<(), AllocError>
     ensures { OnOk result (string_bytes text.new
-        ≡ string_bytes text.old ++ notes_beside violations.now subject) }
+        ≡ string_bytes text.old ++ notes_beside violations.now subject.now) }
 {
     text.push_str("<td class='b'>")?;
     push_each_beside(text, violations, subject)?;
@@ -115,10 +125,10 @@ pub(crate) fn push_told_beside(
     text: &mut String,
     told: bool,
     violations: &[Violation],
-    subject: Subject,
+    subject: &Subject,
 ) -> Result<(), AllocError>
     ensures { OnOk result (string_bytes text.new
-        ≡ string_bytes text.old ++ told_beside told violations.now subject) }
+        ≡ string_bytes text.old ++ told_beside told violations.now subject.now) }
 {
     if told {
         push_notes_beside(text, violations, subject)

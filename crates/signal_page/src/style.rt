@@ -16,7 +16,7 @@ pub(crate) const STYLE: &str = "\
   }
 }
 * { box-sizing: border-box; }
-html { scroll-behavior: smooth; -webkit-text-size-adjust: 100%; text-size-adjust: 100%; }
+html { -webkit-text-size-adjust: 100%; text-size-adjust: 100%; }
 body {
   margin: 0; background: var(--ground); color: var(--ink);
   font: 1rem/1.5 system-ui, -apple-system, 'Segoe UI', Roboto, 'DejaVu Sans', sans-serif;
@@ -27,7 +27,7 @@ main { padding-bottom: 3rem; }
 h1 { margin: 0 0 1rem; font-size: clamp(1.5rem, 4.5vw, 2.2rem); line-height: 1.2; }
 h2 { margin: 2.6rem 0 0.8rem; font-size: 1.4rem; line-height: 1.25; }
 h3 { margin: 1.6rem 0 0.6rem; font-size: 1.1rem; }
-h1, td, dd, caption { overflow-wrap: anywhere; }
+h1, dd, bdi { overflow-wrap: anywhere; }
 p { margin: 0.6rem 0; }
 a { color: var(--link); }
 a:focus-visible, .scroll:focus-visible { outline: 3px solid var(--link); outline-offset: 2px; }
@@ -36,11 +36,10 @@ a:focus-visible, .scroll:focus-visible { outline: 3px solid var(--link); outline
   left: 0.6rem; top: 0.6rem; padding: 0.5rem 0.9rem; background: var(--card); border-radius: 0.4rem;
 }
 dl {
-  display: grid; gap: 1px; margin: 0; overflow: hidden; background: var(--line);
-  grid-template-columns: repeat(auto-fit, minmax(9.5rem, 1fr));
-  border: 1px solid var(--line); border-radius: 0.6rem;
+  display: grid; grid-template-columns: repeat(auto-fit, minmax(9.5rem, 1fr)); margin: 0;
+  overflow: hidden; background: var(--card); border: 1px solid var(--line); border-radius: 0.6rem;
 }
-dl div { padding: 0.6rem 0.9rem; background: var(--card); }
+dl div { padding: 0.6rem 0.9rem; box-shadow: 1px 1px 0 var(--line); }
 dt { color: var(--quiet); font-size: 0.82rem; }
 dd { margin: 0; font-weight: 600; font-variant-numeric: tabular-nums; }
 nav ul {
@@ -52,10 +51,13 @@ figure, .scroll {
 }
 figure { padding: 0.6rem; background: #ffffff; }
 svg { display: block; max-width: 100%; height: auto; margin: 0 auto; }
-.scroll { overflow-x: auto; }
+.scroll {
+  display: inline-block; max-width: 100%; margin: 0 0.8rem 1rem 0; overflow-x: auto;
+  vertical-align: top;
+}
 table { width: 100%; border-collapse: collapse; font-variant-numeric: tabular-nums; }
-caption { padding: 0.7rem 0.9rem 0.4rem; text-align: left; font-weight: 600; }
-th, td { padding: 0.42rem 0.9rem; text-align: right; vertical-align: top; }
+caption { padding: 0.7rem 0.7rem 0.4rem; text-align: left; font-weight: 600; }
+th, td { padding: 0.4rem 0.7rem; text-align: right; vertical-align: top; }
 thead th {
   color: var(--quiet); font-size: 0.82rem; font-weight: 600; vertical-align: bottom;
   border-bottom: 2px solid var(--line);
@@ -64,27 +66,28 @@ tbody th { font-weight: 600; }
 tbody tr { border-top: 1px solid var(--line); }
 tbody tr:nth-child(even) { background: var(--stripe); }
 .w, .d, .b { text-align: left; }
-td.w { min-width: 5rem; }
+td:has(bdi) { min-width: 9rem; }
 .d { white-space: nowrap; }
 .b p { margin: 0; min-width: 14rem; color: var(--red); font-weight: 600; }
 tbody tr:has(.b p), tbody tr.removed { background: var(--red-ground); }
 tbody tr.added { background: var(--green-ground); }
 tbody tr.before, tbody tr.after { background: var(--blue-ground); }
 tbody tr.after { border-top-style: dashed; }
-.removed td, .before td, .removed th, .before th { text-decoration: line-through; }
-.removed td:first-child, .before td:first-child { text-decoration: none; }
+.removed td, .removed th { text-decoration: line-through; }
+.removed td:first-child { text-decoration: none; }
 .removed td:first-child { color: var(--red); font-weight: 600; }
 .added td:first-child { color: var(--green); font-weight: 600; }
 .before td:first-child, .after td:first-child { color: var(--blue); font-weight: 600; }
 .changes td:first-child { white-space: nowrap; }
 .changes .scroll:has(tbody:empty) { display: none; }
 tbody:empty::after {
-  content: 'none'; display: block; padding: 0.42rem 0.9rem; color: var(--quiet);
+  content: 'none'; display: block; padding: 0.4rem 0.7rem; color: var(--quiet);
 }
 .broken, .sound { padding: 0.6rem 0.9rem; border-left: 0.3rem solid; border-radius: 0.2rem; }
 .broken { color: var(--red); background: var(--red-ground); }
 .sound { color: var(--green); background: var(--green-ground); }
 .none { color: var(--quiet); }
+.none ~ .scroll { display: none; }
 @media print {
   :root {
     --ground: #ffffff; --card: #ffffff; --ink: #000000; --quiet: #000000; --line: #999999;
@@ -99,7 +102,8 @@ tbody:empty::after {
   h2, h3, caption { break-after: avoid; }
   figure, tr, dl { break-inside: avoid; }
   figure { border: 0; padding: 0; }
-  svg { max-height: 165mm; width: auto; }
+  svg { width: auto; max-width: 72%; max-height: 165mm; margin: 0; }
+  dl { grid-template-columns: repeat(auto-fit, minmax(7rem, 1fr)); }
   th, td { padding: 0.25rem 0.5rem; }
 }
 ";

@@ -3,6 +3,7 @@
 ghost use Rattle.std.specs.Prelude.{◌≡◌, ◌++◌, OnOk, codes, flat_map, string_bytes};
 ghost use Rattle.signal_page.specs.Rows.{row_in};
 ghost use Rattle.signal_page.specs.Tables.{name_of, interval_headings, crossing_headings};
+ghost use Rattle.signal_page.specs.Tables.{sequence_headings, split_headings, pattern_headings};
 ghost use Rattle.signal_page.specs.Tables.{headings, told_heading, table_opening, table_body};
 ghost use Rattle.signal_page.specs.Tables.{table_end, table, tables};
 
@@ -26,7 +27,6 @@ pub(crate) fn name_of(kind: Kind) -> &'static str
 }
 
 /// Appends the headings of a phase's first columns.
-#[tactic(auto, unfolding(crate::specs::Tables::interval_headings))]
 fn push_interval_headings(text: &mut String) -> Result<(), AllocError>
     ensures { OnOk result (string_bytes text.new ≡ string_bytes text.old ++ interval_headings) }
 {
@@ -40,7 +40,6 @@ fn push_interval_headings(text: &mut String) -> Result<(), AllocError>
 }
 
 /// Appends the headings of a phase's other columns.
-#[tactic(auto, unfolding(crate::specs::Tables::crossing_headings))]
 fn push_crossing_headings(text: &mut String) -> Result<(), AllocError>
     ensures { OnOk result (string_bytes text.new ≡ string_bytes text.old ++ crossing_headings) }
 {
@@ -53,6 +52,37 @@ fn push_crossing_headings(text: &mut String) -> Result<(), AllocError>
     push_words_heading(text, "Concurrent phases")
 }
 
+/// Appends the headings of sequences.
+fn push_sequence_headings(text: &mut String) -> Result<(), AllocError>
+    ensures { OnOk result (string_bytes text.new ≡ string_bytes text.old ++ sequence_headings) }
+{
+    push_heading(text, "Sequence")?;
+    push_heading(text, "Ring")?;
+    push_words_heading(text, "Phases in turn")
+}
+
+/// Appends the headings of splits.
+fn push_split_headings(text: &mut String) -> Result<(), AllocError>
+    ensures { OnOk result (string_bytes text.new ≡ string_bytes text.old ++ split_headings) }
+{
+    push_heading(text, "Split")?;
+    push_heading(text, "Phase")?;
+    push_heading(text, "Time (s)")?;
+    push_words_heading(text, "Mode")?;
+    push_words_heading(text, "Coordinated")
+}
+
+/// Appends the headings of patterns.
+fn push_pattern_headings(text: &mut String) -> Result<(), AllocError>
+    ensures { OnOk result (string_bytes text.new ≡ string_bytes text.old ++ pattern_headings) }
+{
+    push_heading(text, "Pattern")?;
+    push_heading(text, "Cycle (s)")?;
+    push_heading(text, "Offset (s)")?;
+    push_heading(text, "Split")?;
+    push_heading(text, "Sequence")
+}
+
 /// Appends the headings of a table's columns.
 pub(crate) fn push_headings(text: &mut String, kind: Kind) -> Result<(), AllocError>
     ensures { OnOk result (string_bytes text.new ≡ string_bytes text.old ++ headings kind) }
@@ -62,25 +92,9 @@ pub(crate) fn push_headings(text: &mut String, kind: Kind) -> Result<(), AllocEr
             push_interval_headings(text)?;
             push_crossing_headings(text)
         }
-        Kind::Sequences => {
-            push_heading(text, "Sequence")?;
-            push_heading(text, "Ring")?;
-            push_words_heading(text, "Phases in turn")
-        }
-        Kind::Splits => {
-            push_heading(text, "Split")?;
-            push_heading(text, "Phase")?;
-            push_heading(text, "Time (s)")?;
-            push_words_heading(text, "Mode")?;
-            push_words_heading(text, "Coordinated")
-        }
-        Kind::Patterns => {
-            push_heading(text, "Pattern")?;
-            push_heading(text, "Cycle (s)")?;
-            push_heading(text, "Offset (s)")?;
-            push_heading(text, "Split")?;
-            push_heading(text, "Sequence")
-        }
+        Kind::Sequences => push_sequence_headings(text),
+        Kind::Splits => push_split_headings(text),
+        Kind::Patterns => push_pattern_headings(text),
     }
 }
 
@@ -96,7 +110,6 @@ fn push_told_heading(text: &mut String, told: bool) -> Result<(), AllocError>
 }
 
 /// Opens a table up to its headings, in a box that scrolls where the page is narrow.
-#[tactic(auto, unfolding(crate::specs::Tables::table_opening))]
 pub(crate) fn open_table(text: &mut String, name: &str) -> Result<(), AllocError>
     ensures { OnOk result (string_bytes text.new
         ≡ string_bytes text.old ++ table_opening name.now) }
@@ -142,7 +155,6 @@ fn push_rows(
 }
 
 /// Appends the table of a kind.
-#[tactic(auto, unfolding(crate::specs::Tables::table))]
 fn push_table(
     text: &mut String,
     kind: Kind,
@@ -162,7 +174,6 @@ fn push_table(
 }
 
 /// Appends the four tables.
-#[tactic(auto, unfolding(crate::specs::Tables::tables))]
 pub(crate) fn push_tables(
     text: &mut String,
     told: bool,
@@ -173,7 +184,7 @@ pub(crate) fn push_tables(
         ≡ string_bytes text.old ++ tables told violations.now rows.now) }
 {
     push_table(text, Kind::Patterns, told, violations, rows)?;
-    push_table(text, Kind::Splits, told, violations, rows)?;
     push_table(text, Kind::Sequences, told, violations, rows)?;
+    push_table(text, Kind::Splits, told, violations, rows)?;
     push_table(text, Kind::Phases, told, violations, rows)
 }

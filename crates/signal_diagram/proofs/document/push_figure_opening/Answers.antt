@@ -4,4 +4,6 @@ use Rattle.signal_diagram.proofs.document.push_figure_opening.Goals as goal
 
 pub returns : goal.returns
 unfolding figure_opening
-returns c = simp append_assoc (rw c.in_ok-push_figure_words.ensures at c.write.ensures.bytes)
+returns c =
+    simp append_assoc
+    (simp append_assoc at (rw c.in_ok-push_figure_words.ensures at c.write.ensures.bytes))

@@ -1,17 +1,19 @@
+use Rattle.std.proofs.Common.{List, ap, ◌∙◌}
 use Rattle.std.proofs.lemmas.Result.{IfOk-weaker}
+use Rattle.signal_compare.specs.declared.difference.Difference.{Difference}
+use Rattle.signal_page.specs.Page.{page_text}
 use Rattle.signal_page.proofs.Markup.{own_markup}
 use Rattle.signal_page.proofs.Restored.{restored}
 use Rattle.signal_page.proofs.document.intersection_page.Goals as goal
 
 pub returns-clause-page : goal.returns-clause-page
 returns-clause-page c =
+    let same = ap (λ (found : List Difference). page_text c.args.shown.now found) c.deref.ensures.value in
     IfOk-weaker c.whole_page.result _ _ (λ text is. record {
-      due = c.due_date-due.result;
-      due_is = c.due_date-due.ensures;
       differences = c.in_ok-differences.differences.items;
       changes = c.in_ok-differences.ensures;
-      text_is = is;
-      markup = own_markup _ _ _ _ is;
+      text_is = is ∙ same;
+      markup = own_markup _ _ _ (is ∙ same);
     }) c.whole_page.ensures
 
 pub returns-clause-read : goal.returns-clause-read

@@ -1,0 +1,20 @@
+-- Parts that are appended one after the other.
+use Rattle.std.proofs.Common.{◌≡◌, ℕ, List, [], ◌++◌, Result, Ok, Err, ap, ◌∙◌, append_assoc}
+use Rattle.std.specs.Prelude.{OnOk, cond}
+use Rattle.std.specs.Result.{is_ok}
+
+pub two : {A : Type 0} (old one both first second : List A) → one ≡ old ++ first
+    → both ≡ one ++ second → both ≡ old ++ (first ++ second)
+two old one both first second a b = b ∙ ap (λ xs. xs ++ second) a ∙ append_assoc old first second
+
+-- what is pushed stands where memory was not refused
+pub pushed : {T E : Type 0} (result : Result T E) (new old part : List ℕ)
+    → new ≡ cond (is_ok result) (old ++ part) old → OnOk result (new ≡ old ++ part)
+pushed (Ok x) new old part e = e
+pushed (Err why) new old part e = tt
+
+-- what a text has that began empty
+pub from_start : (start new bytes all : List ℕ) → start ≡ [] → new ≡ start ++ all → bytes ≡ new
+    → bytes ≡ all
+from_start start new bytes all none whole same =
+    same ∙ whole ∙ ap (λ (xs : List ℕ). xs ++ all) none

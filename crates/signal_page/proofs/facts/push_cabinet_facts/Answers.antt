@@ -1,0 +1,11 @@
+use Rattle.std.proofs.lemmas.Result.{on_ok_weaker}
+use Rattle.signal_page.specs.State.{cabinet_facts}
+use Rattle.signal_page.proofs.Parts.{two}
+use Rattle.signal_page.proofs.facts.push_cabinet_facts.Goals as goal
+
+pub returns : goal.returns
+unfolding cabinet_facts
+returns c =
+    let to1 = c.in_ok-push_due_fact.ensures in
+    let end = rw (c.open_count.ensures) at c.push_number_fact.ensures in
+    on_ok_weaker c.push_number_fact.result (λ last. two _ _ _ _ _ to1 last) end

@@ -1,0 +1,9 @@
+use Rattle.std.proofs.Common.{arith}
+use Rattle.signal_page.proofs.Escaping.{kept_character}
+use Rattle.signal_page.proofs.Parts.{pushed}
+use Rattle.signal_page.proofs.words.push_character.Goals as goal
+
+pub returns-in_default : goal.returns-in_default
+returns-in_default c =
+    rw (kept_character c.args.c (λ e. omega arith) (λ e. omega arith) (λ e. omega arith) (λ e. omega arith) (λ e. omega arith))
+    (pushed c.push.result _ _ _ c.push.ensures.bytes)

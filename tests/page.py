@@ -1,0 +1,203 @@
+#!/usr/bin/env python3
+"""Looks at pages of the program with a real browser, Debian's `chromium`.
+
+    tests/page.py [PROGRAM [FOLDER]]
+
+The program is the one that ./office runs, where none is named. It makes an office whose names and
+texts look like markup or run from right to left, and the page of each intersection; checks in the
+browser's own document that each name and text is text, and that nothing but a table's own box is
+wider than the screen; and puts pictures at 1280 and at 400 pixels of width, light and dark, and one
+page as it is printed, into FOLDER, or into a folder of its own. It prints `ok` at the end.
+"""
+import html.parser
+import pathlib
+import shutil
+import subprocess
+import sys
+import tempfile
+
+TOP = pathlib.Path(__file__).resolve().parent.parent
+NAME = "<script>alert(1)</script>&\""
+CLERK = "\u202eO'Neil <b>"
+FOUND = "\u05e9\u05dc\u05d5\u05dd </bdi><img src=x onerror=alert(2)> &amp; \"x\""
+PLAN = """phase,1,1,5,20,15,30,10,5 6
+phase,2,1,10,30,45,40,15,5 6,7,14,490,60,0,3
+phase,3,1,5,20,15,30,10,7 8
+phase,4,1,8,25,30,40,15,7 8,7,16,540,60,0,0
+phase,5,2,5,20,15,30,10,1 2
+phase,6,2,10,30,45,40,15,1 2,7,14,490,60,0,3
+phase,7,2,5,20,15,30,10,3 4
+phase,8,2,8,25,30,40,15,3 4,4,19,640,20,1,0
+seq,1,1,1 2 3 4
+seq,1,2,5 6 7 8
+split,1,1,15,2,0
+split,1,2,45,4,1
+split,1,3,15,2,0
+split,1,4,35,5,0
+split,1,5,15,2,0
+split,1,6,45,4,1
+split,1,7,15,2,0
+split,1,8,35,5,0
+pattern,1,110,12,1,1
+"""
+# A shorter split of phase 2, another time of red, a phase more, a pattern less.
+CHANGES = """split,1,2,40,4,1
+phase,8,2,8,25,30,40,20,3 4,7,19,640,60,0,0
+remove,seq,1,2
+pattern,2,60,5,1,1
+"""
+RECORDS = """delivery,LAMP,1,2026-04-02,9
+inspection,12,1,2025-03-04,Bo,"Cabinet clean, fan and filter in order"
+inspection,12,2,2026-03-01,Ana,Fan cleaned; battery at 12.9 V; door seal worn
+order,12,1,2026-03-01,Ana,Door seal to be replaced
+close,12,1,2026-03-19,Bo
+order,12,2,2026-05-01,Ana,Lamp of the walk signal on the north corner is out
+use,12,2,1,LAMP,2
+"""
+
+
+def fail(text):
+    print(f"page.py: {text}", file=sys.stderr)
+    sys.exit(1)
+
+
+def missing(text):
+    print(f"page.py: {text}", file=sys.stderr)
+    sys.exit(2)
+
+
+class Document(html.parser.HTMLParser):
+    """The elements of a document, and the text of those that hold names."""
+
+    def __init__(self, text):
+        super().__init__(convert_charrefs=True)
+        self.elements, self.names, self.within = [], [], []
+        self.feed(text)
+
+    def handle_starttag(self, tag, attrs):
+        self.elements.append(tag)
+        if tag in ("bdi", "title"):
+            self.names.append("")
+            self.within.append(tag)
+
+    def handle_endtag(self, tag):
+        if self.within and self.within[-1] == tag:
+            self.within.pop()
+
+    def handle_data(self, data):
+        if self.within:
+            self.names[-1] += data
+
+
+class Browser:
+    def __init__(self, folder):
+        self.path = shutil.which("chromium")
+        if not self.path:
+            missing("there is no chromium: `apt-get install chromium fonts-dejavu-core` brings it")
+        self.folder = folder
+
+    def run(self, page, *words):
+        line = [self.path, "--headless", "--no-sandbox", "--disable-gpu", "--hide-scrollbars"]
+        line += [f"--user-data-dir={self.folder}/profile", *words, page.as_uri()]
+        try:
+            done = subprocess.run(line, capture_output=True, timeout=120, check=False)
+        except subprocess.TimeoutExpired:
+            fail(f"chromium came to no end on {page.name}: does a text of it run as a script?")
+        if done.returncode:
+            fail(f"chromium ended with status {done.returncode} on {page.name}")
+        return done.stdout.decode()
+
+    def document(self, page):
+        return Document(self.run(page, "--dump-dom"))
+
+    def width(self, page, screen):
+        """How wide the page is on a screen, by a copy of it that says so in its title."""
+        copy = self.folder / f"measured-{page.name}"
+        narrow = f"document.documentElement.style.width = '{screen}px'"
+        measure = "document.title = document.body.scrollWidth"
+        text = page.read_text().replace("</body>", f"<script>{narrow}; {measure}</script></body>")
+        copy.write_text(text)
+        return int(self.document(copy).names[0])
+
+    def picture(self, page, target, screen, *words):
+        self.run(page, f"--screenshot={target}", f"--window-size={screen}", *words)
+
+
+def make(program, folder):
+    """An office of three intersections, and the page of each."""
+    office = folder / "office.db"
+    for name, text in (("plan", PLAN), ("changes", CHANGES), ("records", RECORDS)):
+        (folder / f"{name}.csv").write_text(text)
+
+    def run(*words, status=0):
+        done = subprocess.run([program, *map(str, words)], capture_output=True, check=False)
+        if done.returncode != status:
+            fail(f"{words[0]} ended with status {done.returncode}: {done.stderr.decode().strip()}")
+        return done.stdout
+
+    run("add", "--db", office, 12, 365, "Main St & 3rd Ave")
+    run("edit", "--db", office, "--clerk", "Ana", "--commit", 12, folder / "plan.csv")
+    run("edit", "--db", office, "--clerk", CLERK, 12, folder / "changes.csv", status=3)
+    run("import", "--db", office, folder / "records.csv")
+    run("add", "--db", office, 13, 90, NAME)
+    quoted = FOUND.replace('"', '""')
+    (folder / "nasty.csv").write_text(f'inspection,13,1,2026-03-01,{CLERK},"{quoted}"\n')
+    run("import", "--db", office, folder / "nasty.csv")
+    run("add", "--db", office, 14, 90, "New crossing")
+    pages = {}
+    for number in (12, 13, 14):
+        pages[number] = folder / f"page-{number}.html"
+        pages[number].write_bytes(run("page", "--db", office, number))
+    pages["plan"] = folder / "page-plan.html"
+    pages["plan"].write_bytes(run("page", "--file", folder / "plan.csv"))
+    return pages
+
+
+def check(browser, pages):
+    shown = browser.document(pages[13])
+    for element in ("script", "img", "b"):
+        if element in shown.elements:
+            fail(f"a name or text made an element {element}")
+    if shown.names[0] != f"Intersection 13: {NAME}" or shown.names[1] != NAME:
+        fail(f"the name is shown as {shown.names[:2]}")
+    for text in (CLERK, FOUND):
+        if text not in shown.names:
+            fail(f"the text {text!r} is not shown as it is: {shown.names}")
+    drafted = browser.document(pages[12])
+    if drafted.names[1] != "Main St & 3rd Ave" or CLERK not in drafted.names:
+        fail(f"the names of 12 are shown as {drafted.names}")
+    for page in pages.values():
+        for screen in (1280, 400):
+            width = browser.width(page, screen)
+            if width > screen:
+                fail(f"{page.name} is {width} pixels wide on a screen of {screen}")
+
+
+def draw(browser, pages, target):
+    for name, page in pages.items():
+        for screen in ("1280,2600", "400,2600"):
+            size = screen.partition(",")[0]
+            browser.picture(page, target / f"{name}-{size}.png", screen)
+    dark = "--blink-settings=preferredColorScheme=0"
+    browser.picture(pages[12], target / "12-dark.png", "1280,2600", dark)
+    browser.run(pages[12], f"--print-to-pdf={target / '12.pdf'}", "--no-pdf-header-footer")
+
+
+def main():
+    program = pathlib.Path(
+        sys.argv[1] if len(sys.argv) > 1 else TOP / "crates/signal_office/out/signal_office"
+    )
+    if not program.is_file():
+        missing(f"there is no program {program}: ./office builds it")
+    with tempfile.TemporaryDirectory() as name:
+        folder = pathlib.Path(name)
+        target = pathlib.Path(sys.argv[2]) if len(sys.argv) > 2 else folder
+        target.mkdir(parents=True, exist_ok=True)
+        browser = Browser(folder)
+        pages = make(program.resolve(), folder)
+        check(browser, pages)
+        draw(browser, pages, target.resolve())
+    print("ok")
+
+
+main()
