@@ -33,7 +33,7 @@ const WORDS_REFUSED: u8 = 2;
 fn batch<R: Source, W: Sink>(
     rt: &HostRuntime,
     alloc: Global,
-    db: Option<&str>,
+    db: &Option<&str>,
     source: &mut R,
     out: &mut W,
 ) -> Result<u8, Fault> {
@@ -96,7 +96,7 @@ fn serve<W: Sink>(
     alloc: Global,
     port: u16,
     count: u32,
-    db: Option<&str>,
+    db: &Option<&str>,
     out: &mut W,
 ) -> Result<u8, Fault> {
     match db {
@@ -267,30 +267,33 @@ fn run_job<R: Source, W: Sink>(
     source: &mut R,
     out: &mut W,
 ) -> Result<u8, Fault> {
-    match *job {
+    match job {
         Job::Batch { db } => batch(rt, alloc, db, source, out),
-        Job::Serve { port, count, db } => serve(rt, alloc, port, count, db, out),
-        Job::Sheet { db, id } => show_of(rt, alloc, db, Shown::Sheet { id }, out),
-        Job::Overdue { db, first, day } => overdue(rt, alloc, db, first, day, out),
+        Job::Serve { port, count, db } => serve(rt, alloc, *port, *count, db, out),
+        Job::Sheet { db, id } => show_of(rt, alloc, db, Shown::Sheet { id: *id }, out),
+        Job::Overdue { db, first, day } => overdue(rt, alloc, db, *first, day, out),
         Job::Add {
             db,
             id,
             interval,
             name,
-        } => add(rt, alloc, db, id, interval, name, out),
-        Job::List { db, csv } => show_of(rt, alloc, db, Shown::List { csv }, out),
-        Job::Stock { db, csv } => show_of(rt, alloc, db, Shown::Stock { csv }, out),
-        Job::Orders { db, id } => show_of(rt, alloc, db, Shown::Orders { id }, out),
-        Job::Cabinet { db, id } => show_of(rt, alloc, db, Shown::Cabinet { id }, out),
+        } => add(rt, alloc, db, *id, *interval, name, out),
+        Job::List { db, csv } => show_of(rt, alloc, db, Shown::List { csv: *csv }, out),
+        Job::Stock { db, csv } => show_of(rt, alloc, db, Shown::Stock { csv: *csv }, out),
+        Job::Orders { db, id } => show_of(rt, alloc, db, Shown::Orders { id: *id }, out),
+        Job::Cabinet { db, id } => show_of(rt, alloc, db, Shown::Cabinet { id: *id }, out),
         Job::VerifyFile { csv } => verify_file(rt, alloc, csv, out),
         Job::Migrate { db } => migrate(rt, alloc, db, out),
         Job::Import { db, csv } => import(rt, alloc, db, csv, out),
-        Job::Export { db, id, view } => show_of(rt, alloc, db, Shown::Export { id, view }, out),
-        Job::Edit(edit) => edit_plan(rt, alloc, &edit, out),
-        Job::Abandon { db, clerk, id } => abandon(rt, alloc, db, clerk, id, out),
-        Job::Compare { plans, csv } => compare(rt, alloc, &plans, csv, out),
-        Job::Diagram { plan, pattern } => diagram(rt, alloc, &plan, pattern, out),
-        Job::Page { plan } => page(rt, alloc, &plan, out),
+        Job::Export { db, id, view } => {
+            let (id, view) = (*id, *view);
+            show_of(rt, alloc, db, Shown::Export { id, view }, out)
+        }
+        Job::Edit(edit) => edit_plan(rt, alloc, edit, out),
+        Job::Abandon { db, clerk, id } => abandon(rt, alloc, db, clerk, *id, out),
+        Job::Compare { plans, csv } => compare(rt, alloc, plans, *csv, out),
+        Job::Diagram { plan, pattern } => diagram(rt, alloc, plan, *pattern, out),
+        Job::Page { plan } => page(rt, alloc, plan, out),
     }
 }
 
