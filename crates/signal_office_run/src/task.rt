@@ -1,11 +1,12 @@
 //! What is done over the tables of a file.
 
 use crate::done::Done;
-use crate::file::{close_after, is_missing, opened_file, serve_file};
+use crate::file::{close_office, is_missing, opened_file, serve_file};
 use crate::serving::serve_port;
 use cabinet_core::Day;
 use office_desk::office::Office;
 use office_http::{Served, Sink, Source};
+use office_tables::sql_shelf::SqlShelf;
 use office_tables_shelf::shelf::Shelf;
 use signal_office_asking::Fault;
 use signal_office_editing::{abandon_draft, add_intersection, edit_plan};
@@ -15,7 +16,8 @@ use signal_office_page::page_of;
 use signal_office_plans::{diagram_of, draft_differences};
 use signal_office_reports::{cabinet_of, list_of, orders_of, overdue_of, sheet_of, stock_of};
 use signal_records::{InterId, Interval, PatternNo, Words};
-use sqlite::Wary;
+use sqlite::{FileStore, Wary};
+use sqlite_disk::Disk;
 use std::alloc::Global;
 
 /// What is printed of an office, which stays as it is.
@@ -166,6 +168,18 @@ fn done_by<S: Shelf, W: Sink>(
     }
 }
 
+/// Does a task over the tables of a file that was opened, and closes it.
+fn do_and_close<D: Disk + Drop, W: Sink>(
+    rt: &HostRuntime,
+    alloc: Global,
+    mut office: Office<SqlShelf<FileStore<D>>>,
+    task: &Task<'_>,
+    out: &mut W,
+) -> Result<Done, Fault> {
+    let outcome = done_by(rt, alloc, &mut office, task, out);
+    close_office(office, outcome)
+}
+
 /// Does a task over the tables of a file, which is closed again, and gives what is to be printed,
 /// with the status. A file that is not there, or is empty with no log beside it, is made only for a
 /// task that makes its file.
@@ -179,10 +193,10 @@ pub(crate) fn do_in_file<W: Sink>(
     if !task.makes_file() && is_missing(rt, alloc, path)? {
         return Err(Fault::File);
     }
-    let mut office = opened_file(rt, alloc, path, Wary)?;
-    let outcome = done_by(rt, alloc, &mut office, task, out);
-    let (_, done) = close_after(office.into_shelf().into_conn(), outcome)?;
-    Ok(done)
+    match opened_file(rt, alloc, path, Wary) {
+        Ok(office) => do_and_close(rt, alloc, office, task, out),
+        Err(fault) => Err(fault),
+    }
 }
 
 /// Answers the requests of the source over the tables of a file, and closes it, so that its log is
@@ -195,7 +209,8 @@ pub(crate) fn batch_in_file<R: Source, W: Sink>(
     out: &mut W,
     max_requests: u32,
 ) -> Result<Served, Fault> {
-    let (office, outcome) = serve_file(rt, alloc, path, Wary, source, out, max_requests)?;
-    let (_, served) = close_after(office.into_shelf().into_conn(), outcome)?;
-    Ok(served)
+    match serve_file(rt, alloc, path, Wary, source, out, max_requests) {
+        Ok((office, outcome)) => close_office(office, outcome),
+        Err(fault) => Err(fault),
+    }
 }
