@@ -28,7 +28,8 @@ fn push_title(
     name: &Words<120>,
     interval: Interval,
 ) -> Result<(), AllocError>
-    ensures { OnOk result (string_bytes text.new ≡ string_bytes text.old ++ cabinet_title id name.now interval) }
+    ensures { OnOk result (string_bytes text.new ≡
+        string_bytes text.old ++ cabinet_title id name.now interval) }
 {
     let id = id.get();
     let name = name.as_str();
@@ -38,14 +39,16 @@ fn push_title(
 
 /// Appends the day so many days after another. It may lie past the last day of a record.
 fn push_due_day(text: &mut String, latest: Day, interval: Interval) -> Result<(), AllocError>
-    ensures { OnOk result (string_bytes text.new ≡ string_bytes text.old ++ day_text (latest + interval)) }
+    ensures { OnOk result (string_bytes text.new ≡
+        string_bytes text.old ++ day_text (latest + interval)) }
 {
     push_date(text, due(latest, interval))
 }
 
 /// Appends the line of the day on which the next inspection is due.
 fn push_next(text: &mut String, latest: Day, interval: Interval) -> Result<(), AllocError>
-    ensures { OnOk result (string_bytes text.new ≡ string_bytes text.old ++ next_line (latest + interval)) }
+    ensures { OnOk result (string_bytes text.new ≡
+        string_bytes text.old ++ next_line (latest + interval)) }
 {
     text.push_str("Next inspection due ")?;
     push_due_day(text, latest, interval)?;
@@ -54,7 +57,8 @@ fn push_next(text: &mut String, latest: Day, interval: Interval) -> Result<(), A
 
 /// Appends the same, or that there never was an inspection.
 fn push_due(text: &mut String, interval: Interval, latest: Option<Day>) -> Result<(), AllocError>
-    ensures { OnOk result (string_bytes text.new ≡ string_bytes text.old ++ due_line interval latest) }
+    ensures { OnOk result (string_bytes text.new ≡
+        string_bytes text.old ++ due_line interval latest) }
 {
     match latest {
         None => text.push_str("Never inspected\n"),
@@ -70,7 +74,8 @@ fn push_record(
     clerk: &Words<40>,
     what: &Words<500>,
 ) -> Result<(), AllocError>
-    ensures { OnOk result (string_bytes text.new ≡ string_bytes text.old ++ record_line number day clerk.now what.now) }
+    ensures { OnOk result (string_bytes text.new ≡
+        string_bytes text.old ++ record_line number day clerk.now what.now) }
 {
     let what = what.as_str();
     push_number(text, u64::from(number.get()))?;
@@ -90,7 +95,8 @@ fn push_inspection(text: &mut String, r: &Inspection) -> Result<(), AllocError>
 
 /// Appends the inspections under their heading.
 fn push_inspections(text: &mut String, inspections: &[Inspection]) -> Result<(), AllocError>
-    ensures { OnOk result (string_bytes text.new ≡ string_bytes text.old ++ inspections_section inspections.now) }
+    ensures { OnOk result (string_bytes text.new ≡
+        string_bytes text.old ++ inspections_section inspections.now) }
 {
     text.push_str("Inspections\n    No  Day         Clerk         Text\n")?;
     for inspection in inspections {
@@ -113,7 +119,8 @@ fn push_used(text: &mut String, used: &UsedLine) -> Result<(), AllocError>
 
 /// Appends the lines of the parts that were used for an order.
 fn push_parts(text: &mut String, order: RecordNo, lines: &[UsedLine]) -> Result<(), AllocError>
-    ensures { OnOk result (string_bytes text.new ≡ string_bytes text.old ++ flat_map used_line (filter (is_line_of order) lines.now)) }
+    ensures { OnOk result (string_bytes text.new ≡
+        string_bytes text.old ++ flat_map used_line (filter (is_line_of order) lines.now)) }
 {
     for line in lines {
         if line.order == order {
@@ -125,7 +132,8 @@ fn push_parts(text: &mut String, order: RecordNo, lines: &[UsedLine]) -> Result<
 
 /// Appends the line of a closing.
 fn push_closed(text: &mut String, closing: &Closing) -> Result<(), AllocError>
-    ensures { OnOk result (string_bytes text.new ≡ string_bytes text.old ++ closed_line closing.now) }
+    ensures { OnOk result (string_bytes text.new ≡
+        string_bytes text.old ++ closed_line closing.now) }
 {
     text.push_str("         closed  ")?;
     push_day(text, closing.day)?;
@@ -134,7 +142,8 @@ fn push_closed(text: &mut String, closing: &Closing) -> Result<(), AllocError>
 
 /// Appends the line of a closing, where there is one.
 fn push_closing(text: &mut String, closing: &Option<Closing>) -> Result<(), AllocError>
-    ensures { OnOk result (string_bytes text.new ≡ string_bytes text.old ++ closing_line closing.now) }
+    ensures { OnOk result (string_bytes text.new ≡
+        string_bytes text.old ++ closing_line closing.now) }
 {
     match closing {
         None => Ok(()),
@@ -144,7 +153,8 @@ fn push_closing(text: &mut String, closing: &Option<Closing>) -> Result<(), Allo
 
 /// Appends an order, its parts and its closing.
 fn push_order(text: &mut String, lines: &[UsedLine], r: &Order) -> Result<(), AllocError>
-    ensures { OnOk result (string_bytes text.new ≡ string_bytes text.old ++ order_lines lines.now r.now) }
+    ensures { OnOk result (string_bytes text.new ≡
+        string_bytes text.old ++ order_lines lines.now r.now) }
 {
     push_record(text, r.number, r.opened, &r.clerk, &r.text)?;
     push_parts(text, r.number, lines)?;
@@ -153,7 +163,8 @@ fn push_order(text: &mut String, lines: &[UsedLine], r: &Order) -> Result<(), Al
 
 /// Appends the orders under their heading.
 fn push_orders(text: &mut String, lines: &[UsedLine], orders: &[Order]) -> Result<(), AllocError>
-    ensures { OnOk result (string_bytes text.new ≡ string_bytes text.old ++ orders_section lines.now orders.now) }
+    ensures { OnOk result (string_bytes text.new ≡
+        string_bytes text.old ++ orders_section lines.now orders.now) }
 {
     text.push_str("Orders\n    No  Day         Clerk         Text\n")?;
     for order in orders {
@@ -177,7 +188,8 @@ fn open_count(orders: &[Order]) -> usize
 
 /// Appends the last line.
 fn push_counts(text: &mut String, view: &CabinetView) -> Result<(), AllocError>
-    ensures { OnOk result (string_bytes text.new ≡ string_bytes text.old ++ cabinet_count view.now) }
+    ensures { OnOk result (string_bytes text.new ≡
+        string_bytes text.old ++ cabinet_count view.now) }
 {
     let inspections = view.inspections.as_slice().len();
     let orders = view.orders.as_slice();
@@ -191,7 +203,8 @@ fn push_counts(text: &mut String, view: &CabinetView) -> Result<(), AllocError>
 
 /// Appends what was recorded in a cabinet.
 fn push_records(text: &mut String, view: &CabinetView) -> Result<(), AllocError>
-    ensures { OnOk result (string_bytes text.new ≡ string_bytes text.old ++ cabinet_records view.now) }
+    ensures { OnOk result (string_bytes text.new ≡
+        string_bytes text.old ++ cabinet_records view.now) }
 {
     push_inspections(text, view.inspections.as_slice())?;
     push_orders(text, view.lines.as_slice(), view.orders.as_slice())?;
@@ -207,7 +220,8 @@ pub fn cabinet_text(
     interval: Interval,
     cabinet: &CabinetShown,
 ) -> Result<Vec<u8>, NoMemory>
-    ensures { IfOk result (λ text. text.items ≡ cabinet_register cabinet.now.id name.now interval cabinet.now.view) }
+    ensures { IfOk result (λ text. text.items ≡
+        cabinet_register cabinet.now.id name.now interval cabinet.now.view) }
 {
     let mut text = String::new(alloc);
     push_title(&mut text, cabinet.id, name, interval)?;

@@ -40,7 +40,8 @@ pub(crate) fn push_hand(text: &mut String, number: u64) -> Result<(), AllocError
 
 /// Appends a word left in so many places; a longer one stands whole.
 pub(crate) fn push_word(text: &mut String, word: &str, width: usize) -> Result<(), AllocError>
-    ensures { OnOk result (string_bytes text.new ≡ string_bytes text.old ++ left_aligned width word.now) }
+    ensures { OnOk result (string_bytes text.new ≡
+        string_bytes text.old ++ left_aligned width word.now) }
 {
     text.push_str(word)?;
     let left = width.saturating_sub(word.len());

@@ -49,7 +49,8 @@ fn owner_word(holder: &Option<Holder>) -> &str
 
 /// Appends state and owner.
 fn push_holder(text: &mut String, holder: &Option<Holder>) -> Result<(), AllocError>
-    ensures { OnOk result (string_bytes text.new ≡ string_bytes text.old ++ holder_columns holder.now) }
+    ensures { OnOk result (string_bytes text.new ≡
+        string_bytes text.old ++ holder_columns holder.now) }
 {
     text.push_str("  ")?;
     push_word(text, state_word(holder), 11)?;
@@ -59,7 +60,8 @@ fn push_holder(text: &mut String, holder: &Option<Holder>) -> Result<(), AllocEr
 
 /// Appends the line of an intersection.
 fn push_intersection(text: &mut String, listed: &ListedIntersection) -> Result<(), AllocError>
-    ensures { OnOk result (string_bytes text.new ≡ string_bytes text.old ++ intersection_line listed.now) }
+    ensures { OnOk result (string_bytes text.new ≡
+        string_bytes text.old ++ intersection_line listed.now) }
 {
     let name = listed.name.as_str();
     push_number(text, u64::from(listed.id.get()))?;

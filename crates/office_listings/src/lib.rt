@@ -1,5 +1,5 @@
-//! What an office holds, as texts for its people: its intersections, its stock, the open orders, and
-//! the register of a cabinet; the first two as CSV too.
+//! What an office holds, as texts for its people: its intersections, its stock, the open orders,
+//! and the register of a cabinet; the first two as CSV too.
 #![tactic(auto)]
 
 mod cabinet;

@@ -21,7 +21,8 @@ pub struct OpenOrder {
 
 /// Appends those of some orders on an intersection that are open.
 fn add_open(found: &mut Vec<OpenOrder>, id: InterId, orders: &[Order]) -> Result<(), NoMemory>
-    ensures { OnOk result (found.new.items ≡ found.old.items ++ map (order_on id) (filter is_open orders.now)) }
+    ensures { OnOk result (found.new.items ≡
+        found.old.items ++ map (order_on id) (filter is_open orders.now)) }
 {
     for order in orders {
         if order.closing.is_none() {
@@ -43,7 +44,8 @@ pub fn add_open_orders(found: &mut Vec<OpenOrder>, cabinet: &CabinetShown) -> Re
 
 /// Appends the line of an order.
 fn push_order(text: &mut String, listed: &OpenOrder) -> Result<(), AllocError>
-    ensures { OnOk result (string_bytes text.new ≡ string_bytes text.old ++ open_order_line listed.now) }
+    ensures { OnOk result (string_bytes text.new ≡
+        string_bytes text.old ++ open_order_line listed.now) }
 {
     let order = &listed.order;
     let what = order.text.as_str();
@@ -56,9 +58,9 @@ fn push_order(text: &mut String, listed: &OpenOrder) -> Result<(), AllocError>
     writeln!(text, "  {what}")
 }
 
-/// The list of open orders: a heading, a line for each with its intersection, its number, the day on
-/// which it was opened, the clerk who opened it, and what is to be done, and their count. A longer
-/// name of a clerk stands whole.
+/// The list of open orders: a heading, a line for each with its intersection, its number, the day
+/// on which it was opened, the clerk who opened it, and what is to be done, and their count. A
+/// longer name of a clerk stands whole.
 pub fn orders_text(alloc: Global, orders: &[OpenOrder]) -> Result<Vec<u8>, NoMemory>
     ensures { IfOk result (λ text. text.items ≡ orders_listing orders.now) }
 {

@@ -48,7 +48,8 @@ fn part_record(alloc: Global, part: &(PartCode, Hand)) -> Result<ByteRecord, NoM
     ByteRecord::from_fields(alloc, &fields)
 }
 
-/// What is on hand as CSV: a record for each part with its code and how many there are. It is UTF-8.
+/// What is on hand as CSV: a record for each part with its code and how many there are. It is
+/// UTF-8.
 pub fn stock_csv(alloc: Global, parts: &[(PartCode, Hand)]) -> Result<Vec<u8>, NoMemory>
     ensures text { IfOk result (λ text. text.items ≡ stock_csv_text parts.now) }
     ensures utf8 { IfOk result (λ text. IsUtf8 text.items) }

@@ -26,7 +26,8 @@ pub fn cabinet_of<S: Shelf>(
     ensures kept { IsKept S.is_honest S.content S.written S.may_leave office.old office.new }
     ensures register { IfOk result (λ text. S.is_honest office.new → (before : OfficeState) →
         StandForSound (S.content office.old) before → IsRegisterOf before id text.items) }
-    // Where it fails, the intersection is unknown, memory or the database refused, or a row that is read is no record.
+    // Where it fails, the intersection is unknown, memory or the database refused, or a row that
+    // is read is no record.
     ensures refused { IfErr result IsFaultOfQuery }
     ensures damaged { result ≡ Err Fault.Damaged → S.is_honest office.new →
         MeetsRegisterDamage (S.content office.old) id }

@@ -32,12 +32,14 @@ pub fn list_of<S: Shelf>(alloc: Global, office: &mut Office<S>, csv: bool) -> Re
     // It changes nothing.
     ensures kept { IsKept S.is_honest S.content S.written S.may_leave office.old office.new }
     ensures list { IfOk result (λ text. S.is_honest office.new → (before : OfficeState) →
-        StandForSound (S.content office.old) before → text.items ≡ list_written csv (intersections_of before)) }
+        StandForSound (S.content office.old) before →
+        text.items ≡ list_written csv (intersections_of before)) }
     // No row of an intersection that is no record is passed over.
     ensures whole { IfOk result (λ _. S.is_honest office.new →
         ¬ HasAnyDamagedIntersection (S.content office.old)) }
     // Where it fails, memory or the database refused, or the row of an intersection is no record.
-    ensures fault { IfErr result (λ why. (why ≡ Fault.Memory) ⊎ ((why ≡ Fault.Store) ⊎ (why ≡ Fault.Damaged))) }
+    ensures fault { IfErr result (λ why.
+        (why ≡ Fault.Memory) ⊎ ((why ≡ Fault.Store) ⊎ (why ≡ Fault.Damaged))) }
     ensures damaged { result ≡ Err Fault.Damaged → S.is_honest office.new →
         HasAnyDamagedIntersection (S.content office.old) }
 {

@@ -95,11 +95,13 @@ pub fn orders_of<S: Shelf>(
     ensures kept { IsKept S.is_honest S.content S.written S.may_leave office.old office.new }
     ensures orders { IfOk result (λ text. S.is_honest office.new → (before : OfficeState) →
         StandForSound (S.content office.old) before → IsOrdersListOf before id text.items) }
-    // Where it fails, the intersection is unknown, memory or the database refused, or a row that is read is no record.
+    // Where it fails, the intersection is unknown, memory or the database refused, or a row that
+    // is read is no record.
     ensures refused { IfErr result IsFaultOfQuery }
     ensures damaged { result ≡ Err Fault.Damaged → S.is_honest office.new →
         MeetsOrdersDamage (S.content office.old) id }
-    // An unknown intersection is told where one was asked for that the office does not have, and only there.
+    // An unknown intersection is told where one was asked for that the office does not have, and
+    // only there.
     ensures fault { IfErr result (λ fault. S.is_honest office.new → (before : OfficeState) →
         StandForSound (S.content office.old) before → TellsOrders before id fault) }
 {

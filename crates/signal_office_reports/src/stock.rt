@@ -56,9 +56,11 @@ pub fn stock_of<S: Shelf>(
     // It changes nothing.
     ensures kept { IsKept S.is_honest S.content S.written S.may_leave office.old office.new }
     ensures stock { IfOk result (λ text. S.is_honest office.new → (before : OfficeState) →
-        StandForSound (S.content office.old) before → text.items ≡ stock_written csv (stock_of before.register)) }
+        StandForSound (S.content office.old) before →
+        text.items ≡ stock_written csv (stock_of before.register)) }
     // Where it fails, memory or the database refused, or the row of a part is no record.
-    ensures fault { IfErr result (λ why. (why ≡ Fault.Memory) ⊎ ((why ≡ Fault.Store) ⊎ (why ≡ Fault.Damaged))) }
+    ensures fault { IfErr result (λ why.
+        (why ≡ Fault.Memory) ⊎ ((why ≡ Fault.Store) ⊎ (why ≡ Fault.Damaged))) }
     ensures damaged { result ≡ Err Fault.Damaged → S.is_honest office.new →
         MeetsDamage (S.content office.old) command.Stock }
 {

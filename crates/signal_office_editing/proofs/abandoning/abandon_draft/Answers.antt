@@ -11,7 +11,7 @@ returns-clause-abandons g c = λ honest.
       reply = c.run-reply.result;
       step =
           subst (λ clerk. AnswersAny old (command.Abandon c.args.id clerk) c.run-reply.result new)
-          c.in_ok-clerk.ensures (c.run-reply.ensures.ran.step honest);
+          c.in_ok-clerk.ensures.cases (c.run-reply.ensures.ran.step honest);
       made_is = c.moved.ensures;
     })
 

@@ -11,7 +11,7 @@ returns-clause-adds g c = λ honest.
       reply = c.run-reply.result;
       step =
           subst (λ name. AnswersAny old (command.AddIntersection c.args.id c.args.interval name) c.run-reply.result new)
-          c.in_ok-name.ensures (c.run-reply.ensures.ran.step honest);
+          c.in_ok-name.ensures.cases (c.run-reply.ensures.ran.step honest);
       made_is = c.entered_told.ensures;
     })
 

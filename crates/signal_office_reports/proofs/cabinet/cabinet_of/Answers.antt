@@ -5,7 +5,6 @@ use Rattle.office_machine.specs.declared.command.Command.TheVariants as command
 use Rattle.office_tables_shelf.proofs.KeptLemmas.{kept_on}
 use Rattle.signal_office_asking.specs.declared.fault.Fault.{Fault}
 use Rattle.signal_office_asking.specs.declared.fault.Fault.TheVariants as told
-use Rattle.signal_office_asking.proofs.FaultLemmas.{there_tells}
 use Rattle.signal_office_reports.proofs.QueryLemmas.{handed, on_fault, register_is}
 use Rattle.signal_office_reports.proofs.cabinet.cabinet_of.Goals as goal
 
@@ -20,7 +19,7 @@ returns-clause-register g c = λ honest before stands.
 
 pub returns-in_err-state-clause-damaged : goal.returns-in_err-state-clause-damaged
 returns-in_err-state-clause-damaged g c = λ is honest.
-    let fault = handed _ c.in_err-state.field-0.0 told.Damaged c.from_residual-in_err-state.ensures.1 is in
+    let fault = handed _ c.in_err-state.field-0.0 told.Damaged c.from_residual.ensures.1 is in
     inl (c.state_asked.ensures.damaged (c.in_err-state.was ∙ ap (λ (f : Fault). Err f) fault) honest)
 
 pub returns-in_err-cabinet-clause-damaged : goal.returns-in_err-cabinet-clause-damaged

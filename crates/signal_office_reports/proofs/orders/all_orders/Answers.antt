@@ -70,14 +70,14 @@ returns-in_err-add_orders_on-clause-fault g c =
 
 pub returns-in_err-list-clause-fault : goal.returns-in_err-list-clause-fault
 returns-in_err-list-clause-fault g c =
-    on_fault _ c.in_err-list.field-0.0 _ c.from_residual-in_err-list.ensures.1 (λ honest before stands.
+    on_fault _ c.in_err-list.field-0.0 _ c.from_residual.ensures.1 (λ honest before stands.
     listed_known c.in_err-list.field-0.0 c.in_err-list.ensures.refused)
 
 pub returns-in_err-list-clause-refused : goal.returns-in_err-list-clause-refused
 returns-in_err-list-clause-refused g c =
-    on_fault _ c.in_err-list.field-0.0 _ c.from_residual-in_err-list.ensures.1 (listed_fault c.in_err-list.field-0.0 c.in_err-list.ensures.refused)
+    on_fault _ c.in_err-list.field-0.0 _ c.from_residual.ensures.1 (listed_fault c.in_err-list.field-0.0 c.in_err-list.ensures.refused)
 
 pub returns-in_err-list-clause-damaged : goal.returns-in_err-list-clause-damaged
 returns-in_err-list-clause-damaged g c = λ is honest.
-    let fault = handed _ c.in_err-list.field-0.0 told.Damaged c.from_residual-in_err-list.ensures.1 is in
+    let fault = handed _ c.in_err-list.field-0.0 told.Damaged c.from_residual.ensures.1 is in
     inl (c.intersections_asked.ensures.damaged (c.in_err-list.was ∙ ap (λ (f : Fault). Err f) fault) honest)
