@@ -6,7 +6,7 @@ ghost use Rattle.signal_page.specs.Cells.{heading, words_heading, row_heading, n
 ghost use Rattle.signal_page.specs.Cells.{tenths_cell, flag_cell, list_cell, words_cell};
 ghost use Rattle.signal_page.specs.Cells.{text_cell};
 
-use crate::words::push_isolated;
+use crate::words::{push_isolated, push_markup};
 use signal_records::PhaseNo;
 use std::alloc::AllocError;
 use std::fmt::Write;
@@ -83,9 +83,9 @@ fn push_numbers(text: &mut String, phases: &[PhaseNo]) -> Result<(), AllocError>
 pub(crate) fn push_list(text: &mut String, phases: &[PhaseNo]) -> Result<(), AllocError>
     ensures { OnOk result (string_bytes text.new ≡ string_bytes text.old ++ list_cell phases.now) }
 {
-    text.push_str("<td class='w'>")?;
+    push_markup(text, "<td class='w'>")?;
     push_numbers(text, phases)?;
-    text.push_str("</td>")
+    push_markup(text, "</td>")
 }
 
 /// Appends words of the page's own.
@@ -100,7 +100,7 @@ pub(crate) fn push_words(text: &mut String, words: &str) -> Result<(), AllocErro
 pub(crate) fn push_text(text: &mut String, words: &str) -> Result<(), AllocError>
     ensures { OnOk result (string_bytes text.new ≡ string_bytes text.old ++ text_cell words.now) }
 {
-    text.push_str("<td class='w'>")?;
+    push_markup(text, "<td class='w'>")?;
     push_isolated(text, words)?;
-    text.push_str("</td>")
+    push_markup(text, "</td>")
 }

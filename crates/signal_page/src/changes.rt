@@ -8,6 +8,7 @@ ghost use Rattle.signal_page.specs.Changes.{changes_part};
 use crate::cells::push_words_heading;
 use crate::rows::{Kind, push_row_in};
 use crate::tables::{begin_rows, end_table, name_of, open_table, push_headings};
+use crate::words::push_markup;
 use signal_compare::Difference;
 use signal_records::Row;
 use std::alloc::AllocError;
@@ -104,11 +105,11 @@ pub(crate) fn push_changes_part(
     ensures { OnOk result (string_bytes text.new
         ≡ string_bytes text.old ++ changes_part differences.now) }
 {
-    text.push_str("<div class='changes'>\n<h3>What it changes</h3>\n")?;
+    push_markup(text, "<div class='changes'>\n<h3>What it changes</h3>\n")?;
     push_no_changes(text, differences)?;
     push_change_table(text, Kind::Patterns, differences)?;
     push_change_table(text, Kind::Sequences, differences)?;
     push_change_table(text, Kind::Splits, differences)?;
     push_change_table(text, Kind::Phases, differences)?;
-    text.push_str("</div>\n")
+    push_markup(text, "</div>\n")
 }

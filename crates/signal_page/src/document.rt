@@ -14,7 +14,7 @@ use crate::plan::{push_plan, push_violations_note};
 use crate::register::push_register;
 use crate::shown::IntersectionShown;
 use crate::style::STYLE;
-use crate::words::{push_escaped, push_isolated};
+use crate::words::{push_escaped, push_isolated, push_markup};
 use cabinet_core::latest;
 use signal_compare::{Difference, compare};
 use signal_records::{InterId, NoMemory, TimingSet};
@@ -26,18 +26,27 @@ use std::fmt::Write;
 fn open_head(text: &mut String) -> Result<(), AllocError>
     ensures { OnOk result (string_bytes text.new ≡ string_bytes text.old ++ head_opening) }
 {
-    text.push_str("<!DOCTYPE html>\n<html lang='en'>\n<head>\n<meta charset='utf-8'>\n")?;
-    text.push_str("<meta name='viewport' content='width=device-width, initial-scale=1'>\n<title>")
+    push_markup(
+        text,
+        "<!DOCTYPE html>\n<html lang='en'>\n<head>\n<meta charset='utf-8'>\n",
+    )?;
+    push_markup(
+        text,
+        "<meta name='viewport' content='width=device-width, initial-scale=1'>\n<title>",
+    )
 }
 
 /// Ends the head of a page after its title, and opens its heading.
 fn end_head(text: &mut String) -> Result<(), AllocError>
     ensures { OnOk result (string_bytes text.new ≡ string_bytes text.old ++ head_end) }
 {
-    text.push_str("</title>\n<style>\n")?;
-    text.push_str(STYLE)?;
-    text.push_str("</style>\n</head>\n<body>\n")?;
-    text.push_str("<a class='skip' href='#main'>Skip to the plan</a>\n<header>\n<h1>")
+    push_markup(text, "</title>\n<style>\n")?;
+    push_markup(text, STYLE)?;
+    push_markup(text, "</style>\n</head>\n<body>\n")?;
+    push_markup(
+        text,
+        "<a class='skip' href='#main'>Skip to the plan</a>\n<header>\n<h1>",
+    )
 }
 
 /// Ends a page.
@@ -71,10 +80,13 @@ fn push_draft_link(text: &mut String, draft: &Option<TimingSet>) -> Result<(), A
 fn push_links(text: &mut String, draft: &Option<TimingSet>) -> Result<(), AllocError>
     ensures { OnOk result (string_bytes text.new ≡ string_bytes text.old ++ links draft.now) }
 {
-    text.push_str("<nav aria-label='Parts of this page'>\n<ul>\n")?;
-    text.push_str("<li><a href='#plan'>The plan that runs</a></li>\n")?;
+    push_markup(text, "<nav aria-label='Parts of this page'>\n<ul>\n")?;
+    push_markup(text, "<li><a href='#plan'>The plan that runs</a></li>\n")?;
     push_draft_link(text, draft)?;
-    text.push_str("<li><a href='#cabinet'>The cabinet</a></li>\n</ul>\n</nav>\n")
+    push_markup(
+        text,
+        "<li><a href='#cabinet'>The cabinet</a></li>\n</ul>\n</nav>\n",
+    )
 }
 
 /// Appends the head and what stands above the plan.
@@ -90,12 +102,12 @@ fn push_header(text: &mut String, shown: &IntersectionShown) -> Result<(), Alloc
     end_head(text)?;
     push_title(text, shown.state.id)?;
     push_isolated(text, name)?;
-    text.push_str("</h1>\n<dl>\n")?;
+    push_markup(text, "</h1>\n<dl>\n")?;
     push_draft_facts(text, &shown.state)?;
     push_cabinet_facts(text, shown.state.interval, last, orders)?;
-    text.push_str("</dl>\n")?;
+    push_markup(text, "</dl>\n")?;
     push_links(text, &shown.draft)?;
-    text.push_str("</header>\n<main id='main'>\n")
+    push_markup(text, "</header>\n<main id='main'>\n")
 }
 
 /// Appends the plan that runs.
@@ -107,10 +119,10 @@ fn push_plan_section(
     ensures { OnOk result (string_bytes text.new
         ≡ string_bytes text.old ++ plan_section committed.now) }
 {
-    text.push_str("<section id='plan' aria-labelledby='plan-title'>\n")?;
-    text.push_str("<h2 id='plan-title'>The plan that runs</h2>\n")?;
+    push_markup(text, "<section id='plan' aria-labelledby='plan-title'>\n")?;
+    push_markup(text, "<h2 id='plan-title'>The plan that runs</h2>\n")?;
     push_plan(text, alloc, false, &[], committed)?;
-    text.push_str("</section>\n")
+    push_markup(text, "</section>\n")
 }
 
 /// Appends a draft, and what it changes.
@@ -125,13 +137,13 @@ fn push_open_draft(
         ≡ string_bytes text.old ++ open_draft_section draft.now differences.now) }
 {
     let broken = violations(alloc, draft)?;
-    text.push_str("<section id='draft' aria-labelledby='draft-title'>\n")?;
-    text.push_str("<h2 id='draft-title'>The draft</h2>\n")?;
+    push_markup(text, "<section id='draft' aria-labelledby='draft-title'>\n")?;
+    push_markup(text, "<h2 id='draft-title'>The draft</h2>\n")?;
     push_violations_note(text, &broken)?;
     push_changes_part(text, differences)?;
-    text.push_str("<h3>The whole draft</h3>\n")?;
+    push_markup(text, "<h3>The whole draft</h3>\n")?;
     push_plan(text, alloc, true, &broken, draft)?;
-    text.push_str("</section>\n")
+    push_markup(text, "</section>\n")
 }
 
 /// Appends the draft, where there is one.
@@ -159,10 +171,13 @@ fn push_cabinet_section(
     ensures { OnOk result (string_bytes text.new
         ≡ string_bytes text.old ++ cabinet_section shown.now) }
 {
-    text.push_str("<section id='cabinet' aria-labelledby='cabinet-title'>\n")?;
-    text.push_str("<h2 id='cabinet-title'>The cabinet</h2>\n")?;
+    push_markup(
+        text,
+        "<section id='cabinet' aria-labelledby='cabinet-title'>\n",
+    )?;
+    push_markup(text, "<h2 id='cabinet-title'>The cabinet</h2>\n")?;
     push_register(text, alloc, shown.state.interval, &shown.cabinet.view)?;
-    text.push_str("</section>\n")
+    push_markup(text, "</section>\n")
 }
 
 /// What the draft changes of the committed plan; nothing where there is none.
@@ -217,9 +232,9 @@ pub fn plan_page(alloc: Global, plan: &TimingSet) -> Result<Vec<u8>, NoMemory>
     let broken = violations(alloc, plan)?;
     let mut text = String::new(alloc);
     open_head(&mut text)?;
-    text.push_str("Timing plan")?;
+    push_markup(&mut text, "Timing plan")?;
     end_head(&mut text)?;
-    text.push_str("Timing plan</h1>\n</header>\n<main id='main'>\n")?;
+    push_markup(&mut text, "Timing plan</h1>\n</header>\n<main id='main'>\n")?;
     push_violations_note(&mut text, &broken)?;
     push_plan(&mut text, alloc, true, &broken, plan)?;
     end_page(&mut text)?;

@@ -111,6 +111,7 @@ pub(crate) fn push_plan(
 }
 
 /// Appends that so many rules are broken.
+#[tactic(auto, unfolding(crate::specs::Plan::broken_note))]
 fn push_broken(text: &mut String, count: usize) -> Result<(), AllocError>
     ensures { OnOk result (string_bytes text.new ≡ string_bytes text.old ++ broken_note count) }
 {

@@ -11,7 +11,7 @@ ghost use Rattle.signal_page.specs.Register.{due_on, due_note, register_part};
 use crate::cells::{push_heading, push_row_heading, push_text, push_words_heading};
 use crate::facts::push_due_day;
 use crate::tables::{begin_rows, end_table, open_table};
-use crate::words::push_isolated;
+use crate::words::{push_isolated, push_markup};
 use cabinet_core::{CabinetView, Closing, Day, Inspection, Order, UsedLine, latest, write_day};
 use signal_records::{Interval, NoMemory, RecordNo};
 use std::alloc::{AllocError, Global};
@@ -26,7 +26,6 @@ fn push_day(text: &mut String, alloc: Global, day: Day) -> Result<(), NoMemory>
 }
 
 /// Appends a part that was used.
-#[tactic(auto, unfolding(crate::specs::Register::part_used))]
 fn push_part(text: &mut String, line: &UsedLine) -> Result<(), AllocError>
     ensures { OnOk result (string_bytes text.new
         ≡ string_bytes text.old ++ part_used line.now) }
@@ -34,7 +33,7 @@ fn push_part(text: &mut String, line: &UsedLine) -> Result<(), AllocError>
     let count = line.count.get();
     write!(text, "<div>{count} &times; ")?;
     push_isolated(text, line.part.as_str())?;
-    text.push_str("</div>")
+    push_markup(text, "</div>")
 }
 
 /// Appends a part for the order of a number, and nothing for another one.
@@ -64,9 +63,9 @@ fn push_parts(text: &mut String, lines: &[UsedLine], order: RecordNo) -> Result<
     ensures { OnOk result (string_bytes text.new
         ≡ string_bytes text.old ++ parts_cell lines.now order) }
 {
-    text.push_str("<td class='w'>")?;
+    push_markup(text, "<td class='w'>")?;
     push_each_part(text, order, lines)?;
-    text.push_str("</td>")
+    push_markup(text, "</td>")
 }
 
 /// Appends the cells of an order, open or closed.
@@ -280,9 +279,9 @@ fn push_due_on(text: &mut String, latest: Day, interval: Interval) -> Result<(),
     ensures { OnOk result (string_bytes text.new
         ≡ string_bytes text.old ++ due_on (latest + interval)) }
 {
-    text.push_str("<p>The next inspection is due on <strong>")?;
+    push_markup(text, "<p>The next inspection is due on <strong>")?;
     push_due_day(text, latest, interval)?;
-    text.push_str("</strong>.")
+    push_markup(text, "</strong>.")
 }
 
 fn push_due_words(

@@ -6,6 +6,7 @@ ghost use Rattle.signal_page.specs.Rows.{row_cells, is_of, whole_row, row_in};
 
 use crate::cells::{push_flag, push_list, push_number, push_row_heading, push_tenths, push_words};
 use crate::rules::{push_told_beside, subject_of};
+use crate::words::push_markup;
 use signal_records::{Ped, Phase, PhaseNo, Row, SplitMode};
 use signal_rules::Violation;
 use std::alloc::AllocError;
@@ -120,7 +121,6 @@ fn is_of(kind: Kind, row: &Row) -> bool
 }
 
 /// Appends a row with how it opens, and the rules that it breaks where the table tells them.
-#[tactic(auto, unfolding(crate::specs::Rows::whole_row))]
 fn push_whole_row(
     text: &mut String,
     opening: &str,
@@ -131,10 +131,10 @@ fn push_whole_row(
     ensures { OnOk result (string_bytes text.new
         ≡ string_bytes text.old ++ whole_row opening.now told violations.now row.now) }
 {
-    text.push_str(opening)?;
+    push_markup(text, opening)?;
     push_cells(text, row)?;
     push_told_beside(text, told, violations, &subject_of(row))?;
-    text.push_str("</tr>\n")
+    push_markup(text, "</tr>\n")
 }
 
 /// Appends a row in the table of its kind, and nothing in another.

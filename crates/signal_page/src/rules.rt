@@ -4,6 +4,7 @@ ghost use Rattle.std.specs.Prelude.{◌≡◌, ◌++◌, OnOk, flat_map, string_
 ghost use Rattle.signal_page.specs.Rules.{rule_words, subject_of, is_same, rule_note};
 ghost use Rattle.signal_page.specs.Rules.{note_beside, notes_beside, told_beside};
 
+use crate::words::push_markup;
 use signal_records::Row;
 use signal_rules::{Rule, Subject, Violation};
 use std::alloc::AllocError;
@@ -115,9 +116,9 @@ fn push_notes_beside(
     ensures { OnOk result (string_bytes text.new
         ≡ string_bytes text.old ++ notes_beside violations.now subject.now) }
 {
-    text.push_str("<td class='b'>")?;
+    push_markup(text, "<td class='b'>")?;
     push_each_beside(text, violations, subject)?;
-    text.push_str("</td>")
+    push_markup(text, "</td>")
 }
 
 /// Appends that cell in a table that tells what is broken.

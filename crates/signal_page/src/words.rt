@@ -1,4 +1,4 @@
-//! Names and texts of others in a page.
+//! Names and texts of others in a page, and the markup of its own.
 
 ghost use Rattle.std.specs.Prelude.{◌≡◌, ◌++◌, OnOk, encode_utf8, flat_map, string_bytes};
 ghost use Rattle.signal_page.specs.Words.{escaped, escaped_byte, isolated};
@@ -18,6 +18,13 @@ fn push_character(text: &mut String, c: char) -> Result<(), AllocError>
         '\'' => text.push_str("&#39;"),
         _ => text.push(c),
     }
+}
+
+/// Appends markup of the page's own.
+pub(crate) fn push_markup(text: &mut String, part: &str) -> Result<(), AllocError>
+    ensures { OnOk result (string_bytes text.new ≡ string_bytes text.old ++ part.now) }
+{
+    text.push_str(part)
 }
 
 /// Appends a name or text of others so that no character of it is markup.

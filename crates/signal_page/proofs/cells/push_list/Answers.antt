@@ -1,11 +1,11 @@
 use Rattle.std.proofs.lemmas.Result.{on_ok_weaker}
 use Rattle.signal_page.specs.Cells.{list_cell}
-use Rattle.signal_page.proofs.Parts.{pushed, two}
+use Rattle.signal_page.proofs.Parts.{two}
 use Rattle.signal_page.proofs.cells.push_list.Goals as goal
 
 pub returns : goal.returns
 unfolding list_cell
 returns c =
-    let to1 = c.in_ok-push_str.ensures.bytes in
+    let to1 = c.in_ok-push_markup.ensures in
     let to2 = two _ _ _ _ _ to1 c.in_ok-push_numbers.ensures in
-    on_ok_weaker c.push_str-2.result (λ last. two _ _ _ _ _ to2 last) (pushed c.push_str-2.result _ _ _ c.push_str-2.ensures.bytes)
+    on_ok_weaker c.push_markup-2.result (λ last. two _ _ _ _ _ to2 last) c.push_markup-2.ensures

@@ -1,15 +1,15 @@
 use Rattle.std.proofs.lemmas.Result.{on_ok_weaker}
 use Rattle.signal_page.specs.Changes.{changes_part}
-use Rattle.signal_page.proofs.Parts.{pushed, two}
+use Rattle.signal_page.proofs.Parts.{two}
 use Rattle.signal_page.proofs.changes.push_changes_part.Goals as goal
 
 pub returns : goal.returns
 unfolding changes_part
 returns c =
-    let to1 = c.in_ok-push_str.ensures.bytes in
+    let to1 = c.in_ok-push_markup.ensures in
     let to2 = two _ _ _ _ _ to1 c.in_ok-push_no_changes.ensures in
     let to3 = two _ _ _ _ _ to2 c.in_ok-push_change_table.ensures in
     let to4 = two _ _ _ _ _ to3 c.in_ok-push_change_table-2.ensures in
     let to5 = two _ _ _ _ _ to4 c.in_ok-push_change_table-3.ensures in
     let to6 = two _ _ _ _ _ to5 c.in_ok-push_change_table-4.ensures in
-    on_ok_weaker c.push_str-2.result (λ last. two _ _ _ _ _ to6 last) (pushed c.push_str-2.result _ _ _ c.push_str-2.ensures.bytes)
+    on_ok_weaker c.push_markup-2.result (λ last. two _ _ _ _ _ to6 last) c.push_markup-2.ensures

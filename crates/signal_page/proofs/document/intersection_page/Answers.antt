@@ -18,3 +18,6 @@ returns-clause-page c =
 
 pub returns-clause-read : goal.returns-clause-read
 returns-clause-read c = restored
+
+pub returns-in_err-differences-clause-read : goal.returns-in_err-differences-clause-read
+returns-in_err-differences-clause-read c = restored

@@ -1,10 +1,10 @@
 use Rattle.std.proofs.lemmas.Result.{on_ok_weaker}
 use Rattle.signal_page.specs.Page.{head_opening}
-use Rattle.signal_page.proofs.Parts.{pushed, two}
+use Rattle.signal_page.proofs.Parts.{two}
 use Rattle.signal_page.proofs.document.open_head.Goals as goal
 
 pub returns : goal.returns
 unfolding head_opening
 returns c =
-    let to1 = c.in_ok-push_str.ensures.bytes in
-    on_ok_weaker c.push_str-2.result (λ last. two _ _ _ _ _ to1 last) (pushed c.push_str-2.result _ _ _ c.push_str-2.ensures.bytes)
+    let to1 = c.in_ok-push_markup.ensures in
+    on_ok_weaker c.push_markup-2.result (λ last. two _ _ _ _ _ to1 last) c.push_markup-2.ensures

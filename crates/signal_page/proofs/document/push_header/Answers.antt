@@ -1,6 +1,6 @@
 use Rattle.std.proofs.lemmas.Result.{on_ok_weaker}
 use Rattle.signal_page.specs.Page.{header}
-use Rattle.signal_page.proofs.Parts.{pushed, two}
+use Rattle.signal_page.proofs.Parts.{two}
 use Rattle.signal_page.proofs.document.push_header.Goals as goal
 
 pub returns : goal.returns
@@ -14,10 +14,10 @@ returns c =
     let to5 = two _ _ _ _ _ to4 c.in_ok-push_title-2.ensures in
     let next6 = rw (c.as_str-name.ensures.text) at c.in_ok-push_isolated.ensures in
     let to6 = two _ _ _ _ _ to5 next6 in
-    let to7 = two _ _ _ _ _ to6 c.in_ok-push_str.ensures.bytes in
+    let to7 = two _ _ _ _ _ to6 c.in_ok-push_markup.ensures in
     let to8 = two _ _ _ _ _ to7 c.in_ok-push_draft_facts.ensures in
     let next9 = rw (c.latest-last.ensures, c.as_slice.ensures.records, c.as_slice-orders.ensures.records) at c.in_ok-push_cabinet_facts.ensures in
     let to9 = two _ _ _ _ _ to8 next9 in
-    let to10 = two _ _ _ _ _ to9 c.in_ok-push_str-2.ensures.bytes in
+    let to10 = two _ _ _ _ _ to9 c.in_ok-push_markup-2.ensures in
     let to11 = two _ _ _ _ _ to10 c.in_ok-push_links.ensures in
-    on_ok_weaker c.push_str-3.result (λ last. two _ _ _ _ _ to11 last) (pushed c.push_str-3.result _ _ _ c.push_str-3.ensures.bytes)
+    on_ok_weaker c.push_markup-3.result (λ last. two _ _ _ _ _ to11 last) c.push_markup-3.ensures

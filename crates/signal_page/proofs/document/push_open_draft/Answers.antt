@@ -1,17 +1,17 @@
 use Rattle.std.proofs.lemmas.Result.{on_ok_weaker}
 use Rattle.signal_page.specs.Page.{open_draft_section}
-use Rattle.signal_page.proofs.Parts.{pushed, two}
+use Rattle.signal_page.proofs.Parts.{two}
 use Rattle.signal_page.proofs.document.push_open_draft.Goals as goal
 
 pub returns : goal.returns
 unfolding open_draft_section
 returns c =
-    let to1 = c.in_ok-push_str.ensures.bytes in
-    let to2 = two _ _ _ _ _ to1 c.in_ok-push_str-2.ensures.bytes in
+    let to1 = c.in_ok-push_markup.ensures in
+    let to2 = two _ _ _ _ _ to1 c.in_ok-push_markup-2.ensures in
     let next3 = rw (c.deref.ensures.value, c.in_ok-broken.ensures) at c.in_ok-push_violations_note.ensures in
     let to3 = two _ _ _ _ _ to2 next3 in
     let to4 = two _ _ _ _ _ to3 c.in_ok-push_changes_part.ensures in
-    let to5 = two _ _ _ _ _ to4 c.in_ok-push_str-3.ensures.bytes in
+    let to5 = two _ _ _ _ _ to4 c.in_ok-push_markup-3.ensures in
     let next6 = rw (c.deref-2.ensures.value, c.in_ok-broken.ensures) at c.in_ok-push_plan.ensures in
     let to6 = two _ _ _ _ _ to5 next6 in
-    on_ok_weaker c.push_str-4.result (λ last. two _ _ _ _ _ to6 last) (pushed c.push_str-4.result _ _ _ c.push_str-4.ensures.bytes)
+    on_ok_weaker c.push_markup-4.result (λ last. two _ _ _ _ _ to6 last) c.push_markup-4.ensures

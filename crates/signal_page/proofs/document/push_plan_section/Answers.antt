@@ -1,12 +1,12 @@
 use Rattle.std.proofs.lemmas.Result.{on_ok_weaker}
 use Rattle.signal_page.specs.Page.{plan_section}
-use Rattle.signal_page.proofs.Parts.{pushed, two}
+use Rattle.signal_page.proofs.Parts.{two}
 use Rattle.signal_page.proofs.document.push_plan_section.Goals as goal
 
 pub returns : goal.returns
 unfolding plan_section
 returns c =
-    let to1 = c.in_ok-push_str.ensures.bytes in
-    let to2 = two _ _ _ _ _ to1 c.in_ok-push_str-2.ensures.bytes in
+    let to1 = c.in_ok-push_markup.ensures in
+    let to2 = two _ _ _ _ _ to1 c.in_ok-push_markup-2.ensures in
     let to3 = two _ _ _ _ _ to2 c.in_ok-push_plan.ensures in
-    on_ok_weaker c.push_str-3.result (λ last. two _ _ _ _ _ to3 last) (pushed c.push_str-3.result _ _ _ c.push_str-3.ensures.bytes)
+    on_ok_weaker c.push_markup-3.result (λ last. two _ _ _ _ _ to3 last) c.push_markup-3.ensures

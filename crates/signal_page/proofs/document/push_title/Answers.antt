@@ -1,7 +1,6 @@
-use Rattle.std.proofs.Common.{append_assoc}
 use Rattle.signal_page.specs.Page.{title}
 use Rattle.signal_page.proofs.document.push_title.Goals as goal
 
 pub returns : goal.returns
 unfolding title
-returns c = simp append_assoc (rw c.get-id.ensures.value at c.write.ensures.bytes)
+returns c = rw c.get-id.ensures.value at c.write.ensures.bytes

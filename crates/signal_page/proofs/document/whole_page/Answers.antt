@@ -1,3 +1,4 @@
+use Rattle.std.proofs.Common.{string_bytes}
 use Rattle.signal_page.specs.Page.{page_text}
 use Rattle.signal_page.proofs.Parts.{from_start, two}
 use Rattle.signal_page.proofs.document.whole_page.Goals as goal
@@ -10,4 +11,5 @@ returns c =
     let to3 = two _ _ _ _ _ to2 c.in_ok-push_draft_section.ensures in
     let to4 = two _ _ _ _ _ to3 c.in_ok-push_cabinet_section.ensures in
     let to5 = two _ _ _ _ _ to4 c.in_ok-end_page.ensures in
-    from_start _ _ _ _ c.new-text.ensures.bytes to5 (cc c.into_bytes.ensures.value)
+    from_start _ (string_bytes c.end_page.new.text) c.into_bytes.result.items _ c.new-text.ensures.bytes
+    to5 (cc c.into_bytes.ensures.value)

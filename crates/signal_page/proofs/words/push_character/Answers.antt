@@ -1,4 +1,5 @@
-use Rattle.std.proofs.Common.{arith}
+use Rattle.std.proofs.Common.{arith, string_bytes}
+use Rattle.std.specs.Prelude.{encode_utf8}
 use Rattle.signal_page.proofs.Escaping.{kept_character}
 use Rattle.signal_page.proofs.Parts.{pushed}
 use Rattle.signal_page.proofs.words.push_character.Goals as goal
@@ -6,4 +7,4 @@ use Rattle.signal_page.proofs.words.push_character.Goals as goal
 pub returns-in_default : goal.returns-in_default
 returns-in_default c =
     rw (kept_character c.args.c (λ e. omega arith) (λ e. omega arith) (λ e. omega arith) (λ e. omega arith) (λ e. omega arith))
-    (pushed c.push.result _ _ _ c.push.ensures.bytes)
+    (pushed c.push.result (string_bytes c.push.new.self) (string_bytes c.args.text.now) (encode_utf8 c.args.c) c.push.ensures.bytes)
