@@ -113,6 +113,13 @@ printf 'GET /intersections/12 HTTP/1.1\r\n\r\n' | batch
 same "the answer after the migration" "$(tail -n 1 "$folder/answers")" \
   '{"id":12,"interval":365,"name":"Main St","owner":"Ana","revision":1,"rows":2,"state":"transaction","verify":"notDone"}'
 
+# The command that adds an intersection makes a file, in which the other tool finds the row.
+file=$folder/added.db
+same "what is added to no file" "$("$program" add --db "$file" 12 365 "Main St")" "added"
+same "what is added again" "$("$program" add --db "$file" 12 365 "Main St")" "same"
+same "the row that was added" "$(query "SELECT id, name, days FROM intersection")" "12|Main St|365"
+same "the check of the file that was made" "$(query "PRAGMA integrity_check")" "ok"
+
 # A report makes no file; a folder and a file of another kind are refused.
 faulty() {
   status=0

@@ -257,10 +257,13 @@ def largest_file(folder):
 
 
 def outputs(folder):
+    path = office(folder, "outputs.db")
+    printing = [[word, "--db", path, *rest] for word, *rest in ON_FILES[-5:]]
     for name, how in (("closed", {"preexec_fn": lambda: os.close(1)}), ("full", {})):
-        with open("/dev/full" if name == "full" else "/dev/null", "wb") as out:
-            status, _, err = run(["batch"], ADD, stdout=out, **how)
-        case(f"a {name} standard output", (status, err), (1, b"fault: write\n"))
+        for words in (["batch"], ["add", "--db", path, "12", "365", "Main St"], *printing):
+            with open("/dev/full" if name == "full" else "/dev/null", "wb") as out:
+                status, _, err = run(words, ADD, stdout=out, **how)
+            case(f"a {name} standard output, {words[0]}", (status, err), (1, b"fault: write\n"))
     how = {"stdin": subprocess.PIPE, "stdout": subprocess.DEVNULL}
     reader = subprocess.Popen(["head", "-c", "10"], **how)
     status, _, err = run(["batch"], STATE * 20000, stdout=reader.stdin)

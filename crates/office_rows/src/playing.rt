@@ -78,12 +78,26 @@ fn play_stream(
     compare_texts(alloc, line, told.as_str(), came.as_str())
 }
 
-/// The words of a run, of which the first is the program's name.
+/// Adds the words of a text without quotes.
+fn push_words<'a>(all: &mut Vec<&'a str>, text: &'a str) -> Result<(), AllocError> {
+    for word in text.split_ascii_whitespace() {
+        all.push(word)?;
+    }
+    Ok(())
+}
+
+/// The words of a run, of which the first is the program's name. What stands in quotes is one word.
 fn program_words(alloc: Global, words: &str) -> Result<Vec<&str>, AllocError> {
     let mut all = Vec::new(alloc);
     all.push("signal_office")?;
-    for word in words.split_ascii_whitespace() {
-        all.push(word)?;
+    let mut is_quoted = false;
+    for piece in words.split('"') {
+        if is_quoted {
+            all.push(piece)?;
+        } else {
+            push_words(&mut all, piece)?;
+        }
+        is_quoted = !is_quoted;
     }
     Ok(all)
 }

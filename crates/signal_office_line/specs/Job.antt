@@ -1,7 +1,7 @@
 -- The job that a command line states, by the command and the values that `clap` finds in it.
 use Rattle.std.specs.Prelude.{ℕ, ◌&&◌, Bool, true, false, if◌then◌else◌, List, [], ◌∷◌, length}
 use Rattle.std.specs.Prelude.{Option, Some, None, option_map, option_and_then, codes, nat_lt}
-use Rattle.std.specs.Prelude.{nat_le, find}
+use Rattle.std.specs.Prelude.{nat_le, find, unwrap_or}
 use Rattle.std.specs.Borrow.{Bor}
 use Rattle.std.specs.Char.{digit_value}
 use Rattle.std.specs.List.{list_all}
@@ -20,6 +20,11 @@ use Rattle.signal_office_line.specs.declared.job.View.TheVariants as view
 pub data Asked : Type 0 where
   batch : Option Text → Asked
   serve : ℕ → ℕ → Option Text → Asked
+  add : Text → ℕ → ℕ → Text → Asked
+  list : Text → Bool → Asked
+  stock : Text → Bool → Asked
+  orders : Text → Option ℕ → Asked
+  cabinet : Text → ℕ → Asked
   sheet : Text → ℕ → Asked
   overdue : Text → Option ℕ → Text → Asked
   verify_file : Text → Asked
@@ -27,15 +32,23 @@ pub data Asked : Type 0 where
   import_records : Text → Text → Asked
   export : Text → ℕ → View → Asked
   edit : Text → Text → ℕ → Text → Bool → Asked
+  abandon : Text → Text → ℕ → Asked
   compare_files : Text → Text → Bool → Asked
   compare_draft : Text → ℕ → Bool → Asked
   diagram : Text → ℕ → ℕ → Asked
   diagram_file : Text → ℕ → Asked
+  page : Text → ℕ → Asked
+  page_file : Text → Asked
 
 -- what a job asks for
 abbrev pub asked : Job → Asked
 asked (job.Batch db) = batch (option_map (λ (s : Bor Text). s.now) db)
 asked (job.Serve port count db) = serve port count (option_map (λ (s : Bor Text). s.now) db)
+asked (job.Add db id interval name) = add db.now id interval name.now
+asked (job.List db csv) = list db.now csv
+asked (job.Stock db csv) = stock db.now csv
+asked (job.Orders db id) = orders db.now id
+asked (job.Cabinet db id) = cabinet db.now id
 asked (job.Sheet db id) = sheet db.now id
 asked (job.Overdue db first day) = overdue db.now first day.now
 asked (job.VerifyFile csv) = verify_file csv.now
@@ -43,10 +56,13 @@ asked (job.Migrate db) = migrate db.now
 asked (job.Import db csv) = import_records db.now csv.now
 asked (job.Export db id shown) = export db.now id shown
 asked (job.Edit e) = edit e.db.now e.clerk.now e.id e.csv.now e.commit
+asked (job.Abandon db clerk id) = abandon db.now clerk.now id
 asked (job.Compare (plans.Files first second) csv) = compare_files first.now second.now csv
 asked (job.Compare (plans.Draft db id) csv) = compare_draft db.now id csv
 asked (job.Diagram (plan.Committed db id) pattern) = diagram db.now id pattern
 asked (job.Diagram (plan.File csv) pattern) = diagram_file csv.now pattern
+asked (job.Page (plan.Committed db id)) = page db.now id
+asked (job.Page (plan.File csv)) = page_file csv.now
 
 -- what comes next, where there is a value
 infixl 10 ◌>>=◌
@@ -87,12 +103,47 @@ flag_at id rows = option_map_or (λ word. bytes_eq word (codes "true")) (first_o
 abbrev pub batch_at : List Row → Option Asked
 batch_at rows = Some (batch (first_of (codes "db") rows))
 
--- `serve --port N --count K [--db FILE]`
+-- `serve --port N [--count K] [--db FILE]`; without a count the most connections are served
 abbrev pub serve_at : List Row → Option Asked
 serve_at rows = do
   port ← number_at 65_535 (codes "port") rows
-  count ← number_at 1_000_000 (codes "count") rows
-  Some (serve port count (first_of (codes "db") rows))
+  count ← choice_at 1_000_000 (codes "count") rows
+  Some (serve port (unwrap_or count 1_000_000) (first_of (codes "db") rows))
+
+-- `add --db FILE ID INTERVAL NAME`
+abbrev pub add_at : List Row → Option Asked
+add_at rows = do
+  db ← first_of (codes "db") rows
+  id ← number_at 9_999 (codes "ID") rows
+  interval ← number_at 3_650 (codes "INTERVAL") rows
+  name ← first_of (codes "NAME") rows
+  Some (add db id interval name)
+
+-- `list --db FILE [--csv]`
+abbrev pub list_at : List Row → Option Asked
+list_at rows = do
+  db ← first_of (codes "db") rows
+  Some (list db (flag_at (codes "csv") rows))
+
+-- `stock --db FILE [--csv]`
+abbrev pub stock_at : List Row → Option Asked
+stock_at rows = do
+  db ← first_of (codes "db") rows
+  Some (stock db (flag_at (codes "csv") rows))
+
+-- `orders --db FILE [ID]`
+abbrev pub orders_at : List Row → Option Asked
+orders_at rows = do
+  db ← first_of (codes "db") rows
+  id ← choice_at 9_999 (codes "ID") rows
+  Some (orders db id)
+
+-- `cabinet --db FILE ID`
+abbrev pub cabinet_at : List Row → Option Asked
+cabinet_at rows = do
+  db ← first_of (codes "db") rows
+  id ← number_at 9_999 (codes "ID") rows
+  Some (cabinet db id)
 
 -- `sheet --db FILE ID`
 abbrev pub sheet_at : List Row → Option Asked
@@ -153,6 +204,14 @@ edit_at rows = do
   csv ← first_of (codes "CSV") rows
   Some (edit db clerk id csv (flag_at (codes "commit") rows))
 
+-- `abandon --db FILE --clerk NAME ID`
+abbrev pub abandon_at : List Row → Option Asked
+abandon_at rows = do
+  db ← first_of (codes "db") rows
+  clerk ← first_of (codes "clerk") rows
+  id ← number_at 9_999 (codes "ID") rows
+  Some (abandon db clerk id)
+
 -- `compare [--csv] PLAN OTHER`, or `compare --db FILE [--csv] ID`
 abbrev pub comparison_of : Option Text → Option Text → List Row → Option Asked
 comparison_of None (Some other) rows = do
@@ -183,13 +242,29 @@ diagram_at rows =
     drawing_of (first_of (codes "db") rows) (first_of (codes "file") rows)
     (first_of (codes "PATTERN") rows) rows
 
+-- `page --db FILE ID`, or `page --file CSV`
+abbrev pub showing_of : Option Text → Option Text → Option Text → List Row → Option Asked
+showing_of (Some db) None (Some word) rows = do
+  id ← number_at 9_999 (codes "ID") rows
+  Some (page db id)
+showing_of None (Some file) None rows = Some (page_file file)
+showing_of _ _ _ rows = None
+
+abbrev pub page_at : List Row → Option Asked
+page_at rows =
+    showing_of (first_of (codes "db") rows) (first_of (codes "file") rows)
+    (first_of (codes "ID") rows) rows
+
 -- the program's commands
 abbrev pub jobs : List (Text × (List Row → Option Asked))
 jobs =
     (codes "batch", batch_at) ∷ (codes "serve", serve_at) ∷ (codes "sheet", sheet_at)
-    ∷ (codes "overdue", overdue_at) ∷ (codes "verify-file", verify_file_at)
-    ∷ (codes "migrate", migrate_at) ∷ (codes "import", import_at) ∷ (codes "export", export_at)
-    ∷ (codes "edit", edit_at) ∷ (codes "compare", compare_at) ∷ (codes "diagram", diagram_at) ∷ []
+    ∷ (codes "overdue", overdue_at) ∷ (codes "add", add_at) ∷ (codes "list", list_at)
+    ∷ (codes "stock", stock_at) ∷ (codes "orders", orders_at) ∷ (codes "cabinet", cabinet_at)
+    ∷ (codes "verify-file", verify_file_at) ∷ (codes "migrate", migrate_at)
+    ∷ (codes "import", import_at) ∷ (codes "export", export_at) ∷ (codes "edit", edit_at)
+    ∷ (codes "abandon", abandon_at) ∷ (codes "compare", compare_at)
+    ∷ (codes "diagram", diagram_at) ∷ (codes "page", page_at) ∷ []
 
 -- what the command of a name asks for, where its values are there and its numbers in their ranges
 abbrev pub job_at : Text → List Row → Option Asked

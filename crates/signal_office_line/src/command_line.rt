@@ -1,119 +1,22 @@
 //! The words that the program takes, with what its help says of them.
 
-ghost use Rattle.std.specs.Prelude.{◌≡◌, IfOk, codes, false};
-ghost use Rattle.clap.specs.Walk.{rule_of};
-ghost use Rattle.signal_office_line.specs.CommandLine.{Reads, db_rule, required_db_rule};
-ghost use Rattle.signal_office_line.specs.CommandLine.{positional_rule, number_rule, first_rule};
-ghost use Rattle.signal_office_line.specs.CommandLine.{batch_app, serve_app, sheet_app};
+ghost use Rattle.std.specs.Prelude.{IfOk};
+ghost use Rattle.signal_office_line.specs.CommandLine.{Reads, batch_app, serve_app, sheet_app};
 ghost use Rattle.signal_office_line.specs.CommandLine.{overdue_app, verify_file_app, migrate_app};
-ghost use Rattle.signal_office_line.specs.CommandLine.{option_rule, flag_rule, second_rule};
 ghost use Rattle.signal_office_line.specs.CommandLine.{import_app, export_app, edit_app};
-ghost use Rattle.signal_office_line.specs.CommandLine.{compare_app, diagram_app, signal_app};
+ghost use Rattle.signal_office_line.specs.CommandLine.{abandon_app, compare_app, diagram_app};
+ghost use Rattle.signal_office_line.specs.CommandLine.{page_app, signal_app};
 ghost use Rattle.signal_office_line.specs.CommandLine.{answering, exchanging, planning};
 ghost use Rattle.signal_office_line.specs.CommandLine.{with_subcommands};
 ghost use Rattle.clap.specs.Simple.{App};
 
-use clap::{Arg, ArgAction, Command};
+use crate::arguments::{
+    FOUND_FILE, ID, MADE_FILE, choice_option, clerk_option, db_option, file_option, flag,
+    number_option, required_db_option, second_word, word,
+};
+use crate::keeping::with_keeping;
+use clap::Command;
 use std::alloc::{AllocError, Global};
-
-/// What the help says of `--db FILE` where the file is made.
-const MADE_FILE: &str = "The SQLite file that keeps the tables; made where there is none";
-
-/// `--db FILE`.
-fn db_option<'a>(alloc: Global) -> Arg<'a>
-    ensures rule { rule_of result ≡ db_rule }
-    ensures local { result.global ≡ false }
-{
-    Arg::new(alloc, "db").long("db").value_name("FILE").help(
-        "The SQLite file that keeps the tables; made where there is none. Without it they are in \
-         memory and are gone at the end",
-    )
-}
-
-/// `--db FILE`, which has to be given.
-fn required_db_option<'a>(alloc: Global, help: &'a str) -> Arg<'a>
-    ensures rule { rule_of result ≡ required_db_rule }
-    ensures local { result.global ≡ false }
-{
-    Arg::new(alloc, "db")
-        .long("db")
-        .value_name("FILE")
-        .required(true)
-        .help(help)
-}
-
-/// `--NAME N`, which has to be given.
-fn number_option<'a>(alloc: Global, name: &'a str, help: &'a str) -> Arg<'a>
-    ensures rule { rule_of result ≡ number_rule name.entry.now }
-    ensures local { result.global ≡ false }
-{
-    Arg::new(alloc, name)
-        .long(name)
-        .value_name("N")
-        .required(true)
-        .help(help)
-}
-
-/// `--first N`.
-fn first_option<'a>(alloc: Global) -> Arg<'a>
-    ensures rule { rule_of result ≡ first_rule }
-    ensures local { result.global ≡ false }
-{
-    Arg::new(alloc, "first").long("first").value_name("N").help(
-        "The most intersections that are listed, 1 to 9999, those with the lowest numbers; \
-         without it all are",
-    )
-}
-
-/// A word that has to be given.
-fn word<'a>(alloc: Global, name: &'a str, help: &'a str) -> Arg<'a>
-    ensures rule { rule_of result ≡ positional_rule name.entry.now }
-    ensures local { result.global ≡ false }
-{
-    Arg::new(alloc, name).required(true).help(help)
-}
-
-/// `--clerk NAME`, which has to be given.
-fn clerk_option<'a>(alloc: Global) -> Arg<'a>
-    ensures rule { rule_of result ≡ number_rule (codes "clerk") }
-    ensures local { result.global ≡ false }
-{
-    Arg::new(alloc, "clerk")
-        .long("clerk")
-        .value_name("NAME")
-        .required(true)
-        .help("Who edits, 1 to 40 bytes; a transaction of another clerk is not touched")
-}
-
-/// A word that may be left out.
-fn second_word<'a>(alloc: Global, name: &'a str, help: &'a str) -> Arg<'a>
-    ensures rule { rule_of result ≡ second_rule name.entry.now }
-    ensures local { result.global ≡ false }
-{
-    Arg::new(alloc, name).help(help)
-}
-
-/// `--NAME FILE`, which may be left out.
-fn file_option<'a>(alloc: Global, name: &'a str, help: &'a str) -> Arg<'a>
-    ensures rule { rule_of result ≡ option_rule name.entry.now }
-    ensures local { result.global ≡ false }
-{
-    Arg::new(alloc, name)
-        .long(name)
-        .value_name("FILE")
-        .help(help)
-}
-
-/// `--NAME`, without a value.
-fn flag<'a>(alloc: Global, name: &'a str, help: &'a str) -> Arg<'a>
-    ensures rule { rule_of result ≡ flag_rule name.entry.now }
-    ensures local { result.global ≡ false }
-{
-    Arg::new(alloc, name)
-        .long(name)
-        .action(ArgAction::SetTrue)
-        .help(help)
-}
 
 /// `batch`.
 fn batch_command<'a>(alloc: Global) -> Result<Command<'a>, AllocError>
@@ -131,11 +34,11 @@ fn serve_command<'a>(alloc: Global) -> Result<Command<'a>, AllocError>
     Command::new(alloc, "serve")
         .about("Listens on 127.0.0.1 and answers HTTP requests, one connection after the other")
         .arg(number_option(alloc, "port", "The TCP port, 1 to 65535"))?
-        .arg(number_option(
+        .arg(choice_option(
             alloc,
             "count",
-            "The connections that are served before the program ends, 1 to 1000000; each has at \
-             most 10,000 requests",
+            "The connections that are served before the program ends, 1 to 1000000, which is \
+             what it serves without it; each has at most 10,000 requests",
         ))?
         .arg(db_option(alloc))
 }
@@ -149,8 +52,8 @@ fn sheet_command<'a>(alloc: Global) -> Result<Command<'a>, AllocError>
             "Prints the timing sheet of an intersection: the committed plan, times in seconds, \
              distances in feet",
         )
-        .arg(required_db_option(alloc, MADE_FILE))?
-        .arg(word(alloc, "ID", "The intersection's number, 1 to 9999"))
+        .arg(required_db_option(alloc, FOUND_FILE))?
+        .arg(word(alloc, "ID", ID))
 }
 
 /// `overdue`.
@@ -162,8 +65,13 @@ fn overdue_command<'a>(alloc: Global) -> Result<Command<'a>, AllocError>
             "Prints the intersections that were never inspected or whose inspection fell due \
              before a day, and how many are listed",
         )
-        .arg(required_db_option(alloc, MADE_FILE))?
-        .arg(first_option(alloc))?
+        .arg(required_db_option(alloc, FOUND_FILE))?
+        .arg(choice_option(
+            alloc,
+            "first",
+            "The most intersections that are listed, 1 to 9999, those with the lowest numbers; \
+             without it all are",
+        ))?
         .arg(word(
             alloc,
             "DAY",
@@ -193,10 +101,7 @@ fn migrate_command<'a>(alloc: Global) -> Result<Command<'a>, AllocError>
 {
     Command::new(alloc, "migrate")
         .about("Brings a file of an older version to today's; says how many rows were written anew")
-        .arg(required_db_option(
-            alloc,
-            "The SQLite file that keeps the tables; it has to be there, and none is made",
-        ))
+        .arg(required_db_option(alloc, FOUND_FILE))
 }
 
 /// `import`.
@@ -225,10 +130,10 @@ fn export_command<'a>(alloc: Global) -> Result<Command<'a>, AllocError>
             "Prints the committed timing plan of an intersection as CSV, or its draft, or its \
              cabinet",
         )
-        .arg(required_db_option(alloc, MADE_FILE))?
+        .arg(required_db_option(alloc, FOUND_FILE))?
         .arg(flag(alloc, "draft", "Print the draft"))?
         .arg(flag(alloc, "cabinet", "Print the cabinet"))?
-        .arg(word(alloc, "ID", "The intersection's number, 1 to 9999"))
+        .arg(word(alloc, "ID", ID))
 }
 
 /// `edit`.
@@ -240,19 +145,33 @@ fn edit_command<'a>(alloc: Global) -> Result<Command<'a>, AllocError>
             "Changes a timing plan by a CSV file, in a transaction that stays open; prints the \
              rules that the draft breaks",
         )
-        .arg(required_db_option(alloc, MADE_FILE))?
-        .arg(clerk_option(alloc))?
+        .arg(required_db_option(alloc, FOUND_FILE))?
+        .arg(clerk_option(
+            alloc,
+            "Who edits, 1 to 40 bytes; a transaction of another clerk is not touched",
+        ))?
         .arg(flag(
             alloc,
             "commit",
             "Commit the draft where it breaks no rule; ends with status 3 where it breaks one",
         ))?
-        .arg(word(alloc, "ID", "The intersection's number, 1 to 9999"))?
+        .arg(word(alloc, "ID", ID))?
         .arg(word(
             alloc,
             "CSV",
             "The file; one record for each row that is put or removed",
         ))
+}
+
+/// `abandon`.
+fn abandon_command<'a>(alloc: Global) -> Result<Command<'a>, AllocError>
+    ensures { IfOk result (λ c. Reads c abandon_app) }
+{
+    Command::new(alloc, "abandon")
+        .about("Drops the draft of an intersection, whoever holds it, and ends its transaction")
+        .arg(required_db_option(alloc, FOUND_FILE))?
+        .arg(clerk_option(alloc, "Who drops it, 1 to 40 bytes"))?
+        .arg(word(alloc, "ID", ID))
 }
 
 /// `compare`.
@@ -315,6 +234,32 @@ fn diagram_command<'a>(alloc: Global) -> Result<Command<'a>, AllocError>
         ))
 }
 
+/// `page`.
+fn page_command<'a>(alloc: Global) -> Result<Command<'a>, AllocError>
+    ensures { IfOk result (λ c. Reads c page_app) }
+{
+    Command::new(alloc, "page")
+        .about(
+            "Prints an intersection as one HTML page: its plan with the pictures of all patterns, \
+             its draft, its cabinet; or the plan of a file",
+        )
+        .arg(file_option(
+            alloc,
+            "db",
+            "The SQLite file that keeps the tables: shows an intersection, with ID",
+        ))?
+        .arg(file_option(
+            alloc,
+            "file",
+            "The CSV file of a plan, which is shown alone",
+        ))?
+        .arg(second_word(
+            alloc,
+            "ID",
+            "The intersection's number, 1 to 9999; not with --file",
+        ))
+}
+
 /// The program with the commands that answer requests and report.
 fn with_answers<'a>(alloc: Global, program: Command<'a>) -> Result<Command<'a>, AllocError>
     ensures { (app : App) → Reads program.entry app →
@@ -346,8 +291,10 @@ fn with_plans<'a>(alloc: Global, program: Command<'a>) -> Result<Command<'a>, Al
 {
     program
         .subcommand(edit_command(alloc)?)?
+        .subcommand(abandon_command(alloc)?)?
         .subcommand(compare_command(alloc)?)?
-        .subcommand(diagram_command(alloc)?)
+        .subcommand(diagram_command(alloc)?)?
+        .subcommand(page_command(alloc)?)
 }
 
 /// The command line of the program.
@@ -358,6 +305,7 @@ pub(crate) fn command_line<'a>(alloc: Global) -> Result<Command<'a>, AllocError>
         .about("The office of a city's traffic signals: timing plans, cabinets and stock")
         .subcommand_required(true);
     let program = with_answers(alloc, program)?;
+    let program = with_keeping(alloc, program)?;
     let program = with_files(alloc, program)?;
     with_plans(alloc, program)
 }

@@ -11,7 +11,7 @@ use crate::command_line::command_line;
 use crate::jobs::job_at;
 use clap::Error;
 use clap::error::ErrorKind;
-use signal_records::{InterId, PatternNo};
+use signal_records::{InterId, Interval, PatternNo};
 use std::alloc::{AllocError, Global};
 
 /// What of an intersection is exported as CSV.
@@ -45,27 +45,56 @@ pub enum Plans<'a> {
     Draft { db: &'a str, id: InterId },
 }
 
-/// A plan of which a pattern is drawn.
+/// A plan that is drawn, or shown as a page.
 #[derive(Clone, Copy)]
 pub enum Plan<'a> {
-    /// The committed timing set of an intersection.
+    /// That of an intersection: to be drawn, its committed timing set.
     Committed { db: &'a str, id: InterId },
     /// That in a CSV file.
     File { csv: &'a str },
 }
 
-/// What the words ask the program to do. A word that names a file, a clerk or a day may name none.
+/// What the words ask the program to do. A word that names a file, a clerk, an intersection or a day
+/// may name none.
 #[derive(Clone, Copy)]
 pub enum Job<'a> {
     /// Answer the requests on standard input, over a file or memory.
     Batch {
         db: Option<&'a str>,
     },
-    /// Answer so many connections on a port, 1 to 65535. The count is 1 to 1,000,000.
+    /// Answer so many connections on a port, 1 to 65535. The count is 1 to 1,000,000, the most
+    /// where none is given.
     Serve {
         port: u16,
         count: u32,
         db: Option<&'a str>,
+    },
+    /// Add an intersection.
+    Add {
+        db: &'a str,
+        id: InterId,
+        interval: Interval,
+        name: &'a str,
+    },
+    /// Print all intersections, as a text or as CSV.
+    List {
+        db: &'a str,
+        csv: bool,
+    },
+    /// Print what is on hand of each part, as a text or as CSV.
+    Stock {
+        db: &'a str,
+        csv: bool,
+    },
+    /// Print the open orders of an intersection, or of all.
+    Orders {
+        db: &'a str,
+        id: Option<InterId>,
+    },
+    /// Print the register of an intersection's cabinet.
+    Cabinet {
+        db: &'a str,
+        id: InterId,
     },
     /// Print the timing sheet of an intersection.
     Sheet {
@@ -99,6 +128,12 @@ pub enum Job<'a> {
     },
     /// Change a plan by a CSV file.
     Edit(Edit<'a>),
+    /// Drop the draft of an intersection, whoever holds it.
+    Abandon {
+        db: &'a str,
+        clerk: &'a str,
+        id: InterId,
+    },
     /// Print what two plans differ in, as a text or as CSV.
     Compare {
         plans: Plans<'a>,
@@ -108,6 +143,10 @@ pub enum Job<'a> {
     Diagram {
         plan: Plan<'a>,
         pattern: PatternNo,
+    },
+    /// Print the page of an intersection, or of a plan alone.
+    Page {
+        plan: Plan<'a>,
     },
 }
 
@@ -146,7 +185,8 @@ impl From<Error> for JobFault {
 /// Why words that state no job are refused.
 const NO_JOB: &str =
     "a number is out of its range: --port is 1 to 65535, --count 1 to 1000000, --first and ID \
-    1 to 9999, PATTERN 1 to 48; or words are too few, too many, or not to be given together";
+    1 to 9999, INTERVAL 1 to 3650, PATTERN 1 to 48; or words are too few, too many, or not to be \
+    given together";
 
 /// The words are refused, since a number is out of its range, or they don't go together.
 fn no_job(alloc: Global) -> JobFault

@@ -3,22 +3,19 @@
 ghost use Rattle.std.specs.Prelude.{◌≡◌, option_map};
 ghost use Rattle.clap.specs.Matches.{found_of};
 ghost use Rattle.clap.specs.Walk.{rows_of};
-ghost use Rattle.signal_office_line.specs.Job.{asked, batch_at, compare_at, diagram_at, edit_at};
-ghost use Rattle.signal_office_line.specs.Job.{export_at, import_at, job_at, migrate_at, number_at};
-ghost use Rattle.signal_office_line.specs.Job.{overdue_at, serve_at, sheet_at, verify_file_at};
-ghost use Rattle.signal_office_line.specs.Job.{view_of};
+ghost use Rattle.signal_office_line.specs.Job.{abandon_at, asked, batch_at, compare_at, diagram_at};
+ghost use Rattle.signal_office_line.specs.Job.{edit_at, export_at, import_at, job_at, migrate_at};
+ghost use Rattle.signal_office_line.specs.Job.{number_at, overdue_at, page_at, serve_at, sheet_at};
+ghost use Rattle.signal_office_line.specs.Job.{verify_file_at, view_of};
 
 use crate::job::{Edit, Job, Plan, Plans, View};
-use crate::values::{choice, flag, number, word};
+use crate::kept::{add, cabinet, list, orders, stock};
+use crate::values::{choice, flag, intersection, number, word};
 use clap::ArgMatches;
-use signal_records::{InterId, PatternNo};
+use signal_records::PatternNo;
 
-/// The number of an intersection.
-fn intersection(matches: &ArgMatches<'_>, id: &str) -> Option<InterId>
-    ensures { result ≡ number_at 9_999 id.now (rows_of (found_of matches.now)) }
-{
-    InterId::new(number(matches, id, 9_999)?)
-}
+/// The most connections that a server serves.
+const MOST_CONNECTIONS: u32 = 1_000_000;
 
 /// The number of a pattern.
 fn pattern(matches: &ArgMatches<'_>, id: &str) -> Option<PatternNo>
@@ -35,12 +32,12 @@ fn batch<'a>(matches: &ArgMatches<'a>) -> Option<Job<'a>>
     Some(Job::Batch { db })
 }
 
-/// `serve --port N --count K [--db FILE]`.
+/// `serve --port N [--count K] [--db FILE]`.
 fn serve<'a>(matches: &ArgMatches<'a>) -> Option<Job<'a>>
     ensures { option_map asked result ≡ serve_at (rows_of (found_of matches.entry.now)) }
 {
     let port = number(matches, "port", 65_535)? as u16;
-    let count = number(matches, "count", 1_000_000)?;
+    let count = choice(matches, "count", MOST_CONNECTIONS)?.unwrap_or(MOST_CONNECTIONS);
     let db = word(matches, "db");
     Some(Job::Serve { port, count, db })
 }
@@ -129,6 +126,16 @@ fn edit<'a>(matches: &ArgMatches<'a>) -> Option<Job<'a>>
     }))
 }
 
+/// `abandon --db FILE --clerk NAME ID`.
+fn abandon<'a>(matches: &ArgMatches<'a>) -> Option<Job<'a>>
+    ensures { option_map asked result ≡ abandon_at (rows_of (found_of matches.entry.now)) }
+{
+    let db = word(matches, "db")?;
+    let clerk = word(matches, "clerk")?;
+    let id = intersection(matches, "ID")?;
+    Some(Job::Abandon { db, clerk, id })
+}
+
 /// `compare [--csv] PLAN OTHER`, or `compare --db FILE [--csv] ID`.
 fn compare<'a>(matches: &ArgMatches<'a>) -> Option<Job<'a>>
     ensures { option_map asked result ≡ compare_at (rows_of (found_of matches.entry.now)) }
@@ -170,6 +177,25 @@ fn diagram<'a>(matches: &ArgMatches<'a>) -> Option<Job<'a>>
     }
 }
 
+/// `page --db FILE ID`, or `page --file CSV`.
+fn page<'a>(matches: &ArgMatches<'a>) -> Option<Job<'a>>
+    ensures { option_map asked result ≡ page_at (rows_of (found_of matches.entry.now)) }
+{
+    let (db, file) = (word(matches, "db"), word(matches, "file"));
+    match (db, file, word(matches, "ID")) {
+        (Some(db), None, Some(_)) => {
+            let id = intersection(matches, "ID")?;
+            let plan = Plan::Committed { db, id };
+            Some(Job::Page { plan })
+        }
+        (None, Some(csv), None) => {
+            let plan = Plan::File { csv };
+            Some(Job::Page { plan })
+        }
+        _ => None,
+    }
+}
+
 /// What the command of a name asks for, where its values are there and its numbers in their ranges.
 pub(crate) fn job_at<'a>(name: &str, matches: &ArgMatches<'a>) -> Option<Job<'a>>
     ensures { option_map asked result ≡ job_at name.now (rows_of (found_of matches.entry.now)) }
@@ -179,13 +205,20 @@ pub(crate) fn job_at<'a>(name: &str, matches: &ArgMatches<'a>) -> Option<Job<'a>
         "serve" => serve(matches),
         "sheet" => sheet(matches),
         "overdue" => overdue(matches),
+        "add" => add(matches),
+        "list" => list(matches),
+        "stock" => stock(matches),
+        "orders" => orders(matches),
+        "cabinet" => cabinet(matches),
         "verify-file" => verify_file(matches),
         "migrate" => migrate(matches),
         "import" => import(matches),
         "export" => export(matches),
         "edit" => edit(matches),
+        "abandon" => abandon(matches),
         "compare" => compare(matches),
         "diagram" => diagram(matches),
+        "page" => page(matches),
         _ => None,
     }
 }

@@ -6,6 +6,7 @@ ghost use Rattle.clap.specs.Walk.{first_of, rows_of};
 ghost use Rattle.signal_office_line.specs.Job.{choice_at, flag_at, number_at};
 
 use clap::ArgMatches;
+use signal_records::InterId;
 
 /// The word of an argument, where it was given.
 pub(crate) fn word<'a>(matches: &ArgMatches<'a>, id: &str) -> Option<&'a str>
@@ -24,6 +25,13 @@ pub(crate) fn number(matches: &ArgMatches<'_>, id: &str, most: u32) -> Option<u3
         return None;
     }
     Some(number)
+}
+
+/// The number of an intersection.
+pub(crate) fn intersection(matches: &ArgMatches<'_>, id: &str) -> Option<InterId>
+    ensures { result ≡ number_at 9_999 id.now (rows_of (found_of matches.now)) }
+{
+    InterId::new(number(matches, id, 9_999)?)
 }
 
 /// The number of an argument, where it was given. None where its word spells no number from 1 to

@@ -4,7 +4,7 @@ use office_files::{changes_csv, violation_text};
 use office_http::{Sink, write_all};
 use signal_compare::{Difference, changes, comparison_text};
 use signal_office_asking::Fault;
-use signal_office_editing::Edited;
+use signal_office_editing::{Edited, Entered};
 use signal_office_exchange::Imported;
 use signal_rules::Violation;
 use std::alloc::Global;
@@ -14,6 +14,10 @@ const HAS_VIOLATIONS: u8 = 3;
 
 /// The status of `compare` where the plans differ.
 const DIFFERS: u8 = 4;
+
+/// What is told of a commit that was asked for and not made.
+const NOT_COMMITTED: &[u8] =
+    b"not committed: the draft stays open; go on with edit, or drop it with abandon\n";
 
 /// What a command prints on standard output, and its status.
 #[derive(Drop)]
@@ -26,6 +30,21 @@ impl Done {
     /// This text, and nothing to tell by the status.
     pub(crate) fn with(text: Vec<u8>) -> Done {
         Done { text, status: 0 }
+    }
+
+    /// A fixed line.
+    pub(crate) fn telling(alloc: Global, line: &[u8]) -> Result<Done, Fault> {
+        let mut text = Vec::new(alloc);
+        text.extend_from_slice(line)?;
+        Ok(Done::with(text))
+    }
+
+    /// Whether an intersection was new, or there.
+    pub(crate) fn adding(alloc: Global, entered: Entered) -> Result<Done, Fault> {
+        match entered {
+            Entered::Added => Done::telling(alloc, b"added\n"),
+            Entered::Same => Done::telling(alloc, b"same\n"),
+        }
     }
 
     /// The violations of a plan that was checked.
@@ -42,15 +61,16 @@ impl Done {
         Ok(Done::with(line.into_bytes()))
     }
 
-    /// The rules that an edited draft breaks, and whether it was committed. The status tells of a
-    /// commit that was asked for and not made.
+    /// The rules that an edited draft breaks, and whether it was committed. A commit that was asked
+    /// for and not made is told, and by the status.
     pub(crate) fn editing(alloc: Global, edited: &Edited, commit: bool) -> Result<Done, Fault> {
         let mut done = Done::checking(alloc, edited.violations.as_slice())?;
-        if !commit {
-            done.status = 0;
-        }
         if edited.committed {
             done.text.extend_from_slice(b"committed\n")?;
+        } else if commit {
+            done.text.extend_from_slice(NOT_COMMITTED)?;
+        } else {
+            done.status = 0;
         }
         Ok(done)
     }

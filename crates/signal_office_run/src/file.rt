@@ -198,6 +198,20 @@ where
     Ok((files, done))
 }
 
+/// Closes the file of an office, so that its log is copied into it, and gives what was made of it.
+/// A fault from before comes first.
+pub(crate) fn close_office<D: Disk + Drop, T: Drop, E>(
+    office: Office<SqlShelf<FileStore<D>>>,
+    outcome: Result<T, E>,
+) -> Result<T, Fault>
+where
+    Fault: From<E>,
+    ensures made { IfOk result (λ done. outcome ≡ Ok done) }
+{
+    let (_, done) = close_after(office.into_shelf().into_conn(), outcome)?;
+    Ok(done)
+}
+
 /// Closes a file, so that its log is copied into it, and gives the files.
 pub(crate) fn close_files<D: Disk + Drop>(conn: Connection<FileStore<D>>) -> Result<Files<D>, Error>
     ensures { IfOk result (λ files. AreClean D.Disk files.log files.db → IsCopied conn files) }

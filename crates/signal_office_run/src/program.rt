@@ -4,16 +4,17 @@ use crate::done::Done;
 use crate::memory::{open_in_memory, serve_new_office};
 use crate::migrating::migrate_file;
 use crate::serving::serve_port;
-use crate::task::{Task, batch_in_file, do_in_file};
+use crate::task::{Shown, Task, batch_in_file, do_in_file};
 use cabinet_core::read_day;
 use office_desk::office::Office;
 use office_http::{Sink, Source, write_all};
 use office_tables_shelf::shelf::Shelf;
 use signal_office_asking::{Fault, report};
 use signal_office_line::{Edit, Job, JobFault, Plan, Plans, job_of};
+use signal_office_page::page_in;
 use signal_office_plans::{compare_files, diagram_in};
 use signal_office_reports::violations_in;
-use signal_records::{PatternNo, Words};
+use signal_records::{InterId, Interval, PatternNo, Words};
 use sqlite::Wary;
 use std::alloc::Global;
 use std::fs;
@@ -28,9 +29,18 @@ const ALL_INTERSECTIONS: u32 = 9_999;
 /// The status where the words are refused.
 const WORDS_REFUSED: u8 = 2;
 
-/// Answers the requests of the source over tables in memory.
-fn batch<R: Source, W: Sink>(alloc: Global, source: &mut R, out: &mut W) -> Result<u8, Fault> {
-    serve_new_office(alloc, source, out, BATCH_LIMIT)??;
+/// Answers the requests of the source over tables in memory, or in a file where one is given.
+fn batch<R: Source, W: Sink>(
+    rt: &HostRuntime,
+    alloc: Global,
+    db: &Option<&str>,
+    source: &mut R,
+    out: &mut W,
+) -> Result<u8, Fault> {
+    match db {
+        None => serve_new_office(alloc, source, out, BATCH_LIMIT)??,
+        Some(path) => batch_in_file(rt, alloc, path, source, out, BATCH_LIMIT)?,
+    };
     Ok(0)
 }
 
@@ -68,18 +78,6 @@ fn serve_by<S: Shelf + Drop, W: Sink>(
     Ok(0)
 }
 
-/// Serves connections on a port by an office over tables in memory.
-fn serve<W: Sink>(
-    rt: &HostRuntime,
-    alloc: Global,
-    port: u16,
-    count: u32,
-    out: &mut W,
-) -> Result<u8, Fault> {
-    let office = open_in_memory(alloc)?;
-    serve_by(rt, alloc, office, port, count, out)
-}
-
 /// Does a task over the tables of a file, and prints what it gives.
 fn in_file<W: Sink>(
     rt: &HostRuntime,
@@ -90,6 +88,32 @@ fn in_file<W: Sink>(
 ) -> Result<u8, Fault> {
     let done = do_in_file(rt, alloc, path, task, out)?;
     done.print(out)
+}
+
+/// Serves connections on a port by an office over tables in memory, or in a file where one is given.
+fn serve<W: Sink>(
+    rt: &HostRuntime,
+    alloc: Global,
+    port: u16,
+    count: u32,
+    db: &Option<&str>,
+    out: &mut W,
+) -> Result<u8, Fault> {
+    match db {
+        None => serve_by(rt, alloc, open_in_memory(alloc)?, port, count, out),
+        Some(path) => in_file(rt, alloc, path, &Task::Serve { port, count }, out),
+    }
+}
+
+/// Prints what is shown of the office of a file.
+fn show_of<W: Sink>(
+    rt: &HostRuntime,
+    alloc: Global,
+    path: &str,
+    shown: Shown,
+    out: &mut W,
+) -> Result<u8, Fault> {
+    in_file(rt, alloc, path, &Task::Show(shown), out)
 }
 
 /// Prints the report of the intersections that are overdue on the day of a word, which is read
@@ -106,7 +130,24 @@ fn overdue<W: Sink>(
         return Err(Fault::Day);
     };
     let most = first.unwrap_or(ALL_INTERSECTIONS) as usize;
-    in_file(rt, alloc, path, &Task::Overdue { day, most }, out)
+    show_of(rt, alloc, path, Shown::Overdue { day, most }, out)
+}
+
+/// Adds an intersection, whose name is read before the file is opened.
+fn add<W: Sink>(
+    rt: &HostRuntime,
+    alloc: Global,
+    db: &str,
+    id: InterId,
+    interval: Interval,
+    name: &str,
+    out: &mut W,
+) -> Result<u8, Fault> {
+    let Some(name) = &Words::new(alloc, name.as_bytes())? else {
+        return Err(Fault::Name);
+    };
+    let task = Task::Add { id, interval, name };
+    in_file(rt, alloc, db, &task, out)
 }
 
 /// Brings the tables of a file to today's version, and prints how many rows were written anew.
@@ -152,6 +193,21 @@ fn edit_plan<W: Sink>(
     in_file(rt, alloc, edit.db, &task, out)
 }
 
+/// Drops the draft of an intersection, for a clerk whose name is read before the file is opened.
+fn abandon<W: Sink>(
+    rt: &HostRuntime,
+    alloc: Global,
+    db: &str,
+    clerk: &str,
+    id: InterId,
+    out: &mut W,
+) -> Result<u8, Fault> {
+    let Some(clerk) = &Words::new(alloc, clerk.as_bytes())? else {
+        return Err(Fault::Clerk);
+    };
+    in_file(rt, alloc, db, &Task::Abandon { id, clerk }, out)
+}
+
 /// Prints what two plans differ in.
 fn compare<W: Sink>(
     rt: &HostRuntime,
@@ -179,10 +235,26 @@ fn diagram<W: Sink>(
     out: &mut W,
 ) -> Result<u8, Fault> {
     match *plan {
-        Plan::Committed { db, id } => in_file(rt, alloc, db, &Task::Diagram { id, pattern }, out),
+        Plan::Committed { db, id } => show_of(rt, alloc, db, Shown::Diagram { id, pattern }, out),
         Plan::File { csv } => {
             let bytes = read_file(rt, csv)?;
             Done::with(diagram_in(alloc, &bytes, pattern)?).print(out)
+        }
+    }
+}
+
+/// Prints the page of an intersection, or of a plan alone.
+fn page<W: Sink>(
+    rt: &HostRuntime,
+    alloc: Global,
+    plan: &Plan<'_>,
+    out: &mut W,
+) -> Result<u8, Fault> {
+    match *plan {
+        Plan::Committed { db, id } => show_of(rt, alloc, db, Shown::Page { id }, out),
+        Plan::File { csv } => {
+            let bytes = read_file(rt, csv)?;
+            Done::with(page_in(alloc, &bytes)?).print(out)
         }
     }
 }
@@ -196,36 +268,32 @@ fn run_job<R: Source, W: Sink>(
     out: &mut W,
 ) -> Result<u8, Fault> {
     match job {
-        Job::Batch { db: None } => batch(alloc, source, out),
-        Job::Batch { db: Some(path) } => {
-            batch_in_file(rt, alloc, path, source, out, BATCH_LIMIT)?;
-            Ok(0)
-        }
-        Job::Serve {
-            port,
-            count,
-            db: None,
-        } => serve(rt, alloc, *port, *count, out),
-        Job::Serve {
-            port,
-            count,
-            db: Some(path),
-        } => {
-            let (port, count) = (*port, *count);
-            in_file(rt, alloc, path, &Task::Serve { port, count }, out)
-        }
-        Job::Sheet { db, id } => in_file(rt, alloc, db, &Task::Sheet { id: *id }, out),
+        Job::Batch { db } => batch(rt, alloc, db, source, out),
+        Job::Serve { port, count, db } => serve(rt, alloc, *port, *count, db, out),
+        Job::Sheet { db, id } => show_of(rt, alloc, db, Shown::Sheet { id: *id }, out),
         Job::Overdue { db, first, day } => overdue(rt, alloc, db, *first, day, out),
+        Job::Add {
+            db,
+            id,
+            interval,
+            name,
+        } => add(rt, alloc, db, *id, *interval, name, out),
+        Job::List { db, csv } => show_of(rt, alloc, db, Shown::List { csv: *csv }, out),
+        Job::Stock { db, csv } => show_of(rt, alloc, db, Shown::Stock { csv: *csv }, out),
+        Job::Orders { db, id } => show_of(rt, alloc, db, Shown::Orders { id: *id }, out),
+        Job::Cabinet { db, id } => show_of(rt, alloc, db, Shown::Cabinet { id: *id }, out),
         Job::VerifyFile { csv } => verify_file(rt, alloc, csv, out),
         Job::Migrate { db } => migrate(rt, alloc, db, out),
         Job::Import { db, csv } => import(rt, alloc, db, csv, out),
         Job::Export { db, id, view } => {
             let (id, view) = (*id, *view);
-            in_file(rt, alloc, db, &Task::Export { id, view }, out)
+            show_of(rt, alloc, db, Shown::Export { id, view }, out)
         }
         Job::Edit(edit) => edit_plan(rt, alloc, edit, out),
+        Job::Abandon { db, clerk, id } => abandon(rt, alloc, db, clerk, *id, out),
         Job::Compare { plans, csv } => compare(rt, alloc, plans, *csv, out),
         Job::Diagram { plan, pattern } => diagram(rt, alloc, plan, *pattern, out),
+        Job::Page { plan } => page(rt, alloc, plan, out),
     }
 }
 

@@ -1,21 +1,47 @@
 //! What is done over the tables of a file.
 
 use crate::done::Done;
-use crate::file::{close_after, is_missing, opened_file, serve_file};
+use crate::file::{close_office, is_missing, opened_file, serve_file};
 use crate::serving::serve_port;
 use cabinet_core::Day;
 use office_desk::office::Office;
 use office_http::{Served, Sink, Source};
+use office_tables::sql_shelf::SqlShelf;
 use office_tables_shelf::shelf::Shelf;
 use signal_office_asking::Fault;
-use signal_office_editing::edit_plan;
+use signal_office_editing::{abandon_draft, add_intersection, edit_plan};
 use signal_office_exchange::{cabinet_csv_of, draft_csv_of, import_csv, timing_csv_of};
 use signal_office_line::View;
+use signal_office_page::page_of;
 use signal_office_plans::{diagram_of, draft_differences};
-use signal_office_reports::{overdue_of, sheet_of};
-use signal_records::{InterId, PatternNo, Words};
-use sqlite::Wary;
+use signal_office_reports::{cabinet_of, list_of, orders_of, overdue_of, sheet_of, stock_of};
+use signal_records::{InterId, Interval, PatternNo, Words};
+use sqlite::{FileStore, Wary};
+use sqlite_disk::Disk;
 use std::alloc::Global;
+
+/// What is printed of an office, which stays as it is.
+#[derive(Clone, Copy)]
+pub(crate) enum Shown {
+    /// The timing sheet of an intersection.
+    Sheet { id: InterId },
+    /// The report of the intersections that are overdue on a day, at most so many.
+    Overdue { day: Day, most: usize },
+    /// All intersections, as a text or as CSV.
+    List { csv: bool },
+    /// What is on hand of each part, as a text or as CSV.
+    Stock { csv: bool },
+    /// The open orders of an intersection, or of all.
+    Orders { id: Option<InterId> },
+    /// The register of an intersection's cabinet.
+    Cabinet { id: InterId },
+    /// What is kept of an intersection, as CSV.
+    Export { id: InterId, view: View },
+    /// A pattern of an intersection's committed timing set.
+    Diagram { id: InterId, pattern: PatternNo },
+    /// The page of an intersection.
+    Page { id: InterId },
+}
 
 /// What an office over the tables of a file is opened for.
 #[derive(Clone, Copy)]
@@ -25,23 +51,17 @@ pub(crate) enum Task<'a> {
         port: u16,
         count: u32,
     },
-    /// The timing sheet of an intersection.
-    Sheet {
+    /// What is printed of it.
+    Show(Shown),
+    /// An intersection that is added.
+    Add {
         id: InterId,
-    },
-    /// The report of the intersections that are overdue on a day, at most so many.
-    Overdue {
-        day: Day,
-        most: usize,
+        interval: Interval,
+        name: &'a Words<120>,
     },
     /// The records of a CSV file.
     Import {
         csv: &'a [u8],
-    },
-    /// What is kept of an intersection, as CSV.
-    Export {
-        id: InterId,
-        view: View,
     },
     /// A plan's CSV file that edits a draft, which is committed where that is asked.
     Edit {
@@ -50,15 +70,15 @@ pub(crate) enum Task<'a> {
         csv: &'a [u8],
         commit: bool,
     },
+    /// The draft of an intersection, which is dropped.
+    Abandon {
+        id: InterId,
+        clerk: &'a Words<40>,
+    },
     /// What an intersection's draft changes, as a text or as CSV.
     Compare {
         id: InterId,
         csv: bool,
-    },
-    /// A pattern of an intersection's committed timing set.
-    Diagram {
-        id: InterId,
-        pattern: PatternNo,
     },
 }
 
@@ -71,7 +91,10 @@ impl Task<'_> {
     fn makes_file(&self) -> bool
         ensures { result ≡ makes_file self.now }
     {
-        matches!(self, Task::Serve { .. } | Task::Import { .. })
+        matches!(
+            self,
+            Task::Serve { .. } | Task::Add { .. } | Task::Import { .. }
+        )
     }
 }
 
@@ -89,6 +112,25 @@ fn export<S: Shelf>(
     }
 }
 
+/// What is printed of an office.
+fn shown_of<S: Shelf>(
+    alloc: Global,
+    office: &mut Office<S>,
+    shown: Shown,
+) -> Result<Vec<u8>, Fault> {
+    match shown {
+        Shown::Sheet { id } => sheet_of(alloc, office, id),
+        Shown::Overdue { day, most } => overdue_of(alloc, office, day, most),
+        Shown::List { csv } => list_of(alloc, office, csv),
+        Shown::Stock { csv } => stock_of(alloc, office, csv),
+        Shown::Orders { id } => orders_of(alloc, office, id),
+        Shown::Cabinet { id } => cabinet_of(alloc, office, id),
+        Shown::Export { id, view } => export(alloc, office, id, view),
+        Shown::Diagram { id, pattern } => diagram_of(alloc, office, id, pattern),
+        Shown::Page { id } => page_of(alloc, office, id),
+    }
+}
+
 /// Does a task, and gives what is to be printed once the file is closed, with the status.
 fn done_by<S: Shelf, W: Sink>(
     rt: &HostRuntime,
@@ -97,31 +139,45 @@ fn done_by<S: Shelf, W: Sink>(
     task: &Task<'_>,
     out: &mut W,
 ) -> Result<Done, Fault> {
-    match task {
+    match *task {
         Task::Serve { port, count } => {
-            serve_port(rt, alloc, office, *port, *count, out)?;
+            serve_port(rt, alloc, office, port, count, out)?;
             Ok(Done::with(Vec::new(alloc)))
         }
-        Task::Sheet { id } => Ok(Done::with(sheet_of(alloc, office, *id)?)),
-        Task::Overdue { day, most } => Ok(Done::with(overdue_of(alloc, office, *day, *most)?)),
+        Task::Show(shown) => Ok(Done::with(shown_of(alloc, office, shown)?)),
+        Task::Add { id, interval, name } => {
+            Done::adding(alloc, add_intersection(alloc, office, id, interval, name)?)
+        }
         Task::Import { csv } => Done::importing(alloc, import_csv(alloc, office, csv)?),
-        Task::Export { id, view } => Ok(Done::with(export(alloc, office, *id, *view)?)),
         Task::Edit {
             id,
             clerk,
             csv,
             commit,
         } => {
-            let edited = edit_plan(alloc, office, *id, clerk, csv, *commit)?;
-            Done::editing(alloc, &edited, *commit)
+            let edited = edit_plan(alloc, office, id, clerk, csv, commit)?;
+            Done::editing(alloc, &edited, commit)
+        }
+        Task::Abandon { id, clerk } => {
+            abandon_draft(alloc, office, id, clerk)?;
+            Done::telling(alloc, b"abandoned\n")
         }
         Task::Compare { id, csv } => {
-            Done::comparing(alloc, &draft_differences(alloc, office, *id)?, *csv)
-        }
-        Task::Diagram { id, pattern } => {
-            Ok(Done::with(diagram_of(alloc, office, *id, *pattern)?))
+            Done::comparing(alloc, &draft_differences(alloc, office, id)?, csv)
         }
     }
+}
+
+/// Does a task over the tables of a file that was opened, and closes it.
+fn do_and_close<D: Disk + Drop, W: Sink>(
+    rt: &HostRuntime,
+    alloc: Global,
+    mut office: Office<SqlShelf<FileStore<D>>>,
+    task: &Task<'_>,
+    out: &mut W,
+) -> Result<Done, Fault> {
+    let outcome = done_by(rt, alloc, &mut office, task, out);
+    close_office(office, outcome)
 }
 
 /// Does a task over the tables of a file, which is closed again, and gives what is to be printed,
@@ -137,10 +193,10 @@ pub(crate) fn do_in_file<W: Sink>(
     if !task.makes_file() && is_missing(rt, alloc, path)? {
         return Err(Fault::File);
     }
-    let mut office = opened_file(rt, alloc, path, Wary)?;
-    let outcome = done_by(rt, alloc, &mut office, task, out);
-    let (_, done) = close_after(office.into_shelf().into_conn(), outcome)?;
-    Ok(done)
+    match opened_file(rt, alloc, path, Wary) {
+        Ok(office) => do_and_close(rt, alloc, office, task, out),
+        Err(fault) => Err(fault),
+    }
 }
 
 /// Answers the requests of the source over the tables of a file, and closes it, so that its log is
@@ -153,7 +209,8 @@ pub(crate) fn batch_in_file<R: Source, W: Sink>(
     out: &mut W,
     max_requests: u32,
 ) -> Result<Served, Fault> {
-    let (office, outcome) = serve_file(rt, alloc, path, Wary, source, out, max_requests)?;
-    let (_, served) = close_after(office.into_shelf().into_conn(), outcome)?;
-    Ok(served)
+    match serve_file(rt, alloc, path, Wary, source, out, max_requests) {
+        Ok((office, outcome)) => close_office(office, outcome),
+        Err(fault) => Err(fault),
+    }
 }

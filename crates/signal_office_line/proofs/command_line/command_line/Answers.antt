@@ -14,4 +14,5 @@ returns c =
       local = ap (λ (x : Command-F Command). x.has_globals) c.subcommand_required-program.ensures
           ∙ (ap (λ (x : Command-F Command). x.has_globals) c.about.ensures ∙ c.new.ensures.local);
     } in
-    c.with_plans.ensures _ (c.in_ok-program-2.ensures _ (c.in_ok-program.ensures _ named))
+    c.with_plans.ensures _ (c.in_ok-program-3.ensures _
+    (c.in_ok-program-2.ensures _ (c.in_ok-program.ensures _ named)))

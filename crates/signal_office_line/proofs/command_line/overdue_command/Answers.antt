@@ -15,7 +15,7 @@ returns c =
     } in
     let db = Reads-arg _ _ _ _ _ named c.required_db_option.ensures.rule c.required_db_option.ensures.local
     c.in_ok-arg.ensures in
-    let first = Reads-arg _ _ _ _ _ db c.first_option.ensures.rule c.first_option.ensures.local
+    let first = Reads-arg _ _ _ _ _ db c.choice_option.ensures.rule c.choice_option.ensures.local
     c.in_ok-arg-2.ensures in
     IfOk-weaker c.arg-3.result _ _ (λ r a. Reads-arg _ r _ _ _ first c.word.ensures.rule
     c.word.ensures.local a) c.arg-3.ensures

@@ -15,7 +15,7 @@ returns c =
     } in
     let port = Reads-arg _ _ _ _ _ named c.number_option.ensures.rule c.number_option.ensures.local
     c.in_ok-arg.ensures in
-    let count = Reads-arg _ _ _ _ _ port c.number_option-2.ensures.rule c.number_option-2.ensures.local
+    let count = Reads-arg _ _ _ _ _ port c.choice_option.ensures.rule c.choice_option.ensures.local
     c.in_ok-arg-2.ensures in
     IfOk-weaker c.arg-3.result _ _ (λ r a. Reads-arg _ r _ _ _ count c.db_option.ensures.rule
     c.db_option.ensures.local a) c.arg-3.ensures
