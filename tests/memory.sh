@@ -141,14 +141,6 @@ try_command "" edit --db office.db --clerk Ana 12 "$folder/changed.csv" & pieces
 try_command "" compare "$plan" "$folder/changed.csv" & pieces="$pieces $!"
 try_command "" compare --db office.db 12 & pieces="$pieces $!"
 try_command "" diagram --file "$plan" 1 & pieces="$pieces $!"
-try_command same add --db office.db 13 365 Oak & pieces="$pieces $!"
-try_command "fault: NotTransaction" abandon --db office.db --clerk Ana 12 & pieces="$pieces $!"
-try_command "" list --db office.db & pieces="$pieces $!"
-try_command "" stock --db office.db & pieces="$pieces $!"
-try_command "" orders --db office.db & pieces="$pieces $!"
-try_command "" cabinet --db office.db 12 & pieces="$pieces $!"
-try_command "" page --db office.db 12 & pieces="$pieces $!"
-try_command "" page --file "$plan" & pieces="$pieces $!"
 status=0
 for piece in $pieces; do
   wait "$piece" || status=1
