@@ -111,7 +111,7 @@ assembled it state committed draft cabinet p q r s = rw (sym p, sym q, sym r, sy
 same_found : (found : Option Intersection) (i j : Intersection) → found ≡ Some i → found ≡ Some j → j ≡ i
 same_found found i j p q = cc
 
-all_shown : (tables : Content) (office : Office) (id : ℕ) (it : IntersectionShown)
+pub all_shown : (tables : Content) (office : Office) (id : ℕ) (it : IntersectionShown)
     → ShowsIntersection tables id it → StandForSound tables office
     → (i : Intersection) × (get office.intersections id ≡ Some i) × (it ≡ shown_of office.register id i)
 all_shown tables office id it shows stands =
