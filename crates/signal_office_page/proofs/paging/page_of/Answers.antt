@@ -14,8 +14,13 @@ returns-in_err-shown-clause-unknown g c =
     refused_tells (g.S.Shelf.content c.args.office.now) before c.args.id c.in_err-shown.field-0.0
     (c.in_err-shown.ensures.fault honest) stands)
 
-pub returns-clause-unknown : goal.returns-clause-unknown
-returns-clause-unknown g c =
+pub returns-in_err-intersection_page-clause-unknown : goal.returns-in_err-intersection_page-clause-unknown
+returns-in_err-intersection_page-clause-unknown g c =
     on_memory _ _ c.from_residual-in_err-intersection_page.ensures.1 (λ honest before stands.
     memory_tells (g.S.Shelf.content c.args.office.now) before c.args.id c.in_ok-shown.shown
     (c.in_ok-shown.ensures.shown honest) stands)
+
+pub returns-in_err-shown-clause-fault : goal.returns-in_err-shown-clause-fault
+returns-in_err-shown-clause-fault g c =
+    handed_on _ c.in_err-shown.field-0.0 _ c.from_residual.ensures.1 (λ other honest.
+    c.in_err-shown.ensures.fault honest)
