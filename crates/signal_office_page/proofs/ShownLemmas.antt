@@ -5,6 +5,8 @@ use Rattle.std.specs.Prelude.{option_map}
 use Rattle.draft_core.specs.Transaction.{Draft, state_of, in_stage}
 use Rattle.draft_core.specs.declared.state.DbState.{DbState}
 use Rattle.draft_core.specs.declared.state.DbState.TheVariants.{Normal, Transaction, Verify, Done}
+use Rattle.draft_core.specs.declared.state.Stage.{Stage}
+use Rattle.draft_core.specs.declared.state.Stage.TheVariants as stage
 use Rattle.signal_records.specs.TimingSet.{Rows}
 use Rattle.office_tables_shelf.specs.Content.{Content}
 use Rattle.office_desk.specs.StandFor.{StandForSound}
@@ -73,9 +75,14 @@ cabinet_found office id (Some i) cabinet e = cc
 
 -- ---- an intersection in state Normal has no draft
 
+drafting : (stage : Stage) → in_stage stage ≢ Normal
+drafting stage.Transaction e = cc
+drafting stage.Verify e = cc
+drafting stage.Done e = cc
+
 none_normal : (draft : Option Draft) → state_of draft ≡ Normal → None ≡ option_map (λ (d : Draft). d.set) draft
 none_normal None e = refl
-none_normal (Some d) e = cc
+none_normal (Some d) e = absurd (drafting d.stage e)
 
 -- in another state its draft is shown
 open_drafted : (tables : Content) (office : Office) (id : ℕ) (i : Intersection) (draft : Option Rows)
@@ -111,7 +118,7 @@ assembled it state committed draft cabinet p q r s = rw (sym p, sym q, sym r, sy
 same_found : (found : Option Intersection) (i j : Intersection) → found ≡ Some i → found ≡ Some j → j ≡ i
 same_found found i j p q = cc
 
-all_shown : (tables : Content) (office : Office) (id : ℕ) (it : IntersectionShown)
+pub all_shown : (tables : Content) (office : Office) (id : ℕ) (it : IntersectionShown)
     → ShowsIntersection tables id it → StandForSound tables office
     → (i : Intersection) × (get office.intersections id ≡ Some i) × (it ≡ shown_of office.register id i)
 all_shown tables office id it shows stands =

@@ -18,7 +18,11 @@ use Rattle.signal_office_asking.specs.Fault.{TellsUnknown}
 use Rattle.signal_office_asking.specs.Showing.{state_shown, timing_shown, draft_shown, cabinet_shown}
 use Rattle.signal_office_asking.specs.declared.fault.Fault.{Fault}
 use Rattle.signal_office_asking.specs.declared.fault.Fault.TheVariants as told
-use Rattle.signal_office_page.specs.Asking.{IsRefusedShowing}
+use Rattle.signal_office_page.specs.Asking.{IsRefusedShowing, ShowsIntersection}
+use Rattle.signal_office_page.specs.Paging.{shown_of}
+use Rattle.signal_office_page.proofs.ShownLemmas.{all_shown}
+use Rattle.signal_page.specs.declared.shown.IntersectionShown.{IntersectionShown}
+use Rattle.signal_office_asking.proofs.FaultLemmas.{there_tells}
 
 -- a fault that is made of no unknown intersection tells none, where there is one
 by_found : {A : Type 0} (made : Reply → Result A Fault) (office : Office) (id : ℕ) (show : Intersection → Reply) (found : Option Intersection) (why : Fault)
@@ -68,3 +72,11 @@ refused_tells tables office id why (inr (inr (inl draft))) stands =
     tells draft_shown tables office id (command.Draft id) (λ i. draft_of_intersection i.timing.draft) why refl refl refl (λ i. no_draft i.timing.draft) draft stands
 refused_tells tables office id why (inr (inr (inr cabinet))) stands =
     tells cabinet_shown tables office id (command.Cabinet id) (λ i. reply.Cabinet (cabinet_of_intersection office.register id)) why refl refl refl (λ i e. cc) cabinet stands
+
+-- and where all are shown, want of memory tells of none
+pub memory_tells : (tables : Content) (office : Office) (id : ℕ) (it : IntersectionShown)
+    → ShowsIntersection tables id it → StandForSound tables office → TellsUnknown office id told.Memory
+memory_tells tables office id it shows stands =
+    by_all (all_shown tables office id it shows stands) where
+      by_all : ((i : Intersection) × (get office.intersections id ≡ Some i) × (it ≡ shown_of office.register id i)) → TellsUnknown office id told.Memory
+      by_all (i, there, is) = there_tells office id i there
