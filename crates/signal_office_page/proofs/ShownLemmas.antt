@@ -1,5 +1,5 @@
 -- What the queries show is the intersection of the office that the tables stand for.
-use Rattle.std.proofs.Common.{◌≡◌, ◌≢◌, ◌⊎◌, inl, inr, ℕ, List, Option, Some, None, Result, Ok, Err, refl, sym, ap, subst, ◌∙◌}
+use Rattle.std.proofs.Common.{◌≡◌, ◌≢◌, inl, inr, ℕ, List, Option, Some, None, Result, Ok, refl, sym, ap, subst, ◌∙◌}
 use Rattle.std.specs.FinMap.{get}
 use Rattle.std.specs.Prelude.{option_map}
 use Rattle.draft_core.specs.Transaction.{Draft, state_of, in_stage}
@@ -16,7 +16,6 @@ use Rattle.office_machine.specs.Step.{state_shown as state_of_intersection, timi
 use Rattle.office_machine.specs.Step.{draft_shown as draft_of_intersection, cabinet_shown as cabinet_of_intersection}
 use Rattle.office_machine.specs.declared.command.Command.{Command}
 use Rattle.office_machine.specs.declared.command.Command.TheVariants as command
-use Rattle.office_machine.specs.declared.refusal.Refusal.{Refusal}
 use Rattle.office_machine.specs.declared.refusal.Refusal.TheVariants as refusal
 use Rattle.office_machine.specs.declared.reply.Reply.{Reply}
 use Rattle.office_machine.specs.declared.reply.Reply.TheVariants as reply
@@ -25,7 +24,6 @@ use Rattle.office_machine.specs.declared.reply.IntersectionState.{IntersectionSt
 use Rattle.signal_office_asking.specs.declared.fault.Fault.{Fault}
 use Rattle.signal_office_asking.specs.Asking.{Answered}
 use Rattle.signal_office_asking.specs.Showing.{state_shown, timing_shown, draft_shown, cabinet_shown}
-use Rattle.signal_office_asking.specs.Showing.{ShowsState, ShowsTiming, ShowsDraft, ShowsCabinet}
 use Rattle.signal_page.specs.declared.shown.IntersectionShown.{IntersectionShown}
 use Rattle.signal_page.specs.Page.{IsPage}
 use Rattle.signal_office_page.specs.Asking.{ShowsOpen, ShowsDraftIn, ShowsIntersection}

@@ -2,7 +2,8 @@
 
 ghost use Rattle.std.specs.Prelude.{IfErr, IfOk, ◌≢◌};
 ghost use Rattle.office_tables_shelf.specs.Shelf.{IsKept};
-ghost use Rattle.signal_office_page.specs.Asking.{IsRefusedShowing, ShowsDraftIn, ShowsIntersection};
+ghost use Rattle.signal_office_page.specs.Asking.{IsRefusedShowing, ShowsDraftIn};
+ghost use Rattle.signal_office_page.specs.Asking.{ShowsIntersection};
 
 use draft_core::state::DbState;
 use office_desk::office::Office;
