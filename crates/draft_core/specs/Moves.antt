@@ -19,7 +19,7 @@ use Rattle.draft_core.specs.declared.timing.Timing.{Timing}
 use Rattle.draft_core.specs.declared.timing.Reach.{Reach}
 use Rattle.draft_core.specs.declared.timing.Move.{Move}
 use Rattle.draft_core.specs.declared.timing.TimingChange.{TimingChange}
-use Rattle.draft_core.specs.declared.timing.TimingChange.TheVariants.{Committed, Drafted, DraftGone}
+use Rattle.draft_core.specs.declared.timing.TimingChange.TheVariants.{Committed, Drafted, DraftGone, DraftDropped}
 use Rattle.draft_core.specs.declared.refusal.DraftRefusal.{DraftRefusal}
 use Rattle.draft_core.specs.declared.refusal.DraftRefusal.TheVariants.{NotNormal, NotTransaction, NotOwner, NotVerify, NotDone, VerifyFailed, RevisionFull, NoMemory}
 use Rattle.draft_core.specs.DraftRows.{Said, silent, RowsByKey, RowStands, Stands}
@@ -34,6 +34,7 @@ committed_after [] key committed = committed
 committed_after (Committed change ∷ changes) key committed = committed_after changes key (overlaid committed (said_at change key))
 committed_after (Drafted change ∷ changes) key committed = committed_after changes key committed
 committed_after (DraftGone gone ∷ changes) key committed = committed_after changes key committed
+committed_after (DraftDropped ∷ changes) key committed = committed_after changes key committed
 
 -- what the draft rows say of a key after changes
 abbrev pub row_after : List TimingChange → Key → Said → Said
@@ -43,6 +44,7 @@ row_after (Drafted change ∷ changes) key said =
     row_after changes key (later_of (said_at change key) said)
 row_after (DraftGone gone ∷ changes) key said =
     row_after changes key (cond (eq_by_cmp key_cmp key gone) silent said)
+row_after (DraftDropped ∷ changes) key said = row_after changes key silent
 
 -- how many timing rows changes write
 abbrev pub timing_writes : List TimingChange → ℕ
@@ -50,13 +52,15 @@ timing_writes [] = 0
 timing_writes (Committed change ∷ changes) = timing_writes changes + 1
 timing_writes (Drafted change ∷ changes) = timing_writes changes
 timing_writes (DraftGone gone ∷ changes) = timing_writes changes
+timing_writes (DraftDropped ∷ changes) = timing_writes changes
 
--- how many draft rows changes write
+-- how many draft rows changes write; to drop them all is one write
 abbrev pub draft_writes : List TimingChange → ℕ
 draft_writes [] = 0
 draft_writes (Committed change ∷ changes) = draft_writes changes
 draft_writes (Drafted change ∷ changes) = draft_writes changes + 1
 draft_writes (DraftGone gone ∷ changes) = draft_writes changes + 1
+draft_writes (DraftDropped ∷ changes) = draft_writes changes + 1
 
 -- the changes that are kept as draft rows, in their order
 abbrev pub drafted_in : List TimingChange → List Change
@@ -64,6 +68,7 @@ drafted_in [] = []
 drafted_in (Committed change ∷ changes) = drafted_in changes
 drafted_in (Drafted change ∷ changes) = change ∷ drafted_in changes
 drafted_in (DraftGone gone ∷ changes) = drafted_in changes
+drafted_in (DraftDropped ∷ changes) = drafted_in changes
 
 -- ---- a move, and the line of the table that it follows
 

@@ -39,6 +39,8 @@ pub enum TimingChange {
     Drafted(Change),
     /// The draft row under the key goes.
     DraftGone(Key),
+    /// All draft rows go.
+    DraftDropped,
 }
 
 /// Rows that a decision changes, in their order. They are seen as a list.

@@ -3,7 +3,7 @@
 ghost use Rattle.std.specs.Prelude.{◌≡◌, IfOk};
 ghost use Rattle.draft_core.specs.Writes as writes;
 
-use crate::overlaying::{changed_key, copy_change};
+use crate::overlaying::copy_change;
 use crate::timing::{TimingChange, TimingChanges};
 use signal_records::{Change, NoMemory};
 use std::alloc::Global;
@@ -19,25 +19,31 @@ pub(crate) fn drafting(alloc: Global, changes: &[Change]) -> Result<TimingChange
     Ok(TimingChanges::new(made))
 }
 
-/// Each draft row is made a change of the committed set, and goes.
-pub(crate) fn settling(alloc: Global, changes: &[Change]) -> Result<TimingChanges, NoMemory>
-    ensures { IfOk result (λ made. made ≡ writes.settling changes.now) }
+/// The draft rows go, where there are any.
+fn dropped(alloc: Global, changes: &[Change]) -> Result<Vec<TimingChange>, NoMemory>
+    ensures { IfOk result (λ made. made.items ≡ writes.dropping changes.now) }
 {
     let mut made = Vec::new(alloc);
-    for change in changes {
-        made.push(TimingChange::Committed(copy_change(change)?))?;
-        made.push(TimingChange::DraftGone(changed_key(change)))?;
+    if !changes.is_empty() {
+        made.push(TimingChange::DraftDropped)?;
     }
-    Ok(TimingChanges::new(made))
+    Ok(made)
 }
 
-/// Each draft row goes.
+/// The draft rows go, where there are any.
 pub(crate) fn dropping(alloc: Global, changes: &[Change]) -> Result<TimingChanges, NoMemory>
     ensures { IfOk result (λ made. made ≡ writes.dropping changes.now) }
 {
-    let mut made = Vec::new(alloc);
+    Ok(TimingChanges::new(dropped(alloc, changes)?))
+}
+
+/// The draft rows go, and each is made a change of the committed set.
+pub(crate) fn settling(alloc: Global, changes: &[Change]) -> Result<TimingChanges, NoMemory>
+    ensures { IfOk result (λ made. made ≡ writes.settling changes.now) }
+{
+    let mut made = dropped(alloc, changes)?;
     for change in changes {
-        made.push(TimingChange::DraftGone(changed_key(change)))?;
+        made.push(TimingChange::Committed(copy_change(change)?))?;
     }
     Ok(TimingChanges::new(made))
 }

@@ -1,7 +1,7 @@
 -- Decisions that write nothing.
 use Rattle.std.proofs.Common.{◌≡◌, ◌≢◌, ◌≤◌, ℕ, List, [], Result, Ok, Err, sym, subst, ◌∙◌, arith}
 use Rattle.std.specs.Prelude.{IsErrAnd}
-use Rattle.office_tables_shelf.specs.Change.{changed_by}
+use Rattle.office_tables_shelf.specs.Change.{AddNew, changed_by}
 use Rattle.office_tables_shelf.specs.Content.{Content}
 use Rattle.office_tables_shelf.specs.Counts.{writes_in}
 use Rattle.office_tables_shelf.specs.declared.rows.RowChange.{RowChange}
@@ -30,6 +30,7 @@ pub told_decides : (is_honest : Type 0) (tables : Content) (command : Command) (
 told_decides is_honest tables command said decided is never named none whole step = record {
   step = step;
   writes = λ honest table. subst (λ (list : List RowChange). writes_in table list ≤ most_writes tables command table) (sym none) (omega arith);
+  news = λ honest. subst (AddNew tables) (sym none) tt;
   refused = λ _. none;
   query = λ _. none;
   named = λ why e. named why (sym is ∙ e);

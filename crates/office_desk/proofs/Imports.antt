@@ -4,7 +4,7 @@ use Rattle.std.proofs.Math.Seq.{drop-cons}
 use Rattle.std.specs.Prelude.{◌⊎◌}
 use Rattle.cabinet_core.specs.Cabinet.{Line, added as added_line, same as same_line, refused as refused_line}
 use Rattle.cabinet_core.specs.declared.command.RecordCommand.{RecordCommand}
-use Rattle.office_tables_shelf.specs.Change.{changed_by}
+use Rattle.office_tables_shelf.specs.Change.{AddNew, changed_by}
 use Rattle.office_tables_shelf.specs.Content.{Content}
 use Rattle.office_tables_shelf.specs.Counts.{writes_in}
 use Rattle.office_tables_shelf.specs.Shelf.{IsTold}
@@ -15,6 +15,7 @@ use Rattle.office_tables_shelf.specs.declared.rows.Table.{Table}
 use Rattle.cabinet_core.specs.Register.{Register}
 use Rattle.cabinet_core.specs.Step.{after_line, after_record, line_at, with_record}
 use Rattle.office_desk_cabinet.proofs.KeptDamage.{meets_still, nothing_kept}
+use Rattle.office_desk_cabinet.proofs.News.{news_after, tells_new}
 use Rattle.office_desk_cabinet.specs.RegisterDamage.{KeepsDamage, MeetsRecordDamage, SparesDamage}
 use Rattle.office_desk_cabinet.specs.Registers.{RegistersFrom, line_told, most_record_writes, rows_told}
 use Rattle.office_desk_cabinet.specs.RegisterStands.{RegisterStandsSound}
@@ -32,7 +33,7 @@ use Rattle.office_machine.specs.Office.{Office}
 use Rattle.office_desk.specs.Recording.{HasDamagedAbout, TellsAbout}
 use Rattle.office_machine.specs.Refusal.{line_of}
 use Rattle.office_desk.specs.StandFor.{StandForSound}
-use Rattle.office_desk.specs.Blaming.{IsRefusedAfter}
+use Rattle.office_desk.specs.Blaming.{AreTaken, IsRefusedAfter, IsTakenAfter}
 use Rattle.office_desk.specs.Named.{number_of}
 use Rattle.office_machine.specs.Step.{cabinet_of, import_by, import_from, imported, is_known, refusal_of_record}
 use Rattle.office_machine.specs.declared.command.Command.TheVariants as command
@@ -308,13 +309,27 @@ some_read (c ∷ cs) n high some = λ e. let never : ⊥ = omega (arith, high, e
 
 -- ---- the decision
 
+-- the rows of the records that were taken are new
+pub taken_new : (stored : Content) (pending : List RowChange) (records : List RecordCommand)
+    (after : List RowChange) → AreTaken stored pending records after → AddNew stored pending
+    → AddNew stored after
+taken_new stored pending [] after is news = subst (AddNew stored) (sym is) news
+taken_new stored pending (c ∷ cs) after is news =
+    taken_new stored (pending ++ is.0) cs after is.2
+    (news_after stored pending is.0 news (told is.1))
+  where
+    told : IsTakenAfter stored pending c is.0 → AddNew (changed_by stored pending) is.0
+    told (inl follows) = tells_new (changed_by stored pending) c added_line is.0 follows.1
+    told (inr follows) = tells_new (changed_by stored pending) c same_line is.0 follows.1
+
 -- every record was taken
 pub import_decides : (is_honest : Type 0) (stored : Content) (all rest : List RecordCommand) (at added same : ℕ) (pending : List RowChange) (decided : Decided) → rest ≡ []
-    → (is_honest → ImportsAny stored all rest at added same pending) → (is_honest → ¬ MeetsImportDamage stored all) → LeavesAnyTiming pending → ((table : Table) → writes_in table pending ≤ most_import_writes all table)
+    → (is_honest → ImportsAny stored all rest at added same pending) → (is_honest → ¬ MeetsImportDamage stored all) → LeavesAnyTiming pending → ((table : Table) → writes_in table pending ≤ most_import_writes all table) → (is_honest → AddNew stored pending)
     → decided.reply ≡ Imported added same → decided.changes.items ≡ pending → IsDecision is_honest stored (command.Import all) decided
-import_decides is_honest stored all rest at added same pending decided none imports whole leaves few told rows = record {
+import_decides is_honest stored all rest at added same pending decided none imports whole leaves few news told rows = record {
   step = λ honest. import_done stored all rest at added same pending decided.changes.items decided.reply none (imports honest) leaves told rows;
   writes = λ honest. import_writes stored all decided.changes.items (λ table. subst (λ list. writes_in table list ≤ most_import_writes all table) (sym rows) (few table));
+  news = λ honest. subst (AddNew stored) (sym rows) (news honest);
   refused = λ refused. absurd (subst IsRefused told refused);
   query = λ query. absurd query;
   named = λ why e. absurd (let f : Imported added same ≡ Refused why = sym told ∙ e in cc);
@@ -330,6 +345,7 @@ refused_decides is_honest stored all rest c cs at added same cause before after 
     record {
       step = λ honest. import_refused stored all rest c cs at added same cause before after why _ _ left (imports honest) (takes honest) number told none;
       writes = λ honest table. subst (λ (list : List RowChange). writes_in table list ≤ most_writes stored (command.Import all) table) (sym none) (omega arith);
+      news = λ honest. subst (AddNew stored) (sym none) tt;
       refused = λ refused. none;
       query = λ query. none;
       named = λ w e. refuses_so (30 ∷ []) (ImportRow at cause) (inl refl) w (sym told ∙ e);

@@ -1,12 +1,12 @@
 -- The rows of a move make the tables stand for the office with the next timing side.
-use Rattle.std.proofs.Common.{◌≡◌, ℕ, Bool, true, false, List, [], ◌∷◌, cond, Option, Some, None, refl, ap, sym, ◌∙◌}
-use Rattle.std.proofs.lemmas.Bool.{cases_Bool}
+use Rattle.std.proofs.Common.{◌≡◌, ℕ, pos, ◌==◌, Bool, true, false, not, List, [], ◌∷◌, cond, Option, Some, None, refl, ap, sym, ◌∙◌, eqb-true}
+use Rattle.std.proofs.lemmas.Bool.{cases_Bool, false_from_ne_true}
 use Rattle.std.specs.Prelude.{◌⊎◌}
 use Rattle.std.proofs.Common.{inl, inr}
 use Rattle.std.specs.Option.{option_map}
 use Rattle.std.specs.Ordering.{eq_by_cmp}
-use Rattle.std.specs.FinMap.{get, insert, remove, get-insert, get-remove}
-use Rattle.signal_records.specs.Key.{key_cmp}
+use Rattle.std.specs.FinMap.{get, insert, remove, get-insert, get-remove, get-retain_keys}
+use Rattle.signal_records.specs.Key.{key_cmp, kind_of, first_of, second_of}
 use Rattle.signal_records.specs.Row.{key_of}
 use Rattle.signal_records.specs.declared.key.Key.{Key}
 use Rattle.signal_records.specs.declared.record.Row.{Row}
@@ -20,15 +20,16 @@ use Rattle.draft_core.specs.Within.{AreChangesWithin}
 use Rattle.draft_core.specs.declared.timing.Move.{Move}
 use Rattle.draft_core.specs.declared.timing.Reach.{Reach}
 use Rattle.draft_core.specs.declared.timing.TimingChange.{TimingChange}
-use Rattle.draft_core.specs.declared.timing.TimingChange.TheVariants.{Committed, Drafted, DraftGone}
-use Rattle.office_tables_shelf.specs.Cells.{Cell, Rows, cells_cmp}
+use Rattle.draft_core.specs.declared.timing.TimingChange.TheVariants.{Committed, Drafted, DraftGone, DraftDropped}
+use Rattle.office_tables_shelf.specs.Cells.{Cell, Rows, cells_cmp, number}
 use Rattle.office_tables_shelf.specs.Change.{changed, changed_by}
-use Rattle.office_tables_shelf.specs.Content.{Content}
+use Rattle.office_tables_shelf.specs.Content.{Content, is_of, rows_but}
 use Rattle.office_tables_shelf.specs.Rows.{intersection_key, intersection_columns, timing_key, timing_columns, left_columns}
 use Rattle.office_tables_shelf.specs.declared.rows.IntersectionRow.{IntersectionRow}
 use Rattle.office_tables_shelf.specs.declared.rows.RowChange.TheVariants.{PutIntersection}
 use Rattle.office_tables_shelf.proofs.CellLemmas.{cells_total, cells_exact, tied}
-use Rattle.office_tables_shelf.proofs.KeyLemmas.{timing_key_tells}
+use Rattle.office_tables_shelf.proofs.CabinetLemmas.{of_number}
+use Rattle.office_tables_shelf.proofs.KeyLemmas.{of_itself, timing_key_tells}
 use Rattle.office_tables_shelf.proofs.TreeLemmas.{timing_ties}
 use Rattle.office_desk.specs.declared.reading.Found.{Found}
 use Rattle.office_desk.specs.Moving.{row_change_of, row_changes_of, moved_row}
@@ -76,6 +77,34 @@ module _ (rows : Rows) (id : ℕ) (k : Key) where
         | false ↦ λ e. has cells columns e
       ] (sym (get-remove cells_total rows (timing_key id k) cells) ∙ at)
 
+-- ---- and once its draft was dropped
+
+module _ (rows : Rows) (id : ℕ) where
+  -- what stood under the cells of another intersection stands there still, and nothing else
+  get-dropped : (cells : List Cell)
+      → get (rows_but id rows) cells ≡ cond (not (is_of id cells)) (get rows cells) None
+  get-dropped cells = get-retain_keys rows (λ k. not (is_of id k)) cells
+      (λ k tie. ap (λ c. not (is_of id c)) (sym (cells_exact cells k tie)))
+
+  dropped_here : (key : Key) → get (rows_but id rows) (timing_key id key) ≡ None
+  dropped_here key = get-dropped (timing_key id key)
+      ∙ ap (λ b. cond (not b) (get rows (timing_key id key)) None) (of_itself id key)
+
+  dropped_elsewhere : (q : ℕ) → (q ≡ id → ⊥) → (key : Key)
+      → get (rows_but id rows) (timing_key q key) ≡ get rows (timing_key q key)
+  dropped_elsewhere q ne key = get-dropped (timing_key q key)
+      ∙ ap (λ b. cond (not b) (get rows (timing_key q key)) None)
+      (of_number id q (number (pos (kind_of key)) ∷ number (pos (first_of key))
+      ∷ number (pos (second_of key)) ∷ [])
+      ∙ false_from_ne_true (q == id) (λ same. ne (eqb-true q id same)))
+
+  dropped_keys : HasTimingKeys rows → HasTimingKeys (rows_but id rows)
+  dropped_keys has cells columns at =
+      elim (not (is_of id cells)) as (λ b. cond b (get rows cells) None ≡ Some columns → (n : ℕ) × (j : Key) × (cells ≡ timing_key n j)) [
+        | true ↦ λ e. has cells columns e
+        | false ↦ λ e. absurd (let f : None ≡ Some columns = e in cc)
+      ] (sym (get-dropped cells) ∙ at)
+
 -- ---- what stays
 
 -- all but the timing and draft rows of one intersection
@@ -114,6 +143,8 @@ one_stays id (Committed (Put row)) tables = with_timing id tables _ (put_elsewhe
 one_stays id (Committed (Remove k)) tables = with_timing id tables _ (gone_elsewhere tables.timing id k) (gone_keys tables.timing id k)
 one_stays id (Drafted change) tables = with_drafts id tables _ (put_elsewhere tables.draft id (changed_key change) (left_columns (left_by change))) (put_keys tables.draft id (changed_key change) (left_columns (left_by change)))
 one_stays id (DraftGone k) tables = with_drafts id tables _ (gone_elsewhere tables.draft id k) (gone_keys tables.draft id k)
+one_stays id DraftDropped tables = with_drafts id tables _ (dropped_elsewhere tables.draft id)
+    (dropped_keys tables.draft id)
 
 all_stay : (id : ℕ) (changes : List TimingChange) (tables : Content) → Stays id tables (changed_by tables (row_changes_of id changes))
 all_stay id [] tables = record {
@@ -160,6 +191,8 @@ timing_after id (Committed (Remove k) ∷ changes) tables key c e =
     (get-gone tables.timing id k key ∙ ap (cond (eq_by_cmp key_cmp key k) None) e ∙ gone_committed (eq_by_cmp key_cmp key k) c)
 timing_after id (Drafted change ∷ changes) tables key c e = timing_after id changes (changed tables (row_change_of id (Drafted change))) key c e
 timing_after id (DraftGone k ∷ changes) tables key c e = timing_after id changes (changed tables (row_change_of id (DraftGone k))) key c e
+timing_after id (DraftDropped ∷ changes) tables key c e =
+    timing_after id changes (changed tables (row_change_of id DraftDropped)) key c e
 
 put_draft : (b : Bool) (change : Change) (said : Said) → cond b (Some (left_columns
     (left_by change))) (said_columns said) ≡ said_columns (later_of (cond b
@@ -192,6 +225,9 @@ draft_after id (DraftGone k ∷ changes) tables key said e =
     (eq_by_cmp key_cmp key k) silent said)
     (get-gone tables.draft id k key ∙ ap (cond (eq_by_cmp key_cmp key k) None) e
     ∙ gone_draft (eq_by_cmp key_cmp key k) said)
+draft_after id (DraftDropped ∷ changes) tables key said e =
+    draft_after id changes (changed tables (row_change_of id DraftDropped)) key silent
+    (dropped_here tables.draft id key)
 
 gone_within : (b : Bool) (key : Key) (said : Said) → IsSaid key said
     → IsSaid key (cond b silent said)
@@ -209,6 +245,8 @@ after_within (Drafted change ∷ changes) key said within before =
     (later_within key (said_at change key) said (said_at_within change key within.0) before)
 after_within (DraftGone k ∷ changes) key said within before =
     after_within changes key _ within (gone_within (eq_by_cmp key_cmp key k) key said before)
+after_within (DraftDropped ∷ changes) key said within before =
+    after_within changes key silent within tt
 
 -- ---- the tables after a move
 

@@ -6,7 +6,7 @@ use Rattle.std.specs.Option.{option_map}
 use Rattle.std.specs.FinMap.{get}
 use Rattle.draft_core.specs.DraftRows.{RowStands}
 use Rattle.draft_core.specs.Transaction.{TimingSide}
-use Rattle.office_tables_shelf.specs.Change.{changed, changed_by}
+use Rattle.office_tables_shelf.specs.Change.{AddNew, changed, changed_by}
 use Rattle.office_tables_shelf.specs.Content.{Content}
 use Rattle.office_tables_shelf.specs.Counts.{writes_in}
 use Rattle.office_tables_shelf.specs.Damage.{HasDamagedIntersection}
@@ -14,7 +14,7 @@ use Rattle.office_tables_shelf.specs.Rows.{timing_columns}
 use Rattle.office_tables_shelf.specs.Shelf.{ReadsIntersection}
 use Rattle.office_tables_shelf.specs.declared.rows.IntersectionRow.{IntersectionRow}
 use Rattle.office_tables_shelf.specs.declared.rows.RowChange.{RowChange}
-use Rattle.office_tables_shelf.specs.declared.rows.RowChange.TheVariants.{PutIntersection}
+use Rattle.office_tables_shelf.specs.declared.rows.RowChange.TheVariants.{AddIntersection as AddRow}
 use Rattle.office_tables_shelf.specs.declared.rows.Table.{Table}
 use Rattle.office_tables_shelf.specs.declared.rows.Table.TheVariants as table
 use Rattle.office_desk.specs.Adding.{AddsRow, AreLimited}
@@ -35,10 +35,10 @@ use Rattle.office_desk.proofs.EmptySet.{no_records, no_violations}
 use Rattle.office_desk.proofs.Stands.{row_read, stand_after, sound_with}
 
 new_stands : (tables : Content) (office : Office) (id interval : ℕ) (name : List ℕ) → StandFor tables office → get office.intersections id ≡ None
-    → StandFor (changed tables (PutIntersection id (row_of (new_intersection interval name)))) (with_intersection office id (new_intersection interval name))
+    → StandFor (changed tables (AddRow id (row_of (new_intersection interval name)))) (with_intersection office id (new_intersection interval name))
 new_stands tables office id interval name stand absent =
     let empty_side : side_at office id ≡ no_timing = ap side_of absent in
-    stand_after tables (changed tables (PutIntersection id (row_of (new_intersection interval name)))) office id (new_intersection interval name) stand (record {
+    stand_after tables (changed tables (AddRow id (row_of (new_intersection interval name)))) office id (new_intersection interval name) stand (record {
       intersection = refl;
       timing_here = λ key. stand.timing id key ∙ ap (λ (s : TimingSide). option_map timing_columns (get s.committed key)) empty_side;
       timing_elsewhere = λ q ne key. refl;
@@ -88,7 +88,7 @@ add_answers tables office id interval name row reply changes stands reads adds =
 
 -- ---- the decision
 
-one_row : (tables : Content) (id interval : ℕ) (name : List ℕ) (row : IntersectionRow) (written : Table) → writes_in written (PutIntersection id row ∷ []) ≤ most_writes tables (AddIntersection id interval name) written
+one_row : (tables : Content) (id interval : ℕ) (name : List ℕ) (row : IntersectionRow) (written : Table) → writes_in written (AddRow id row ∷ []) ≤ most_writes tables (AddIntersection id interval name) written
 one_row tables id interval name row table.Intersection = omega arith
 one_row tables id interval name row table.Timing = omega arith
 one_row tables id interval name row table.Draft = omega arith
@@ -111,6 +111,7 @@ pub add_decides : (is_honest : Type 0) (tables : Content) (id interval : ℕ) (n
 add_decides is_honest tables id interval name None decided reads whole adds = record {
   step = λ honest office stands. add_answers tables office id interval name None decided.reply decided.changes.items stands (reads honest) adds;
   writes = λ honest written. subst (λ (list : List RowChange). writes_in written list ≤ most_writes tables (AddIntersection id interval name) written) (sym adds.1) (one_row tables id interval name (row_of (new_intersection interval name)) written);
+  news = λ honest. subst (AddNew tables) (sym adds.1) (reads honest, tt);
   refused = λ refused. absurd (subst IsRefused adds.0 refused);
   query = λ query. absurd query;
   named = λ why e. absurd (let f : reply.Added ≡ reply.Refused why = sym adds.0 ∙ e in cc);

@@ -8,7 +8,7 @@ use Rattle.cabinet_core.specs.declared.record.CabinetView.{CabinetView}
 use Rattle.cabinet_core.specs.declared.refusal.CabinetRefusal.{CabinetRefusal}
 use Rattle.cabinet_core.specs.declared.refusal.CabinetRefusal.TheVariants as cabinet
 use Rattle.office_tables_shelf.specs.Cells.{Cell, Rows}
-use Rattle.office_tables_shelf.specs.Change.{changed_by}
+use Rattle.office_tables_shelf.specs.Change.{AddNew, changed_by}
 use Rattle.office_tables_shelf.specs.Content.{Content}
 use Rattle.office_tables_shelf.specs.Counts.{writes_in}
 use Rattle.office_tables_shelf.specs.Rows.{intersection_columns, intersection_key, timing_key}
@@ -197,11 +197,12 @@ told_named c (Refused why) named = refuses_so (numbers_of (command.Record c)) (r
 -- of a command on an intersection that is there
 pub record_decides : (is_honest : Type 0) (tables : Content) (c : RecordCommand) (done : Registered) (decided : Decided)
     → (is_honest → (office : Office) → StandForSound tables office → Answers office (command.Record c) decided.reply (changed_by tables decided.changes.items))
-    → ((table : Table) → writes_in table (rows_told done) ≤ most_record_writes c table) → IsNamed c (line_told done) → (is_honest → ¬ MeetsCabinetDamage tables c (cabinet_of c))
+    → ((table : Table) → writes_in table (rows_told done) ≤ most_record_writes c table) → (is_honest → AddNew tables (rows_told done)) → IsNamed c (line_told done) → (is_honest → ¬ MeetsCabinetDamage tables c (cabinet_of c))
     → decided.reply ≡ told (line_told done) → decided.changes.items ≡ rows_told done → IsDecision is_honest tables (command.Record c) decided
-record_decides is_honest tables c done decided step few named whole is rows = record {
+record_decides is_honest tables c done decided step few news named whole is rows = record {
   step = step;
   writes = λ honest. record_writes tables c decided.changes.items (λ table. subst (λ list. writes_in table list ≤ most_record_writes c table) (sym rows) (few table));
+  news = λ honest. subst (AddNew tables) (sym rows) (news honest);
   refused = λ refused. rows ∙ refused_writes_none done (subst IsRefused is refused);
   query = λ query. absurd query;
   named = λ why e. told_named c done named why (sym is ∙ e);

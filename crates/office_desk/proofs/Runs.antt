@@ -3,7 +3,7 @@ use Rattle.std.proofs.Common.{◌≡◌, ◌≢◌, ◌≤◌, ◌⊎◌, List, 
 use Rattle.std.specs.Prelude.{◌==◌, Result, Err}
 use Rattle.std.proofs.lemmas.Bool.Decides.{nat_tests}
 use Rattle.draft_core.specs.declared.timing.Reach.TheVariants as reach
-use Rattle.office_tables_shelf.specs.Change.{changed_by}
+use Rattle.office_tables_shelf.specs.Change.{AddNew, changed_by}
 use Rattle.office_tables_shelf.specs.Content.{Content}
 use Rattle.office_tables_shelf.specs.Counts.{counts_after, writes_in}
 use Rattle.office_tables_shelf.specs.Shelf.{IsKept}
@@ -148,6 +148,7 @@ pub decided_answers : (is_honest : Type 0) (tables : Content) (command : Command
 decided_answers is_honest tables command decided is blames = record {
   step = is.step;
   writes = is.writes;
+  news = is.news;
   refused = is.refused;
   query = is.query;
   named = named_more command decided.reply is.named;
@@ -162,6 +163,7 @@ pub fault_is_answered : (is_honest : Type 0) (tables : Content) (command : Comma
 fault_is_answered is_honest tables command fault decided meets told none = record {
   step = λ honest. fault_answers tables command fault decided.reply decided.changes.items (λ damaged. meets damaged honest) told none;
   writes = λ honest table. subst (λ (list : List RowChange). writes_in table list ≤ most_writes tables command table) (sym none) (omega arith);
+  news = λ honest. subst (AddNew tables) (sym none) tt;
   refused = λ _. none;
   query = λ _. none;
   named = fault_named command fault decided.reply told;
@@ -234,6 +236,10 @@ answered_clean is_clean is_honest tables command decided shut is = record {
   writes = λ clean table. elim (shut clean) [
     | inl honest ↦ is.writes honest table
     | inr idle ↦ subst (λ (list : List RowChange). writes_in table list ≤ most_writes tables command table) (sym idle.no_changes) (omega arith)
+  ];
+  news = λ clean. elim (shut clean) [
+    | inl honest ↦ is.news honest
+    | inr idle ↦ subst (AddNew tables) (sym idle.no_changes) tt
   ];
   refused = is.refused;
   query = is.query;

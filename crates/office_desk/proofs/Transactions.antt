@@ -21,8 +21,8 @@ use Rattle.draft_core.specs.declared.state.Stage.{Stage}
 use Rattle.draft_core.specs.declared.state.Stage.TheVariants as stages
 use Rattle.draft_core.specs.declared.timing.Move.{Move}
 use Rattle.draft_core.specs.declared.timing.TimingChange.{TimingChange}
-use Rattle.draft_core.specs.declared.timing.TimingChange.TheVariants.{Committed, Drafted, DraftGone}
-use Rattle.office_tables_shelf.specs.Change.{changed_by}
+use Rattle.draft_core.specs.declared.timing.TimingChange.TheVariants.{Committed, Drafted, DraftGone, DraftDropped}
+use Rattle.office_tables_shelf.specs.Change.{AddNew, changed_by}
 use Rattle.office_tables_shelf.specs.Content.{Content}
 use Rattle.office_tables_shelf.specs.Shelf.{ListsDraft, rows_of}
 use Rattle.office_tables_shelf.specs.declared.rows.RowChange.{RowChange}
@@ -180,6 +180,26 @@ refused_unchanged : (id : ℕ) (clerk : List ℕ) (found : Found) (decision : Re
 refused_unchanged id clerk found (Ok move) reply changes writes refused = absurd (subst IsRefused writes.told refused)
 refused_unchanged id clerk found (Err why) reply changes writes refused = writes.2
 
+-- ---- rows that are added
+
+-- a move adds none
+none_added : (id : ℕ) (changes : List TimingChange) (tables : Content)
+    → AddNew tables (row_changes_of id changes)
+none_added id [] tables = tt
+none_added id (Committed (Put row) ∷ changes) tables = (tt, none_added id changes _)
+none_added id (Committed (Remove key) ∷ changes) tables = (tt, none_added id changes _)
+none_added id (Drafted change ∷ changes) tables = (tt, none_added id changes _)
+none_added id (DraftGone key ∷ changes) tables = (tt, none_added id changes _)
+none_added id (DraftDropped ∷ changes) tables = (tt, none_added id changes _)
+
+decision_news : (tables : Content) (id : ℕ) (clerk : List ℕ) (found : Found)
+    (decision : Result Move DraftRefusal) (reply : Reply) (changes : List RowChange)
+    → WritesDecision id clerk found decision reply changes → AddNew tables changes
+decision_news tables id clerk found (Ok move) reply changes writes =
+    subst (AddNew tables) (sym writes.rows) (tt, none_added id move.changes _)
+decision_news tables id clerk found (Err why) reply changes writes =
+    subst (AddNew tables) (sym writes.2) tt
+
 -- ---- how many rows are written
 
 timing_written : (id : ℕ) (changes : List TimingChange) → writes_in table.Timing (row_changes_of id changes) ≡ timing_writes changes
@@ -188,6 +208,7 @@ timing_written id (Committed (Put row) ∷ changes) = let later = timing_written
 timing_written id (Committed (Remove key) ∷ changes) = let later = timing_written id changes in omega (arith, later)
 timing_written id (Drafted change ∷ changes) = let later = timing_written id changes in omega (arith, later)
 timing_written id (DraftGone key ∷ changes) = let later = timing_written id changes in omega (arith, later)
+timing_written id (DraftDropped ∷ changes) = let later = timing_written id changes in omega (arith, later)
 
 draft_written : (id : ℕ) (changes : List TimingChange) → writes_in table.Draft (row_changes_of id changes) ≡ draft_writes changes
 draft_written id [] = refl
@@ -195,6 +216,7 @@ draft_written id (Committed (Put row) ∷ changes) = let later = draft_written i
 draft_written id (Committed (Remove key) ∷ changes) = let later = draft_written id changes in omega (arith, later)
 draft_written id (Drafted change ∷ changes) = let later = draft_written id changes in omega (arith, later)
 draft_written id (DraftGone key ∷ changes) = let later = draft_written id changes in omega (arith, later)
+draft_written id (DraftDropped ∷ changes) = let later = draft_written id changes in omega (arith, later)
 
 -- other tables are not written
 none_written : (other : Table) → is_same_table table.Timing other ≡ false → is_same_table table.Draft other ≡ false → (id : ℕ) (changes : List TimingChange) → writes_in other (row_changes_of id changes) ≡ 0
@@ -203,6 +225,7 @@ none_written other t d id (Committed (Put row) ∷ changes) = let later = none_w
 none_written other t d id (Committed (Remove key) ∷ changes) = let later = none_written other t d id changes in rw t (omega (arith, later))
 none_written other t d id (Drafted change ∷ changes) = let later = none_written other t d id changes in rw d (omega (arith, later))
 none_written other t d id (DraftGone key ∷ changes) = let later = none_written other t d id changes in rw d (omega (arith, later))
+none_written other t d id (DraftDropped ∷ changes) = let later = none_written other t d id changes in rw d (omega (arith, later))
 
 -- the bounds, of the draft rows that were read
 listed_many : (tables : Content) (id : ℕ) (changes : List Change) → ListsDraft tables id changes
@@ -396,6 +419,8 @@ transact_decides is_honest tables id clerk ask found decision
           decided.changes.items words within drafts (finds honest) follows writes;
       writes = λ honest. transact_writes tables id clerk ask found decision decided.reply
           decided.changes.items writes bounds (lists honest);
+      news = λ honest. decision_news tables id clerk found decision decided.reply
+          decided.changes.items writes;
       refused = refused_unchanged id clerk found decision decided.reply decided.changes.items
           writes;
       query = λ query. absurd (never_query id clerk ask query);

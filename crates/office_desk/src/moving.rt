@@ -23,6 +23,7 @@ fn row_change(id: InterId, change: TimingChange) -> RowChange
         TimingChange::Committed(Change::Remove(key)) => RowChange::RemoveTiming(id, key),
         TimingChange::Drafted(change) => RowChange::PutDraft(id, change),
         TimingChange::DraftGone(key) => RowChange::RemoveDraft(id, key),
+        TimingChange::DraftDropped => RowChange::DropDraft(id),
     }
 }
 

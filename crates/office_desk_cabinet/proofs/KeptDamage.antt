@@ -20,7 +20,7 @@ use Rattle.office_tables_shelf.specs.Cells.{Cell, Rows, cells_cmp}
 use Rattle.office_tables_shelf.specs.Change.{changed, changed_by}
 use Rattle.office_tables_shelf.specs.Content.{Content}
 use Rattle.office_tables_shelf.specs.declared.rows.RowChange.{RowChange}
-use Rattle.office_tables_shelf.specs.declared.rows.RowChange.TheVariants.{PutDelivery, PutInspection, PutLine, PutOrder, PutPart}
+use Rattle.office_tables_shelf.specs.declared.rows.RowChange.TheVariants.{AddDelivery, AddInspection, AddLine, PutOrder, PutPart}
 use Rattle.office_desk_cabinet.specs.RegisterDamage.{KeepsDamage, MeetsRecordDamage}
 use Rattle.office_desk_cabinet.specs.Lines.{rows_for}
 use Rattle.office_desk_cabinet.specs.Telling.{row_changes_of}
@@ -36,7 +36,7 @@ other_row rows k q put cells apart stored = get-insert cells_total rows k put q 
 
 -- ---- one row
 
-pub inspection_kept : (tables : Content) (id : ℕ) (put : Inspection) → ¬ HasDamagedInspectionAt tables id put.number → KeepsDamage tables (changed tables (PutInspection id put))
+pub inspection_kept : (tables : Content) (id : ℕ) (put : Inspection) → ¬ HasDamagedInspectionAt tables id put.number → KeepsDamage tables (changed tables (AddInspection id put))
 inspection_kept tables id put whole = record {
   inspections = λ of n d. record {
     columns = d.columns;
@@ -68,7 +68,7 @@ order_kept tables id put whole = record {
   hands = λ code d. record { columns = d.columns; stored = d.stored; no_row = d.no_row };
 }
 
-line_kept : (tables : Content) (id : ℕ) (put : UsedLine) → ¬ HasDamagedUsedAt tables id put.order put.line → KeepsDamage tables (changed tables (PutLine id put))
+line_kept : (tables : Content) (id : ℕ) (put : UsedLine) → ¬ HasDamagedUsedAt tables id put.order put.line → KeepsDamage tables (changed tables (AddLine id put))
 line_kept tables id put whole = record {
   inspections = λ of n d. record { columns = d.columns; stored = d.stored; no_row = d.no_row };
   orders = λ of n d. record { columns = d.columns; stored = d.stored; no_row = d.no_row };
@@ -85,7 +85,7 @@ line_kept tables id put whole = record {
   hands = λ code d. record { columns = d.columns; stored = d.stored; no_row = d.no_row };
 }
 
-delivery_kept : (tables : Content) (put : Delivery) → ¬ HasDamagedDelivery tables put.part put.number → KeepsDamage tables (changed tables (PutDelivery put))
+delivery_kept : (tables : Content) (put : Delivery) → ¬ HasDamagedDelivery tables put.part put.number → KeepsDamage tables (changed tables (AddDelivery put))
 delivery_kept tables put whole = record {
   inspections = λ of n d. record { columns = d.columns; stored = d.stored; no_row = d.no_row };
   orders = λ of n d. record { columns = d.columns; stored = d.stored; no_row = d.no_row };
@@ -152,7 +152,7 @@ pub command_kept : (any : ℕ) (tables : Content) (command : RecordCommand)
 command_kept any tables (Inspect id asked) there reads whole = inspection_kept tables id asked whole
 command_kept any tables (OpenOrder id asked) there reads whole = order_kept tables id (record_of asked) whole
 command_kept any tables (UsePart id asked) (there, order, hand) reads whole =
-    let mid = changed tables (PutLine id asked) in
+    let mid = changed tables (AddLine id asked) in
     kept_after tables mid _ (line_kept tables id asked (λ d. whole (inl d)))
     (part_kept mid asked.part _
     (λ d. whole (inr (inr (record { columns = d.columns; stored = d.stored; no_row = d.no_row })))))

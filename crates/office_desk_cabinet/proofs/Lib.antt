@@ -13,4 +13,5 @@ pub mod InOrder
 pub mod ShowingLemmas
 pub mod EmptyRegister
 pub mod Opened
+pub mod News
 pub mod Decided

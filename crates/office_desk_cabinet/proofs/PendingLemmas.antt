@@ -12,7 +12,7 @@ use Rattle.office_tables_shelf.specs.Cells.{Cell, Rows, cells_cmp}
 use Rattle.office_tables_shelf.specs.Change.{changed, changed_by}
 use Rattle.office_tables_shelf.specs.Content.{Content, no_content}
 use Rattle.office_tables_shelf.specs.declared.rows.RowChange.{RowChange}
-use Rattle.office_tables_shelf.specs.declared.rows.RowChange.TheVariants.{PutInspection, PutOrder, PutLine, PutPart, PutDelivery}
+use Rattle.office_tables_shelf.specs.declared.rows.RowChange.TheVariants.{AddInspection, AddOrder, PutOrder, AddLine, PutPart, AddDelivery}
 use Rattle.cabinet_core.specs.declared.record.Delivery.{Delivery as DeliveryRecord}
 use Rattle.cabinet_core.specs.declared.record.Inspection.{Inspection as InspectionRecord}
 use Rattle.cabinet_core.specs.declared.record.Order.{Order as OrderRecord}
@@ -40,20 +40,22 @@ cells_at tables (Delivery code n) = get tables.delivery (delivery_key code n)
 
 -- the change puts a row at the place
 abbrev is_put : Place → RowChange → Bool
-is_put (Inspection id n) (PutInspection of inspection) = of == id && inspection.number == n
+is_put (Inspection id n) (AddInspection of inspection) = of == id && inspection.number == n
+is_put (Order id n) (AddOrder of order) = of == id && order.number == n
 is_put (Order id n) (PutOrder of order) = of == id && order.number == n
-is_put (Line id order line) (PutLine of used) = of == id && (used.order == order && used.line == line)
+is_put (Line id order line) (AddLine of used) = of == id && (used.order == order && used.line == line)
 is_put (Part code) (PutPart part hand) = bytes_eq part code
-is_put (Delivery code n) (PutDelivery delivery) = bytes_eq delivery.part code && delivery.number == n
+is_put (Delivery code n) (AddDelivery delivery) = bytes_eq delivery.part code && delivery.number == n
 is_put _ _ = false
 
 -- the cells of the row, beside its key
 abbrev cells_put : RowChange → List Cell
-cells_put (PutInspection id inspection) = inspection_columns inspection
+cells_put (AddInspection id inspection) = inspection_columns inspection
+cells_put (AddOrder id order) = order_columns order
 cells_put (PutOrder id order) = order_columns order
-cells_put (PutLine id used) = used_columns used
+cells_put (AddLine id used) = used_columns used
 cells_put (PutPart code hand) = part_columns hand
-cells_put (PutDelivery delivery) = delivery_columns delivery
+cells_put (AddDelivery delivery) = delivery_columns delivery
 cells_put _ = []
 
 -- ---- one change
@@ -63,15 +65,17 @@ put_under : (rows : Rows) (k cells q : List Cell) (b : Bool) → eq_by_cmp cells
 put_under rows k cells q b ties = get-insert cells_total rows k cells q ∙ ap (λ t. cond t (Some cells) (get rows q)) ties
 
 cells_changed : (tables : Content) (place : Place) (change : RowChange) → cells_at (changed tables change) place ≡ cond (is_put place change) (Some (cells_put change)) (cells_at tables place)
-cells_changed tables (Inspection id n) (PutInspection of inspection) =
+cells_changed tables (Inspection id n) (AddInspection of inspection) =
     put_under tables.inspection (inspection_key of inspection.number) (inspection_columns inspection) (inspection_key id n) _ (numbered_ties id n of inspection.number)
+cells_changed tables (Order id n) (AddOrder of order) =
+    put_under tables.work_order (order_key of order.number) (order_columns order) (order_key id n) _ (numbered_ties id n of order.number)
 cells_changed tables (Order id n) (PutOrder of order) =
     put_under tables.work_order (order_key of order.number) (order_columns order) (order_key id n) _ (numbered_ties id n of order.number)
-cells_changed tables (Line id order line) (PutLine of used) =
+cells_changed tables (Line id order line) (AddLine of used) =
     put_under tables.used_part (used_key of used.order used.line) (used_columns used) (used_key id order line) _ (used_ties id order line of used.order used.line)
 cells_changed tables (Part code) (PutPart part hand) =
     put_under tables.part (part_key part) (part_columns hand) (part_key code) _ (part_ties code part)
-cells_changed tables (Delivery code n) (PutDelivery delivery) =
+cells_changed tables (Delivery code n) (AddDelivery delivery) =
     put_under tables.delivery (delivery_key delivery.part delivery.number) (delivery_columns delivery) (delivery_key code n) _ (delivery_ties code n delivery.part delivery.number)
 cells_changed tables _ _ = refl
 

@@ -38,7 +38,7 @@ first_at key xs q = find (λ x. eq_by_cmp key_cmp q (key x)) xs
 abbrev pub row_in : List Row → Key → Option Row
 row_in = first_at key_of
 
-of_itself : (id : ℕ) (key : Key) → is_of id (timing_key id key) ≡ true
+pub of_itself : (id : ℕ) (key : Key) → is_of id (timing_key id key) ≡ true
 of_itself id key = ap is_eq (tied_itself cell_total (number (pos id)))
 
 module _ {X : Type 0} (key : X → Key) (columns : X → List Cell) (id : ℕ) where

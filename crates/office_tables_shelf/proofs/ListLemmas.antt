@@ -6,7 +6,7 @@ use Rattle.std.proofs.lemmas.List.Elements.{All-head, All-tail, All-from_recursi
 use Rattle.std.proofs.lemmas.List.Sorted.{IsPermutation-sym, All-permutation}
 use Rattle.std.specs.Cmp.{alike_right, eq_by_cmp_equiv}
 use Rattle.std.specs.FinMap as finite
-use Rattle.std.specs.FinMap.{entries, entries_sorted, get-entries, from_entries, from_sorted, entries-from_sorted, get-from_sorted, get-from_entries, same_map}
+use Rattle.std.specs.FinMap.{entries, entries_sorted, get-entries, retain_keys, get-retain_keys, from_entries, from_sorted, entries-from_sorted, get-from_sorted, get-from_entries, same_map}
 use Rattle.std.specs.FinMap.Entries.{is_sorted, below_all, where_key, is_sorted-where_key, find-where_key, same_entries}
 use Rattle.std.specs.List.{All, AllByRecursion, IsDistinct}
 use Rattle.std.specs.List.Sorted.{IsPermutation, IsSorted, IsStrictlySortedBy}
@@ -116,6 +116,21 @@ module _ {X : Type 0} (key columns : X → List Cell) where
       go (Some x) is =
           let found = found_has (is_under key columns q) zs x is in
           sorted_found ys x q sorted (permuted ys zs (IsPermutation-sym zs ys same) x found.0) found.1 ∙ sym is
+
+  -- the map of the rows that pass a test of their keys
+  pub rows_kept : (test : List Cell → Bool) (xs : List X)
+      → rows_by key columns (filter (λ x. test (key x)) xs)
+      ≡ retain_keys (rows_by key columns xs) test
+  rows_kept test xs = same_map cells_total cells_exact _ _ (λ q.
+      let kept = filter (λ x. test (key x)) xs in
+      let alike : (k : List Cell) → cells_cmp q k ≡ Equal → test k ≡ test q = λ k tie.
+      ap test (sym (cells_exact q k tie)) in
+      get_by key columns kept q
+      ∙ sym (find_entry key columns kept q)
+      ∙ ap (finite.find cells_cmp q) (sym (entries_filter test xs))
+      ∙ find-where_key cells_cmp test q alike (map entry xs)
+      ∙ ap (λ o. cond (test q) o None) (find_entry key columns xs q ∙ sym (get_by key columns xs q))
+      ∙ sym (get-retain_keys (rows_by key columns xs) test q alike))
 
 -- The rows of a list that pass a test of their keys, seen by what a query shows of each, and put in the order of their keys.
 module _ {X Y : Type 0} (key columns : X → List Cell) (view : X → Y) (key_shown columns_shown : Y → List Cell) (keys : (x : X) → key_shown (view x) ≡ key x) (others : (x : X) → columns_shown (view x) ≡ columns x) where

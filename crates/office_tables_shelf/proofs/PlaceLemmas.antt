@@ -1,5 +1,5 @@
 -- Trees of timing and draft rows: each row stays under its own key, and those of an intersection are listed in order.
-use Rattle.std.proofs.Common.{◌≡◌, ◌⊎◌, inl, inr, ℕ, ◌==◌, Bool, true, false, eqb, eqb-true, List, [], ◌∷◌, map, cond, if◌then◌else◌, Option, Some, None, Ordering, nat_cmp, refl, sym, ap, subst, ◌∙◌, arith}
+use Rattle.std.proofs.Common.{◌≡◌, ◌⊎◌, inl, inr, ℕ, ◌==◌, Bool, true, false, eqb, eqb-true, List, [], ◌∷◌, map, filter, not, cond, if◌then◌else◌, Option, Some, None, Ordering, nat_cmp, refl, sym, ap, subst, ◌∙◌, arith}
 use Rattle.std.proofs.lemmas.Bool.{cases_Bool}
 use Rattle.std.proofs.lemmas.Bool.Decides.{nat_tests}
 use Rattle.std.specs.BTreeMap.{insert_entry}
@@ -18,11 +18,12 @@ use Rattle.signal_records.specs.declared.record.Change.{Change}
 use Rattle.signal_records.specs.declared.record.Change.TheVariants.{Put, Remove}
 use Rattle.draft_core.specs.DraftRows.{changed_key, left_by}
 use Rattle.office_tables_shelf.specs.Cells.{Cell, cells_cmp, tree_rows}
+use Rattle.office_tables_shelf.specs.Content.{rows_but}
 use Rattle.office_tables_shelf.specs.MapShelf.{place_key, change_at, timing_rows, draft_rows, AreRowsPlaced, AreLeftPlaced}
 use Rattle.office_tables_shelf.specs.Rows.{timing_key, timing_columns, left_columns, draft_key, draft_columns}
 use Rattle.office_tables_shelf.specs.Shelf.{is_of, rows_of}
 use Rattle.office_tables_shelf.specs.declared.place.Place.{Place}
-use Rattle.office_tables_shelf.proofs.ListLemmas.{tree_entries}
+use Rattle.office_tables_shelf.proofs.ListLemmas.{rows_kept, tree_entries}
 use Rattle.office_tables_shelf.proofs.TreeLemmas.{place_cmp, place_order, number_order}
 
 then_both : (r s : Ordering) → ordering_then r s ≡ Equal → s ≡ Equal
@@ -53,6 +54,15 @@ module _ {X : Type 0} (Stands : Key → X → Type 0) where
         | false ↦ (h.0, standing_removed es test h.1)
       ]
 
+  pub standing_kept : (test : Place × X → Bool) (es : List (Place × X)) → AreStanding es
+      → AreStanding (filter test es)
+  standing_kept test [] h = tt
+  standing_kept test (e ∷ es) h =
+      elim (test e) as (λ b. AreStanding (cond b (e ∷ filter test es) (filter test es))) [
+        | true ↦ (h.0, standing_kept test es h.1)
+        | false ↦ standing_kept test es h.1
+      ]
+
 -- what a change leaves stands under its key
 pub left_stands : (change : Change) (key : Key) (left : Option Row) → key ≡ changed_key change → left ≡ left_by change → IfSome left (λ row. key_of row ≡ key)
 left_stands (Put row) key left at is = rw is (sym at)
@@ -65,6 +75,16 @@ of_place id place = ap is_eq (number_order id place.inter) ∙ same id place.int
   where
     same : (m n : ℕ) → is_eq (nat_cmp m n) ≡ eqb n m
     same m n = grind (arith, nat_tests)
+
+-- those of all other intersections
+pub other_rows : {X : Type 0} (columns : X → List Cell) (id : ℕ) (es : List (Place × X))
+    → tree_rows place_key columns (filter (λ e. not (e.0.inter == id)) es)
+    ≡ rows_but id (tree_rows place_key columns es)
+other_rows {X} columns id es =
+    (λ i. tree_rows place_key columns
+    (filter (λ (e : Place × X). not (sym (of_place id e.0) i)) es))
+    ∙ rows_kept (λ (e : Place × X). place_key e.0) (λ (e : Place × X). columns e.1)
+    (λ key. not (is_of id key)) es
 
 module _ {X Y : Type 0} (f : Place × X → Y) where
   -- what f makes of the entries of an intersection, in their order

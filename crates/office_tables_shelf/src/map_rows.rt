@@ -5,6 +5,7 @@ ghost use Rattle.std.specs.List.{AllByRecursion};
 ghost use Rattle.std.specs.Option.{option_map};
 ghost use Rattle.signal_records.specs.Row.{key_of};
 ghost use Rattle.draft_core.specs.DraftRows.{changed_key, left_by};
+ghost use Rattle.office_tables_shelf.specs.Content.{rows_but};
 ghost use Rattle.office_tables_shelf.specs.Rows.{intersection_key, intersection_columns};
 ghost use Rattle.office_tables_shelf.specs.Rows.{timing_key, timing_columns, draft_key};
 ghost use Rattle.office_tables_shelf.specs.Rows.{draft_columns};
@@ -154,6 +155,14 @@ pub(crate) fn remove_draft(rows: &mut BTreeMap<Place, Option<Row>>, inter: Inter
     ensures placed { AreLeftPlaced rows.old.entries → AreLeftPlaced rows.new.entries }
 {
     rows.remove(&Place { inter, key });
+}
+
+/// Removes the draft rows of an intersection.
+pub(crate) fn drop_drafts(rows: &mut BTreeMap<Place, Option<Row>>, inter: InterId)
+    ensures rows { draft_rows rows.new.entries ≡ rows_but inter (draft_rows rows.old.entries) }
+    ensures placed { AreLeftPlaced rows.old.entries → AreLeftPlaced rows.new.entries }
+{
+    rows.retain(|place, _| place.inter != inter);
 }
 
 /// The change that leaves this at a key.

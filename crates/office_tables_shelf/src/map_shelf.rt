@@ -10,8 +10,8 @@ use crate::map_cabinet::{
 };
 use crate::map_overdue::{last_of, overdue_of};
 use crate::map_rows::{
-    all_intersections, copied_drafts, copied_intersections, draft_of, intersection_at, put_draft,
-    put_intersection, put_timing, remove_draft, remove_timing, timing_of,
+    all_intersections, copied_drafts, copied_intersections, draft_of, drop_drafts, intersection_at,
+    put_draft, put_intersection, put_timing, remove_draft, remove_timing, timing_of,
 };
 use crate::place::{DeliveryPlace, LinePlace, Place, RecordPlace};
 use crate::rows::{IntersectionRow, RowChange, Table};
@@ -118,22 +118,30 @@ impl MapShelf {
         ensures counts { self.new.counts ≡ self.old.counts }
     {
         match change {
+            RowChange::AddIntersection(id, row) => {
+                put_intersection(&mut self.intersection, *id, row.clone()?)?;
+            }
             RowChange::PutIntersection(id, row) => {
                 put_intersection(&mut self.intersection, *id, row.clone()?)?;
             }
             RowChange::PutTiming(id, row) => put_timing(&mut self.timing, *id, row.clone()?)?,
             RowChange::RemoveTiming(id, key) => remove_timing(&mut self.timing, *id, *key),
+            RowChange::AddDraft(id, change) => put_draft(&mut self.draft, *id, change)?,
             RowChange::PutDraft(id, change) => put_draft(&mut self.draft, *id, change)?,
             RowChange::RemoveDraft(id, key) => remove_draft(&mut self.draft, *id, *key),
-            RowChange::PutInspection(id, inspection) => {
+            RowChange::DropDraft(id) => drop_drafts(&mut self.draft, *id),
+            RowChange::AddInspection(id, inspection) => {
                 put_inspection(&mut self.inspection, *id, inspection.clone()?)?;
+            }
+            RowChange::AddOrder(id, order) => {
+                put_order(&mut self.work_order, *id, order.clone()?)?;
             }
             RowChange::PutOrder(id, order) => {
                 put_order(&mut self.work_order, *id, order.clone()?)?;
             }
-            RowChange::PutLine(id, used) => put_line(&mut self.used_part, *id, used.clone()?)?,
+            RowChange::AddLine(id, used) => put_line(&mut self.used_part, *id, used.clone()?)?,
             RowChange::PutPart(part, hand) => put_part(&mut self.part, part.clone()?, *hand)?,
-            RowChange::PutDelivery(delivery) => {
+            RowChange::AddDelivery(delivery) => {
                 put_delivery(&mut self.delivery, delivery.clone()?)?;
             }
         }

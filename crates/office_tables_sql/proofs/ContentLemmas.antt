@@ -1,7 +1,8 @@
 -- What a new row does to the map of a table's rows.
-use Rattle.std.proofs.Common.{◌≡◌, ◌⊎◌, inl, inr, ℤ, List, [], ◌∷◌, filter, find, Bool, true, false, not, Some, cond, option_map, refl, sym, ap, subst, ◌∙◌, true≢false}
+use Rattle.std.proofs.Common.{◌≡◌, ◌⊎◌, inl, inr, ℤ, List, [], ◌∷◌, map, filter, find, Bool, true, false, not, Some, cond, option_map, refl, sym, ap, subst, ◌∙◌, true≢false}
 use Rattle.std.proofs.lemmas.Bool.{cases_Bool, false_from_ne_true, not-true, not-false, or_parts}
 use Rattle.std.proofs.lemmas.Cmp.{tied_back}
+use Rattle.std.specs.List.{AllByRecursion, IsDistinct}
 use Rattle.std.specs.declared.cmp.Ordering.{Ordering}
 use Rattle.std.specs.declared.cmp.Ordering.TheVariants.{Less, Equal, Greater}
 use Rattle.std.specs.Ordering.{is_eq, match_ordering, ordering_reverse}
@@ -88,6 +89,51 @@ one_rowid (r ∷ rows) a b up (inl x) (inr k) same = absurd (let less = subst (�
 one_rowid (r ∷ rows) a b up (inr h) (inl y) same =
     absurd (let less = subst (λ v. value_cmp (rowid v) (rowid a) ≡ Less) (sym y) (all_has _ rows a up.0 h) in let back = tied_back value_cmp_total (rowid a) (rowid b) same in cc)
 one_rowid (r ∷ rows) a b up (inr h) (inr k) same = one_rowid rows a b up.1 h k same
+
+-- ---- a row that was put beside others
+
+module _ {K : Type 0} (e : K → K → Bool) (symm : (a b : K) → e a b ≡ e b a) (key : Row → K)
+    (new : Row) where
+  put_has : (rows : List Row) → Has (put_row new rows) new
+  put_has [] = inl refl
+  put_has (r ∷ rows) = go (value_cmp (rowid r) (rowid new)) (put_has rows)
+    where
+      go : (o : Ordering) → Has (put_row new rows) new
+          → Has (match_ordering o (r ∷ put_row new rows) (new ∷ rows) (new ∷ r ∷ rows)) new
+      go Less later = inr later
+      go Equal later = inl refl
+      go Greater later = inl refl
+
+  apart_from : (k : K) (rows : List Row) → AllByRecursion (λ j. e k j ≡ false) (map key rows)
+      → (r : Row) → Has rows r → e k (key r) ≡ false
+  apart_from k [] apart r there = absurd there
+  apart_from k (x ∷ rows) apart r (inl same) =
+      subst (λ (y : Row). e k (key y) ≡ false) (sym same) apart.0
+  apart_from k (x ∷ rows) apart r (inr more) = apart_from k rows apart.1 r more
+
+  -- where no two rows have the same key, none of the others has its
+  pub put_apart : (rows : List Row) → is_taken rows new ≡ false
+      → IsDistinct e (map key (put_row new rows)) → (r : Row) → Has rows r
+      → e (key new) (key r) ≡ false
+  unfolding IsDistinct
+  put_apart [] free apart r there = absurd there
+  put_apart (x ∷ rows) free apart r there =
+      go (value_cmp (rowid x) (rowid new)) (or_parts _ _ free).0 apart
+      (put_apart rows (or_parts _ _ free).1) there
+    where
+      go : (o : Ordering) → is_eq o ≡ false
+          → IsDistinct e (map key (match_ordering o (x ∷ put_row new rows) (new ∷ rows)
+          (new ∷ x ∷ rows)))
+          → (IsDistinct e (map key (put_row new rows)) → (y : Row) → Has rows y
+          → e (key new) (key y) ≡ false)
+          → Has (x ∷ rows) r → e (key new) (key r) ≡ false
+      go Less other apart later (inl same) =
+          subst (λ (y : Row). e (key new) (key y) ≡ false) (sym same)
+          (symm (key new) (key x) ∙ apart_from (key x) (put_row new rows) apart.0 new
+          (put_has rows))
+      go Less other apart later (inr more) = later apart.1 r more
+      go Equal other apart later there = absurd (true≢false other)
+      go Greater other apart later there = apart_from (key new) (x ∷ rows) apart.0 r there
 
 -- a row goes in place of those that have its key
 module _ (t : Layout) (rows : List Row) (ids : List ℤ) (stored : Row)

@@ -15,8 +15,9 @@ use Rattle.sqlite_sql.specs.declared.ops.BinaryOp.TheVariants.{Compare}
 use Rattle.sqlite_sql.specs.declared.ops.CompareOp.TheVariants.{Eq}
 use Rattle.sqlite_schema.specs.Rules.{agree}
 use Rattle.sqlite_value.specs.Keys.{plain, first_key}
+use Rattle.sqlite_rules.specs.Lists.{Has}
 use Rattle.office_tables_sql.specs.Layout.{Layout, values_at, has_key}
-use Rattle.office_tables_sql.specs.Tables.{of_key, found_by, picked_by}
+use Rattle.office_tables_sql.specs.Tables.{of_key, found_by, picked_by, picked_where}
 
 -- the columns at these places
 abbrev pub cols : List ℕ → List Term
@@ -45,23 +46,45 @@ pub shown_values : (places : List ℕ) (key row : Row) → eval_all (cols places
 shown_values [] key row = refl
 shown_values (p ∷ ps) key row = ap (λ vs. column row p ∷ vs) (shown_values ps key row)
 
-module _ (t : Layout) (paired : ArePaired t.keys t.places) (terms : List Term) (key : Row) (show : Row → Row) (shows : (row : Row) → eval_all terms (key ∷ row ∷ []) ≡ show row) where
-  picked_rows : (rows : List Row) → map (λ (o : Output). o.1) (map (output (picked_by t terms)) (matches (λ _. rows) (key_filter t.keys t.places) (inner t.tree end) (key ∷ []))) ≡ map show (filter (has_key t key) rows)
-  picked_rows [] = refl
-  picked_rows (r ∷ rows) =
-      let same = filter_agrees t.keys t.places paired key r in
-      elim (cases_Bool (has_key t key r)) [
-        | inl hit ↦ rw (same, hit, shows r, picked_rows rows)
-        | inr miss ↦ rw (same, miss, picked_rows rows)
+-- the rows that pass a filter, by a test that says what it does
+module _ (t : Layout) (filters terms : List Term) (params : Row) (test : Row → Bool)
+    (show : Row → Row) (shows : (row : Row) → eval_all terms (params ∷ row ∷ []) ≡ show row) where
+  abbrev pub Passes : List Row → Type 0
+  Passes rows = (row : Row) → Has rows row
+      → list_all (holds (params ∷ row ∷ [])) filters ≡ test row
+
+  abbrev query : Query
+  query = picked_where t filters terms
+
+  rows_where : (rows : List Row) → Passes rows
+      → map (λ (o : Output). o.1) (map (output query)
+      (matches (λ _. rows) filters (inner t.tree end) (params ∷ [])))
+      ≡ map show (filter test rows)
+  rows_where [] passes = refl
+  rows_where (r ∷ rows) passes =
+      let later = rows_where rows (λ x there. passes x (inr there)) in
+      elim (cases_Bool (test r)) [
+        | inl hit ↦ rw (passes r (inl refl), hit, shows r, later)
+        | inr miss ↦ rw (passes r (inl refl), miss, later)
       ]
 
-  -- the rows of the answer show those that have the key, in some order
-  pub picked : (db : Trees) (rows : List Row) → IsAnswer (picked_by t terms) db key rows → IsPermutation (map show (filter (has_key t key) (db t.tree))) rows
-  picked db rows a =
-      let kept : a.kept ≡ map (output (picked_by t terms)) (matches db (key_filter t.keys t.places) (inner t.tree end) (key ∷ [])) = a.distinct ∙ ap (map (output (picked_by t terms))) a.grouped in
-      let listed = ap (map (λ (o : Output). o.1)) kept ∙ picked_rows (db t.tree) in
+  -- the rows of the answer show those that pass, in some order
+  pub where_picked : (db : Trees) (rows : List Row) → Passes (db t.tree)
+      → IsAnswer query db params rows → IsPermutation (map show (filter test (db t.tree))) rows
+  where_picked db rows passes a =
+      let kept : a.kept
+      ≡ map (output query) (matches db filters (inner t.tree end) (params ∷ [])) =
+      a.distinct ∙ ap (map (output query)) a.grouped in
+      let listed = ap (map (λ (o : Output). o.1)) kept ∙ rows_where (db t.tree) passes in
       let same = IsPermutation-map (λ (o : Output). o.1) a.kept a.ordered a.same in
       subst₂ IsPermutation listed (sym a.shown) same
+
+-- those that have a key
+module _ (t : Layout) (paired : ArePaired t.keys t.places) (terms : List Term) (key : Row) (show : Row → Row) (shows : (row : Row) → eval_all terms (key ∷ row ∷ []) ≡ show row) where
+  pub picked : (db : Trees) (rows : List Row) → IsAnswer (picked_by t terms) db key rows → IsPermutation (map show (filter (has_key t key) (db t.tree))) rows
+  picked db rows =
+      where_picked t (key_filter t.keys t.places) terms key (has_key t key) show shows db rows
+      (λ row there. filter_agrees t.keys t.places paired key row)
 
 -- as they stand
 pub answers : (t : Layout) → ArePaired t.keys t.places → (shown : List ℕ) (key : Row) (db : Trees) (rows : List Row) → IsAnswer (find_query t shown) db key rows

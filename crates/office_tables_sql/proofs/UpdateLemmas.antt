@@ -138,7 +138,7 @@ module _ (t : Table) (key columns : List Cell) (fits : Fits t key columns) (db :
   pub record Renewed (count : ℕ) (next : Trees) : Type 0 where
     pub shapes : IsShaped shape.Table (next tree)
     pub others : AllByRecursion (λ x. x.tree ≢ tree → next x.tree ≡ db.trees x.tree) office_schema.tables
-    pub none : count ≡ 0 → (next tree ≡ rows) × ((r : Row) → Has rows r → has_cells (layout_at t) key r ≡ false)
+    pub none : count ≡ 0 → next tree ≡ rows
     pub some : count ≢ 0 → rows_in (layout_at t) (next tree) ≡ insert (rows_in (layout_at t) rows) key columns
 
   module _ (count : ℕ) (next : Trees) where
@@ -151,7 +151,7 @@ module _ (t : Table) (key columns : List Cell) (fits : Fits t key columns) (db :
         record {
           shapes = subst (IsShaped shape.Table) (sym it.rows) was;
           others = it.tables;
-          none = λ _. (it.rows, λ r there. missed r there (stays (layout_at t) rows params show (λ x. refl) [] hits was r there));
+          none = λ _. it.rows;
           some = λ some. absurd (some counted);
         }
       where
@@ -175,8 +175,8 @@ module _ (t : Table) (key columns : List Cell) (fits : Fits t key columns) (db :
         let fresh : is_taken rest new ≡ false = not-true _ (and_parts _ _ (subst (λ news. are_fresh rest news ≡ true) made it.fresh)).0 in
         let at_key = fits.kept n (drop 1 r) (subst (λ row. cells_at (layout_at t).keys row ≡ key) (begins r n int) (under r there.0 there.1)) in
         let at = put_at (layout_at t) rows (ids_of (x ∷ [])) new
-        (λ y id here among at_id. subst (λ k. has_cells (layout_at t) k y ≡ true) (sym at_key) (held y here (gone (layout_at t) rows params show (λ z. refl) (x ∷ []) hits was y id here among at_id)))
-        (λ y left. subst (λ k. has_cells (layout_at t) k y ≡ false) (sym at_key) (missed y (without_all_has (ids_of (x ∷ [])) rows y left) (stays (layout_at t) rows params show (λ z. refl) (x ∷ []) hits was y left))) fresh in
+        (λ y id here among at_id. subst (λ k. has_cells (layout_at t) k y ≡ true) (sym at_key) (held y here (gone rows has show (λ z. refl) (x ∷ []) hits was y id here among at_id)))
+        (λ y left. subst (λ k. has_cells (layout_at t) k y ≡ false) (sym at_key) (missed y (without_all_has (ids_of (x ∷ [])) rows y left) (stays rows has show (λ z. refl) (x ∷ []) hits was y left))) fresh in
         record {
           shapes = subst (IsShaped shape.Table) (sym now) (IsShaped-put_row new rest refl (shaped_without (ids_of (x ∷ [])) rows was));
           others = it.tables;

@@ -219,6 +219,31 @@ pub fn put<S: Alter>(
     stored_row::put(alloc, tx, (), &found)
 }
 
+/// Adds the row of a new intersection.
+pub fn add<S: Alter>(
+    alloc: Global,
+    tx: &mut Transaction<'_, S>,
+    id: InterId,
+    row: &IntersectionRow,
+) -> Result<(), SqlFault>
+    ensures same_reference { tx.new.conn.ghost_name ≡ tx.old.conn.ghost_name }
+    ensures ready { HasCleanDisk (state S.Store tx.new.conn.now) → OnOk result
+        (IsReady (state S.Store tx.old.conn.now) → IsReady (state S.Store tx.new.conn.now)) }
+    ensures added { HasCleanDisk (state S.Store tx.new.conn.now) → OnOk result
+        (IsReady (state S.Store tx.old.conn.now) → content_now (state S.Store tx.new.conn.now)
+        ≡ record (content_now (state S.Store tx.old.conn.now)) {
+          intersection = insert (content_now (state S.Store tx.old.conn.now)).intersection (intersection_key id) (intersection_columns row.now);
+        }) }
+    ensures honest { HasCleanDisk (state S.Store tx.new.conn.now) →
+        OnOk result (IsHonest (state S.Store tx.old.conn.now)) }
+    ensures stands { StandsOn (state S.Store tx.old.conn.now) (state S.Store tx.new.conn.now) }
+    ensures crash { Survives (state S.Store tx.old.conn.now) (state S.Store tx.new.conn.now)
+        (λ _. ⊥) }
+{
+    let found = (id, copy_of(row)?);
+    stored_row::add(alloc, tx, (), &found)
+}
+
 /// The number that is stored for the state.
 fn state_of(holder: &Option<Holder>) -> u32
     ensures { result ≡ state_number holder.now }

@@ -73,7 +73,7 @@ const STEPS: [(Line, u64, u64); 10] = [
             r#"{"revision":2,"state":"normal","verify":"notDone"}"#,
         ),
         4,
-        4,
+        1,
     ),
     ((BEGIN, OK, BEGUN_AGAIN), 0, 0),
     ((REMOVE, OK, BEGUN_AGAIN), 0, 1),

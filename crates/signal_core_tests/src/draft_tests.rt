@@ -6,7 +6,7 @@ use draft_core::revision::Revision;
 use draft_core::state::{DbState, Holder, Stage, Verdict};
 use draft_core::timing::{Move, Timing, TimingChange};
 use draft_core::{overlay, verdict};
-use signal_records::{Key, Words};
+use signal_records::Words;
 use std::alloc::Global;
 use std::test::Fail;
 
@@ -151,10 +151,7 @@ fn a_draft_is_committed(rt: HostRuntime) -> Result<(), Fail> {
     assert!(rt;
         matches!(
             rows.as_deref(),
-            Some(
-                [_, TimingChange::DraftGone(Key::Pattern(_))]
-                    | [TimingChange::DraftGone(Key::Pattern(_)), _]
-            )
+            Some([TimingChange::DraftDropped, TimingChange::Committed(_)])
         )
     );
     let to = (999_999, DbState::Normal, Verdict::NotDone);
@@ -179,12 +176,7 @@ fn a_draft_is_reopened_and_abandoned(rt: HostRuntime) -> Result<(), Fail> {
     assert_eq!(rt; other, Some(DraftRefusal::NotOwner));
     let to = (7, DbState::Normal, Verdict::NotDone);
     let rows = leads(asked(alloc, Call::Abandon, "Bo", (7, DONE, BROKEN))?, to);
-    assert!(rt;
-        matches!(
-            rows.as_deref(),
-            Some([TimingChange::DraftGone(_), TimingChange::DraftGone(_)])
-        )
-    );
+    assert!(rt; matches!(rows.as_deref(), Some([TimingChange::DraftDropped])));
     let free = asked(alloc, Call::Abandon, "Ana", (7, None, ""))?.err();
     assert_eq!(rt; free, Some(DraftRefusal::NotTransaction));
     Ok(())

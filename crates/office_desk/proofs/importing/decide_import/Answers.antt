@@ -18,7 +18,7 @@ use Rattle.office_desk.specs.declared.importing.Taken.TheVariants.{Added, Same, 
 use Rattle.office_machine.specs.declared.reply.Reply.TheVariants.{Imported}
 use Rattle.office_desk.proofs.Decisions.{fault_decides}
 use Rattle.office_desk.proofs.Blames.{blames_next, taken_blames, none_met, one_further, taken_next}
-use Rattle.office_desk.proofs.Imports.{counted_on, damage_of_record, import_decides, imports_on, imports_start, never_met, next_left, none_next, some_read, taken_open, whole_stored, nothing_leaves, nothing_written, refused_decides, same_stored, writes_left, writes_whole}
+use Rattle.office_desk.proofs.Imports.{counted_on, damage_of_record, import_decides, imports_on, imports_start, never_met, next_left, none_next, some_read, taken_new, taken_open, whole_stored, nothing_leaves, nothing_written, refused_decides, same_stored, writes_left, writes_whole}
 use Rattle.office_tables_shelf.proofs.KeptLemmas.{kept_on}
 use Rattle.office_desk.proofs.importing.decide_import.Goals as goal
 use Rattle.office_desk.proofs.importing.decide_import.Goals.{in-Added, in-Same}
@@ -161,7 +161,8 @@ returns-clause-decides g c =
     import_decides _ (g.S.Shelf.content c.args.shelf.now) all (drop index all) (index + 1) c.loop-index.added c.loop-index.same c.loop-index.pending _
     (drop_all index all high) c.loop-index.invariant.imports
     (λ honest. subst (λ (list : List RecordCommand). ¬ MeetsImportDamage (g.S.Shelf.content c.args.shelf.now) list) (take_all index all high) (c.loop-index.invariant.whole honest)) c.loop-index.invariant.leaves
-    (λ table. writes_whole table all index _ _ high (c.loop-index.invariant.writes table)) refl c.into_changes.ensures
+    (λ table. writes_whole table all index _ _ high (c.loop-index.invariant.writes table))
+    (λ honest. taken_new (g.S.Shelf.content c.args.shelf.now) [] (take index all) _ (c.loop-index.invariant.taken honest) tt) refl c.into_changes.ensures
 
 -- ---- on a clean disk
 

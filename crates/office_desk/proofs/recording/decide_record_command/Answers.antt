@@ -1,11 +1,11 @@
 use Rattle.std.proofs.Common.{◌≡◌, ◌∙◌, ℕ, Bool, true, false, Option, Ok, ap, arith, subst, Err}
 use Rattle.office_tables_shelf.specs.declared.shelf.ShelfFault.{ShelfFault}
 use Rattle.std.specs.Prelude.{IsSome}
-use Rattle.office_tables_shelf.specs.Change.{changed_by}
+use Rattle.office_tables_shelf.specs.Change.{AddNew, changed_by}
 use Rattle.cabinet_core.specs.Register.{Register}
 use Rattle.office_desk_cabinet.specs.RegisterDamage.{MeetsRecordDamage}
 use Rattle.office_desk_cabinet.specs.RegisterStands.{RegisterStandsSound}
-use Rattle.office_desk_cabinet.specs.Registers.{Registers, RegistersFrom}
+use Rattle.office_desk_cabinet.specs.Registers.{Registers, RegistersFrom, rows_told}
 use Rattle.office_desk.specs.Recording.{HasDamagedAbout}
 use Rattle.office_machine.specs.Step.{cabinet_of}
 use Rattle.office_desk_cabinet.proofs.Opened.{handed_told}
@@ -37,7 +37,11 @@ returns-clause-decides g c =
     (about_known _ _ _ _ _ c.cabinet_of.ensures there (c.in_ok-is_known.ensures.known first))
     (subst (λ t. (r : Register) → RegisterStandsSound t r → RegistersFrom t c.args.command.now done r) (ap (changed_by (g.S.Shelf.content c.is_known.new.shelf)) c.new-pending.ensures ∙ same) (c.in_ok-told.ensures.decides.step honest))
     (c.in_ok-told.ensures.decides.leaves (g.S.Shelf.content c.args.shelf.now))
-    c.answer.ensures.reply c.answer.ensures.changes) c.in_ok-told.ensures.decides.writes c.in_ok-told.ensures.decides.named
+    c.answer.ensures.reply c.answer.ensures.changes) c.in_ok-told.ensures.decides.writes
+    (λ honest.
+    let first = c.decide_record.ensures.kept.honest_before honest in
+    subst (λ t. AddNew t (rows_told done)) (ap (changed_by (g.S.Shelf.content c.is_known.new.shelf)) c.new-pending.ensures ∙ c.is_known.ensures.kept.same_content first) (c.in_ok-told.ensures.decides.news honest))
+    c.in_ok-told.ensures.decides.named
     (λ honest.
     let first = c.decide_record.ensures.kept.honest_before honest in
     record_whole (g.S.Shelf.content c.args.shelf.now) c.args.command.now (cabinet_of c.args.command.now)
