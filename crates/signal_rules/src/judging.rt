@@ -200,10 +200,12 @@ fn judge_lanes(
     ensures found { OnOk result (found.new.items ≡ found.old.items ++ broken (Subject.Pattern n) (lane_findings set.now pattern.now)) }
 {
     let rings = pattern::rings_of(alloc, set, phases)?;
-    let fill = lanes::rings_fill(set, pattern, &rings);
+    let lanes = lanes::lanes_of(alloc, set, pattern, &rings)?;
+    let cycle = pattern.cycle.get();
+    let fill = lanes::lanes_fill(&lanes, cycle);
     report(fill, Subject::Pattern(n), Rule::V12, found)?;
     if fill {
-        let agree = lanes::rings_agree(alloc, set, pattern, &rings, ticks)?;
+        let agree = lanes::lanes_agree(alloc, set, &lanes, cycle, ticks)?;
         report(agree, Subject::Pattern(n), Rule::V13, found)?;
     }
     Ok(())

@@ -1,44 +1,67 @@
-//! V12 and V13, the rules on the lanes of a pattern. No lane is built: its length is a sum of splits,
-//! and the rings are compared only at the seconds at which one of them starts a phase.
+//! V12 and V13, the rules on the lanes of a pattern. No lane is built second by second: its length
+//! is a sum of splits, and the rings are compared only at the seconds at which one of them starts a
+//! phase. The row of each ring and its splits are looked up once.
 
 ghost use Rattle.std.specs.Prelude.{◌≡◌, ◌<◌, ◌+◌, ◌^◌, ◌==◌, true, IfOk, map, length};
 ghost use Rattle.std.specs.List.{list_all};
 ghost use Rattle.signal_rules.specs.Lookup.{lists};
-ghost use Rattle.signal_rules.specs.SequenceRule.{ring_row};
 ghost use Rattle.signal_rules.specs.PatternRules.{time_of, list_each_other, all_list_each_other};
-ghost use Rattle.signal_rules.specs.CutPoints.{timed, start_of, phase_in, phases_in};
-ghost use Rattle.signal_rules.specs.Starts.{times, agree_at, agree_at_row, agree_at_starts, rings_fill};
-ghost use Rattle.signal_rules.specs.Counts.{greatest, RisesAtMost, entries_of};
+ghost use Rattle.signal_rules.specs.CutPoints.{start_of};
+ghost use Rattle.signal_rules.specs.Slots.{slot_of, slots_at, slots_of, seconds_of, phase_of_second, phases_of_second, slots_fill, slots_agree_at, slots_agree, lanes_agree_at_starts, slots_in};
+ghost use Rattle.signal_rules.specs.Starts.{times};
+ghost use Rattle.signal_rules.specs.Counts.{greatest, RisesAtMost};
 
 use crate::lookup::{phase_at, ring_row, split_at};
-use signal_records::{NoMemory, Pattern, PhaseNo, RingNo, Split, TimingSet};
+use signal_records::{NoMemory, Pattern, PhaseNo, RingNo, Split, SplitNo, TimingSet};
 use std::alloc::Global;
 
-/// V12: the splits of each ring's row sum up to the cycle.
-pub(crate) fn rings_fill(set: &TimingSet, pattern: &Pattern, rings: &[RingNo]) -> bool
-    ensures { result ≡ rings_fill set.now pattern.now rings.now }
-{
-    for ring in rings {
-        if !row_fills(set, pattern, ring_row(set, pattern.seq, *ring)) {
-            return false;
-        }
-    }
-    true
+/// A phase of a ring's row, and how many seconds it has.
+#[derive(Clone, Copy)]
+pub(crate) struct Slot {
+    phase: PhaseNo,
+    seconds: u8,
 }
 
-/// The splits of a row are taken from the cycle, so that no sum grows past it.
-fn row_fills(set: &TimingSet, pattern: &Pattern, row: &[PhaseNo]) -> bool
-    ensures { result ≡ (length (timed (times set.now pattern.now.split) row.now) == pattern.now.cycle) }
+/// The row of a ring.
+#[derive(Drop)]
+pub(crate) struct Lane {
+    slots: Vec<Slot>,
+}
+
+/// The rows of the rings, with the splits of a pattern.
+pub(crate) fn lanes_of(
+    alloc: Global,
+    set: &TimingSet,
+    pattern: &Pattern,
+    rings: &[RingNo],
+) -> Result<Vec<Lane>, NoMemory>
+    ensures { IfOk result (λ lanes. slots_of lanes.items ≡ map (slots_at set.now pattern.now) rings.now) }
 {
-    let mut left = pattern.cycle.get();
-    for p in row {
-        let time = u32::from(time_of(split_at(set, pattern.split, *p)));
-        if left < time {
-            return false;
-        }
-        left -= time;
+    let mut lanes = Vec::new(alloc);
+    for ring in rings {
+        let row = ring_row(set, pattern.seq, *ring);
+        let slots = slots_of_row(alloc, set, pattern.split, row)?;
+        lanes.push(Lane { slots })?;
     }
-    left == 0
+    Ok(lanes)
+}
+
+fn slots_of_row(
+    alloc: Global,
+    set: &TimingSet,
+    split: SplitNo,
+    row: &[PhaseNo],
+) -> Result<Vec<Slot>, NoMemory>
+    ensures { IfOk result (λ slots. slots.items ≡ map (slot_of (times set.now split)) row.now) }
+{
+    let mut slots = Vec::new(alloc);
+    for p in row {
+        slots.push(Slot {
+            phase: *p,
+            seconds: time_of(split_at(set, split, *p)),
+        })?;
+    }
+    Ok(slots)
 }
 
 /// The seconds of a phase.
@@ -51,24 +74,48 @@ fn time_of(split: Option<Split>) -> u8
     }
 }
 
+/// V12: the splits of each ring's row sum up to the cycle.
+pub(crate) fn lanes_fill(lanes: &[Lane], cycle: u32) -> bool
+    ensures { result ≡ slots_fill cycle (slots_of lanes.now) }
+{
+    for lane in lanes {
+        if !slots_fill(&lane.slots, cycle) {
+            return false;
+        }
+    }
+    true
+}
+
+/// The splits of a row are taken from the cycle, so that no sum grows past it.
+fn slots_fill(slots: &[Slot], cycle: u32) -> bool
+    ensures { result ≡ (seconds_of slots.now == cycle) }
+{
+    let mut left = cycle;
+    for slot in slots {
+        let seconds = u32::from(slot.seconds);
+        if left < seconds {
+            return false;
+        }
+        left -= seconds;
+    }
+    left == 0
+}
+
 /// V13, where the rings fill the cycle: they agree at each second at which one of them starts a phase,
 /// and so at each second. Each comparison is a tick.
-pub(crate) fn rings_agree(
+pub(crate) fn lanes_agree(
     alloc: Global,
     set: &TimingSet,
-    pattern: &Pattern,
-    rings: &[RingNo],
+    lanes: &[Lane],
+    cycle: u32,
     ticks: &mut u64,
 ) -> Result<bool, NoMemory>
-    requires { rings_fill set.now pattern.now rings.now ≡ true }
-    ensures agree { IfOk result (λ agree. agree ≡ agree_at_starts set.now pattern.now rings.now rings.now) }
-    ensures ticks { RisesAtMost (entries_of set.now pattern.now.seq rings.now) ticks.old ticks.new }
+    requires { slots_fill cycle (slots_of lanes.now) ≡ true }
+    ensures agree { IfOk result (λ agree. agree ≡ lanes_agree_at_starts set.now (slots_of lanes.now) (slots_of lanes.now)) }
+    ensures ticks { RisesAtMost (slots_in (slots_of lanes.now)) ticks.old ticks.new }
 {
-    // It is read, so that its range is known.
-    let _cycle = pattern.cycle.get();
-    for ring in rings {
-        let row = ring_row(set, pattern.seq, *ring);
-        if !starts_agree(alloc, set, pattern, rings, row, ticks)? {
+    for lane in lanes {
+        if !starts_agree(alloc, set, lanes, &lane.slots, ticks)? {
             return Ok(false);
         }
     }
@@ -79,22 +126,20 @@ pub(crate) fn rings_agree(
 fn starts_agree(
     alloc: Global,
     set: &TimingSet,
-    pattern: &Pattern,
-    rings: &[RingNo],
-    row: &[PhaseNo],
+    lanes: &[Lane],
+    slots: &[Slot],
     ticks: &mut u64,
 ) -> Result<bool, NoMemory>
-    requires { length (timed (times set.now pattern.now.split) row.now) < 2 ^ 32 }
-    ensures agree { IfOk result (λ agree. agree ≡ agree_at_row set.now pattern.now rings.now row.now) }
-    ensures ticks { RisesAtMost (length row.now) ticks.old ticks.new }
+    requires { seconds_of slots.now < 2 ^ 32 }
+    ensures agree { IfOk result (λ agree. agree ≡ slots_agree set.now (slots_of lanes.now) slots.now) }
+    ensures ticks { RisesAtMost (length slots.now) ticks.old ticks.new }
 {
     let mut second: u32 = 0;
-    for p in row {
-        let time = time_of(split_at(set, pattern.split, *p));
-        if !start_agrees(alloc, set, pattern, rings, time, second, ticks)? {
+    for slot in slots {
+        if !start_agrees(alloc, set, lanes, slot.seconds, second, ticks)? {
             return Ok(false);
         }
-        second += u32::from(time);
+        second += u32::from(slot.seconds);
     }
     Ok(true)
 }
@@ -103,13 +148,12 @@ fn starts_agree(
 fn start_agrees(
     alloc: Global,
     set: &TimingSet,
-    pattern: &Pattern,
-    rings: &[RingNo],
+    lanes: &[Lane],
     time: u8,
     second: u32,
     ticks: &mut u64,
 ) -> Result<bool, NoMemory>
-    ensures agree { IfOk result (λ agree. agree ≡ list_all (agree_at set.now pattern.now rings.now) (start_of time second)) }
+    ensures agree { IfOk result (λ agree. agree ≡ list_all (slots_agree_at set.now (slots_of lanes.now)) (start_of time second)) }
     ensures ticks { RisesAtMost 1 ticks.old ticks.new }
     ensures counted { ticks.old < greatest → ticks.new ≡ ticks.old + length (start_of time second) }
 {
@@ -117,23 +161,17 @@ fn start_agrees(
         return Ok(true);
     }
     *ticks = ticks.saturating_add(1);
-    let phases = phases_in(alloc, set, pattern, rings, second)?;
+    let phases = phases_in(alloc, lanes, second)?;
     Ok(all_list_each_other(set, &phases))
 }
 
 /// The phases that the rings have at a second.
-fn phases_in(
-    alloc: Global,
-    set: &TimingSet,
-    pattern: &Pattern,
-    rings: &[RingNo],
-    second: u32,
-) -> Result<Vec<PhaseNo>, NoMemory>
-    ensures { IfOk result (λ phases. phases.items ≡ phases_in (times set.now pattern.now.split) (map (ring_row set.now pattern.now.seq) rings.now) second) }
+fn phases_in(alloc: Global, lanes: &[Lane], second: u32) -> Result<Vec<PhaseNo>, NoMemory>
+    ensures { IfOk result (λ phases. phases.items ≡ phases_of_second (slots_of lanes.now) second) }
 {
     let mut phases = Vec::new(alloc);
-    for ring in rings {
-        if let Some(p) = phase_in(set, pattern, ring_row(set, pattern.seq, *ring), second) {
+    for lane in lanes {
+        if let Some(p) = phase_in(&lane.slots, second) {
             phases.push(p)?;
         }
     }
@@ -141,20 +179,19 @@ fn phases_in(
 }
 
 /// The phase that a row has at a second, if it lasts so long.
-fn phase_in(set: &TimingSet, pattern: &Pattern, row: &[PhaseNo], second: u32) -> Option<PhaseNo>
-    ensures { result ≡ phase_in (times set.now pattern.now.split) row.now second }
+fn phase_in(slots: &[Slot], second: u32) -> Option<PhaseNo>
+    ensures { result ≡ phase_of_second slots.now second }
 {
     let mut left = second;
-    for p in row {
-        let time = u32::from(time_of(split_at(set, pattern.split, *p)));
-        if left < time {
-            return Some(*p);
+    for slot in slots {
+        let seconds = u32::from(slot.seconds);
+        if left < seconds {
+            return Some(slot.phase);
         }
-        left -= time;
+        left -= seconds;
     }
     None
 }
-
 /// Each phase of the list and each later one list each other.
 fn all_list_each_other(set: &TimingSet, phases: &[PhaseNo]) -> bool
     ensures { result ≡ all_list_each_other set.now phases.now }
