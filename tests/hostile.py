@@ -298,6 +298,9 @@ def little_memory(folder):
     plan = os.path.join(folder, "plan.csv")
     with open(plan, "wb") as file:
         file.write(b"phase,2,1,8,20,40,40,15,\n" * 1000)
+    long = os.path.join(folder, "long.csv")
+    with open(long, "wb") as file:
+        file.write(held(PLAN) * 200)
     kept = held(path)
     for words in (
         ["batch"],
@@ -308,14 +311,14 @@ def little_memory(folder):
         ["import", "--db", path, os.devnull],
         ["export", "--db", path, "12"],
         ["compare", PLAN, plan],
-        ["diagram", "--file", PLAN, "1"],
+        ["diagram", "--file", long, "1"],
         ["add", "--db", path, "12", "365", "Main St"],
         ["list", "--db", path],
         ["stock", "--db", path],
         ["orders", "--db", path],
         ["cabinet", "--db", path, "12"],
         ["page", "--db", path, "12"],
-        ["page", "--file", PLAN],
+        ["page", "--file", long],
     ):
         told, done, other, refusals = 0, 0, [], (b"fault: memory\n", b"fault: store\n")
         for limit in range(1 << 20, 40 << 20, 1 << 17):

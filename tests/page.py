@@ -137,7 +137,7 @@ def make(program, folder):
 
     run("add", "--db", office, 12, 365, "Main St & 3rd Ave")
     run("edit", "--db", office, "--clerk", "Ana", "--commit", 12, folder / "plan.csv")
-    run("edit", "--db", office, "--clerk", CLERK, 12, folder / "changes.csv", status=3)
+    run("edit", "--db", office, "--clerk", CLERK, 12, folder / "changes.csv")
     run("import", "--db", office, folder / "records.csv")
     run("add", "--db", office, 13, 90, NAME)
     quoted = FOUND.replace('"', '""')
