@@ -168,15 +168,17 @@ impl<S: Shelf> Office<S> {
             Err(fault) => return Err(refused(fault)),
         }
     }
-    /// All intersections, in the order of their numbers. A row of an intersection is read, and those
-    /// of its plan are counted. Where memory or the shelf refuses, the error is Unavailable; where
-    /// the row of an intersection is no record, Damaged.
+
+    /// All intersections, in the order of their numbers. The row of an intersection is read, and
+    /// those of its plan are counted. Where memory or the shelf refuses, the error is Unavailable;
+    /// where the row of an intersection is no record, Damaged.
     pub fn intersections(&mut self, alloc: Global) -> Result<Vec<ListedIntersection>, Refusal>
         ensures all { IfOk result (λ found. S.is_honest self.new → (office : OfficeState) →
             StandForSound (S.content self.old) office → found.items ≡ intersections_of office) }
         ensures whole { IfOk result (λ _. S.is_honest self.new →
             ¬ HasAnyDamagedIntersection (S.content self.old)) }
-        ensures refused { IfErr result (λ why. (why ≡ Refusal.Unavailable) ⊎ (why ≡ Refusal.Damaged)) }
+        ensures refused { IfErr result (λ why.
+            (why ≡ Refusal.Unavailable) ⊎ (why ≡ Refusal.Damaged)) }
         ensures damaged { result ≡ Err Refusal.Damaged → S.is_honest self.new →
             HasAnyDamagedIntersection (S.content self.old) }
         ensures clean { S.is_clean self.new → S.is_clean self.old }

@@ -142,7 +142,8 @@ fn picture_of(
 ) -> Result<Option<String>, NoMemory>
     ensures found { IfOk result (λ shown. IsSome shown ↔ IsSome (pattern_at set.now number)) }
     ensures text { IfOk result (λ shown. IfSome shown
-        (λ text. string_bytes text ≡ picture_of sizing set.now number (pattern_at set.now number))) }
+        (λ text. string_bytes text
+        ≡ picture_of sizing set.now number (pattern_at set.now number))) }
     ensures chart { IfOk result (λ shown. IfSome shown
         (λ text. DrawsChart sizing set.now number (string_bytes text))) }
 {

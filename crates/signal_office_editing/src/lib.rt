@@ -1,5 +1,5 @@
-//! Commands of a clerk: an intersection is added, a plan is edited by a file in a transaction, which
-//! may be committed, and a draft is dropped.
+//! Commands of a clerk: an intersection is added, a plan is edited by a file in a transaction,
+//! which may be committed, and a draft is dropped.
 #![tactic(auto)]
 
 mod abandoning;

@@ -54,8 +54,8 @@ pub enum Plan<'a> {
     File { csv: &'a str },
 }
 
-/// What the words ask the program to do. A word that names a file, a clerk, an intersection or a day
-/// may name none.
+/// What the words ask the program to do. A word that names a file, a clerk, an intersection or a
+/// day may name none.
 #[derive(Clone, Copy)]
 pub enum Job<'a> {
     /// Answer the requests on standard input, over a file or memory.

@@ -90,7 +90,8 @@ fn in_file<W: Sink>(
     done.print(out)
 }
 
-/// Serves connections on a port by an office over tables in memory, or in a file where one is given.
+/// Serves connections on a port by an office over tables in memory, or in a file where one is
+/// given.
 fn serve<W: Sink>(
     rt: &HostRuntime,
     alloc: Global,

@@ -67,7 +67,8 @@ pub(crate) fn push_flag(text: &mut String, set: bool) -> Result<(), AllocError>
 
 /// Appends the numbers of the phases, each after a space, or a dash where there is none.
 fn push_numbers(text: &mut String, phases: &[PhaseNo]) -> Result<(), AllocError>
-    ensures { OnOk result (string_bytes text.new ≡ string_bytes text.old ++ numbers_text phases.now) }
+    ensures { OnOk result (string_bytes text.new
+        ≡ string_bytes text.old ++ numbers_text phases.now) }
 {
     if phases.is_empty() {
         text.push_str(" -")?;

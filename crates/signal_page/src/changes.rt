@@ -88,7 +88,8 @@ fn push_change_table(
 /// Appends that there is no change, where that is so.
 fn push_no_changes(text: &mut String, differences: &[Difference]) -> Result<(), AllocError>
     ensures { OnOk result (string_bytes text.new ≡ string_bytes text.old
-        ++ when_empty differences.now (codes "<p>It changes nothing of the plan that runs.</p>\n")) }
+        ++ when_empty differences.now
+        (codes "<p>It changes nothing of the plan that runs.</p>\n")) }
 {
     if differences.is_empty() {
         text.push_str("<p>It changes nothing of the plan that runs.</p>\n")

@@ -2,7 +2,8 @@
 
 ghost use Rattle.std.specs.Prelude.{◌≡◌, ◌++◌, true, OnOk, IfOk, map};
 ghost use Rattle.std.specs.List.{flat_map, list_all};
-ghost use Rattle.signal_rules.specs.RowWalk.{subject_of, of_kind, sequence_of, other_than, sequences_after, is_within};
+ghost use Rattle.signal_rules.specs.RowWalk.{subject_of, of_kind, sequence_of, other_than};
+ghost use Rattle.signal_rules.specs.RowWalk.{sequences_after, is_within};
 ghost use Rattle.signal_rules.specs.Violations.{subjects};
 
 use crate::violation::Subject;
@@ -55,7 +56,8 @@ fn read_number(row: &Row)
 
 /// The subjects of the rows of a kind, which a key's `kind` tells.
 fn add_kind(rows: &[Row], kind: u32, subjects: &mut Vec<Subject>) -> Result<(), NoMemory>
-    ensures { OnOk result (subjects.new.items ≡ subjects.old.items ++ flat_map (of_kind kind) rows.now) }
+    ensures { OnOk result (subjects.new.items
+        ≡ subjects.old.items ++ flat_map (of_kind kind) rows.now) }
 {
     for row in rows {
         add_row(row, kind, subjects)?;
@@ -85,7 +87,8 @@ fn subject_of(row: &Row) -> Subject
 
 /// The sequences that have a row, each once: its rows stand one after the other.
 fn add_sequences(rows: &[Row], subjects: &mut Vec<Subject>) -> Result<(), NoMemory>
-    ensures { OnOk result (subjects.new.items ≡ subjects.old.items ++ map (λ n. Subject.Seq n) (sequences_after 0 rows.now)) }
+    ensures { OnOk result (subjects.new.items ≡ subjects.old.items
+        ++ map (λ n. Subject.Seq n) (sequences_after 0 rows.now)) }
 {
     let mut last = 0;
     for row in rows {
