@@ -71,6 +71,16 @@ def streams(times):
                  work.inspections(count))
 
 
+def over_files(times, folder):
+    """A tenth of the streams over a file, which is not there before: by both programs with a log,
+    and a sync for each request that changes something."""
+    for it in streams(times / 10):
+        yield dataclasses.replace(
+            it, name=f"over a file: {it.name}", words=("batch", "--db", "FILE"),
+            theirs=("serve", "FILE"), made=os.path.join(folder, "stream.db"),
+        )
+
+
 def on_files(program, folder):
     """The works on files, which are made first."""
     for name, words, theirs, size, fill in (
@@ -122,9 +132,10 @@ def ran(words, requests, folder):
 
 
 def once(words, it, requests, folder):
+    for end in ("", "-wal", "-shm") if it.made else ():
+        pathlib.Path(it.made + end).unlink(missing_ok=True)
     if it.file:
         shutil.copyfile(it.file, it.made)
-        pathlib.Path(it.made + "-wal").unlink(missing_ok=True)
     return ran(words, requests, folder)
 
 
@@ -186,7 +197,8 @@ def row(program, it, folder, counts):
 
 def rows(program, only, times, counts):
     with tempfile.TemporaryDirectory() as folder:
-        works = [*streams(times / 20 if counts else times), *on_files(program, folder)]
+        long = times / 20 if counts else times
+        works = [*streams(long), *over_files(long, folder), *on_files(program, folder)]
         for it in works:
             if only in it.name:
                 yield row(program, it, folder, counts)

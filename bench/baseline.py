@@ -2,7 +2,8 @@
 and answers what the office does, and checks next to nothing of what the office checks; with
 --checking it also tests rows, plans and records as the office does.
 
-    python3 bench/baseline.py serve [--checking]   answers requests, over tables in memory
+    python3 bench/baseline.py serve [FILE] [--checking]   answers requests, over tables in memory
+                                                          or in a file
     python3 bench/baseline.py overdue FILE DAY     prints the report
     python3 bench/baseline.py open FILE            has SQLite check the file
     python3 bench/baseline.py migrate FILE         makes a file of version 1 one of version 2
@@ -170,9 +171,9 @@ def answer_to(db, method, path, body):
     return told
 
 
-def serve(source, sink):
-    db = sqlite3.connect(":memory:", isolation_level=None)
-    db.executescript(SCHEMA)
+def serve(source, sink, path=":memory:"):
+    db = sqlite3.connect(path, isolation_level=None)
+    db.executescript("PRAGMA journal_mode = WAL; PRAGMA synchronous = FULL;" + SCHEMA)
     while line := source.readline():
         method, target, _version = line.split(b" ", 2)
         length = 0
@@ -224,6 +225,6 @@ def migrate(path):
 if __name__ == "__main__":
     work, words = sys.argv[1], sys.argv[2:]
     if work == "serve":
-        serve(sys.stdin.buffer, sys.stdout.buffer)
+        serve(sys.stdin.buffer, sys.stdout.buffer, *(it for it in words if it != "--checking"))
     else:
         {"overdue": overdue, "open": check, "migrate": migrate}[work](*words)

@@ -13,7 +13,9 @@ import sys
 import measured
 
 TOP = pathlib.Path(__file__).resolve().parent.parent
-TESTS = {"signal_core_tests", "office_slow", "office_script", "office_trials", "office_stops"}
+TESTS = {
+    "signal_core_tests", "office_test_scripts", "office_hostile_tests", "office_crash_tests",
+}
 KINDS = ["Code", "Tests", "Specs", "Proofs", "Edits of the gate", "Other edits"]
 
 

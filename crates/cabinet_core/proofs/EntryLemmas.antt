@@ -1,5 +1,5 @@
 -- What holds of what stands at each key of a map holds of each of its entries.
-use Rattle.std.proofs.Common.{◌≡◌, ◌⊎◌, inl, inr, Bool, true, false, ◌&&◌, List, [], ◌∷◌, filter, cond, None, Ordering, Less, Equal, Greater, T, refl, sym, ap, subst, ◌∙◌}
+use Rattle.std.proofs.Common.{◌≡◌, ◌⊎◌, inl, inr, Bool, true, false, List, [], ◌∷◌, filter, cond, None, Ordering, T, refl, sym, ap, subst, ◌∙◌}
 use Rattle.std.proofs.lemmas.Bool.{cases_Bool}
 use Rattle.std.specs.Cmp.{IsTotalOrder, tied_itself}
 use Rattle.std.specs.FinMap as finite
@@ -7,21 +7,9 @@ use Rattle.std.specs.FinMap.{FinMap, get, entries, entries_sorted, get-entries}
 use Rattle.std.specs.FinMap.Entries.{is_sorted, below_all}
 use Rattle.std.specs.List.{AllByRecursion, list_any}
 use Rattle.std.specs.Option.{IfSome}
-use Rattle.std.specs.Ordering.{is_eq, is_lt, eq_by_cmp}
-
-parts : (a b : Bool) → T (a && b) → T a × T b
-parts true b h = (tt, h)
-parts false b h = absurd h
-
-less : (o : Ordering) → T (is_lt o) → o ≡ Less
-less Less h = refl
-less Equal h = absurd h
-less Greater h = absurd h
-
-pub tied : (o : Ordering) → is_eq o ≡ true → o ≡ Equal
-tied Less h = cc
-tied Equal h = refl
-tied Greater h = cc
+use Rattle.std.specs.Ordering.{is_eq, eq_by_cmp}
+use Rattle.signal_records.proofs.Sets.{is_less, parts}
+pub use Rattle.signal_records.proofs.Sets.{tied}
 
 module _ {K X : Type 0} {R : K → K → Ordering} (total : IsTotalOrder R) (Stands : K → X → Type 0) where
   -- nothing stands at a key that ties with one below all others
@@ -29,7 +17,7 @@ module _ {K X : Type 0} {R : K → K → Ordering} (total : IsTotalOrder R) (Sta
   none_above q k [] tie below = refl
   none_above q k (e ∷ es) tie below =
       let hs = parts _ _ below in
-      let apart : eq_by_cmp R q e.0 ≡ false = ap is_eq (total.congr q k e.0 (tied _ tie) ∙ less _ hs.0) in
+      let apart : eq_by_cmp R q e.0 ≡ false = ap is_eq (total.congr q k e.0 (tied _ tie) ∙ is_less _ hs.0) in
       rw apart (none_above q k es tie hs.1)
 
   each_entry : (es : List (K × X)) → T (is_sorted R es) → ((q : K) → IfSome (finite.find R q es) (Stands q)) → AllByRecursion (λ e. Stands e.0 e.1) es

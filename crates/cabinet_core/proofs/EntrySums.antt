@@ -12,14 +12,7 @@ use Rattle.std.specs.declared.cmp.Ordering.TheVariants.{Less, Equal, Greater}
 
 or_swapped : (a b c : Bool) → (a || (b || c)) ≡ (b || (a || c))
 or_swapped true true c = refl
-or_swapped true false c = refl
-or_swapped false b c = refl
-
-or_last : (a b : Bool) → (a || b) ≡ (b || a)
-or_last true true = refl
-or_last true false = refl
-or_last false true = refl
-or_last false false = refl
+or_swapped _ b c = refl
 
 module _ {K X : Type 0} (R : K → K → Ordering) where
   sum_put : (f : K × X → ℕ) (k : K) (v : X) (es : List (K × X)) → finite.find R k es ≡ None → sum_by f (put R k v es) ≡ sum_by f es + f (k, v)

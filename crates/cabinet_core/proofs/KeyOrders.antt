@@ -1,6 +1,6 @@
 -- The orders of the register's keys are total, only equal keys tie, and when they do.
-use Rattle.std.proofs.Common.{◌≡◌, ℕ, ◌&&◌, ◌==◌, List, Ordering, nat_cmp, refl, sym, ◌∙◌, arith}
-use Rattle.std.proofs.lemmas.Bool.Decides.{nat_tests, same_from_decides, Decides-like}
+use Rattle.std.proofs.Common.{◌≡◌, ℕ, ◌&&◌, ◌==◌, List, Ordering, nat_cmp, sym, ◌∙◌}
+use Rattle.std.proofs.lemmas.Bool.Decides.{same_from_decides, Decides-like}
 use Rattle.std.proofs.lemmas.Cmp.{on_total, then_total, nat_cmp_total, nat_list_cmp_total}
 use Rattle.std.proofs.lemmas.Map.Lookups.{exact_pairs}
 use Rattle.std.proofs.lemmas.Map.Text.{is_eq-slice_cmp}
@@ -8,10 +8,10 @@ use Rattle.std.proofs.lemmas.Slice.Eq.{bytes_eq-Decides}
 use Rattle.std.specs.Cmp.{IsTotalOrder}
 use Rattle.std.specs.Cmp.Lexicographic.{slice_cmp}
 use Rattle.std.specs.FinMap.{IsAntisymmetric, nat_cmp-IsAntisymmetric, slice_cmp-IsAntisymmetric}
-use Rattle.std.specs.Ordering.{is_eq, eq_by_cmp, ordering_then}
+use Rattle.std.specs.Ordering.{eq_by_cmp}
 use Rattle.std.specs.Str.{bytes_eq}
-use Rattle.std.specs.declared.cmp.Ordering.TheVariants.{Less, Equal, Greater}
 use Rattle.cabinet_core.specs.Register.{pair_cmp, record_cmp, line_cmp, delivery_cmp}
+pub use Rattle.signal_records.proofs.Sets.{numbers_tie, then_ties}
 
 pairs_total : {A B : Type 0} {P : A → A → Ordering} {Q : B → B → Ordering} → IsTotalOrder P → IsTotalOrder Q → IsTotalOrder (pair_cmp P Q)
 pairs_total {A} {B} first second = then_total (on_total (λ (p : A × B). p.0) first) (on_total (λ (p : A × B). p.1) second)
@@ -35,14 +35,6 @@ pub delivery_exact : IsAntisymmetric delivery_cmp
 delivery_exact = exact_pairs _ nat_cmp (slice_cmp-IsAntisymmetric nat_cmp-IsAntisymmetric) nat_cmp-IsAntisymmetric
 
 -- ---- ties
-
-pub then_ties : (r s : Ordering) → is_eq (ordering_then r s) ≡ (is_eq r && is_eq s)
-then_ties Less s = refl
-then_ties Equal s = refl
-then_ties Greater s = refl
-
-pub numbers_tie : (a b : ℕ) → is_eq (nat_cmp a b) ≡ (b == a)
-numbers_tie a b = grind (arith, nat_tests)
 
 -- the keys of two numbers on intersections
 pub record_ties : (id n of m : ℕ) → eq_by_cmp record_cmp (id, n) (of, m) ≡ (of == id && m == n)

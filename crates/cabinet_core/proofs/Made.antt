@@ -21,7 +21,7 @@ use Rattle.cabinet_core.specs.declared.command.RecordCommand.TheVariants.{CloseO
 use Rattle.cabinet_core.specs.declared.decide.CabinetChange.{CabinetChange}
 use Rattle.cabinet_core.specs.declared.decide.CabinetChange.TheVariants.{PutInspection, PutOrder}
 use Rattle.cabinet_core.specs.declared.decide.Recorded.{Recorded}
-use Rattle.cabinet_core.specs.declared.decide.Recorded.TheVariants.{Added, Same}
+use Rattle.cabinet_core.specs.declared.decide.Recorded.TheVariants.{Added}
 use Rattle.cabinet_core.specs.declared.record.Closing.{Closing}
 use Rattle.cabinet_core.specs.declared.record.Delivery.{Delivery}
 use Rattle.cabinet_core.specs.declared.record.Opening.{Opening}
@@ -160,9 +160,8 @@ made : (id : ℕ) (r : Register) (command : RecordCommand) (list : List CabinetC
     → Records result (line_at r command) list → MakesIn id r command result
 made id r command list (Ok (Added changes)) makes says =
     (says.0, subst (λ cs. ChangesMake id r cs (with_record r command)) (sym says.1) (makes says.0))
-made id r command list (Ok Same) makes says = says
 made id r command list (Err NoMemory) makes says = says
-made id r command list (Err refusal) makes says = says
+made id r command list _ makes says = says
 
 -- the law, of a decision that says its line on what it is given
 pub decision_makes : (any : ℕ) (command : RecordCommand) (there : Standing command)

@@ -207,8 +207,7 @@ receive_kept r asked (CloseOrder other order closing) adds is =
     (closed_leaves (λ x. x.deliveries) r (λ _. refl) other order closing (get r.orders (other, order)))
     ∙ delivery_stays (get r.deliveries (asked.part, asked.number)) _ (hand_of next asked.part) asked is
 receive_kept r asked (UsePart other new) adds is = delivery_stays (get r.deliveries (asked.part, asked.number)) _ _ asked is
-receive_kept r asked (Inspect other new) adds is = is
-receive_kept r asked (OpenOrder other new) adds is = is
+receive_kept r asked _ adds is = is
 
 -- a command that is the same is so after any other that is accepted
 pub same_kept : (r : Register) (c d : RecordCommand) → line_at r d ≡ added → line_at r c ≡ same → line_at (with_record r d) c ≡ same

@@ -3,7 +3,7 @@ use Rattle.std.proofs.Common.{◌≡◌, ℕ, ◌+◌, ◌-◌, ◌≤◌, Bool,
 use Rattle.std.specs.FinMap.{get, insert, get-insert}
 use Rattle.cabinet_core.specs.Cabinet.{added, close_line, record_of, with_closing}
 use Rattle.cabinet_core.specs.declared.command.RecordCommand.{RecordCommand}
-use Rattle.cabinet_core.specs.declared.command.RecordCommand.TheVariants.{Inspect, OpenOrder, UsePart, CloseOrder, Receive}
+use Rattle.cabinet_core.specs.declared.command.RecordCommand.TheVariants.{OpenOrder, UsePart, CloseOrder, Receive}
 use Rattle.cabinet_core.specs.declared.record.Closing.{Closing}
 use Rattle.cabinet_core.specs.declared.record.Order.{Order}
 use Rattle.cabinet_core.specs.Orders.{is_open_order, is_open_at}
@@ -32,11 +32,9 @@ open_closed r id n other order closing None line = absurd cc
 open_closed r id n other order closing (Some found) line = open_put r id n other order (with_closing found closing) false refl
 
 open_step : (r : Register) (id n : ℕ) (command : RecordCommand) → line_at r command ≡ added → is_open_at (with_record r command) id n ≡ open_with id n (is_open_at r id n) command
-open_step r id n (Inspect other inspection) line = refl
 open_step r id n (OpenOrder other opening) line = open_put r id n other opening.number (record_of opening) true refl
-open_step r id n (UsePart other used_line) line = refl
 open_step r id n (CloseOrder other order closing) line = open_closed r id n other order closing (get r.orders (other, order)) line
-open_step r id n (Receive delivery) line = refl
+open_step r id n _ line = refl
 
 -- after commands that were accepted an order is open as they say
 pub open_law : (id n : ℕ) (commands : List RecordCommand) (r last : Register) → AreAccepted r commands last → is_open_at last id n ≡ open_by id n (is_open_at r id n) commands
@@ -60,22 +58,18 @@ closed_used r id order closing None code = nothing_more (used r code)
 closed_used r id order closing (Some found) code = nothing_more (used r code)
 
 delivered_step : (r : Register) (code : List ℕ) (command : RecordCommand) → line_at r command ≡ added → delivered (with_record r command) code ≡ delivered r code + received code command
-delivered_step r code (Inspect id inspection) line = nothing_more (delivered r code)
-delivered_step r code (OpenOrder id opening) line = nothing_more (delivered r code)
-delivered_step r code (UsePart id used_line) line = nothing_more (delivered r code)
 delivered_step r code (CloseOrder id order closing) line = closed_delivered r id order closing (get r.orders (id, order)) code
 delivered_step r code (Receive delivery) line =
     let key : DeliveryKey = (delivery.part, delivery.number) in
     sum_insert delivery_cmp delivery_total r.deliveries key delivery (receivable (get r.deliveries key) (hand_of r delivery.part) delivery line).new (brought code)
+delivered_step r code _ line = nothing_more (delivered r code)
 
 used_step : (r : Register) (code : List ℕ) (command : RecordCommand) → line_at r command ≡ added → used (with_record r command) code ≡ used r code + spent code command
-used_step r code (Inspect id inspection) line = nothing_more (used r code)
-used_step r code (OpenOrder id opening) line = nothing_more (used r code)
 used_step r code (UsePart id used_line) line =
     let key : LineKey = (id, (used_line.order, used_line.line)) in
     sum_insert line_cmp line_total r.lines key used_line (usable (get r.lines key) (get r.orders (id, used_line.order)) (hand_of r used_line.part) used_line line).new (taken code)
 used_step r code (CloseOrder id order closing) line = closed_used r id order closing (get r.orders (id, order)) code
-used_step r code (Receive delivery) line = nothing_more (used r code)
+used_step r code _ line = nothing_more (used r code)
 
 in_turn : (last mid first one more : ℕ) → last ≡ mid + more → mid ≡ first + one → last ≡ first + (one + more)
 in_turn last mid first one more rest now = omega arith

@@ -22,11 +22,6 @@ bytes_alike a = (bytes_eq-Decides a a).1 refl
 pub never_came : (r : Register) (code : List ℕ) → was_delivered r code ≡ false → delivered r code ≡ 0
 never_came r code = no_sum (λ (e : DeliveryKey × Delivery). bytes_eq e.1.part code) (λ (e : DeliveryKey × Delivery). e.1.count) (entries r.deliveries)
 
--- how many there are of a hand that is told by a test
-hand_count : (b : Bool) (n : ℕ) → on_hand (cond b (Some n) None) ≡ cond b n 0
-hand_count true n = refl
-hand_count false n = refl
-
 -- ---- one more line
 
 module _ (r : Register) (key : LineKey) (line : UsedLine) (new : get r.lines key ≡ None) where

@@ -5,6 +5,7 @@ mod bounds;
 mod command;
 mod day;
 mod decide;
+mod open_orders;
 mod ordered;
 mod overdue_inspections;
 mod part;
@@ -18,6 +19,7 @@ pub use bounds::{
 pub use command::RecordCommand;
 pub use day::{Day, due, read_day, write_day};
 pub use decide::{CabinetChange, Recorded, close_order, inspect, open_order, receive, use_part};
+pub use open_orders::open_count;
 pub use ordered::{Ordered, Placed};
 pub use overdue_inspections::{OverdueRow, Seen, later, latest, overdue, overdue_row};
 pub use part::{Hand, MOST_ON_HAND, PartCode};

@@ -36,24 +36,44 @@ impl Model for PartCode {
 }
 
 impl PartCode {
+    /// The code that the bytes are, if they are one. It takes no memory.
+    pub fn parse(bytes: &[u8]) -> Option<&str>
+        ensures accepts { IsSome result ↔ IsPartCode bytes.now }
+        ensures keeps { IfSome result (λ text. text.now ≡ bytes.now) }
+        ensures code { IfSome result (λ text. IsPartCode text.now) }
+    {
+        if bytes.is_empty() || 20 < bytes.len() {
+            return None;
+        }
+        if !bytes.iter().all(|b| is_code_byte(*b)) {
+            return None;
+        }
+        let Ok(text) = str::from_utf8(bytes) else {
+            return None;
+        };
+        Some(text)
+    }
+
+    /// A code that `parse` gave, in memory of its own.
+    pub fn from_parsed(alloc: Global, text: &str) -> Result<PartCode, NoMemory>
+        requires { IsPartCode text.now }
+        ensures { IfOk result (λ code. code ≡ text.now) }
+    {
+        Ok(PartCode {
+            text: String::from_str(alloc, text)?,
+        })
+    }
+
     /// The code, if the bytes are one. Memory is taken for a code alone.
     pub fn new(alloc: Global, bytes: &[u8]) -> Result<Option<PartCode>, NoMemory>
         ensures accepts { IfOk result (λ code. IsSome code ↔ IsPartCode bytes.now) }
         ensures keeps { IfOk result (λ code. IfSome code (λ part. part ≡ bytes.now)) }
         ensures memory { IfErr result (λ _. IsPartCode bytes.now) }
     {
-        if bytes.is_empty() || 20 < bytes.len() {
-            return Ok(None);
-        }
-        if !bytes.iter().all(|b| is_code_byte(*b)) {
-            return Ok(None);
-        }
-        let Ok(text) = str::from_utf8(bytes) else {
+        let Some(text) = PartCode::parse(bytes) else {
             return Ok(None);
         };
-        Ok(Some(PartCode {
-            text: String::from_str(alloc, text)?,
-        }))
+        Ok(Some(PartCode::from_parsed(alloc, text)?))
     }
 
     /// The code.

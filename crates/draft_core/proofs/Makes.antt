@@ -67,7 +67,7 @@ module _ {reach : Reach} {timing : Timing} {rows : RowsByKey} {side : TimingSide
   module _ (read : (key : Key) → row_at timing.delta key ≡ rows key) where
     pub commit_makes : (draft : Draft) (clerk : List ℕ) (move : Move) (revision : ℕ)
         → side.draft ≡ Some draft
-        → move ≡ move_to revision Dropped NotJudged (settling timing.delta)
+        → move ≡ move_to revision Dropped NotJudged (settling timing.committed timing.delta)
         → Makes rows side clerk move
         (record { revision = revision; committed = draft.set; draft = None })
     commit_makes draft clerk move revision held is =
@@ -79,9 +79,10 @@ module _ {reach : Reach} {timing : Timing} {rows : RowsByKey} {side : TimingSide
           same_holder = refl;
           committed = λ key. draft_row stands draft held key
               ∙ ap (overlaid (get side.committed key)) (sym (read key))
-              ∙ sym (committed_after-settling timing.delta key _);
-          draft = λ key. row_after-settling timing.delta key _ (λ e. sym (read key) ∙ e);
-          only_changes = λ only key same. row_after-settling timing.delta key _
+              ∙ sym (committed_after-settling timing.committed timing.delta key _);
+          draft = λ key. row_after-settling timing.committed timing.delta key _
+              (λ e. sym (read key) ∙ e);
+          only_changes = λ only key same. row_after-settling timing.committed timing.delta key _
               (λ e. sym (read key) ∙ e);
         })
 

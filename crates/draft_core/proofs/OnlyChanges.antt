@@ -1,5 +1,5 @@
 -- What an edit writes, one change after the other, and what that makes of the draft rows.
-use Rattle.std.proofs.Common.{◌≡◌, ◌⊎◌, ◌+◌, Bool, true, false, cond, List, [], ◌∷◌, ◌++◌}
+use Rattle.std.proofs.Common.{◌≡◌, ◌⊎◌, ◌+◌, Bool, true, false, not, cond, List, [], ◌∷◌, ◌++◌}
 use Rattle.std.proofs.Common.{Option, Result, Ok, Err}
 use Rattle.std.proofs.Common.{refl, ap, sym, subst, ◌∙◌, inl, inr, arith}
 use Rattle.std.specs.Prelude.{IfOk}
@@ -23,74 +23,23 @@ use Rattle.signal_records.specs.declared.record.Change.{Change}
 use Rattle.signal_records.specs.declared.record.Change.TheVariants.{Put, Remove}
 use Rattle.draft_core.specs.declared.timing.Move.{Move}
 use Rattle.draft_core.specs.declared.timing.TimingChange.{TimingChange}
-use Rattle.draft_core.specs.declared.timing.TimingChange.TheVariants.{Committed, Drafted, DraftGone}
+use Rattle.draft_core.specs.declared.timing.TimingChange.TheVariants.{CommittedNew, Committed}
+use Rattle.draft_core.specs.declared.timing.TimingChange.TheVariants.{DraftedNew, Drafted}
+use Rattle.draft_core.specs.declared.timing.TimingChange.TheVariants.{DraftGone, DraftDropped}
 use Rattle.draft_core.specs.declared.refusal.DraftRefusal.{DraftRefusal}
 use Rattle.draft_core.specs.DraftRows.{Said, silent, leaves, removes, changed_key, left_by}
 use Rattle.draft_core.specs.DraftRows.{said_by, said_at, later_of, overlaid, row_at, SaysOtherwise}
 use Rattle.draft_core.specs.Drafting.{AreAmong, DraftsChanges, KeepsOnlyChange, SaysCommitted}
-use Rattle.draft_core.specs.Drafting.{is_said}
-use Rattle.draft_core.specs.Moves.{committed_after, drafted_in, draft_writes, row_after}
-use Rattle.draft_core.specs.Moves.{timing_writes}
+use Rattle.draft_core.specs.Drafting.{drafted_as, is_said}
+use Rattle.draft_core.specs.Moves.{committed_after, drafted_in, row_after, timing_writes}
 use Rattle.draft_core.specs.Within.{AreChangesWithin}
-
--- ---- one more at the end of a list
-
-later_of-silent : (said : Said) → later_of said silent ≡ said
-later_of-silent silent = refl
-later_of-silent (leaves row) = refl
-later_of-silent removes = refl
-
-later_of-later_of : (a b c : Said) → later_of (later_of a b) c ≡ later_of a (later_of b c)
-later_of-later_of silent b c = refl
-later_of-later_of (leaves row) b c = refl
-later_of-later_of removes b c = refl
-
--- what changes say with one more after them
-pub row_at-push : (changes : List Change) (change : Change) (key : Key)
-    → row_at (changes ++ change ∷ []) key ≡ later_of (said_at change key) (row_at changes key)
-row_at-push [] change key = sym (later_of-silent (said_at change key))
-row_at-push (c ∷ changes) change key =
-    ap (λ said. later_of said (said_at c key)) (row_at-push changes change key)
-    ∙ later_of-later_of (said_at change key) (row_at changes key) (said_at c key)
-
-row_after-push : (written : List TimingChange) (one : TimingChange) (key : Key) (said : Said)
-    → row_after (written ++ one ∷ []) key said ≡ row_after (one ∷ []) key
-    (row_after written key said)
-row_after-push [] one key said = refl
-row_after-push (Committed c ∷ written) one key said = row_after-push written one key said
-row_after-push (Drafted c ∷ written) one key said =
-    row_after-push written one key (later_of (said_at c key) said)
-row_after-push (DraftGone k ∷ written) one key said =
-    row_after-push written one key (cond (eq_by_cmp key_cmp key k) silent said)
-
-timing_writes-push : (written : List TimingChange) (one : TimingChange)
-    → timing_writes (written ++ one ∷ []) ≡ timing_writes written + timing_writes (one ∷ [])
-timing_writes-push [] one = omega arith
-timing_writes-push (Committed c ∷ written) one =
-    let rest = timing_writes-push written one in omega (arith, rest)
-timing_writes-push (Drafted c ∷ written) one = timing_writes-push written one
-timing_writes-push (DraftGone k ∷ written) one = timing_writes-push written one
-
-draft_writes-push : (written : List TimingChange) (one : TimingChange)
-    → draft_writes (written ++ one ∷ []) ≡ draft_writes written + draft_writes (one ∷ [])
-draft_writes-push [] one = omega arith
-draft_writes-push (Committed c ∷ written) one = draft_writes-push written one
-draft_writes-push (Drafted c ∷ written) one =
-    let rest = draft_writes-push written one in omega (arith, rest)
-draft_writes-push (DraftGone k ∷ written) one =
-    let rest = draft_writes-push written one in omega (arith, rest)
-
-drafted_in-push : (written : List TimingChange) (one : TimingChange)
-    → drafted_in (written ++ one ∷ []) ≡ drafted_in written ++ drafted_in (one ∷ [])
-drafted_in-push [] one = refl
-drafted_in-push (Committed c ∷ written) one = drafted_in-push written one
-drafted_in-push (Drafted c ∷ written) one =
-    ap (λ list. c ∷ list) (drafted_in-push written one)
-drafted_in-push (DraftGone k ∷ written) one = drafted_in-push written one
+use Rattle.draft_core.proofs.Pushed.{AreNewAt-push, drafted_in-push, drafted_is, drafted_new}
+use Rattle.draft_core.proofs.Pushed.{drafted_says, drafted_writes, draft_writes-push}
+use Rattle.draft_core.proofs.Pushed.{row_after-push, row_at-push, timing_writes-push}
 
 -- ---- keys
 
-same_key : (key k : Key) → eq_by_cmp key_cmp key k ≡ true → key ≡ k
+pub same_key : (key k : Key) → eq_by_cmp key_cmp key k ≡ true → key ≡ k
 same_key key k e =
     elim (key_cmp key k) as (λ o. key_cmp key k ≡ o → is_eq o ≡ true → key ≡ k) [
       | Less ↦ λ is t. cc
@@ -161,6 +110,10 @@ nothing_said silent e = refl
 nothing_said (leaves row) e = absurd (let f : true ≡ false = e in cc)
 nothing_said removes e = absurd (let f : true ≡ false = e in cc)
 
+false_from_not : (b : Bool) → not b ≡ true → b ≡ false
+false_from_not false e = refl
+false_from_not true e = absurd (let f : false ≡ true = e in cc)
+
 -- ---- one key and one change
 
 overlaid-said_by : (committed : Option Row) (change : Change)
@@ -202,6 +155,7 @@ one_passed committed before named after (Remove key) true same none keeps =
 pub drafts_none : (committed : Rows) (delta : List Change) → DraftsChanges committed delta [] []
 drafts_none committed delta = record {
   keeps = λ key. refl;
+  news = λ key. tt;
   among = λ kept has. has;
   no_timing = refl;
   few = omega arith;
@@ -244,31 +198,51 @@ module _ (committed : Rows) (delta done : List Change) (written : List TimingCha
   longer kept has =
       Contains-append_left done (change ∷ []) kept (so_far.among kept has)
 
-  -- a change that is kept
-  pub drafts_change : (SaysCommitted committed change → ⊥)
-      → DraftsChanges committed delta (done ++ change ∷ []) (written ++ Drafted change ∷ [])
-  drafts_change differs = record {
-    keeps = λ key. at_key key (written ++ Drafted change ∷ []) _
-        (row_after-push written (Drafted change) key (row_at delta key))
-        (one_drafted (get committed key) (row_at delta key) (row_at done key)
-        (row_after written key (row_at delta key)) change
-        (eq_by_cmp key_cmp key (changed_key change))
-        (said_other differs key) (so_far.keeps key));
-    among = λ kept has. from kept (Contains-push_cases (drafted_in written) change kept
-        (subst (λ list. Contains list kept) (drafted_in-push written (Drafted change)) has));
-    no_timing = omega (arith, timing_writes-push written (Drafted change), so_far.no_timing);
-    few = omega (
-      arith,
-      draft_writes-push written (Drafted change),
-      length-append done (change ∷ []),
-      so_far.few,
-    );
-  }
+  -- a change that is kept, whose row is new only where its key has none
+  pub drafts_change : (SaysCommitted committed change → ⊥) → (is_new : Bool)
+      → (is_new ≡ true
+      → row_after written (changed_key change) (row_at delta (changed_key change)) ≡ silent)
+      → DraftsChanges committed delta (done ++ change ∷ [])
+      (written ++ drafted_as is_new change ∷ [])
+  drafts_change differs is_new free =
+      let kept : TimingChange = drafted_as is_new change in
+      record {
+        keeps = λ key. at_key key (written ++ kept ∷ [])
+            (later_of (said_at change key) (row_after written key (row_at delta key)))
+            (row_after-push written kept key (row_at delta key)
+            ∙ drafted_says is_new change key (row_after written key (row_at delta key)))
+            (one_drafted (get committed key) (row_at delta key) (row_at done key)
+            (row_after written key (row_at delta key)) change
+            (eq_by_cmp key_cmp key (changed_key change))
+            (said_other differs key) (so_far.keeps key));
+        news = λ key. AreNewAt-push written kept key (get committed key) (row_at delta key)
+            (so_far.news key)
+            (drafted_new is_new change key (committed_after written key (get committed key))
+            (row_after written key (row_at delta key))
+            (λ new here. ap (λ k. row_after written k (row_at delta k)) here ∙ free new));
+        among = λ other has. from other (Contains-push_cases (drafted_in written) change other
+            (subst (λ list. Contains list other) (drafted_in-push written kept
+            ∙ ap (λ list. drafted_in written ++ list) (drafted_is is_new change)) has));
+        no_timing = omega (
+          arith,
+          timing_writes-push written kept,
+          (drafted_writes is_new change).0,
+          so_far.no_timing,
+        );
+        few = omega (
+          arith,
+          draft_writes-push written kept,
+          (drafted_writes is_new change).1,
+          length-append done (change ∷ []),
+          so_far.few,
+        );
+      }
     where
-      from : (kept : Change) → Contains (drafted_in written) kept ⊎ (change ≡ kept)
-          → Contains (done ++ change ∷ []) kept
-      from kept (inl has) = longer kept has
-      from kept (inr same) = subst (Contains (done ++ change ∷ [])) same (Contains-push done change)
+      from : (other : Change) → Contains (drafted_in written) other ⊎ (change ≡ other)
+          → Contains (done ++ change ∷ []) other
+      from other (inl has) = longer other has
+      from other (inr same) =
+          subst (Contains (done ++ change ∷ [])) same (Contains-push done change)
 
   -- a draft row that goes
   pub drafts_gone : SaysCommitted committed change
@@ -281,6 +255,8 @@ module _ (committed : Rows) (delta done : List Change) (written : List TimingCha
         (row_after written key (row_at delta key)) change
         (eq_by_cmp key_cmp key (changed_key change))
         (said_same says key) (so_far.keeps key));
+    news = λ key. AreNewAt-push written (DraftGone (changed_key change)) key (get committed key)
+        (row_at delta key) (so_far.news key) tt;
     among = λ kept has. longer kept (subst (λ list. Contains list kept)
         (drafted_in-push written (DraftGone (changed_key change)) ∙ append-nil (drafted_in written))
         has);
@@ -310,6 +286,7 @@ module _ (committed : Rows) (delta done : List Change) (written : List TimingCha
         (λ here. ap (λ k. row_after written k (row_at delta k))
         (same_key key (changed_key change) here)
         ∙ nothing_said _ none) (so_far.keeps key));
+    news = so_far.news;
     among = longer;
     no_timing = so_far.no_timing;
     few = omega (arith, length-append done (change ∷ []), so_far.few);
@@ -327,10 +304,11 @@ pub record DraftsSoFar (committed : Rows) (delta done : List Change) (keys : BTr
 -- what one change does
 pub data DraftsOne (committed : Rows) (change : Change) (keys new : BTreeSet Key)
     (written longer : List TimingChange) : Type 0 where
-  is_kept : (SaysCommitted committed change → ⊥)
+  is_kept : (SaysCommitted committed change → ⊥) → (is_new : Bool)
+      → is_new ≡ not (contains key_cmp keys (changed_key change))
       → ((key : Key) → contains key_cmp new key
       ≡ cond (is_eq (key_cmp (changed_key change) key)) true (contains key_cmp keys key))
-      → longer ≡ written ++ Drafted change ∷ []
+      → longer ≡ written ++ drafted_as is_new change ∷ []
       → DraftsOne committed change keys new written longer
   is_gone : SaysCommitted committed change
       → ((key : Key) → contains key_cmp new key
@@ -348,12 +326,16 @@ module _ (committed : Rows) (delta done : List Change) (change : Change) (keys n
     (so_far : DraftsSoFar committed delta done keys written) where
   pub one_more : DraftsOne committed change keys new written longer
       → DraftsSoFar committed delta (done ++ change ∷ []) new longer
-  one_more (is_kept differs updates is) =
+  one_more (is_kept differs is_new tells updates is) =
       subst (DraftsSoFar committed delta (done ++ change ∷ []) new) (sym is) (record {
         named = λ key. named_more keys new change (λ k. row_after written k (row_at delta k))
             updates so_far.named key
-            ∙ ap is_said (sym (row_after-push written (Drafted change) key (row_at delta key)));
-        drafts = drafts_change committed delta done written change so_far.drafts differs;
+            ∙ ap is_said (sym (row_after-push written (drafted_as is_new change) key
+            (row_at delta key)
+            ∙ drafted_says is_new change key (row_after written key (row_at delta key))));
+        drafts = drafts_change committed delta done written change so_far.drafts differs is_new
+            (λ as_new. nothing_said _ (sym (so_far.named (changed_key change))
+            ∙ false_from_not _ (sym tells ∙ as_new)));
       })
   one_more (is_gone says updates is) =
       subst (DraftsSoFar committed delta (done ++ change ∷ []) new) (sym is) (record {
@@ -377,9 +359,16 @@ module _ (committed : Rows) (delta done : List Change) (change : Change) (keys n
 pub no_committed : (written : List TimingChange) → timing_writes written ≡ 0
     → (key : Key) (committed : Option Row) → committed_after written key committed ≡ committed
 no_committed [] none key committed = refl
+no_committed (CommittedNew row ∷ written) none key committed = absurd (omega (arith, none))
 no_committed (Committed c ∷ written) none key committed = absurd (omega (arith, none))
-no_committed (Drafted c ∷ written) none key committed = no_committed written none key committed
-no_committed (DraftGone k ∷ written) none key committed = no_committed written none key committed
+no_committed (DraftedNew c ∷ written) none key committed =
+    no_committed written (omega (arith, none)) key committed
+no_committed (Drafted c ∷ written) none key committed =
+    no_committed written (omega (arith, none)) key committed
+no_committed (DraftGone k ∷ written) none key committed =
+    no_committed written (omega (arith, none)) key committed
+no_committed (DraftDropped ∷ written) none key committed =
+    no_committed written (omega (arith, none)) key committed
 
 -- the draft rows that are kept make the draft that the changes make
 pub kept_makes : (committed : Option Row) (before named after : Said)

@@ -1,64 +1,150 @@
 -- What the changes that commit and abandon write make of the rows, and how many they are.
-use Rattle.std.proofs.Common.{◌≡◌, ◌≤◌, Bool, true, false, cond, List, [], ◌∷◌, length, Option, refl, ap, ◌∙◌, arith}
-use Rattle.std.specs.Ordering.{eq_by_cmp}
+use Rattle.std.proofs.Common.{◌≡◌, ◌≤◌, List, [], ◌∷◌, map, length, Option, None, Some, refl, ap}
+use Rattle.std.proofs.Common.{sym, ◌∙◌, arith}
+use Rattle.std.specs.FinMap.{get}
+use Rattle.std.specs.List.{AllByRecursion}
+use Rattle.signal_records.specs.Row.{key_of}
+use Rattle.signal_records.specs.TimingSet.{Rows}
 use Rattle.signal_records.specs.declared.key.Key.{Key}
 use Rattle.signal_records.specs.declared.record.Row.{Row}
 use Rattle.signal_records.specs.declared.record.Change.{Change}
-use Rattle.signal_records.specs.Key.{key_cmp}
-use Rattle.draft_core.specs.DraftRows.{Said, silent, changed_key, said_by, said_at, later_of, row_at, overlaid}
-use Rattle.draft_core.specs.Moves.{committed_after, drafted_in, row_after, timing_writes}
-use Rattle.draft_core.specs.Moves.{draft_writes}
-use Rattle.draft_core.specs.Writes.{settling, dropping}
+use Rattle.signal_records.specs.declared.record.Change.TheVariants.{Put, Remove}
+use Rattle.draft_core.specs.DraftRows.{Said, silent, said_at, row_at, overlaid}
+use Rattle.draft_core.specs.Moves.{committed_after, committed_by, drafted_in, row_after}
+use Rattle.draft_core.specs.Moves.{said_after, timing_write, timing_writes}
+use Rattle.draft_core.specs.Moves.{draft_write, draft_writes}
+use Rattle.draft_core.specs.News.{AddsNone}
+use Rattle.draft_core.specs.Writes.{settling, dropping, put_over, settled_by}
+use Rattle.draft_core.specs.declared.timing.TimingChange.{TimingChange}
+use Rattle.draft_core.specs.declared.timing.TimingChange.TheVariants.{CommittedNew, Committed}
 use Rattle.draft_core.proofs.Overlaid.{overlaid-overlaid}
+
+-- ---- a draft row as a change of the committed set
+
+-- it is the change itself, or adds the row that the change puts, where none is committed
+pub settled_either : (P : TimingChange → Type 0) (set : Rows) (change : Change)
+    → P (Committed change)
+    → ((row : Row) → change ≡ Put row → get set (key_of row) ≡ None → P (CommittedNew row))
+    → P (settled_by set change)
+settled_either P set (Remove key) kept added = kept
+settled_either P set (Put row) kept added =
+    elim (get set (key_of row)) as (λ o. get set (key_of row) ≡ o → P (put_over o row)) [
+      | None ↦ λ none. added row refl none
+      | Some stands ↦ λ there. kept
+    ] refl
+
+pub settled_commits : (set : Rows) (change : Change) (key : Key) (committed : Option Row)
+    → committed_by (settled_by set change) key committed ≡ overlaid committed (said_at change key)
+settled_commits set change key committed =
+    settled_either (λ one. committed_by one key committed ≡ overlaid committed (said_at change key))
+    set change refl
+    (λ row is none. ap (λ (c : Change). overlaid committed (said_at c key)) (sym is))
+
+settled_says : (set : Rows) (change : Change) (key : Key) (said : Said)
+    → said_after (settled_by set change) key said ≡ said
+settled_says set change key said =
+    settled_either (λ one. said_after one key said ≡ said) set change refl (λ row is none. refl)
+
+settled_writes : (set : Rows) (change : Change)
+    → (timing_write (settled_by set change) ≡ 1) × (draft_write (settled_by set change) ≡ 0)
+settled_writes set change =
+    settled_either (λ one. (timing_write one ≡ 1) × (draft_write one ≡ 0)) set change (refl, refl)
+    (λ row is none. (refl, refl))
+
+settled_drafts : (set : Rows) (change : Change) (rest : List TimingChange)
+    → drafted_in (settled_by set change ∷ rest) ≡ drafted_in rest
+settled_drafts set change rest =
+    settled_either (λ one. drafted_in (one ∷ rest) ≡ drafted_in rest) set change refl
+    (λ row is none. refl)
 
 -- ---- a commit makes the draft rows changes of the committed ones, and none is left
 
-pub committed_after-settling : (changes : List Change) (key : Key) (committed : Option Row) → committed_after (settling changes) key committed ≡ overlaid committed (row_at changes key)
-committed_after-settling [] key committed = refl
-committed_after-settling (change ∷ changes) key committed =
-    committed_after-settling changes key (overlaid committed (said_at change key))
+abbrev pub committing : Rows → List Change → List TimingChange
+committing set = map (settled_by set)
+
+committed_after-committing : (set : Rows) (changes : List Change) (key : Key)
+    (committed : Option Row)
+    → committed_after (committing set changes) key committed
+    ≡ overlaid committed (row_at changes key)
+committed_after-committing set [] key committed = refl
+committed_after-committing set (change ∷ changes) key committed =
+    committed_after-committing set changes key (committed_by (settled_by set change) key committed)
+    ∙ ap (λ c. overlaid c (row_at changes key)) (settled_commits set change key committed)
     ∙ overlaid-overlaid committed (row_at changes key) (said_at change key)
 
--- where the changes name the key, or no row is there, none is left
-gone_step : (b : Bool) (at said by : Said) → (later_of at (cond b by silent) ≡ silent
-    → said ≡ silent) → at ≡ silent → cond b silent said ≡ silent
-gone_step true at said by h e = refl
-gone_step false at said by h e = h (ap (λ s. later_of s silent) e)
+row_after-committing : (set : Rows) (changes : List Change) (key : Key) (said : Said)
+    → row_after (committing set changes) key said ≡ said
+row_after-committing set [] key said = refl
+row_after-committing set (change ∷ changes) key said =
+    row_after-committing set changes key (said_after (settled_by set change) key said)
+    ∙ settled_says set change key said
 
-pub row_after-settling : (changes : List Change) (key : Key) (said : Said)
-    → (row_at changes key ≡ silent → said ≡ silent) → row_after (settling changes) key said ≡ silent
-row_after-settling [] key said h = h refl
-row_after-settling (change ∷ changes) key said h =
-    row_after-settling changes key _ (gone_step (eq_by_cmp key_cmp key (changed_key change))
-    (row_at changes key) said (said_by change) h)
+pub committed_after-settling : (set : Rows) (changes : List Change) (key : Key)
+    (committed : Option Row)
+    → committed_after (settling set changes) key committed
+    ≡ overlaid committed (row_at changes key)
+committed_after-settling set [] key committed = refl
+committed_after-settling set (change ∷ changes) key committed =
+    committed_after-committing set (change ∷ changes) key committed
+
+-- none is left, where none stands but those that the changes tell of
+pub row_after-settling : (set : Rows) (changes : List Change) (key : Key) (said : Said)
+    → (row_at changes key ≡ silent → said ≡ silent)
+    → row_after (settling set changes) key said ≡ silent
+row_after-settling set [] key said h = h refl
+row_after-settling set (change ∷ changes) key said h =
+    row_after-committing set (change ∷ changes) key silent
 
 -- ---- an abandoned draft leaves the committed rows, and no draft row
 
 pub committed_after-dropping : (changes : List Change) (key : Key) (committed : Option Row) → committed_after (dropping changes) key committed ≡ committed
 committed_after-dropping [] key committed = refl
-committed_after-dropping (change ∷ changes) key committed = committed_after-dropping changes key committed
+committed_after-dropping (change ∷ changes) key committed = refl
 
 pub row_after-dropping : (changes : List Change) (key : Key) (said : Said)
     → (row_at changes key ≡ silent → said ≡ silent) → row_after (dropping changes) key said ≡ silent
 row_after-dropping [] key said h = h refl
-row_after-dropping (change ∷ changes) key said h =
-    row_after-dropping changes key _ (gone_step (eq_by_cmp key_cmp key (changed_key change))
-    (row_at changes key) said (said_by change) h)
+row_after-dropping (change ∷ changes) key said h = refl
+
+-- it adds none
+pub dropping_adds : (changes : List Change) → AllByRecursion AddsNone (dropping changes)
+dropping_adds [] = tt
+dropping_adds (change ∷ changes) = (tt, tt)
 
 -- ---- which draft rows are written, and how many rows
 
-pub drafted_in-settling : (changes : List Change) → drafted_in (settling changes) ≡ []
-drafted_in-settling [] = refl
-drafted_in-settling (change ∷ changes) = drafted_in-settling changes
+drafted_in-committing : (set : Rows) (changes : List Change)
+    → drafted_in (committing set changes) ≡ []
+drafted_in-committing set [] = refl
+drafted_in-committing set (change ∷ changes) =
+    settled_drafts set change (committing set changes) ∙ drafted_in-committing set changes
+
+pub drafted_in-settling : (set : Rows) (changes : List Change)
+    → drafted_in (settling set changes) ≡ []
+drafted_in-settling set [] = refl
+drafted_in-settling set (change ∷ changes) = drafted_in-committing set (change ∷ changes)
 
 pub drafted_in-dropping : (changes : List Change) → drafted_in (dropping changes) ≡ []
 drafted_in-dropping [] = refl
-drafted_in-dropping (change ∷ changes) = drafted_in-dropping changes
+drafted_in-dropping (change ∷ changes) = refl
 
-pub settling_writes : (changes : List Change) → (timing_writes (settling changes) ≤ length changes) × (draft_writes (settling changes) ≤ length changes)
-settling_writes [] = (omega arith, omega arith)
-settling_writes (change ∷ changes) = let rest = settling_writes changes in (omega (arith, rest.0), omega (arith, rest.1))
+committing_writes : (set : Rows) (changes : List Change)
+    → (timing_writes (committing set changes) ≡ length changes)
+    × (draft_writes (committing set changes) ≡ 0)
+committing_writes set [] = (refl, refl)
+committing_writes set (change ∷ changes) =
+    let rest = committing_writes set changes in
+    let one = settled_writes set change in
+    (omega (arith, rest.0, one.0), omega (arith, rest.1, one.1))
+
+pub settling_writes : (set : Rows) (changes : List Change)
+    → (timing_writes (settling set changes) ≤ length changes)
+    × (draft_writes (settling set changes) ≤ length changes)
+settling_writes set [] = (omega arith, omega arith)
+settling_writes set (change ∷ changes) =
+    let all = committing_writes set (change ∷ changes) in
+    (omega (arith, all.0), omega (arith, all.1))
 
 pub dropping_writes : (changes : List Change) → (timing_writes (dropping changes) ≡ 0) × (draft_writes (dropping changes) ≤ length changes)
 dropping_writes [] = (refl, omega arith)
-dropping_writes (change ∷ changes) = let rest = dropping_writes changes in (rest.0, omega (arith, rest.1))
+dropping_writes (change ∷ changes) = (omega arith, omega arith)

@@ -10,9 +10,11 @@ use Rattle.signal_records.specs.declared.key.Key.{Key}
 use Rattle.signal_records.specs.declared.record.Row.{Row}
 use Rattle.signal_records.specs.declared.record.Change.{Change}
 use Rattle.draft_core.specs.declared.timing.TimingChange.{TimingChange}
+use Rattle.draft_core.specs.declared.timing.TimingChange.TheVariants.{DraftedNew, Drafted}
 use Rattle.draft_core.specs.DraftRows.{Said, silent, leaves, removes, changed_key, left_by}
 use Rattle.draft_core.specs.DraftRows.{overlaid, row_at}
 use Rattle.draft_core.specs.Moves.{drafted_in, draft_writes, row_after, timing_writes}
+use Rattle.draft_core.specs.News.{AreNew}
 
 -- a change leaves at its key what is committed there
 abbrev pub SaysCommitted : Rows → Change → Type 0
@@ -47,6 +49,11 @@ KeepsOnlyChanges committed delta changes written =
     (key : Key) → KeepsOnlyChange (get committed key) (row_at delta key) (row_at changes key)
     (row_after written key (row_at delta key))
 
+-- a change as a draft row, which is new where its key has none
+abbrev pub drafted_as : Bool → Change → TimingChange
+drafted_as true change = DraftedNew change
+drafted_as false change = Drafted change
+
 -- each of these changes is one of those
 abbrev pub AreAmong : List Change → List Change → Type 0
 AreAmong some changes = (change : Change) → Contains some change → Contains changes change
@@ -55,6 +62,7 @@ AreAmong some changes = (change : Change) → Contains some change → Contains 
 pub record DraftsChanges (committed : Rows) (delta changes : List Change)
     (written : List TimingChange) : Type 0 where
   pub keeps : KeepsOnlyChanges committed delta changes written
+  pub news : AreNew committed delta written
   pub among : AreAmong (drafted_in written) changes
   pub no_timing : timing_writes written ≡ 0
   pub few : draft_writes written ≤ length changes

@@ -2,6 +2,7 @@ pub mod Within
 pub mod Transaction
 pub mod DraftRows
 pub mod Moves
+pub mod News
 pub mod Drafting
 pub mod Writes
 pub mod Sound

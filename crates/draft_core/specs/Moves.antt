@@ -7,6 +7,7 @@ use Rattle.signal_records.specs.Key.{key_cmp}
 use Rattle.signal_records.specs.declared.key.Key.{Key}
 use Rattle.signal_records.specs.declared.record.Row.{Row}
 use Rattle.signal_records.specs.declared.record.Change.{Change}
+use Rattle.signal_records.specs.declared.record.Change.TheVariants.{Put}
 use Rattle.signal_rules.specs.Violations.{violations_of}
 use Rattle.draft_core.specs.declared.state.DbState.{DbState}
 use Rattle.draft_core.specs.declared.state.DbState.TheVariants.{Normal, Transaction as InTransaction}
@@ -19,7 +20,9 @@ use Rattle.draft_core.specs.declared.timing.Timing.{Timing}
 use Rattle.draft_core.specs.declared.timing.Reach.{Reach}
 use Rattle.draft_core.specs.declared.timing.Move.{Move}
 use Rattle.draft_core.specs.declared.timing.TimingChange.{TimingChange}
-use Rattle.draft_core.specs.declared.timing.TimingChange.TheVariants.{Committed, Drafted, DraftGone}
+use Rattle.draft_core.specs.declared.timing.TimingChange.TheVariants.{CommittedNew, Committed}
+use Rattle.draft_core.specs.declared.timing.TimingChange.TheVariants.{DraftedNew, Drafted}
+use Rattle.draft_core.specs.declared.timing.TimingChange.TheVariants.{DraftGone, DraftDropped}
 use Rattle.draft_core.specs.declared.refusal.DraftRefusal.{DraftRefusal}
 use Rattle.draft_core.specs.declared.refusal.DraftRefusal.TheVariants.{NotNormal, NotTransaction, NotOwner, NotVerify, NotDone, VerifyFailed, RevisionFull, NoMemory}
 use Rattle.draft_core.specs.DraftRows.{HaveOnlyChanges, Said, silent, RowsByKey, RowStands, Stands}
@@ -28,42 +31,72 @@ use Rattle.draft_core.specs.Transaction.{TimingSide, holder_of, in_stage, state_
 
 -- ---- what a list of changes makes of the rows
 
+-- the committed row at a key after one change
+abbrev pub committed_by : TimingChange → Key → Option Row → Option Row
+committed_by (CommittedNew row) key committed = overlaid committed (said_at (Put row) key)
+committed_by (Committed change) key committed = overlaid committed (said_at change key)
+committed_by (DraftedNew change) key committed = committed
+committed_by (Drafted change) key committed = committed
+committed_by (DraftGone gone) key committed = committed
+committed_by DraftDropped key committed = committed
+
 -- the committed row at a key after changes
 abbrev pub committed_after : List TimingChange → Key → Option Row → Option Row
 committed_after [] key committed = committed
-committed_after (Committed change ∷ changes) key committed = committed_after changes key (overlaid committed (said_at change key))
-committed_after (Drafted change ∷ changes) key committed = committed_after changes key committed
-committed_after (DraftGone gone ∷ changes) key committed = committed_after changes key committed
+committed_after (change ∷ changes) key committed =
+    committed_after changes key (committed_by change key committed)
+
+-- what the draft rows say of a key after one change
+abbrev pub said_after : TimingChange → Key → Said → Said
+said_after (CommittedNew row) key said = said
+said_after (Committed change) key said = said
+said_after (DraftedNew change) key said = later_of (said_at change key) said
+said_after (Drafted change) key said = later_of (said_at change key) said
+said_after (DraftGone gone) key said = cond (eq_by_cmp key_cmp key gone) silent said
+said_after DraftDropped key said = silent
 
 -- what the draft rows say of a key after changes
 abbrev pub row_after : List TimingChange → Key → Said → Said
 row_after [] key said = said
-row_after (Committed change ∷ changes) key said = row_after changes key said
-row_after (Drafted change ∷ changes) key said =
-    row_after changes key (later_of (said_at change key) said)
-row_after (DraftGone gone ∷ changes) key said =
-    row_after changes key (cond (eq_by_cmp key_cmp key gone) silent said)
+row_after (change ∷ changes) key said = row_after changes key (said_after change key said)
+
+-- how many timing rows a change writes
+abbrev pub timing_write : TimingChange → ℕ
+timing_write (CommittedNew row) = 1
+timing_write (Committed change) = 1
+timing_write (DraftedNew change) = 0
+timing_write (Drafted change) = 0
+timing_write (DraftGone gone) = 0
+timing_write DraftDropped = 0
 
 -- how many timing rows changes write
 abbrev pub timing_writes : List TimingChange → ℕ
 timing_writes [] = 0
-timing_writes (Committed change ∷ changes) = timing_writes changes + 1
-timing_writes (Drafted change ∷ changes) = timing_writes changes
-timing_writes (DraftGone gone ∷ changes) = timing_writes changes
+timing_writes (change ∷ changes) = timing_writes changes + timing_write change
+
+-- how many draft rows a change writes; to drop them all is one write
+abbrev pub draft_write : TimingChange → ℕ
+draft_write (CommittedNew row) = 0
+draft_write (Committed change) = 0
+draft_write (DraftedNew change) = 1
+draft_write (Drafted change) = 1
+draft_write (DraftGone gone) = 1
+draft_write DraftDropped = 1
 
 -- how many draft rows changes write
 abbrev pub draft_writes : List TimingChange → ℕ
 draft_writes [] = 0
-draft_writes (Committed change ∷ changes) = draft_writes changes
-draft_writes (Drafted change ∷ changes) = draft_writes changes + 1
-draft_writes (DraftGone gone ∷ changes) = draft_writes changes + 1
+draft_writes (change ∷ changes) = draft_writes changes + draft_write change
 
 -- the changes that are kept as draft rows, in their order
 abbrev pub drafted_in : List TimingChange → List Change
 drafted_in [] = []
+drafted_in (CommittedNew row ∷ changes) = drafted_in changes
 drafted_in (Committed change ∷ changes) = drafted_in changes
+drafted_in (DraftedNew change ∷ changes) = change ∷ drafted_in changes
 drafted_in (Drafted change ∷ changes) = change ∷ drafted_in changes
 drafted_in (DraftGone gone ∷ changes) = drafted_in changes
+drafted_in (DraftDropped ∷ changes) = drafted_in changes
 
 -- ---- a move, and the line of the table that it follows
 

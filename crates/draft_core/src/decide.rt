@@ -6,6 +6,7 @@ ghost use Rattle.draft_core.specs.Transaction as table;
 ghost use Rattle.draft_core.specs.Transaction.{TimingSide, Draft};
 ghost use Rattle.draft_core.specs.Drafting.{AreAmong, KeepsOnlyChanges};
 ghost use Rattle.draft_core.specs.DraftRows.{RowsByKey, Stands};
+ghost use Rattle.draft_core.specs.News.{AddsOnlyNew};
 ghost use Rattle.draft_core.specs.Moves as moves;
 ghost use Rattle.draft_core.specs.Moves.{Follows, FollowsLine, FollowsSoundLine, IsMemory};
 ghost use Rattle.draft_core.specs.Moves.{IsUnsettled, Never, RefusesFirst};
@@ -76,6 +77,7 @@ pub fn edit(
     ensures refuses { RefusesFirst (table.refused_by timing.now.holder Stage.Transaction DraftRefusal.NotTransaction clerk.now) IsMemory result }
     ensures keeps { IfOk result (λ move.
         KeepsOnlyChanges timing.now.committed timing.now.delta changes.now move.changes) }
+    ensures news { IfOk result (λ move. AddsOnlyNew Reach.Plan timing.now move.changes) }
     ensures drafts { IfOk result (λ move. AreAmong (drafted_in move.changes) changes.now) }
     ensures bounds { IfOk result (λ move. (timing_writes move.changes ≡ 0)
         × (draft_writes move.changes ≤ length changes.now)) }
@@ -132,6 +134,7 @@ pub fn commit(alloc: Global, timing: &Timing, clerk: &Words<40>) -> Result<Move,
     ensures line { FollowsSoundLine Reach.Plan timing.now clerk.now result
         (λ side. table.committed side clerk.now) }
     ensures refuses { RefusesFirst (table.refused_by timing.now.holder Stage.Done DraftRefusal.NotDone clerk.now) IsUnsettled result }
+    ensures news { IfOk result (λ move. AddsOnlyNew Reach.Plan timing.now move.changes) }
     ensures drafts { IfOk result (λ move. drafted_in move.changes ≡ []) }
     ensures bounds { IfOk result (λ move. (timing_writes move.changes ≤ length timing.now.delta)
         × (draft_writes move.changes ≤ length timing.now.delta)) }
@@ -150,13 +153,14 @@ fn settled(alloc: Global, timing: &Timing) -> Result<Move, DraftRefusal>
         violations_of side.committed ≡ [] → Follows rows side clerk result
         (table.committed_with side draft (violations_of draft.set)) }
     ensures refuses { IfErr result IsUnsettled }
+    ensures news { IfOk result (λ move. AddsOnlyNew Reach.Plan timing.now move.changes) }
     ensures drafts { IfOk result (λ move. drafted_in move.changes ≡ []) }
     ensures bounds { IfOk result (λ move. (timing_writes move.changes ≤ length timing.now.delta)
         × (draft_writes move.changes ≤ length timing.now.delta)) }
 {
     let found = violations_after(alloc, &timing.committed, timing.delta.as_slice())?;
     let revision = next_revision(timing.revision, found.as_slice())?;
-    let changes = settling(alloc, timing.delta.as_slice())?;
+    let changes = settling(alloc, &timing.committed, timing.delta.as_slice())?;
     Ok(moves_to(revision, Holding::Dropped, Verdict::NotDone, changes))
 }
 
@@ -183,6 +187,7 @@ pub fn reopen(alloc: Global, timing: &Timing, clerk: &Words<40>) -> Result<Move,
 pub fn abandon(alloc: Global, timing: &Timing, _clerk: &Words<40>) -> Result<Move, DraftRefusal>
     ensures line { FollowsLine Reach.Drafts timing.now _clerk.now result table.abandoned }
     ensures refuses { RefusesFirst (table.refused_if_free timing.now.holder) IsMemory result }
+    ensures news { IfOk result (λ move. AddsOnlyNew Reach.Drafts timing.now move.changes) }
     ensures drafts { IfOk result (λ move. drafted_in move.changes ≡ []) }
     ensures bounds { IfOk result (λ move. (timing_writes move.changes ≡ 0)
         × (draft_writes move.changes ≤ length timing.now.delta)) }

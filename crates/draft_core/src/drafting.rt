@@ -1,7 +1,7 @@
 //! The rows that an edit writes: only what changes the committed set is kept.
 
-ghost use Rattle.std.specs.Prelude.{IfOk, IsTrue};
-ghost use Rattle.draft_core.specs.Drafting.{AreNamed, DraftsChanges, SaysCommitted};
+ghost use Rattle.std.specs.Prelude.{◌≡◌, IfOk, IsTrue};
+ghost use Rattle.draft_core.specs.Drafting.{AreNamed, DraftsChanges, SaysCommitted, drafted_as};
 
 use crate::overlaying::{changed_key, copy_change};
 use crate::timing::{Timing, TimingChange, TimingChanges};
@@ -33,6 +33,18 @@ fn says_committed(committed: &TimingSet, change: &Change) -> bool
     }
 }
 
+/// The change as a draft row, which is new where its key has none.
+fn drafted_row(change: &Change, is_new: bool) -> Result<TimingChange, NoMemory>
+    ensures { IfOk result (λ drafted. drafted ≡ drafted_as is_new change.now) }
+{
+    let kept = copy_change(change)?;
+    if is_new {
+        Ok(TimingChange::DraftedNew(kept))
+    } else {
+        Ok(TimingChange::Drafted(kept))
+    }
+}
+
 /// Each change that leaves another row than the committed one is kept as a draft row. Where it
 /// leaves the committed one, the draft row of its key goes, if one is there by then. Changes are
 /// judged in their order, each against the committed set alone, so the last one of a key decides.
@@ -49,8 +61,8 @@ pub(crate) fn drafting(
     for change in changes {
         let key = changed_key(change);
         if !says_committed(&timing.committed, change) {
-            drafted.insert(key)?;
-            written.push(TimingChange::Drafted(copy_change(change)?))?;
+            let is_new = drafted.insert(key)?;
+            written.push(drafted_row(change, is_new)?)?;
         } else if drafted.remove(&key) {
             written.push(TimingChange::DraftGone(key))?;
         }

@@ -17,9 +17,7 @@ pub fn overlay(
 ) -> Result<TimingSet, NoMemory>
     ensures { IfOk result (λ set. set ≡ after_changes committed.now changes.now) }
 {
-    let mut set = committed.copy(alloc)?;
-    set.apply(alloc, changes)?;
-    Ok(set)
+    committed.copy(alloc)?.changed(changes)
 }
 
 /// An equal change.

@@ -3,8 +3,7 @@
 use crate::changes::Changes;
 use crate::revision::Revision;
 use crate::state::{DbState, Holder, Holding, Verdict};
-use signal_records::{Change, Key, TimingSet};
-use std::marker::Model;
+use signal_records::{Change, Key, Listing, Row, TimingSet};
 
 /// The timing side of an intersection, as it is kept: the draft as its changed rows.
 #[derive(Drop)]
@@ -33,47 +32,22 @@ pub enum Reach {
 /// A row that a decision changes.
 #[derive(Drop)]
 pub enum TimingChange {
+    /// A timing row is added, where none stands under its key.
+    CommittedNew(Row),
     /// A timing row is put or removed.
     Committed(Change),
+    /// A draft row that keeps the change is added, where its key has none.
+    DraftedNew(Change),
     /// A draft row keeps the change.
     Drafted(Change),
     /// The draft row under the key goes.
     DraftGone(Key),
+    /// All draft rows go.
+    DraftDropped,
 }
 
-/// Rows that a decision changes, in their order. They are seen as a list.
-#[derive(Drop)]
-pub struct TimingChanges {
-    list: Vec<TimingChange>,
-}
-
-impl Model for TimingChanges {
-    ghost use Rattle.std.specs.Prelude.{List};
-    ghost use Rattle.draft_core.specs.declared.timing.TimingChange.{TimingChange};
-
-    ghost Value = { List TimingChange };
-
-    ghost view = { λ c. c.list.items };
-}
-
-impl TimingChanges {
-    ghost use Rattle.std.specs.Prelude.{◌≡◌};
-
-    /// The changes of a list.
-    pub fn new(list: Vec<TimingChange>) -> TimingChanges
-        ensures { result ≡ list.items }
-    {
-        TimingChanges { list }
-    }
-
-    /// The list of them, without memory.
-    pub fn into_vec(self) -> Vec<TimingChange>
-        ensures { result.items ≡ self }
-    {
-        let TimingChanges { list } = self;
-        list
-    }
-}
+/// Rows that a decision changes, in their order.
+pub type TimingChanges = Listing<TimingChange>;
 
 /// A step of the transaction.
 #[derive(Drop)]

@@ -3,30 +3,53 @@
 ghost use Rattle.std.specs.Prelude.{◌≡◌, IfOk};
 ghost use Rattle.draft_core.specs.Writes as writes;
 
-use crate::overlaying::{changed_key, copy_change};
 use crate::timing::{TimingChange, TimingChanges};
-use signal_records::{Change, NoMemory};
+use signal_records::{Change, NoMemory, TimingSet};
 use std::alloc::Global;
 
-/// Each draft row is made a change of the committed set, and goes.
-pub(crate) fn settling(alloc: Global, changes: &[Change]) -> Result<TimingChanges, NoMemory>
-    ensures { IfOk result (λ made. made ≡ writes.settling changes.now) }
+/// The draft rows go, where there are any.
+fn dropped(alloc: Global, changes: &[Change]) -> Result<Vec<TimingChange>, NoMemory>
+    ensures { IfOk result (λ made. made.items ≡ writes.dropping changes.now) }
 {
     let mut made = Vec::new(alloc);
-    for change in changes {
-        made.push(TimingChange::Committed(copy_change(change)?))?;
-        made.push(TimingChange::DraftGone(changed_key(change)))?;
+    if !changes.is_empty() {
+        made.push(TimingChange::DraftDropped)?;
     }
-    Ok(TimingChanges::new(made))
+    Ok(made)
 }
 
-/// Each draft row goes.
+/// The draft rows go, where there are any.
 pub(crate) fn dropping(alloc: Global, changes: &[Change]) -> Result<TimingChanges, NoMemory>
     ensures { IfOk result (λ made. made ≡ writes.dropping changes.now) }
 {
-    let mut made = Vec::new(alloc);
+    Ok(TimingChanges::new(dropped(alloc, changes)?))
+}
+
+/// A draft row as a change of the committed set. A row that it puts is new where none is committed
+/// under its key.
+fn settled_by(committed: &TimingSet, change: &Change) -> Result<TimingChange, NoMemory>
+    ensures { IfOk result (λ settled. settled ≡ writes.settled_by committed.now change.now) }
+{
+    match change {
+        Change::Put(row) => match committed.get(&row.key()) {
+            Some(_) => Ok(TimingChange::Committed(Change::Put(row.clone()?))),
+            None => Ok(TimingChange::CommittedNew(row.clone()?)),
+        },
+        Change::Remove(key) => Ok(TimingChange::Committed(Change::Remove(*key))),
+    }
+}
+
+/// The draft rows go, and each is made a change of the committed set.
+pub(crate) fn settling(
+    alloc: Global,
+    committed: &TimingSet,
+    changes: &[Change],
+) -> Result<TimingChanges, NoMemory>
+    ensures { IfOk result (λ made. made ≡ writes.settling committed.now changes.now) }
+{
+    let mut made = dropped(alloc, changes)?;
     for change in changes {
-        made.push(TimingChange::DraftGone(changed_key(change)))?;
+        made.push(settled_by(committed, change)?)?;
     }
     Ok(TimingChanges::new(made))
 }

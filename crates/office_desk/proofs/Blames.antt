@@ -5,7 +5,7 @@ use Rattle.std.proofs.lemmas.List.{take_more}
 use Rattle.cabinet_core.specs.declared.command.RecordCommand.{RecordCommand}
 use Rattle.office_tables_shelf.specs.Content.{Content}
 use Rattle.office_tables_shelf.specs.declared.shelf.ShelfFault.{ShelfFault}
-use Rattle.office_tables_shelf.specs.declared.shelf.ShelfFault.TheVariants.{NoMemory, Store, Damaged}
+use Rattle.office_tables_shelf.specs.declared.shelf.ShelfFault.TheVariants.{Damaged}
 use Rattle.office_desk_cabinet.specs.Registers.{IsOneOf}
 use Rattle.office_tables_shelf.specs.declared.rows.RowChange.{RowChange}
 use Rattle.office_desk.specs.Blaming.{AreTaken, BlamesRightly, IsFirstRefused, IsTakenAfter}
@@ -47,10 +47,9 @@ unavailable_blames is_honest tables command said is =
 
 -- a fault that is told as its refusal
 pub fault_blames : (is_honest : Type 0) (tables : Content) (command : Command) (fault : ShelfFault) (said : Reply) → said ≡ Refused (refusal_of fault) → BlamesRightly is_honest tables command said
-fault_blames is_honest tables command NoMemory said is = unavailable_blames is_honest tables command said is
-fault_blames is_honest tables command Store said is = unavailable_blames is_honest tables command said is
 fault_blames is_honest tables command Damaged said is =
     blames_none is_honest tables command said (other_refusal refusal.Damaged said is (λ at cause e. cc))
+fault_blames is_honest tables command _ said is = unavailable_blames is_honest tables command said is
 
 -- ---- a reply that blames one
 
@@ -83,9 +82,14 @@ taken_more stored first mid after [] c rows taken now list =
     (rows, subst (λ (m : List RowChange). IsTakenAfter stored m c rows) same now, list ∙ ap (λ (m : List RowChange). m ++ rows) same)
 taken_more stored first mid after (b ∷ bs) c rows taken now list = (taken.0, taken.1, taken_more stored (first ++ taken.0) mid after bs c rows taken.2 now list)
 
+-- how a record was taken, with the counts before it and after it
+abbrev pub WentOn : Taken → (added same added_now same_now : ℕ) → Type 0
+WentOn t added same added_now same_now =
+    ((t ≡ taken.Added) × (added_now ≡ added + 1) × (same_now ≡ same))
+    ⊎ ((t ≡ taken.Same) × (added_now ≡ added) × (same_now ≡ same + 1))
+
 pub taken_next : (stored : Content) (before : List RowChange) (c : RecordCommand) (t : Taken) (after : List RowChange) (records : List RecordCommand) (added_now added same_now same : ℕ)
-    → (((t ≡ taken.Added) × (added_now ≡ added + 1) × (same_now ≡ same)) ⊎ ((t ≡ taken.Same) × (added_now ≡ added) × (same_now ≡ same + 1)))
-    → TakesLine stored before c t after → AreTaken stored [] records before → AreTaken stored [] (records ++ c ∷ []) after
+    → WentOn t added same added_now same_now → TakesLine stored before c t after → AreTaken stored [] records before → AreTaken stored [] (records ++ c ∷ []) after
 taken_next stored before c t after records added_now added same_now same (inl new) takes so_far =
     let now = subst (λ (k : Taken). TakesLine stored before c k after) new.0 takes in
     taken_more stored [] before after records c now.0 so_far (inl now.1) now.2

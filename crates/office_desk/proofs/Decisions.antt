@@ -1,14 +1,17 @@
 -- Decisions that write nothing.
-use Rattle.std.proofs.Common.{◌≡◌, ◌≢◌, ◌≤◌, ℕ, List, [], Result, Ok, Err, sym, subst, ◌∙◌, arith}
+use Rattle.std.proofs.Common.{◌≡◌, ◌≢◌, ◌≤◌, ℕ, List, [], Result, Ok, Err, ap, inr, sym, subst, ◌∙◌, arith}
 use Rattle.std.specs.Prelude.{IsErrAnd}
-use Rattle.office_tables_shelf.specs.Change.{changed_by}
+use Rattle.office_tables_shelf.specs.Change.{AddNew, changed_by}
 use Rattle.office_tables_shelf.specs.Content.{Content}
 use Rattle.office_tables_shelf.specs.Counts.{writes_in}
 use Rattle.office_tables_shelf.specs.declared.rows.RowChange.{RowChange}
 use Rattle.office_tables_shelf.specs.declared.shelf.ShelfFault.{ShelfFault}
 use Rattle.office_tables_shelf.specs.declared.shelf.ShelfFault.TheVariants.{Damaged}
 use Rattle.office_desk_cabinet.specs.Registers.{IsOneOf}
-use Rattle.office_desk.specs.Answers.{AnswersAny}
+use Rattle.office_desk.specs.Answers.{Answers}
+use Rattle.office_desk.specs.StandFor.{StandForSound}
+use Rattle.office_machine.specs.Office.{Office}
+use Rattle.office_machine.specs.Step.{answered}
 use Rattle.office_desk.specs.Changes.{most_writes}
 use Rattle.office_desk.specs.Damage.{MeetsDamage}
 use Rattle.office_desk.specs.Deciding.{Decides, IsDecision}
@@ -24,12 +27,26 @@ use Rattle.office_machine.specs.declared.reply.Reply.TheVariants.{Refused}
 pub refuses_so : (numbers : List ℕ) (told : Refusal) → IsOneOf numbers (number_of told) → RefusesBy numbers (Refused told)
 refuses_so numbers told among why e = subst (λ w. IsOneOf numbers (number_of w)) (let same : Refused told ≡ Refused why = e in let here : told ≡ why = cc in here) among
 
+-- what leaves the office is answered as the office says
+pub query_answers : (tables : Content) (office : Office) (command : Command) (said told : Reply) (changes : List RowChange)
+    → StandForSound tables office → answered office command ≡ (said, office) → told ≡ said → changes ≡ []
+    → Answers office command told (changed_by tables changes)
+query_answers tables office command said told changes stands is same none = record {
+  next = office;
+  step = inr (is ∙ (λ k. (sym same k, office)));
+  stand = subst (λ list. StandForSound (changed_by tables list) office) (sym none) stands;
+}
+
 -- a decision without a row to write: a refusal, or what a query shows
 pub told_decides : (is_honest : Type 0) (tables : Content) (command : Command) (said : Reply) (decided : Decided) → decided.reply ≡ said → said ≢ Refused refusal.Damaged → RefusesBy (numbers_of command) said → decided.changes.items ≡ []
-    → (is_honest → ¬ MeetsDamage tables command) → (is_honest → AnswersAny tables command decided.reply (changed_by tables decided.changes.items)) → IsDecision is_honest tables command decided
-told_decides is_honest tables command said decided is never named none whole step = record {
-  step = step;
+    → (is_honest → ¬ MeetsDamage tables command)
+    → (is_honest → (office : Office) → StandForSound tables office → answered office command ≡ (said, office))
+    → IsDecision is_honest tables command decided
+told_decides is_honest tables command said decided is never named none whole answers = record {
+  step = λ honest office stands. query_answers tables office command said decided.reply
+      decided.changes.items stands (answers honest office stands) is none;
   writes = λ honest table. subst (λ (list : List RowChange). writes_in table list ≤ most_writes tables command table) (sym none) (omega arith);
+  news = λ honest. subst (AddNew tables) (sym none) tt;
   refused = λ _. none;
   query = λ _. none;
   named = λ why e. named why (sym is ∙ e);
@@ -39,12 +56,15 @@ told_decides is_honest tables command said decided is never named none whole ste
 
 -- of an intersection that is not there
 pub unknown_decides : (is_honest : Type 0) (tables : Content) (command : Command) (decided : Decided) → decided.reply ≡ Refused refusal.UnknownIntersection → IsOneOf (numbers_of command) 10 → decided.changes.items ≡ []
-    → (is_honest → ¬ MeetsDamage tables command) → (is_honest → AnswersAny tables command decided.reply (changed_by tables decided.changes.items)) → IsDecision is_honest tables command decided
-unknown_decides is_honest tables command decided is known none whole step =
-    told_decides is_honest tables command (Refused refusal.UnknownIntersection) decided is (λ e. cc) (refuses_so (numbers_of command) refusal.UnknownIntersection known) none whole step
+    → (is_honest → ¬ MeetsDamage tables command)
+    → (is_honest → (office : Office) → StandForSound tables office → answered office command ≡ (Refused refusal.UnknownIntersection, office))
+    → IsDecision is_honest tables command decided
+unknown_decides is_honest tables command decided is known none whole answers =
+    told_decides is_honest tables command (Refused refusal.UnknownIntersection) decided is (λ e. cc) (refuses_so (numbers_of command) refusal.UnknownIntersection known) none whole answers
 
 -- a fault that is handed on
-pub fault_decides : (is_honest : Type 0) (tables : Content) (command : Command) (fault : ShelfFault) (result : Result Decided ShelfFault) → IsErrAnd result (λ e. e ≡ fault)
-    → (fault ≡ Damaged → is_honest → MeetsDamage tables command) → Decides is_honest tables command result
-fault_decides is_honest tables command fault (Ok decided) is damage = absurd is
-fault_decides is_honest tables command fault (Err other) is damage = λ damaged. damage (sym is ∙ damaged)
+pub fault_decides : {A : Type 0} (is_honest : Type 0) (tables : Content) (command : Command) (fault : ShelfFault) (inner : Result A ShelfFault) (result : Result Decided ShelfFault)
+    → inner ≡ Err fault → IsErrAnd result (λ e. e ≡ fault) → (inner ≡ Err Damaged → is_honest → MeetsDamage tables command) → Decides is_honest tables command result
+fault_decides is_honest tables command fault inner (Ok decided) was is damage = absurd is
+fault_decides is_honest tables command fault inner (Err other) was is damage =
+    λ damaged. damage (was ∙ ap (λ (f : ShelfFault). Err f) (sym is ∙ damaged))

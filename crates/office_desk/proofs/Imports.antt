@@ -1,10 +1,10 @@
 -- The records of an import, one after the other.
-use Rattle.std.proofs.Common.{◌≡◌, ◌+◌, ◌++◌, ◌≤◌, ◌<◌, ◌≢◌, ℕ, Bool, true, false, List, [], ◌∷◌, Option, Some, None, Result, Ok, length, drop, get_or, zero, suc, refl, ap, sym, subst, ◌∙◌, inl, inr, arith, subst₂, append-nil}
+use Rattle.std.proofs.Common.{◌≡◌, ◌+◌, ◌++◌, ◌≤◌, ◌<◌, ◌≢◌, ℕ, true, false, List, [], ◌∷◌, Option, Some, None, Result, Ok, length, drop, get_or, zero, suc, refl, ap, sym, subst, ◌∙◌, inl, inr, arith, subst₂}
 use Rattle.std.proofs.Math.Seq.{drop-cons}
 use Rattle.std.specs.Prelude.{◌⊎◌}
-use Rattle.cabinet_core.specs.Cabinet.{Line, added as added_line, same as same_line, refused as refused_line}
+use Rattle.cabinet_core.specs.Cabinet.{Line, added as added_line, same as same_line}
 use Rattle.cabinet_core.specs.declared.command.RecordCommand.{RecordCommand}
-use Rattle.office_tables_shelf.specs.Change.{changed_by}
+use Rattle.office_tables_shelf.specs.Change.{AddNew, changed_by}
 use Rattle.office_tables_shelf.specs.Content.{Content}
 use Rattle.office_tables_shelf.specs.Counts.{writes_in}
 use Rattle.office_tables_shelf.specs.Shelf.{IsTold}
@@ -13,28 +13,27 @@ use Rattle.office_desk_cabinet.specs.Open.{StaysOpen}
 use Rattle.office_tables_shelf.specs.declared.rows.RowChange.{RowChange}
 use Rattle.office_tables_shelf.specs.declared.rows.Table.{Table}
 use Rattle.cabinet_core.specs.Register.{Register}
-use Rattle.cabinet_core.specs.Step.{after_line, after_record, line_at, with_record}
+use Rattle.cabinet_core.specs.Step.{after_line, line_at, with_record}
 use Rattle.office_desk_cabinet.proofs.KeptDamage.{meets_still, nothing_kept}
+use Rattle.office_desk_cabinet.proofs.News.{news_after, tells_new}
 use Rattle.office_desk_cabinet.specs.RegisterDamage.{KeepsDamage, MeetsRecordDamage, SparesDamage}
-use Rattle.office_desk_cabinet.specs.Registers.{RegistersFrom, line_told, most_record_writes, rows_told}
+use Rattle.office_desk_cabinet.specs.Registers.{RegistersFrom, most_record_writes}
 use Rattle.office_desk_cabinet.specs.RegisterStands.{RegisterStandsSound}
-use Rattle.office_desk_cabinet.specs.Lines.{TellsLine}
 use Rattle.office_desk_cabinet.specs.declared.registered.Registered.{Registered}
 use Rattle.office_desk_cabinet.specs.declared.registered.Registered.TheVariants as registered
-use Rattle.cabinet_core.specs.declared.refusal.CabinetRefusal.{CabinetRefusal}
 use Rattle.office_desk_cabinet.proofs.PendingLemmas.{changed_append}
+use Rattle.office_desk_cabinet.specs.Decides.{DecidesRecord}
 use Rattle.office_desk.specs.Answers.{AnswersAny}
 use Rattle.office_desk.specs.Changes.{IsRefused, most_import_writes, most_writes}
 use Rattle.office_desk.specs.Damage.{MeetsCabinetDamage, MeetsImportDamage}
 use Rattle.office_desk.specs.Deciding.{IsDecision}
-use Rattle.office_desk.specs.Importing.{ImportsAny, LeavesAnyTiming, TakesFrom, TakesLine, TakesRecord, TakesWhole, goes_on}
+use Rattle.office_desk.specs.Importing.{ImportsAny, LeavesAnyTiming, TakesFrom, TakesRecord, TakesWhole, goes_on, register_with}
 use Rattle.office_machine.specs.Office.{Office}
 use Rattle.office_desk.specs.Recording.{HasDamagedAbout, TellsAbout}
 use Rattle.office_machine.specs.Refusal.{line_of}
 use Rattle.office_desk.specs.StandFor.{StandForSound}
-use Rattle.office_desk.specs.Blaming.{IsRefusedAfter}
-use Rattle.office_desk.specs.Named.{number_of}
-use Rattle.office_machine.specs.Step.{cabinet_of, import_by, import_from, imported, is_known, refusal_of_record}
+use Rattle.office_desk.specs.Blaming.{AreTaken, IsTakenAfter}
+use Rattle.office_machine.specs.Step.{cabinet_of, import_by, import_from, imported, is_known}
 use Rattle.office_machine.specs.declared.command.Command.TheVariants as command
 use Rattle.office_desk.specs.declared.decided.Decided.{Decided}
 use Rattle.office_desk.specs.declared.importing.Taken.{Taken}
@@ -44,20 +43,18 @@ use Rattle.office_machine.specs.declared.refusal.Refusal.TheVariants as refusal
 use Rattle.office_machine.specs.declared.refusal.Refusal.TheVariants.{ImportRow}
 use Rattle.office_machine.specs.declared.reply.Reply.{Reply}
 use Rattle.office_machine.specs.declared.reply.Reply.TheVariants.{Imported, Refused}
-use Rattle.office_desk.proofs.Decisions.{refuses_so}
+use Rattle.office_desk.proofs.Blames.{WentOn}
+use Rattle.office_desk.proofs.Decisions.{query_answers, refuses_so}
 use Rattle.office_desk.proofs.Recorded.{gone_whole, record_whole, register_of, stands_after}
-use Rattle.office_desk.proofs.Shown.{query_answers}
 use Rattle.office_desk.proofs.Writes.{import_writes}
 
--- where the import goes on after a record, that was added or was there
-pub import_goes_on : {X : Type 0} → (P : Line → Type 0) (at : ℕ) (there : Bool) (line : Line) (added same : Result X Refusal) (done : X)
-    → (added ≡ Ok done → P added_line) → (same ≡ Ok done → P same_line) → import_by at there line added same ≡ Ok done → P line
-import_goes_on P at false line added same done new old is = absurd cc
-import_goes_on P at true added_line added same done new old is = new is
-import_goes_on P at true same_line added same done new old is = old is
-import_goes_on P at true (refused_line why) added same done new old is = absurd cc
-
 -- ---- rows after rows
+
+-- the tables after them
+rows_after : (stored : Content) (before rows after : List RowChange) → after ≡ before ++ rows
+    → changed_by stored after ≡ changed_by (changed_by stored before) rows
+rows_after stored before rows after list =
+    ap (changed_by stored) list ∙ changed_append stored before rows
 
 pub leaves_after : (first then : List RowChange) → LeavesAnyTiming first → LeavesAnyTiming then → LeavesAnyTiming (first ++ then)
 leaves_after first then one two tables =
@@ -128,26 +125,30 @@ first_goes office r c cs at added same t goes =
     ap (λ known. import_by at known (line_at r c) (import_from (at + 1) (added + 1) same (record office { register = with_record r c }) cs) (import_from (at + 1) added (same + 1) (record office { register = r }) cs)) (known_same office r (cabinet_of c))
     ∙ goes at (import_from (at + 1) (added + 1) same (record office { register = with_record r c }) cs) (import_from (at + 1) added (same + 1) (record office { register = r }) cs)
 
-pub imports_added : (stored : Content) (all rest : List RecordCommand) (c : RecordCommand) (cs : List RecordCommand) (at added same : ℕ) (before after : List RowChange) → rest ≡ c ∷ cs
-    → ImportsAny stored all rest at added same before → TakesRecord stored before c taken.Added after → ImportsAny stored all cs (at + 1) (added + 1) same after
-imports_added stored all rest c cs at added same before after is imports takes office stands =
-    let so_far = imports office stands in
-    let now = takes office stands so_far.register so_far.stand in
-    record {
-      register = with_record so_far.register c;
-      stand = now.stand;
-      goes = so_far.goes ∙ ap (import_from at added same (record office { register = so_far.register })) is ∙ first_goes office so_far.register c cs at added same taken.Added now.goes;
-    }
+-- where the first of them is added or was there, it goes on with the others
+goes_further : (office : Office) (r : Register) (c : RecordCommand) (cs : List RecordCommand) (at added same added_now same_now : ℕ) (t : Taken)
+    → WentOn t added same added_now same_now
+    → goes_on at t (import_from (at + 1) (added + 1) same (record office { register = with_record r c }) cs) (import_from (at + 1) added (same + 1) (record office { register = r }) cs)
+    ≡ import_from (at + 1) added_now same_now (record office { register = register_with t r c }) cs
+goes_further office r c cs at added same added_now same_now t (inl new) =
+    (λ k. goes_on at (new.0 k) (import_from (at + 1) (added + 1) same (record office { register = with_record r c }) cs) (import_from (at + 1) added (same + 1) (record office { register = r }) cs))
+    ∙ (λ k. import_from (at + 1) (sym new.1 k) (sym new.2 k) (record office { register = register_with (sym new.0 k) r c }) cs)
+goes_further office r c cs at added same added_now same_now t (inr old) =
+    (λ k. goes_on at (old.0 k) (import_from (at + 1) (added + 1) same (record office { register = with_record r c }) cs) (import_from (at + 1) added (same + 1) (record office { register = r }) cs))
+    ∙ (λ k. import_from (at + 1) (sym old.1 k) (sym old.2 k) (record office { register = register_with (sym old.0 k) r c }) cs)
 
-pub imports_same : (stored : Content) (all rest : List RecordCommand) (c : RecordCommand) (cs : List RecordCommand) (at added same : ℕ) (before after : List RowChange) → rest ≡ c ∷ cs
-    → ImportsAny stored all rest at added same before → TakesRecord stored before c taken.Same after → ImportsAny stored all cs (at + 1) added (same + 1) after
-imports_same stored all rest c cs at added same before after is imports takes office stands =
+pub imports_on : (stored : Content) (all rest : List RecordCommand) (c : RecordCommand) (cs : List RecordCommand) (at added same : ℕ) (before after : List RowChange) (t : Taken) (added_now same_now : ℕ) → rest ≡ c ∷ cs
+    → WentOn t added same added_now same_now
+    → ImportsAny stored all rest at added same before → TakesRecord stored before c t after → ImportsAny stored all cs (at + 1) added_now same_now after
+imports_on stored all rest c cs at added same before after t added_now same_now left went imports takes office stands =
     let so_far = imports office stands in
     let now = takes office stands so_far.register so_far.stand in
     record {
-      register = so_far.register;
+      register = register_with t so_far.register c;
       stand = now.stand;
-      goes = so_far.goes ∙ ap (import_from at added same (record office { register = so_far.register })) is ∙ first_goes office so_far.register c cs at added same taken.Same now.goes;
+      goes = so_far.goes ∙ ap (import_from at added same (record office { register = so_far.register })) left
+          ∙ first_goes office so_far.register c cs at added same t now.goes
+          ∙ goes_further office so_far.register c cs at added same added_now same_now t went;
     }
 
 -- the first refusal refuses them all
@@ -175,62 +176,40 @@ import_done stored all rest at added same pending changes said none imports leav
       stand = subst (λ list. StandForSound (changed_by stored list) next) (sym rows) (stands_after stored pending office done.register stands (leaves stored) done.stand);
     }
 
--- a record that is new: its rows come after those that are pending
-pub record_added : (stored seen : Content) (c : RecordCommand) (rows shown before after : List RowChange) (told : Registered) (office : Office) (r : Register)
-    → shown ≡ before → seen ≡ stored → true ≡ is_known office (cabinet_of c) → RegisterStandsSound (changed_by stored before) r
-    → ((r : Register) → RegisterStandsSound (changed_by seen shown) r → RegistersFrom (changed_by seen shown) c told r) → line_told told ≡ added_line → rows_told told ≡ rows → after ≡ before ++ rows
-    → TakesFrom stored c taken.Added after office r
-record_added stored seen c rows shown before after told office r slice same known stands registers is those list =
-    let tables : changed_by seen shown ≡ changed_by stored before = λ k. changed_by (same k) (slice k) in
-    let from = subst (λ t. RegistersFrom t c told r) tables (registers r (subst (λ t. RegisterStandsSound t r) (sym tables) stands)) in
-    let line : line_at r c ≡ added_line = sym from.line ∙ is in
-    record {
-      goes = λ at new old. (λ k. import_by at (sym known k) (line k) new old);
-      stand = subst (λ (t : Content). RegisterStandsSound t (with_record r c)) (sym (ap (changed_by stored) list ∙ changed_append stored before rows))
-          (subst (λ l. RegisterStandsSound (changed_by (changed_by stored before) rows) (after_line l (with_record r c) r)) line
-          (subst (λ t. RegisterStandsSound (changed_by (changed_by stored before) t) (after_record r c)) those from.stand));
-    }
+-- what was decided, of the tables as they were stored, and of what it is
+pub decided_now : {honest : Type 0} {seen stored : Content} {before : List RowChange} {c : RecordCommand} {told now : Registered}
+    → DecidesRecord honest seen before c (Ok told) → seen ≡ stored → told ≡ now → DecidesRecord honest stored before c (Ok now)
+decided_now {honest = honest} {before = before} {c = c} decides same is =
+    subst₂ (λ (t : Content) (d : Registered). DecidesRecord honest t before c (Ok d)) same is decides
 
--- both ways to go on at once: a record is new, or it was there
-pub imports_on : (stored : Content) (all rest : List RecordCommand) (c : RecordCommand) (cs : List RecordCommand) (at added same : ℕ) (before after : List RowChange) (t : Taken) (added_now same_now : ℕ) → rest ≡ c ∷ cs
-    → (((t ≡ taken.Added) × (added_now ≡ added + 1) × (same_now ≡ same)) ⊎ ((t ≡ taken.Same) × (added_now ≡ added) × (same_now ≡ same + 1)))
-    → ImportsAny stored all rest at added same before → TakesRecord stored before c t after → ImportsAny stored all cs (at + 1) added_now same_now after
-imports_on stored all rest c cs at added same before after t added_now same_now left (inl new) imports takes =
-    subst (λ n. ImportsAny stored all cs (at + 1) n same_now after) (sym new.1) (subst (λ n. ImportsAny stored all cs (at + 1) (added + 1) n after) (sym new.2)
-    (imports_added stored all rest c cs at added same before after left imports (subst (λ t. TakesRecord stored before c t after) new.0 takes)))
-imports_on stored all rest c cs at added same before after t added_now same_now left (inr old) imports takes =
-    subst (λ n. ImportsAny stored all cs (at + 1) n same_now after) (sym old.1) (subst (λ n. ImportsAny stored all cs (at + 1) added n after) (sym old.2)
-    (imports_same stored all rest c cs at added same before after left imports (subst (λ t. TakesRecord stored before c t after) old.0 takes)))
+-- a record that is new: its rows come after those that are pending
+pub record_added : (stored : Content) (c : RecordCommand) (rows : _) (before after : List RowChange) (office : Office) (r : Register)
+    → true ≡ is_known office (cabinet_of c) → RegistersFrom (changed_by stored before) c (registered.Added rows) r
+    → after ≡ before ++ rows.items → TakesFrom stored c taken.Added after office r
+record_added stored c rows before after office r known from list = record {
+  goes = λ at new old. (λ k. import_by at (sym known k) (sym from.line k) new old);
+  stand = subst₂ (λ (t : Content) (l : Line). RegisterStandsSound t (after_line l (with_record r c) r))
+      (sym (rows_after stored before rows.items after list)) (sym from.line) from.stand;
+}
 
 pub counted_on : (added same index added_now same_now : ℕ) (t : Taken) → added + same ≡ index
-    → (((t ≡ taken.Added) × (added_now ≡ added + 1) × (same_now ≡ same)) ⊎ ((t ≡ taken.Same) × (added_now ≡ added) × (same_now ≡ same + 1)))
-    → added_now + same_now ≡ index + 1
+    → WentOn t added same added_now same_now → added_now + same_now ≡ index + 1
 counted_on added same index added_now same_now t is (inl new) = let a = new.1 in let b = new.2 in omega (arith, is, a, b)
 counted_on added same index added_now same_now t is (inr old) = let a = old.1 in let b = old.2 in omega (arith, is, a, b)
 
 -- ---- damaged rows
 
--- a record of an intersection that is not there
-pub unknown_whole : (stored : Content) (before : List RowChange) (c : RecordCommand) → ¬ HasDamagedAbout stored (cabinet_of c) → TellsAbout stored (cabinet_of c) false → TakesWhole stored before c before
-unknown_whole stored before c about gone = record { about = about; whole = inl gone; spares = nothing_kept (changed_by stored before) }
+-- a record that writes no row
+pub unwritten_whole : (stored : Content) (before : List RowChange) (c : RecordCommand) → ¬ HasDamagedAbout stored (cabinet_of c)
+    → TellsAbout stored (cabinet_of c) false ⊎ (¬ MeetsRecordDamage (changed_by stored before) c) → TakesWhole stored before c before
+unwritten_whole stored before c about whole = record { about = about; whole = whole; spares = nothing_kept (changed_by stored before) }
 
--- one that adds nothing
-pub same_whole : (stored seen : Content) (before : List RowChange) (c : RecordCommand) → seen ≡ stored → ¬ HasDamagedAbout stored (cabinet_of c) → ¬ MeetsRecordDamage (changed_by seen before) c
-    → TakesWhole stored before c before
-same_whole stored seen before c same about whole = record {
+pub added_whole : (stored : Content) (before rows after : List RowChange) (c : RecordCommand) → after ≡ before ++ rows
+    → ¬ HasDamagedAbout stored (cabinet_of c) → ¬ MeetsRecordDamage (changed_by stored before) c → SparesDamage stored before rows → TakesWhole stored before c after
+added_whole stored before rows after c list about whole spares = record {
   about = about;
-  whole = inr (subst (λ t. ¬ MeetsRecordDamage (changed_by t before) c) same whole);
-  spares = nothing_kept (changed_by stored before);
-}
-
-pub added_whole : (stored seen : Content) (before rows after shown : List RowChange) (c : RecordCommand) → seen ≡ stored → shown ≡ rows → after ≡ before ++ rows
-    → ¬ HasDamagedAbout stored (cabinet_of c) → ¬ MeetsRecordDamage (changed_by seen before) c → SparesDamage seen before shown → TakesWhole stored before c after
-added_whole stored seen before rows after shown c same those list about whole spares = record {
-  about = about;
-  whole = inr (subst (λ t. ¬ MeetsRecordDamage (changed_by t before) c) same whole);
-  spares =
-      subst (KeepsDamage (changed_by stored before)) (sym (ap (changed_by stored) list ∙ changed_append stored before rows))
-      (subst (λ t. SparesDamage t before rows) same (subst (SparesDamage seen before) those spares));
+  whole = inr whole;
+  spares = subst (KeepsDamage (changed_by stored before)) (sym (rows_after stored before rows after list)) spares;
 }
 
 pub whole_stored : (before : List RowChange) (c : RecordCommand) (after : List RowChange) {stored seen : Content} → seen ≡ stored → TakesWhole seen before c after → TakesWhole stored before c after
@@ -243,33 +222,6 @@ never_met stored before c after spared takes = go takes.whole
     go : TellsAbout stored (cabinet_of c) false ⊎ (¬ MeetsRecordDamage (changed_by stored before) c) → ¬ MeetsCabinetDamage stored c (cabinet_of c)
     go (inl gone) = gone_whole stored c (cabinet_of c) gone takes.about
     go (inr whole) = record_whole stored c (cabinet_of c) takes.about (λ met. whole (meets_still stored (changed_by stored before) c spared met))
-
--- ---- the line, on the rows under a record's keys
-
-pub line_added : (stored seen : Content) (before rows after : List RowChange) (told : Registered) (c : RecordCommand) → seen ≡ stored → TellsAbout stored (cabinet_of c) true
-    → line_told told ≡ added_line → rows_told told ≡ rows → TellsLine (changed_by seen before) c (line_told told) (rows_told told) → after ≡ before ++ rows → TakesLine stored before c taken.Added after
-line_added stored seen before rows after told c same there is those line list = (
-  rows,
-  (there, subst (λ (t : Content). TellsLine (changed_by t before) c added_line rows) same (subst₂ (λ (l : Line) (r : List RowChange). TellsLine (changed_by seen before) c l r) is those line)),
-  list,
-)
-
-pub line_same : (stored seen : Content) (before : List RowChange) (told : Registered) (c : RecordCommand) → seen ≡ stored → TellsAbout stored (cabinet_of c) true
-    → told ≡ registered.Same → TellsLine (changed_by seen before) c (line_told told) (rows_told told) → TakesLine stored before c taken.Same before
-line_same stored seen before told c same there is line = (
-  [],
-  (there, subst (λ (t : Content). TellsLine (changed_by t before) c same_line []) same (subst (λ (d : Registered). TellsLine (changed_by seen before) c (line_told d) (rows_told d)) is line)),
-  sym (append-nil before),
-)
-
-pub line_refused : (stored seen : Content) (before : List RowChange) (told : Registered) (c : RecordCommand) (why : CabinetRefusal) (said : Refusal) → seen ≡ stored → TellsAbout stored (cabinet_of c) true
-    → told ≡ registered.Refused why → said ≡ refusal_of_record why → TellsLine (changed_by seen before) c (line_told told) (rows_told told) → IsRefusedAfter stored before c (number_of said)
-line_refused stored seen before told c why said same there is those line =
-    inr (
-      why,
-      (there, subst (λ (t : Content). TellsLine (changed_by t before) c (refused_line why) []) same (subst (λ (d : Registered). TellsLine (changed_by seen before) c (line_told d) (rows_told d)) is line)),
-      ap (λ (w : Refusal). number_of w) those,
-    )
 
 -- ---- the ends of the loop
 
@@ -308,13 +260,27 @@ some_read (c ∷ cs) n high some = λ e. let never : ⊥ = omega (arith, high, e
 
 -- ---- the decision
 
+-- the rows of the records that were taken are new
+pub taken_new : (stored : Content) (pending : List RowChange) (records : List RecordCommand)
+    (after : List RowChange) → AreTaken stored pending records after → AddNew stored pending
+    → AddNew stored after
+taken_new stored pending [] after is news = subst (AddNew stored) (sym is) news
+taken_new stored pending (c ∷ cs) after is news =
+    taken_new stored (pending ++ is.0) cs after is.2
+    (news_after stored pending is.0 news (told is.1))
+  where
+    told : IsTakenAfter stored pending c is.0 → AddNew (changed_by stored pending) is.0
+    told (inl follows) = tells_new (changed_by stored pending) c added_line is.0 follows.1
+    told (inr follows) = tells_new (changed_by stored pending) c same_line is.0 follows.1
+
 -- every record was taken
 pub import_decides : (is_honest : Type 0) (stored : Content) (all rest : List RecordCommand) (at added same : ℕ) (pending : List RowChange) (decided : Decided) → rest ≡ []
-    → (is_honest → ImportsAny stored all rest at added same pending) → (is_honest → ¬ MeetsImportDamage stored all) → LeavesAnyTiming pending → ((table : Table) → writes_in table pending ≤ most_import_writes all table)
+    → (is_honest → ImportsAny stored all rest at added same pending) → (is_honest → ¬ MeetsImportDamage stored all) → LeavesAnyTiming pending → ((table : Table) → writes_in table pending ≤ most_import_writes all table) → (is_honest → AddNew stored pending)
     → decided.reply ≡ Imported added same → decided.changes.items ≡ pending → IsDecision is_honest stored (command.Import all) decided
-import_decides is_honest stored all rest at added same pending decided none imports whole leaves few told rows = record {
+import_decides is_honest stored all rest at added same pending decided none imports whole leaves few news told rows = record {
   step = λ honest. import_done stored all rest at added same pending decided.changes.items decided.reply none (imports honest) leaves told rows;
   writes = λ honest. import_writes stored all decided.changes.items (λ table. subst (λ list. writes_in table list ≤ most_import_writes all table) (sym rows) (few table));
+  news = λ honest. subst (AddNew stored) (sym rows) (news honest);
   refused = λ refused. absurd (subst IsRefused told refused);
   query = λ query. absurd query;
   named = λ why e. absurd (let f : Imported added same ≡ Refused why = sym told ∙ e in cc);
@@ -330,6 +296,7 @@ refused_decides is_honest stored all rest c cs at added same cause before after 
     record {
       step = λ honest. import_refused stored all rest c cs at added same cause before after why _ _ left (imports honest) (takes honest) number told none;
       writes = λ honest table. subst (λ (list : List RowChange). writes_in table list ≤ most_writes stored (command.Import all) table) (sym none) (omega arith);
+      news = λ honest. subst (AddNew stored) (sym none) tt;
       refused = λ refused. none;
       query = λ query. none;
       named = λ w e. refuses_so (30 ∷ []) (ImportRow at cause) (inl refl) w (sym told ∙ e);

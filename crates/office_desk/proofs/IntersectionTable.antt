@@ -1,7 +1,6 @@
 -- The table of the intersections has their rows in the order of their numbers, and each is a record.
-use Rattle.std.proofs.Common.{◌≡◌, ℕ, List, map, Option, ap, sym, subst, ◌∙◌}
+use Rattle.std.proofs.Common.{◌≡◌, ℕ, List, map, Option, ap, sym, subst, ◌∙◌, IfSome}
 use Rattle.std.proofs.lemmas.Cmp.{nat_cmp_total}
-use Rattle.std.specs.Prelude.{IfSome}
 use Rattle.std.specs.Int.{IsInRange}
 use Rattle.std.specs.FinMap.{entries, get}
 use Rattle.office_tables_shelf.specs.Cells.{Cell, Rows}

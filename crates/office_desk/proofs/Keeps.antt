@@ -15,11 +15,12 @@ use Rattle.signal_records.specs.declared.record.Row.{Row}
 use Rattle.signal_records.specs.declared.record.Change.{Change}
 use Rattle.signal_records.specs.declared.record.Change.TheVariants.{Put, Remove}
 use Rattle.signal_rules.specs.Violations.{violations_of}
-use Rattle.draft_core.specs.Transaction.{TimingSide, Draft, with_draft, begun_from, edited, verified, checked, committed, reopened, abandoned_from}
+use Rattle.draft_core.specs.Transaction.{TimingSide, Draft, holder_of, owned, with_draft, begun_from, edited, committed, abandoned_from}
 use Rattle.draft_core.specs.Within.{AreChangesWithin}
 use Rattle.draft_core.specs.declared.revision.TheConstants.{LAST_REVISION}
 use Rattle.draft_core.specs.declared.refusal.DraftRefusal.{DraftRefusal}
 use Rattle.draft_core.specs.declared.refusal.DraftRefusal.TheVariants.{NotNormal, NotTransaction, NotVerify, NotDone}
+use Rattle.draft_core.specs.declared.state.Stage.{Stage}
 use Rattle.draft_core.specs.declared.state.Stage.TheVariants.{Transaction, Verify, Done}
 use Rattle.draft_core.proofs.Sound.{owned_inverts, committed_inverts}
 use Rattle.office_tables_shelf.proofs.CellLemmas.{tied}
@@ -89,29 +90,25 @@ begun_sound : (side : TimingSide) (clerk : List ℕ) (held : Option Draft) (next
 begun_sound side clerk None next sound words is = drafted_sound side (record { stage = Transaction; owner = clerk; set = side.committed }) next sound (record { owner = words; rows = sound.rows }) is
 begun_sound side clerk (Some draft) next sound words is = absurd (let f : Err NotNormal ≡ Ok next = is in cc)
 
+-- a step of the owner, to a draft that is sound where the draft before was
+owned_sound : (side next : TimingSide) (stage : Stage) (wrong : DraftRefusal) (clerk : List ℕ)
+    (next_draft : Draft → Draft) → ((d : Draft) → IsSoundDraft d → IsSoundDraft (next_draft d))
+    → IsSoundSide side → owned holder_of side.draft stage wrong clerk
+    (λ draft. Ok (with_draft side (next_draft draft))) ≡ Ok next → IsSoundSide next
+owned_sound side next stage wrong clerk next_draft keeps sound is =
+    let step = owned_inverts side stage wrong clerk
+    (λ draft. Ok (with_draft side (next_draft draft))) next is in
+    drafted_sound side (next_draft step.draft) next sound
+    (keeps step.draft (held_sound side step.draft sound step.held)) step.gives
+
+in_stage : (stage : Stage) (d : Draft) → IsSoundDraft d → IsSoundDraft (record d { stage = stage })
+in_stage stage d sound = record { owner = sound.owner; rows = sound.rows }
+
 edited_sound : (side : TimingSide) (clerk : List ℕ) (changes : List Change) (next : TimingSide) → IsSoundSide side → AreChangesWithin changes → edited side clerk changes ≡ Ok next → IsSoundSide next
-edited_sound side clerk changes next sound within is =
-    let step = owned_inverts side Transaction NotTransaction clerk (λ draft. Ok (with_draft side (record draft { stage = Transaction; set = after_changes draft.set changes }))) next is in
-    let held = held_sound side step.draft sound step.held in
-    drafted_sound side (record step.draft { stage = Transaction; set = after_changes step.draft.set changes }) next sound (record { owner = held.owner; rows = records_after changes step.draft.set held.rows within }) step.gives
-
-verified_sound : (side : TimingSide) (clerk : List ℕ) (next : TimingSide) → IsSoundSide side → verified side clerk ≡ Ok next → IsSoundSide next
-verified_sound side clerk next sound is =
-    let step = owned_inverts side Transaction NotTransaction clerk (λ draft. Ok (with_draft side (record draft { stage = Verify }))) next is in
-    let held = held_sound side step.draft sound step.held in
-    drafted_sound side (record step.draft { stage = Verify }) next sound (record { owner = held.owner; rows = held.rows }) step.gives
-
-checked_sound : (side : TimingSide) (clerk : List ℕ) (next : TimingSide) → IsSoundSide side → checked side clerk ≡ Ok next → IsSoundSide next
-checked_sound side clerk next sound is =
-    let step = owned_inverts side Verify NotVerify clerk (λ draft. Ok (with_draft side (record draft { stage = Done }))) next is in
-    let held = held_sound side step.draft sound step.held in
-    drafted_sound side (record step.draft { stage = Done }) next sound (record { owner = held.owner; rows = held.rows }) step.gives
-
-reopened_sound : (side : TimingSide) (clerk : List ℕ) (next : TimingSide) → IsSoundSide side → reopened side clerk ≡ Ok next → IsSoundSide next
-reopened_sound side clerk next sound is =
-    let step = owned_inverts side Done NotDone clerk (λ draft. Ok (with_draft side (record draft { stage = Transaction }))) next is in
-    let held = held_sound side step.draft sound step.held in
-    drafted_sound side (record step.draft { stage = Transaction }) next sound (record { owner = held.owner; rows = held.rows }) step.gives
+edited_sound side clerk changes next sound within =
+    owned_sound side next Transaction NotTransaction clerk
+    (λ draft. record draft { stage = Transaction; set = after_changes draft.set changes })
+    (λ d held. record { owner = held.owner; rows = records_after changes d.set held.rows within }) sound
 
 not_last : (n : ℕ) → (n == 999999) ≡ false → n ≤ 999999 → n + 1 ≤ 999999
 not_last n e h = grind (arith, nat_tests)
@@ -133,8 +130,11 @@ abandoned_sound side (Some draft) next sound is =
 pub line_keeps : (ask : Ask) (clerk : List ℕ) (side next : TimingSide) → AreWords 40 clerk → IsAskWithin ask → IsSoundSide side → line_of ask clerk side ≡ Ok next → IsSoundSide next
 line_keeps Begin clerk side next words within sound is = begun_sound side clerk side.draft next sound words is
 line_keeps (Edit changes) clerk side next words within sound is = edited_sound side clerk changes.now next sound within is
-line_keeps AskVerify clerk side next words within sound is = verified_sound side clerk next sound is
-line_keeps Check clerk side next words within sound is = checked_sound side clerk next sound is
+line_keeps AskVerify clerk side next words within sound is = owned_sound side next Transaction NotTransaction clerk
+    (λ draft. record draft { stage = Verify }) (in_stage Verify) sound is
+line_keeps Check clerk side next words within sound is = owned_sound side next Verify NotVerify clerk
+    (λ draft. record draft { stage = Done }) (in_stage Done) sound is
 line_keeps Commit clerk side next words within sound is = committed_sound side clerk next sound is
-line_keeps Reopen clerk side next words within sound is = reopened_sound side clerk next sound is
+line_keeps Reopen clerk side next words within sound is = owned_sound side next Done NotDone clerk
+    (λ draft. record draft { stage = Transaction }) (in_stage Transaction) sound is
 line_keeps Abandon clerk side next words within sound is = abandoned_sound side side.draft next sound is

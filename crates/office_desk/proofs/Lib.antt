@@ -8,10 +8,12 @@ pub mod NewIntersection
 pub mod ReadBack
 pub mod TimingCount
 pub mod Moved
+pub mod AddedRows
 pub mod Imports
 pub mod Blames
 pub mod Keeps
 pub mod Transactions
+pub mod Walks
 pub mod TimingLaw
 pub mod ShownRegister
 pub mod RegisterLaws
@@ -19,6 +21,7 @@ pub mod Repeats
 pub mod Shown
 pub mod IntersectionTable
 pub mod Recorded
+pub mod FoundAgain
 pub mod IntersectionCount
 pub mod OverdueRows
 pub mod ListedIntersections

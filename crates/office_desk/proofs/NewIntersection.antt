@@ -1,12 +1,11 @@
 -- What AddIntersection answers, on the row that was read, is a step of the office.
-use Rattle.std.proofs.Common.{◌≡◌, ◌≢◌, ℕ, ◌≤◌, Bool, true, false, List, [], ◌∷◌, Option, Some, None, refl, ap, sym, subst, ◌∙◌, inl, inr, lit≤, arith}
-use Rattle.std.specs.Prelude.{if◌then◌else◌, ◌==◌, ◌&&◌}
-use Rattle.std.specs.Str.{bytes_eq}
-use Rattle.std.specs.Option.{option_map}
+use Rattle.std.proofs.Common.{◌≡◌, ◌≢◌, ℕ, ◌≤◌, Bool, true, false, List, [], ◌∷◌, Option, Some}
+use Rattle.std.proofs.Common.{None, refl, ap, sym, subst, ◌∙◌, inl, inr, lit≤, arith, if◌then◌else◌}
+use Rattle.std.proofs.Common.{◌==◌, ◌&&◌, bytes_eq, option_map}
 use Rattle.std.specs.FinMap.{get}
 use Rattle.draft_core.specs.DraftRows.{RowStands}
 use Rattle.draft_core.specs.Transaction.{TimingSide}
-use Rattle.office_tables_shelf.specs.Change.{changed, changed_by}
+use Rattle.office_tables_shelf.specs.Change.{AddNew, changed, changed_by}
 use Rattle.office_tables_shelf.specs.Content.{Content}
 use Rattle.office_tables_shelf.specs.Counts.{writes_in}
 use Rattle.office_tables_shelf.specs.Damage.{HasDamagedIntersection}
@@ -14,7 +13,7 @@ use Rattle.office_tables_shelf.specs.Rows.{timing_columns}
 use Rattle.office_tables_shelf.specs.Shelf.{ReadsIntersection}
 use Rattle.office_tables_shelf.specs.declared.rows.IntersectionRow.{IntersectionRow}
 use Rattle.office_tables_shelf.specs.declared.rows.RowChange.{RowChange}
-use Rattle.office_tables_shelf.specs.declared.rows.RowChange.TheVariants.{PutIntersection}
+use Rattle.office_tables_shelf.specs.declared.rows.RowChange.TheVariants.{AddIntersection as AddRow}
 use Rattle.office_tables_shelf.specs.declared.rows.Table.{Table}
 use Rattle.office_tables_shelf.specs.declared.rows.Table.TheVariants as table
 use Rattle.office_desk.specs.Adding.{AddsRow, AreLimited}
@@ -32,13 +31,15 @@ use Rattle.office_machine.specs.declared.reply.Reply.{Reply}
 use Rattle.office_machine.specs.declared.reply.Reply.TheVariants as reply
 use Rattle.office_desk.proofs.Decisions.{refuses_so, told_decides}
 use Rattle.office_desk.proofs.EmptySet.{no_records, no_violations}
-use Rattle.office_desk.proofs.Stands.{row_read, stand_after, sound_with}
+use Rattle.office_desk.proofs.ReadBack.{none_found}
+use Rattle.office_desk.proofs.Shown.{there}
+use Rattle.office_desk.proofs.Stands.{stand_after, sound_with}
 
 new_stands : (tables : Content) (office : Office) (id interval : ℕ) (name : List ℕ) → StandFor tables office → get office.intersections id ≡ None
-    → StandFor (changed tables (PutIntersection id (row_of (new_intersection interval name)))) (with_intersection office id (new_intersection interval name))
+    → StandFor (changed tables (AddRow id (row_of (new_intersection interval name)))) (with_intersection office id (new_intersection interval name))
 new_stands tables office id interval name stand absent =
     let empty_side : side_at office id ≡ no_timing = ap side_of absent in
-    stand_after tables (changed tables (PutIntersection id (row_of (new_intersection interval name)))) office id (new_intersection interval name) stand (record {
+    stand_after tables (changed tables (AddRow id (row_of (new_intersection interval name)))) office id (new_intersection interval name) stand (record {
       intersection = refl;
       timing_here = λ key. stand.timing id key ∙ ap (λ (s : TimingSide). option_map timing_columns (get s.committed key)) empty_side;
       timing_elsewhere = λ q ne key. refl;
@@ -65,38 +66,30 @@ new_is_sound id interval name limited = record {
   draft = tt;
 }
 
-add_answers : (tables : Content) (office : Office) (id interval : ℕ) (name : List ℕ) (row : Option IntersectionRow) (reply : Reply) (changes : List RowChange)
-    → StandForSound tables office → ReadsIntersection tables id row → AddsRow id interval name row reply changes
+new_answers : (tables : Content) (office : Office) (id interval : ℕ) (name : List ℕ) (reply : Reply) (changes : List RowChange)
+    → StandForSound tables office → ReadsIntersection tables id None → AddsRow id interval name None reply changes
     → Answers office (AddIntersection id interval name) reply (changed_by tables changes)
-add_answers tables office id interval name row reply changes stands reads adds =
+new_answers tables office id interval name reply changes stands reads adds =
     let i = new_intersection interval name in
-    elim (get office.intersections id) as (λ o. get office.intersections id ≡ o → AddsRow id interval name (option_map row_of o) reply changes → Answers office (AddIntersection id interval name) reply (changed_by tables changes)) [
-      | None ↦ λ absent f. record {
-        next = with_intersection office id i;
-        step = inr (ap (added office id interval name) absent ∙ (λ k. (sym f.0 k, with_intersection office id i)));
-        stand = subst (λ list. StandForSound (changed_by tables list) (with_intersection office id i)) (sym f.1) (record {
-          stand = new_stands tables office id interval name stands.stand absent;
-          sound = sound_with office id i f.2.number stands.sound (new_is_sound id interval name f.2);
-        });
-      }
-      | Some there ↦ λ is f. record {
-        next = office;
-        step = inr (ap (added office id interval name) is ∙ (λ k. (sym f.0 k, office)));
-        stand = subst (λ list. StandForSound (changed_by tables list) office) (sym f.1) stands;
-      }
-    ] refl (subst (λ r. AddsRow id interval name r reply changes) (row_read tables office id row stands.stand reads) adds)
+    let gone = none_found tables office id stands reads in
+    record {
+      next = with_intersection office id i;
+      step = inr (ap (added office id interval name) gone ∙ (λ k. (sym adds.0 k, with_intersection office id i)));
+      stand = subst (λ list. StandForSound (changed_by tables list) (with_intersection office id i)) (sym adds.1) (record {
+        stand = new_stands tables office id interval name stands.stand gone;
+        sound = sound_with office id i adds.2.number stands.sound (new_is_sound id interval name adds.2);
+      });
+    }
+
+-- what is answered where a row is there
+abbrev answer_at : ℕ → List ℕ → IntersectionRow → Reply
+answer_at interval name row = if bytes_eq row.name name && (row.interval == interval) then reply.Same else reply.Refused refusal.IntersectionDiffers
 
 -- ---- the decision
 
-one_row : (tables : Content) (id interval : ℕ) (name : List ℕ) (row : IntersectionRow) (written : Table) → writes_in written (PutIntersection id row ∷ []) ≤ most_writes tables (AddIntersection id interval name) written
+one_row : (tables : Content) (id interval : ℕ) (name : List ℕ) (row : IntersectionRow) (written : Table) → writes_in written (AddRow id row ∷ []) ≤ most_writes tables (AddIntersection id interval name) written
 one_row tables id interval name row table.Intersection = omega arith
-one_row tables id interval name row table.Timing = omega arith
-one_row tables id interval name row table.Draft = omega arith
-one_row tables id interval name row table.Inspection = omega arith
-one_row tables id interval name row table.WorkOrder = omega arith
-one_row tables id interval name row table.Part = omega arith
-one_row tables id interval name row table.Delivery = omega arith
-one_row tables id interval name row table.UsedPart = omega arith
+one_row tables id interval name row other = omega arith
 
 never_damaged : (is_equal : Bool) → (if is_equal then reply.Same else reply.Refused refusal.IntersectionDiffers) ≢ reply.Refused refusal.Damaged
 never_damaged true e = cc
@@ -109,8 +102,9 @@ differs_named false why e = refuses_so (11 ∷ []) refusal.IntersectionDiffers (
 pub add_decides : (is_honest : Type 0) (tables : Content) (id interval : ℕ) (name : List ℕ) (row : Option IntersectionRow) (decided : Decided)
     → (is_honest → ReadsIntersection tables id row) → (is_honest → ¬ HasDamagedIntersection tables id) → AddsRow id interval name row decided.reply decided.changes.items → IsDecision is_honest tables (AddIntersection id interval name) decided
 add_decides is_honest tables id interval name None decided reads whole adds = record {
-  step = λ honest office stands. add_answers tables office id interval name None decided.reply decided.changes.items stands (reads honest) adds;
+  step = λ honest office stands. new_answers tables office id interval name decided.reply decided.changes.items stands (reads honest) adds;
   writes = λ honest written. subst (λ (list : List RowChange). writes_in written list ≤ most_writes tables (AddIntersection id interval name) written) (sym adds.1) (one_row tables id interval name (row_of (new_intersection interval name)) written);
+  news = λ honest. subst (AddNew tables) (sym adds.1) (reads honest, tt);
   refused = λ refused. absurd (subst IsRefused adds.0 refused);
   query = λ query. absurd query;
   named = λ why e. absurd (let f : reply.Added ≡ reply.Refused why = sym adds.0 ∙ e in cc);
@@ -119,4 +113,7 @@ add_decides is_honest tables id interval name None decided reads whole adds = re
 }
 add_decides is_honest tables id interval name (Some row) decided reads whole adds =
     told_decides is_honest tables (AddIntersection id interval name) _ decided adds.0 (never_damaged (bytes_eq row.name name && (row.interval == interval))) (differs_named (bytes_eq row.name name && (row.interval == interval))) adds.1 whole
-    (λ honest office stands. add_answers tables office id interval name (Some row) decided.reply decided.changes.items stands (reads honest) adds)
+    (λ honest office stands.
+    let at = there tables office id row stands (reads honest) in
+    ap (added office id interval name) at.1
+    ∙ ap (λ (r : IntersectionRow). (answer_at interval name r, office)) (sym at.2))

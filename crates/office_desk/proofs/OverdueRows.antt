@@ -1,30 +1,25 @@
 -- The intersections that were read, and what is known of their inspections, are those of the office.
-use Rattle.std.proofs.Common.{◌≡◌, ◌≤◌, ℕ, List, [], ◌∷◌, map, length, take, suc, Option, None, Some, refl, ap, sym, subst, ◌∙◌, arith}
+use Rattle.std.proofs.Common.{◌≡◌, ◌≤◌, ℕ, List, [], ◌∷◌, map, length, take, suc, Option, None, Some, ap, sym, subst, ◌∙◌, arith}
 use Rattle.std.proofs.lemmas.List.{length-map, take_all}
 use Rattle.std.specs.FinMap.{entries}
 use Rattle.std.specs.List.{cons_option}
 use Rattle.cabinet_core.specs.Overdue.{Listed, lateness, latest_day, listed, overdue_list}
 use Rattle.cabinet_core.specs.declared.overdue_inspections.OverdueRow.{OverdueRow}
 use Rattle.cabinet_core.specs.declared.overdue_inspections.Seen.{Seen}
-use Rattle.office_tables_shelf.specs.Change.{changed_by}
 use Rattle.office_tables_shelf.specs.Content.{Content}
 use Rattle.office_tables_shelf.specs.Overdue.{seen_row, IsSeen, AreSeenOf, AreSeen, ListsOverdue}
 use Rattle.office_tables_shelf.specs.declared.rows.IntersectionRow.{IntersectionRow}
-use Rattle.office_tables_shelf.specs.declared.rows.RowChange.{RowChange}
 use Rattle.cabinet_core.specs.Register.{Register}
 use Rattle.office_desk_cabinet.specs.RegisterStands.{RegisterStandsSound}
 use Rattle.office_desk_cabinet.proofs.ListedRecords.{inspections_listed}
-use Rattle.office_desk.specs.Answers.{Answers}
 use Rattle.office_machine.specs.Office.{Office, IsSound}
 use Rattle.office_desk.specs.StandFor.{StandForSound, row_of}
-use Rattle.office_machine.specs.Step.{overdue_on, seen_of}
+use Rattle.office_machine.specs.Step.{answered, overdue_on, seen_of}
 use Rattle.office_machine.specs.declared.command.Command.TheVariants as command
-use Rattle.office_machine.specs.declared.reply.Reply.{Reply}
 use Rattle.office_machine.specs.declared.reply.Reply.TheVariants as reply
 use Rattle.office_desk.proofs.IntersectionCount.{at_most_9999}
 use Rattle.office_desk.proofs.IntersectionTable.{Entry, of_entry, rows_read}
 use Rattle.office_desk.proofs.Recorded.{register_of}
-use Rattle.office_desk.proofs.Shown.{query_answers}
 
 -- ---- what is seen of each is what the office knows
 
@@ -70,12 +65,12 @@ all_overdue office day most many sound =
 
 -- ---- the query
 
-pub overdue_answers : (tables : Content) (office : Office) (day most : ℕ) (found : List OverdueRow)
-    (said : Reply) (changes : List RowChange) → 9999 ≤ most
+pub overdue_shows : (tables : Content) (office : Office) (day most : ℕ) (found : List OverdueRow) → 9999 ≤ most
     → StandForSound tables office → ListsOverdue tables day most found
-    → said ≡ reply.Overdue (map listed found) → changes ≡ [] → Answers office (command.Overdue day) said (changed_by tables changes)
-overdue_answers tables office day most found said changes many stands lists is none =
-    query_answers tables office (command.Overdue day) (reply.Overdue (overdue_on office day)) said changes stands refl
-    (is ∙ ap (λ (list : List Listed). reply.Overdue list)
-    (first_overdue tables office day most found stands lists
-    ∙ all_overdue office day most many stands.sound)) none
+    → answered office (command.Overdue day) ≡ (reply.Overdue (map listed found), office)
+overdue_shows tables office day most found many stands lists =
+    λ k. (
+      reply.Overdue (sym (first_overdue tables office day most found stands lists
+          ∙ all_overdue office day most many stands.sound) k),
+      office,
+    )

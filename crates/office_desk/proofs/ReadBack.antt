@@ -1,7 +1,6 @@
 -- What was read of an intersection, for whichever sound office the tables stand for.
-use Rattle.std.proofs.Common.{◌≡◌, ℕ, Bool, true, false, List, [], ◌∷◌, cond, Option, Some, None, refl, ap, sym, subst, ◌∙◌}
-use Rattle.std.specs.Prelude.{IfSome}
-use Rattle.std.specs.Option.{option_map}
+use Rattle.std.proofs.Common.{◌≡◌, ℕ, Bool, true, false, List, [], ◌∷◌, cond, Option, Some, None}
+use Rattle.std.proofs.Common.{refl, ap, sym, subst, ◌∙◌, IfSome, option_map}
 use Rattle.std.specs.Ordering.{eq_by_cmp}
 use Rattle.std.specs.FinMap.{get, same_map}
 use Rattle.signal_records.specs.Key.{key_cmp}
@@ -28,8 +27,7 @@ use Rattle.office_tables_shelf.proofs.KeyLemmas.{row_in, timing_keys_rise, get_s
 use Rattle.office_tables_shelf.proofs.RowLemmas.{timing_columns_tell, left_columns_tell}
 use Rattle.office_desk.specs.declared.reading.Found.{Found}
 use Rattle.office_machine.specs.Office.{Office, Intersection, side_at, side_of}
-use Rattle.office_desk.specs.Reading.{AreWithin, IsMadeOf, Finds, ListsPlan, drafts_at}
-use Rattle.office_desk.specs.Reading.{set_of_rows}
+use Rattle.office_desk.specs.Reading.{AreWithin, IsMadeOf, Finds, ListsPlan, drafts_at, set_of_rows}
 use Rattle.office_desk.specs.StandFor.{StandForSound, IsSaid, row_of, said_columns}
 use Rattle.office_desk.proofs.Stands.{row_read, records_at}
 
@@ -52,11 +50,10 @@ record_within key (Some row) h = h.0
 
 rows_tell : (a b : Option Row) → option_map timing_columns a ≡ option_map timing_columns b → IfSome a IsWithin → IfSome b IsWithin → a ≡ b
 rows_tell None None e in_a in_b = refl
-rows_tell None (Some y) e in_a in_b = cc
-rows_tell (Some x) None e in_a in_b = cc
 rows_tell (Some x) (Some y) e in_a in_b =
     let same : timing_columns x ≡ timing_columns y = cc in
     ap (λ (row : Row). Some row) (timing_columns_tell x y in_a in_b same)
+rows_tell _ _ e in_a in_b = cc
 
 -- the list has at a key what the committed set has
 listed_at : (tables : Content) (office : Office) (id : ℕ) (rows : List Row) → StandForSound tables office → ListsTiming tables id rows → AreWithin rows
@@ -94,8 +91,7 @@ said_at_within change key within = go (Named change key) refl
 pub later_within : (key : Key) (late early : Said) → IsSaid key late → IsSaid key early
     → IsSaid key (later_of late early)
 later_within key silent early in_late in_early = in_early
-later_within key (leaves row) early in_late in_early = in_late
-later_within key removes early in_late in_early = in_late
+later_within key _ early in_late in_early = in_late
 
 -- and changes
 pub row_at_within : (changes : List Change) (key : Key) → AreChangesWithin changes
@@ -108,10 +104,6 @@ row_at_within (change ∷ changes) key within = later_within key (row_at changes
 drafts_tell : (key : Key) (a b : Said) → said_columns a ≡ said_columns b → IsSaid key a
     → IsSaid key b → a ≡ b
 drafts_tell key silent silent e in_a in_b = refl
-drafts_tell key silent (leaves y) e in_a in_b = cc
-drafts_tell key silent removes e in_a in_b = cc
-drafts_tell key (leaves x) silent e in_a in_b = cc
-drafts_tell key removes silent e in_a in_b = cc
 drafts_tell key removes removes e in_a in_b = refl
 drafts_tell key (leaves x) (leaves y) e in_a in_b =
     let cells : left_columns (Some x) ≡ left_columns (Some y) = cc in
@@ -123,6 +115,7 @@ drafts_tell key (leaves x) removes e in_a in_b =
 drafts_tell key removes (leaves y) e in_a in_b =
     let cells : left_columns None ≡ left_columns (Some y) = cc in
     let same : None ≡ Some y = left_columns_tell None (Some y) tt in_b.0 cells in cc
+drafts_tell key _ _ e in_a in_b = cc
 
 -- ---- what was read of the plan
 

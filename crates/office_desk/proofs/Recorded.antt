@@ -1,5 +1,5 @@
 -- What the commands and queries of the register answer is a step of the office.
-use Rattle.std.proofs.Common.{◌≡◌, ◌≢◌, ◌≤◌, ℕ, Bool, true, false, List, [], ◌∷◌, map, Option, Some, None, is_some, refl, ap, sym, subst, ◌∙◌, inl, inr}
+use Rattle.std.proofs.Common.{◌≡◌, ◌≢◌, ◌≤◌, ℕ, Bool, true, false, List, [], ◌∷◌, map, Option, Some, None, is_some, Result, Ok, refl, ap, sym, subst, subst₂, ◌∙◌, inl, inr}
 use Rattle.std.specs.Prelude.{IsSome}
 use Rattle.std.specs.Option.{option_map}
 use Rattle.std.specs.FinMap.{get}
@@ -8,7 +8,7 @@ use Rattle.cabinet_core.specs.declared.record.CabinetView.{CabinetView}
 use Rattle.cabinet_core.specs.declared.refusal.CabinetRefusal.{CabinetRefusal}
 use Rattle.cabinet_core.specs.declared.refusal.CabinetRefusal.TheVariants as cabinet
 use Rattle.office_tables_shelf.specs.Cells.{Cell, Rows}
-use Rattle.office_tables_shelf.specs.Change.{changed_by}
+use Rattle.office_tables_shelf.specs.Change.{AddNew, changed_by}
 use Rattle.office_tables_shelf.specs.Content.{Content}
 use Rattle.office_tables_shelf.specs.Counts.{writes_in}
 use Rattle.office_tables_shelf.specs.Rows.{intersection_columns, intersection_key, timing_key}
@@ -20,6 +20,8 @@ use Rattle.cabinet_core.specs.Orders.{open_at}
 use Rattle.cabinet_core.specs.Register.{Register}
 use Rattle.cabinet_core.specs.Step.{after_record}
 use Rattle.cabinet_core.specs.Stock.{stock_of}
+use Rattle.office_tables_shelf.specs.declared.shelf.ShelfFault.{ShelfFault}
+use Rattle.office_desk_cabinet.specs.Decides.{DecidesRecord}
 use Rattle.office_desk_cabinet.specs.RegisterDamage.{MeetsRecordDamage}
 use Rattle.office_desk_cabinet.specs.RegisterStands.{RegisterStandsSound}
 use Rattle.office_desk_cabinet.specs.Registers.{IsNamed, IsOneOf, LeavesTiming, RegistersFrom, ShowsCabinet, line_told, most_record_writes, refusals_of, rows_told}
@@ -33,7 +35,7 @@ use Rattle.office_machine.specs.Office.{Office, Intersection}
 use Rattle.office_desk.specs.Named.{RefusesBy, number_of, numbers_about, numbers_of}
 use Rattle.office_desk.specs.Recording.{HasDamagedAbout, IsKnownIn, TellsAbout}
 use Rattle.office_desk.specs.StandFor.{StandForSound, row_of}
-use Rattle.office_machine.specs.Step.{cabinet_of, cabinet_shown, is_known, known, recorded, recorded_at, refusal_of_record, shown, told}
+use Rattle.office_machine.specs.Step.{answered, cabinet_of, cabinet_shown, is_known, known, recorded, recorded_at, refusal_of_record, shown, told}
 use Rattle.office_machine.specs.declared.command.Command.TheVariants as command
 use Rattle.office_desk.specs.declared.decided.Decided.{Decided}
 use Rattle.office_machine.specs.declared.refusal.Refusal.{Refusal}
@@ -41,7 +43,6 @@ use Rattle.office_machine.specs.declared.refusal.Refusal.TheVariants as refusal
 use Rattle.office_machine.specs.declared.reply.Reply.{Reply}
 use Rattle.office_machine.specs.declared.reply.Reply.TheVariants as reply
 use Rattle.office_desk.proofs.Decisions.{refuses_so}
-use Rattle.office_desk.proofs.Shown.{query_answers}
 use Rattle.office_desk.proofs.Stands.{row_read}
 use Rattle.office_desk.proofs.Writes.{record_writes}
 
@@ -62,7 +63,7 @@ at_known office (Some id) answer there = go (get office.intersections id) there
     go None e = absurd (let f : true ≡ false = e in cc)
     go (Some i) e = refl
 
-at_unknown : (office : Office) (about : Option ℕ) (answer : Reply × Office) → false ≡ is_known office about → recorded_at office about answer ≡ (reply.Refused refusal.UnknownIntersection, office)
+pub at_unknown : (office : Office) (about : Option ℕ) (answer : Reply × Office) → false ≡ is_known office about → recorded_at office about answer ≡ (reply.Refused refusal.UnknownIntersection, office)
 at_unknown office None answer gone = absurd (let f : false ≡ true = gone in cc)
 at_unknown office (Some id) answer gone = go (get office.intersections id) gone
   where
@@ -112,11 +113,6 @@ record_answers tables office c done said changes stands there registers leaves i
       stand = subst (λ list. StandForSound (changed_by tables list) next) (sym rows) (stands_after tables (rows_told done) office (after_record office.register c) stands leaves from.stand);
     }
 
-pub record_unknown : (tables : Content) (office : Office) (c : RecordCommand) (said : Reply) (changes : List RowChange)
-    → StandForSound tables office → IsKnownIn tables (cabinet_of c) false → said ≡ reply.Refused refusal.UnknownIntersection → changes ≡ [] → Answers office (command.Record c) said (changed_by tables changes)
-record_unknown tables office c said changes stands gone is none =
-    query_answers tables office (command.Record c) (reply.Refused refusal.UnknownIntersection) said changes stands (at_unknown office (cabinet_of c) (recorded office c) (gone office stands)) is none
-
 -- a row was read where one stands
 pub row_stands : (tables : Content) (id : ℕ) (row : Option IntersectionRow) → ReadsIntersection tables id row → is_some row ≡ is_some (get tables.intersection (intersection_key id))
 row_stands tables id row reads = go row ∙ sym (ap (λ (o : Option (List Cell)). is_some o) reads)
@@ -165,8 +161,7 @@ told_undamaged (Refused why) e = never_damaged why e
 
 refused_writes_none : (done : Registered) → IsRefused (told (line_told done)) → rows_told done ≡ []
 refused_writes_none (Added rows) refused = absurd refused
-refused_writes_none Same refused = refl
-refused_writes_none (Refused why) refused = refl
+refused_writes_none _ refused = refl
 
 among_map : {X Y : Type 0} (f : X → Y) (xs : List X) (x : X) → IsOneOf xs x → IsOneOf (map f xs) (f x)
 among_map f [] x among = among
@@ -194,19 +189,26 @@ told_named c Same named = λ why e. absurd (let f : reply.Same ≡ reply.Refused
 told_named c (Refused why) named = refuses_so (numbers_of (command.Record c)) (refusal_of_record why)
     (refused_named c why (refusal_of_record why) refl named)
 
+-- what was decided, of the tables as they were stored, and of the rows that are pending
+pub decided_on : {honest : Type 0} {seen stored : Content} {pending before : List RowChange} {c : RecordCommand} {result : Result Registered ShelfFault}
+    → DecidesRecord honest seen pending c result → seen ≡ stored → pending ≡ before → DecidesRecord honest stored before c result
+decided_on {honest = honest} {c = c} {result = result} decides same rows =
+    subst₂ (λ (t : Content) (list : List RowChange). DecidesRecord honest t list c result) same rows decides
+
 -- of a command on an intersection that is there
 pub record_decides : (is_honest : Type 0) (tables : Content) (c : RecordCommand) (done : Registered) (decided : Decided)
-    → (is_honest → (office : Office) → StandForSound tables office → Answers office (command.Record c) decided.reply (changed_by tables decided.changes.items))
-    → ((table : Table) → writes_in table (rows_told done) ≤ most_record_writes c table) → IsNamed c (line_told done) → (is_honest → ¬ MeetsCabinetDamage tables c (cabinet_of c))
+    → ((table : Table) → writes_in table (rows_told done) ≤ most_record_writes c table) → IsNamed c (line_told done) → LeavesTiming tables (rows_told done)
+    → (is_honest → DecidesRecord is_honest tables [] c (Ok done)) → (is_honest → IsKnownIn tables (cabinet_of c) true) → (is_honest → ¬ HasDamagedAbout tables (cabinet_of c))
     → decided.reply ≡ told (line_told done) → decided.changes.items ≡ rows_told done → IsDecision is_honest tables (command.Record c) decided
-record_decides is_honest tables c done decided step few named whole is rows = record {
-  step = step;
+record_decides is_honest tables c done decided few named leaves decides there about is rows = record {
+  step = λ honest office stands. record_answers tables office c done decided.reply decided.changes.items stands (there honest) ((decides honest).step honest) leaves is rows;
   writes = λ honest. record_writes tables c decided.changes.items (λ table. subst (λ list. writes_in table list ≤ most_record_writes c table) (sym rows) (few table));
+  news = λ honest. subst (AddNew tables) (sym rows) ((decides honest).news honest);
   refused = λ refused. rows ∙ refused_writes_none done (subst IsRefused is refused);
   query = λ query. absurd query;
   named = λ why e. told_named c done named why (sym is ∙ e);
   undamaged = λ e. told_undamaged done (sym is ∙ e);
-  whole = λ honest damaged. absurd (whole honest damaged);
+  whole = λ honest damaged. absurd (record_whole tables c (cabinet_of c) (about honest) ((decides honest).whole honest) damaged);
 }
 
 -- ---- queries
@@ -215,51 +217,38 @@ shown_there : (o : Option Intersection) (said : Reply) → true ≡ is_some o �
 shown_there None said e = absurd (let f : true ≡ false = e in cc)
 shown_there (Some i) said e = refl
 
-shown_gone : (o : Option Intersection) (said : Reply) → false ≡ is_some o → shown o (λ _. said) ≡ reply.Refused refusal.UnknownIntersection
-shown_gone None said e = refl
-shown_gone (Some i) said e = absurd (let f : false ≡ true = e in cc)
+-- what is not there is none
+pub none_there : (o : Option Intersection) → false ≡ is_some o → o ≡ None
+none_there None e = refl
+none_there (Some i) e = absurd (let f : false ≡ true = e in cc)
 
 -- a query on the cabinet of an intersection shows what it says only where that is there
-pub cabinet_answers : (tables : Content) (office : Office) (id : ℕ) (view : CabinetView) (said : Reply) (changes : List RowChange)
+pub cabinet_shows : (tables : Content) (office : Office) (id : ℕ) (view : CabinetView)
     → StandForSound tables office → IsKnownIn tables (Some id) true → ((r : Register) → RegisterStandsSound tables r → ShowsCabinet r id view)
-    → said ≡ reply.Cabinet (record { id = id; view = view }) → changes ≡ []
-    → Answers office (command.Cabinet id) said (changed_by tables changes)
-cabinet_answers tables office id view said changes stands there shows is none =
+    → answered office (command.Cabinet id) ≡ (reply.Cabinet (record { id = id; view = view }), office)
+cabinet_shows tables office id view stands there shows =
     let lists = shows office.register (register_of tables office stands) in
-    query_answers tables office (command.Cabinet id) (reply.Cabinet (cabinet_shown office.register id)) said changes stands
     (λ k. (shown_there (get office.intersections id) (reply.Cabinet (cabinet_shown office.register id)) (there office stands) k, office))
-    (is ∙ (λ k. reply.Cabinet (record {
-      id = id;
-      view = record {
-        inspections = lists.inspections k;
-        orders = lists.orders k;
-        lines = lists.lines k;
-      };
-    }))) none
+    ∙ (λ k. (
+      reply.Cabinet (record {
+        id = id;
+        view = record {
+          inspections = sym lists.inspections k;
+          orders = sym lists.orders k;
+          lines = sym lists.lines k;
+        };
+      }),
+      office,
+    ))
 
-pub cabinet_unknown : (tables : Content) (office : Office) (id : ℕ) (said : Reply) (changes : List RowChange)
-    → StandForSound tables office → IsKnownIn tables (Some id) false → said ≡ reply.Refused refusal.UnknownIntersection → changes ≡ [] → Answers office (command.Cabinet id) said (changed_by tables changes)
-cabinet_unknown tables office id said changes stands gone is none =
-    query_answers tables office (command.Cabinet id) _ said changes stands
-    (λ k. (shown_gone (get office.intersections id) (reply.Cabinet (cabinet_shown office.register id)) (gone office stands) k, office)) is none
-
-pub orders_answer : (tables : Content) (office : Office) (id : ℕ) (numbers : List ℕ) (said : Reply) (changes : List RowChange)
+pub orders_show : (tables : Content) (office : Office) (id : ℕ) (numbers : List ℕ)
     → StandForSound tables office → IsKnownIn tables (Some id) true → ((r : Register) → RegisterStandsSound tables r → numbers ≡ open_at r id)
-    → said ≡ reply.OpenOrders numbers → changes ≡ [] → Answers office (command.OpenOrders id) said (changed_by tables changes)
-orders_answer tables office id numbers said changes stands there shows is none =
-    query_answers tables office (command.OpenOrders id) (reply.OpenOrders (open_at office.register id)) said changes stands
+    → answered office (command.OpenOrders id) ≡ (reply.OpenOrders numbers, office)
+orders_show tables office id numbers stands there shows =
     (λ k. (shown_there (get office.intersections id) (reply.OpenOrders (open_at office.register id)) (there office stands) k, office))
-    (is ∙ ap (λ (list : List ℕ). reply.OpenOrders list) (shows office.register (register_of tables office stands))) none
+    ∙ (λ k. (reply.OpenOrders (sym (shows office.register (register_of tables office stands)) k), office))
 
-pub orders_unknown : (tables : Content) (office : Office) (id : ℕ) (said : Reply) (changes : List RowChange)
-    → StandForSound tables office → IsKnownIn tables (Some id) false → said ≡ reply.Refused refusal.UnknownIntersection → changes ≡ [] → Answers office (command.OpenOrders id) said (changed_by tables changes)
-orders_unknown tables office id said changes stands gone is none =
-    query_answers tables office (command.OpenOrders id) _ said changes stands
-    (λ k. (shown_gone (get office.intersections id) (reply.OpenOrders (open_at office.register id)) (gone office stands) k, office)) is none
-
-pub stock_answers : (tables : Content) (office : Office) (parts : List (List ℕ × ℕ)) (said : Reply) (changes : List RowChange)
-    → StandForSound tables office → ((r : Register) → RegisterStandsSound tables r → parts ≡ stock_of r)
-    → said ≡ reply.Stock parts → changes ≡ [] → Answers office command.Stock said (changed_by tables changes)
-stock_answers tables office parts said changes stands shows is none =
-    query_answers tables office command.Stock (reply.Stock (stock_of office.register)) said changes stands refl
-    (is ∙ ap (λ (list : List (List ℕ × ℕ)). reply.Stock list) (shows office.register (register_of tables office stands))) none
+pub stock_shows : (tables : Content) (office : Office) (parts : List (List ℕ × ℕ)) → StandForSound tables office
+    → ((r : Register) → RegisterStandsSound tables r → parts ≡ stock_of r) → answered office command.Stock ≡ (reply.Stock parts, office)
+stock_shows tables office parts stands shows =
+    λ k. (reply.Stock (sym (shows office.register (register_of tables office stands)) k), office)

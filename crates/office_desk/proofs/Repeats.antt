@@ -1,25 +1,23 @@
 -- What was recorded stays recorded: so an import that was accepted finds all of its records there when it is sent again.
-use Rattle.std.proofs.Common.{◌≡◌, inl, inr, ℕ, ◌+◌, Bool, true, false, cond, List, [], ◌∷◌, length, Option, Some, None, Result, Ok, Err, refl, ap, sym, subst, ◌∙◌, arith}
+use Rattle.std.proofs.Common.{◌≡◌, inl, inr, ℕ, ◌+◌, true, false, cond, List, [], ◌∷◌, length, Option, Some, None, Result, Ok, Err, refl, ap, sym, subst, ◌∙◌, arith}
 use Rattle.std.specs.Prelude.{is_some}
 use Rattle.std.specs.Cmp.{nat_cmp_total}
 use Rattle.std.specs.FinMap.{get, get-insert}
 use Rattle.std.specs.Ordering.{nat_cmp, eq_by_cmp}
-use Rattle.cabinet_core.specs.Cabinet.{Line, added as added_line, same as same_line, refused as refused_line}
+use Rattle.cabinet_core.specs.Cabinet.{added as added_line, same as same_line}
 use Rattle.cabinet_core.specs.declared.command.RecordCommand.{RecordCommand}
-use Rattle.draft_core.specs.Transaction.{TimingSide, begun, edited, verified, checked, committed, reopened, abandoned}
-use Rattle.draft_core.specs.declared.refusal.DraftRefusal.{DraftRefusal}
-use Rattle.cabinet_core.specs.Step.{line_at, with_record, after_line}
+use Rattle.cabinet_core.specs.Step.{line_at}
 use Rattle.cabinet_core.proofs.RecordKept.{same_after, same_kept}
 use Rattle.office_machine.specs.Office.{Office, Intersection}
 use Rattle.office_machine.specs.Repeats.{IsRepeat, AreRepeats, Repeats}
-use Rattle.office_machine.specs.Step.{Step, Run, answered, added, moved, transacted, with_intersection, new_intersection, recorded, recorded_at, known, cabinet_of, is_known, with_recorded, import_by, import_from, imported}
+use Rattle.office_machine.specs.Step.{Step, Run, with_intersection, new_intersection, cabinet_of, is_known, with_recorded, import_by, import_from, imported}
 use Rattle.office_machine.specs.declared.command.Command.{Command}
 use Rattle.office_machine.specs.declared.command.Command.TheVariants as command
 use Rattle.office_machine.specs.declared.refusal.Refusal.{Refusal}
 use Rattle.office_machine.specs.declared.refusal.Refusal.TheVariants.{Unavailable}
 use Rattle.office_machine.specs.declared.reply.Reply.{Reply}
 use Rattle.office_machine.specs.declared.reply.Reply.TheVariants.{Imported, Refused}
-use Rattle.office_desk.proofs.Imports.{import_goes_on}
+use Rattle.office_desk.proofs.Walks.{HoldsOfEach, HoldsOfRecords, records_so, step_so}
 
 -- ---- records that are there
 
@@ -65,41 +63,23 @@ record_keeps office c line d there = (known_so office c (cabinet_of d) there.0, 
 
 -- ---- imports
 
--- a record that an import goes on after is of an intersection that is known
-import_knows : {X : Type 0} (at : ℕ) (there : Bool) (line : Line) (added same : Result X Refusal) (done : X) → import_by at there line added same ≡ Ok done → there ≡ true
-import_knows at true line added same done is = refl
-import_knows at false line added same done is = absurd cc
+-- what was there before an import is there after it, and so is each of its records
+abbrev Brings : Office → List RecordCommand → Office → Type 0
+Brings office records next = Keeps office next × AreThere next records
 
-import_keeps : (records : List RecordCommand) (at added same : ℕ) (office : Office) (done : ℕ × ℕ × Office) → import_from at added same office records ≡ Ok done → Keeps office done.2
-import_keeps [] at added same office done is =
-    let f : Ok (added, same, office) ≡ Ok done = is in
-    let same_done : (added, same, office) ≡ done = cc in
-    subst (λ (d : ℕ × ℕ × Office). Keeps office d.2) same_done (stays office)
-import_keeps (c ∷ cs) at added same office done is =
-    let new = import_from (at + 1) (added + 1) same (with_recorded office c) cs in
-    let old = import_from (at + 1) added (same + 1) office cs in
-    import_goes_on (λ line. line_at office.register c ≡ line → Keeps office done.2) at (is_known office (cabinet_of c)) (line_at office.register c) new old done
-    (λ f line d there. import_keeps cs (at + 1) (added + 1) same (with_recorded office c) done f d (record_keeps office c line d there))
-    (λ f line. import_keeps cs (at + 1) added (same + 1) office done f)
-    is refl
+each_brought : HoldsOfRecords Brings
+each_brought = record {
+  none = λ office. (stays office, tt);
+  new = λ office c cs next there line later. (
+    (λ d was. later.0 d (record_keeps office c line d was)),
+    (later.0 c (known_so office c (cabinet_of c) there, same_after office.register c line), later.1),
+  );
+  old = λ office c cs next there line later. (later.0, (later.0 c (there, line), later.1));
+}
 
--- each record of an import that was accepted is there after it
-import_brings : (records : List RecordCommand) (at added same : ℕ) (office : Office) (done : ℕ × ℕ × Office) → import_from at added same office records ≡ Ok done → AreThere done.2 records
-import_brings [] at added same office done is = tt
-import_brings (c ∷ cs) at added same office done is =
-    let new = import_from (at + 1) (added + 1) same (with_recorded office c) cs in
-    let old = import_from (at + 1) added (same + 1) office cs in
-    let knows = import_knows at (is_known office (cabinet_of c)) (line_at office.register c) new old done is in
-    import_goes_on (λ line. line_at office.register c ≡ line → AreThere done.2 (c ∷ cs)) at (is_known office (cabinet_of c)) (line_at office.register c) new old done
-    (λ f line. (
-      import_keeps cs (at + 1) (added + 1) same (with_recorded office c) done f c (known_so office c (cabinet_of c) knows, same_after office.register c line),
-      import_brings cs (at + 1) (added + 1) same (with_recorded office c) done f,
-    ))
-    (λ f line. (
-      import_keeps cs (at + 1) added (same + 1) office done f c (knows, line),
-      import_brings cs (at + 1) added (same + 1) office done f,
-    ))
-    is refl
+import_brings : (records : List RecordCommand) (office : Office) (done : ℕ × ℕ × Office)
+    → import_from 1 0 0 office records ≡ Ok done → Brings office records done.2
+import_brings records office done is = records_so Brings each_brought records 1 0 0 office done is
 
 -- an import of records that are there adds none, and leaves the office
 import_again : (records : List RecordCommand) (at added same : ℕ) (office : Office) → AreThere office records → import_from at added same office records ≡ Ok (added, same + length records, office)
@@ -114,58 +94,19 @@ import_again (c ∷ cs) at added same office there =
 
 -- ---- one step
 
-added_keeps : (office : Office) (id interval : ℕ) (name : List ℕ) (there : Option Intersection) → Keeps office (added office id interval name there).1
-added_keeps office id interval name None = intersection_keeps office id (new_intersection interval name)
-added_keeps office id interval name (Some i) = stays office
-
-moved_keeps : (office : Office) (id : ℕ) (i : Intersection) (side : Result TimingSide DraftRefusal) → Keeps office (moved office id i side).1
-moved_keeps office id i (Ok next) = intersection_keeps office id (record i { timing = next })
-moved_keeps office id i (Err why) = stays office
-
-transacted_keeps : (office : Office) (id : ℕ) (line : TimingSide → Result TimingSide DraftRefusal) (there : Option Intersection) → Keeps office (transacted office id line there).1
-transacted_keeps office id line None = stays office
-transacted_keeps office id line (Some i) = moved_keeps office id i (line i.timing)
-
--- a command of the register, by its line of the table
-line_keeps : (office : Office) (c : RecordCommand) (line : Line) → line_at office.register c ≡ line → Keeps office (record office { register = after_line line (with_record office.register c) office.register })
-line_keeps office c added_line is = record_keeps office c is
-line_keeps office c same_line is = stays office
-line_keeps office c (refused_line why) is = stays office
-
-recorded_keeps : (office : Office) (c : RecordCommand) (about : Option ℕ) → Keeps office (recorded_at office about (recorded office c)).1
-recorded_keeps office c None = line_keeps office c (line_at office.register c) refl
-recorded_keeps office c (Some id) = here (get office.intersections id)
-  where
-    here : (o : Option Intersection) → Keeps office (known office o (recorded office c)).1
-    here None = stays office
-    here (Some i) = line_keeps office c (line_at office.register c) refl
-
-imported_keeps : (office : Office) (records : List RecordCommand) (done : Result (ℕ × ℕ × Office) Refusal) → import_from 1 0 0 office records ≡ done → Keeps office (imported office done).1
-imported_keeps office records (Ok done) is = import_keeps records 1 0 0 office done is
-imported_keeps office records (Err why) is = stays office
-
-answer_keeps : (office : Office) (command : Command) → Keeps office (answered office command).1
-answer_keeps office (command.AddIntersection id interval name) = added_keeps office id interval name (get office.intersections id)
-answer_keeps office (command.Begin id clerk) = transacted_keeps office id (λ side. begun side clerk) (get office.intersections id)
-answer_keeps office (command.Edit id clerk changes) = transacted_keeps office id (λ side. edited side clerk changes) (get office.intersections id)
-answer_keeps office (command.Verify id clerk) = transacted_keeps office id (λ side. verified side clerk) (get office.intersections id)
-answer_keeps office (command.Check id clerk) = transacted_keeps office id (λ side. checked side clerk) (get office.intersections id)
-answer_keeps office (command.Commit id clerk) = transacted_keeps office id (λ side. committed side clerk) (get office.intersections id)
-answer_keeps office (command.Reopen id clerk) = transacted_keeps office id (λ side. reopened side clerk) (get office.intersections id)
-answer_keeps office (command.Abandon id clerk) = transacted_keeps office id abandoned (get office.intersections id)
-answer_keeps office (command.State id) = stays office
-answer_keeps office (command.Timing id) = stays office
-answer_keeps office (command.Draft id) = stays office
-answer_keeps office (command.Record c) = recorded_keeps office c (cabinet_of c)
-answer_keeps office (command.Import records) = imported_keeps office records (import_from 1 0 0 office records) refl
-answer_keeps office (command.Cabinet id) = stays office
-answer_keeps office (command.OpenOrders id) = stays office
-answer_keeps office command.Stock = stays office
-answer_keeps office (command.Overdue day) = stays office
+each_keeps : (office : Office) → HoldsOfEach office (λ asked said next. Keeps office next)
+each_keeps office = record {
+  stays = λ asked said unmoved none. stays office;
+  adds = λ id interval name absent. intersection_keeps office id (new_intersection interval name);
+  moves = λ id clerk ask i next there took.
+      intersection_keeps office id (record i { timing = next });
+  records = λ c line. record_keeps office c line;
+  imports = λ records done made. (import_brings records office done made).0;
+}
 
 step_keeps : (office next : Office) (command : Command) (reply : Reply) → Step office command reply next → Keeps office next
-step_keeps office next command reply (inl left) = subst (Keeps office) (sym left.1) (stays office)
-step_keeps office next command reply (inr is) = subst (λ (p : Reply × Office). Keeps office p.1) is (answer_keeps office command)
+step_keeps office next command reply =
+    step_so office (λ asked said after. Keeps office after) (each_keeps office) command reply next
 
 -- an import that is accepted
 accepted_there : (office next : Office) (records : List RecordCommand) (added same : ℕ) (reply : Reply) → Step office (command.Import records) reply next → reply ≡ Imported added same → AreThere next records
@@ -173,7 +114,7 @@ accepted_there office next records added same reply (inl left) told_so = absurd 
 accepted_there office next records added same reply (inr is) told_so = go (import_from 1 0 0 office records) refl is
   where
     go : (done : Result (ℕ × ℕ × Office) Refusal) → import_from 1 0 0 office records ≡ done → imported office done ≡ (reply, next) → AreThere next records
-    go (Ok done) made e = subst (λ (p : Reply × Office). AreThere p.1 records) e (import_brings records 1 0 0 office done made)
+    go (Ok done) made e = subst (λ (p : Reply × Office). AreThere p.1 records) e (import_brings records office done made).1
     go (Err why) made e = absurd (let f : Refused why ≡ Imported added same = ap (λ (p : Reply × Office). p.0) e ∙ told_so in cc)
 
 -- an import of records that are there
@@ -193,8 +134,7 @@ run_repeats records (command ∷ commands) (reply ∷ replies) first last run th
   (λ is. sent_again first run.0 records reply (subst (λ c. Step first c reply run.0) is run.1) there),
   run_repeats records commands replies run.0 last run.2 (all_kept first run.0 records (step_keeps first run.0 command reply run.1) there),
 )
-run_repeats records [] (reply ∷ replies) first last run there = tt
-run_repeats records (command ∷ commands) [] first last run there = tt
+run_repeats records _ _ first last run there = tt
 
 -- of imports that are accepted on the way
 pub runs_repeat : (commands : List Command) (replies : List Reply) (first last : Office) (run : Run first commands replies last) → Repeats first commands replies last run
@@ -204,5 +144,4 @@ runs_repeat (command ∷ commands) (reply ∷ replies) first last run = (
       (accepted_there first run.0 records added same reply (subst (λ c. Step first c reply run.0) is run.1) accepted)),
   runs_repeat commands replies run.0 last run.2,
 )
-runs_repeat [] (reply ∷ replies) first last run = tt
-runs_repeat (command ∷ commands) [] first last run = tt
+runs_repeat _ _ first last run = tt

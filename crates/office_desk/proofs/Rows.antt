@@ -1,6 +1,5 @@
 -- The row of an intersection is told by its cells.
-use Rattle.std.proofs.Common.{◌≡◌, Option, Some, None, refl, ap, arith}
-use Rattle.std.specs.Option.{option_map}
+use Rattle.std.proofs.Common.{◌≡◌, Option, Some, None, refl, ap, arith, option_map}
 use Rattle.draft_core.specs.declared.state.Stage.{Stage}
 use Rattle.draft_core.specs.declared.state.Stage.TheVariants.{Transaction, Verify, Done}
 use Rattle.draft_core.specs.declared.state.Holder.{Holder}
@@ -11,21 +10,15 @@ stage_from_number : (a b : Stage) → stage_number a ≡ stage_number b → a �
 stage_from_number Transaction Transaction e = refl
 stage_from_number Verify Verify e = refl
 stage_from_number Done Done e = refl
-stage_from_number Transaction Verify e = absurd (omega arith)
-stage_from_number Transaction Done e = absurd (omega arith)
-stage_from_number Verify Transaction e = absurd (omega arith)
-stage_from_number Verify Done e = absurd (omega arith)
-stage_from_number Done Transaction e = absurd (omega arith)
-stage_from_number Done Verify e = absurd (omega arith)
+stage_from_number _ _ e = absurd (omega arith)
 
 holder_from_cells : (a b : Option Holder) → state_number a ≡ state_number b → owner_cell a ≡ owner_cell b → a ≡ b
 holder_from_cells None None e f = refl
-holder_from_cells None (Some k) e f = cc
-holder_from_cells (Some h) None e f = cc
 holder_from_cells (Some h) (Some k) e f =
     let same_stage : h.stage ≡ k.stage = stage_from_number h.stage k.stage e in
     let same_owner : h.owner ≡ k.owner = cc in
     λ i. Some (record { stage = same_stage i; owner = same_owner i })
+holder_from_cells _ _ e f = cc
 
 pub row_from_cells : (a b : IntersectionRow) → intersection_columns a ≡ intersection_columns b → a ≡ b
 row_from_cells a b e =
@@ -39,8 +32,7 @@ row_from_cells a b e =
 
 pub read_from_cells : (a b : Option IntersectionRow) → option_map intersection_columns a ≡ option_map intersection_columns b → a ≡ b
 read_from_cells None None e = refl
-read_from_cells None (Some y) e = cc
-read_from_cells (Some x) None e = cc
 read_from_cells (Some x) (Some y) e =
     let same : intersection_columns x ≡ intersection_columns y = cc in
     ap (λ (row : IntersectionRow). Some row) (row_from_cells x y same)
+read_from_cells _ _ e = cc

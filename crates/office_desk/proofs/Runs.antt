@@ -1,9 +1,9 @@
 -- From a decision to a step that was made, and from steps to runs.
-use Rattle.std.proofs.Common.{◌≡◌, ◌≢◌, ◌≤◌, ◌⊎◌, List, [], ◌∷◌, ◌++◌, ℕ, Option, Some, None, refl, ap, sym, subst, ◌∙◌, inl, inr, length, true, arith}
+use Rattle.std.proofs.Common.{◌≡◌, ◌≢◌, ◌≤◌, ◌⊎◌, List, [], ◌∷◌, ◌++◌, ℕ, Option, Some, None, refl, ap, sym, subst, ◌∙◌, inl, inr, ⊎_elim, length, true, arith}
 use Rattle.std.specs.Prelude.{◌==◌, Result, Err}
 use Rattle.std.proofs.lemmas.Bool.Decides.{nat_tests}
 use Rattle.draft_core.specs.declared.timing.Reach.TheVariants as reach
-use Rattle.office_tables_shelf.specs.Change.{changed_by}
+use Rattle.office_tables_shelf.specs.Change.{AddNew, changed_by}
 use Rattle.office_tables_shelf.specs.Content.{Content}
 use Rattle.office_tables_shelf.specs.Counts.{counts_after, writes_in}
 use Rattle.office_tables_shelf.specs.Shelf.{IsKept}
@@ -19,11 +19,12 @@ use Rattle.office_desk.specs.Running.{AreRun, IsRun}
 use Rattle.office_desk.specs.declared.decided.Decided.{Decided}
 use Rattle.cabinet_core.specs.declared.command.RecordCommand.{RecordCommand}
 use Rattle.office_desk_cabinet.proofs.Undamaged.{no_damaged_inspection, no_damaged_order, no_damaged_used, no_damaged_part, undamaged_record}
-use Rattle.office_desk.specs.Damage.{IsTurnedAway, MeetsCabinetDamage, MeetsImportDamage, MeetsDamage}
+use Rattle.office_desk.specs.Damage.{IsTurnedAway, MeetsAfter, MeetsCabinetDamage, MeetsImportDamage, MeetsDamage}
 use Rattle.office_desk.specs.Named.{IsNamedFor, RefusesBy, numbers_of}
 use Rattle.office_desk.specs.Decisions.{refusal_of}
 use Rattle.office_machine.specs.Office.{Office, IsSound}
 use Rattle.office_desk.specs.StandFor.{StandForSound}
+use Rattle.office_desk_cabinet.specs.RegisterStands.{RegisterStandsSound}
 use Rattle.office_machine.specs.Step.{AreSound, Step, Run, answered, cabinet_of}
 use Rattle.office_machine.specs.declared.command.Command.{Command}
 use Rattle.office_machine.specs.declared.command.Command.TheVariants as command
@@ -35,7 +36,7 @@ use Rattle.office_machine.specs.declared.reply.Reply.{Reply}
 use Rattle.office_machine.specs.declared.reply.Reply.TheVariants.{Imported, Refused}
 use Rattle.office_desk.proofs.IntersectionTable.{no_damaged_intersection}
 use Rattle.office_desk.proofs.Recorded.{register_of}
-use Rattle.office_desk.proofs.Stands.{no_damage}
+use Rattle.office_desk.proofs.Stands.{no_damage, no_damaged_timing}
 use Rattle.office_desk.proofs.Blames.{blames_later, fault_blames, unavailable_blames}
 use Rattle.office_desk.proofs.RegisterLaws.{runs_register}
 use Rattle.office_desk.proofs.Repeats.{runs_repeat}
@@ -58,81 +59,78 @@ pub reply_answers : (tables : Content) (command : Command) (reply told : Reply) 
 reply_answers tables command reply told changes answers r e office stands =
     subst (λ list. Answers office command told (changed_by tables list)) (sym e) (subst (λ a. Answers office command a tables) (sym r) (answers office stands))
 
-record_refuted : (tables : Content) (c : RecordCommand) (about : Option ℕ) → MeetsCabinetDamage tables c about → (office : Office) → StandForSound tables office → ⊥
-record_refuted tables c None damage office stands = undamaged_record tables office.register c (register_of tables office stands) damage
-record_refuted tables c (Some id) (inl row) office stands =
-    no_damage reach.Row tables id (inl row) office stands
-record_refuted tables c (Some id) (inr (there, damage)) office stands = undamaged_record tables office.register c (register_of tables office stands) damage
+-- ---- in tables that stand for a sound office no row is damaged
 
-import_refuted : (tables : Content) (records : List RecordCommand) → MeetsImportDamage tables records → (office : Office) → StandForSound tables office → ⊥
-import_refuted tables [] damage office stands = damage
-import_refuted tables (c ∷ cs) (inl damage) office stands = record_refuted tables c (cabinet_of c) damage office stands
-import_refuted tables (c ∷ cs) (inr damage) office stands = import_refuted tables cs damage office stands
+module _ (tables : Content) (office : Office) (stands : StandForSound tables office) where
+  registered : RegisterStandsSound tables office.register
+  registered = register_of tables office stands
 
-damage_refuted : (tables : Content) (command : Command) → MeetsDamage tables command → (office : Office) → StandForSound tables office → ⊥
-damage_refuted tables (command.AddIntersection id interval name) damage =
-    no_damage reach.Row tables id (inl damage)
-damage_refuted tables (command.Begin id clerk) damage = no_damage reach.Row tables id damage
-damage_refuted tables (command.Edit id clerk changes) damage =
-    no_damage reach.Plan tables id damage
-damage_refuted tables (command.Verify id clerk) damage = no_damage reach.Row tables id damage
-damage_refuted tables (command.Check id clerk) damage = no_damage reach.Plan tables id damage
-damage_refuted tables (command.Commit id clerk) damage = no_damage reach.Plan tables id damage
-damage_refuted tables (command.Reopen id clerk) damage = no_damage reach.Row tables id damage
-damage_refuted tables (command.Abandon id clerk) damage = no_damage reach.Drafts tables id damage
-damage_refuted tables (command.State id) (inl row) = no_damage reach.Row tables id (inl row)
-damage_refuted tables (command.State id) (inr judged) =
-    no_damage reach.Plan tables id judged.damage
-damage_refuted tables (command.Timing id) (inl row) = no_damage reach.Row tables id (inl row)
-damage_refuted tables (command.Timing id) (inr (there, timing)) =
-    no_damage reach.Plan tables id (inr (there, inl timing))
-damage_refuted tables (command.Draft id) damage = no_damage reach.Plan tables id damage
-damage_refuted tables (command.Record c) damage = record_refuted tables c (cabinet_of c) damage
-damage_refuted tables (command.Import records) damage = import_refuted tables records damage
-damage_refuted tables (command.Cabinet id) (inl row) = no_damage reach.Row tables id (inl row)
-damage_refuted tables (command.Cabinet id) (inr (there, inl inspection)) =
-    λ office stands. no_damaged_inspection tables office.register id
-    (register_of tables office stands) inspection
-damage_refuted tables (command.Cabinet id) (inr (there, inr (inl order))) =
-    λ office stands. no_damaged_order tables office.register id
-    (register_of tables office stands) order
-damage_refuted tables (command.Cabinet id) (inr (there, inr (inr used))) =
-    λ office stands. no_damaged_used tables office.register id
-    (register_of tables office stands) used
-damage_refuted tables (command.OpenOrders id) (inl row) = no_damage reach.Row tables id (inl row)
-damage_refuted tables (command.OpenOrders id) (inr (there, order)) =
-    λ office stands. no_damaged_order tables office.register id
-    (register_of tables office stands) order
-damage_refuted tables command.Stock damage = λ office stands. no_damaged_part tables office.register (register_of tables office stands) damage
-damage_refuted tables (command.Overdue day) (inl row) = no_damaged_intersection tables row
-damage_refuted tables (command.Overdue day) (inr inspection) =
-    λ office stands. no_damaged_inspection tables office.register inspection.0
-    (register_of tables office stands) inspection.2
+  no_after : (id : ℕ) {Later : Type 0} → (Later → ⊥) → MeetsAfter tables id Later → ⊥
+  no_after id later (inl row) = no_damage reach.Row tables id (inl row) office stands
+  no_after id later (inr after) = later after.1
+
+  record_refuted : (c : RecordCommand) (about : Option ℕ) → MeetsCabinetDamage tables c about → ⊥
+  record_refuted c None damage = undamaged_record tables office.register c registered damage
+  record_refuted c (Some id) damage =
+      no_after id (undamaged_record tables office.register c registered) damage
+
+  import_refuted : (records : List RecordCommand) → MeetsImportDamage tables records → ⊥
+  import_refuted [] damage = damage
+  import_refuted (c ∷ cs) (inl damage) = record_refuted c (cabinet_of c) damage
+  import_refuted (c ∷ cs) (inr damage) = import_refuted cs damage
+
+  damage_refuted : (asked : Command) → MeetsDamage tables asked → ⊥
+  damage_refuted (command.AddIntersection id interval name) row =
+      no_damage reach.Row tables id (inl row) office stands
+  damage_refuted (command.Begin id clerk) damage = no_damage reach.Row tables id damage office stands
+  damage_refuted (command.Edit id clerk changes) damage =
+      no_damage reach.Plan tables id damage office stands
+  damage_refuted (command.Verify id clerk) damage = no_damage reach.Row tables id damage office stands
+  damage_refuted (command.Check id clerk) damage = no_damage reach.Plan tables id damage office stands
+  damage_refuted (command.Commit id clerk) damage =
+      no_damage reach.Plan tables id damage office stands
+  damage_refuted (command.Reopen id clerk) damage = no_damage reach.Row tables id damage office stands
+  damage_refuted (command.Abandon id clerk) damage =
+      no_damage reach.Drafts tables id damage office stands
+  damage_refuted (command.State id) (inl row) = no_damage reach.Row tables id (inl row) office stands
+  damage_refuted (command.State id) (inr judged) =
+      no_damage reach.Plan tables id judged.damage office stands
+  damage_refuted (command.Timing id) damage =
+      no_after id (λ timing. no_damaged_timing tables id timing office stands) damage
+  damage_refuted (command.Draft id) damage = no_damage reach.Plan tables id damage office stands
+  damage_refuted (command.Record c) damage = record_refuted c (cabinet_of c) damage
+  damage_refuted (command.Import records) damage = import_refuted records damage
+  damage_refuted (command.Cabinet id) damage =
+      no_after id (⊎_elim (no_damaged_inspection tables office.register id registered)
+      (⊎_elim (no_damaged_order tables office.register id registered)
+      (no_damaged_used tables office.register id registered))) damage
+  damage_refuted (command.OpenOrders id) damage =
+      no_after id (no_damaged_order tables office.register id registered) damage
+  damage_refuted command.Stock damage = no_damaged_part tables office.register registered damage
+  damage_refuted (command.Overdue day) (inl row) = no_damaged_intersection tables row office stands
+  damage_refuted (command.Overdue day) (inr inspection) =
+      no_damaged_inspection tables office.register inspection.0 registered inspection.2
 
 -- a fault of the shelf, answered as its refusal
 fault_answers : (tables : Content) (command : Command) (fault : ShelfFault) (reply : Reply) (changes : List RowChange) → (fault ≡ Damaged → MeetsDamage tables command) → reply ≡ Refused (refusal_of fault) → changes ≡ [] → AnswersAny tables command reply (changed_by tables changes)
-fault_answers tables command NoMemory reply changes meets r e = unavailable_answers tables command reply changes r e
-fault_answers tables command Store reply changes meets r e = unavailable_answers tables command reply changes r e
-fault_answers tables command Damaged reply changes meets r e = λ office stands. absurd (damage_refuted tables command (meets refl) office stands)
+fault_answers tables command Damaged reply changes meets r e = λ office stands. absurd (damage_refuted tables office stands command (meets refl))
+fault_answers tables command _ reply changes meets r e = unavailable_answers tables command reply changes r e
 
 fault_damaged : (fault : ShelfFault) → Refused (refusal_of fault) ≡ Refused refusal.Damaged → fault ≡ Damaged
-fault_damaged NoMemory told = absurd (let f : Refused Unavailable ≡ Refused refusal.Damaged = told in cc)
-fault_damaged Store told = absurd (let f : Refused Unavailable ≡ Refused refusal.Damaged = told in cc)
 fault_damaged Damaged told = refl
+fault_damaged _ told = absurd (let f : Refused Unavailable ≡ Refused refusal.Damaged = told in cc)
 
 -- it refuses the command, and so a row that it could not read
 turned_away : (fault : ShelfFault) (reply : Reply) → reply ≡ Refused (refusal_of fault) → (reply ≡ Refused refusal.Damaged) ⊎ (reply ≡ Refused Unavailable)
-turned_away NoMemory reply e = inr e
-turned_away Store reply e = inr e
 turned_away Damaged reply e = inl e
+turned_away _ reply e = inr e
 
 refused_as : (told why : Refusal) → Refused told ≡ Refused why → why ≡ told
 refused_as told why e = cc
 
 fault_named : (command : Command) (fault : ShelfFault) (reply : Reply) → reply ≡ Refused (refusal_of fault) → IsNamedFor command reply
-fault_named command NoMemory reply e = λ why told. inl (refused_as Unavailable why (sym e ∙ told))
-fault_named command Store reply e = λ why told. inl (refused_as Unavailable why (sym e ∙ told))
 fault_named command Damaged reply e = λ why told. inr (inl (refused_as refusal.Damaged why (sym e ∙ told)))
+fault_named command _ reply e = λ why told. inl (refused_as Unavailable why (sym e ∙ told))
 
 named_more : (command : Command) (reply : Reply) → RefusesBy (numbers_of command) reply → IsNamedFor command reply
 named_more command reply named = λ why told. inr (inr (named why told))
@@ -144,11 +142,16 @@ pub no_items : (changes : List RowChange) → true ≡ (length changes == 0) →
 no_items [] e = refl
 no_items (x ∷ xs) e = absurd (grind (arith, nat_tests))
 
+pub none_or_some : (changes : List RowChange) → (changes ≡ []) ⊎ (changes ≢ [])
+none_or_some [] = inl refl
+none_or_some (x ∷ xs) = inr (λ e. cc)
+
 -- a command that was decided is answered so
 pub decided_answers : (is_honest : Type 0) (tables : Content) (command : Command) (decided : Decided) → IsDecision is_honest tables command decided → BlamesRightly is_honest tables command decided.reply → IsAnswered is_honest tables command decided
 decided_answers is_honest tables command decided is blames = record {
   step = is.step;
   writes = is.writes;
+  news = is.news;
   refused = is.refused;
   query = is.query;
   named = named_more command decided.reply is.named;
@@ -163,6 +166,7 @@ pub fault_is_answered : (is_honest : Type 0) (tables : Content) (command : Comma
 fault_is_answered is_honest tables command fault decided meets told none = record {
   step = λ honest. fault_answers tables command fault decided.reply decided.changes.items (λ damaged. meets damaged honest) told none;
   writes = λ honest table. subst (λ (list : List RowChange). writes_in table list ≤ most_writes tables command table) (sym none) (omega arith);
+  news = λ honest. subst (AddNew tables) (sym none) tt;
   refused = λ _. none;
   query = λ _. none;
   named = fault_named command fault decided.reply told;
@@ -214,53 +218,34 @@ decided_shut is_honest command decided reads nothing = go (asks_nothing command)
 -- and of a fault: what tells a damaged row was open
 pub fault_shut : (is_honest : Type 0) (command : Command) (fault : ShelfFault) (decided : Decided) → (fault ≡ Damaged → command ≢ Import [] → is_honest) → command ≢ Import []
     → decided.reply ≡ Refused (refusal_of fault) → decided.changes.items ≡ [] → is_honest ⊎ DecidesIdly command decided
-fault_shut is_honest command NoMemory decided reads some told none = inr (record { idle = inl told; no_changes = none })
-fault_shut is_honest command Store decided reads some told none = inr (record { idle = inl told; no_changes = none })
 fault_shut is_honest command Damaged decided reads some told none = inl (reads refl some)
+fault_shut is_honest command _ decided reads some told none = inr (record { idle = inl told; no_changes = none })
 
 -- a fault as a refusal
 pub refusal_shut : {A : Type 0} (is_honest : Type 0) (fault : ShelfFault) (result : Result A Refusal) → (fault ≡ Damaged → is_honest) → result ≡ Err (refusal_of fault) → is_honest ⊎ (result ≡ Err Unavailable)
-refusal_shut is_honest NoMemory result told is = inr is
-refusal_shut is_honest Store result told is = inr is
 refusal_shut is_honest Damaged result told is = inl (told refl)
+refusal_shut is_honest _ result told is = inr is
 
 -- what is answered on a clean disk alone
 pub answered_clean : (is_clean is_honest : Type 0) (tables : Content) (command : Command) (decided : Decided) → (is_clean → is_honest ⊎ DecidesIdly command decided)
     → IsAnswered is_honest tables command decided → IsAnswered is_clean tables command decided
 answered_clean is_clean is_honest tables command decided shut is = record {
-  step = λ clean. elim (shut clean) [
-    | inl honest ↦ is.step honest
-    | inr idle ↦ reply_answers tables command decided.reply decided.reply decided.changes.items (idle_answers tables command decided.reply idle.idle) refl idle.no_changes
-  ];
-  writes = λ clean table. elim (shut clean) [
-    | inl honest ↦ is.writes honest table
-    | inr idle ↦ subst (λ (list : List RowChange). writes_in table list ≤ most_writes tables command table) (sym idle.no_changes) (omega arith)
-  ];
+  step = λ clean. ⊎_elim is.step (λ (idle : DecidesIdly command decided). reply_answers tables command decided.reply decided.reply decided.changes.items (idle_answers tables command decided.reply idle.idle) refl idle.no_changes) (shut clean);
+  writes = λ clean table. ⊎_elim (λ honest. is.writes honest table) (λ (idle : DecidesIdly command decided).
+      subst (λ (list : List RowChange). writes_in table list ≤ most_writes tables command table) (sym idle.no_changes) (omega arith)) (shut clean);
+  news = λ clean. ⊎_elim is.news
+      (λ (idle : DecidesIdly command decided). subst (AddNew tables) (sym idle.no_changes) tt) (shut clean);
   refused = is.refused;
   query = is.query;
   named = is.named;
   blames = λ records at cause asked refused.
-      let blamed = is.blames records at cause asked refused in
-      record {
-        before = blamed.before;
-        blamed = blamed.blamed;
-        after = blamed.after;
-        stands = blamed.stands;
-        place = blamed.place;
-        named = blamed.named;
-        first = λ clean. elim (shut clean) [
-          | inl honest ↦ blamed.first honest
-          | inr idle ↦ absurd (idle_blameless command decided.reply idle.idle at cause refused)
-        ];
-      };
-  damaged = λ told clean. elim (shut clean) [
-    | inl honest ↦ is.damaged told honest
-    | inr idle ↦ absurd (idle_undamaged command decided.reply idle.idle told)
-  ];
-  turned_away = λ clean damage. elim (shut clean) [
-    | inl honest ↦ is.turned_away honest damage
-    | inr idle ↦ idle_turned_away tables command decided.reply idle.idle damage
-  ];
+      blames_later is_clean is_honest tables command decided.reply (λ clean. ⊎_elim (λ honest. honest)
+      (λ (idle : DecidesIdly command decided). absurd (idle_blameless command decided.reply idle.idle at cause refused)) (shut clean))
+      is.blames records at cause asked refused;
+  damaged = λ told clean. ⊎_elim (is.damaged told)
+      (λ (idle : DecidesIdly command decided). absurd (idle_undamaged command decided.reply idle.idle told)) (shut clean);
+  turned_away = λ clean damage. ⊎_elim (λ honest. is.turned_away honest damage)
+      (λ (idle : DecidesIdly command decided). idle_turned_away tables command decided.reply idle.idle damage) (shut clean);
 }
 
 -- ---- one command
@@ -288,10 +273,7 @@ module _ {S : Type 0} (is_clean is_honest : S → Type 0) (content : S → Conte
   unwritten_run none = record {
     clean = clean_before;
     honest = kept.honest_before;
-    shut = λ clean. elim (shut clean) [
-      | inl honest ↦ inl honest
-      | inr idle ↦ inr (idle.idle, kept.same_content)
-    ];
+    shut = λ clean. ⊎_elim inl (λ (idle : DecidesIdly command decided). inr (idle.idle, kept.same_content)) (shut clean);
     ends = λ clean. (
       content old,
       same_answers _ _ _ _ decided.changes.items (told.step clean) (ap (changed_by (content old)) (sym none)),
@@ -421,20 +403,17 @@ module _ {S : Type 0} (is_clean is_honest : S → Type 0) (content : S → Conte
       → IsRun is_clean is_honest content written may_leave command reply mid new → AreRun is_clean is_honest content written may_leave (commands ++ command ∷ []) (replies ++ reply ∷ []) old new
   one_more [] [] old mid new command reply same run = (new, subst (λ (s : S). IsRun is_clean is_honest content written may_leave command reply s new) same run, refl)
   one_more (c ∷ cs) (r ∷ rs) old mid new command reply all run = (all.0, all.1, one_more cs rs all.0 mid new command reply all.2 run)
-  one_more [] (r ∷ rs) old mid new command reply all run = absurd all
-  one_more (c ∷ cs) [] old mid new command reply all run = absurd all
+  one_more _ _ old mid new command reply all run = absurd all
 
   pub honest_first : (commands : List Command) (replies : List Reply) (old new : S) → AreRun is_clean is_honest content written may_leave commands replies old new → is_honest new → is_honest old
   honest_first [] [] old new same honest = subst is_honest same honest
   honest_first (c ∷ cs) (r ∷ rs) old new all honest = all.1.honest (honest_first cs rs all.0 new all.2 honest)
-  honest_first [] (r ∷ rs) old new all honest = absurd all
-  honest_first (c ∷ cs) [] old new all honest = absurd all
+  honest_first _ _ old new all honest = absurd all
 
   pub clean_first : (commands : List Command) (replies : List Reply) (old new : S) → AreRun is_clean is_honest content written may_leave commands replies old new → is_clean new → is_clean old
   clean_first [] [] old new same clean = subst is_clean same clean
   clean_first (c ∷ cs) (r ∷ rs) old new all clean = all.1.clean (clean_first cs rs all.0 new all.2 clean)
-  clean_first [] (r ∷ rs) old new all clean = absurd all
-  clean_first (c ∷ cs) [] old new all clean = absurd all
+  clean_first _ _ old new all clean = absurd all
 
   -- what each command makes of the office before it is a run
   pub run_any : (commands : List Command) (replies : List Reply) (old new : S) → AreRun is_clean is_honest content written may_leave commands replies old new → is_honest new → RunsAny (content old) commands replies (content new)
@@ -443,8 +422,7 @@ module _ {S : Type 0} (is_clean is_honest : S → Type 0) (content : S → Conte
       let now = all.1.step (honest_first cs rs all.0 new all.2 honest) office stands in
       let rest = run_any cs rs all.0 new all.2 honest now.next now.stand in
       runs_to office rest.last (c ∷ cs) (r ∷ rs) (content new) stands.sound (now.next, now.step, rest.run) (stands.sound, rest.sound) rest.stand
-  run_any [] (r ∷ rs) old new all honest office stands = absurd all
-  run_any (c ∷ cs) [] old new all honest office stands = absurd all
+  run_any _ _ old new all honest office stands = absurd all
 
   -- The tables of a run on a clean disk: those of the shelf while it is open, and once it was shut they stay.
   next_tables : (c : Command) (r : Reply) (old mid : S) → IsRun is_clean is_honest content written may_leave c r old mid → is_clean mid → (tables : Content) → (is_honest old → content old ≡ tables)
@@ -466,5 +444,4 @@ module _ {S : Type 0} (is_clean is_honest : S → Type 0) (content : S → Conte
       let next = next_tables c r old all.0 all.1 (clean_first cs rs all.0 new all.2 clean) tables same in
       let rest = run_ends cs rs all.0 new all.2 clean next.0 next.2 in
       (rest.0, one_then tables next.0 rest.0 c r cs rs next.1 rest.1, rest.2)
-  run_ends [] (r ∷ rs) old new all clean tables same = absurd all
-  run_ends (c ∷ cs) [] old new all clean tables same = absurd all
+  run_ends _ _ old new all clean tables same = absurd all

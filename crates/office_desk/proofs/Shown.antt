@@ -1,33 +1,28 @@
 -- What the queries answer, on the rows that were read, is a step of the office.
-use Rattle.std.proofs.Common.{◌≡◌, ℕ, List, [], Option, Some, None, refl, ap, sym, subst, ◌∙◌, inr}
-use Rattle.std.specs.Option.{option_map}
+use Rattle.std.proofs.Common.{◌≡◌, ℕ, List, [], Option, Some, None, refl, ap, sym, subst, ◌∙◌}
+use Rattle.std.proofs.Common.{option_map, IfSome}
 use Rattle.std.specs.FinMap.{get, len}
 use Rattle.signal_records.specs.TimingSet.{Rows, after_changes}
 use Rattle.signal_records.specs.declared.record.Row.{Row}
-use Rattle.std.specs.Prelude.{IfSome}
 use Rattle.signal_rules.specs.Violations.{violations_of}
 use Rattle.signal_rules.specs.declared.violation.Violation.{Violation}
-use Rattle.draft_core.specs.Transaction.{Draft, state_of, state_of_holder, TimingSide, holder_of, verdict_on, verdict_of}
+use Rattle.draft_core.specs.Transaction.{Draft, state_of, state_of_holder, TimingSide, holder_of, verdict_of}
 use Rattle.draft_core.specs.DraftRows.{RowsByKey, Stands}
 use Rattle.draft_core.proofs.Overlaid.{draft_is}
 use Rattle.draft_core.specs.declared.state.Holder.{Holder}
 use Rattle.draft_core.specs.declared.timing.Timing.{Timing}
+use Rattle.draft_core.specs.declared.timing.Reach.{Reach}
 use Rattle.draft_core.specs.declared.timing.Reach.TheVariants as reach
 use Rattle.draft_core.specs.declared.state.Verdict.{Verdict}
-use Rattle.draft_core.specs.declared.state.Verdict.TheVariants.{NotDone}
 use Rattle.office_tables_shelf.specs.Content.{Content}
-use Rattle.office_tables_shelf.specs.Change.{changed_by}
 use Rattle.office_tables_shelf.specs.Shelf.{ReadsIntersection, ListsTiming, CountsTiming}
 use Rattle.office_tables_shelf.specs.declared.rows.IntersectionRow.{IntersectionRow}
-use Rattle.office_tables_shelf.specs.declared.rows.RowChange.{RowChange}
-use Rattle.office_desk.specs.Answers.{Answers}
 use Rattle.office_desk.specs.Decisions.{row_shown, IsVerdictOf, ShowsDraft}
 use Rattle.office_machine.specs.Office.{Office, Intersection, IsSoundIntersection, side_of}
 use Rattle.office_desk.specs.Reading.{AreWithin, FoundStands, Finds, FindsAny, drafts_at}
 use Rattle.office_desk.specs.Reading.{set_of_rows}
 use Rattle.office_desk.specs.StandFor.{StandForSound, row_of}
 use Rattle.office_machine.specs.Step.{answered, shown, state_shown, draft_shown, timing_shown}
-use Rattle.office_machine.specs.declared.command.Command.{Command}
 use Rattle.office_machine.specs.declared.command.Command.TheVariants as command
 use Rattle.office_desk.specs.declared.reading.Found.{Found}
 use Rattle.draft_core.specs.declared.refusal.DraftRefusal.TheVariants as draft
@@ -40,13 +35,6 @@ use Rattle.office_desk.proofs.TimingCount.{committed_counted}
 
 -- ---- the intersection that was read
 
-pub absent : (tables : Content) (office : Office) (id : ℕ) → StandForSound tables office → ReadsIntersection tables id None → get office.intersections id ≡ None
-absent tables office id stands reads = go (get office.intersections id) (row_read tables office id None stands.stand reads)
-  where
-    go : (i : Option Intersection) → None ≡ option_map row_of i → i ≡ None
-    go None e = refl
-    go (Some i) e = absurd (let f : None ≡ Some (row_of i) = e in cc)
-
 pub there : (tables : Content) (office : Office) (id : ℕ) (row : IntersectionRow) → StandForSound tables office → ReadsIntersection tables id (Some row)
     → (i : Intersection) × (get office.intersections id ≡ Some i) × (row ≡ row_of i)
 there tables office id row stands reads = go (get office.intersections id) refl (row_read tables office id (Some row) stands.stand reads)
@@ -54,16 +42,6 @@ there tables office id row stands reads = go (get office.intersections id) refl 
     go : (o : Option Intersection) → get office.intersections id ≡ o → Some row ≡ option_map row_of o → (i : Intersection) × (get office.intersections id ≡ Some i) × (row ≡ row_of i)
     go None is e = absurd (let f : Some row ≡ None = e in cc)
     go (Some i) is e = (i, is, let f : Some row ≡ Some (row_of i) = e in cc)
-
--- a query that leaves the office is answered as it shows
-pub query_answers : (tables : Content) (office : Office) (command : Command) (said told : Reply) (changes : List RowChange)
-    → StandForSound tables office → answered office command ≡ (said, office) → told ≡ said → changes ≡ []
-    → Answers office command told (changed_by tables changes)
-query_answers tables office command said told changes stands is same none = record {
-  next = office;
-  step = inr (is ∙ (λ k. (sym same k, office)));
-  stand = subst (λ list. StandForSound (changed_by tables list) office) (sym none) stands;
-}
 
 -- ---- State
 
@@ -87,62 +65,43 @@ shown_state id i rows verdict count judged k = record {
   verify = judged k;
 }
 
-pub state_answers : (tables : Content) (office : Office) (id : ℕ) (row : IntersectionRow) (count : ℕ) (verdict : Verdict) (told : Reply) (changes : List RowChange)
+pub state_shows : (tables : Content) (office : Office) (id : ℕ) (row : IntersectionRow) (count : ℕ) (verdict : Verdict)
     → StandForSound tables office → ReadsIntersection tables id (Some row) → CountsTiming tables id count → IsVerdictOf tables id row verdict
-    → told ≡ reply.State (row_shown id row count verdict) → changes ≡ [] → Answers office (command.State id) told (changed_by tables changes)
-state_answers tables office id row count verdict told changes stands reads counted judged is none =
+    → answered office (command.State id) ≡ (reply.State (row_shown id row count verdict), office)
+state_shows tables office id row count verdict stands reads counted judged =
     let at = there tables office id row stands reads in
-    let i = at.0 in
-    let same : row_shown id row count verdict ≡ state_shown id i =
-    ap (λ r. row_shown id r count verdict) at.2 ∙ shown_state id i count verdict (counted ∙ (committed_counted tables office id stands ∙ ap (λ (o : Option Intersection). len (side_of o).committed) at.1)) (judged office i stands at.1 at.2) in
-    query_answers tables office (command.State id) (reply.State (state_shown id i)) told changes stands
-    (ap (λ o. (shown o (λ j. reply.State (state_shown id j)), office)) at.1) (is ∙ ap (λ s. reply.State s) same) none
-
-pub unknown_state : (tables : Content) (office : Office) (id : ℕ) (told : Reply) (changes : List RowChange)
-    → StandForSound tables office → ReadsIntersection tables id None → told ≡ reply.Refused refusal.UnknownIntersection → changes ≡ [] → Answers office (command.State id) told (changed_by tables changes)
-unknown_state tables office id told changes stands reads is none =
-    query_answers tables office (command.State id) _ told changes stands (ap (λ o. (shown o (λ j. reply.State (state_shown id j)), office)) (absent tables office id stands reads)) is none
+    let same : row_shown id row count verdict ≡ state_shown id at.0 =
+    ap (λ r. row_shown id r count verdict) at.2 ∙ shown_state id at.0 count verdict (counted ∙ (committed_counted tables office id stands ∙ ap (λ (o : Option Intersection). len (side_of o).committed) at.1)) (judged office at.0 stands at.1 at.2) in
+    ap (λ o. (shown o (λ j. reply.State (state_shown id j)), office)) at.1
+    ∙ (λ k. (reply.State (sym same k), office))
 
 -- ---- the verdict
-
-pub verdict_of_none : (tables : Content) (id : ℕ) (row : IntersectionRow) → row.holder ≡ None → IsVerdictOf tables id row NotDone
-verdict_of_none tables id row free office i stands there is = go i.timing.draft (sym free ∙ ap (λ (r : IntersectionRow). r.holder) is)
-  where
-    go : (d : Option Draft) → None ≡ option_map holder_of d → NotDone ≡ verdict_of d
-    go None e = refl
-    go (Some draft) e = absurd (let f : None ≡ Some (holder_of draft) = e in cc)
 
 held_draft : (d : Option Draft) (holder : Holder) → Some holder ≡ option_map holder_of d → (draft : Draft) × (d ≡ Some draft) × (holder_of draft ≡ holder)
 held_draft None holder e = absurd (let f : Some holder ≡ None = e in cc)
 held_draft (Some draft) holder e = (draft, refl, let f : Some holder ≡ Some (holder_of draft) = e in cc)
 
-pub verdict_unjudged : (tables : Content) (id : ℕ) (row : IntersectionRow) (holder : Holder) → row.holder ≡ Some holder
-    → ((violations : List Violation) → verdict_on holder.stage violations ≡ NotDone) → IsVerdictOf tables id row NotDone
-verdict_unjudged tables id row holder held unjudged office i stands there is =
-    let draft = held_draft i.timing.draft holder (sym held ∙ ap (λ (r : IntersectionRow). r.holder) is) in
-    sym (ap verdict_of draft.1 ∙ ap (λ (h : Holder). verdict_on h.stage (violations_of draft.0.set)) draft.2 ∙ unjudged (violations_of draft.0.set))
-
 -- ---- what was found
 
 -- the intersection that was found is there
-pub found_there : (tables : Content) (office : Office) (id : ℕ) (found : Found)
-    (stands : StandForSound tables office) → FindsAny reach.Plan tables id (Some found)
+pub found_there : (reach : Reach) (tables : Content) (office : Office) (id : ℕ) (found : Found)
+    (stands : StandForSound tables office) → FindsAny reach tables id (Some found)
     → (i : Intersection) × (get office.intersections id ≡ Some i)
-    × FoundStands reach.Plan (drafts_at stands.stand id) i found
-found_there tables office id found stands finds = go (get office.intersections id) refl (finds office stands)
+    × FoundStands reach (drafts_at stands.stand id) i found
+found_there reach tables office id found stands finds = go (get office.intersections id) refl (finds office stands)
   where
     go : (o : Option Intersection) → get office.intersections id ≡ o
-        → Finds reach.Plan (drafts_at stands.stand id) o (Some found)
+        → Finds reach (drafts_at stands.stand id) o (Some found)
         → (i : Intersection) × (get office.intersections id ≡ Some i)
-        × FoundStands reach.Plan (drafts_at stands.stand id) i found
+        × FoundStands reach (drafts_at stands.stand id) i found
     go None is f = absurd f
     go (Some i) is f = (i, is, f)
 
-pub found_none : (tables : Content) (office : Office) (id : ℕ) → StandForSound tables office
-    → FindsAny reach.Plan tables id None → get office.intersections id ≡ None
-found_none tables office id stands finds = go (get office.intersections id) (finds office stands)
+pub found_none : (reach : Reach) (tables : Content) (office : Office) (id : ℕ)
+    → StandForSound tables office → FindsAny reach tables id None → get office.intersections id ≡ None
+found_none reach tables office id stands finds = go (get office.intersections id) (finds office stands)
   where
-    go : (o : Option Intersection) → Finds reach.Plan (drafts_at stands.stand id) o None → o ≡ None
+    go : (o : Option Intersection) → Finds reach (drafts_at stands.stand id) o None → o ≡ None
     go None f = refl
     go (Some i) f = absurd f
 
@@ -156,7 +115,7 @@ pub verdict_found : (tables : Content) (id : ℕ) (row : IntersectionRow) (found
     → violations_of side.committed ≡ [] → verdict ≡ verdict_of side.draft)
     → IsVerdictOf tables id row verdict
 verdict_found tables id row found verdict finds reads office i stands there is =
-    let at = found_there tables office id found stands finds in
+    let at = found_there reach.Plan tables office id found stands finds in
     let same : at.0 ≡ i = let f : Some at.0 ≡ Some i = sym at.1 ∙ there in cc in
     subst (λ (j : Intersection). verdict ≡ verdict_of j.timing.draft) same
     (reads (drafts_at stands.stand id) at.0.timing at.2.timing_stands
@@ -165,32 +124,24 @@ verdict_found tables id row found verdict finds reads office i stands there is =
 pub no_verdict : (tables : Content) (id : ℕ) (row : IntersectionRow) (verdict : Verdict)
     → FindsAny reach.Plan tables id None → IsVerdictOf tables id row verdict
 no_verdict tables id row verdict finds office i stands there is =
-    absurd (let f : Some i ≡ None = sym there ∙ found_none tables office id stands finds in let g : Some i ≡ None = f in cc)
+    absurd (let f : Some i ≡ None = sym there ∙ found_none reach.Plan tables office id stands finds in let g : Some i ≡ None = f in cc)
 
 -- ---- Timing
 
-pub timing_answers : (tables : Content) (office : Office) (id : ℕ) (row : IntersectionRow) (rows : List Row) (set : Rows) (told : Reply) (changes : List RowChange)
+pub timing_shows : (tables : Content) (office : Office) (id : ℕ) (row : IntersectionRow) (rows : List Row) (set : Rows)
     → StandForSound tables office → ReadsIntersection tables id (Some row) → ListsTiming tables id rows → AreWithin rows → set ≡ set_of_rows rows
-    → told ≡ reply.Timing (record { name = row.name; revision = row.revision; rows = set })
-    → changes ≡ [] → Answers office (command.Timing id) told (changed_by tables changes)
-timing_answers tables office id row rows set told changes stands reads lists within made is none =
+    → answered office (command.Timing id) ≡ (reply.Timing (record { name = row.name; revision = row.revision; rows = set }), office)
+timing_shows tables office id row rows set stands reads lists within made =
     let at = there tables office id row stands reads in
-    let i = at.0 in
-    let same : set ≡ i.timing.committed = made ∙ (committed_read tables office id rows stands lists within ∙ ap (λ (o : Option Intersection). (side_of o).committed) at.1) in
-    query_answers tables office (command.Timing id) (reply.Timing (timing_shown i)) told changes stands
-    (ap (λ o. (shown o (λ j. reply.Timing (timing_shown j)), office)) at.1)
-    (is ∙ (λ k. reply.Timing (record {
-      name = (at.2 k).name;
-      revision = (at.2 k).revision;
-      rows = same k;
-    }))) none
-
-pub unknown_timing : (tables : Content) (office : Office) (id : ℕ) (told : Reply) (changes : List RowChange)
-    → StandForSound tables office → ReadsIntersection tables id None → told ≡ reply.Refused refusal.UnknownIntersection → changes ≡ [] → Answers office (command.Timing id) told (changed_by tables changes)
-unknown_timing tables office id told changes stands reads is none =
-    query_answers tables office (command.Timing id) _ told changes stands
-    (ap (λ o. (shown o (λ j. reply.Timing (timing_shown j)), office))
-    (absent tables office id stands reads)) is none
+    let same : set ≡ at.0.timing.committed = made ∙ (committed_read tables office id rows stands lists within ∙ ap (λ (o : Option Intersection). (side_of o).committed) at.1) in
+    ap (λ o. (shown o (λ j. reply.Timing (timing_shown j)), office)) at.1 ∙ (λ k. (
+      reply.Timing (record {
+        name = (sym at.2 k).name;
+        revision = (sym at.2 k).revision;
+        rows = sym same k;
+      }),
+      office,
+    ))
 
 -- ---- Draft
 
@@ -214,19 +165,10 @@ no_draft_shows timing side stands free = go side.draft (sym free ∙ stands.same
     go None e = refl
     go (Some draft) e = absurd (let f : None ≡ Some (holder_of draft) = e in cc)
 
-pub draft_answers : (tables : Content) (office : Office) (id : ℕ) (found : Found) (told said : Reply) (changes : List RowChange)
-    → StandForSound tables office → FindsAny reach.Plan tables id (Some found)
-    → ShowsDraft found said → told ≡ said → changes ≡ []
-    → Answers office (command.Draft id) told (changed_by tables changes)
-draft_answers tables office id found told said changes stands finds shows is none =
-    let at = found_there tables office id found stands finds in
-    query_answers tables office (command.Draft id) (draft_shown at.0.timing.draft) told changes stands
-    (ap (λ o. (shown o (λ j. draft_shown j.timing.draft), office)) at.1) (is
-    ∙ shows (drafts_at stands.stand id) at.0.timing at.2.timing_stands) none
-
-pub unknown_draft : (tables : Content) (office : Office) (id : ℕ) (told : Reply) (changes : List RowChange)
-    → StandForSound tables office → FindsAny reach.Plan tables id None
-    → told ≡ reply.Refused refusal.UnknownIntersection → changes ≡ []
-    → Answers office (command.Draft id) told (changed_by tables changes)
-unknown_draft tables office id told changes stands finds is none =
-    query_answers tables office (command.Draft id) _ told changes stands (ap (λ o. (shown o (λ j. draft_shown j.timing.draft), office)) (found_none tables office id stands finds)) is none
+pub draft_answers : (tables : Content) (office : Office) (id : ℕ) (found : Found) (said : Reply)
+    → StandForSound tables office → FindsAny reach.Plan tables id (Some found) → ShowsDraft found said
+    → answered office (command.Draft id) ≡ (said, office)
+draft_answers tables office id found said stands finds shows =
+    let at = found_there reach.Plan tables office id found stands finds in
+    ap (λ o. (shown o (λ j. draft_shown j.timing.draft), office)) at.1
+    ∙ (λ k. (sym (shows (drafts_at stands.stand id) at.0.timing at.2.timing_stands) k, office))

@@ -1,10 +1,10 @@
 -- What the queries of the register show after records that were accepted, each in its turn.
-use Rattle.std.proofs.Common.{◌≡◌, ℕ, ◌+◌, ◌-◌, ◌≤◌, Bool, true, false, ◌&&◌, ◌||◌, ◌==◌, cond, List, [], ◌∷◌, ◌++◌, map, filter, Option, Some, None, Ordering, Less, Equal, Greater, T, refl, ap, sym, subst, ◌∙◌, arith}
+use Rattle.std.proofs.Common.{◌≡◌, ℕ, ◌+◌, ◌-◌, ◌≤◌, Bool, true, false, ◌&&◌, ◌||◌, ◌==◌, cond, List, [], ◌∷◌, ◌++◌, map, filter, Option, Some, None, T, refl, ap, sym, subst, ◌∙◌, arith}
 use Rattle.std.specs.FinMap as finite
 use Rattle.std.specs.FinMap.{get, entries, entries_sorted, get-entries}
 use Rattle.std.specs.FinMap.Entries.{is_sorted, below_all, where_key}
 use Rattle.std.specs.List.{AllByRecursion}
-use Rattle.std.specs.Ordering.{eq_by_cmp, is_eq, is_lt}
+use Rattle.std.specs.Ordering.{eq_by_cmp, is_eq}
 use Rattle.std.specs.Prelude.{IfSome}
 use Rattle.cabinet_core.specs.Cabinet.{added, on_hand, close_line, with_closing, record_of}
 use Rattle.cabinet_core.specs.declared.command.RecordCommand.{RecordCommand}
@@ -18,6 +18,7 @@ use Rattle.cabinet_core.proofs.RecordLaws.{open_law, delivered_law, used_law}
 use Rattle.cabinet_core.proofs.Sound.{usable, receivable}
 use Rattle.cabinet_core.proofs.StockLemmas.{line_stocked, delivery_stocked, hand_adds}
 use Rattle.cabinet_core.proofs.StockList.{stock_has}
+use Rattle.office_tables_shelf.proofs.ListLemmas.{less, parts}
 use Rattle.cabinet_core.specs.Orders.{is_open, is_open_at, is_open_order, open_at}
 use Rattle.cabinet_core.specs.Register.{RecordKey, Register, record_cmp}
 use Rattle.cabinet_core.specs.Runs.{AreAccepted, open_by, received_by, spent_by}
@@ -79,20 +80,11 @@ accepted_more (command ∷ commands) more r mid last first run = (first.0, accep
 
 -- ---- open orders
 
-halves : (a b : Bool) → T (a && b) → T a × T b
-halves true b h = (tt, h)
-halves false b h = absurd h
-
-less : (o : Ordering) → T (is_lt o) → o ≡ Less
-less Less h = refl
-less Equal h = absurd h
-less Greater h = absurd h
-
 -- nothing stands at a key that ties with one below all others
 none_above : (q k : RecordKey) (es : List Entry) → eq_by_cmp record_cmp q k ≡ true → T (below_all record_cmp k es) → finite.find record_cmp q es ≡ None
 none_above q k [] tie below = refl
 none_above q k (e ∷ es) tie below =
-    let hs = halves _ _ below in
+    let hs = parts _ _ below in
     let apart : eq_by_cmp record_cmp q e.0 ≡ false = ap is_eq (record_total.congr q k e.0 (tied _ tie) ∙ less _ hs.0) in
     rw apart (none_above q k es tie hs.1)
 
@@ -140,8 +132,8 @@ open_listed id n (e ∷ es) sorted each =
     let ties : eq_by_cmp record_cmp (id, n) e.0 ≡ ((e.0.0 == id) && (e.1.number == n)) = record_ties id n e.0.0 e.0.1 ∙ ap (λ m. (e.0.0 == id) && (m == n)) (sym each.0) in
     ap (λ (orders : List Order). is_among (numbers_of orders) n) (chosen (of_id id e.0) e (where_key record_cmp (of_id id) es))
     ∙ among_more n (of_id id e.0) e.1 (map (λ (d : Entry). d.1) (where_key record_cmp (of_id id) es))
-    ∙ one_more (e.0.0 == id) (e.1.number == n) (is_open e.1) later there (open_listed id n es (halves _ _ sorted).1 each.1)
-    (λ both. ap is_open_order (none_above (id, n) e.0 es (ties ∙ both) (halves _ _ sorted).0))
+    ∙ one_more (e.0.0 == id) (e.1.number == n) (is_open e.1) later there (open_listed id n es (parts _ _ sorted).1 each.1)
+    (λ both. ap is_open_order (none_above (id, n) e.0 es (ties ∙ both) (parts _ _ sorted).0))
     ∙ sym (open_order (eq_by_cmp record_cmp (id, n) e.0) e.1 (finite.find record_cmp (id, n) es) ∙ ap (λ b. cond b (is_open e.1) there) ties)
 
 -- the orders that are shown are those that records that were accepted left open

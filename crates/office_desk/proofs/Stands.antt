@@ -1,8 +1,6 @@
 -- The tables that stand for an office: what they hold of an intersection, that each row is a record, and what a new intersection makes of them.
-use Rattle.std.proofs.Common.{◌≡◌, ℕ, List, Option, Some, None, refl, ap, sym, subst, ◌∙◌, cond, true, false, inl, inr}
-use Rattle.std.specs.Prelude.{IfSome, pos}
-use Rattle.std.specs.Option.{option_map}
-use Rattle.std.proofs.Common.{arith}
+use Rattle.std.proofs.Common.{◌≡◌, ℕ, List, Option, Some, None, refl, ap, sym, subst, ◌∙◌, cond}
+use Rattle.std.proofs.Common.{true, false, inl, inr, IfSome, pos, option_map, arith}
 use Rattle.std.proofs.lemmas.Bool.Decides.{nat_tests}
 use Rattle.std.specs.FinMap.{get, insert, get-insert, nat_cmp-IsAntisymmetric}
 use Rattle.std.specs.Cmp.{nat_cmp_total}
@@ -91,7 +89,7 @@ own_key id other key cells of is =
     let same : id ≡ other = cc in
     is ∙ ap (λ n. timing_key n key) (sym same)
 
-no_damaged_timing : (tables : Content) (id : ℕ) → HasDamagedTiming tables id → (office : Office) → StandForSound tables office → ⊥
+pub no_damaged_timing : (tables : Content) (id : ℕ) → HasDamagedTiming tables id → (office : Office) → StandForSound tables office → ⊥
 no_damaged_timing tables id damaged office stands =
     let keyed = stands.stand.timing_keys damaged.key damaged.columns damaged.stored in
     let here : damaged.key ≡ timing_key id keyed.1 = own_key id keyed.0 keyed.1 damaged.key damaged.of keyed.2 in
@@ -155,10 +153,10 @@ compared q id = elim (eq_by_cmp nat_cmp q id) as (λ b. eq_by_cmp nat_cmp q id �
   | false ↦ λ h. two (apart q id h) h
 ] refl
 
-side_here : (office : Office) (id q : ℕ) (i : Intersection) → eq_by_cmp nat_cmp q id ≡ true → side_at (with_intersection office id i) q ≡ i.timing
+pub side_here : (office : Office) (id q : ℕ) (i : Intersection) → eq_by_cmp nat_cmp q id ≡ true → side_at (with_intersection office id i) q ≡ i.timing
 side_here office id q i b = ap side_of (get-insert nat_cmp_total office.intersections id i q ∙ ap (λ b. cond b (Some i) (get office.intersections q)) b)
 
-side_elsewhere : (office : Office) (id q : ℕ) (i : Intersection) → eq_by_cmp nat_cmp q id ≡ false → side_at (with_intersection office id i) q ≡ side_at office q
+pub side_elsewhere : (office : Office) (id q : ℕ) (i : Intersection) → eq_by_cmp nat_cmp q id ≡ false → side_at (with_intersection office id i) q ≡ side_at office q
 side_elsewhere office id q i b = ap side_of (get-insert nat_cmp_total office.intersections id i q ∙ ap (λ b. cond b (Some i) (get office.intersections q)) b)
 
 -- the draft row at a key, of a timing side

@@ -8,10 +8,10 @@ use Rattle.std.specs.Str.{bytes_eq}
 use Rattle.std.proofs.lemmas.List.{length-map}
 use Rattle.signal_records.specs.Words.{AreWords}
 use Rattle.signal_records.specs.declared.record.Change.{Change}
-use Rattle.signal_records.specs.declared.record.Change.TheVariants.{Put, Remove}
+use Rattle.signal_records.specs.declared.record.Change.TheVariants.{Put}
 use Rattle.draft_core.specs.Moves.{Follows, FollowsSoundLine, IsUnsettled, Makes, RefusesFirst}
 use Rattle.draft_core.specs.Moves.{drafted_in, timing_writes, draft_writes}
-use Rattle.draft_core.specs.DraftRows.{RowsByKey}
+use Rattle.draft_core.specs.News.{AddsOnlyNew}
 use Rattle.draft_core.specs.Transaction.{TimingSide, is_stage, refused_by}
 use Rattle.draft_core.specs.Within.{AreChangesWithin}
 use Rattle.draft_core.specs.declared.refusal.DraftRefusal.{DraftRefusal}
@@ -21,8 +21,8 @@ use Rattle.draft_core.specs.declared.state.Stage.{Stage}
 use Rattle.draft_core.specs.declared.state.Stage.TheVariants as stages
 use Rattle.draft_core.specs.declared.timing.Move.{Move}
 use Rattle.draft_core.specs.declared.timing.TimingChange.{TimingChange}
-use Rattle.draft_core.specs.declared.timing.TimingChange.TheVariants.{Committed, Drafted, DraftGone}
-use Rattle.office_tables_shelf.specs.Change.{changed_by}
+use Rattle.draft_core.specs.declared.timing.TimingChange.TheVariants.{CommittedNew, Committed}
+use Rattle.office_tables_shelf.specs.Change.{AddNew, changed_by}
 use Rattle.office_tables_shelf.specs.Content.{Content}
 use Rattle.office_tables_shelf.specs.Shelf.{ListsDraft, rows_of}
 use Rattle.office_tables_shelf.specs.declared.rows.RowChange.{RowChange}
@@ -40,7 +40,7 @@ use Rattle.office_desk.specs.Deciding.{Decides, IsDecision}
 use Rattle.office_desk.specs.Moving.{WritesMove, WritesDecision, moved_row, row_changes_of}
 use Rattle.office_desk.specs.Named.{RefusesBy, number_of, numbers_of}
 use Rattle.office_machine.specs.Office.{Office, Intersection, IsSoundIntersection}
-use Rattle.office_desk.specs.Reading.{FoundStands, Finds, FindsAny, ListsFound, drafts_at}
+use Rattle.office_desk.specs.Reading.{FoundStands, FindsAny, ListsFound, drafts_at}
 use Rattle.office_desk.specs.StandFor.{StandForSound}
 use Rattle.office_machine.specs.Step.{answered, transacted, moved, moved_to, refusal_of_draft, with_intersection}
 use Rattle.office_desk.specs.Transacting.{command_of, first_refusal, line_of, reach_of}
@@ -53,118 +53,71 @@ use Rattle.office_machine.specs.declared.reply.Reply.{Reply}
 use Rattle.office_machine.specs.declared.reply.Reply.TheVariants.{Moved, Refused}
 use Rattle.office_desk.specs.declared.transacting.Ask.{Ask}
 use Rattle.office_desk.specs.declared.transacting.Ask.TheVariants.{Begin, Edit, Verify, Check, Commit, Reopen, Abandon}
-use Rattle.office_desk.proofs.Decisions.{refuses_so, unknown_decides}
+use Rattle.office_desk.proofs.AddedRows.{move_news}
+use Rattle.office_desk.proofs.Decisions.{query_answers, refuses_so, unknown_decides}
 use Rattle.office_desk.proofs.Keeps.{line_keeps, side_sound, sound_intersection}
 use Rattle.office_desk.proofs.Moved.{move_stands, with_timing_side}
+use Rattle.office_desk.proofs.Shown.{found_none, found_there, sound_there}
 use Rattle.office_desk.proofs.Stands.{sound_with}
 
 -- ---- the step
 
 by_line : (ask : Ask) (office : Office) (id : ℕ) (clerk : List ℕ) → answered office (command_of id clerk ask) ≡ transacted office id (line_of ask clerk) (get office.intersections id)
 by_line Begin office id clerk = refl
-by_line (Edit changes) office id clerk = refl
-by_line Verify office id clerk = refl
-by_line Check office id clerk = refl
-by_line Commit office id clerk = refl
-by_line Reopen office id clerk = refl
-by_line Abandon office id clerk = refl
+by_line _ office id clerk = refl
 
 answered_at : (ask : Ask) (office : Office) (id : ℕ) (clerk : List ℕ) (i : Intersection) (l : Result TimingSide DraftRefusal) → get office.intersections id ≡ Some i → line_of ask clerk i.timing ≡ l
     → answered office (command_of id clerk ask) ≡ moved office id i l
 answered_at ask office id clerk i l there line = by_line ask office id clerk ∙ ap (transacted office id (line_of ask clerk)) there ∙ ap (moved office id i) line
 
--- an accepted command
-accepted : (tables : Content) (office : Office) (id : ℕ) (clerk : List ℕ) (ask : Ask) (i : Intersection) (found : Found) (move : Move) (next : TimingSide) (reply : Reply) (changes : List RowChange)
-    → (stands : StandForSound tables office) → get office.intersections id ≡ Some i
-    → IsSoundIntersection i → FoundStands (reach_of ask) (drafts_at stands.stand id) i found
-    → AreWords 40 clerk → IsAskWithin ask → AreChangesWithin (drafted_in move.changes)
-    → line_of ask clerk i.timing ≡ Ok next → Makes
-    (drafts_at stands.stand id) i.timing clerk move next
-    → WritesMove id clerk found move reply changes
-    → Answers office (command_of id clerk ask) reply (changed_by tables changes)
-accepted tables office id clerk ask i found move next reply changes stands there sound here words
-    within drafts line makes writes =
-    let told : reply ≡ moved_to next = writes.told ∙ (λ k. Moved (makes.same_revision k) (makes.same_state k) (makes.same_verdict k)) in
-    let after = with_intersection office id (with_timing_side i next) in
-    record {
-      next = after;
-      step = inr (answered_at ask office id clerk i (Ok next) there line ∙ (λ k. (sym told k, after)));
-      stand = subst (λ list. StandForSound (changed_by tables list) after) (sym writes.rows) (record {
-        stand = move_stands tables office id i found clerk move next stands.stand there here drafts
-            makes;
-        sound = sound_with office id (with_timing_side i next) (subst (λ o. IfSome o (λ _. IsInRange 1 9999 id)) there (stands.sound.numbers id)) stands.sound (sound_intersection i next sound (line_keeps ask clerk i.timing next words within (side_sound i sound) line));
-      });
-    }
+-- one on an intersection that was found
+module _ (tables : Content) (office : Office) (id : ℕ) (clerk : List ℕ) (ask : Ask) (i : Intersection)
+    (found : Found) (stands : StandForSound tables office) (there : get office.intersections id ≡ Some i)
+    (sound : IsSoundIntersection i) (here : FoundStands (reach_of ask) (drafts_at stands.stand id) i found)
+    (words : AreWords 40 clerk) (within : IsAskWithin ask) where
+  accepted : (move : Move) (next : TimingSide) (reply : Reply) (changes : List RowChange)
+      → AreChangesWithin (drafted_in move.changes) → line_of ask clerk i.timing ≡ Ok next
+      → Makes (drafts_at stands.stand id) i.timing clerk move next
+      → WritesMove id clerk found move reply changes
+      → Answers office (command_of id clerk ask) reply (changed_by tables changes)
+  accepted move next reply changes drafts line makes writes =
+      let told : reply ≡ moved_to next = writes.told ∙ (λ k. Moved (makes.same_revision k) (makes.same_state k) (makes.same_verdict k)) in
+      let after = with_intersection office id (with_timing_side i next) in
+      record {
+        next = after;
+        step = inr (answered_at ask office id clerk i (Ok next) there line ∙ (λ k. (sym told k, after)));
+        stand = subst (λ list. StandForSound (changed_by tables list) after) (sym writes.rows) (record {
+          stand = move_stands tables office id i found clerk move next stands.stand there here drafts
+              makes;
+          sound = sound_with office id (with_timing_side i next) (subst (λ o. IfSome o (λ _. IsInRange 1 9999 id)) there (stands.sound.numbers id)) stands.sound (sound_intersection i next sound (line_keeps ask clerk i.timing next words within (side_sound i sound) line));
+        });
+      }
 
--- a refused one
-turned_down : (tables : Content) (office : Office) (id : ℕ) (clerk : List ℕ) (ask : Ask) (i : Intersection) (why : DraftRefusal) (reply : Reply) (changes : List RowChange)
-    → StandForSound tables office → get office.intersections id ≡ Some i → line_of ask clerk i.timing ≡ Err why → reply ≡ Refused (refusal_of_draft why) → changes ≡ []
-    → Answers office (command_of id clerk ask) reply (changed_by tables changes)
-turned_down tables office id clerk ask i why reply changes stands there line told none = record {
-  next = office;
-  step = inr (answered_at ask office id clerk i (Err why) there line ∙ (λ k. (sym told k, office)));
-  stand = subst (λ list. StandForSound (changed_by tables list) office) (sym none) stands;
-}
-
--- one on an intersection that is not there
-unknown_answers : (tables : Content) (id : ℕ) (clerk : List ℕ) (ask : Ask) (reply : Reply)
-    (changes : List RowChange) → FindsAny (reach_of ask) tables id None
-    → reply ≡ Refused refusal.UnknownIntersection → changes ≡ [] → AnswersAny tables (command_of id clerk ask) reply (changed_by tables changes)
-unknown_answers tables id clerk ask reply changes finds told none office stands = record {
-  next = office;
-  step = inr (by_line ask office id clerk ∙ ap (transacted office id (line_of ask clerk))
-      (absent (drafts_at stands.stand id) (get office.intersections id) (finds office stands))
-      ∙ (λ k. (sym told k, office)));
-  stand = subst (λ list. StandForSound (changed_by tables list) office) (sym none) stands;
-}
-  where
-    absent : (rows : RowsByKey) (o : Option Intersection) → Finds (reach_of ask) rows o None
-        → o ≡ None
-    absent rows None h = refl
-    absent rows (Some i) h = absurd h
-
-settled : (tables : Content) (office : Office) (id : ℕ) (clerk : List ℕ) (ask : Ask) (i : Intersection) (found : Found) (decision : Result Move DraftRefusal) (l : Result TimingSide DraftRefusal) (reply : Reply) (changes : List RowChange)
-    → (stands : StandForSound tables office) → get office.intersections id ≡ Some i
-    → IsSoundIntersection i → FoundStands (reach_of ask) (drafts_at stands.stand id) i found
-    → AreWords 40 clerk → IsAskWithin ask → IfOk decision
-    (λ move. AreChangesWithin (drafted_in move.changes))
-    → line_of ask clerk i.timing ≡ l → Follows (drafts_at stands.stand id) i.timing clerk decision
-    l → WritesDecision id clerk found decision reply changes
-    → Answers office (command_of id clerk ask) reply (changed_by tables changes)
-settled tables office id clerk ask i found (Ok move)
-    (Ok next) reply changes stands there sound here words within drafts line follows writes =
-    accepted tables office id clerk ask i found move next reply changes stands there sound here
-    words within drafts line follows writes
-settled tables office id clerk ask i found (Ok move)
-    (Err why) reply changes stands there sound here words within drafts line follows writes =
-    absurd follows
-settled tables office id clerk ask i found (Err why) l reply changes stands there sound here words
-    within drafts line (inl memory) writes = absurd (writes.0 memory)
-settled tables office id clerk ask i found (Err why) l reply changes stands there sound here words
-    within drafts line (inr same) writes =
-    turned_down tables office id clerk ask i why reply changes stands there (line ∙ same) writes.1 writes.2
+  settled : (decision : Result Move DraftRefusal) (l : Result TimingSide DraftRefusal) (reply : Reply) (changes : List RowChange)
+      → IfOk decision (λ move. AreChangesWithin (drafted_in move.changes))
+      → line_of ask clerk i.timing ≡ l → Follows (drafts_at stands.stand id) i.timing clerk decision l
+      → WritesDecision id clerk found decision reply changes
+      → Answers office (command_of id clerk ask) reply (changed_by tables changes)
+  settled (Ok move) (Ok next) reply changes drafts line follows writes =
+      accepted move next reply changes drafts line follows writes
+  settled (Ok move) (Err why) reply changes drafts line follows writes = absurd follows
+  settled (Err why) l reply changes drafts line (inl memory) writes = absurd (writes.0 memory)
+  settled (Err why) l reply changes drafts line (inr same) writes =
+      query_answers tables office (command_of id clerk ask) _ reply changes stands
+      (answered_at ask office id clerk i (Err why) there (line ∙ same)) writes.1 writes.2
 
 move_answers : (tables : Content) (id : ℕ) (clerk : List ℕ) (ask : Ask) (found : Found) (decision : Result Move DraftRefusal) (reply : Reply) (changes : List RowChange)
-    → AreWords 40 clerk → IsAskWithin ask → IfOk decision
-    (λ move. AreChangesWithin (drafted_in move.changes))
+    → AreWords 40 clerk → IsAskWithin ask → IfOk decision (λ move. AreChangesWithin (drafted_in move.changes))
     → FindsAny (reach_of ask) tables id (Some found)
-    → FollowsSoundLine (reach_of ask) found.timing clerk decision
-    (λ side. line_of ask clerk side)
+    → FollowsSoundLine (reach_of ask) found.timing clerk decision (λ side. line_of ask clerk side)
     → WritesDecision id clerk found decision reply changes → AnswersAny tables (command_of id clerk ask) reply (changed_by tables changes)
 move_answers tables id clerk ask found decision reply changes words within drafts finds follows
     writes office stands =
-    elim (get office.intersections id) as (λ o. get office.intersections id ≡ o
-    → Finds (reach_of ask) (drafts_at stands.stand id) o (Some found)
-    → IfSome o IsSoundIntersection → Answers office (command_of id clerk ask) reply
-    (changed_by tables changes)) [
-      | None ↦ λ there here sound. absurd here
-      | Some i ↦ λ there here sound.
-          settled tables office id clerk ask i found decision
-          (line_of ask clerk i.timing) reply changes stands there sound here words within
-          drafts refl
-          (follows (drafts_at stands.stand id) i.timing here.timing_stands sound.no_violations)
-          writes
-    ] refl (finds office stands) (stands.sound.intersections id)
+    let at = found_there (reach_of ask) tables office id found stands finds in
+    let sound = sound_there tables office id at.0 stands at.1 in
+    settled tables office id clerk ask at.0 found stands at.1 sound at.2 words within decision
+    (line_of ask clerk at.0.timing) reply changes drafts refl
+    (follows (drafts_at stands.stand id) at.0.timing at.2.timing_stands sound.no_violations) writes
 
 -- ---- replies
 
@@ -180,29 +133,46 @@ refused_unchanged : (id : ℕ) (clerk : List ℕ) (found : Found) (decision : Re
 refused_unchanged id clerk found (Ok move) reply changes writes refused = absurd (subst IsRefused writes.told refused)
 refused_unchanged id clerk found (Err why) reply changes writes refused = writes.2
 
+-- ---- rows that are added
+
+decision_news : (tables : Content) (id : ℕ) (clerk : List ℕ) (ask : Ask) (found : Found)
+    (decision : Result Move DraftRefusal) (reply : Reply) (changes : List RowChange)
+    → ListsFound (reach_of ask) tables id found
+    → IfOk decision (λ move. AddsOnlyNew (reach_of ask) found.timing move.changes)
+    → WritesDecision id clerk found decision reply changes → AddNew tables changes
+decision_news tables id clerk ask found (Ok move) reply changes lists news writes =
+    subst (AddNew tables) (sym writes.rows)
+    (move_news (reach_of ask) tables id found (moved_row found clerk move) move.changes lists news)
+decision_news tables id clerk ask found (Err why) reply changes lists news writes =
+    subst (AddNew tables) (sym writes.2) tt
+
 -- ---- how many rows are written
 
 timing_written : (id : ℕ) (changes : List TimingChange) → writes_in table.Timing (row_changes_of id changes) ≡ timing_writes changes
 timing_written id [] = refl
-timing_written id (Committed (Put row) ∷ changes) = let later = timing_written id changes in omega (arith, later)
-timing_written id (Committed (Remove key) ∷ changes) = let later = timing_written id changes in omega (arith, later)
-timing_written id (Drafted change ∷ changes) = let later = timing_written id changes in omega (arith, later)
-timing_written id (DraftGone key ∷ changes) = let later = timing_written id changes in omega (arith, later)
+timing_written id (Committed (Put row) ∷ changes) =
+    let later = timing_written id changes in omega (arith, later)
+timing_written id (_ ∷ changes) =
+    let later = timing_written id changes in omega (arith, later)
 
 draft_written : (id : ℕ) (changes : List TimingChange) → writes_in table.Draft (row_changes_of id changes) ≡ draft_writes changes
 draft_written id [] = refl
-draft_written id (Committed (Put row) ∷ changes) = let later = draft_written id changes in omega (arith, later)
-draft_written id (Committed (Remove key) ∷ changes) = let later = draft_written id changes in omega (arith, later)
-draft_written id (Drafted change ∷ changes) = let later = draft_written id changes in omega (arith, later)
-draft_written id (DraftGone key ∷ changes) = let later = draft_written id changes in omega (arith, later)
+draft_written id (Committed (Put row) ∷ changes) =
+    let later = draft_written id changes in omega (arith, later)
+draft_written id (_ ∷ changes) =
+    let later = draft_written id changes in omega (arith, later)
 
 -- other tables are not written
 none_written : (other : Table) → is_same_table table.Timing other ≡ false → is_same_table table.Draft other ≡ false → (id : ℕ) (changes : List TimingChange) → writes_in other (row_changes_of id changes) ≡ 0
 none_written other t d id [] = refl
-none_written other t d id (Committed (Put row) ∷ changes) = let later = none_written other t d id changes in rw t (omega (arith, later))
-none_written other t d id (Committed (Remove key) ∷ changes) = let later = none_written other t d id changes in rw t (omega (arith, later))
-none_written other t d id (Drafted change ∷ changes) = let later = none_written other t d id changes in rw d (omega (arith, later))
-none_written other t d id (DraftGone key ∷ changes) = let later = none_written other t d id changes in rw d (omega (arith, later))
+none_written other t d id (CommittedNew row ∷ changes) =
+    let later = none_written other t d id changes in rw t (omega (arith, later))
+none_written other t d id (Committed (Put row) ∷ changes) =
+    let later = none_written other t d id changes in rw t (omega (arith, later))
+none_written other t d id (Committed _ ∷ changes) =
+    let later = none_written other t d id changes in rw t (omega (arith, later))
+none_written other t d id (_ ∷ changes) =
+    let later = none_written other t d id changes in rw d (omega (arith, later))
 
 -- the bounds, of the draft rows that were read
 listed_many : (tables : Content) (id : ℕ) (changes : List Change) → ListsDraft tables id changes
@@ -213,33 +183,19 @@ module _ (tables : Content) (id : ℕ) (clerk : List ℕ) (found : Found) where
   timing_bound : (ask : Ask) → ListsFound (reach_of ask) tables id found
       → most_writes tables (command_of id clerk ask) table.Timing
       ≡ most_committed ask (length found.timing.delta)
-  timing_bound Begin lists = refl
-  timing_bound (Edit changes) lists = refl
-  timing_bound Verify lists = refl
-  timing_bound Check lists = refl
   timing_bound Commit lists = listed_many tables id found.timing.delta lists.1.1
-  timing_bound Reopen lists = refl
-  timing_bound Abandon lists = refl
+  timing_bound _ lists = refl
 
   draft_bound : (ask : Ask) → ListsFound (reach_of ask) tables id found
       → most_writes tables (command_of id clerk ask) table.Draft
       ≡ most_drafted ask (length found.timing.delta)
-  draft_bound Begin lists = refl
-  draft_bound (Edit changes) lists = refl
-  draft_bound Verify lists = refl
-  draft_bound Check lists = refl
   draft_bound Commit lists = listed_many tables id found.timing.delta lists.1.1
-  draft_bound Reopen lists = refl
   draft_bound Abandon lists = listed_many tables id found.timing.delta lists.1
+  draft_bound _ lists = refl
 
 intersection_bound : (id : ℕ) (clerk : List ℕ) (ask : Ask) → most_intersection_writes (command_of id clerk ask) ≡ 1
 intersection_bound id clerk Begin = refl
-intersection_bound id clerk (Edit changes) = refl
-intersection_bound id clerk Verify = refl
-intersection_bound id clerk Check = refl
-intersection_bound id clerk Commit = refl
-intersection_bound id clerk Reopen = refl
-intersection_bound id clerk Abandon = refl
+intersection_bound id clerk _ = refl
 
 no_more : (written n most : ℕ) → written ≡ n → n ≤ most → 0 + written ≤ most
 no_more written n most same bound = omega arith
@@ -262,16 +218,8 @@ move_writes tables id clerk ask row found changes table.Timing lists bounds =
 move_writes tables id clerk ask row found changes table.Draft lists bounds =
     rw (draft_bound tables id clerk found ask lists)
     (no_more _ _ _ (draft_written id changes) bounds.draft)
-move_writes tables id clerk ask row found changes table.Inspection lists bounds =
-    no_more _ 0 _ (none_written table.Inspection refl refl id changes) (omega arith)
-move_writes tables id clerk ask row found changes table.WorkOrder lists bounds =
-    no_more _ 0 _ (none_written table.WorkOrder refl refl id changes) (omega arith)
-move_writes tables id clerk ask row found changes table.Part lists bounds =
-    no_more _ 0 _ (none_written table.Part refl refl id changes) (omega arith)
-move_writes tables id clerk ask row found changes table.Delivery lists bounds =
-    no_more _ 0 _ (none_written table.Delivery refl refl id changes) (omega arith)
-move_writes tables id clerk ask row found changes table.UsedPart lists bounds =
-    no_more _ 0 _ (none_written table.UsedPart refl refl id changes) (omega arith)
+move_writes tables id clerk ask row found changes other lists bounds =
+    no_more _ 0 _ (none_written other refl refl id changes) (omega arith)
 
 transact_writes : (tables : Content) (id : ℕ) (clerk : List ℕ) (ask : Ask) (found : Found) (decision : Result Move DraftRefusal) (reply : Reply) (changes : List RowChange)
     → WritesDecision id clerk found decision reply changes
@@ -318,20 +266,14 @@ unsettled_named : (id : ℕ) (clerk : List ℕ) (why : DraftRefusal) → why ≢
 unsettled_named id clerk (draft.VerifyFailed count) ne is = inr (inr (inr (inl refl)))
 unsettled_named id clerk draft.RevisionFull ne is = inr (inr (inr (inr (inl refl))))
 unsettled_named id clerk draft.NoMemory ne is = absurd (ne refl)
-unsettled_named id clerk draft.NotNormal ne is = absurd is
-unsettled_named id clerk draft.NotTransaction ne is = absurd is
-unsettled_named id clerk draft.NotOwner ne is = absurd is
-unsettled_named id clerk draft.NotVerify ne is = absurd is
-unsettled_named id clerk draft.NotDone ne is = absurd is
+unsettled_named id clerk _ ne is = absurd is
 
 later_named : (ask : Ask) (id : ℕ) (clerk : List ℕ) (why : DraftRefusal) → why ≢ draft.NoMemory → IsLater ask why → Names id clerk ask why
-later_named Begin id clerk why ne is = absurd is
 later_named (Edit changes) id clerk why ne is = absurd (ne is)
-later_named Verify id clerk why ne is = absurd is
 later_named Check id clerk why ne is = absurd (ne is)
-later_named Commit id clerk why ne is = unsettled_named id clerk why ne is
-later_named Reopen id clerk why ne is = absurd is
 later_named Abandon id clerk why ne is = absurd (ne is)
+later_named Commit id clerk why ne is = unsettled_named id clerk why ne is
+later_named _ id clerk why ne is = absurd is
 
 refusal_named : (ask : Ask) (id : ℕ) (clerk : List ℕ) (holder : Option Holder) (why : DraftRefusal)
     → RefusesFirst (first_refusal ask holder clerk) (IsLater ask) (Err why) → why ≢ draft.NoMemory → Names id clerk ask why
@@ -351,31 +293,16 @@ reply_named ask id clerk found (Err why) reply changes refuses writes = λ told 
 
 never_query : (id : ℕ) (clerk : List ℕ) (ask : Ask) → IsQuery (command_of id clerk ask) → ⊥
 never_query id clerk Begin query = query
-never_query id clerk (Edit changes) query = query
-never_query id clerk Verify query = query
-never_query id clerk Check query = query
-never_query id clerk Commit query = query
-never_query id clerk Reopen query = query
-never_query id clerk Abandon query = query
+never_query id clerk _ query = query
 
 names_row : (tables : Content) (id : ℕ) (clerk : List ℕ) (ask : Ask)
     → MeetsDamage tables (command_of id clerk ask) → HasDamageIn (reach_of ask) tables id
 names_row tables id clerk Begin damaged = damaged
-names_row tables id clerk (Edit changes) damaged = damaged
-names_row tables id clerk Verify damaged = damaged
-names_row tables id clerk Check damaged = damaged
-names_row tables id clerk Commit damaged = damaged
-names_row tables id clerk Reopen damaged = damaged
-names_row tables id clerk Abandon damaged = damaged
+names_row tables id clerk _ damaged = damaged
 
 unknown_named : (id : ℕ) (clerk : List ℕ) (ask : Ask) → IsOneOf (numbers_of (command_of id clerk ask)) 10
 unknown_named id clerk Begin = inl refl
-unknown_named id clerk (Edit changes) = inl refl
-unknown_named id clerk Verify = inl refl
-unknown_named id clerk Check = inl refl
-unknown_named id clerk Commit = inl refl
-unknown_named id clerk Reopen = inl refl
-unknown_named id clerk Abandon = inl refl
+unknown_named id clerk _ = inl refl
 
 -- on what was found
 pub transact_decides : (is_honest : Type 0) (tables : Content) (id : ℕ) (clerk : List ℕ) (ask : Ask) (found : Found) (decision : Result Move DraftRefusal) (result : Result Decided ShelfFault)
@@ -385,17 +312,20 @@ pub transact_decides : (is_honest : Type 0) (tables : Content) (id : ℕ) (clerk
     → (is_honest → ListsFound (reach_of ask) tables id found)
     → FollowsSoundLine (reach_of ask) found.timing clerk decision (λ side. line_of ask clerk side)
     → IfOk decision (λ move. IsBounded ask (length found.timing.delta) move.changes)
+    → IfOk decision (λ move. AddsOnlyNew (reach_of ask) found.timing move.changes)
     → RefusesFirst (first_refusal ask found.timing.holder clerk) (IsLater ask) decision
     → (is_honest → ¬ HasDamageIn (reach_of ask) tables id)
     → IfOk result (λ decided. WritesDecision id clerk found decision decided.reply decided.changes.items) → OnErr result (result ≡ Err NoMemory)
     → Decides is_honest tables (command_of id clerk ask) result
 transact_decides is_honest tables id clerk ask found decision
-    (Ok decided) words within drafts finds lists follows bounds refuses whole writes fault =
+    (Ok decided) words within drafts finds lists follows bounds news refuses whole writes fault =
     record {
       step = λ honest. move_answers tables id clerk ask found decision decided.reply
           decided.changes.items words within drafts (finds honest) follows writes;
       writes = λ honest. transact_writes tables id clerk ask found decision decided.reply
           decided.changes.items writes bounds (lists honest);
+      news = λ honest. decision_news tables id clerk ask found decision decided.reply
+          decided.changes.items (lists honest) news writes;
       refused = refused_unchanged id clerk found decision decided.reply decided.changes.items
           writes;
       query = λ query. absurd (never_query id clerk ask query);
@@ -406,7 +336,7 @@ transact_decides is_honest tables id clerk ask found decision
       whole = λ honest damaged. absurd (whole honest (names_row tables id clerk ask damaged));
     }
 transact_decides is_honest tables id clerk ask found decision
-    (Err other) words within drafts finds lists follows bounds refuses whole writes fault =
+    (Err other) words within drafts finds lists follows bounds news refuses whole writes fault =
     λ damaged. absurd (let f : Err other ≡ Err NoMemory = fault in cc)
 
 -- on an intersection that is not there
@@ -415,15 +345,12 @@ pub absent_decides : (is_honest : Type 0) (tables : Content) (id : ℕ) (clerk :
     → (is_honest → ¬ HasDamageIn (reach_of ask) tables id)
     → decided.reply ≡ Refused refusal.UnknownIntersection → decided.changes.items ≡ [] → IsDecision is_honest tables (command_of id clerk ask) decided
 absent_decides is_honest tables id clerk ask decided finds whole told none =
-    unknown_decides is_honest tables (command_of id clerk ask) decided told (unknown_named id clerk ask) none (λ honest damaged. whole honest (names_row tables id clerk ask damaged)) (λ honest. unknown_answers tables id clerk ask decided.reply decided.changes.items (finds honest) told none)
+    unknown_decides is_honest tables (command_of id clerk ask) decided told (unknown_named id clerk ask) none (λ honest damaged. whole honest (names_row tables id clerk ask damaged)) (λ honest office stands.
+    by_line ask office id clerk ∙ ap (transacted office id (line_of ask clerk))
+    (found_none (reach_of ask) tables office id stands (finds honest)))
 
 -- where a row that is read is no record
 pub meets : (tables : Content) (id : ℕ) (clerk : List ℕ) (ask : Ask)
     → HasDamageIn (reach_of ask) tables id → MeetsDamage tables (command_of id clerk ask)
 meets tables id clerk Begin damage = damage
-meets tables id clerk (Edit changes) damage = damage
-meets tables id clerk Verify damage = damage
-meets tables id clerk Check damage = damage
-meets tables id clerk Commit damage = damage
-meets tables id clerk Reopen damage = damage
-meets tables id clerk Abandon damage = damage
+meets tables id clerk _ damage = damage

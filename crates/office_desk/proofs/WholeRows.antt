@@ -1,7 +1,6 @@
 -- Rows that were read, or none, are no damaged ones.
 use Rattle.std.proofs.Common.{◌≡◌, ◌≢◌, ◌⊎◌, inl, inr, ℕ, true, false, List, Option, Some, None}
-use Rattle.std.proofs.Common.{option_map, is_some, refl, ap, sym, subst, ◌∙◌}
-use Rattle.std.specs.Prelude.{IsSome}
+use Rattle.std.proofs.Common.{is_some, refl, ap, sym, subst, ◌∙◌, IsSome}
 use Rattle.signal_records.specs.Row.{key_of}
 use Rattle.signal_records.specs.Within.{IsChangeWithin, IsRowWithin, current_limits}
 use Rattle.signal_records.specs.declared.record.Change.{Change}
@@ -9,19 +8,16 @@ use Rattle.signal_records.specs.declared.record.Row.{Row}
 use Rattle.draft_core.specs.Within.{AreChangesWithin}
 use Rattle.draft_core.specs.declared.timing.Reach.{Reach}
 use Rattle.draft_core.specs.declared.timing.Reach.TheVariants as reach
-use Rattle.draft_core.specs.declared.state.Holder.{Holder}
-use Rattle.draft_core.specs.declared.state.Stage.{Stage}
-use Rattle.draft_core.specs.declared.state.Stage.TheVariants.{Transaction, Verify, Done}
 use Rattle.office_tables_shelf.specs.Cells.{Cell}
 use Rattle.office_tables_shelf.specs.Content.{Content}
 use Rattle.office_tables_shelf.specs.Damage.{HasDamagedDraft, HasDamagedIntersection, HasDamagedTiming}
-use Rattle.office_tables_shelf.specs.Rows.{IsIntersectionRow, draft_columns, draft_key, intersection_columns, state_number, timing_columns, timing_key}
+use Rattle.office_tables_shelf.specs.Rows.{IsIntersectionRow, draft_columns, draft_key, timing_columns, timing_key}
 use Rattle.office_tables_shelf.proofs.ListedRows.{listed_row}
 use Rattle.office_tables_shelf.specs.Shelf.{IsThere, ListsDraft, ListsTiming, ReadsIntersection}
 use Rattle.office_tables_shelf.specs.declared.rows.IntersectionRow.{IntersectionRow}
-use Rattle.office_desk.specs.Damage.{HasDamage, HasDamagedPlan, HasJudgedDamage, IsDone}
-use Rattle.office_desk.specs.Damage.{MeetsAfter}
+use Rattle.office_desk.specs.Damage.{HasDamage, HasDamagedPlan, HasJudgedDamage, IsDone, MeetsAfter}
 use Rattle.office_desk.specs.Reading.{AreWithin, ListsPlan}
+use Rattle.office_desk.proofs.Rows.{row_from_cells}
 
 -- ---- the row of an intersection
 
@@ -76,30 +72,11 @@ plan_whole reach.Plan tables id rows changes lists rows_in changes_in (inr damag
 
 -- ---- a draft that is judged
 
-done_number : (holder : Option Holder) → option_map (λ (h : Holder). h.stage) holder ≡ Some Done → state_number holder ≡ 3
-done_number None is = absurd (let f : None ≡ Some Done = is in cc)
-done_number (Some holder) is = go holder.stage is
-  where
-    go : (stage : Stage) → Some stage ≡ Some Done → state_number (Some (record holder { stage = stage })) ≡ 3
-    go Transaction e = absurd cc
-    go Verify e = absurd cc
-    go Done e = refl
-
-number_done : (holder : Option Holder) → state_number holder ≡ 3 → option_map (λ (h : Holder). h.stage) holder ≡ Some Done
-number_done None is = absurd (let f : 0 ≡ 3 = is in cc)
-number_done (Some holder) is = go holder.stage is
-  where
-    go : (stage : Stage) → state_number (Some (record holder { stage = stage })) ≡ 3 → Some stage ≡ Some Done
-    go Transaction e = absurd (let f : 1 ≡ 3 = e in cc)
-    go Verify e = absurd (let f : 2 ≡ 3 = e in cc)
-    go Done e = refl
-
 -- whatever row is read there, its draft is in that state
 same_done : (tables : Content) (id : ℕ) (row other : IntersectionRow) → ReadsIntersection tables id (Some row) → ReadsIntersection tables id (Some other) → IsDone other → IsDone row
 same_done tables id row other reads again done =
-    let same : intersection_columns row ≡ intersection_columns other = same_columns _ _ (sym reads ∙ again) in
-    let numbers : state_number row.holder ≡ state_number other.holder = cc in
-    number_done row.holder (numbers ∙ done_number other.holder done)
+    let same = row_from_cells other row (same_columns _ _ (sym again ∙ reads)) in
+    subst IsDone same done
 
 pub judged_whole : (tables : Content) (id : ℕ) (row : IntersectionRow) → ReadsIntersection tables id (Some row) → ¬ HasDamagedIntersection tables id → (IsDone row → ¬ HasDamage tables id)
     → ¬ (HasDamagedIntersection tables id ⊎ HasJudgedDamage tables id)

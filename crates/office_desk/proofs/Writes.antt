@@ -25,69 +25,14 @@ stays n = omega arith
 -- a write raises the count of its table alone
 one_more : (counts : WriteCounts) (written other : Table) → count_of (count_at counts written) other ≤ count_of counts other + cond (is_same_table written other) 1 0
 one_more counts table.Intersection table.Intersection = capped counts.intersection
-one_more counts table.Intersection table.Timing = stays counts.timing
-one_more counts table.Intersection table.Draft = stays counts.draft
-one_more counts table.Intersection table.Inspection = stays counts.inspection
-one_more counts table.Intersection table.WorkOrder = stays counts.work_order
-one_more counts table.Intersection table.Part = stays counts.part
-one_more counts table.Intersection table.Delivery = stays counts.delivery
-one_more counts table.Intersection table.UsedPart = stays counts.used_part
-one_more counts table.Timing table.Intersection = stays counts.intersection
 one_more counts table.Timing table.Timing = capped counts.timing
-one_more counts table.Timing table.Draft = stays counts.draft
-one_more counts table.Timing table.Inspection = stays counts.inspection
-one_more counts table.Timing table.WorkOrder = stays counts.work_order
-one_more counts table.Timing table.Part = stays counts.part
-one_more counts table.Timing table.Delivery = stays counts.delivery
-one_more counts table.Timing table.UsedPart = stays counts.used_part
-one_more counts table.Draft table.Intersection = stays counts.intersection
-one_more counts table.Draft table.Timing = stays counts.timing
 one_more counts table.Draft table.Draft = capped counts.draft
-one_more counts table.Draft table.Inspection = stays counts.inspection
-one_more counts table.Draft table.WorkOrder = stays counts.work_order
-one_more counts table.Draft table.Part = stays counts.part
-one_more counts table.Draft table.Delivery = stays counts.delivery
-one_more counts table.Draft table.UsedPart = stays counts.used_part
-one_more counts table.Inspection table.Intersection = stays counts.intersection
-one_more counts table.Inspection table.Timing = stays counts.timing
-one_more counts table.Inspection table.Draft = stays counts.draft
 one_more counts table.Inspection table.Inspection = capped counts.inspection
-one_more counts table.Inspection table.WorkOrder = stays counts.work_order
-one_more counts table.Inspection table.Part = stays counts.part
-one_more counts table.Inspection table.Delivery = stays counts.delivery
-one_more counts table.Inspection table.UsedPart = stays counts.used_part
-one_more counts table.WorkOrder table.Intersection = stays counts.intersection
-one_more counts table.WorkOrder table.Timing = stays counts.timing
-one_more counts table.WorkOrder table.Draft = stays counts.draft
-one_more counts table.WorkOrder table.Inspection = stays counts.inspection
 one_more counts table.WorkOrder table.WorkOrder = capped counts.work_order
-one_more counts table.WorkOrder table.Part = stays counts.part
-one_more counts table.WorkOrder table.Delivery = stays counts.delivery
-one_more counts table.WorkOrder table.UsedPart = stays counts.used_part
-one_more counts table.Part table.Intersection = stays counts.intersection
-one_more counts table.Part table.Timing = stays counts.timing
-one_more counts table.Part table.Draft = stays counts.draft
-one_more counts table.Part table.Inspection = stays counts.inspection
-one_more counts table.Part table.WorkOrder = stays counts.work_order
 one_more counts table.Part table.Part = capped counts.part
-one_more counts table.Part table.Delivery = stays counts.delivery
-one_more counts table.Part table.UsedPart = stays counts.used_part
-one_more counts table.Delivery table.Intersection = stays counts.intersection
-one_more counts table.Delivery table.Timing = stays counts.timing
-one_more counts table.Delivery table.Draft = stays counts.draft
-one_more counts table.Delivery table.Inspection = stays counts.inspection
-one_more counts table.Delivery table.WorkOrder = stays counts.work_order
-one_more counts table.Delivery table.Part = stays counts.part
 one_more counts table.Delivery table.Delivery = capped counts.delivery
-one_more counts table.Delivery table.UsedPart = stays counts.used_part
-one_more counts table.UsedPart table.Intersection = stays counts.intersection
-one_more counts table.UsedPart table.Timing = stays counts.timing
-one_more counts table.UsedPart table.Draft = stays counts.draft
-one_more counts table.UsedPart table.Inspection = stays counts.inspection
-one_more counts table.UsedPart table.WorkOrder = stays counts.work_order
-one_more counts table.UsedPart table.Part = stays counts.part
-one_more counts table.UsedPart table.Delivery = stays counts.delivery
 one_more counts table.UsedPart table.UsedPart = capped counts.used_part
+one_more counts written other = stays (count_of counts other)
 
 -- the counts rise at most by the changes that write each table
 pub rises : (changes : List RowChange) (counts : WriteCounts) (other : Table) → count_of (counts_after counts changes) other ≤ count_of counts other + writes_in other changes
@@ -112,10 +57,7 @@ no_rise tables command old new is other = subst (λ (counts : WriteCounts). coun
 -- a record writes no row but of the register
 no_others : (c : RecordCommand) → (most_record_writes c table.Intersection ≡ 0) × (most_record_writes c table.Timing ≡ 0) × (most_record_writes c table.Draft ≡ 0)
 no_others (register.Inspect id inspection) = (refl, refl, refl)
-no_others (register.OpenOrder id opening) = (refl, refl, refl)
-no_others (register.UsePart id line) = (refl, refl, refl)
-no_others (register.CloseOrder id order closing) = (refl, refl, refl)
-no_others (register.Receive delivery) = (refl, refl, refl)
+no_others _ = (refl, refl, refl)
 
 -- a record writes at most what it may
 pub record_writes : (tables : Content) (c : RecordCommand) (rows : List RowChange) → ((table : Table) → writes_in table rows ≤ most_record_writes c table)
@@ -123,11 +65,7 @@ pub record_writes : (tables : Content) (c : RecordCommand) (rows : List RowChang
 record_writes tables c rows few table.Intersection = subst (λ n. writes_in table.Intersection rows ≤ n) (no_others c).0 (few table.Intersection)
 record_writes tables c rows few table.Timing = subst (λ n. writes_in table.Timing rows ≤ n) (no_others c).1 (few table.Timing)
 record_writes tables c rows few table.Draft = subst (λ n. writes_in table.Draft rows ≤ n) (no_others c).2 (few table.Draft)
-record_writes tables c rows few table.Inspection = few table.Inspection
-record_writes tables c rows few table.WorkOrder = few table.WorkOrder
-record_writes tables c rows few table.Part = few table.Part
-record_writes tables c rows few table.Delivery = few table.Delivery
-record_writes tables c rows few table.UsedPart = few table.UsedPart
+record_writes tables c rows few other = few other
 
 both_zero : (a b : ℕ) → a ≡ 0 → b ≡ 0 → a + b ≡ 0
 both_zero a b one two = omega (arith, one, two)
@@ -148,8 +86,4 @@ pub import_writes : (tables : Content) (records : List RecordCommand) (pending :
 import_writes tables records pending few table.Intersection = subst (λ n. writes_in table.Intersection pending ≤ n) (none_of_others records).0 (few table.Intersection)
 import_writes tables records pending few table.Timing = subst (λ n. writes_in table.Timing pending ≤ n) (none_of_others records).1 (few table.Timing)
 import_writes tables records pending few table.Draft = subst (λ n. writes_in table.Draft pending ≤ n) (none_of_others records).2 (few table.Draft)
-import_writes tables records pending few table.Inspection = few table.Inspection
-import_writes tables records pending few table.WorkOrder = few table.WorkOrder
-import_writes tables records pending few table.Part = few table.Part
-import_writes tables records pending few table.Delivery = few table.Delivery
-import_writes tables records pending few table.UsedPart = few table.UsedPart
+import_writes tables records pending few other = few other

@@ -5,7 +5,7 @@ use Rattle.std.specs.Str.{bytes_eq}
 use Rattle.signal_records.specs.Words.{AreWords}
 use Rattle.office_tables_shelf.specs.declared.rows.IntersectionRow.{IntersectionRow}
 use Rattle.office_tables_shelf.specs.declared.rows.RowChange.{RowChange}
-use Rattle.office_tables_shelf.specs.declared.rows.RowChange.TheVariants.{PutIntersection}
+use Rattle.office_tables_shelf.specs.declared.rows.RowChange.TheVariants.{AddIntersection}
 use Rattle.office_machine.specs.declared.reply.Reply.{Reply}
 use Rattle.office_machine.specs.declared.reply.Reply.TheVariants.{Added, Same, Refused}
 use Rattle.office_machine.specs.declared.refusal.Refusal.TheVariants.{IntersectionDiffers}
@@ -19,8 +19,8 @@ pub record AreLimited (id : ℕ) (bytes : List ℕ) (days : ℕ) : Type 0 where
   pub interval_low : 1 ≤ days
   pub interval_high : days ≤ 3650
 
--- where no row was read, that of a new intersection is put; else the row stays, and the reply says whether it is equal
+-- where no row was read, that of a new intersection is added; else the row stays, and the reply says whether it is equal
 abbrev pub AddsRow : ℕ → ℕ → List ℕ → Option IntersectionRow → Reply → List RowChange → Type 0
-AddsRow id interval name None reply changes = (reply ≡ Added) × (changes ≡ PutIntersection id (row_of (new_intersection interval name)) ∷ []) × AreLimited id name interval
+AddsRow id interval name None reply changes = (reply ≡ Added) × (changes ≡ AddIntersection id (row_of (new_intersection interval name)) ∷ []) × AreLimited id name interval
 AddsRow id interval name (Some row) reply changes =
     (reply ≡ (if bytes_eq row.name name && (row.interval == interval) then Same else Refused IntersectionDiffers)) × (changes ≡ [])

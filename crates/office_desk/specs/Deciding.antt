@@ -1,6 +1,6 @@
 -- What every decision on a command promises.
 use Rattle.std.specs.Prelude.{◌≡◌, ◌≢◌, ◌≤◌, ◌⊎◌, [], Result, Ok, Err}
-use Rattle.office_tables_shelf.specs.Change.{changed_by}
+use Rattle.office_tables_shelf.specs.Change.{AddNew, changed_by}
 use Rattle.office_tables_shelf.specs.Content.{Content}
 use Rattle.office_tables_shelf.specs.Counts.{writes_in}
 use Rattle.office_tables_shelf.specs.declared.rows.Table.{Table}
@@ -19,10 +19,12 @@ use Rattle.office_desk.specs.Named.{IsNamedFor, RefusesBy, numbers_of}
 use Rattle.office_desk.specs.Blaming.{BlamesRightly}
 
 -- The reply and what the rows make of the tables are one step; the rows are at most those of the kind of command, and none where it is refused or only asks;
+-- where one is added, none stands under its key;
 -- a refusal is one of the command's table; and a row that is no record is told as a fault, never as a reply, and none that the command reads was found to be such, unless an import was refused before it.
 pub record IsDecision (is_honest : Type 0) (tables : Content) (command : Command) (decided : Decided) : Type 0 where
   pub step : is_honest → AnswersAny tables command decided.reply (changed_by tables decided.changes.items)
   pub writes : is_honest → (table : Table) → writes_in table decided.changes.items ≤ most_writes tables command table
+  pub news : is_honest → AddNew tables decided.changes.items
   pub refused : IsRefused decided.reply → decided.changes.items ≡ []
   pub query : IsQuery command → decided.changes.items ≡ []
   pub named : RefusesBy (numbers_of command) decided.reply
@@ -33,6 +35,7 @@ pub record IsDecision (is_honest : Type 0) (tables : Content) (command : Command
 pub record IsAnswered (is_honest : Type 0) (tables : Content) (command : Command) (decided : Decided) : Type 0 where
   pub step : is_honest → AnswersAny tables command decided.reply (changed_by tables decided.changes.items)
   pub writes : is_honest → (table : Table) → writes_in table decided.changes.items ≤ most_writes tables command table
+  pub news : is_honest → AddNew tables decided.changes.items
   pub refused : IsRefused decided.reply → decided.changes.items ≡ []
   pub query : IsQuery command → decided.changes.items ≡ []
   pub named : IsNamedFor command decided.reply

@@ -4,12 +4,18 @@ use Rattle.signal_records.specs.declared.record.Change.TheVariants.{Put, Remove}
 use Rattle.draft_core.specs.Moves.{next_holder}
 use Rattle.draft_core.specs.declared.timing.Move.{Move}
 use Rattle.draft_core.specs.declared.timing.TimingChange.{TimingChange}
-use Rattle.draft_core.specs.declared.timing.TimingChange.TheVariants.{Committed, Drafted, DraftGone}
+use Rattle.draft_core.specs.declared.timing.TimingChange.TheVariants.{CommittedNew, Committed}
+use Rattle.draft_core.specs.declared.timing.TimingChange.TheVariants.{DraftedNew, Drafted}
+use Rattle.draft_core.specs.declared.timing.TimingChange.TheVariants.{DraftGone, DraftDropped}
 use Rattle.draft_core.specs.declared.refusal.DraftRefusal.{DraftRefusal}
 use Rattle.draft_core.specs.declared.refusal.DraftRefusal.TheVariants.{NoMemory}
 use Rattle.office_tables_shelf.specs.declared.rows.IntersectionRow.{IntersectionRow}
 use Rattle.office_tables_shelf.specs.declared.rows.RowChange.{RowChange}
-use Rattle.office_tables_shelf.specs.declared.rows.RowChange.TheVariants.{PutIntersection, PutTiming, RemoveTiming, PutDraft, RemoveDraft}
+use Rattle.office_tables_shelf.specs.declared.rows.RowChange.TheVariants.{PutIntersection}
+use Rattle.office_tables_shelf.specs.declared.rows.RowChange.TheVariants.{AddTiming, PutTiming}
+use Rattle.office_tables_shelf.specs.declared.rows.RowChange.TheVariants.{RemoveTiming, AddDraft}
+use Rattle.office_tables_shelf.specs.declared.rows.RowChange.TheVariants.{PutDraft, RemoveDraft}
+use Rattle.office_tables_shelf.specs.declared.rows.RowChange.TheVariants.{DropDraft}
 use Rattle.office_desk.specs.declared.reading.Found.{Found}
 use Rattle.office_machine.specs.declared.reply.Reply.{Reply}
 use Rattle.office_machine.specs.declared.reply.Reply.TheVariants.{Moved, Refused}
@@ -17,10 +23,13 @@ use Rattle.office_machine.specs.Step.{refusal_of_draft}
 
 -- a change of an intersection's timing side, as a row
 abbrev pub row_change_of : ℕ → TimingChange → RowChange
+row_change_of id (CommittedNew row) = AddTiming id row
 row_change_of id (Committed (Put row)) = PutTiming id row
 row_change_of id (Committed (Remove key)) = RemoveTiming id key
+row_change_of id (DraftedNew change) = AddDraft id change
 row_change_of id (Drafted change) = PutDraft id change
 row_change_of id (DraftGone key) = RemoveDraft id key
+row_change_of id DraftDropped = DropDraft id
 
 abbrev pub row_changes_of : ℕ → List TimingChange → List RowChange
 row_changes_of id = map (row_change_of id)

@@ -1,13 +1,11 @@
 -- What is read of an intersection.
-use Rattle.std.specs.Prelude.{◌≡◌, ℕ, List, map, Option, Some, None}
-use Rattle.std.specs.FinMap.{get, empty}
+use Rattle.std.specs.Prelude.{◌≡◌, ℕ, List, Option, Some, None}
+use Rattle.std.specs.FinMap.{get}
 use Rattle.std.specs.List.{AllByRecursion}
-use Rattle.signal_records.specs.TimingSet.{after_changes}
+pub use Rattle.signal_records.specs.TimingSet.{set_of_rows}
 use Rattle.signal_records.specs.Within.{IsRowWithin, current_limits}
 use Rattle.signal_records.specs.declared.record.Row.{Row}
 use Rattle.signal_records.specs.declared.record.Change.{Change}
-use Rattle.signal_records.specs.declared.record.Change.TheVariants.{Put}
-use Rattle.signal_records.specs.TimingSet.{Rows}
 use Rattle.draft_core.specs.DraftRows.{RowsByKey, Stands}
 use Rattle.draft_core.specs.Within.{AreChangesWithin}
 use Rattle.draft_core.specs.declared.timing.Reach.{Reach}
@@ -22,10 +20,6 @@ use Rattle.office_desk.specs.StandFor.{StandFor, StandForSound}
 -- each row is within its limits
 abbrev pub AreWithin : List Row → Type 0
 AreWithin = AllByRecursion (IsRowWithin current_limits)
-
--- the set of these rows
-abbrev pub set_of_rows : List Row → Rows
-set_of_rows rows = after_changes empty (map Put rows)
 
 -- what is made of the rows that were read
 pub record IsMadeOf (row : IntersectionRow) (rows : List Row) (changes : List Change) (found : Found) : Type 0 where
@@ -45,10 +39,12 @@ ListsPlan reach.Drafts tables id rows changes = ListsDraft tables id changes
 ListsPlan reach.Plan tables id rows changes =
     ListsTiming tables id rows × ListsDraft tables id changes
 
--- the draft rows that were found are those that stand, as far as they are read
+-- the draft rows that were found are those that stand, as far as they are read, and the set is made
+-- of the committed rows
 abbrev pub ListsFound : Reach → Content → ℕ → Found → Type 0
 ListsFound reach tables id found =
     (rows : List Row) × ListsPlan reach tables id rows found.timing.delta
+    × (found.timing.committed ≡ set_of_rows rows)
 
 -- the draft rows of an intersection, in tables that stand for an office
 abbrev pub drafts_at : {tables : Content} {office : Office} → StandFor tables office → ℕ

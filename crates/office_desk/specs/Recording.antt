@@ -1,6 +1,8 @@
 -- What a decision on the register rests on: that the intersection is there.
 use Rattle.std.specs.Prelude.{◌≡◌, ℕ, Bool, true, Option, Some, None, is_some}
+use Rattle.std.specs.BTreeSet.{BTreeSet}
 use Rattle.std.specs.FinMap.{get}
+use Rattle.std.specs.List.{All, Contains}
 use Rattle.office_tables_shelf.specs.Content.{Content}
 use Rattle.office_tables_shelf.specs.Damage.{HasDamagedIntersection}
 use Rattle.office_tables_shelf.specs.Rows.{intersection_key}
@@ -21,3 +23,18 @@ HasDamagedAbout tables (Some id) = HasDamagedIntersection tables id
 abbrev pub TellsAbout : Content → Option ℕ → Bool → Type 0
 TellsAbout tables None known = known ≡ true
 TellsAbout tables (Some id) known = known ≡ is_some (get tables.intersection (intersection_key id))
+
+-- the intersection that is asked for stands there, and its row is a record; or none is asked for
+pub record IsFound (tables : Content) (about : Option ℕ) : Type 0 where
+  pub known : IsKnownIn tables about true
+  pub told : TellsAbout tables about true
+  pub whole : ¬ HasDamagedAbout tables about
+
+-- so does each of these
+abbrev pub AreFound : Content → BTreeSet ℕ → Type 0
+AreFound tables found = All (λ id. IsFound tables (Some id)) found.keys
+
+-- one is asked for, and it is one of these
+abbrev pub IsAmong : BTreeSet ℕ → Option ℕ → Type 0
+IsAmong found None = ⊥
+IsAmong found (Some id) = Contains found.keys id

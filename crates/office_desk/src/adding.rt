@@ -43,7 +43,7 @@ fn added(
         revision: Revision::first(),
         holder: None,
     };
-    decided.changes.push(RowChange::PutIntersection(id, row))?;
+    decided.changes.push(RowChange::AddIntersection(id, row))?;
     Ok(decided)
 }
 

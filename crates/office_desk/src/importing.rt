@@ -10,10 +10,12 @@ ghost use Rattle.office_desk.specs.Deciding.{AddsNothing, Decides};
 ghost use Rattle.office_desk.specs.Damage.{MeetsCabinetDamage};
 ghost use Rattle.office_desk.specs.Importing.{IsNamedTaken, LeavesAnyTiming};
 ghost use Rattle.office_desk.specs.Importing.{TakesLine, TakesRecord, TakesWhole};
+ghost use Rattle.office_desk.specs.Recording.{AreFound};
 ghost use Rattle.office_machine.specs.Step.{cabinet_of as about_of};
 
 use crate::decided::Decided;
-use crate::recording::{cabinet_of, is_known, refused};
+use crate::found::is_found;
+use crate::recording::{cabinet_of, refused};
 use cabinet_core::RecordCommand;
 use office_desk_cabinet::{Pending, Registered, decide_record};
 use office_machine::command::Command;
@@ -21,7 +23,9 @@ use office_machine::records::Records;
 use office_machine::refusal::Refusal;
 use office_machine::reply::Reply;
 use office_tables_shelf::shelf::{Shelf, ShelfFault};
+use signal_records::InterId;
 use std::alloc::Global;
+use std::collections::BTreeSet;
 
 /// What came of a record of an import.
 #[derive(Clone, Copy)]
@@ -34,13 +38,18 @@ enum Taken {
     Refused(Refusal),
 }
 
-/// Takes a record after those whose rows are pending, and gives them back with its own.
+/// Takes a record after those whose rows are pending, and gives them back with its own. Of the
+/// intersections that were found no row is read again.
 fn take_record<S: Shelf>(
     shelf: &mut S,
     alloc: Global,
+    found: &mut BTreeSet<InterId>,
     pending: Pending,
     command: &RecordCommand,
 ) -> Result<(Taken, Pending), ShelfFault>
+    requires { S.is_honest shelf.old → AreFound (S.content shelf.old) found.old }
+    ensures found { IfOk result (λ _. S.is_honest shelf.new →
+        AreFound (S.content shelf.old) found.new) }
     ensures step { S.is_honest shelf.new → IfOk result (λ taken. TakesRecord (S.content shelf.old) pending command.now taken.0 taken.1) }
     ensures damaged { result ≡ Err ShelfFault.Damaged → S.is_honest shelf.new → MeetsCabinetDamage (S.content shelf.old) command.now (about_of command.now) }
     ensures whole { IfOk result (λ taken. S.is_honest shelf.new →
@@ -54,7 +63,7 @@ fn take_record<S: Shelf>(
     ensures open { StaysOpen S.is_clean S.is_honest (pending ≡ [])
         result shelf.old shelf.new }
 {
-    if !is_known(shelf, alloc, cabinet_of(command))? {
+    if !is_found(shelf, alloc, found, cabinet_of(command))? {
         return Ok((Taken::Refused(Refusal::UnknownIntersection), pending));
     }
     match decide_record(shelf, alloc, &pending, command)? {
@@ -82,11 +91,12 @@ pub(crate) fn decide_import<S: Shelf>(
         result shelf.old shelf.new }
     ensures nothing { records.now ≡ [] → IsOkAnd result AddsNothing }
 {
+    let mut found = BTreeSet::new(alloc);
     let mut pending = Pending::new(alloc);
     let mut added: usize = 0;
     let mut same: usize = 0;
     for (index, command) in records.as_slice().iter().enumerate() {
-        let (taken, next) = take_record(shelf, alloc, pending, command)?;
+        let (taken, next) = take_record(shelf, alloc, &mut found, pending, command)?;
         pending = next;
         match taken {
             Taken::Added => added += 1,

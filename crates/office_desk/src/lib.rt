@@ -4,6 +4,7 @@
 mod adding;
 pub mod decided;
 mod deciding;
+mod found;
 mod importing;
 mod listing;
 mod moving;

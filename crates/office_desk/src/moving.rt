@@ -19,10 +19,13 @@ fn row_change(id: InterId, change: TimingChange) -> RowChange
     ensures { result ≡ row_change_of id change }
 {
     match change {
+        TimingChange::CommittedNew(row) => RowChange::AddTiming(id, row),
         TimingChange::Committed(Change::Put(row)) => RowChange::PutTiming(id, row),
         TimingChange::Committed(Change::Remove(key)) => RowChange::RemoveTiming(id, key),
+        TimingChange::DraftedNew(change) => RowChange::AddDraft(id, change),
         TimingChange::Drafted(change) => RowChange::PutDraft(id, change),
         TimingChange::DraftGone(key) => RowChange::RemoveDraft(id, key),
+        TimingChange::DraftDropped => RowChange::DropDraft(id),
     }
 }
 

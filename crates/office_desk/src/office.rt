@@ -85,7 +85,8 @@ impl<S: Shelf> Office<S> {
         }
     }
 
-    /// Makes the changes of a decision in their order, all or none. Refused, it answers NoMemory or Store.
+    /// Makes the changes of a decision in their order, all or none; where there are none, nothing
+    /// is done. Refused, it answers NoMemory or Store.
     pub fn apply(&mut self, alloc: Global, changes: &[RowChange]) -> Result<(), ShelfFault>
         ensures clean { S.is_clean self.new → S.is_clean self.old }
         ensures honest { S.is_honest self.new → S.is_honest self.old }
@@ -101,7 +102,11 @@ impl<S: Shelf> Office<S> {
             S.may_leave self.old tables ⊎ (S.is_honest self.old × (tables ≡ changed_by (S.content self.old) changes.now)) }
         ensures settled { OnOk result (changes.now ≢ [] →
             (tables : Content) → S.may_leave self.new tables → tables ≡ S.content self.new) }
+        ensures idle { changes.now ≡ [] → (self.new ≡ self.old) × (result ≡ Ok tt) }
     {
+        if changes.is_empty() {
+            return Ok(());
+        }
         self.shelf.apply(alloc, changes)
     }
 
@@ -112,11 +117,7 @@ impl<S: Shelf> Office<S> {
             command.now result self.old self.new }
     {
         let decided = self.decide(alloc, command);
-        let changes = decided.changes.as_slice();
-        if changes.is_empty() {
-            return decided.reply;
-        }
-        match self.apply(alloc, changes) {
+        match self.apply(alloc, decided.changes.as_slice()) {
             Ok(()) => decided.reply,
             Err(_fault) => Reply::Refused(Refusal::Unavailable),
         }

@@ -1,12 +1,11 @@
 //! What is read of an intersection.
-ghost use Rattle.std.specs.Prelude.{◌≡◌, IfOk, IfSome, map, ◌≢◌};
+ghost use Rattle.std.specs.Prelude.{◌≡◌, IfOk, IfSome, ◌≢◌};
 ghost use Rattle.office_tables_shelf.specs.Damage.{HasDamagedIntersection, HasDamagedTiming};
 ghost use Rattle.office_tables_shelf.specs.Shelf.{AnswersOpen, IsKept, ReadsIntersection};
 ghost use Rattle.office_desk_cabinet.specs.Open.{StaysOpen};
 ghost use Rattle.office_desk.specs.Damage.{HasDamageIn, HasDamagedPlan};
 ghost use Rattle.office_machine.specs.Office.{Office, side_at};
-ghost use Rattle.office_desk.specs.Reading.{AreWithin, FindsAny, IsMadeOf};
-ghost use Rattle.office_desk.specs.Reading.{ListsFound, ListsPlan, set_of_rows};
+ghost use Rattle.office_desk.specs.Reading.{FindsAny, IsMadeOf, ListsFound, ListsPlan};
 ghost use Rattle.office_desk.specs.StandFor.{StandForSound};
 
 use draft_core::changes::Changes;
@@ -14,7 +13,7 @@ use draft_core::timing::{Reach, Timing};
 use office_tables_shelf::bounds::intersection_is_within;
 use office_tables_shelf::rows::IntersectionRow;
 use office_tables_shelf::shelf::{Shelf, ShelfFault};
-use signal_records::{Change, InterId, Interval, NoMemory, Row, TimingSet, Words, row_is_within};
+use signal_records::{Change, InterId, Interval, NoMemory, Row, TimingSet, Words};
 use std::alloc::Global;
 
 /// An intersection as it is kept.
@@ -24,30 +23,6 @@ pub struct Found {
     /// Days from one inspection of its cabinet to the next.
     pub interval: Interval,
     pub timing: Timing,
-}
-
-/// The changes that put rows, each of which is within its limits, as its type says.
-fn puts_of(alloc: Global, rows: Vec<Row>) -> Result<Vec<Change>, NoMemory>
-    ensures puts { IfOk result (λ changes. changes.items ≡ map (λ row. Change.Put row) rows.items) }
-    ensures within { IfOk result (λ _. AreWithin rows.items) }
-{
-    let mut changes = Vec::new(alloc);
-    for row in rows {
-        row_is_within(&row);
-        changes.push(Change::Put(row))?;
-    }
-    Ok(changes)
-}
-
-/// The set of rows.
-pub(crate) fn set_of(alloc: Global, rows: Vec<Row>) -> Result<TimingSet, NoMemory>
-    ensures set { IfOk result (λ set. set ≡ set_of_rows rows.items) }
-    ensures within { IfOk result (λ _. AreWithin rows.items) }
-{
-    let changes = puts_of(alloc, rows)?;
-    let mut set = TimingSet::new(alloc);
-    set.apply(alloc, changes.as_slice())?;
-    Ok(set)
 }
 
 /// The committed set of an intersection; the empty one where there is no such intersection.
@@ -62,7 +37,7 @@ pub(crate) fn committed_set<S: Shelf>(
     ensures open { AnswersOpen S.is_clean S.is_honest result shelf.old shelf.new }
 {
     let rows = shelf.timing_rows(alloc, id)?;
-    let set = set_of(alloc, rows)?;
+    let set = TimingSet::of_rows(alloc, rows)?;
     Ok(set)
 }
 
@@ -76,7 +51,7 @@ fn made_of(
     ensures { IfOk result (λ found. IsMadeOf row rows.items changes.items found) }
 {
     let delta = Changes::new(changes);
-    let committed = set_of(alloc, rows)?;
+    let committed = TimingSet::of_rows(alloc, rows)?;
     let IntersectionRow {
         name,
         interval,

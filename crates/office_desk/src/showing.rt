@@ -9,17 +9,17 @@ ghost use Rattle.office_desk.specs.Decisions.{row_shown, IsVerdictOf, ShowsDraft
 ghost use Rattle.office_desk.specs.Named.{RefusesBy};
 
 use crate::decided::Decided;
-use crate::reading::{Found, find, intersection_row, set_of};
+use crate::reading::{Found, find, intersection_row};
 use draft_core::refusal::DraftRefusal;
 use draft_core::state::{DbState, Holder, Stage, Verdict};
 use draft_core::timing::{Reach, Timing};
-use draft_core::{overlay, verdict};
+use draft_core::verdict;
 use office_machine::command::Command;
 use office_machine::refusal::Refusal;
 use office_machine::reply::{IntersectionState, OpenDraft, Reply, RunningTiming, Violations};
 use office_tables_shelf::rows::IntersectionRow;
 use office_tables_shelf::shelf::{Shelf, ShelfFault};
-use signal_records::{InterId, NoMemory};
+use signal_records::{InterId, NoMemory, TimingSet};
 use signal_rules::violations;
 use std::alloc::Global;
 
@@ -115,7 +115,7 @@ pub(crate) fn decide_timing<S: Shelf>(
         return Ok(Decided::refused(alloc, Refusal::UnknownIntersection));
     };
     let rows = shelf.timing_rows(alloc, id)?;
-    let set = set_of(alloc, rows)?;
+    let set = TimingSet::of_rows(alloc, rows)?;
     let timing = RunningTiming {
         name: row.name,
         revision: row.revision,
@@ -140,7 +140,7 @@ fn draft_of(alloc: Global, found: Found) -> Result<Reply, NoMemory>
         let refusal = DraftRefusal::NotTransaction;
         return Ok(Reply::Refused(Refusal::Draft(refusal)));
     };
-    let rows = overlay(alloc, &committed, delta.as_slice())?;
+    let rows = committed.changed(delta.as_slice())?;
     let violations = Violations::new(violations(alloc, &rows)?);
     Ok(Reply::Draft(OpenDraft {
         owner: holder.owner,

@@ -1,6 +1,7 @@
 //! The commands of the transaction.
 ghost use Rattle.std.specs.Prelude.{◌≡◌, length, IfOk};
 ghost use Rattle.draft_core.specs.Moves.{FollowsSoundLine, RefusesFirst, drafted_in};
+ghost use Rattle.draft_core.specs.News.{AddsOnlyNew};
 ghost use Rattle.draft_core.specs.Within.{AreChangesWithin};
 ghost use Rattle.office_tables_shelf.specs.Shelf.{AnswersOpen, IsKept};
 ghost use Rattle.office_desk.specs.Deciding.{Decides};
@@ -54,6 +55,8 @@ fn decision(
         (λ side. line_of ask.entry clerk.now side) }
     ensures refuses { RefusesFirst (first_refusal ask.entry timing.now.holder clerk.now) (IsLater ask.entry) result }
     ensures within { IsAskWithin ask.entry }
+    ensures news { IfOk result (λ move.
+        AddsOnlyNew (reach_of ask.entry) timing.now move.changes) }
     ensures drafts { IfOk result (λ move. AreChangesWithin (drafted_in move.changes)) }
     ensures bounds { IfOk result (λ move.
         IsBounded ask.entry (length timing.now.delta) move.changes) }

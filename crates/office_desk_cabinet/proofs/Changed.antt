@@ -1,5 +1,5 @@
 -- Tables that stand for a register stand, once a decision's rows are written, for the register that its changes make.
-use Rattle.std.proofs.Common.{◌≡◌, ℕ, List, [], ◌∷◌, cond, Some, nat_cmp, refl, sym, ap, ◌∙◌}
+use Rattle.std.proofs.Common.{◌≡◌, ℕ, List, [], ◌∷◌, cond, Option, Some, None, nat_cmp, refl, sym, ap, subst, ◌∙◌}
 use Rattle.std.proofs.lemmas.Cmp.{nat_list_cmp_total}
 use Rattle.std.specs.Cmp.Lexicographic.{slice_cmp}
 use Rattle.std.specs.FinMap.{FinMap, entries, get, get-insert, insert, same_map, nat_cmp-IsAntisymmetric, slice_cmp-IsAntisymmetric}
@@ -8,17 +8,20 @@ use Rattle.cabinet_core.specs.Register.{Register}
 use Rattle.cabinet_core.specs.Stock.{hand_of, stock_by_code}
 use Rattle.cabinet_core.specs.declared.decide.CabinetChange.{CabinetChange}
 use Rattle.cabinet_core.specs.declared.decide.CabinetChange.TheVariants as change
+use Rattle.cabinet_core.specs.declared.record.Closing.{Closing}
+use Rattle.cabinet_core.specs.declared.record.Order.{Order}
 use Rattle.cabinet_core.proofs.KeyOrders.{record_total, line_total, delivery_total, codes_tie}
 use Rattle.cabinet_core.proofs.StockList.{stock_has}
 use Rattle.office_tables_shelf.specs.Cells.{Rows, tree_rows}
 use Rattle.office_tables_shelf.specs.CabinetRows.{inspection_key, inspection_columns, order_key, order_columns, used_key, used_columns, delivery_key, delivery_columns, part_key, part_columns}
 use Rattle.office_tables_shelf.specs.Change.{changed, changed_by}
 use Rattle.office_tables_shelf.specs.Content.{Content}
+use Rattle.office_tables_shelf.specs.declared.rows.RowChange.TheVariants.{PutOrder}
 use Rattle.office_tables_shelf.proofs.CabinetLemmas.{part_order}
 use Rattle.office_tables_shelf.proofs.KeyCells.{record_order, line_order, delivery_order}
 use Rattle.office_tables_shelf.proofs.StoredMaps.{insert_stored}
 use Rattle.office_desk_cabinet.specs.RegisterStands.{inspection_cells, order_cells, line_cells, delivery_cells, RegisterStands}
-use Rattle.office_desk_cabinet.specs.Telling.{row_change_of, row_changes_of}
+use Rattle.office_desk_cabinet.specs.Telling.{order_row_of, row_change_of, row_changes_of}
 
 -- ---- records
 
@@ -29,6 +32,12 @@ record HoldRecords (tables : Content) (r : Register) : Type 0 where
   used_part : tables.used_part ≡ tree_rows line_cells used_columns (entries r.lines)
   delivery : tables.delivery ≡ tree_rows delivery_cells delivery_columns (entries r.deliveries)
 
+-- an order is put, whether it is new or not
+order_changed : (tables : Content) (id : ℕ) (order : Order) (closing : Option Closing)
+    → changed tables (order_row_of id order closing) ≡ changed tables (PutOrder id order)
+order_changed tables id order None = refl
+order_changed tables id order (Some closing) = refl
+
 one_change : (tables : Content) (r : Register) (id : ℕ) (c : CabinetChange) → HoldRecords tables r → HoldRecords (changed tables (row_change_of id c)) (with_change id r c)
 one_change tables r id (change.PutInspection x) hold = record {
   inspection = ap (λ (rows : Rows). insert rows (inspection_key id x.number) (inspection_columns x)) hold.inspection ∙ sym (insert_stored record_total inspection_cells inspection_columns record_order r.inspections (id, x.number) x);
@@ -36,12 +45,14 @@ one_change tables r id (change.PutInspection x) hold = record {
   used_part = hold.used_part;
   delivery = hold.delivery;
 }
-one_change tables r id (change.PutOrder x) hold = record {
-  inspection = hold.inspection;
-  work_order = ap (λ (rows : Rows). insert rows (order_key id x.number) (order_columns x)) hold.work_order ∙ sym (insert_stored record_total order_cells order_columns record_order r.orders (id, x.number) x);
-  used_part = hold.used_part;
-  delivery = hold.delivery;
-}
+one_change tables r id (change.PutOrder x) hold =
+    let put : HoldRecords (changed tables (PutOrder id x)) (with_change id r (change.PutOrder x)) = record {
+      inspection = hold.inspection;
+      work_order = ap (λ (rows : Rows). insert rows (order_key id x.number) (order_columns x)) hold.work_order ∙ sym (insert_stored record_total order_cells order_columns record_order r.orders (id, x.number) x);
+      used_part = hold.used_part;
+      delivery = hold.delivery;
+    } in
+    subst (λ t. HoldRecords t (with_change id r (change.PutOrder x))) (sym (order_changed tables id x x.closing)) put
 one_change tables r id (change.PutLine x) hold = record {
   inspection = hold.inspection;
   work_order = hold.work_order;
@@ -78,6 +89,8 @@ told_row : (tables : Content) (stock : Stock) (id : ℕ) (c : CabinetChange) →
     → (changed tables (row_change_of id c)).part ≡ tree_rows part_key part_columns (entries (one_told stock c))
 told_row tables stock id (change.PutPart code hand) hold =
     ap (λ (rows : Rows). insert rows (part_key code) (part_columns hand)) hold ∙ sym (insert_stored nat_list_cmp_total part_key part_columns part_order stock code hand)
+told_row tables stock id (change.PutOrder x) hold =
+    ap (λ (t : Content). t.part) (order_changed tables id x x.closing) ∙ hold
 told_row tables stock id _ hold = hold
 
 told_rows : (tables : Content) (stock : Stock) (id : ℕ) (cs : List CabinetChange) → tables.part ≡ tree_rows part_key part_columns (entries stock)
@@ -90,10 +103,7 @@ told_hand stock code [] = refl
 told_hand stock code (change.PutPart part hand ∷ cs) =
     told_hand (insert stock part hand) code cs
     ∙ ap (λ before. hand_after code before cs) (get-insert nat_list_cmp_total stock part hand code ∙ ap (λ b. cond b (Some hand) (get stock code)) (codes_tie code part))
-told_hand stock code (change.PutInspection x ∷ cs) = told_hand stock code cs
-told_hand stock code (change.PutOrder x ∷ cs) = told_hand stock code cs
-told_hand stock code (change.PutLine x ∷ cs) = told_hand stock code cs
-told_hand stock code (change.PutDelivery x ∷ cs) = told_hand stock code cs
+told_hand stock code (_ ∷ cs) = told_hand stock code cs
 
 told_stock : (r next : Register) (cs : List CabinetChange) → ((code : List ℕ) → hand_after code (hand_of r code) cs ≡ hand_of next code) → all_told (stock_by_code r) cs ≡ stock_by_code next
 told_stock r next cs hands = same_map nat_list_cmp_total (slice_cmp-IsAntisymmetric nat_cmp-IsAntisymmetric) _ _

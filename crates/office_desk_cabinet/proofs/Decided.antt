@@ -16,7 +16,7 @@ use Rattle.cabinet_core.specs.declared.record.Order.{Order}
 use Rattle.cabinet_core.specs.declared.refusal.CabinetRefusal.{CabinetRefusal}
 use Rattle.cabinet_core.specs.declared.refusal.CabinetRefusal.TheVariants as refusal
 use Rattle.cabinet_core.proofs.Made.{changes_on, place_or}
-use Rattle.office_tables_shelf.specs.Change.{changed_by}
+use Rattle.office_tables_shelf.specs.Change.{AddNew, changed_by}
 use Rattle.office_tables_shelf.specs.Content.{Content}
 use Rattle.office_tables_shelf.specs.Counts.{writes_in}
 use Rattle.office_tables_shelf.specs.declared.rows.RowChange.{RowChange}
@@ -32,6 +32,7 @@ use Rattle.office_desk_cabinet.specs.Telling.{Tells}
 use Rattle.office_desk_cabinet.specs.declared.registered.Registered.{Registered}
 use Rattle.office_desk_cabinet.proofs.Found.{ReadsKeys, keys_stand}
 use Rattle.office_desk_cabinet.proofs.KeptDamage.{command_kept, rows_kept, rows_on}
+use Rattle.office_desk_cabinet.proofs.News.{adds_new}
 use Rattle.office_desk_cabinet.proofs.Told.{registers_from, rows_few, tells_leaves, told_by}
 
 -- ---- the refusals of a command's line
@@ -146,6 +147,8 @@ decided any honest stored pending command there decision (Ok told) read says mak
           let kept = command_kept any tables command there (read h).reads (read h).whole in
           subst (λ put. KeepsDamage tables (changed_by tables put)) (sym is.same_rows)
           (rows_kept tables line rows kept);
+      news = λ h. subst (AddNew tables) (sym is.same_rows)
+          (adds_new any tables command there (read h).reads);
       leaves = λ (before : Content). tells_leaves before id decision told tells;
       writes = λ other.
           let most = most_record_writes command other in
@@ -160,6 +163,7 @@ decided any honest stored pending command there decision (Err NoMemory) read say
       step = λ h. tt;
       whole = tt;
       spares = tt;
+      news = tt;
       leaves = tt;
       writes = tt;
       named = tt;

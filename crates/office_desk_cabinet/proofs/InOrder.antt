@@ -18,9 +18,8 @@ use Rattle.office_tables_shelf.proofs.KeyCells.{record_order, line_order}
 use Rattle.office_tables_shelf.proofs.ListLemmas.{less, parts}
 use Rattle.office_tables_shelf.proofs.ListedRows.{entry}
 use Rattle.office_tables_shelf.specs.CabinetReads.{ListsInspections, ListsOrders, ListsUsed}
-use Rattle.office_tables_shelf.specs.CabinetRows.{inspection_columns, inspection_key}
-use Rattle.office_tables_shelf.specs.CabinetRows.{order_columns, order_key}
-use Rattle.office_tables_shelf.specs.CabinetRows.{used_columns, used_key}
+use Rattle.office_tables_shelf.specs.CabinetRows.{inspection_columns, inspection_key, order_columns}
+use Rattle.office_tables_shelf.specs.CabinetRows.{order_key, used_columns, used_key}
 use Rattle.office_tables_shelf.specs.Cells.{Cell, Rows, cells_cmp}
 use Rattle.office_tables_shelf.specs.Content.{Content}
 use Rattle.office_tables_shelf.specs.Shelf.{is_of, rows_of}

@@ -1,118 +1,71 @@
 -- Rows of the register that are put under keys where no damaged row stands leave those that are damaged.
-use Rattle.std.proofs.Common.{◌≡◌, ◌⊎◌, inl, inr, ℕ, true, false, cond, List, None, Some}
-use Rattle.std.proofs.Common.{ap, sym, subst, ◌∙◌}
-use Rattle.std.proofs.lemmas.Bool.{cases_Bool}
-use Rattle.std.specs.FinMap.{get, insert, get-insert}
-use Rattle.std.specs.Ordering.{eq_by_cmp}
-use Rattle.cabinet_core.specs.Cabinet.{Line, added, same, refused, record_of, with_closing}
+use Rattle.std.proofs.Common.{◌≡◌, inl, inr, ℕ, Bool, true, false, cond, List, [], None, Some, refl}
+use Rattle.std.proofs.Common.{sym, subst, ◌∙◌, ◌==◌, ◌&&◌, bytes_eq}
+use Rattle.std.proofs.lemmas.Bool.{and_parts, eqb-true, false≢true}
+use Rattle.cabinet_core.proofs.StockLemmas.{same_bytes}
+use Rattle.cabinet_core.specs.Cabinet.{Line as TableLine, added, record_of, with_closing}
 use Rattle.cabinet_core.specs.Step.{Standing}
 use Rattle.cabinet_core.specs.declared.command.RecordCommand.{RecordCommand}
 use Rattle.cabinet_core.specs.declared.command.RecordCommand.TheVariants.{Inspect, OpenOrder, UsePart, CloseOrder, Receive}
-use Rattle.cabinet_core.specs.declared.record.Delivery.{Delivery}
-use Rattle.cabinet_core.specs.declared.record.Inspection.{Inspection}
-use Rattle.cabinet_core.specs.declared.record.Order.{Order}
-use Rattle.cabinet_core.specs.declared.record.UsedLine.{UsedLine}
 use Rattle.cabinet_core.proofs.Made.{changes_on, place_or}
-use Rattle.office_tables_shelf.proofs.CellLemmas.{cells_exact, cells_total, tied}
-use Rattle.office_tables_shelf.specs.CabinetReads.{HasDamagedDelivery, HasDamagedHand, HasDamagedInspectionAt, HasDamagedOrderAt, HasDamagedUsedAt}
-use Rattle.office_tables_shelf.specs.CabinetRows.{delivery_columns, delivery_key, inspection_columns, inspection_key, order_columns, order_key, part_columns, part_key, used_columns, used_key}
-use Rattle.office_tables_shelf.specs.Cells.{Cell, Rows, cells_cmp}
+use Rattle.office_tables_shelf.specs.CabinetReads.{HasDamagedOrderAt}
 use Rattle.office_tables_shelf.specs.Change.{changed, changed_by}
 use Rattle.office_tables_shelf.specs.Content.{Content}
 use Rattle.office_tables_shelf.specs.declared.rows.RowChange.{RowChange}
-use Rattle.office_tables_shelf.specs.declared.rows.RowChange.TheVariants.{PutDelivery, PutInspection, PutLine, PutOrder, PutPart}
+use Rattle.office_tables_shelf.specs.declared.rows.RowChange.TheVariants.{AddDelivery, AddInspection, AddLine, AddOrder, PutOrder, PutPart}
 use Rattle.office_desk_cabinet.specs.RegisterDamage.{KeepsDamage, MeetsRecordDamage}
 use Rattle.office_desk_cabinet.specs.Lines.{rows_for}
 use Rattle.office_desk_cabinet.specs.Telling.{row_changes_of}
 use Rattle.office_desk_cabinet.proofs.Found.{ReadsKeys}
-
--- what stands under another key stays
-other_row : (rows : Rows) (k q put cells : List Cell) → (q ≡ k → ⊥) → get rows q ≡ Some cells → get (insert rows k put) q ≡ Some cells
-other_row rows k q put cells apart stored = get-insert cells_total rows k put q ∙ go (cases_Bool (eq_by_cmp cells_cmp q k))
-  where
-    go : (eq_by_cmp cells_cmp q k ≡ true) ⊎ (eq_by_cmp cells_cmp q k ≡ false) → cond (eq_by_cmp cells_cmp q k) (Some put) (get rows q) ≡ Some cells
-    go (inl hit) = absurd (apart (cells_exact q k (tied _ hit)))
-    go (inr miss) = ap (λ b. cond b (Some put) (get rows q)) miss ∙ stored
+use Rattle.office_desk_cabinet.proofs.PendingLemmas.{cells_changed, cells_put, is_put}
+use Rattle.office_desk_cabinet.proofs.Places.{DamagedAt, Place, Inspection, Order, Line, Part, Delivery, cells_at, kept_at, kept_everywhere}
 
 -- ---- one row
 
-pub inspection_kept : (tables : Content) (id : ℕ) (put : Inspection) → ¬ HasDamagedInspectionAt tables id put.number → KeepsDamage tables (changed tables (PutInspection id put))
-inspection_kept tables id put whole = record {
-  inspections = λ of n d. record {
-    columns = d.columns;
-    stored = other_row tables.inspection (inspection_key id put.number) (inspection_key of n) (inspection_columns put) d.columns (λ same.
-        let ids : of ≡ id = cc in
-        let numbers : n ≡ put.number = cc in
-        whole (subst (λ m. HasDamagedInspectionAt tables id m) numbers (subst (λ i. HasDamagedInspectionAt tables i n) ids d))) d.stored;
-    no_row = d.no_row;
-  };
-  orders = λ of n d. record { columns = d.columns; stored = d.stored; no_row = d.no_row };
-  lines = λ of order line d. record { columns = d.columns; stored = d.stored; no_row = d.no_row };
-  deliveries = λ code n d. record { columns = d.columns; stored = d.stored; no_row = d.no_row };
-  hands = λ code d. record { columns = d.columns; stored = d.stored; no_row = d.no_row };
-}
+-- where a change puts its row
+abbrev place_of : RowChange → Place
+place_of (AddInspection id inspection) = Inspection id inspection.number
+place_of (AddOrder id order) = Order id order.number
+place_of (PutOrder id order) = Order id order.number
+place_of (AddLine id used) = Line id used.order used.line
+place_of (AddDelivery delivery) = Delivery delivery.part delivery.number
+place_of (PutPart code hand) = Part code
+place_of _ = Part []
 
-pub order_kept : (tables : Content) (id : ℕ) (put : Order) → ¬ HasDamagedOrderAt tables id put.number → KeepsDamage tables (changed tables (PutOrder id put))
-order_kept tables id put whole = record {
-  inspections = λ of n d. record { columns = d.columns; stored = d.stored; no_row = d.no_row };
-  orders = λ of n d. record {
-    columns = d.columns;
-    stored = other_row tables.work_order (order_key id put.number) (order_key of n) (order_columns put) d.columns (λ same.
-        let ids : of ≡ id = cc in
-        let numbers : n ≡ put.number = cc in
-        whole (subst (λ m. HasDamagedOrderAt tables id m) numbers (subst (λ i. HasDamagedOrderAt tables i n) ids d))) d.stored;
-    no_row = d.no_row;
-  };
-  lines = λ of order line d. record { columns = d.columns; stored = d.stored; no_row = d.no_row };
-  deliveries = λ code n d. record { columns = d.columns; stored = d.stored; no_row = d.no_row };
-  hands = λ code d. record { columns = d.columns; stored = d.stored; no_row = d.no_row };
-}
+both_same : (of id m n : ℕ) → (of == id && m == n) ≡ true → (id ≡ of) × (n ≡ m)
+both_same of id m n is =
+    let both = and_parts (of == id) (m == n) is in
+    (sym (eqb-true of id both.0), sym (eqb-true m n both.1))
 
-line_kept : (tables : Content) (id : ℕ) (put : UsedLine) → ¬ HasDamagedUsedAt tables id put.order put.line → KeepsDamage tables (changed tables (PutLine id put))
-line_kept tables id put whole = record {
-  inspections = λ of n d. record { columns = d.columns; stored = d.stored; no_row = d.no_row };
-  orders = λ of n d. record { columns = d.columns; stored = d.stored; no_row = d.no_row };
-  lines = λ of order line d. record {
-    columns = d.columns;
-    stored = other_row tables.used_part (used_key id put.order put.line) (used_key of order line) (used_columns put) d.columns (λ same.
-        let ids : of ≡ id = cc in
-        let orders : order ≡ put.order = cc in
-        let lines : line ≡ put.line = cc in
-        whole (subst (λ l. HasDamagedUsedAt tables id put.order l) lines (subst (λ o. HasDamagedUsedAt tables id o line) orders (subst (λ i. HasDamagedUsedAt tables i order line) ids d)))) d.stored;
-    no_row = d.no_row;
-  };
-  deliveries = λ code n d. record { columns = d.columns; stored = d.stored; no_row = d.no_row };
-  hands = λ code d. record { columns = d.columns; stored = d.stored; no_row = d.no_row };
-}
+put_there : (place : Place) (change : RowChange) → is_put place change ≡ true
+    → place ≡ place_of change
+put_there (Inspection id n) (AddInspection of put) is =
+    let same = both_same of id put.number n is in λ k. Inspection (same.0 k) (same.1 k)
+put_there (Order id n) (AddOrder of put) is =
+    let same = both_same of id put.number n is in λ k. Order (same.0 k) (same.1 k)
+put_there (Order id n) (PutOrder of put) is =
+    let same = both_same of id put.number n is in λ k. Order (same.0 k) (same.1 k)
+put_there (Line id order line) (AddLine of put) is =
+    let both = and_parts (of == id) (put.order == order && put.line == line) is in
+    let same = both_same put.order order put.line line both.1 in
+    λ k. Line (sym (eqb-true of id both.0) k) (same.0 k) (same.1 k)
+put_there (Part code) (PutPart part hand) is = λ k. Part (sym (same_bytes part code is) k)
+put_there (Delivery code n) (AddDelivery put) is =
+    let both = and_parts (bytes_eq put.part code) (put.number == n) is in
+    λ k. Delivery (sym (same_bytes put.part code both.0) k) (sym (eqb-true put.number n both.1) k)
+put_there _ _ is = absurd (false≢true is)
 
-delivery_kept : (tables : Content) (put : Delivery) → ¬ HasDamagedDelivery tables put.part put.number → KeepsDamage tables (changed tables (PutDelivery put))
-delivery_kept tables put whole = record {
-  inspections = λ of n d. record { columns = d.columns; stored = d.stored; no_row = d.no_row };
-  orders = λ of n d. record { columns = d.columns; stored = d.stored; no_row = d.no_row };
-  lines = λ of order line d. record { columns = d.columns; stored = d.stored; no_row = d.no_row };
-  deliveries = λ code n d. record {
-    columns = d.columns;
-    stored = other_row tables.delivery (delivery_key put.part put.number) (delivery_key code n) (delivery_columns put) d.columns (λ same.
-        let codes : code ≡ put.part = cc in
-        let numbers : n ≡ put.number = cc in
-        whole (subst (λ m. HasDamagedDelivery tables put.part m) numbers (subst (λ p. HasDamagedDelivery tables p n) codes d))) d.stored;
-    no_row = d.no_row;
-  };
-  hands = λ code d. record { columns = d.columns; stored = d.stored; no_row = d.no_row };
-}
-
-part_kept : (tables : Content) (part : List ℕ) (hand : ℕ) → ¬ HasDamagedHand tables part → KeepsDamage tables (changed tables (PutPart part hand))
-part_kept tables part hand whole = record {
-  inspections = λ of n d. record { columns = d.columns; stored = d.stored; no_row = d.no_row };
-  orders = λ of n d. record { columns = d.columns; stored = d.stored; no_row = d.no_row };
-  lines = λ of order line d. record { columns = d.columns; stored = d.stored; no_row = d.no_row };
-  deliveries = λ code n d. record { columns = d.columns; stored = d.stored; no_row = d.no_row };
-  hands = λ code d. record {
-    columns = d.columns;
-    stored = other_row tables.part (part_key part) (part_key code) (part_columns hand) d.columns (λ same. let codes : code ≡ part = cc in whole (subst (HasDamagedHand tables) codes d)) d.stored;
-    no_row = d.no_row;
-  };
-}
+-- a row that is put where no damaged one stands leaves those that are damaged
+row_kept : (tables : Content) (change : RowChange) → ¬ DamagedAt tables (place_of change)
+    → KeepsDamage tables (changed tables change)
+row_kept tables change whole = kept_everywhere tables (changed tables change) (λ place.
+    kept_at tables (changed tables change) place (λ d. cells_changed tables place change
+    ∙ go place d (is_put place change) refl))
+  where
+    go : (place : Place) → DamagedAt tables place → (b : Bool) → is_put place change ≡ b
+        → cond b (Some (cells_put change)) (cells_at tables place) ≡ cells_at tables place
+    go place d true is = absurd (whole (subst (DamagedAt tables) (put_there place change is) d))
+    go place d false is = refl
 
 -- ---- rows in turn
 
@@ -149,24 +102,25 @@ rows_on any command there = row_changes_of (place_or any command) (changes_on co
 pub command_kept : (any : ℕ) (tables : Content) (command : RecordCommand)
     (there : Standing command) → ReadsKeys tables command there → ¬ MeetsRecordDamage tables command
     → KeepsDamage tables (changed_by tables (rows_on any command there))
-command_kept any tables (Inspect id asked) there reads whole = inspection_kept tables id asked whole
-command_kept any tables (OpenOrder id asked) there reads whole = order_kept tables id (record_of asked) whole
+command_kept any tables (Inspect id asked) there reads whole =
+    row_kept tables (AddInspection id asked) whole
+command_kept any tables (OpenOrder id asked) there reads whole =
+    row_kept tables (AddOrder id (record_of asked)) whole
 command_kept any tables (UsePart id asked) (there, order, hand) reads whole =
-    let mid = changed tables (PutLine id asked) in
-    kept_after tables mid _ (line_kept tables id asked (λ d. whole (inl d)))
-    (part_kept mid asked.part _
+    let mid = changed tables (AddLine id asked) in
+    kept_after tables mid _ (row_kept tables (AddLine id asked) (λ d. whole (inl d)))
+    (row_kept mid (PutPart asked.part _)
     (λ d. whole (inr (inr (record { columns = d.columns; stored = d.stored; no_row = d.no_row })))))
 command_kept any tables (CloseOrder id number asked) None reads whole = nothing_kept tables
 command_kept any tables (CloseOrder id number asked) (Some found) reads whole =
-    order_kept tables id (with_closing found asked)
+    row_kept tables (PutOrder id (with_closing found asked))
     (subst (λ n. ¬ HasDamagedOrderAt tables id n) (sym reads.number) whole)
 command_kept any tables (Receive asked) (there, hand) reads whole =
     let mid = changed tables (PutPart asked.part _) in
-    kept_after tables mid _ (part_kept tables asked.part _ (λ d. whole (inr d)))
-    (delivery_kept mid asked
+    kept_after tables mid _ (row_kept tables (PutPart asked.part _) (λ d. whole (inr d)))
+    (row_kept mid (AddDelivery asked)
     (λ d. whole (inl (record { columns = d.columns; stored = d.stored; no_row = d.no_row }))))
 
-pub rows_kept : (tables : Content) (line : Line) (rows : List RowChange) → KeepsDamage tables (changed_by tables rows) → KeepsDamage tables (changed_by tables (rows_for line rows))
+pub rows_kept : (tables : Content) (line : TableLine) (rows : List RowChange) → KeepsDamage tables (changed_by tables rows) → KeepsDamage tables (changed_by tables (rows_for line rows))
 rows_kept tables added rows kept = kept
-rows_kept tables same rows kept = nothing_kept tables
-rows_kept tables (refused why) rows kept = nothing_kept tables
+rows_kept tables _ rows kept = nothing_kept tables

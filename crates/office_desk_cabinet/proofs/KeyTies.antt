@@ -1,7 +1,6 @@
 -- The keys of two rows of a table of the register tie where their cells are equal.
-use Rattle.std.proofs.Common.{◌≡◌, ℕ, ◌&&◌, ◌==◌, List, ap, ◌∙◌}
+use Rattle.std.proofs.Common.{◌≡◌, ℕ, ◌&&◌, ◌==◌, List, ap, ◌∙◌, bytes_eq}
 use Rattle.std.specs.Ordering.{is_eq, eq_by_cmp}
-use Rattle.std.specs.Str.{bytes_eq}
 use Rattle.cabinet_core.proofs.KeyOrders.{record_ties, line_ties, codes_tie, delivery_ties as part_number_ties}
 use Rattle.office_tables_shelf.proofs.CabinetLemmas.{part_order}
 use Rattle.office_tables_shelf.proofs.KeyCells.{record_order, line_order, delivery_order}

@@ -6,11 +6,12 @@ pub mod KeyTies
 pub mod PendingLemmas
 pub mod Stocked
 pub mod Undamaged
-pub mod WholeRecords
+pub mod Places
 pub mod KeptDamage
 pub mod ListedRecords
 pub mod InOrder
 pub mod ShowingLemmas
 pub mod EmptyRegister
 pub mod Opened
+pub mod News
 pub mod Decided

@@ -1,12 +1,12 @@
 -- A list that was read from tables that stand for a sound register is that of the register.
-use Rattle.std.proofs.Common.{◌≡◌, ℕ, pos, true, false, ◌==◌, List, [], ◌∷◌, map, cond, Ordering, refl, sym, ap, ◌∙◌}
+use Rattle.std.proofs.Common.{◌≡◌, ℕ, pos, true, false, ◌==◌, List, [], ◌∷◌, map, cond, Ordering, refl, sym, ap, ◌∙◌, map-id}
 use Rattle.std.proofs.lemmas.Cmp.{nat_list_cmp_total}
 use Rattle.std.specs.Cmp.{IsTotalOrder}
 use Rattle.std.specs.FinMap.{FinMap, entries, get}
 use Rattle.std.specs.FinMap.Entries.{where_key}
 use Rattle.std.specs.List.{AllByRecursion}
 use Rattle.std.specs.Prelude.{IfSome}
-use Rattle.cabinet_core.specs.Register.{Register, RecordKey, LineKey, records_at}
+use Rattle.cabinet_core.specs.Register.{Register, records_at}
 use Rattle.cabinet_core.specs.Sound.{IsInspectionAt, IsOrderAt, IsLineAt}
 use Rattle.cabinet_core.specs.Stock.{stock_by_code, stock_of}
 use Rattle.cabinet_core.specs.declared.record.Inspection.{Inspection}
@@ -31,14 +31,13 @@ use Rattle.office_desk_cabinet.proofs.Tells.{inspections_tell, orders_tell, line
 pub told_by_rows : {X E Row : Type 0} (row : X → Row) (cells : E → Row) (of : E → X) (Stands : E → Type 0) → ((x : X) (e : E) → Stands e → row x ≡ cells e → x ≡ of e)
     → (xs : List X) (es : List E) → AllByRecursion Stands es → map row xs ≡ map cells es → xs ≡ map of es
 told_by_rows row cells of Stands tells [] [] all same = refl
-told_by_rows row cells of Stands tells [] (e ∷ es) all same = absurd cc
-told_by_rows row cells of Stands tells (x ∷ xs) [] all same = absurd cc
 told_by_rows row cells of Stands tells (x ∷ xs) (e ∷ es) all same =
     let first : row x ≡ cells e = cc in
     let rest : map row xs ≡ map cells es = cc in
     let head = tells x e all.0 first in
     let tail = told_by_rows row cells of Stands tells xs es all.1 rest in
     λ i. head i ∷ tail i
+told_by_rows row cells of Stands tells _ _ all same = absurd cc
 
 -- where a row tells it of anything
 pub rows_tell : {X E Row : Type 0} (row : X → Row) (cells : E → Row) (of : E → X) → ((x : X) (e : E) → row x ≡ cells e → x ≡ of e) → (xs : List X) (es : List E) → map row xs ≡ map cells es → xs ≡ map of es
@@ -64,49 +63,36 @@ module _ {K X : Type 0} {R : ℕ × K → ℕ × K → Ordering} (total : IsTota
         | false ↦ where_shown id es
       ]
 
-  -- the list of the rows of an intersection is that of its records
-  listed_records : (At : ℕ × K → X → Type 0) (id : ℕ) (row : X → List Cell × List Cell) → ((x : X) (e : (ℕ × K) × X) → At e.0 e.1 → row x ≡ shown e → x ≡ e.1)
+  -- the list of the rows of an intersection is that of its records, if a key and columns tell a record
+  listed_records : (At : ℕ × K → X → Type 0) (id : ℕ) (own : X → List Cell)
+      → ((x : X) (e : (ℕ × K) × X) → At e.0 e.1 → own x ≡ key e.0 → columns x ≡ columns e.1 → x ≡ e.1)
       → (rows : Rows) (records : FinMap R X) → rows ≡ tree_rows key columns (entries records) → ((k : ℕ × K) → IfSome (get records k) (At k))
-      → (xs : List X) → map row xs ≡ rows_of id rows → xs ≡ records_at {R = R} id records
-  listed_records At id row tells rows records same stand xs lists =
-      told_by_rows row shown (λ e. e.1) (λ e. At e.0 e.1) tells xs (where_key R (λ k. k.0 == id) (entries records))
+      → (xs : List X) → map (λ x. (own x, columns x)) xs ≡ rows_of id rows → xs ≡ records_at {R = R} id records
+  listed_records At id own tells rows records same stand xs lists =
+      told_by_rows {Row = List Cell × List Cell} (λ x. (own x, columns x)) shown (λ e. e.1) (λ e. At e.0 e.1)
+      (λ x e at is. tells x e at (ap (λ (p : List Cell × List Cell). p.0) is) (ap (λ (p : List Cell × List Cell). p.1) is))
+      xs (where_key R (λ k. k.0 == id) (entries records))
       (kept (λ e. At e.0 e.1) (λ e. e.0.0 == id) (entries records) (entries_stand total At records stand))
       (lists ∙ ap (λ (r : Rows). where_key cells_cmp (is_of id) (entries r)) same ∙ ap (where_key cells_cmp (is_of id)) (stored_entries total key columns order records) ∙ where_shown id (entries records))
 
 -- the inspections that were read are those of the register
 pub inspections_listed : (tables : Content) (r : Register) (id : ℕ) (found : List Inspection) → RegisterStandsSound tables r → ListsInspections tables id found → found ≡ records_at id r.inspections
 inspections_listed tables r id found stands lists =
-    listed_records record_total inspection_cells inspection_columns record_order (λ of k. of_number of k.0 (number (pos k.1) ∷ [])) IsInspectionAt id (λ x. (inspection_key id x.number, inspection_columns x)) tells
+    listed_records record_total inspection_cells inspection_columns record_order (λ of k. of_number of k.0 (number (pos k.1) ∷ [])) IsInspectionAt id (λ x. inspection_key id x.number)
+    (λ x e at keys same. let alike : x.number ≡ e.0.1 = cc in inspections_tell x e.1 (alike ∙ sym at.number) same)
     tables.inspection r.inspections stands.stand.inspection stands.sound.inspections found lists
-  where
-    tells : (x : Inspection) (e : RecordKey × Inspection) → IsInspectionAt e.0 e.1 → ◌≡◌ {A = List Cell × List Cell} (inspection_key id x.number, inspection_columns x) (inspection_cells e.0, inspection_columns e.1) → x ≡ e.1
-    tells x e at same =
-        let keys : inspection_key id x.number ≡ inspection_cells e.0 = ap (λ (p : List Cell × List Cell). p.0) same in
-        let number : x.number ≡ e.0.1 = cc in
-        inspections_tell x e.1 (number ∙ sym at.number) (ap (λ (p : List Cell × List Cell). p.1) same)
 
 pub orders_listed : (tables : Content) (r : Register) (id : ℕ) (found : List Order) → RegisterStandsSound tables r → ListsOrders tables id found → found ≡ records_at id r.orders
 orders_listed tables r id found stands lists =
-    listed_records record_total order_cells order_columns record_order (λ of k. of_number of k.0 (number (pos k.1) ∷ [])) IsOrderAt id (λ x. (order_key id x.number, order_columns x)) tells
+    listed_records record_total order_cells order_columns record_order (λ of k. of_number of k.0 (number (pos k.1) ∷ [])) IsOrderAt id (λ x. order_key id x.number)
+    (λ x e at keys same. let alike : x.number ≡ e.0.1 = cc in orders_tell x e.1 (alike ∙ sym at.number) same)
     tables.work_order r.orders stands.stand.work_order stands.sound.orders found lists
-  where
-    tells : (x : Order) (e : RecordKey × Order) → IsOrderAt e.0 e.1 → ◌≡◌ {A = List Cell × List Cell} (order_key id x.number, order_columns x) (order_cells e.0, order_columns e.1) → x ≡ e.1
-    tells x e at same =
-        let keys : order_key id x.number ≡ order_cells e.0 = ap (λ (p : List Cell × List Cell). p.0) same in
-        let number : x.number ≡ e.0.1 = cc in
-        orders_tell x e.1 (number ∙ sym at.number) (ap (λ (p : List Cell × List Cell). p.1) same)
 
 pub lines_listed : (tables : Content) (r : Register) (id : ℕ) (found : List UsedLine) → RegisterStandsSound tables r → ListsUsed tables id found → found ≡ records_at id r.lines
 lines_listed tables r id found stands lists =
-    listed_records line_total line_cells used_columns line_order (λ of k. of_number of k.0 (number (pos k.1.0) ∷ number (pos k.1.1) ∷ [])) (IsLineAt r) id (λ x. (used_key id x.order x.line, used_columns x)) tells
+    listed_records line_total line_cells used_columns line_order (λ of k. of_number of k.0 (number (pos k.1.0) ∷ number (pos k.1.1) ∷ [])) (IsLineAt r) id (λ x. used_key id x.order x.line)
+    (λ x e at keys same. let order : x.order ≡ e.0.1.0 = cc in let line : x.line ≡ e.0.1.1 = cc in lines_tell x e.1 (order ∙ sym at.of) (line ∙ sym at.number) same)
     tables.used_part r.lines stands.stand.used_part stands.sound.lines found lists
-  where
-    tells : (x : UsedLine) (e : LineKey × UsedLine) → IsLineAt r e.0 e.1 → ◌≡◌ {A = List Cell × List Cell} (used_key id x.order x.line, used_columns x) (line_cells e.0, used_columns e.1) → x ≡ e.1
-    tells x e at same =
-        let keys : used_key id x.order x.line ≡ line_cells e.0 = ap (λ (p : List Cell × List Cell). p.0) same in
-        let order : x.order ≡ e.0.1.0 = cc in
-        let line : x.line ≡ e.0.1.1 = cc in
-        lines_tell x e.1 (order ∙ sym at.of) (line ∙ sym at.number) (ap (λ (p : List Cell × List Cell). p.1) same)
 
 -- ---- the stock
 
@@ -115,7 +101,7 @@ pub parts_are_stock : (tables : Content) (r : Register) (list : List (List ℕ �
 parts_are_stock tables r list stand lists =
     rows_tell row row (λ p. p) tells list (stock_of r)
     (lists ∙ ap (λ (rows : Rows). entries rows) stand.part ∙ stored_entries nat_list_cmp_total part_key part_columns part_order (stock_by_code r))
-    ∙ all_same (stock_of r)
+    ∙ map-id (stock_of r)
   where
     row : List ℕ × ℕ → List Cell × List Cell
     row part = (part_key part.0, part_columns part.1)
@@ -127,7 +113,3 @@ parts_are_stock tables r list stand lists =
         let code : x.0 ≡ e.0 = cc in
         let hand : x.1 ≡ e.1 = cc in
         λ i. (code i, hand i)
-
-    all_same : (es : List (List ℕ × ℕ)) → map (λ p. p) es ≡ es
-    all_same [] = refl
-    all_same (e ∷ es) = ap (λ rest. e ∷ rest) (all_same es)

@@ -1,6 +1,5 @@
 -- How many rows a part used or a delivery writes, and that a delivery's rows are of no intersection alone.
-use Rattle.std.proofs.Common.{ℕ, Option, Result, Ok, Err, sym, ap, ◌∙◌}
-use Rattle.std.specs.Prelude.{IfOk}
+use Rattle.std.proofs.Common.{ℕ, Option, Result, Ok, Err, sym, ap, ◌∙◌, IfOk}
 use Rattle.cabinet_core.specs.Cabinet.{Line, Records, receive_changes}
 use Rattle.cabinet_core.specs.declared.decide.Recorded.{Recorded}
 use Rattle.cabinet_core.specs.declared.decide.Recorded.TheVariants as recorded

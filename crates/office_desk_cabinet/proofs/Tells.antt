@@ -16,12 +16,11 @@ inspections_tell a b alike same =
 
 closings_tell : (a b : Option Closing) → closed_cell a ≡ closed_cell b → closer_cell a ≡ closer_cell b → a ≡ b
 closings_tell None None closed closer = refl
-closings_tell None (Some b) closed closer = absurd cc
-closings_tell (Some a) None closed closer = absurd cc
 closings_tell (Some a) (Some b) closed closer =
     let day : a.day ≡ b.day = cc in
     let by : a.closer ≡ b.closer = cc in
     ap Some (λ i. record { day = day i; closer = by i })
+closings_tell _ _ closed closer = absurd cc
 
 pub orders_tell : (a b : Order) → a.number ≡ b.number → order_columns a ≡ order_columns b → a ≡ b
 orders_tell a b alike same =

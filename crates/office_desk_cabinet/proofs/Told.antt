@@ -1,6 +1,6 @@
 -- What is told of a decision, from the line that it takes: the step of the register, the rows that stay, how many are written, and which refusal.
-use Rattle.std.proofs.Common.{◌≡◌, ◌≤◌, ℕ, List, [], ◌∷◌, Result, Ok, Err, refl, sym, ap, subst, subst₂, ◌∙◌, arith}
-use Rattle.cabinet_core.specs.Cabinet.{Line, added, same, refused, Records}
+use Rattle.std.proofs.Common.{◌≡◌, ◌≤◌, ℕ, List, [], ◌∷◌, Option, Some, None, Result, Ok, Err, refl, sym, ap, subst, subst₂, ◌∙◌, arith}
+use Rattle.cabinet_core.specs.Cabinet.{Line, added, refused, Records}
 use Rattle.cabinet_core.specs.Changes.{MakesIn}
 use Rattle.cabinet_core.specs.Register.{Register}
 use Rattle.cabinet_core.specs.Step.{line_at, with_record, after_line}
@@ -9,6 +9,8 @@ use Rattle.cabinet_core.specs.declared.decide.CabinetChange.{CabinetChange}
 use Rattle.cabinet_core.specs.declared.decide.CabinetChange.TheVariants as change
 use Rattle.cabinet_core.specs.declared.decide.Recorded.{Recorded}
 use Rattle.cabinet_core.specs.declared.decide.Recorded.TheVariants as recorded
+use Rattle.cabinet_core.specs.declared.record.Closing.{Closing}
+use Rattle.cabinet_core.specs.declared.record.Order.{Order}
 use Rattle.cabinet_core.specs.declared.refusal.CabinetRefusal.{CabinetRefusal}
 use Rattle.cabinet_core.specs.declared.refusal.CabinetRefusal.TheVariants as refusal
 use Rattle.office_tables_shelf.specs.Change.{changed, changed_by}
@@ -19,7 +21,7 @@ use Rattle.office_tables_shelf.specs.declared.rows.Table.{Table}
 use Rattle.office_desk_cabinet.specs.RegisterStands.{RegisterStandsSound}
 use Rattle.office_desk_cabinet.specs.Registers.{line_told, rows_told, RegistersFrom, LeavesTiming}
 pub use Rattle.office_desk_cabinet.specs.Lines.{rows_for}
-use Rattle.office_desk_cabinet.specs.Telling.{row_change_of, row_changes_of, Tells}
+use Rattle.office_desk_cabinet.specs.Telling.{order_row_of, row_change_of, row_changes_of, Tells}
 use Rattle.office_desk_cabinet.specs.declared.registered.Registered.{Registered}
 use Rattle.office_desk_cabinet.proofs.Changed.{stand_changed}
 use Rattle.office_desk_cabinet.specs.declared.registered.Registered.TheVariants.{Refused}
@@ -74,12 +76,15 @@ registers_from tables r command id (Err why) told stands is tells = refused_from
 
 -- ---- rows that stay
 
+order_leaves : (tables : Content) (id : ℕ) (order : Order) (closing : Option Closing)
+    → LeavesTiming tables (order_row_of id order closing ∷ [])
+order_leaves tables id order None = record { intersection = refl; timing = refl; draft = refl }
+order_leaves tables id order (Some closing) =
+    record { intersection = refl; timing = refl; draft = refl }
+
 row_leaves : (tables : Content) (id : ℕ) (c : CabinetChange) → LeavesTiming tables (row_change_of id c ∷ [])
-row_leaves tables id (change.PutInspection inspection) = record { intersection = refl; timing = refl; draft = refl }
-row_leaves tables id (change.PutOrder order) = record { intersection = refl; timing = refl; draft = refl }
-row_leaves tables id (change.PutLine line) = record { intersection = refl; timing = refl; draft = refl }
-row_leaves tables id (change.PutPart code hand) = record { intersection = refl; timing = refl; draft = refl }
-row_leaves tables id (change.PutDelivery delivery) = record { intersection = refl; timing = refl; draft = refl }
+row_leaves tables id (change.PutOrder order) = order_leaves tables id order order.closing
+row_leaves tables id _ = record { intersection = refl; timing = refl; draft = refl }
 
 rows_leave : (tables : Content) (id : ℕ) (list : List CabinetChange) → LeavesTiming tables (row_changes_of id list)
 rows_leave tables id [] = record { intersection = refl; timing = refl; draft = refl }
@@ -97,5 +102,4 @@ tells_leaves tables id (Err why) told tells = subst (LeavesTiming tables) (sym (
 
 pub rows_few : (other : Table) (line : Line) (rows : List RowChange) (most : ℕ) → writes_in other rows ≤ most → writes_in other (rows_for line rows) ≤ most
 rows_few other added rows most few = few
-rows_few other same rows most few = omega arith
-rows_few other (refused why) rows most few = omega arith
+rows_few other _ rows most few = omega arith

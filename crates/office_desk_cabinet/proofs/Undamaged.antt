@@ -1,5 +1,5 @@
 -- In tables that stand for a sound register every row is a record.
-use Rattle.std.proofs.Common.{◌≡◌, inl, inr, ℕ, Bool, true, false, cond, List, [], ◌∷◌, Option, None, Some, option_map, pos, sym, ap, subst, ◌∙◌, arith}
+use Rattle.std.proofs.Common.{◌≡◌, inl, inr, ℕ, Bool, true, false, cond, List, [], ◌∷◌, Option, None, Some, pos, sym, ap, subst, ◌∙◌, arith}
 use Rattle.std.proofs.lemmas.Cmp.{nat_list_cmp_total}
 use Rattle.std.specs.FinMap.{get}
 use Rattle.std.specs.Option.{IfSome}
@@ -8,8 +8,8 @@ use Rattle.cabinet_core.specs.Sound.{IsSoundRegister, IsInspectionAt, IsOrderAt,
 use Rattle.cabinet_core.specs.Stock.{was_delivered, pieces, hand_of, stock_by_code}
 use Rattle.cabinet_core.specs.declared.command.RecordCommand.{RecordCommand}
 use Rattle.cabinet_core.specs.declared.command.RecordCommand.TheVariants.{Inspect, OpenOrder, UsePart, CloseOrder, Receive}
-use Rattle.cabinet_core.specs.declared.record.Inspection.{Inspection}
-use Rattle.cabinet_core.specs.declared.record.Order.{Order}
+use Rattle.cabinet_core.specs.declared.record.Inspection.{Inspection as InspectionRecord}
+use Rattle.cabinet_core.specs.declared.record.Order.{Order as OrderRecord}
 use Rattle.cabinet_core.specs.declared.record.UsedLine.{UsedLine}
 use Rattle.cabinet_core.proofs.KeyOrders.{record_total, line_total}
 use Rattle.cabinet_core.proofs.StockList.{code_on_hand, stock_has}
@@ -17,14 +17,17 @@ use Rattle.office_tables_shelf.proofs.CabinetLemmas.{part_order}
 use Rattle.office_tables_shelf.proofs.CellLemmas.{cell_exact, tied}
 use Rattle.office_tables_shelf.proofs.KeyCells.{record_order, line_order}
 use Rattle.office_tables_shelf.proofs.StoredMaps.{stored_found}
-use Rattle.office_tables_shelf.specs.CabinetReads.{HasDamagedInspection, HasDamagedInspectionAt, HasDamagedOrder, HasDamagedOrderAt, HasDamagedUsed, HasDamagedUsedAt, HasDamagedDelivery, HasDamagedHand, HasDamagedPart, IsHand}
-use Rattle.office_tables_shelf.specs.CabinetRows.{inspection_key, inspection_columns, order_key, order_columns, used_key, used_columns, delivery_columns, part_key, part_columns}
+use Rattle.office_tables_shelf.specs.CabinetReads.{HasDamagedInspection, HasDamagedOrder, HasDamagedUsed, HasDamagedPart, IsHand}
+use Rattle.office_tables_shelf.specs.CabinetRows.{inspection_key, inspection_columns, order_key, order_columns, used_key, used_columns, part_key, part_columns}
 use Rattle.office_tables_shelf.specs.Cells.{Cell, Rows, number}
 use Rattle.office_tables_shelf.specs.Content.{Content}
 use Rattle.office_tables_shelf.specs.Shelf.{is_of}
 use Rattle.office_desk_cabinet.specs.RegisterDamage.{MeetsRecordDamage}
 use Rattle.office_desk_cabinet.specs.RegisterStands.{inspection_cells, order_cells, line_cells, RegisterStandsSound}
-use Rattle.office_desk_cabinet.proofs.Found.{inspection_held, order_held, line_held, delivery_held, hand_held}
+use Rattle.cabinet_core.proofs.Puts.{if_more}
+use Rattle.cabinet_core.specs.Within.{IsInspectionWithin, IsOrderWithin, IsUsedLineWithin, IsDeliveryWithin}
+use Rattle.office_desk_cabinet.proofs.Found.{register_reads, standing_at}
+use Rattle.office_desk_cabinet.proofs.Places.{DamagedAt, Place, Inspection, Order, Line, Part, Delivery, WithinAt, whole_at}
 
 -- the first cell of a key tells the intersection
 pub of_tells : (id other : ℕ) (cells : List Cell) → is_of id (number (pos other) ∷ cells) ≡ true → id ≡ other
@@ -35,14 +38,14 @@ of_tells id other cells of = let same = cell_exact _ _ (tied _ of) in cc
 pub no_damaged_inspection : (tables : Content) (r : Register) (id : ℕ) → RegisterStandsSound tables r → HasDamagedInspection tables id → ⊥
 no_damaged_inspection tables r id stands damaged =
     let found = stored_found record_total inspection_cells inspection_columns record_order r.inspections damaged.key damaged.columns (sym (ap (λ (rows : Rows). get rows damaged.key) stands.stand.inspection) ∙ damaged.stored) in
-    let at = subst (λ (o : Option Inspection). IfSome o (IsInspectionAt found.0)) found.4 (stands.sound.inspections found.0) in
+    let at = subst (λ (o : Option InspectionRecord). IfSome o (IsInspectionAt found.0)) found.4 (stands.sound.inspections found.0) in
     let of = of_tells id found.0.0 (number (pos found.0.1) ∷ []) (subst (λ cells. is_of id cells ≡ true) found.2 damaged.of) in
     damaged.no_row found.1 at.within (found.2 ∙ (λ i. inspection_key (sym of i) (sym at.number i))) found.3
 
 pub no_damaged_order : (tables : Content) (r : Register) (id : ℕ) → RegisterStandsSound tables r → HasDamagedOrder tables id → ⊥
 no_damaged_order tables r id stands damaged =
     let found = stored_found record_total order_cells order_columns record_order r.orders damaged.key damaged.columns (sym (ap (λ (rows : Rows). get rows damaged.key) stands.stand.work_order) ∙ damaged.stored) in
-    let at = subst (λ (o : Option Order). IfSome o (IsOrderAt found.0)) found.4 (stands.sound.orders found.0) in
+    let at = subst (λ (o : Option OrderRecord). IfSome o (IsOrderAt found.0)) found.4 (stands.sound.orders found.0) in
     let of = of_tells id found.0.0 (number (pos found.0.1) ∷ []) (subst (λ cells. is_of id cells ≡ true) found.2 damaged.of) in
     damaged.no_row found.1 at.within (found.2 ∙ (λ i. order_key (sym of i) (sym at.number i))) found.3
 
@@ -52,33 +55,6 @@ no_damaged_used tables r id stands damaged =
     let at = subst (λ (o : Option UsedLine). IfSome o (IsLineAt r found.0)) found.4 (stands.sound.lines found.0) in
     let of = of_tells id found.0.0 (number (pos found.0.1.0) ∷ number (pos found.0.1.1) ∷ []) (subst (λ cells. is_of id cells ≡ true) found.2 damaged.of) in
     damaged.no_row found.1 at.within (found.2 ∙ (λ i. used_key (sym of i) (sym at.of i) (sym at.number i))) found.3
-
--- ---- rows under their own keys
-
--- cells that are stored are those of a record that stands under the key
-pub stored : {X : Type 0} (columns : X → List Cell) (Stands : X → Type 0) (cells : List Cell) (there : Option X) → Some cells ≡ option_map columns there → IfSome there Stands → (x : X) × Stands x × (cells ≡ columns x)
-stored columns Stands cells None is stands = absurd cc
-stored columns Stands cells (Some x) is stands = (x, stands, cc)
-
-pub no_damaged_inspection_at : (tables : Content) (r : Register) (id n : ℕ) → RegisterStandsSound tables r → HasDamagedInspectionAt tables id n → ⊥
-no_damaged_inspection_at tables r id n stands damaged =
-    let found = stored inspection_columns (IsInspectionAt (id, n)) damaged.columns (get r.inspections (id, n)) (sym damaged.stored ∙ inspection_held tables r stands.stand id n) (stands.sound.inspections (id, n)) in
-    damaged.no_row found.0 found.1.within found.1.number found.2
-
-pub no_damaged_order_at : (tables : Content) (r : Register) (id n : ℕ) → RegisterStandsSound tables r → HasDamagedOrderAt tables id n → ⊥
-no_damaged_order_at tables r id n stands damaged =
-    let found = stored order_columns (IsOrderAt (id, n)) damaged.columns (get r.orders (id, n)) (sym damaged.stored ∙ order_held tables r stands.stand id n) (stands.sound.orders (id, n)) in
-    damaged.no_row found.0 found.1.within found.1.number found.2
-
-pub no_damaged_used_at : (tables : Content) (r : Register) (id order line : ℕ) → RegisterStandsSound tables r → HasDamagedUsedAt tables id order line → ⊥
-no_damaged_used_at tables r id order line stands damaged =
-    let found = stored used_columns (IsLineAt r (id, (order, line))) damaged.columns (get r.lines (id, (order, line))) (sym damaged.stored ∙ line_held tables r stands.stand id order line) (stands.sound.lines (id, (order, line))) in
-    damaged.no_row found.0 found.1.within found.1.of found.1.number found.2
-
-pub no_damaged_delivery : (tables : Content) (r : Register) (code : List ℕ) (n : ℕ) → RegisterStandsSound tables r → HasDamagedDelivery tables code n → ⊥
-no_damaged_delivery tables r code n stands damaged =
-    let found = stored delivery_columns (IsDeliveryAt (code, n)) damaged.columns (get r.deliveries (code, n)) (sym damaged.stored ∙ delivery_held tables r stands.stand code n) (stands.sound.deliveries (code, n)) in
-    damaged.no_row found.0 found.1.within found.1.part found.1.number found.2
 
 -- ---- what is on hand
 
@@ -93,26 +69,43 @@ hand_within r code sound = go (was_delivered r code)
     go true = within
     go false = tt
 
-pub no_damaged_hand : (tables : Content) (r : Register) (code : List ℕ) → RegisterStandsSound tables r → HasDamagedHand tables code → ⊥
-no_damaged_hand tables r code stands damaged =
-    let found = stored part_columns IsHand damaged.columns (hand_of r code) (sym damaged.stored ∙ hand_held tables r stands.stand code) (hand_within r code stands.sound) in
-    damaged.no_row found.0 found.1 found.2
-
 pub no_damaged_part : (tables : Content) (r : Register) → RegisterStandsSound tables r → HasDamagedPart tables → ⊥
 no_damaged_part tables r stands damaged =
     let found = stored_found nat_list_cmp_total part_key part_columns part_order (stock_by_code r) damaged.key damaged.columns (sym (ap (λ (rows : Rows). get rows damaged.key) stands.stand.part) ∙ damaged.stored) in
     let on : hand_of r found.0 ≡ Some found.1 = sym (stock_has r found.0) ∙ found.4 in
     damaged.no_row found.0 (code_on_hand r found.0 found.1 stands.sound on) found.1 (subst (λ (o : Option ℕ). IfSome o IsHand) on (hand_within r found.0 stands.sound)) found.2 found.3
 
--- ---- commands
+-- ---- rows under their own keys
+
+-- what a sound register has at a place is within its limits
+within_at : (r : Register) → IsSoundRegister r → (place : Place)
+    → IfSome (standing_at r place) (WithinAt place)
+within_at r sound (Inspection id n) = if_more (IsInspectionAt (id, n)) IsInspectionWithin (λ x at. at.within) (get r.inspections (id, n)) (sound.inspections (id, n))
+within_at r sound (Order id n) = if_more (IsOrderAt (id, n)) IsOrderWithin (λ x at. at.within) (get r.orders (id, n)) (sound.orders (id, n))
+within_at r sound (Line id order line) = if_more (IsLineAt r (id, (order, line))) IsUsedLineWithin (λ x at. at.within) (get r.lines (id, (order, line))) (sound.lines (id, (order, line)))
+within_at r sound (Part code) = hand_within r code sound
+within_at r sound (Delivery code n) = if_more (IsDeliveryAt (code, n)) IsDeliveryWithin (λ x at. at.within) (get r.deliveries (code, n)) (sound.deliveries (code, n))
+
+no_damaged_at : (tables : Content) (r : Register) → RegisterStandsSound tables r → (place : Place)
+    → DamagedAt tables place → ⊥
+no_damaged_at tables r stands place = whole_at tables place (standing_at r place)
+    (register_reads tables r stands place) (within_at r stands.sound place)
 
 -- no row that a command reads keeps it from being answered
 pub undamaged_record : (tables : Content) (r : Register) (command : RecordCommand) → RegisterStandsSound tables r → MeetsRecordDamage tables command → ⊥
-undamaged_record tables r (Inspect id inspection) stands damaged = no_damaged_inspection_at tables r id inspection.number stands damaged
-undamaged_record tables r (OpenOrder id opening) stands damaged = no_damaged_order_at tables r id opening.number stands damaged
-undamaged_record tables r (UsePart id line) stands (inl damaged) = no_damaged_used_at tables r id line.order line.line stands damaged
-undamaged_record tables r (UsePart id line) stands (inr (inl damaged)) = no_damaged_order_at tables r id line.order stands damaged
-undamaged_record tables r (UsePart id line) stands (inr (inr damaged)) = no_damaged_hand tables r line.part stands damaged
-undamaged_record tables r (CloseOrder id order closing) stands damaged = no_damaged_order_at tables r id order stands damaged
-undamaged_record tables r (Receive delivery) stands (inl damaged) = no_damaged_delivery tables r delivery.part delivery.number stands damaged
-undamaged_record tables r (Receive delivery) stands (inr damaged) = no_damaged_hand tables r delivery.part stands damaged
+undamaged_record tables r (Inspect id inspection) stands damaged =
+    no_damaged_at tables r stands (Inspection id inspection.number) damaged
+undamaged_record tables r (OpenOrder id opening) stands damaged =
+    no_damaged_at tables r stands (Order id opening.number) damaged
+undamaged_record tables r (UsePart id line) stands (inl damaged) =
+    no_damaged_at tables r stands (Line id line.order line.line) damaged
+undamaged_record tables r (UsePart id line) stands (inr (inl damaged)) =
+    no_damaged_at tables r stands (Order id line.order) damaged
+undamaged_record tables r (UsePart id line) stands (inr (inr damaged)) =
+    no_damaged_at tables r stands (Part line.part) damaged
+undamaged_record tables r (CloseOrder id order closing) stands damaged =
+    no_damaged_at tables r stands (Order id order) damaged
+undamaged_record tables r (Receive delivery) stands (inl damaged) =
+    no_damaged_at tables r stands (Delivery delivery.part delivery.number) damaged
+undamaged_record tables r (Receive delivery) stands (inr damaged) =
+    no_damaged_at tables r stands (Part delivery.part) damaged

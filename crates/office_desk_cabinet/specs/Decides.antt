@@ -2,7 +2,7 @@
 -- pending rows are written.
 use Rattle.std.specs.Prelude.{◌≤◌, List, Result, IfOk}
 use Rattle.cabinet_core.specs.declared.command.RecordCommand.{RecordCommand}
-use Rattle.office_tables_shelf.specs.Change.{changed_by}
+use Rattle.office_tables_shelf.specs.Change.{AddNew, changed_by}
 use Rattle.office_tables_shelf.specs.Content.{Content}
 use Rattle.office_tables_shelf.specs.Counts.{writes_in}
 use Rattle.office_tables_shelf.specs.declared.rows.RowChange.{RowChange}
@@ -21,6 +21,8 @@ pub record DecidesRecord (honest : Type 0) (stored : Content) (pending : List Ro
   -- it is answered only where each row that it reads is a record, and overwrites none that is not
   pub whole : IfOk result (λ _. honest → IsWhole stored pending command)
   pub spares : IfOk result (λ told. honest → SparesDamage stored pending (rows_told told))
+  -- where it adds a row, none stands under its key
+  pub news : IfOk result (λ told. honest → AddNew (changed_by stored pending) (rows_told told))
   -- it writes rows of the register alone, and no more than the command may
   pub leaves : IfOk result (λ told. (tables : Content) → LeavesTiming tables (rows_told told))
   pub writes : IfOk result (λ told. (table : Table)

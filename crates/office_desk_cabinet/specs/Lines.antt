@@ -11,7 +11,7 @@ use Rattle.cabinet_core.specs.declared.record.UsedLine.{UsedLine}
 use Rattle.office_tables_shelf.specs.CabinetReads.{ReadsInspection, ReadsOrder, ReadsUsed, ReadsDelivery, ReadsHand}
 use Rattle.office_tables_shelf.specs.Content.{Content}
 use Rattle.office_tables_shelf.specs.declared.rows.RowChange.{RowChange}
-use Rattle.office_tables_shelf.specs.declared.rows.RowChange.TheVariants.{PutInspection, PutOrder}
+use Rattle.office_tables_shelf.specs.declared.rows.RowChange.TheVariants.{AddInspection, AddOrder}
 use Rattle.office_desk_cabinet.specs.Stocking.{stock_rows_of}
 use Rattle.office_desk_cabinet.specs.Telling.{row_changes_of}
 
@@ -25,10 +25,10 @@ rows_for (refused why) rows = []
 abbrev pub TellsLine : Content → RecordCommand → Line → List RowChange → Type 0
 TellsLine tables (Inspect id asked) line rows =
     (there : Option Inspection) × ReadsInspection tables id asked.number there
-    × (line ≡ inspect_line there asked) × (rows ≡ rows_for line (PutInspection id asked ∷ []))
+    × (line ≡ inspect_line there asked) × (rows ≡ rows_for line (AddInspection id asked ∷ []))
 TellsLine tables (OpenOrder id asked) line rows =
     (there : Option Order) × ReadsOrder tables id asked.number there
-    × (line ≡ open_line there asked) × (rows ≡ rows_for line (PutOrder id (record_of asked) ∷ []))
+    × (line ≡ open_line there asked) × (rows ≡ rows_for line (AddOrder id (record_of asked) ∷ []))
 TellsLine tables (UsePart id asked) line rows =
     (there : Option UsedLine) × (order : Option Order) × (hand : Option ℕ)
     × ReadsUsed tables id asked.order asked.line there × ReadsOrder tables id asked.order order × ReadsHand tables asked.part hand

@@ -9,7 +9,7 @@ use Rattle.cabinet_core.specs.declared.decide.Recorded.TheVariants as recorded
 use Rattle.cabinet_core.specs.declared.refusal.CabinetRefusal.{CabinetRefusal}
 use Rattle.cabinet_core.specs.declared.refusal.CabinetRefusal.TheVariants.{NoMemory}
 use Rattle.office_tables_shelf.specs.declared.rows.RowChange.{RowChange}
-use Rattle.office_tables_shelf.specs.declared.rows.RowChange.TheVariants.{PutPart, PutDelivery}
+use Rattle.office_tables_shelf.specs.declared.rows.RowChange.TheVariants.{PutPart, AddDelivery}
 use Rattle.office_desk_cabinet.specs.declared.registered.Registered.{Registered}
 use Rattle.office_desk_cabinet.specs.declared.registered.Registered.TheVariants.{Same, Refused}
 use Rattle.office_desk_cabinet.specs.Registers.{line_told, rows_told}
@@ -17,7 +17,7 @@ use Rattle.office_desk_cabinet.specs.Registers.{line_told, rows_told}
 -- a change of a part or a delivery as a row; the others are of an intersection
 abbrev pub stock_row_of : CabinetChange → Option RowChange
 stock_row_of (change.PutPart code hand) = Some (PutPart code hand)
-stock_row_of (change.PutDelivery delivery) = Some (PutDelivery delivery)
+stock_row_of (change.PutDelivery delivery) = Some (AddDelivery delivery)
 stock_row_of _ = None
 
 abbrev pub stock_rows_of : List CabinetChange → List RowChange

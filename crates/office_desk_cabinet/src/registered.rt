@@ -10,6 +10,6 @@ pub enum Registered {
     Added(Vec<RowChange>),
     /// An equal record is there.
     Same,
-    /// The register refuses. It is never want of memory.
+    /// The register refuses. Want of memory is told as a fault of the shelf.
     Refused(CabinetRefusal),
 }

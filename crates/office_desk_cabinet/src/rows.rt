@@ -1,24 +1,35 @@
 //! A decision of the register, with its changes as rows.
 ghost use Rattle.std.specs.Prelude.{◌≡◌, IfOk, OnErr};
-ghost use Rattle.office_desk_cabinet.specs.Telling.{Tells, WantsMemory, row_change_of, row_changes_of};
+ghost use Rattle.office_desk_cabinet.specs.Telling.{Tells, WantsMemory};
+ghost use Rattle.office_desk_cabinet.specs.Telling.{order_row_of, row_change_of, row_changes_of};
 
 use crate::registered::Registered;
-use cabinet_core::{CabinetChange, CabinetRefusal, Recorded};
+use cabinet_core::{CabinetChange, CabinetRefusal, Order, Recorded};
 use office_tables_shelf::rows::RowChange;
 use office_tables_shelf::shelf::ShelfFault;
 use signal_records::{InterId, NoMemory};
 use std::alloc::Global;
+
+/// An order as a row: where it is open it is new, and where it is closed it was there open.
+fn order_row(id: InterId, order: Order) -> RowChange
+    ensures { result ≡ order_row_of id order order.closing }
+{
+    match &order.closing {
+        None => RowChange::AddOrder(id, order),
+        Some(_) => RowChange::PutOrder(id, order),
+    }
+}
 
 /// A change of the register as a row.
 fn row_change(id: InterId, change: CabinetChange) -> RowChange
     ensures { result ≡ row_change_of id change }
 {
     match change {
-        CabinetChange::PutInspection(inspection) => RowChange::PutInspection(id, inspection),
-        CabinetChange::PutOrder(order) => RowChange::PutOrder(id, order),
-        CabinetChange::PutLine(line) => RowChange::PutLine(id, line),
+        CabinetChange::PutInspection(inspection) => RowChange::AddInspection(id, inspection),
+        CabinetChange::PutOrder(order) => order_row(id, order),
+        CabinetChange::PutLine(line) => RowChange::AddLine(id, line),
         CabinetChange::PutPart(code, hand) => RowChange::PutPart(code, hand),
-        CabinetChange::PutDelivery(delivery) => RowChange::PutDelivery(delivery),
+        CabinetChange::PutDelivery(delivery) => RowChange::AddDelivery(delivery),
     }
 }
 

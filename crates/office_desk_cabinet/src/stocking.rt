@@ -52,7 +52,7 @@ fn stock_row(change: CabinetChange) -> Option<RowChange>
 {
     match change {
         CabinetChange::PutPart(code, hand) => Some(RowChange::PutPart(code, hand)),
-        CabinetChange::PutDelivery(delivery) => Some(RowChange::PutDelivery(delivery)),
+        CabinetChange::PutDelivery(delivery) => Some(RowChange::AddDelivery(delivery)),
         _ => None,
     }
 }

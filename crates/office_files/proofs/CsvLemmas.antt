@@ -74,11 +74,9 @@ end_is_between : (cfg : Config) (s : State) (c : ℕ) → EndsBetween (step cfg 
 end_is_between cfg st.StartRecord c = start_record_ends cfg c
 end_is_between cfg st.StartField c = start_field_ends cfg c
 end_is_between cfg st.InField c = in_field_ends cfg c
-end_is_between cfg st.InQuoted c = search ending
-end_is_between cfg st.InEscape c = search ending
 end_is_between cfg st.AfterQuote c = search (ending, in_field_ends)
-end_is_between cfg st.InComment c = search ending
 end_is_between cfg st.AfterCr c = search (ending, start_record_ends)
+end_is_between cfg _ c = search ending
 
 -- what a read of a record leaves: at most n bytes, between records
 pub record Leaves (n : ℕ) (r : Read) : Type 0 where

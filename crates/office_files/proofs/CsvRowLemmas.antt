@@ -78,22 +78,8 @@ rows_of-fault reading fields records i record_at rows fault low at so_far one =
 pub fault_at-row : (at : ℕ) (fault : RowFault) → fault_at at fault ≢ file.NoMemory
     → (fault ≢ row.NoMemory) × (fault_at at fault ≡ file.Row (bad_row at fault))
 fault_at-row at row.NoMemory h = absurd (h refl)
-fault_at-row at row.Kind h = (λ e. cc, refl)
-fault_at-row at row.Count h = (λ e. cc, refl)
-fault_at-row at (row.Number field) h = (λ e. cc, refl)
-fault_at-row at (row.Range field) h = (λ e. cc, refl)
-fault_at-row at (row.List field) h = (λ e. cc, refl)
-fault_at-row at row.Mode h = (λ e. cc, refl)
-fault_at-row at (row.Day field) h = (λ e. cc, refl)
-fault_at-row at (row.Text field) h = (λ e. cc, refl)
+fault_at-row at _ h = (λ e. cc, refl)
 
 pub NamesFault-fault_at : (at : ℕ) (fault : RowFault) → NamesFault (fault_at at fault)
 NamesFault-fault_at at row.NoMemory = tt
-NamesFault-fault_at at row.Kind = λ e. cc
-NamesFault-fault_at at row.Count = λ e. cc
-NamesFault-fault_at at (row.Number field) = λ e. cc
-NamesFault-fault_at at (row.Range field) = λ e. cc
-NamesFault-fault_at at (row.List field) = λ e. cc
-NamesFault-fault_at at row.Mode = λ e. cc
-NamesFault-fault_at at (row.Day field) = λ e. cc
-NamesFault-fault_at at (row.Text field) = λ e. cc
+NamesFault-fault_at at _ = λ e. cc

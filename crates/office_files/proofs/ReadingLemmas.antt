@@ -25,5 +25,4 @@ stops_reader-flexible remaining old new (kind.Io e) flexible told = refl
 stops_reader-flexible remaining old new kind.OutOfMemory flexible told = refl
 stops_reader-flexible remaining old new (kind.UnequalLengths pos expected len) flexible told = let no = told.0 in cc
 stops_reader-flexible remaining old new (kind.Utf8 pos err) flexible told = let no = told.0 in cc
-stops_reader-flexible remaining old new (kind.Serialize text) flexible told = absurd told
-stops_reader-flexible remaining old new (kind.Deserialize pos err) flexible told = absurd told
+stops_reader-flexible remaining old new _ flexible told = absurd told

@@ -1,13 +1,12 @@
 -- The laws of the record rows: what is read is spelled so, and what spells a command is read as it.
-use Rattle.std.proofs.Common.{◌≡◌, ℕ, eqb, List, [], ◌∷◌, length, Result, Ok, Err, inl, inr, refl, ap, subst, map, All, ◌∙◌, arith, eqb-true}
+use Rattle.std.proofs.Common.{◌≡◌, ℕ, List, [], ◌∷◌, length, Result, Ok, Err, refl, ap, subst, map, All, ◌∙◌, arith, eqb-true}
 use Rattle.std.specs.Prelude.{codes, IfOk, OnOk}
 use Rattle.std.specs.Fmt.{decimal}
 use Rattle.std.specs.Option.{ok_or}
-use Rattle.std.specs.Str.{bytes_eq}
 use Rattle.signal_records.specs.declared.fault.RowFault.TheVariants as fault
 use Rattle.signal_records.specs.Reading.{text_at, number_of, number_at}
-use Rattle.signal_records.proofs.FieldLaws.{if_ok, same_ok, number_found, number_only}
-use Rattle.signal_records.proofs.RowLaws.{bind_ok, bind_only, choose, cons_is, places_all, same_bytes, counted_ok}
+use Rattle.signal_records.proofs.FieldLaws.{same_ok, number_found, number_only}
+use Rattle.signal_records.proofs.RowLaws.{bind_ok, bind_only, cons_is, places_all, by_kind}
 use Rattle.cabinet_core.specs.Day.{day_text}
 use Rattle.cabinet_core.specs.declared.record.Inspection.{Inspection}
 use Rattle.cabinet_core.specs.declared.record.Opening.{Opening}
@@ -164,30 +163,17 @@ unfolding record_at
 record_found [] c h = absurd cc
 record_found (kind ∷ rest) c h =
     let fields = kind ∷ rest in
-    elim (choose (bytes_eq kind (codes "inspection")) _ _ c h) [
-      | inl t ↦
-          let read = counted_ok (eqb (length fields) 6) _ c t.1 in
-          inspection_found fields c (same_bytes kind (codes "inspection") t.0) (eqb-true (length fields) 6 read.0) read.1
-      | inr t ↦ elim (choose (bytes_eq kind (codes "order")) _ _ c t.1) [
-        | inl u ↦
-            let read = counted_ok (eqb (length fields) 6) _ c u.1 in
-            opening_found fields c (same_bytes kind (codes "order") u.0) (eqb-true (length fields) 6 read.0) read.1
-        | inr u ↦ elim (choose (bytes_eq kind (codes "use")) _ _ c u.1) [
-          | inl v ↦
-              let read = counted_ok (eqb (length fields) 6) _ c v.1 in
-              use_found fields c (same_bytes kind (codes "use") v.0) (eqb-true (length fields) 6 read.0) read.1
-          | inr v ↦ elim (choose (bytes_eq kind (codes "close")) _ _ c v.1) [
-            | inl w ↦
-                let read = counted_ok (eqb (length fields) 5) _ c w.1 in
-                close_found fields c (same_bytes kind (codes "close") w.0) (eqb-true (length fields) 5 read.0) read.1
-            | inr w ↦
-                let last = if_ok (bytes_eq kind (codes "delivery")) _ _ c w.1 in
-                let read = counted_ok (eqb (length fields) 5) _ c last.1 in
-                delivery_found fields c (same_bytes kind (codes "delivery") last.0) (eqb-true (length fields) 5 read.0) read.1
-          ]
-        ]
-      ]
-    ]
+    by_kind (IsFound fields) kind (codes "inspection") _ _ _ c h
+    (λ name count. inspection_found fields c name (eqb-true (length fields) 6 count)) (λ h.
+    by_kind (IsFound fields) kind (codes "order") _ _ _ c h
+    (λ name count. opening_found fields c name (eqb-true (length fields) 6 count)) (λ h.
+    by_kind (IsFound fields) kind (codes "use") _ _ _ c h
+    (λ name count. use_found fields c name (eqb-true (length fields) 6 count)) (λ h.
+    by_kind (IsFound fields) kind (codes "close") _ _ _ c h
+    (λ name count. close_found fields c name (eqb-true (length fields) 5 count)) (λ h.
+    by_kind (IsFound fields) kind (codes "delivery") _ _ _ c h
+    (λ name count. delivery_found fields c name (eqb-true (length fields) 5 count))
+    (λ h. absurd cc)))))
 
 record_only : (c : RecordCommand) → IsRecordWithin c → record_at (record_spelling c) ≡ Ok c
 unfolding record_at
@@ -202,10 +188,7 @@ record_laws = record { found = record_found; only = record_only }
 
 begins_with_kind : (c : RecordCommand) → BeginsWithLetter (record_spelling c)
 begins_with_kind (command.Inspect id r) = (omega arith, omega arith)
-begins_with_kind (command.OpenOrder id r) = (omega arith, omega arith)
-begins_with_kind (command.UsePart id r) = (omega arith, omega arith)
-begins_with_kind (command.CloseOrder id order r) = (omega arith, omega arith)
-begins_with_kind (command.Receive r) = (omega arith, omega arith)
+begins_with_kind _ = (omega arith, omega arith)
 
 -- the file of commands is read as them
 pub given_reads_back : {V E : Type 0} (items : V → List ℕ) (result : Result V E) (shown commands : List RecordCommand) → shown ≡ commands → IfOk result (λ text. items text ≡ csv_text (map record_spelling shown)) → OnOk result (All IsRecordWithin shown) → IfOk result (λ text. commands_of (items text) ≡ Ok commands)

@@ -1,11 +1,11 @@
 -- The rows of a set, put one after the other, make the set of the empty one.
-use Rattle.std.proofs.Common.{◌≡◌, Bool, true, false, cond, T, List, [], ◌∷◌, Option, Some, None, Result, Ok, Err, map, refl, sym, ap, ◌∙◌}
+use Rattle.std.proofs.Common.{◌≡◌, cond, T, List, [], ◌∷◌, Option, Some, None, Result, Ok, Err, map, refl, sym, ap, ◌∙◌}
 use Rattle.std.specs.declared.cmp.Ordering.{Ordering}
-use Rattle.std.specs.declared.cmp.Ordering.TheVariants.{Less, Equal, Greater}
-use Rattle.std.specs.Ordering.{is_lt, is_eq, eq_by_cmp}
+use Rattle.std.specs.declared.cmp.Ordering.TheVariants.{Equal}
+use Rattle.std.specs.Ordering.{is_eq, eq_by_cmp}
 use Rattle.std.specs.FinMap.{get, insert, find, entries, empty, entries_sorted, get-entries, get-insert, get-empty, same_map}
 use Rattle.std.specs.FinMap.Entries.{below_all, is_sorted}
-use Rattle.std.specs.Prelude.{◌&&◌, OnOk}
+use Rattle.std.specs.Prelude.{OnOk}
 use Rattle.signal_records.specs.declared.key.Key.{Key}
 use Rattle.signal_records.specs.declared.record.Row.{Row}
 use Rattle.signal_records.specs.declared.record.Change.{Change}
@@ -14,23 +14,8 @@ use Rattle.signal_records.specs.Key.{key_cmp}
 use Rattle.signal_records.specs.KeyOrder.{key_total, key_exact}
 use Rattle.signal_records.specs.Row.{key_of}
 use Rattle.signal_records.specs.TimingSet.{Rows, AreKeyed, after_changes}
+use Rattle.signal_records.proofs.Sets.{not_found, parts}
 use Rattle.office_files.specs.Timing.{puts_of}
-
-both_of : (a b : Bool) → T (a && b) → T a × T b
-both_of true b h = (tt, h)
-both_of false b h = absurd h
-
-is_less : (o : Ordering) → T (is_lt o) → is_eq o ≡ false
-is_less Less h = refl
-is_less Equal h = absurd h
-is_less Greater h = absurd h
-
--- a key below all others isn't there
-not_found : (k : Key) (es : List (Key × Row)) → T (below_all key_cmp k es) → find key_cmp k es ≡ None
-not_found k [] h = refl
-not_found k (e ∷ es) h =
-    let low = both_of (is_lt (key_cmp k e.0)) (below_all key_cmp k es) h in
-    rw (is_less (key_cmp k e.0) low.0) (not_found k es low.1)
 
 -- the first of two, or else the second
 abbrev or_else : Option Row → Option Row → Option Row
@@ -39,9 +24,8 @@ or_else (Some row) other = Some row
 
 -- putting a row first or last is the same where its key isn't among the others
 first_or_last : (o : Ordering) (row : Row) (found there : Option Row) → (o ≡ Equal → found ≡ None) → or_else found (cond (is_eq o) (Some row) there) ≡ or_else (cond (is_eq o) (Some row) found) there
-first_or_last Less row found there h = refl
-first_or_last Greater row found there h = refl
 first_or_last Equal row found there h = rw (h refl) refl
+first_or_last _ row found there h = refl
 
 abbrev changes_of_entries : List (Key × Row) → List Change
 changes_of_entries es = map Put (map (λ e. e.1) es)
@@ -49,7 +33,7 @@ changes_of_entries es = map Put (map (λ e. e.1) es)
 found_after : (es : List (Key × Row)) (set : Rows) (q : Key) → AreKeyed es → T (is_sorted key_cmp es) → get (after_changes set (changes_of_entries es)) q ≡ or_else (find key_cmp q es) (get set q)
 found_after [] set q keyed sorted = refl
 found_after (e ∷ es) set q keyed sorted =
-    let order = both_of (below_all key_cmp e.0 es) (is_sorted key_cmp es) sorted in
+    let order = parts (below_all key_cmp e.0 es) (is_sorted key_cmp es) sorted in
     let found = find key_cmp q es in
     let rest = found_after es (insert set (key_of e.1) e.1) q keyed.1 order.1 in
     let put = get-insert key_total set (key_of e.1) e.1 q ∙ ap (λ k. cond (eq_by_cmp key_cmp q k) (Some e.1) (get set q)) keyed.0 in

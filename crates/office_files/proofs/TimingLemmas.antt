@@ -16,9 +16,7 @@ use Rattle.office_files.proofs.WritingLemmas.{BeginsWithLetter, csv_records-spel
 
 pub begins_with_kind : (r : Row) → BeginsWithLetter (spelling current_limits r)
 begins_with_kind (row.Phase p phase) = (omega arith, omega arith)
-begins_with_kind (row.Seq n ring r) = (omega arith, omega arith)
-begins_with_kind (row.Split n p split) = (omega arith, omega arith)
-begins_with_kind (row.Pattern n pattern) = (omega arith, omega arith)
+begins_with_kind _ = (omega arith, omega arith)
 
 puts_within : (rows : List Row) → All (IsRowWithin current_limits) rows → AreWithin (map Put rows)
 puts_within [] within = All-nil (IsChangeWithin current_limits)

@@ -1,11 +1,11 @@
 -- A file of texts is a text.
-use Rattle.std.proofs.Common.{◌≡◌, ◌≢◌, ℕ, zero, suc, ◌+◌, ◌<◌, ◌/◌, ◌%◌, ◌==◌, nat_lt, ◌&&◌, Bool, true, false, cond, inl, inr, List, [], ◌∷◌, ◌++◌, map, All, Result, Ok, Err, get_or, refl, sym, subst, ◌∙◌, arith}
+use Rattle.std.proofs.Common.{◌≡◌, ◌≢◌, ℕ, zero, suc, ◌+◌, ◌<◌, ◌/◌, ◌%◌, ◌==◌, nat_lt, Bool, true, false, cond, inl, inr, List, [], ◌∷◌, ◌++◌, map, All, Result, Ok, Err, get_or, sym, subst, ◌∙◌, arith}
 use Rattle.std.specs.Prelude.{IfOk, OnOk, IsUtf8}
 use Rattle.std.specs.Fmt.{decimal, digits, digits_onto, digit_glyph}
 use Rattle.std.specs.List.{list_any, list_all, join_with_byte}
 use Rattle.std.specs.Char.{encode_utf8, IsScalar}
 use Rattle.std.specs.Str.{IsAscii, encode_utf8_all, all_scalars}
-use Rattle.std.proofs.lemmas.Bool.{cases_eq, ltb-true, ne_eqb}
+use Rattle.std.proofs.lemmas.Bool.{and_parts, cases_eq, ltb-true, ne_eqb}
 use Rattle.std.proofs.lemmas.List.{append-nil}
 use Rattle.std.proofs.lemmas.List.Elements.{All-from_get_or, All-head, All-tail}
 use Rattle.std.proofs.lemmas.List.Folds.{list_any_none}
@@ -28,15 +28,11 @@ AreTexts-append (x ∷ xs) ys h k = (h.0, AreTexts-append xs ys h.1 k)
 pub before : (b : ℕ) (text : List ℕ) → b < 128 → IsUtf8 text → IsUtf8 (b ∷ text)
 before b text low h = IsUtf8-append (b ∷ []) text (IsUtf8-from_ascii (b ∷ []) (IsAscii-cons b [] low IsAscii-nil)) h
 
-both : (a b : Bool) → (a && b) ≡ true → (a ≡ true) × (b ≡ true)
-both true b h = (refl, h)
-both false b h = absurd cc
-
 -- bytes that are found to be of ASCII
 pub IsUtf8-low : (bytes : List ℕ) → list_all (λ b. nat_lt b 128) bytes ≡ true → IsUtf8 bytes
 IsUtf8-low [] h = IsUtf8-nil
 IsUtf8-low (b ∷ bytes) h =
-    let each = both (nat_lt b 128) (list_all (λ c. nat_lt c 128) bytes) h in
+    let each = and_parts (nat_lt b 128) (list_all (λ c. nat_lt c 128) bytes) h in
     before b bytes (ltb-true b 128 each.0) (IsUtf8-low bytes each.1)
 
 -- numbers
@@ -85,7 +81,7 @@ escaped-chars : (cs : List ℕ) → all_scalars cs ≡ true → IsUtf8 (escaped 
 unfolding escaped
 escaped-chars [] h = IsUtf8-nil
 escaped-chars (c ∷ cs) h =
-    let each = both _ (all_scalars cs) h in
+    let each = and_parts _ (all_scalars cs) h in
     rw (escaped-append file_writer (encode_utf8 c) (encode_utf8_all cs)) (IsUtf8-append (escaped file_writer (encode_utf8 c)) (escaped file_writer (encode_utf8_all cs)) (escaped-char c each.0) (escaped-chars cs each.1))
 
 -- files

@@ -86,12 +86,10 @@ field_text-first (b ∷ field) rest low high = elim (cases_Bool (list_any (needs
 
 strip_bom-first : (text : List ℕ) → slice_index text 0 ≤ 122 → strip_bom text ≡ text
 unfolding strip_bom
-strip_bom-first [] h = refl
-strip_bom-first (a ∷ []) h = refl
-strip_bom-first (a ∷ b ∷ []) h = refl
 strip_bom-first (a ∷ b ∷ c ∷ rest) h =
     let no : (a == 0xEF) ≡ false = ne_eqb a 0xEF (λ e. absurd (omega arith)) in
     rw no refl
+strip_bom-first _ h = refl
 
 strip_bom-csv_text : (rows : List (List (List ℕ))) → All BeginsWithLetter rows → strip_bom (csv_text rows) ≡ csv_text rows
 unfolding strip_bom

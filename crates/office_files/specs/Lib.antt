@@ -2,6 +2,7 @@ pub mod Csv
 pub mod CsvFault
 pub mod CsvRow
 pub mod Changes
+pub mod Plan
 pub mod Timing
 pub mod RecordSpelling
 pub mod RecordReading

@@ -11,7 +11,7 @@ use std::alloc::Global;
 pub(crate) fn fields_in<'a>(alloc: Global, row: &'a ByteRecord) -> Result<Vec<&'a [u8]>, NoMemory>
     ensures { IfOk result (λ fields. texts fields.items ≡ fields_of row.now) }
 {
-    let mut fields = Vec::new(alloc);
+    let mut fields = Vec::with_capacity(alloc, row.len())?;
     for field in row {
         fields.push(field)?;
     }

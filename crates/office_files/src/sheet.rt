@@ -2,28 +2,13 @@
 
 ghost use Rattle.std.specs.Prelude.{◌≡◌, ◌++◌, OnOk, IfOk, string_bytes};
 ghost use Rattle.std.specs.FinMap as finmap;
-ghost use Rattle.signal_records.specs.SplitMode.{mode_code};
 ghost use Rattle.office_files.specs.Sheet.{interval_columns, ped_columns, phases_section, sequences_section, splits_section, patterns_section, sections, title, phase_line, sequence_line, split_line, pattern_line, sheet_text};
 
 use crate::cells::{push_flag, push_list, push_number, push_tenths};
 use draft_core::revision::Revision;
-use signal_records::{InterId, NoMemory, Ped, Phase, PhaseNo, Row, SplitMode, TimingSet, Words};
+use signal_records::{InterId, NoMemory, Ped, Phase, PhaseNo, Row, TimingSet, Words, mode_code};
 use std::alloc::Global;
 use std::fmt::Write;
-
-/// The code of a split mode, 2 to 7.
-fn mode_code(mode: SplitMode) -> u32
-    ensures { result ≡ mode_code mode }
-{
-    match mode {
-        SplitMode::NoRecall => 2,
-        SplitMode::MinimumVehicleRecall => 3,
-        SplitMode::MaximumVehicleRecall => 4,
-        SplitMode::PedestrianRecall => 5,
-        SplitMode::MaximumVehicleAndPedestrianRecall => 6,
-        SplitMode::PhaseOmitted => 7,
-    }
-}
 
 /// Appends the six columns of a pedestrian part.
 fn push_ped(text: &mut String, ped: &Option<Ped>) -> Result<(), NoMemory>

@@ -1,7 +1,6 @@
 -- How a decision and its answer deal with a request.
-use Rattle.std.proofs.Common.{◌≡◌, ◌≢◌, ◌⊎◌, ◌∙◌, inl, inr, ℕ, Bool, true, false, true≢false, List, [], ◌∷◌, length, refl, sym, ap, subst, arith}
-use Rattle.std.proofs.lemmas.Bool.Decides.{nat_tests}
-use Rattle.std.specs.Prelude.{◌==◌, Result, Ok, Err, IfOk}
+use Rattle.std.proofs.Common.{◌≡◌, ◌≢◌, ◌⊎◌, ◌∙◌, inl, inr, ℕ, List, refl, sym, ap, subst}
+use Rattle.std.specs.Prelude.{Result, Ok, Err, IfOk}
 use Rattle.office_tables_shelf.specs.Content.{Content}
 use Rattle.office_tables_shelf.specs.declared.counts.WriteCounts.{WriteCounts}
 use Rattle.office_desk.specs.Answers.{AnswersAny}
@@ -122,12 +121,3 @@ module _ {Shelf : Type 0} (is_honest : Shelf → Type 0) (content : Shelf → Co
     },
   )
   fault_dealt shelf fault (Err refused) held gives text = deals_refused shelf shelf refused held refl (λ left may. inl may)
-
--- a list that is found empty
-pub none_of : {X : Type 0} (xs : List X) → true ≡ (length xs == 0) → xs ≡ []
-none_of [] e = refl
-none_of (x ∷ xs) e = absurd (grind (arith, nat_tests))
-
--- a list that is found not to be empty
-pub some_of : {X : Type 0} (xs : List X) (found : Bool) → found ≡ (length xs == 0) → found ≡ false → xs ≢ []
-some_of xs found is other none = true≢false (sym (is ∙ ap (λ ys. length ys == 0) none) ∙ other)

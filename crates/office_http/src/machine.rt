@@ -75,11 +75,7 @@ fn answer_asked<S: Shelf>(
     let Ok(answer) = answer_to(alloc, &decided.reply, asked.form) else {
         return Err(Unavailable);
     };
-    let changes = decided.changes.as_slice();
-    if changes.is_empty() {
-        return Ok(answer);
-    }
-    match office.apply(alloc, changes) {
+    match office.apply(alloc, decided.changes.as_slice()) {
         Ok(()) => Ok(answer),
         Err(_) => Err(Unavailable),
     }

@@ -1,6 +1,6 @@
 -- What the loops over a head's fields keep.
 use Rattle.std.proofs.Common.{◌≡◌, ℕ, ◌<◌, ◌+◌, Bool, true, false, cond, ◌||◌, ltb, List, [], ◌∷◌, map, length, get_or, take, drop, Some, None, refl, sym, ap, ◌∙◌, arith}
-use Rattle.std.specs.Prelude.{Option, Result, Ok, Err, unwrap_or, is_some, filter}
+use Rattle.std.specs.Prelude.{Option, Result, Err, unwrap_or, is_some, filter}
 use Rattle.std.specs.List.{list_any, before_first, position_or_len}
 use Rattle.std.proofs.lemmas.List.{take_all, drop_more}
 use Rattle.std.proofs.lemmas.Bool.Decides.{nat_tests}
@@ -24,10 +24,6 @@ pub length_from-first : (before : Option (Result ℕ Fault)) (outcome : Result �
 length_from-first None outcome value all [] none are is = is ∙ ap length_among (sym are)
 length_from-first None outcome value all (second ∷ more) none are is = ap length_among (sym are)
 length_from-first (Some earlier) outcome value all values none are is = cc
-
-pub length_from-nil : (length : Option (Result ℕ Fault)) → length_from length [] ≡ unwrap_or length (Ok 0)
-length_from-nil None = refl
-length_from-nil (Some outcome) = refl
 
 -- the first place that passes ends what is before it
 pub before_first-found : (p : ℕ → Bool) (xs : List ℕ) (i : ℕ) → Some i ≡ cond (ltb (position_or_len p xs) (length xs)) (Some (position_or_len p xs)) None → take i xs ≡ before_first p xs

@@ -42,9 +42,7 @@ abbrev pub IsOutcome : Result ℕ Fault → Type 0
 IsOutcome (Ok n) = n ≤ 262144
 IsOutcome (Err fault.Head) = ⊥
 IsOutcome (Err fault.HeadTooLarge) = ⊥
-IsOutcome (Err fault.Length) = Unit {0}
-IsOutcome (Err fault.BodyTooLarge) = Unit {0}
-IsOutcome (Err fault.Coded) = Unit {0}
+IsOutcome (Err _) = Unit {0}
 
 length_of-outcome : (value : List ℕ) → IsOutcome (length_of value)
 length_of-outcome value = by_tests (is_digits value) (nat_le (digits_value 10 value) 262144) (λ small. grind (arith, nat_tests))
@@ -75,9 +73,7 @@ body_length-bound fields n e = subst IsOutcome e (body_length-outcome fields)
 pub faulty_fields : (bytes : List ℕ) (which : Fault) → HasFaultyFields bytes which → IsFaulty bytes which
 faulty_fields bytes fault.Head has = absurd (subst IsOutcome has.1.outcome_is (body_length-outcome (fields_of has.0)))
 faulty_fields bytes fault.HeadTooLarge has = absurd (subst IsOutcome has.1.outcome_is (body_length-outcome (fields_of has.0)))
-faulty_fields bytes fault.Length has = has
-faulty_fields bytes fault.BodyTooLarge has = has
-faulty_fields bytes fault.Coded has = has
+faulty_fields bytes _ has = has
 
 -- the first bytes, as the code takes them
 pub is_window : (bytes : List ℕ) (n : ℕ) → n ≡ min (length bytes) 8192 → take n bytes ≡ window bytes

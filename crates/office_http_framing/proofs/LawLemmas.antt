@@ -32,9 +32,7 @@ not_unfinished bytes h x part = part.0 h x.rest x.reads
 only_fault : (bytes : List ℕ) (h : RequestHead) (a : Result ℕ Fault) (which : Fault) → IsFramed bytes h a → IsFaulty bytes which → a ≡ Err which
 only_fault bytes h a fault.Head x bad = absurd (not_hopeless bytes h x.has_head bad)
 only_fault bytes h a fault.HeadTooLarge x bad = absurd (not_unfinished bytes h x.has_head bad.1)
-only_fault bytes h a fault.Length x bad = same_outcome bytes h bad.0 a _ x bad.1
-only_fault bytes h a fault.BodyTooLarge x bad = same_outcome bytes h bad.0 a _ x bad.1
-only_fault bytes h a fault.Coded x bad = same_outcome bytes h bad.0 a _ x bad.1
+only_fault bytes h a _ x bad = same_outcome bytes h bad.0 a _ x bad.1
 
 size_is : (m n : ℕ) → ◌≡◌ {A = Result ℕ Fault} (Ok m) (Ok n) → m ≡ n
 size_is m n e = cc
@@ -62,9 +60,7 @@ left_open bytes which (inr body) bad =
     let e : ◌≡◌ {A = Result ℕ Fault} (Ok body.size) (Err which) = only_fault bytes body.head (Ok body.size) which body.framed bad in cc
 left_open bytes fault.Head (inl short) bad = record { hopeless = bad; unfinished = short.1 }
 left_open bytes fault.HeadTooLarge (inl short) bad = absurd (omega (arith, short.0, bad.0))
-left_open bytes fault.Length (inl short) bad = absurd (not_unfinished bytes bad.0 bad.1.has_head short.1)
-left_open bytes fault.BodyTooLarge (inl short) bad = absurd (not_unfinished bytes bad.0 bad.1.has_head short.1)
-left_open bytes fault.Coded (inl short) bad = absurd (not_unfinished bytes bad.0 bad.1.has_head short.1)
+left_open bytes _ (inl short) bad = absurd (not_unfinished bytes bad.0 bad.1.has_head short.1)
 
 err_is : (f g : Fault) → ◌≡◌ {A = Result ℕ Fault} (Err f) (Err g) → f ≡ g
 err_is f g e = cc
@@ -74,19 +70,13 @@ fault_of_fields : (bytes : List ℕ) (f g : Fault) → HasFaultyFields bytes f �
 fault_of_fields bytes f g x y = inl (err_is f g (only_fault bytes x.0 (Err f) g x.1 y))
 
 one_fault : (bytes : List ℕ) (f g : Fault) → IsFaulty bytes f → IsFaulty bytes g → (f ≡ g) ⊎ IsLeftOpen bytes
-one_fault bytes fault.Length g x y = fault_of_fields bytes fault.Length g x y
-one_fault bytes fault.BodyTooLarge g x y = fault_of_fields bytes fault.BodyTooLarge g x y
-one_fault bytes fault.Coded g x y = fault_of_fields bytes fault.Coded g x y
 one_fault bytes fault.Head fault.Head x y = inl refl
 one_fault bytes fault.Head fault.HeadTooLarge x y = inr (record { hopeless = x; unfinished = y.1 })
-one_fault bytes fault.Head fault.Length x y = absurd (not_hopeless bytes y.0 y.1.has_head x)
-one_fault bytes fault.Head fault.BodyTooLarge x y = absurd (not_hopeless bytes y.0 y.1.has_head x)
-one_fault bytes fault.Head fault.Coded x y = absurd (not_hopeless bytes y.0 y.1.has_head x)
 one_fault bytes fault.HeadTooLarge fault.Head x y = inr (record { hopeless = y; unfinished = x.1 })
 one_fault bytes fault.HeadTooLarge fault.HeadTooLarge x y = inl refl
-one_fault bytes fault.HeadTooLarge fault.Length x y = absurd (not_unfinished bytes y.0 y.1.has_head x.1)
-one_fault bytes fault.HeadTooLarge fault.BodyTooLarge x y = absurd (not_unfinished bytes y.0 y.1.has_head x.1)
-one_fault bytes fault.HeadTooLarge fault.Coded x y = absurd (not_unfinished bytes y.0 y.1.has_head x.1)
+one_fault bytes fault.Head _ x y = absurd (not_hopeless bytes y.0 y.1.has_head x)
+one_fault bytes fault.HeadTooLarge _ x y = absurd (not_unfinished bytes y.0 y.1.has_head x.1)
+one_fault bytes f g x y = fault_of_fields bytes f g x y
 
 pub has_one_front : (bytes : List ℕ) → HasOneFront bytes
 has_one_front bytes = record {

@@ -1,5 +1,5 @@
 -- How far a stream has been served, and what each step adds.
-use Rattle.std.proofs.Common.{◌≡◌, inl, ℕ, ◌+◌, ◌-◌, ◌<◌, cond, List, [], ◌∷◌, ◌++◌, length, drop, refl, sym, ap, subst, ◌∙◌, arith, append_assoc}
+use Rattle.std.proofs.Common.{◌≡◌, inl, ℕ, ◌+◌, ◌<◌, List, [], ◌∷◌, ◌++◌, length, drop, refl, sym, ap, subst, ◌∙◌, arith, append_assoc}
 use Rattle.std.specs.Prelude.{Option, Some, None, Result, Ok, Err, MatchResult, true, false}
 use Rattle.std.specs.Result.{is_err}
 use Rattle.std.specs.List.{concat}
@@ -186,12 +186,6 @@ pub Consumes-from_Keeps : (a b : Option (List ℕ)) → Keeps a b → Consumes a
 Consumes-from_Keeps None b keeps = tt
 Consumes-from_Keeps (Some xs) None keeps = absurd keeps
 Consumes-from_Keeps (Some xs) (Some ys) keeps = sym keeps
-
-pub left_after-last : (left : ℕ) (request : PlainRequest) → request.last ≡ true → left_after left request ≡ 0
-left_after-last left request last = ap (λ b. cond b 0 (left - 1)) last
-
-pub left_after-other : (left : ℕ) (request : PlainRequest) → request.last ≡ false → left_after left request ≡ left - 1
-left_after-other left request other = ap (λ b. cond b 0 (left - 1)) other
 
 -- the same, as the code holds it
 pub Progress-as : (runs : Runs) (limit count left : ℕ) (held : List ℕ) (source source' sink sink' : Option (List ℕ)) (left' : ℕ) (held' : List ℕ)

@@ -29,11 +29,10 @@ module _ {Machine State Stored : Type 0} (protocol : Protocol State) (storage : 
           (after, how, refl),
           (kept, new, is_kept, (λ left may_be. more_after_one so_far may held kept middle request answer after how none.0 left (leaves left may_be), refl, refl)),
         )))
-    leaves-next may first start before [] (a ∷ answers) run none = absurd run
-    leaves-next may first start before (r ∷ requests) [] run none = absurd run
     leaves-next may first start before (r ∷ requests) (a ∷ answers) run some =
         let rest = leaves-next (LeavesOne protocol storage may first some.0 before r a run.0 run.1) some.0 some.1 run.0 requests answers run.2 some.3 in
         ((run.0, run.1, rest.0), (some.0, some.1, some.2, rest.1))
+    leaves-next may first start before _ _ run none = absurd run
 
   -- nothing was answered yet
   pub ran-start : (machine : Machine) (held : Stored) (before : State) → Keeps storage machine held before
@@ -54,8 +53,6 @@ module _ {Machine State Stored : Type 0} (protocol : Protocol State) (storage : 
       (at_end : Stored → Type 0) (kept : Stored) (new : storage.Counts) → ((left : Stored) → may left → more left)
       → Leaves protocol storage may held old before requests answers after run at_end kept new → Leaves protocol storage more held old before requests answers after run at_end kept new
   leaves_wider may more held old before [] [] after run at_end kept new wider none = (λ left is. wider left (none.0 left is), none.1, none.2)
-  leaves_wider may more held old before [] (a ∷ answers) after run at_end kept new wider some = absurd run
-  leaves_wider may more held old before (r ∷ requests) [] after run at_end kept new wider some = absurd run
   leaves_wider may more held old before (r ∷ requests) (a ∷ answers) after run at_end kept new wider some = (
     some.0,
     some.1,
@@ -63,6 +60,7 @@ module _ {Machine State Stored : Type 0} (protocol : Protocol State) (storage : 
     leaves_wider (LeavesOne protocol storage may held some.0 before r a run.0 run.1) (LeavesOne protocol storage more held some.0 before r a run.0 run.1) some.0 some.1 run.0 requests answers after run.2 at_end kept new
         (more_after_one may more held some.0 before r a run.0 run.1 wider) some.3,
   )
+  leaves_wider may more held old before _ _ after run at_end kept new wider none = absurd run
 
   pub ran-wider : (may more : Stored → Type 0) (held : Stored) (old : storage.Counts) (before : State) (last : Machine) (kept : Stored) (after : State) (requests : List PlainRequest) (answers : List (List ℕ))
       → ((left : Stored) → may left → more left) → Ran protocol storage may held old before last kept after requests answers → Ran protocol storage more held old before last kept after requests answers

@@ -1,6 +1,7 @@
 //! The engine: it serves the requests of a stream, one after another.
 
-ghost use Rattle.std.specs.Prelude.{◌≡◌, ◌+◌, ◌*◌, ◌≤◌, ℕ, List, IfErr, OnErr};
+ghost use Rattle.std.specs.Prelude.{◌≡◌, ◌+◌, ◌-◌, ◌*◌, ◌≤◌, ℕ, List, IfErr, OnErr};
+ghost use Rattle.std.specs.Prelude.{if◌then◌else◌};
 ghost use Rattle.office_http_framing.specs.Asks.{OnlyAsks};
 ghost use Rattle.office_http_framing.specs.Ends.{Grows, FailsOrGivesNone, WritesOrBreaksOff};
 ghost use Rattle.office_http_framing.specs.Front.{plain};
@@ -78,6 +79,14 @@ fn serve_fault<Tools, M: Machine<Tools>, W: Sink>(
     }
 }
 
+/// How many requests may follow: none after the last one.
+fn left_after(left: u32, last: bool) -> u32
+    ensures left { result ≡ if last then 0 else left - 1 }
+    ensures fewer { result ≤ left - 1 }
+{
+    if last { 0 } else { left.saturating_sub(1) }
+}
+
 /// Serves the requests that the source gives, until it ends, a fault, the last request, or the
 /// limit. It reads only while it holds no whole request and no fault.
 pub fn serve<Tools, M: Machine<Tools>, R: Source, W: Sink>(
@@ -128,7 +137,7 @@ pub fn serve<Tools, M: Machine<Tools>, R: Source, W: Sink>(
                     return Err(ServeFault::Write { requests });
                 }
                 buffer.consume(length);
-                left = if last { 0 } else { left - 1 };
+                left = left_after(left, last);
             }
             Front::Bad(fault) => {
                 if serve_fault::<Tools, M, W>(alloc, fault, writer).is_err() {

@@ -41,6 +41,7 @@ fn trim_end(mut s: &[u8]) -> &[u8]
     s
 }
 
+#[tactic(auto, unfolding(httparse::specs::Grammar::trim_ows))]
 fn trim(s: &[u8]) -> &[u8]
     ensures { result.now ≡ trim_ows s.now }
 {
@@ -101,6 +102,7 @@ fn has_transfer_encoding(bytes: &[u8], fields: &[HeaderSpan]) -> bool
 }
 
 /// The length of the body, or the fault that the fields have.
+#[tactic(auto, unfolding(crate::specs::Fields::body_length))]
 pub(crate) fn body_length(bytes: &[u8], fields: &[HeaderSpan]) -> Result<usize, Fault>
     requires { All (IsHeaderWithin (length bytes.now)) fields.now }
     ensures { result ≡ body_length (map (header_bytes bytes.now) fields.now) }
@@ -120,6 +122,7 @@ fn lists_close(value: &[u8]) -> bool
 }
 
 /// Whether a Connection field lists `close`.
+#[tactic(auto, unfolding(crate::specs::Fields::closes))]
 pub(crate) fn closes(bytes: &[u8], fields: &[HeaderSpan]) -> bool
     requires { All (IsHeaderWithin (length bytes.now)) fields.now }
     ensures { result ≡ closes (map (header_bytes bytes.now) fields.now) }

@@ -5,7 +5,7 @@ use Rattle.std.specs.Prelude.{IfOk, IfErr, ◌==◌}
 use Rattle.std.specs.Option.{option_and_then}
 use Rattle.std.specs.Str.{IsUtf8, is_utf8}
 use Rattle.std.proofs.lemmas.Str.{is_utf8-from_IsUtf8, IsUtf8-from_is_utf8}
-use Rattle.serde_json.specs.Data.{Data, null, boolean, number, string, array, object}
+use Rattle.serde_json.specs.Data.{Data, object}
 use Rattle.serde_json.specs.Errors.{IsMemory}
 use Rattle.serde_json.specs.Read.{read, read as read_text}
 use Rattle.serde_json.specs.View.{view}
@@ -19,20 +19,12 @@ use Rattle.office_http_requests.specs.Bodies.{object_in, body_of, data_of, opens
 use Rattle.office_http_requests.proofs.OpeningLemmas.{read-no_object}
 
 object_in-object : (d : Data) → is_some (as_object d) ≡ true → object_in d ≡ Some d
-object_in-object null h = cc
-object_in-object (boolean b) h = cc
-object_in-object (number n) h = cc
-object_in-object (string s) h = cc
-object_in-object (array ds) h = cc
 object_in-object (object ms) h = refl
+object_in-object _ h = cc
 
 object_in-other : (d : Data) → is_some (as_object d) ≡ false → object_in d ≡ None
-object_in-other null h = refl
-object_in-other (boolean b) h = refl
-object_in-other (number n) h = refl
-object_in-other (string s) h = refl
-object_in-other (array ds) h = refl
 object_in-other (object ms) h = cc
+object_in-other _ h = refl
 
 -- a text of an object
 pub body_of-object : (bytes : List ℕ) (d : Data) → IsUtf8 bytes → read bytes ≡ Some d → is_some (as_object d) ≡ true → body_of bytes ≡ Ok d

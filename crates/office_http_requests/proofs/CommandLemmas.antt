@@ -11,11 +11,11 @@ use Rattle.office_http_requests.specs.Recording.{received_in, recorded_at}
 use Rattle.office_http_requests.specs.Routes.{endpoint_of, method_of}
 use Rattle.office_http_requests.specs.declared.asked.Asked.{Asked}
 use Rattle.office_http_requests.specs.declared.fault.AskFault.{AskFault}
-use Rattle.office_http_requests.specs.declared.fault.AskFault.TheVariants.{NoRoute, Method, Json, Field, BadRow, NoMemory}
+use Rattle.office_http_requests.specs.declared.fault.AskFault.TheVariants.{NoMemory}
 use Rattle.office_http_requests.specs.declared.kind.RecordKind.{RecordKind}
-use Rattle.office_http_requests.specs.declared.kind.RecordKind.TheVariants.{Inspect, OpenOrder, UsePart, CloseOrder, Receive}
+use Rattle.office_http_requests.specs.declared.kind.RecordKind.TheVariants.{UsePart, CloseOrder, Receive}
 use Rattle.office_http_requests.specs.declared.route.Endpoint.{Endpoint}
-use Rattle.office_http_requests.specs.declared.route.Endpoint.TheVariants.{AddIntersection, State, Timing, TimingCsv, Draft, Begin, Edit, EditCsv, Verify, Check, Commit, Reopen, Abandon, Record, Import, Cabinet, CabinetCsv, OpenOrders, Stock, Overdue}
+use Rattle.office_http_requests.specs.declared.route.Endpoint.TheVariants.{AddIntersection, Begin, Edit, EditCsv, Verify, Check, Commit, Reopen, Abandon, Record, Import, Stock}
 
 gives-refl : {A : Type 0} (r : Result A AskFault) → Gives r r
 gives-refl (Ok x) = refl
@@ -39,11 +39,10 @@ unread w = λ other. absurd (other refl)
 
 recorded-unread : (kind : RecordKind) (path : List ℕ) (w : Result Data AskFault) → Gives (recorded_at kind path (Err NoMemory)) (recorded_at kind path w)
 unfolding recorded_at received_in
-recorded-unread Inspect path w = after (id_at path) _ _ (λ id. unread _)
-recorded-unread OpenOrder path w = after (id_at path) _ _ (λ id. unread _)
 recorded-unread UsePart path w = after (id_at path) _ _ (λ id. after (order_at path) _ _ (λ order. unread _))
 recorded-unread CloseOrder path w = after (id_at path) _ _ (λ id. after (order_at path) _ _ (λ order. unread _))
 recorded-unread Receive path w = unread _
+recorded-unread _ path w = after (id_at path) _ _ (λ id. unread _)
 
 clerk-unread : (path : List ℕ) (w : Result Data AskFault) → Gives (id_and_clerk_in path (Err NoMemory)) (id_and_clerk_in path w)
 unfolding id_and_clerk_in
@@ -53,10 +52,6 @@ clerk-unread path w = after (id_at path) _ _ (λ id. unread _)
 pub asked-unread : (endpoint : Endpoint) (path : List ℕ) (w : Result Data AskFault) → Gives (asked_at endpoint path (Err NoMemory)) (asked_at endpoint path w)
 unfolding asked_at added_intersection edited_in edited_by_csv imported_in
 asked-unread AddIntersection path w = unread _
-asked-unread State path w = gives-refl _
-asked-unread Timing path w = gives-refl _
-asked-unread TimingCsv path w = gives-refl _
-asked-unread Draft path w = gives-refl _
 asked-unread Begin path w = gives-bind _ _ _ (clerk-unread path w)
 asked-unread Edit path w = after (id_at path) _ _ (λ id. unread _)
 asked-unread EditCsv path w = after (id_at path) _ _ (λ id. unread _)
@@ -67,34 +62,23 @@ asked-unread Reopen path w = gives-bind _ _ _ (clerk-unread path w)
 asked-unread Abandon path w = gives-bind _ _ _ (clerk-unread path w)
 asked-unread (Record kind) path w = gives-bind _ _ _ (recorded-unread kind path w)
 asked-unread Import path w = unread _
-asked-unread Cabinet path w = gives-refl _
-asked-unread CabinetCsv path w = gives-refl _
-asked-unread OpenOrders path w = gives-refl _
 asked-unread Stock path w = refl
-asked-unread Overdue path w = gives-refl _
+asked-unread _ path w = gives-refl _
 
 module _ (ask : Result Data AskFault → Result Asked AskFault) where
   -- what is asked by what was told of a body is what is asked by the body
   pub gives-read : (told : Result Value AskFault) (w : Result Data AskFault) → Gives (ask (Err NoMemory)) (ask w) → Gives (data_of told) w → Gives (ask (data_of told)) (ask w)
   gives-read (Ok value) w unread gives = subst (λ k. Gives (ask (Ok (view value))) (ask k)) (sym gives) (gives-refl _)
   gives-read (Err NoMemory) w unread gives = unread
-  gives-read (Err NoRoute) w unread gives = subst (λ k. Gives (ask (Err NoRoute)) (ask k)) (sym (gives (λ e. cc))) (gives-refl _)
-  gives-read (Err Method) w unread gives = subst (λ k. Gives (ask (Err Method)) (ask k)) (sym (gives (λ e. cc))) (gives-refl _)
-  gives-read (Err Json) w unread gives = subst (λ k. Gives (ask (Err Json)) (ask k)) (sym (gives (λ e. cc))) (gives-refl _)
-  gives-read (Err (Field field)) w unread gives = subst (λ k. Gives (ask (Err (Field field))) (ask k)) (sym (gives (λ e. cc))) (gives-refl _)
-  gives-read (Err (BadRow bad)) w unread gives =
-      subst (λ k. Gives (ask (Err (BadRow bad))) (ask k)) (sym (gives (λ e. cc))) (gives-refl _)
+  gives-read (Err fault) w unread gives =
+      subst (λ k. Gives (ask (Err fault)) (ask k)) (sym (gives (λ e. cc))) (gives-refl _)
 
   -- want of memory is told in place of what is asked by the body, or it was told of the body
   pub wants-read : (told : Result Value AskFault) (w : Result Data AskFault) (P : Type 0) → Gives (data_of told) w → WantsMemoryOnlyIf told P → MayWant (ask (data_of told))
       → MayWant (ask w) ⊎ (P × MayWant (ask (Err NoMemory)))
   wants-read (Ok value) w P gives only wants = inl (subst (λ k. MayWant (ask k)) (sym gives) wants)
   wants-read (Err NoMemory) w P gives only wants = inr (only refl, wants)
-  wants-read (Err NoRoute) w P gives only wants = inl (subst (λ k. MayWant (ask k)) (sym (gives (λ e. cc))) wants)
-  wants-read (Err Method) w P gives only wants = inl (subst (λ k. MayWant (ask k)) (sym (gives (λ e. cc))) wants)
-  wants-read (Err Json) w P gives only wants = inl (subst (λ k. MayWant (ask k)) (sym (gives (λ e. cc))) wants)
-  wants-read (Err (Field field)) w P gives only wants = inl (subst (λ k. MayWant (ask k)) (sym (gives (λ e. cc))) wants)
-  wants-read (Err (BadRow bad)) w P gives only wants =
+  wants-read (Err _) w P gives only wants =
       inl (subst (λ k. MayWant (ask k)) (sym (gives (λ e. cc))) wants)
 
 -- a request with a route and its method asks what its endpoint does

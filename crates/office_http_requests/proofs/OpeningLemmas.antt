@@ -2,7 +2,7 @@
 use Rattle.std.proofs.Common.{◌≡◌, ℕ, zero, suc, List, [], ◌∷◌, Bool, true, false, cond, ◌==◌, Option, Some, None, length, IfSome, option_map, refl, arith}
 use Rattle.std.specs.Option.{option_and_then}
 use Rattle.std.proofs.lemmas.Bool.Decides.{nat_tests}
-use Rattle.json.specs.Token.{Token, begin_object, end_object, begin_array, end_array, key, string, number, boolean, null, bad}
+use Rattle.json.specs.Token.{Token, begin_object, end_object, begin_array, end_array, string, number, boolean, null, bad}
 use Rattle.json.specs.Text.{content, plain}
 use Rattle.json.specs.Lex.{Lexeme, token, comma, colon, between, quote, backslash, operator, space, other, operator_lexeme, string_token, lex, lex_byte, Place, fresh, place_token, punctuate, tokens}
 use Rattle.json.specs.Ascii as ascii
@@ -15,15 +15,7 @@ use Rattle.office_http_requests.specs.Bodies.{object_in, opens_object}
 
 abbrev is_open : Token → Bool
 is_open begin_object = true
-is_open end_object = false
-is_open begin_array = false
-is_open end_array = false
-is_open (key s) = false
-is_open (string s) = false
-is_open (number s) = false
-is_open (boolean b) = false
-is_open null = false
-is_open bad = false
+is_open _ = false
 
 abbrev opens_first : List Token → Bool
 opens_first [] = false
@@ -61,16 +53,9 @@ string_token-closed (Some s) = record { closed = refl }
 
 placed-closed : (t : Token) (before_colon : Bool) (next : Place → List Token) → is_open t ≡ false → opens_first (place_token fresh t before_colon next) ≡ false
 placed-closed begin_object before_colon next h = cc
-placed-closed end_object before_colon next h = refl
-placed-closed begin_array before_colon next h = refl
-placed-closed end_array before_colon next h = refl
-placed-closed (key s) before_colon next h = refl
 placed-closed (string s) true next h = refl
 placed-closed (string s) false next h = refl
-placed-closed (number s) before_colon next h = refl
-placed-closed (boolean b) before_colon next h = refl
-placed-closed null before_colon next h = refl
-placed-closed bad before_colon next h = refl
+placed-closed _ before_colon next h = refl
 
 -- an operator other than that of an object
 other_operator : (ls : List Lexeme) (a b c d : Bool) → opens_first (punctuate fresh (cond a (token end_object) (cond b (token begin_array) (cond c (token end_array) (cond d comma colon))) ∷ ls)) ≡ false
@@ -109,12 +94,8 @@ tokens-closed (x ∷ xs) h =
 -- ---- the value of such tokens
 
 abbrev is_object : json.Json → Bool
-is_object json.null = false
-is_object (json.boolean b) = false
-is_object (json.number s) = false
-is_object (json.string s) = false
-is_object (json.array js) = false
 is_object (json.object ms) = true
+is_object _ = false
 
 abbrev IsNoObject : Option (json.Json × List Token) → Type 0
 IsNoObject found = IfSome found (λ p. is_object p.0 ≡ false)
@@ -124,17 +105,13 @@ array-no_object None = tt
 array-no_object (Some p) = refl
 
 with-no_object : (a : json.Parse json.Items) (o : json.Parse json.Members) (ts : List Token) → opens_first ts ≡ false → IsNoObject (json.value_with a o ts)
-with-no_object a o [] h = tt
 with-no_object a o (begin_object ∷ ts) h = absurd cc
-with-no_object a o (end_object ∷ ts) h = tt
 with-no_object a o (begin_array ∷ ts) h = array-no_object (a ts)
-with-no_object a o (end_array ∷ ts) h = tt
-with-no_object a o (key s ∷ ts) h = tt
 with-no_object a o (string s ∷ ts) h = refl
 with-no_object a o (number s ∷ ts) h = refl
 with-no_object a o (boolean b ∷ ts) h = refl
 with-no_object a o (null ∷ ts) h = refl
-with-no_object a o (bad ∷ ts) h = tt
+with-no_object a o _ h = tt
 
 value-no_object : (depth : ℕ) (ts : List Token) → opens_first ts ≡ false → IsNoObject (json.value depth ts)
 unfolding json.value
@@ -150,12 +127,10 @@ items-no_object None = refl
 items-no_object (Some ds) = refl
 
 of_json-no_object : (j : json.Json) → is_object j ≡ false → option_and_then object_in (of_json j) ≡ None
-of_json-no_object json.null h = refl
-of_json-no_object (json.boolean b) h = refl
 of_json-no_object (json.number s) h = number-no_object (number_of s)
-of_json-no_object (json.string s) h = refl
 of_json-no_object (json.array js) h = items-no_object (of_items js)
 of_json-no_object (json.object ms) h = cc
+of_json-no_object _ h = refl
 
 found-no_object : (found : Option (json.Json × List Token)) → IsNoObject found → option_and_then object_in (option_and_then of_json (option_and_then (λ p. json.if_last p.0 p.1) found)) ≡ None
 found-no_object None h = refl

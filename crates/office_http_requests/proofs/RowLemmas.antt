@@ -15,15 +15,12 @@ use Rattle.signal_records.specs.declared.record.Change.{Change}
 use Rattle.office_http_requests.specs.declared.fault.AskFault.{AskFault}
 use Rattle.office_http_requests.specs.declared.fault.AskFault.TheVariants.{BadRow, NoMemory}
 use Rattle.office_http_requests.specs.declared.field.Field.TheVariants.{Rows as FieldRows}
-use Rattle.office_files.specs.Changes.{changes_of as csv_changes_of}
-use Rattle.office_files.specs.Records.{commands_of}
 use Rattle.office_files.specs.CsvFault.{bad_row as bad_record}
 use Rattle.office_files.specs.CsvRow.{rows_of}
 use Rattle.office_files.specs.declared.fault.CsvFault.{CsvFault}
 use Rattle.office_files.specs.declared.fault.CsvFault.TheVariants as file
 use Rattle.office_http_requests.specs.Fields.{field_name}
 use Rattle.office_http_requests.specs.Asks.{◌>>=◌, or_bad_row, or_field, MayWant, WantsMemoryOnlyIf}
-use Rattle.office_http_requests.specs.CsvBodies.{csv_in, csv_changes_in, csv_records_in}
 use Rattle.office_http_requests.specs.Rows.{list_of, list_in, each, texts_in, rows_in}
 use Rattle.office_http_requests.specs.Rows.{changes_of, changes_in, IsRowFault}
 
@@ -112,9 +109,8 @@ each_passes f shown (x ∷ xs) = sym (one_is_some (f (shown x)) (each f (map sho
 
 -- a text or rows give what they spell, or a bad row
 spelled_want : {A : Type 0} (read : Result A CsvFault) → MayWant (or_bad_row read)
-spelled_want (Ok x) = tt
-spelled_want (Err (file.Row bad)) = tt
 spelled_want (Err file.NoMemory) = tt
+spelled_want _ = tt
 
 -- rows that are such give changes, or a bad row
 pub changes_want : (body : Data) → is_some (rows_in body) ≡ true → MayWant (changes_in body)
@@ -126,28 +122,12 @@ changes_want body found = by_rows (rows_in body) found
     by_rows None found = cc
     by_rows (Some rows) found = spelled_want (rows_of (change_at current_limits) rows)
 
--- a CSV text gives changes, or a bad record
-pub csv_changes_want : (body : Data) (csv : List ℕ) → csv_in body ≡ Ok csv → MayWant (csv_changes_in body)
-unfolding csv_changes_in
-csv_changes_want body csv is = rw is (spelled_want (csv_changes_of csv))
-
-pub csv_records_want : (body : Data) (csv : List ℕ) → csv_in body ≡ Ok csv → MayWant (csv_records_in body)
-unfolding csv_records_in
-csv_records_want body csv is = rw is (spelled_want (commands_of csv))
-
 -- a row that was not kept is bad, where no want of memory was told
 pub bad_row : (at : ℕ) (read wanted : Result Change RowFault) (told : AskFault) → RowGives read wanted → IsRowFault at read told → told ≢ NoMemory
     → (fault : RowFault) × (wanted ≡ Err fault) × (told ≡ BadRow (bad_record at fault))
 bad_row at (Ok change) wanted told gives is other = absurd (other is)
 bad_row at (Err row.NoMemory) wanted told gives is other = absurd (other is)
-bad_row at (Err row.Kind) wanted told gives is other = (row.Kind, gives (λ e. cc), is)
-bad_row at (Err row.Count) wanted told gives is other = (row.Count, gives (λ e. cc), is)
-bad_row at (Err (row.Number field)) wanted told gives is other = (row.Number field, gives (λ e. cc), is)
-bad_row at (Err (row.Range field)) wanted told gives is other = (row.Range field, gives (λ e. cc), is)
-bad_row at (Err (row.List field)) wanted told gives is other = (row.List field, gives (λ e. cc), is)
-bad_row at (Err row.Mode) wanted told gives is other = (row.Mode, gives (λ e. cc), is)
-bad_row at (Err (row.Day field)) wanted told gives is other = (row.Day field, gives (λ e. cc), is)
-bad_row at (Err (row.Text field)) wanted told gives is other = (row.Text field, gives (λ e. cc), is)
+bad_row at (Err fault) wanted told gives is other = (fault, gives (λ e. cc), is)
 
 pub only_if : {A : Type 0} {P : Type 0} (r : Result A AskFault) → P → WantsMemoryOnlyIf r P
 only_if (Ok x) p = tt

@@ -1,5 +1,6 @@
 -- What a request asks, as a chain of steps of which each may find a fault.
 use Rattle.std.specs.Prelude.{◌≡◌, ◌≢◌, Option, Some, None, Result, Ok, Err, ⊤}
+use Rattle.std.specs.Result.{result_map_both}
 use Rattle.office_files.specs.declared.fault.CsvFault.{CsvFault}
 use Rattle.office_files.specs.declared.fault.CsvFault.TheVariants as file
 use Rattle.office_http_requests.specs.declared.fault.AskFault.{AskFault}
@@ -15,6 +16,10 @@ ask_fault file.NoMemory = NoMemory
 abbrev pub or_bad_row : {A : Type 0} → Result A CsvFault → Result A AskFault
 or_bad_row (Ok x) = Ok x
 or_bad_row (Err fault) = Err (ask_fault fault)
+
+-- what is lent of a body, as this sees it, or the fault
+abbrev pub lent : {A B : Type 0} → (A → B) → Result A AskFault → Result B AskFault
+lent see = result_map_both see (λ fault. fault)
 
 -- the result is the wanted one, or says that there was no memory
 abbrev pub Gives : {A : Type 0} → Result A AskFault → Result A AskFault → Type 0

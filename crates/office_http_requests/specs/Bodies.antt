@@ -16,7 +16,7 @@ use Rattle.office_http_requests.specs.declared.field.Field.{Field}
 use Rattle.office_http_requests.specs.declared.field.Field.TheVariants.{Day, Id, Interval, Part}
 use Rattle.office_http_requests.specs.Asks.{or_fault, or_field}
 use Rattle.office_http_requests.specs.Fields.{field_name}
-use Rattle.office_http_requests.specs.Values.{within}
+use Rattle.signal_records.specs.Reading.{within}
 
 -- the data that the bytes are
 abbrev pub json_of : List ℕ → Option Data

@@ -7,4 +7,3 @@ pub mod Paths
 pub mod Recording
 pub mod Routes
 pub mod Rows
-pub mod Values

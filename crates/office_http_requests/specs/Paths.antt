@@ -5,7 +5,7 @@ use Rattle.office_files.specs.RecordReading.{day_of}
 use Rattle.office_http_requests.specs.declared.fault.AskFault.{AskFault}
 use Rattle.office_http_requests.specs.declared.field.Field.TheVariants.{Day, Id, Order}
 use Rattle.office_http_requests.specs.Asks.{or_field}
-use Rattle.office_http_requests.specs.Values.{number_spelled}
+use Rattle.signal_records.specs.Reading.{number_spelled}
 
 -- the byte of `/`
 abbrev pub is_slash : ℕ → Bool

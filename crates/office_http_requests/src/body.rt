@@ -1,18 +1,18 @@
 //! The body of a request: one JSON object, and the values under its keys.
-ghost use Rattle.std.specs.Prelude.{◌≡◌, Some, option_map, IfErr, IfOk, IsOk};
-ghost use Rattle.std.specs.Result.{result_map_both};
+ghost use Rattle.std.specs.Prelude.{◌≡◌, option_map, IfErr, IfOk, IsOk};
 ghost use Rattle.serde_json.specs.View.{view};
 ghost use Rattle.json.specs.Word.{is_space as space_byte};
-ghost use Rattle.office_http_requests.specs.Asks.{Gives, WantsMemoryOnlyIf};
+ghost use Rattle.office_http_requests.specs.Asks.{Gives, WantsMemoryOnlyIf, lent};
 ghost use Rattle.office_http_requests.specs.Bodies.{number_in, text_in, ranged_in, words_in, day_in, part_in, body_of, data_of, opens_object as opens, IsTold, MayBeObject};
-ghost use Rattle.office_files.specs.RecordReading.{words_of};
+ghost use Rattle.cabinet_core.specs.Part.{IsPartCode};
+ghost use Rattle.signal_records.specs.Words.{AreWords};
 
 use crate::fault::AskFault;
 use crate::field::Field;
-use crate::value::{day_spelled, is_part_code, is_words, number_within, part_from, words_from};
+use crate::value::{day_spelled, number_within, part_parsed, words_parsed};
 use cabinet_core::{Day, PartCode};
 use serde_json::{Error, Value};
-use signal_records::{NoMemory, Number, Words};
+use signal_records::{Number, Words};
 use std::alloc::Global;
 use std::str;
 
@@ -100,32 +100,14 @@ pub(crate) fn number<Of, const LOW: u32, const HIGH: u32>(
 }
 
 /// The text under a key, where it is words of at most so many bytes. It takes no memory.
-#[tactic(auto, unfolding(crate::specs::Bodies::words_in, office_files::specs::RecordReading::words_of))]
-pub(crate) fn words_text(body: &Value, field: Field, max: usize) -> Result<&str, AskFault>
-    ensures text { result_map_both (λ text. text.now) (λ fault. fault) result ≡ words_in max (view body.now) field }
-    ensures words { IfOk result (λ text. words_of max text.now ≡ Some text.now) }
+#[tactic(auto, unfolding(crate::specs::Bodies::words_in))]
+pub(crate) fn words_text<const MAX: usize>(body: &Value, field: Field) -> Result<&str, AskFault>
+    ensures text { lent (λ text. text.now) result ≡ words_in MAX (view body.now) field }
+    ensures words { IfOk result (λ text. AreWords MAX text.now) }
     ensures fault { IfErr result (λ fault. fault ≡ AskFault.Field field) }
 {
     let text = text(body, field).ok_or(AskFault::Field(field))?;
-    if is_words(max, text.as_bytes()) {
-        Ok(text)
-    } else {
-        Err(AskFault::Field(field))
-    }
-}
-
-/// The words that a text is, which was seen to be some.
-pub(crate) fn words_copied<const MAX: usize>(
-    alloc: Global,
-    text: &str,
-) -> Result<Words<MAX>, NoMemory>
-    requires { words_of MAX text.now ≡ Some text.now }
-    ensures { IfOk result (λ words. words ≡ text.now) }
-{
-    let Some(words) = words_from(alloc, text.as_bytes())? else {
-        unreachable!();
-    };
-    Ok(words)
+    words_parsed::<MAX>(text.as_bytes()).ok_or(AskFault::Field(field))
 }
 
 /// The words under a key. Want of memory is told of words alone.
@@ -137,8 +119,8 @@ pub(crate) fn words<const MAX: usize>(
     ensures gives { Gives result (words_in MAX (view body.now) field) }
     ensures memory { WantsMemoryOnlyIf result (IsOk (words_in MAX (view body.now) field)) }
 {
-    let text = words_text(body, field, MAX)?;
-    Ok(words_copied(alloc, text)?)
+    let text = words_text::<MAX>(body, field)?;
+    Ok(Words::from_parsed(alloc, text)?)
 }
 
 /// The day under its key.
@@ -151,15 +133,22 @@ pub(crate) fn day(body: &Value) -> Result<Day, AskFault>
     day_spelled(text.as_bytes()).ok_or(AskFault::Field(Field::Day))
 }
 
+/// The text under its key, where it is the code of a part. It takes no memory.
+#[tactic(auto, unfolding(crate::specs::Bodies::part_in))]
+fn part_text(body: &Value) -> Result<&str, AskFault>
+    ensures text { lent (λ text. text.now) result ≡ part_in (view body.now) }
+    ensures code { IfOk result (λ text. IsPartCode text.now) }
+    ensures fault { IfErr result (λ fault. fault ≡ AskFault.Field Field.Part) }
+{
+    let text = text(body, Field::Part).ok_or(AskFault::Field(Field::Part))?;
+    part_parsed(text.as_bytes()).ok_or(AskFault::Field(Field::Part))
+}
+
 /// The code of a part under its key. Want of memory is told of a code alone.
-#[tactic(auto, unfolding(crate::specs::Bodies::part_in, office_files::specs::RecordReading::part_of))]
 pub(crate) fn part(alloc: Global, body: &Value) -> Result<PartCode, AskFault>
     ensures gives { Gives result (part_in (view body.now)) }
     ensures memory { WantsMemoryOnlyIf result (IsOk (part_in (view body.now))) }
 {
-    let text = text(body, Field::Part).ok_or(AskFault::Field(Field::Part))?;
-    if !is_part_code(text.as_bytes()) {
-        return Err(AskFault::Field(Field::Part));
-    }
-    part_from(alloc, text.as_bytes())?.ok_or(AskFault::Field(Field::Part))
+    let text = part_text(body)?;
+    Ok(PartCode::from_parsed(alloc, text)?)
 }

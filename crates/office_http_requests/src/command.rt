@@ -174,9 +174,9 @@ fn clerk_and_rows(alloc: Global, body: &Value) -> Result<(Words<40>, Changes), A
     ensures gives { Gives result (clerk_and_rows_in (view body.now)) }
     ensures memory { WantsMemoryOnlyIf result (MayWant (clerk_and_rows_in (view body.now))) }
 {
-    let clerk = body::words_text(body, Field::Clerk, 40)?;
+    let clerk = body::words_text::<40>(body, Field::Clerk)?;
     let changes = rows::of_body(alloc, body)?;
-    Ok((body::words_copied(alloc, clerk)?, changes))
+    Ok((Words::from_parsed(alloc, clerk)?, changes))
 }
 
 #[tactic(auto, unfolding(crate::specs::Commands::edited_by_csv))]
@@ -196,9 +196,9 @@ fn clerk_and_csv(alloc: Global, body: &Value) -> Result<(Words<40>, Changes), As
     ensures gives { Gives result (clerk_and_csv_in (view body.now)) }
     ensures memory { WantsMemoryOnlyIf result (MayWant (clerk_and_csv_in (view body.now))) }
 {
-    let clerk = body::words_text(body, Field::Clerk, 40)?;
+    let clerk = body::words_text::<40>(body, Field::Clerk)?;
     let changes = Changes::new(csv_body::changes(alloc, body)?);
-    Ok((body::words_copied(alloc, clerk)?, changes))
+    Ok((Words::from_parsed(alloc, clerk)?, changes))
 }
 
 #[tactic(auto, unfolding(crate::specs::Commands::imported_in))]

@@ -1,8 +1,7 @@
 //! The CSV text of a body, and what its records spell.
 ghost use Rattle.std.specs.Prelude.{◌≡◌};
-ghost use Rattle.std.specs.Result.{result_map_both};
 ghost use Rattle.serde_json.specs.View.{view};
-ghost use Rattle.office_http_requests.specs.Asks.{MayWant, WantsMemoryOnlyIf};
+ghost use Rattle.office_http_requests.specs.Asks.{MayWant, WantsMemoryOnlyIf, lent};
 ghost use Rattle.office_http_requests.specs.CsvBodies.{csv_in, csv_changes_in, csv_records_in};
 ghost use Rattle.office_http_requests.specs.CsvBodies.{GivesList};
 
@@ -17,7 +16,7 @@ use std::alloc::Global;
 
 // The CSV text under its key.
 fn text(body: &Value) -> Result<&str, AskFault>
-    ensures { result_map_both (λ csv. csv.now) (λ fault. fault) result ≡ csv_in (view body.now) }
+    ensures { lent (λ csv. csv.now) result ≡ csv_in (view body.now) }
 {
     body::text(body, Field::Csv).ok_or(AskFault::Field(Field::Csv))
 }

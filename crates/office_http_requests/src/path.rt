@@ -5,7 +5,7 @@ ghost use Rattle.office_http_requests.specs.Paths.{is_slash, segment as segment_
 
 use crate::fault::AskFault;
 use crate::field::Field;
-use crate::value::{day_spelled, number_spelled};
+use crate::value::day_spelled;
 use cabinet_core::Day;
 use signal_records::{InterId, RecordNo};
 
@@ -52,7 +52,7 @@ pub(crate) fn id(path: &[u8]) -> Result<InterId, AskFault>
     ensures id { result ≡ id_at path.now }
     ensures fault { IfErr result (λ fault. fault ≡ AskFault.Field Field.Id) }
 {
-    number_spelled(segment(path, 2)).ok_or(AskFault::Field(Field::Id))
+    InterId::parse(segment(path, 2)).ok_or(AskFault::Field(Field::Id))
 }
 
 /// The order of a path: its fifth segment.
@@ -61,7 +61,7 @@ pub(crate) fn order(path: &[u8]) -> Result<RecordNo, AskFault>
     ensures order { result ≡ order_at path.now }
     ensures fault { IfErr result (λ fault. fault ≡ AskFault.Field Field.Order) }
 {
-    number_spelled(segment(path, 4)).ok_or(AskFault::Field(Field::Order))
+    RecordNo::parse(segment(path, 4)).ok_or(AskFault::Field(Field::Order))
 }
 
 /// The day of a path: its third segment.

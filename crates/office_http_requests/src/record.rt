@@ -10,7 +10,7 @@ use crate::fault::AskFault;
 use crate::field::Field;
 use cabinet_core::{Closing, Delivery, Inspection, Opening, UsedLine};
 use serde_json::Value;
-use signal_records::RecordNo;
+use signal_records::{RecordNo, Words};
 use std::alloc::Global;
 
 /// An inspection.
@@ -19,15 +19,15 @@ pub(crate) fn inspection(alloc: Global, body: &Value) -> Result<Inspection, AskF
     ensures gives { Gives result (inspection_in (view body.now)) }
     ensures memory { WantsMemoryOnlyIf result (IsOk (inspection_in (view body.now))) }
 {
-    let clerk = keys::words_text(body, Field::Clerk, 40)?;
+    let clerk = keys::words_text::<40>(body, Field::Clerk)?;
     let day = keys::day(body)?;
     let number = keys::number(body, Field::Number)?;
-    let text = keys::words_text(body, Field::Text, 500)?;
+    let text = keys::words_text::<500>(body, Field::Text)?;
     Ok(Inspection {
         number,
         day,
-        clerk: keys::words_copied(alloc, clerk)?,
-        text: keys::words_copied(alloc, text)?,
+        clerk: Words::from_parsed(alloc, clerk)?,
+        text: Words::from_parsed(alloc, text)?,
     })
 }
 
@@ -37,15 +37,15 @@ pub(crate) fn opening(alloc: Global, body: &Value) -> Result<Opening, AskFault>
     ensures gives { Gives result (opening_in (view body.now)) }
     ensures memory { WantsMemoryOnlyIf result (IsOk (opening_in (view body.now))) }
 {
-    let clerk = keys::words_text(body, Field::Clerk, 40)?;
+    let clerk = keys::words_text::<40>(body, Field::Clerk)?;
     let day = keys::day(body)?;
     let number = keys::number(body, Field::Number)?;
-    let text = keys::words_text(body, Field::Text, 500)?;
+    let text = keys::words_text::<500>(body, Field::Text)?;
     Ok(Opening {
         number,
         day,
-        clerk: keys::words_copied(alloc, clerk)?,
-        text: keys::words_copied(alloc, text)?,
+        clerk: Words::from_parsed(alloc, clerk)?,
+        text: Words::from_parsed(alloc, text)?,
     })
 }
 
@@ -72,11 +72,11 @@ pub(crate) fn closing(alloc: Global, body: &Value) -> Result<Closing, AskFault>
     ensures gives { Gives result (closing_in (view body.now)) }
     ensures memory { WantsMemoryOnlyIf result (IsOk (closing_in (view body.now))) }
 {
-    let closer = keys::words_text(body, Field::Clerk, 40)?;
+    let closer = keys::words_text::<40>(body, Field::Clerk)?;
     let day = keys::day(body)?;
     Ok(Closing {
         day,
-        closer: keys::words_copied(alloc, closer)?,
+        closer: Words::from_parsed(alloc, closer)?,
     })
 }
 

@@ -2,7 +2,9 @@
 ghost use Rattle.std.specs.Prelude.{◌≡◌, ◌≢◌, IfOk};
 ghost use Rattle.serde_json.specs.Written.{compact_text};
 ghost use Rattle.office_http_requests.specs.declared.fault.AskFault.TheVariants.{NoMemory};
-ghost use Rattle.office_http_responses.specs.Faults.{line_of, kind_numbered, framing_kind, fault_tree, fault_bytes, ask_fault_text, framing_fault_text, IsFault};
+ghost use Rattle.office_http_responses.specs.Faults.{line_of, first_numbered, kind_numbered};
+ghost use Rattle.office_http_responses.specs.Faults.{framing_kind, fault_tree, fault_bytes};
+ghost use Rattle.office_http_responses.specs.Faults.{ask_fault_text, framing_fault_text, IsFault};
 ghost use Rattle.office_http_responses.specs.Writing.{AddsTree};
 
 use crate::answer::CONTENT_ROOM;
@@ -40,6 +42,19 @@ pub(crate) enum FaultKind {
     BadRow,
 }
 
+/// The faults before a bad row.
+const BEFORE_ROWS: [FaultKind; 9] = [
+    FaultKind::Head,
+    FaultKind::HeadTooLarge,
+    FaultKind::Length,
+    FaultKind::BodyTooLarge,
+    FaultKind::Coded,
+    FaultKind::NoRoute,
+    FaultKind::Method,
+    FaultKind::Json,
+    FaultKind::Field,
+];
+
 // A line of the table of faults.
 #[derive(Clone, Copy)]
 struct FaultLine {
@@ -74,24 +89,6 @@ impl FaultKind {
         }
     }
 
-    /// The one with this number in the table, or BadRow.
-    fn numbered(number: u32) -> FaultKind
-        ensures { result ≡ kind_numbered number }
-    {
-        match number {
-            1 => FaultKind::Head,
-            2 => FaultKind::HeadTooLarge,
-            3 => FaultKind::Length,
-            4 => FaultKind::BodyTooLarge,
-            5 => FaultKind::Coded,
-            6 => FaultKind::NoRoute,
-            7 => FaultKind::Method,
-            8 => FaultKind::Json,
-            9 => FaultKind::Field,
-            _ => FaultKind::BadRow,
-        }
-    }
-
     /// That of a fault of a request's framing.
     fn of_framing(fault: Fault) -> FaultKind
         ensures { result ≡ framing_kind fault }
@@ -104,6 +101,29 @@ impl FaultKind {
             Fault::Coded => FaultKind::Coded,
         }
     }
+}
+
+// The first of some faults that has a number, or BadRow.
+fn first_numbered(number: u32, kinds: &[FaultKind]) -> FaultKind
+    ensures { result ≡ first_numbered number kinds.now }
+{
+    match kinds {
+        [] => FaultKind::BadRow,
+        [first, rest @ ..] => {
+            if number == first.line().number {
+                *first
+            } else {
+                first_numbered(number, rest)
+            }
+        }
+    }
+}
+
+// The fault that has a number, or BadRow.
+fn kind_numbered(number: u32) -> FaultKind
+    ensures { result ≡ kind_numbered number }
+{
+    first_numbered(number, &BEFORE_ROWS)
 }
 
 fn write_fault(
@@ -165,7 +185,7 @@ pub fn fault_answer(alloc: Global, number: u32, more: More) -> Result<Vec<u8>, A
     requires { IsFault number more }
     ensures { IfOk result (λ answer. answer.items ≡ fault_bytes (kind_numbered number) more) }
 {
-    kind_answer(alloc, FaultKind::numbered(number), more)
+    kind_answer(alloc, kind_numbered(number), more)
 }
 
 /// The answer of a request that asks nothing. Want of memory has none of its own: that is an error here too.

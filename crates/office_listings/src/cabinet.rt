@@ -1,9 +1,8 @@
 //! The printed register of a cabinet.
 
-ghost use Rattle.std.specs.Prelude.{◌≡◌, ◌+◌, ◌++◌, OnOk, IfOk, filter, flat_map, length};
+ghost use Rattle.std.specs.Prelude.{◌≡◌, ◌+◌, ◌++◌, OnOk, IfOk, filter, flat_map};
 ghost use Rattle.std.specs.Prelude.{string_bytes};
 ghost use Rattle.cabinet_core.specs.Day.{day_text};
-ghost use Rattle.cabinet_core.specs.Orders.{is_open};
 ghost use Rattle.office_files.specs.Records.{is_line_of};
 ghost use Rattle.office_listings.specs.Cabinet.{cabinet_title, next_line, due_line, record_line};
 ghost use Rattle.office_listings.specs.Cabinet.{inspection_line, used_line, closed_line};
@@ -15,7 +14,9 @@ ghost use Rattle.office_listings.specs.Cabinet.{cabinet_register};
 use crate::columns::{
     push_date, push_day, push_last, push_line_number, push_long_number, push_number, push_word,
 };
-use cabinet_core::{CabinetView, Closing, Day, Inspection, Order, UsedLine, due, latest};
+use cabinet_core::{
+    CabinetView, Closing, Day, Inspection, Order, UsedLine, due, latest, open_count,
+};
 use office_machine::reply::CabinetShown;
 use signal_records::{InterId, Interval, NoMemory, RecordNo, Words};
 use std::alloc::{AllocError, Global};
@@ -171,19 +172,6 @@ fn push_orders(text: &mut String, lines: &[UsedLine], orders: &[Order]) -> Resul
         push_order(text, lines, order)?;
     }
     Ok(())
-}
-
-/// How many orders are open.
-fn open_count(orders: &[Order]) -> usize
-    ensures { result ≡ length (filter is_open orders.now) }
-{
-    let mut count = 0;
-    for order in orders {
-        if order.closing.is_none() {
-            count += 1;
-        }
-    }
-    count
 }
 
 /// Appends the last line.

@@ -4,7 +4,6 @@
 
 pub mod command;
 pub mod intersections;
-pub mod listing;
 pub mod records;
 pub mod refusal;
 pub mod reply;

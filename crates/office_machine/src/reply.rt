@@ -1,11 +1,10 @@
 //! What the office answers.
 
-use crate::listing::Listing;
 use crate::refusal::Refusal;
 use cabinet_core::{CabinetView, Hand, OverdueRow, PartCode};
 use draft_core::revision::Revision;
 use draft_core::state::{DbState, Verdict};
-use signal_records::{InterId, Interval, RecordNo, TimingSet, Words};
+use signal_records::{InterId, Interval, Listing, RecordNo, TimingSet, Words};
 use signal_rules::Violation;
 use std::marker::Model;
 

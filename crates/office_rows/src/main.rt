@@ -5,6 +5,7 @@
 //! or `tables` it tries what is meant for runs in which an allocation is refused from outside.
 #![tactic(auto)]
 
+mod commands;
 mod ends;
 mod fault;
 mod folder;
@@ -15,6 +16,7 @@ mod tables;
 mod way;
 mod wording;
 
+use crate::commands::play_commands;
 use crate::ends::Cut;
 use crate::fault::Fault;
 use crate::folder::{names, remove_others, row_name};
@@ -22,11 +24,11 @@ use crate::playing::{play, play_want_of_memory};
 use crate::reading::read_row;
 use crate::row::Row;
 use crate::way::Way;
-use office_script::trouble::Trouble;
-use office_stops::stops::try_stops;
-use office_trials::calls::try_calls;
-use office_trials::hostile::try_hostile;
-use office_trials::memory::try_memory;
+use office_crash_tests::stops::try_stops;
+use office_hostile_tests::calls::try_calls;
+use office_hostile_tests::hostile::try_hostile;
+use office_hostile_tests::memory::try_memory;
+use office_test_scripts::trouble::Trouble;
 use std::process::ExitCode;
 use std::{env, fs, io};
 
@@ -37,9 +39,14 @@ fn play_way(rt: &HostRuntime, row: &Row<'_>, way: Way, kept: &[String]) -> Resul
     played
 }
 
-/// Plays a row in all its ways, says where it is not as told, and tells whether it was in each.
+/// Plays a row in all its ways, and a drawn one command by command too, says where it is not as
+/// told, and tells whether it was in each.
 fn play_ways(rt: &HostRuntime, name: &str, row: &Row<'_>, kept: &[String]) -> Result<bool, Fault> {
     let mut is_told = true;
+    if let Err(fault) = play_commands(rt.alloc(), name, row) {
+        println!(rt; "{name} command by command, {fault}")?;
+        is_told = false;
+    }
     for way in row.ways() {
         if let Err(fault) = play_way(rt, row, *way, kept) {
             println!(rt; "{name} {way}, {fault}")?;

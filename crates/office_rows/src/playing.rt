@@ -13,7 +13,7 @@ use std::alloc::{AllocError, Global};
 use std::net::{Ipv4Addr, SocketAddr, TcpListener};
 
 /// Compares what came with what is told, from the first line that tells something.
-fn compare(alloc: Global, line: usize, told: &Told, came: &[u8]) -> Result<(), Fault> {
+pub(crate) fn compare(alloc: Global, line: usize, told: &Told, came: &[u8]) -> Result<(), Fault> {
     if told.is_any {
         return match came {
             [] => Err(Fault::differs(alloc, line, b"something", came)),

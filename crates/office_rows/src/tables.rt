@@ -5,9 +5,9 @@ use office_desk::office::Office;
 use office_http::{ServeFault, Served, Sink, Source, serve};
 use office_tables::open::OpenFault;
 use office_tables::sql_shelf::SqlShelf;
-use office_tables_shelf::map_shelf::MapShelf;
+use office_tables_memory::memory_shelf::MemoryShelf;
 use sqlite::{Alter, Connection, FileStore, MemStore, Options};
-use sqlite_disk::{Files, Memory};
+use sqlite_disk::{Files, Fuse, Memory};
 use std::alloc::Global;
 use std::mem;
 
@@ -84,8 +84,12 @@ impl<S: Alter + Drop> Base<S> {
     }
 }
 
+/// Two files in memory. They could be stopped, and never are: so the rows and the files that stop
+/// are one type, which the compilers build once.
+type InFiles = FileStore<Fuse<Memory>>;
+
 /// A database of two files, where neither lost a write.
-fn open_files(alloc: Global, files: Files<Memory>) -> Base<FileStore<Memory>> {
+fn open_files(alloc: Global, files: Files<Fuse<Memory>>) -> Base<InFiles> {
     if !files.may_be_used() {
         return Base::Lost;
     }
@@ -96,7 +100,7 @@ fn open_files(alloc: Global, files: Files<Memory>) -> Base<FileStore<Memory>> {
 }
 
 /// A database that is left, and found again in its files.
-fn found_again(alloc: Global, conn: Connection<FileStore<Memory>>) -> Base<FileStore<Memory>> {
+fn found_again(alloc: Global, conn: Connection<InFiles>) -> Base<InFiles> {
     match conn.close_files().ok() {
         Some(files) => open_files(alloc, files),
         None => Base::Lost,
@@ -104,7 +108,7 @@ fn found_again(alloc: Global, conn: Connection<FileStore<Memory>>) -> Base<FileS
 }
 
 /// Opens a database in files as an office. Where it is one already, it is left and found again.
-fn open_again(alloc: Global, base: &mut Base<FileStore<Memory>>) -> Result<(), OpenFault> {
+fn open_again(alloc: Global, base: &mut Base<InFiles>) -> Result<(), OpenFault> {
     if matches!(&*base, Base::Open(_)) {
         let Some(conn) = base.take() else {
             return Err(OpenFault::Store);
@@ -118,11 +122,11 @@ fn open_again(alloc: Global, base: &mut Base<FileStore<Memory>>) -> Result<(), O
 #[derive(Drop)]
 pub(crate) enum Tables {
     /// Maps, which no other hand changes.
-    Maps(Office<MapShelf>),
+    Maps(Office<MemoryShelf>),
     /// A database in memory. Nothing is left of it once it is left, so it is kept.
     Memory(Base<MemStore>),
     /// A database in files, which are left and found again where it is opened again.
-    Files(Base<FileStore<Memory>>),
+    Files(Base<InFiles>),
     /// The program has its own.
     None,
 }
@@ -136,10 +140,10 @@ fn in_memory(alloc: Global) -> Base<MemStore> {
 }
 
 /// A new database in files.
-fn in_files(alloc: Global) -> Base<FileStore<Memory>> {
+fn in_files(alloc: Global) -> Base<InFiles> {
     let files = Files {
-        log: Memory::new(alloc),
-        db: Memory::new(alloc),
+        log: Fuse::new(Memory::new(alloc), u64::MAX),
+        db: Fuse::new(Memory::new(alloc), u64::MAX),
     };
     open_files(alloc, files)
 }
@@ -148,7 +152,7 @@ impl Tables {
     /// New tables.
     pub(crate) fn new(alloc: Global, kind: Kind) -> Tables {
         match kind {
-            Kind::Maps => Tables::Maps(Office::new(MapShelf::new(alloc))),
+            Kind::Maps => Tables::Maps(Office::new(MemoryShelf::new(alloc))),
             Kind::Memory => Tables::Memory(in_memory(alloc)),
             Kind::Files => Tables::Files(in_files(alloc)),
             Kind::Program => Tables::None,

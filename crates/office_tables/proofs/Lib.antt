@@ -1,2 +1,1 @@
 mod MigrateLemmas
-mod AskLemmas

@@ -1,35 +1,34 @@
 -- What a migration makes of the tables, and which office they then stand for.
-use Rattle.std.proofs.Common.{◌≡◌, ◌⊎◌, inl, inr, ℕ, true, false, T, Some, Result, Ok, Err, option_map, map, List, [], ◌∷◌, ◌++◌, length, refl, sym, ap, subst, ◌∙◌, true≢false}
-use Rattle.std.proofs.lemmas.Bool.{cases_Bool}
-use Rattle.std.specs.FinMap as finite
-use Rattle.std.specs.FinMap.{get, entries_sorted, get-entries, is_sorted}
+use Rattle.std.proofs.Common.{◌≡◌, inl, inr, ℕ, true, false, Some, List, [], ◌∷◌, ◌++◌, length, refl, sym, ap, subst, ◌∙◌, true≢false}
+use Rattle.std.specs.FinMap.{entries}
 use Rattle.std.specs.List.{list_all}
-use Rattle.std.specs.Prelude.{IfOk, OnOk}
 use Rattle.sqlite_rules.specs.Lists.{Has}
 use Rattle.sqlite.specs.Tree.{Trees}
 use Rattle.signal_records.specs.Within.{version_1_limits}
 use Rattle.signal_records.specs.declared.record.Change.{Change}
 use Rattle.signal_records.specs.declared.record.Change.TheVariants.{Put, Remove}
 use Rattle.draft_core.specs.DraftRows.{left_by}
-use Rattle.office_tables_shelf.specs.Cells.{Rows, cells_cmp, null}
+use Rattle.office_tables_shelf.specs.Cells.{Rows, null}
 use Rattle.office_tables_shelf.specs.Rows.{left_columns_in}
 use Rattle.office_tables_sql.specs.Calls.{IsHonest, Keeps}
-use Rattle.office_tables_shelf.proofs.CellLemmas.{find_entry}
-use Rattle.office_tables_sql.proofs.ContentLemmas.{tie_self}
-use Rattle.office_tables_sql.proofs.ListLemmas.{sorted_found}
-use Rattle.office_tables_former.specs.Former.{former_cells, AreKept, HasNoFormer, HasNoFormerRow, is_row, timing_puts, draft_puts}
+use Rattle.sqlite_rules.proofs.ListLemmas.{fails_has}
+use Rattle.office_tables_shelf.proofs.ListLemmas.{stands, where_all}
+use Rattle.office_tables_sql.proofs.ListedLemmas.{is_in}
+use Rattle.office_tables_migration.specs.Former.{AreKept, HasNoFormer, HasNoFormerRow, is_row, timing_puts, draft_puts}
 use Rattle.sqlite.specs.Effect.{Database}
-use Rattle.sqlite.specs.State.{State}
+use Rattle.sqlite.specs.State.{State, Survives}
+use Rattle.sqlite.proofs.StateLemmas.{survives_then}
+use Rattle.office_tables_sql.proofs.CallLemmas.{survives_on}
 use Rattle.office_tables_shelf.specs.Change.{changed_by, changed}
 use Rattle.office_tables_shelf.specs.Content.{Content}
 use Rattle.office_machine.specs.Office.{Office, version_1}
 use Rattle.office_tables_shelf.specs.StandFor.{StandForSoundIn}
 use Rattle.office_tables_shelf.specs.declared.rows.RowChange.{RowChange}
 use Rattle.office_tables_sql.specs.Stored.{content_of, content_now}
-use Rattle.office_tables_former.specs.Migration.{IsMigrated, StandAnew, kept_key}
-use Rattle.office_tables_former.specs.declared.puts.Migrated.{Migrated}
-use Rattle.office_tables_former.proofs.Migration.{migrated, stand_anew}
-use Rattle.office_tables.specs.Migrate.{HoldsToday, IsBrought}
+use Rattle.office_tables_migration.specs.Migration.{IsMigrated, StandAnew, kept_key}
+use Rattle.office_tables_migration.specs.declared.puts.Migrated.{Migrated}
+use Rattle.office_tables_migration.proofs.Migration.{migrated, stand_anew}
+use Rattle.office_tables.specs.Migrate.{HoldsToday, IsBrought, IsSpelledToday}
 use Rattle.office_tables_open.specs.Version.{version_in, current_version, first_version}
 
 -- changes after changes
@@ -47,27 +46,16 @@ brought_stands old new count (inr it) office was before = stand_anew (content_of
 pub no_row : (rows : Rows) → HasNoFormer rows → HasNoFormerRow rows
 no_row rows d = record { key = d.key; columns = d.columns; stored = d.stored; no_former = λ id number r within. d.no_former id number (Put r) within }
 
-removal_in : (ks : List (ℕ × Change)) → list_all (λ (k : ℕ × Change). is_row k.1) ks ≡ false → (k : ℕ × Change) × Has ks k × (is_row k.1 ≡ false)
-removal_in [] h = absurd (true≢false h)
-removal_in (k ∷ ks) h = go (cases_Bool (is_row k.1)) (removal_in ks)
-  where
-    go : (is_row k.1 ≡ true) ⊎ (is_row k.1 ≡ false) → (list_all (λ (k : ℕ × Change). is_row k.1) ks ≡ false → (x : ℕ × Change) × Has ks x × (is_row x.1 ≡ false)) → (x : ℕ × Change) × Has (k ∷ ks) x × (is_row x.1 ≡ false)
-    go (inl row) later = let found = later (rw row at h) in (found.0, inr found.1, found.2)
-    go (inr none) later = (k, inl refl, none)
-
 pub no_row_kept : (rows : Rows) (ks : List (ℕ × Change)) → AreKept rows ks → list_all (λ (k : ℕ × Change). is_row k.1) ks ≡ false → HasNoFormerRow rows
-no_row_kept rows ks kept h = go (removal_in ks h)
+no_row_kept rows ks kept h = go (fails_has (λ (k : ℕ × Change). is_row k.1) ks h)
   where
-    stored : (k : ℕ × Change) → Has ks k → get rows (kept_key k) ≡ Some (left_columns_in version_1_limits (left_by k.1))
-    stored k there =
-        let columns = λ (x : ℕ × Change). left_columns_in version_1_limits (left_by x.1) in
-        let sorted : T (is_sorted cells_cmp (map former_cells ks)) = subst (λ es. T (is_sorted cells_cmp es)) (sym kept.cells) (entries_sorted rows) in
-        get-entries rows (kept_key k) ∙ ap (finite.find cells_cmp (kept_key k)) (sym kept.cells) ∙ find_entry kept_key columns ks (kept_key k)
-        ∙ ap (option_map columns) (sorted_found kept_key columns ks k (kept_key k) sorted there (tie_self (kept_key k)))
-
     go : (k : ℕ × Change) × Has ks k × (is_row k.1 ≡ false) → HasNoFormerRow rows
     go ((id, Put r), there, none) = absurd (true≢false none)
-    go ((id, Remove k), there, none) = record { key = kept_key (id, Remove k); columns = null ∷ []; stored = stored (id, Remove k) there; no_former = λ n number r within key columns. cc }
+    go ((id, Remove k), there, none) =
+        let former = λ (k : ℕ × Change). left_columns_in version_1_limits (left_by k.1) in
+        let here = stands kept_key former (λ _. true) rows ks
+        (kept.cells ∙ sym (where_all (entries rows))) (id, Remove k) (is_in ks (id, Remove k) there) in
+        record { key = kept_key (id, Remove k); columns = null ∷ []; stored = here.1; no_former = λ n number r within key columns. cc }
 
 -- ---- the steps of a migration
 
@@ -95,7 +83,19 @@ module _ (old mid late : State) (first_keeps : Keeps old mid) (second_keeps : Ke
       subst (λ (t : Content). IsMigrated (content_now old) t count) (sym whole)
       (migrated (content_now old) count timing drafts (timing_kept (was_mid honest)) drafts_here are_rows (many ∙ ap length first) (few ∙ ap length second))
 
--- what follows from what was answered
-pub if_on : {X E : Type 0} (r : Result X E) (P : X → Type 0) (Q : Type 0) → ((x : X) → P x → Q) → IfOk r P → OnOk r Q
-if_on (Ok x) P Q f p = f x p
-if_on (Err e) P Q f p = tt
+  -- a stop leaves what it could before, or tables that are spelled so
+  pub spelled_survives : (new : State) (count : Migrated) → count.timing ≡ length committed
+      → count.draft ≡ length drafted → Survives old mid (λ _. ⊥) → Survives mid late (λ _. ⊥)
+      → Survives late new (λ trees.
+      IsHonest late × HoldsToday (changed_by (content_now late) changes) trees)
+      → Survives old new (λ trees. IsHonest old × IsSpelledToday (content_now old) trees)
+  spelled_survives new count many few timing_left drafts_left written =
+      survives_then old late new (λ _. ⊥)
+      (λ trees. IsHonest late × HoldsToday (changed_by (content_now late) changes) trees)
+      (λ trees. IsHonest old × IsSpelledToday (content_now old) trees)
+      (λ _ db none. absurd none)
+      (λ clean db became. (
+        was_honest became.0,
+        (count, spelled db count many few became.0 became.1, became.1.1),
+      ))
+      (survives_on old mid late timing_left drafts_left) written

@@ -15,9 +15,9 @@ use Rattle.office_tables_shelf.specs.StandFor.{StandForSoundIn}
 use Rattle.office_tables_shelf.specs.declared.rows.RowChange.{RowChange}
 use Rattle.office_tables_sql.specs.Calls.{IsHonest, IsReady}
 use Rattle.office_tables_sql.specs.Stored.{content_now, content_of}
-use Rattle.office_tables_former.specs.Former.{HasNoFormer, HasNoFormerRow}
-use Rattle.office_tables_former.specs.Migration.{IsMigrated, StandAnew}
-use Rattle.office_tables_former.specs.declared.puts.Migrated.{Migrated}
+use Rattle.office_tables_migration.specs.Former.{HasNoFormer, HasNoFormerRow}
+use Rattle.office_tables_migration.specs.Migration.{IsMigrated, StandAnew}
+use Rattle.office_tables_migration.specs.declared.puts.Migrated.{Migrated}
 use Rattle.office_tables_open.specs.declared.open.OpenFault.{OpenFault}
 use Rattle.office_tables_open.specs.declared.open.OpenFault.TheVariants as fault
 use Rattle.office_tables_open.specs.declared.version.TheConstants.{FIND}

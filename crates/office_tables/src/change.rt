@@ -10,7 +10,7 @@ ghost use Rattle.office_tables_open.specs.Promises.{WasHonest, StaysReady, Turns
 
 use office_tables_shelf::rows::RowChange;
 use office_tables_sql::statement::SqlFault;
-use office_tables_sql::{intersection, part, stored_row};
+use office_tables_sql::{draft, intersection, part, stored_row};
 use signal_records::{Change, Row};
 use sqlite::{Alter, Connection, Transaction};
 use std::alloc::Global;
@@ -33,16 +33,21 @@ fn change_row<S: Alter>(
     ensures crash { LeavesNoMore (state S.Store tx.old.conn.now) (state S.Store tx.new.conn.now) }
 {
     match change {
+        RowChange::AddIntersection(id, row) => intersection::add(alloc, tx, *id, row),
         RowChange::PutIntersection(id, row) => intersection::put(alloc, tx, *id, row),
+        RowChange::AddTiming(id, row) => stored_row::add(alloc, tx, *id, row),
         RowChange::PutTiming(id, row) => stored_row::put(alloc, tx, *id, row),
         RowChange::RemoveTiming(id, key) => stored_row::remove::<Row, S>(tx, *id, key),
+        RowChange::AddDraft(id, change) => stored_row::add(alloc, tx, *id, change),
         RowChange::PutDraft(id, change) => stored_row::put(alloc, tx, *id, change),
         RowChange::RemoveDraft(id, key) => stored_row::remove::<Change, S>(tx, *id, key),
-        RowChange::PutInspection(id, found) => stored_row::put(alloc, tx, *id, found),
+        RowChange::DropDraft(id) => draft::drop_all(tx, *id),
+        RowChange::AddInspection(id, found) => stored_row::add(alloc, tx, *id, found),
+        RowChange::AddOrder(id, found) => stored_row::add(alloc, tx, *id, found),
         RowChange::PutOrder(id, found) => stored_row::put(alloc, tx, *id, found),
-        RowChange::PutLine(id, line) => stored_row::put(alloc, tx, *id, line),
+        RowChange::AddLine(id, line) => stored_row::add(alloc, tx, *id, line),
         RowChange::PutPart(code, hand) => part::put(alloc, tx, code, *hand),
-        RowChange::PutDelivery(found) => stored_row::put(alloc, tx, (), found),
+        RowChange::AddDelivery(found) => stored_row::add(alloc, tx, (), found),
     }
 }
 

@@ -5,6 +5,6 @@ mod change;
 mod migrate;
 pub mod sql_shelf;
 
-pub use office_tables_former::puts::Migrated;
+pub use office_tables_migration::puts::Migrated;
 pub use office_tables_open::open;
 pub use office_tables_shelf::{counts, map_shelf, rows, shelf};

@@ -15,8 +15,8 @@ ghost use Rattle.office_tables_open.specs.Promises.{KeepsCommitted, Commits, End
 ghost use Rattle.office_tables_open.specs.Promises.{IsArrangedIfClean};
 
 use crate::change::change_rows;
-use office_tables_former::listing::{draft_rows, timing_rows};
-use office_tables_former::puts::{Migrated, draft_changes, timing_changes};
+use office_tables_migration::listing::{draft_rows, timing_rows};
+use office_tables_migration::puts::{Migrated, draft_changes, timing_changes};
 use office_tables_open::open::OpenFault;
 use office_tables_open::version::{
     FIND, FIRST_VERSION, VERSION, is_version, renew_version, stored_version,

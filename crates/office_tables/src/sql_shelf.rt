@@ -21,7 +21,7 @@ ghost use Rattle.office_tables_sql.specs.Schema.{office_schema};
 use crate::change;
 use crate::migrate::migrate;
 use cabinet_core::{Day, Delivery, Hand, Inspection, Order, PartCode, UsedLine};
-use office_tables_former::puts::Migrated;
+use office_tables_migration::puts::Migrated;
 use office_tables_open::found::checked;
 use office_tables_open::open::{Left, OpenFault, claim, has_only_ours, prepared};
 use office_tables_shelf::counts::WriteCounts;

@@ -1,6 +1,6 @@
--- What is found in tables whose layout is not the office's.
-use Rattle.std.proofs.Common.{◌≡◌, ◌≢◌, inl, inr, ℕ, Bool, true, false, true≢false, not, IsTrue, List, [], ◌∷◌, length, eqb, eq-eqb, filter, find, option_map, Option, None, Some, ℤ, pos, refl, sym, ap, ◌∙◌, ◌&&◌}
-use Rattle.std.proofs.lemmas.Bool.{cases_Bool}
+-- What is found in tables whose layout is not the office's; and a database that lists nothing has no rows.
+use Rattle.std.proofs.Common.{◌≡◌, ◌≢◌, inl, inr, ℕ, Bool, true, false, true≢false, not, IsTrue, List, [], ◌∷◌, length, eqb, eq-eqb, filter, find, option_map, Option, None, Some, ℤ, pos, refl, sym, ap, ◌∙◌, ◌&&◌, ◌⊎◌, ◌<◌, nat_lt, subst, arith}
+use Rattle.std.proofs.lemmas.Bool.{cases_Bool, ltb-true}
 use Rattle.std.specs.FinMap.{get, get-empty}
 use Rattle.std.specs.Ordering.{is_eq}
 use Rattle.sqlite.specs.Collation.TheVariants.{Binary}
@@ -10,9 +10,10 @@ use Rattle.sqlite.specs.Tree.{Trees}
 use Rattle.sqlite.specs.View.{View, IsShaped}
 use Rattle.sqlite.specs.declared.types.Value.{Value}
 use Rattle.sqlite.specs.declared.types.Value.TheVariants.{Null, Int, Real, Text, Blob}
-use Rattle.sqlite_rules.proofs.ListLemmas.{all_has, all_from}
+use Rattle.sqlite_rules.proofs.ListLemmas.{all_has, all_from, test_has}
 use Rattle.sqlite_rules.specs.Lists.{Has}
 use Rattle.sqlite_schema.specs.Rules.{equal}
+use Rattle.sqlite_store.proofs.RowLemmas.{from_key-none}
 use Rattle.sqlite_schema.specs.declared.schema.Table.{Table}
 use Rattle.sqlite_trees.specs.Tree.{sought, from_key, has_rowid}
 use Rattle.sqlite_trees.specs.View.{with_cursor, Advances, Finds, is_int}
@@ -26,21 +27,31 @@ use Rattle.office_tables_sql.specs.Layout as layout
 use Rattle.office_tables_sql.specs.Layout.{has_key, values_at}
 use Rattle.office_tables_sql.specs.Stored.{cell_of, cells, rows_in}
 use Rattle.office_tables_sql.proofs.StoredLemmas.{get_columns, sound_rowids}
-use Rattle.office_tables_open.specs.Found.{IsOneOfEight, KeepsVersion, StoresAt, StoresOtherAt, StoreOther, StoreNone, HaveNoRow, IsFoundAt, IsFound}
-use Rattle.office_tables_open.specs.Version.{version_at}
+use Rattle.office_tables_open.specs.Found.{IsOneOfEight, KeepsVersion, StoresAt, StoreNone, HaveNoRow, IsFoundAt, IsFound, HasOtherVersion, HasRowsAlone, IsUnclaimed}
+use Rattle.office_tables_open.specs.Version.{version_at, AreEmpty, stored_trees}
 use Rattle.office_tables_open.specs.declared.found.Found.{Found}
 use Rattle.office_tables_open.specs.declared.found.Found.TheVariants.{Nothing, RowsAlone, OtherVersion, Today, Unknown}
 use Rattle.office_tables_open.specs.declared.found.TheConstants.{KEEPER}
+use Rattle.std.proofs.lemmas.List.{length-map}
+use Rattle.std.proofs.lemmas.List.Sorted.{length_permutation}
+use Rattle.std.specs.List.{AllZip, AllByRecursion}
+use Rattle.sqlite_trees.specs.Objects.{catalog_tree, shape_code, number_in, row_for}
+use Rattle.sqlite_catalog.specs.Listing.{AreListed, IsSound, IsTableRow, is_table_row, is_index_row, is_view_row}
+use Rattle.sqlite_catalog.proofs.LayoutLemmas.{row_kind, index_row, index_owner, named_tree}
+use Rattle.sqlite_schema.specs.declared.schema.Index.{Index}
+use Rattle.sqlite_schema.specs.declared.schema.Schema.{Schema}
+use Rattle.sqlite_schema.specs.declared.schema.View.{View as Stored}
+use Rattle.sqlite_sql.specs.Catalog.{IsIndexOf, entry_of}
+use Rattle.sqlite_store.proofs.AlikeLemmas.{no_code}
+use Rattle.office_tables_sql.specs.Schema.{no_schema}
+use Rattle.office_tables_open.specs.Arranged.{IsArranged}
+use Rattle.office_tables_open.proofs.VersionLemmas.{none_left}
 
 -- ---- the first row of a tree
 
-all_sought : (o : Order) (rows : List Row) → from_key o [] rows ≡ rows
-all_sought o [] = refl
-all_sought o (r ∷ rows) = refl
-
 module _ (old mid new : View) (o : Order) (key row : Row) (tree : ℕ) (none : key ≡ []) (is : mid ≡ with_cursor old 0 (sought o Forward key (old.trees tree))) where
   left : mid.cursors 0 ≡ Some (old.trees tree)
-  left = ap (λ (v : View). v.cursors 0) is ∙ ap (λ k. Some (from_key o k (old.trees tree))) none ∙ ap Some (all_sought o (old.trees tree))
+  left = ap (λ (v : View). v.cursors 0) is ∙ ap (λ k. Some (from_key o k (old.trees tree))) none ∙ ap Some (from_key-none o (old.trees tree))
 
   pub none_there : (found : Bool) → Advances mid new 0 row found → IsTrue (not found) → old.trees tree ≡ []
   none_there true moved h = absurd (cc)
@@ -51,10 +62,6 @@ module _ (old mid new : View) (o : Order) (key row : Row) (tree : ℕ) (none : k
   some_there true moved h = λ e. let has : Some (row ∷ moved.0) ≡ Some (old.trees tree) = sym moved.1 ∙ left in absurd (let no : Some (row ∷ moved.0) ≡ Some [] = has ∙ ap Some e in cc)
 
 -- ---- the row under 1
-
-pub clash : (b : Bool) → IsTrue b → IsTrue (not b) → ⊥
-clash true it other = absurd (cc)
-clash false it other = absurd (cc)
 
 told : (b : Bool) → is_true (from_truth (Some b)) && true ≡ b
 told true = refl
@@ -130,8 +137,82 @@ module _ (trees : Trees) where
   pub rows_before : (t : Table) (ts : List Table) → IsFoundAt RowsAlone t trees → StoreNone ts trees → IsFound RowsAlone (t ∷ ts) trees
   rows_before t ts here none = ((λ named. absurd (apart t.name here.0 named), none), λ all. here.1 (all.0 here.0))
 
-  pub other_before : (t : Table) (ts : List Table) → StoresOtherAt t trees → StoreOther (t ∷ ts) trees
-  other_before t ts here = (t, inl refl, here)
+no_pairs : {X Y : Type 0} (R : X → Y → Type 0) (xs : List X) → AllZip R xs [] → xs ≡ []
+no_pairs R [] h = refl
+no_pairs R (x ∷ xs) h = absurd h
 
-  pub other_later : (t : Table) (ts : List Table) → StoreOther ts trees → StoreOther (t ∷ ts) trees
-  other_later t ts h = (h.0, inr h.1, h.2)
+no_partners : {X Y : Type 0} (R : X → Y → Type 0) (ys : List Y) → AllZip R [] ys → ys ≡ []
+no_partners R [] h = refl
+no_partners R (y ∷ ys) h = absurd h
+
+kept_first : (p : Row → Bool) (r : Row) (rows : List Row) → p r ≡ true → filter p (r ∷ rows) ≡ [] → ⊥
+kept_first p r rows hit none = absurd (let e = rw hit at none in cc)
+
+no_objects : (objects : List Row) → AreListed objects no_schema → objects ≡ []
+no_objects [] h = refl
+no_objects (r ∷ rows) h = absurd (go (row_kind r))
+  where
+    go : (is_table_row r ≡ true) ⊎ ((is_index_row r ≡ true) ⊎ (is_view_row r ≡ true)) → ⊥
+    go (inl hit) = kept_first is_table_row r rows hit (no_pairs _ _ h.tables)
+    go (inr (inl hit)) = kept_first is_index_row r rows hit (no_pairs _ _ h.indexes)
+    go (inr (inr hit)) = kept_first is_view_row r rows hit (no_pairs _ _ h.views)
+
+-- it has no tables whatever schema it lists, so it tells nothing
+module _ (trees : Trees) (none : AreListed (trees catalog_tree) no_schema) where
+  no_tables : (schema : Schema) → AreListed (trees catalog_tree) schema → schema.tables ≡ []
+  no_tables schema listed =
+      no_partners {X = Row} IsTableRow schema.tables
+      (subst (λ (rows : List Row). AreListed rows schema) (no_objects _ none) listed).tables
+
+  pub blank_other : HasOtherVersion trees → ⊥
+  blank_other other =
+      subst (λ (ts : List Table). Has ts other.2.0) (no_tables other.0 other.1) other.2.1
+
+  pub blank_alone : HasRowsAlone trees → ⊥
+  blank_alone rows =
+      rows.2.1 (subst (λ (ts : List Table). HaveNoRow ts trees) (sym (no_tables rows.0 rows.1)) tt)
+
+-- the trees of the eight tables are among the first
+pub low_trees : (t : ℕ) → Has stored_trees t → t < 15
+low_trees t there = ltb-true t 15 (test_has (λ t. nat_lt t 15) stored_trees t refl there)
+
+sixteen : (trees : Trees) → ((t : ℕ) → t < 16 → trees t ≡ []) → AreEmpty trees
+sixteen trees none =
+    all_from (λ t. trees t ≡ []) stored_trees (λ t there. none t (omega (arith, low_trees t there)))
+
+module _ (trees : Trees) (it : IsArranged trees) where
+  pub empty_if_absent : (tree : ℕ) → tree < 65536 → it.shape tree ≡ shape.Absent → trees tree ≡ []
+  empty_if_absent tree low none = subst (λ s. IsShaped s (trees tree)) none (it.ordered tree low)
+
+  module _ (none : AreListed (trees catalog_tree) no_schema) where
+    no_rows : (tree : ℕ) → tree < 65536 → trees tree ≡ []
+    no_rows tree low =
+        let code : shape_code (it.shape tree) ≡ 0 = it.listed.shapes tree (λ e. absurd (omega (arith, e, low))) (λ e. absurd (omega (arith, e, low)))
+        ∙ ap (λ objects. number_in (column (row_for objects tree) 5)) (no_objects _ none) in
+        empty_if_absent tree low (no_code _ code)
+
+    pub blank_rows : AreEmpty trees
+    blank_rows = sixteen trees (λ t low. no_rows t (omega (arith, low)))
+
+    pub blank_unclaimed : IsUnclaimed trees
+    blank_unclaimed = (no_schema, none, (tt, tt))
+
+  -- where no table has a row, no index has an entry
+  module _ (schema : Schema) (sound : IsSound schema trees) (no_views : schema.views ≡ []) (none : AllByRecursion (λ t. trees t.tree ≡ []) schema.tables) where
+    empty_index : (i : Index) → Has schema.indexes i → trees i.tree ≡ []
+    empty_index i there =
+        let row = index_row it.listed it.objects.0 sound.lists.listed i there in
+        let entries = all_has (λ i. IsIndexOf i.columns (trees i.table) (trees i.tree)) schema.indexes i sound.obeys.indexed there in
+        let none_in : trees i.table ≡ [] = ap trees (index_owner row.2.table i _ row.2.defined) ∙ all_has (λ (t : Table). trees t.tree ≡ []) schema.tables row.2.table none row.2.listed in
+        none_left (trees i.tree) (length_permutation _ _ entries ∙ length-map _ (entry_of i.columns) ∙ ap length none_in)
+
+    empty_tree : (tree : ℕ) → tree < 65536 → trees tree ≡ []
+    empty_tree tree low = elim (named_tree it.listed it.objects.0 sound.lists.listed tree (λ e. absurd (omega (arith, e, low))) (λ e. absurd (omega (arith, e, low)))) [
+      | inl (t, there, at) ↦ ap trees (sym at) ∙ all_has (λ (t : Table). trees t.tree ≡ []) schema.tables t none there
+      | inr (inl (i, there, at)) ↦ ap trees (sym at) ∙ empty_index i there
+      | inr (inr (inl (w, there, at))) ↦ absurd (subst (λ (ws : List Stored). Has ws w) no_views there)
+      | inr (inr (inr none)) ↦ empty_if_absent tree low none
+    ]
+
+    pub found_empty : AreEmpty trees
+    found_empty = sixteen trees (λ t low. empty_tree t (omega (arith, low)))

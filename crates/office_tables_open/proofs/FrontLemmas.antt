@@ -1,8 +1,8 @@
 -- Tables that are missing behind the first ones: what is known of each number of them, and what making the others comes to.
-use Rattle.std.proofs.Common.{◌≡◌, ℕ, zero, suc, ◌<◌, ◌≤◌, ◌-◌, ◌==◌, nat_lt, Bool, true, false, not, cond, if◌then◌else◌, List, [], ◌∷◌, ◌++◌, codes, map, filter, take, drop, Option, None, Some, slice_get, Result, Ok, Err, refl, sym, ap, subst, ◌∙◌, arith}
+use Rattle.std.proofs.Common.{◌≡◌, ℕ, zero, suc, ◌<◌, ◌≤◌, ◌-◌, ◌==◌, nat_lt, Bool, true, false, not, cond, if◌then◌else◌, List, [], ◌∷◌, ◌++◌, codes, map, take, drop, Option, None, Some, slice_get, Result, Ok, Err, refl, sym, ap, subst, ◌∙◌, arith}
 use Rattle.std.specs.Prelude.{OnOk, ⊤}
 use Rattle.std.specs.List.{AllByRecursion, list_all}
-use Rattle.std.proofs.lemmas.Bool.{and_parts, eq-eqb, ltb-true, ne_eqb}
+use Rattle.std.proofs.lemmas.Bool.{eq-eqb, ltb-true, ne_eqb}
 use Rattle.std.proofs.lemmas.List.{take-append-drop}
 use Rattle.sqlite.specs.Command.TheVariants.{DropTable}
 use Rattle.sqlite.specs.Does.{AtPlace, Drops as DoesDrop, Empties, HoldWithout, Leaves, Redefines, Tally, Tested, Uncounts, UncountsIn, is_acted_on, no_rows}
@@ -17,6 +17,8 @@ use Rattle.sqlite.specs.Tree.{Trees}
 use Rattle.sqlite.specs.View.{IsShaped}
 use Rattle.sqlite.proofs.Callers.{runs_as, through}
 use Rattle.sqlite_catalog.specs.Change.{without_table, KeepsRows}
+use Rattle.sqlite_catalog.proofs.ListFacts.{filter_all, filter_left}
+use Rattle.sqlite_rules.proofs.ListLemmas.{all_from, all_has, has_left, test_has}
 use Rattle.sqlite_schema.specs.declared.schema.Keys.TheVariants.{Enforced}
 use Rattle.sqlite_schema.specs.declared.schema.Index.{Index}
 use Rattle.sqlite_schema.specs.declared.schema.Schema.{Schema}
@@ -24,14 +26,15 @@ use Rattle.sqlite_schema.specs.declared.schema.Table.{Table}
 use Rattle.sqlite_tied.specs.Compute.{everything}
 use Rattle.sqlite_trees.specs.declared.store.Shape.TheVariants as shape
 use Rattle.sqlite_trees.specs.declared.store.Store.{Ghosts}
+use Rattle.sqlite_trees.proofs.ListLemmas.{all-append, all_both}
 use Rattle.office_tables_sql.specs.Calls.{IsReady, command_of, statement_of}
-use Rattle.office_tables_sql.specs.Layout as layout
 use Rattle.office_tables_sql.specs.Schema.{front_schema, numbered, office_schema, place_after, version_table}
-use Rattle.office_tables_sql.specs.Stored.{content_now, content_of, rows_in}
+use Rattle.office_tables_sql.specs.Stored.{content_now, content_of}
 use Rattle.office_tables_sql.specs.declared.schema.TheConstants.{CREATES}
 use Rattle.office_tables_open.specs.Lacking.{IsGrown, IsSpread, SeesFront, content_before, emptied_from}
 use Rattle.office_tables_open.specs.Opening.{AreRun}
-use Rattle.office_tables_open.specs.Version.{stored_trees, version_in, current_version}
+use Rattle.office_tables_open.specs.Version.{version_in, current_version}
+use Rattle.office_tables_open.proofs.VersionLemmas.{same_eight}
 use Rattle.office_tables_open.proofs.MadeLemmas.{AreFree, AreMaking, Ends, kept_rows, made_of, office_making, over_run, second_of, untreed}
 
 -- each number below eight
@@ -117,149 +120,96 @@ dropping_text = codes "DROP TABLE IF EXISTS office_version"
 abbrev pub last_table : ℕ → Table
 last_table place = numbered version_table place
 
--- what making the others needs of their number
-pub record IsMakeable (count : ℕ) : Type 0 where
-  pub drops : (place : ℕ) → IsDropping (front_schema count place) dropping_text (last_table place)
-  pub owners : list_all (λ (i : Index). nat_lt i.table (place_after count)) (first_indexes count) ≡ true
-  pub making : AreMaking (bare_schema count) (creating_texts count) (made_again count)
-  pub made : made_of (bare_schema count) (made_again count) ≡ office_schema
-  pub free : (trees : Trees) → AreFree (emptied_from (place_after count) trees) (bare_schema count) (made_again count)
-  pub first : list_all (λ (t : Table). nat_lt t.tree (place_after count)) (first_tables count) ≡ true
-  pub later : list_all (λ (t : Table). not (nat_lt t.tree (place_after count))) (later_tables count) ≡ true
+-- ---- what making the others needs of their number
 
-makeable_0 : IsMakeable 0
+abbrev Drops : ℕ → Type 0
+Drops count = (place : ℕ) → IsDropping (front_schema count place) dropping_text (last_table place)
+
+drops : (count : ℕ) → count < 8 → Drops count
 unfolding understood everything
-makeable_0 = record {
-  drops = λ place. record { at = 0; is = refl; plain = (refl, refl); found = refl; unacted = refl; uncounted = refl };
-  owners = refl;
-  making = office_making;
-  made = refl;
-  free = λ trees. (refl, (refl, (refl, (refl, (refl, (refl, (refl, (refl, (refl, tt)))))))));
-  first = refl;
-  later = refl;
-}
+drops = below_8 Drops
+    (λ place. record { at = 0; is = refl; plain = (refl, refl); found = refl; unacted = refl; uncounted = refl })
+    (λ place. record { at = 1; is = refl; plain = (refl, refl); found = refl; unacted = refl; uncounted = refl })
+    (λ place. record { at = 2; is = refl; plain = (refl, refl); found = refl; unacted = refl; uncounted = refl })
+    (λ place. record { at = 3; is = refl; plain = (refl, refl); found = refl; unacted = refl; uncounted = refl })
+    (λ place. record { at = 4; is = refl; plain = (refl, refl); found = refl; unacted = refl; uncounted = refl })
+    (λ place. record { at = 5; is = refl; plain = (refl, refl); found = refl; unacted = refl; uncounted = refl })
+    (λ place. record { at = 6; is = refl; plain = (refl, refl); found = refl; unacted = refl; uncounted = refl })
+    (λ place. record { at = 7; is = refl; plain = (refl, refl); found = refl; unacted = refl; uncounted = refl })
 
-makeable_1 : IsMakeable 1
+abbrev IsMaking : ℕ → Type 0
+IsMaking count = AreMaking (bare_schema count) (creating_texts count) (made_again count)
+
+making : (count : ℕ) → count < 8 → IsMaking count
 unfolding understood everything
-makeable_1 = record {
-  drops = λ place. record { at = 1; is = refl; plain = (refl, refl); found = refl; unacted = refl; uncounted = refl };
-  owners = refl;
-  making = office_making.1;
-  made = refl;
-  free = λ trees. (refl, (refl, (refl, (refl, (refl, (refl, (refl, (refl, tt))))))));
-  first = refl;
-  later = refl;
-}
+making = below_8 IsMaking office_making office_making.1 office_making.1.1 office_making.1.1.1
+    office_making.1.1.1.1 office_making.1.1.1.1.1 office_making.1.1.1.1.1.1
+    office_making.1.1.1.1.1.1.1
 
-makeable_2 : IsMakeable 2
-unfolding understood everything
-makeable_2 = record {
-  drops = λ place. record { at = 2; is = refl; plain = (refl, refl); found = refl; unacted = refl; uncounted = refl };
-  owners = refl;
-  making = office_making.1.1;
-  made = refl;
-  free = λ trees. (refl, (refl, (refl, (refl, (refl, (refl, (refl, tt)))))));
-  first = refl;
-  later = refl;
-}
+made : (count : ℕ) → count < 8 → made_of (bare_schema count) (made_again count) ≡ office_schema
+unfolding everything
+made = below_8 (λ count. made_of (bare_schema count) (made_again count) ≡ office_schema)
+    refl refl refl refl refl refl refl refl
 
-makeable_3 : IsMakeable 3
-unfolding understood everything
-makeable_3 = record {
-  drops = λ place. record { at = 3; is = refl; plain = (refl, refl); found = refl; unacted = refl; uncounted = refl };
-  owners = refl;
-  making = office_making.1.1.1;
-  made = refl;
-  free = λ trees. (refl, (refl, (refl, (refl, (refl, (refl, tt))))));
-  first = refl;
-  later = refl;
-}
+abbrev IsFree : ℕ → Type 0
+IsFree count = (trees : Trees) →
+    AreFree (emptied_from (place_after count) trees) (bare_schema count) (made_again count)
 
-makeable_4 : IsMakeable 4
-unfolding understood everything
-makeable_4 = record {
-  drops = λ place. record { at = 4; is = refl; plain = (refl, refl); found = refl; unacted = refl; uncounted = refl };
-  owners = refl;
-  making = office_making.1.1.1.1;
-  made = refl;
-  free = λ trees. (refl, (refl, (refl, (refl, (refl, tt)))));
-  first = refl;
-  later = refl;
-}
+free : (count : ℕ) → count < 8 → IsFree count
+unfolding everything
+free = below_8 IsFree
+    (λ trees. (refl, (refl, (refl, (refl, (refl, (refl, (refl, (refl, (refl, tt))))))))))
+    (λ trees. (refl, (refl, (refl, (refl, (refl, (refl, (refl, (refl, tt)))))))))
+    (λ trees. (refl, (refl, (refl, (refl, (refl, (refl, (refl, tt))))))))
+    (λ trees. (refl, (refl, (refl, (refl, (refl, (refl, tt)))))))
+    (λ trees. (refl, (refl, (refl, (refl, (refl, tt))))))
+    (λ trees. (refl, (refl, (refl, (refl, tt)))))
+    (λ trees. (refl, (refl, (refl, tt))))
+    (λ trees. (refl, (refl, tt)))
 
-makeable_5 : IsMakeable 5
-unfolding understood everything
-makeable_5 = record {
-  drops = λ place. record { at = 5; is = refl; plain = (refl, refl); found = refl; unacted = refl; uncounted = refl };
-  owners = refl;
-  making = office_making.1.1.1.1.1;
-  made = refl;
-  free = λ trees. (refl, (refl, (refl, (refl, tt))));
-  first = refl;
-  later = refl;
-}
+-- the first tables stand before that place, with their indexes, and the others behind it
+abbrev pub is_low : ℕ → ℕ → Bool
+is_low count tree = nat_lt tree (place_after count)
 
-makeable_6 : IsMakeable 6
-unfolding understood everything
-makeable_6 = record {
-  drops = λ place. record { at = 6; is = refl; plain = (refl, refl); found = refl; unacted = refl; uncounted = refl };
-  owners = refl;
-  making = office_making.1.1.1.1.1.1;
-  made = refl;
-  free = λ trees. (refl, (refl, (refl, tt)));
-  first = refl;
-  later = refl;
-}
+abbrev pub AreLow : ℕ → Type 0
+AreLow count = list_all (λ (t : Table). is_low count t.tree) (first_tables count) ≡ true
 
-makeable_7 : IsMakeable 7
-unfolding understood everything
-makeable_7 = record {
-  drops = λ place. record { at = 7; is = refl; plain = (refl, refl); found = refl; unacted = refl; uncounted = refl };
-  owners = refl;
-  making = office_making.1.1.1.1.1.1.1;
-  made = refl;
-  free = λ trees. (refl, (refl, tt));
-  first = refl;
-  later = refl;
-}
+pub are_low : (count : ℕ) → count < 8 → AreLow count
+are_low = below_8 AreLow refl refl refl refl refl refl refl refl
 
-pub makeable : (count : ℕ) → count < 8 → IsMakeable count
-makeable = below_8 IsMakeable makeable_0 makeable_1 makeable_2 makeable_3 makeable_4 makeable_5 makeable_6 makeable_7
+abbrev AreOwned : ℕ → Type 0
+AreOwned count = list_all (λ (i : Index). is_low count i.table) (first_indexes count) ≡ true
+
+are_owned : (count : ℕ) → count < 8 → AreOwned count
+are_owned = below_8 AreOwned refl refl refl refl refl refl refl refl
+
+abbrev AreHigh : ℕ → Type 0
+AreHigh count = list_all (λ (t : Table). not (is_low count t.tree)) (later_tables count) ≡ true
+
+are_high : (count : ℕ) → count < 8 → AreHigh count
+are_high = below_8 AreHigh refl refl refl refl refl refl refl refl
 
 -- ---- the schema without the version's table, which stands behind the others
 
 apart_from : (tree low place : ℕ) → nat_lt tree low ≡ true → low ≤ place → not (tree == place) ≡ true
 apart_from tree low place below behind = ap not (ne_eqb tree place (λ (e : tree ≡ place). absurd (omega (arith, e, ltb-true tree low below, behind))))
 
-module _ (low place : ℕ) (behind : low ≤ place) where
-  abbrev stays : Table → Bool
-  stays t = not (t.tree == place)
-
-  abbrev index_stays : Index → Bool
-  index_stays i = not (i.table == place)
-
-  tables_left : (ts : List Table) → list_all (λ (t : Table). nat_lt t.tree low) ts ≡ true → filter stays (ts ++ last_table place ∷ []) ≡ ts
-  tables_left [] below = let same : (place == place) ≡ true = eq-eqb place place refl in rw same
-  tables_left (t ∷ ts) below =
-      let both = and_parts _ _ below in
-      let other : stays t ≡ true = apart_from t.tree low place both.0 behind in
-      let first : filter stays (t ∷ (ts ++ last_table place ∷ [])) ≡ t ∷ filter stays (ts ++ last_table place ∷ []) = rw other in
-      first ∙ ap (λ more. t ∷ more) (tables_left ts both.1)
-
-  indexes_left : (is : List Index) → list_all (λ (i : Index). nat_lt i.table low) is ≡ true → filter index_stays is ≡ is
-  indexes_left [] below = refl
-  indexes_left (i ∷ is) below =
-      let both = and_parts _ _ below in
-      let other : index_stays i ≡ true = apart_from i.table low place both.0 behind in
-      let first : filter index_stays (i ∷ is) ≡ i ∷ filter index_stays is = rw other in
-      first ∙ ap (λ more. i ∷ more) (indexes_left is both.1)
-
-bare_is : (count place : ℕ) → IsMakeable count → place_after count ≤ place → without_table (front_schema count place) place ≡ bare_schema count
-bare_is count place can behind = λ n. record {
-  tables = tables_left (place_after count) place behind (first_tables count) can.first n;
-  indexes = indexes_left (place_after count) place behind (first_indexes count) can.owners n;
-  views = [];
-}
+bare_is : (count place : ℕ) → count < 8 → place_after count ≤ place → without_table (front_schema count place) place ≡ bare_schema count
+bare_is count place some behind =
+    let low = place_after count in
+    let stays = λ (t : Table). not (t.tree == place) in
+    let gone : stays (last_table place) ≡ false = ap not (eq-eqb place place refl) in
+    let tables = filter_all stays (first_tables count) (λ t there. apart_from t.tree low place
+    (test_has (λ (t : Table). is_low count t.tree) (first_tables count) t (are_low count some) there)
+    behind) in
+    let indexes = filter_all (λ (i : Index). not (i.table == place)) (first_indexes count)
+    (λ i there. apart_from i.table low place (test_has (λ (i : Index). is_low count i.table)
+    (first_indexes count) i (are_owned count some) there) behind) in
+    λ n. record {
+      tables = (filter_left stays (first_tables count) (last_table place) gone ∙ tables) n;
+      indexes = indexes n;
+      views = [];
+    }
 
 -- ---- the rows that are kept
 
@@ -268,8 +218,7 @@ module _ (place : ℕ) (trees : Trees) where
   kept_at tree low = rw low
 
   first_kept : (ts : List Table) → list_all (λ (t : Table). nat_lt t.tree place) ts ≡ true → AllByRecursion (λ t. trees t.tree ≡ emptied_from place trees t.tree) ts
-  first_kept [] low = tt
-  first_kept (t ∷ ts) low = let both = and_parts _ _ low in (kept_at t.tree both.0, first_kept ts both.1)
+  first_kept ts low = all_from _ ts (λ t there. kept_at t.tree (test_has (λ (t : Table). nat_lt t.tree place) ts t low there))
 
   shaped_at : (tree : ℕ) → IsShaped shape.Table (trees tree) → IsShaped shape.Table (emptied_from place trees tree)
   shaped_at tree was = elim (nat_lt tree place) as (λ b. IsShaped shape.Table (cond b (trees tree) [])) [ true ↦ was | false ↦ (tt, tt) ]
@@ -280,27 +229,13 @@ module _ (place : ℕ) (trees : Trees) where
   -- the rows of the first of the tables rise, and so do those of all
   all_shaped : (xs ys more : List Table) → AllByRecursion (λ t. IsShaped shape.Table (trees t.tree)) (xs ++ more) → list_all (λ (t : Table). not (nat_lt t.tree place)) ys ≡ true
       → AllByRecursion (λ t. IsShaped shape.Table (emptied_from place trees t.tree)) (xs ++ ys)
-  all_shaped [] [] more rise high = tt
-  all_shaped [] (y ∷ ys) more rise high = let both = and_parts _ _ high in (none_shaped y.tree both.0, all_shaped [] ys more rise both.1)
-  all_shaped (x ∷ xs) ys more rise high = (shaped_at x.tree rise.0, all_shaped xs ys more rise.1 high)
+  all_shaped xs ys more rise high = all-append _ xs ys
+      (all_from _ xs (λ t there. shaped_at t.tree (all_has (λ t. IsShaped shape.Table (trees t.tree)) (xs ++ more) t rise (has_left xs more t there))))
+      (all_from _ ys (λ t there. none_shaped t.tree (test_has (λ (t : Table). not (nat_lt t.tree place)) ys t high there)))
 
 -- rows that are the same have the same shape
 same_shaped : (a b : Trees) (ts : List Table) → AllByRecursion (λ t. a t.tree ≡ b t.tree) ts → AllByRecursion (λ t. IsShaped shape.Table (b t.tree)) ts → AllByRecursion (λ t. IsShaped shape.Table (a t.tree)) ts
-same_shaped a b [] same rise = tt
-same_shaped a b (t ∷ ts) same rise = (subst (IsShaped shape.Table) (sym same.0) rise.0, same_shaped a b ts same.1 rise.1)
-
--- trees that hold the same rows of the eight tables have the same content
-pub same_eight : (a b : Trees) → AllByRecursion (λ t. a t ≡ b t) stored_trees → content_of a ≡ content_of b
-same_eight a b e = λ i. record {
-  intersection = rows_in layout.intersection (e.0 i);
-  timing = rows_in layout.timing (e.1.0 i);
-  draft = rows_in layout.draft (e.1.1.0 i);
-  inspection = rows_in layout.inspection (e.1.1.1.0 i);
-  work_order = rows_in layout.work_order (e.1.1.1.1.0 i);
-  part = rows_in layout.part (e.1.1.1.1.1.0 i);
-  delivery = rows_in layout.delivery (e.1.1.1.1.1.1.0 i);
-  used_part = rows_in layout.used_part (e.1.1.1.1.1.1.1.0 i);
-}
+same_shaped a b ts same rise = all_both _ _ _ (λ t is up. subst (IsShaped shape.Table) (sym is) up) ts same rise
 
 same_content : (a b : Trees) → AllByRecursion (λ t. a t.tree ≡ b t.tree) office_schema.tables → content_of a ≡ content_of b
 same_content a b e = same_eight a b (e.0, (e.1.0, (e.1.1.0, (e.1.1.1.0, (e.1.1.1.1.0, (e.1.1.1.1.1.0, (e.1.1.1.1.1.1.0, (e.1.1.1.1.1.1.1.0, tt))))))))
@@ -313,32 +248,36 @@ module _ {S : Type 0} (g : Ghosts S) (count : ℕ) (old mid new : Held S) (dropp
   abbrev rows : Trees
   rows = emptied_from (place_after count) was
 
-  begun : IsMakeable count → Ends g rows mid (bare_schema count)
-  begun can =
+  begun : Ends g rows mid (bare_schema count)
+  begun =
       let place = sees.front.place in
-      let bare = bare_is count place can sees.front.behind in
-      let did = drop_step (state g old) (state g dropped.0) dropped.1 (front_schema count place) dropping_text (last_table place) (can.drops place) sees.front.is dropped.2 in
+      let bare = bare_is count place sees.some sees.front.behind in
+      let did = drop_step (state g old) (state g dropped.0) dropped.1 (front_schema count place) dropping_text (last_table place) (drops count sees.some place) sees.front.is dropped.2 in
       let kept : KeepsRows (first_tables count) was (state g dropped.0).now.trees = subst (λ (s : Schema). KeepsRows s.tables was (state g dropped.0).now.trees) bare did.1 in
       subst (λ (h : Held S). Ends g rows h (bare_schema count)) (sym dropped.3)
-      (record { schema_is = did.0 ∙ bare; holds = kept_rows (first_tables count) rows was (state g dropped.0).now.trees kept (first_kept (place_after count) was (first_tables count) can.first) }, did.2, dropped.2.1.mode)
+      (record { schema_is = did.0 ∙ bare; holds = kept_rows (first_tables count) rows was (state g dropped.0).now.trees kept (first_kept (place_after count) was (first_tables count) (are_low count sees.some)) }, did.2, dropped.2.1.mode)
 
-  ended : IsMakeable count → Ends g rows new office_schema
-  ended can = subst (Ends g rows new) can.made (over_run g rows (creating_texts count) (made_again count) (bare_schema count) can.making (can.free was) mid new created (begun can))
+  ended : Ends g rows new office_schema
+  ended = subst (Ends g rows new) (made count sees.some)
+      (over_run g rows (creating_texts count) (made_again count) (bare_schema count)
+      (making count sees.some) (free count sees.some was) mid new created begun.0 (λ _. begun))
 
-  rows_shaped : IsMakeable count → AllByRecursion (λ t. IsShaped shape.Table (rows t.tree)) office_schema.tables
-  rows_shaped can =
+  rows_shaped : AllByRecursion (λ t. IsShaped shape.Table (rows t.tree)) office_schema.tables
+  rows_shaped =
       let rise : AllByRecursion (λ (t : Table). IsShaped shape.Table (was t.tree)) (first_tables count ++ last_table sees.front.place ∷ []) = subst (λ (s : Schema). AllByRecursion (λ t. IsShaped shape.Table (was t.tree)) s.tables) sees.front.is sees.rise in
       subst (AllByRecursion (λ t. IsShaped shape.Table (emptied_from (place_after count) was t.tree))) (take-append-drop count office_schema.tables)
-      (all_shaped (place_after count) was (first_tables count) (later_tables count) (last_table sees.front.place ∷ []) rise can.later)
+      (all_shaped (place_after count) was (first_tables count) (later_tables count) (last_table sees.front.place ∷ []) rise (are_high count sees.some))
 
   pub grown_ready : IsReady (state g new)
-  grown_ready =
-      let can = makeable count sees.some in
-      let it = ended can in
-      record { inside = rw it.2; schema = it.0.schema_is; ordered = same_shaped (state g new).now.trees rows office_schema.tables it.0.holds (rows_shaped can); sound = it.1 }
+  grown_ready = record {
+    inside = rw ended.2;
+    schema = ended.0.schema_is;
+    ordered = same_shaped (state g new).now.trees rows office_schema.tables ended.0.holds rows_shaped;
+    sound = ended.1;
+  }
 
   pub grown_content : content_now (state g new) ≡ content_before count (state g old).now.trees
-  grown_content = same_content (state g new).now.trees rows (ended (makeable count sees.some)).0.holds
+  grown_content = same_content (state g new).now.trees rows ended.0.holds
 
 pub spread_if : {S E : Type 0} (g : Ghosts S) (count : ℕ) (old mid new : Held S) → AreRun g (dropping_text ∷ []) old mid → SeesFront count (state g old)
     → (r : Result ⊤ E) → OnOk r (AreRun g (creating_texts count) mid new) → OnOk r (IsSpread count (state g old) (state g new))

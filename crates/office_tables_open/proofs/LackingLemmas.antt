@@ -1,15 +1,17 @@
 -- Databases that lack tables: when one does, and what its tables hold.
 use Rattle.std.proofs.Common.{◌≡◌, ◌≢◌, inl, inr, ℕ, suc, ◌<◌, ◌≤◌, ◌+◌, nat_lt, cond, Bool, true, false, true≢false, not, List, [], ◌∷◌, ◌++◌, filter, length, None, Some, refl, sym, ap, subst, ◌∙◌, arith}
-use Rattle.std.specs.List.{AllZip, list_all}
+use Rattle.std.specs.List.{list_all}
 use Rattle.std.proofs.lemmas.Bool.{cases_Bool, ltb-false, ltb-true}
 use Rattle.std.proofs.lemmas.Bool.Decides.{eqb_tells}
 use Rattle.std.proofs.lemmas.List.{length-append}
+use Rattle.std.proofs.lemmas.Slice.Zip.{AllZip-long}
 use Rattle.sqlite.specs.Effect.{Database}
 use Rattle.sqlite.specs.State.{State}
 use Rattle.sqlite.specs.Tree.{Trees}
 use Rattle.sqlite_catalog.specs.Listing.{AreListed, IsTableRow, is_table_row}
 use Rattle.sqlite_catalog.proofs.LayoutLemmas.{named_tree, zipped_left, zipped_right}
-use Rattle.sqlite_rules.proofs.ListLemmas.{all_has, has_either, has_right, test_has}
+use Rattle.sqlite_trees.proofs.ListLemmas.{all_weaker}
+use Rattle.sqlite_rules.proofs.ListLemmas.{all_from, all_has, has_either, has_right, test_has}
 use Rattle.sqlite_rules.specs.Lists.{Has}
 use Rattle.sqlite_schema.specs.Names.{same_name}
 use Rattle.sqlite_schema.specs.declared.schema.Index.{Index}
@@ -25,13 +27,12 @@ use Rattle.office_tables_sql.specs.Stored.{content_of}
 use Rattle.office_tables_open.specs.Arranged.{IsArranged}
 use Rattle.office_tables_open.specs.Found.{IsFoundIn, IsUnclaimed}
 use Rattle.office_tables_open.specs.Lacking.{Hold, IsLacking, Lacks, content_before, emptied_from}
-use Rattle.office_tables_open.specs.Version.{AreEmpty, version_at, version_in, current_version}
+use Rattle.office_tables_open.specs.Version.{AreEmpty, stored_trees, version_at, version_in, current_version}
 use Rattle.office_tables_open.specs.declared.found.Found.TheVariants.{Today}
 use Rattle.office_tables_open.specs.declared.found.TheConstants.{KEEPER}
-use Rattle.office_tables_open.proofs.BlankLemmas.{empty_if_absent}
-use Rattle.office_tables_open.proofs.FoundLemmas.{none_here}
-use Rattle.office_tables_open.proofs.FrontLemmas.{below_8, first_indexes, first_tables, last_table, same_eight}
-use Rattle.office_tables_open.proofs.VersionLemmas.{empty_content}
+use Rattle.office_tables_open.proofs.FoundLemmas.{empty_if_absent, low_trees, none_here}
+use Rattle.office_tables_open.proofs.FrontLemmas.{are_low, below_8, first_indexes, first_tables, last_table}
+use Rattle.office_tables_open.proofs.VersionLemmas.{empty_content, same_eight}
 
 -- ---- the first tables alone, and then that of the version
 
@@ -42,16 +43,15 @@ is_other t = not (same_name t.name KEEPER.now)
 record AreFirst (count : ℕ) : Type 0 where
   long : length (first_tables count) ≡ count
   named : list_all is_other (first_tables count) ≡ true
-  tables : list_all (λ (t : Table). nat_lt t.tree (place_after count)) (first_tables count) ≡ true
   indexes : list_all (λ (i : Index). nat_lt i.tree (place_after count)) (first_indexes count) ≡ true
 
 are_first : (count : ℕ) → count < 8 → AreFirst count
 unfolding everything
 are_first = below_8 AreFirst
-    (record { long = refl; named = refl; tables = refl; indexes = refl }) (record { long = refl; named = refl; tables = refl; indexes = refl })
-    (record { long = refl; named = refl; tables = refl; indexes = refl }) (record { long = refl; named = refl; tables = refl; indexes = refl })
-    (record { long = refl; named = refl; tables = refl; indexes = refl }) (record { long = refl; named = refl; tables = refl; indexes = refl })
-    (record { long = refl; named = refl; tables = refl; indexes = refl }) (record { long = refl; named = refl; tables = refl; indexes = refl })
+    (record { long = refl; named = refl; indexes = refl }) (record { long = refl; named = refl; indexes = refl })
+    (record { long = refl; named = refl; indexes = refl }) (record { long = refl; named = refl; indexes = refl })
+    (record { long = refl; named = refl; indexes = refl }) (record { long = refl; named = refl; indexes = refl })
+    (record { long = refl; named = refl; indexes = refl }) (record { long = refl; named = refl; indexes = refl })
 
 keeper_named : same_name KEEPER.now KEEPER.now ≡ true
 unfolding everything
@@ -72,7 +72,7 @@ module _ (count place : ℕ) (some : count < 8) where
     none_behind : (tree : ℕ) → place_after count ≤ tree → tree < 16 → tree ≢ place → trees tree ≡ []
     none_behind tree behind low other = elim (named_tree it.listed it.objects.0 listed tree (λ e. absurd (omega (arith, e, low))) (λ e. absurd (omega (arith, e, low)))) [
       | inl (t, there, at) ↦ absurd (elim (has_either (first_tables count) (last_table place ∷ []) t there) [
-        | inl first ↦ below t.tree at (test_has (λ (x : Table). nat_lt x.tree (place_after count)) (first_tables count) t (are_first count some).tables first)
+        | inl first ↦ below t.tree at (test_has (λ (x : Table). nat_lt x.tree (place_after count)) (first_tables count) t (are_low count some) first)
         | inr (inl last) ↦ other (sym at ∙ ap (λ (x : Table). x.tree) last)
         | inr (inr none) ↦ none
       ])
@@ -103,12 +103,6 @@ found_lacks s settled found arranged count some front =
 
 -- ---- tables that lack none
 
-zipped_length : {X Y : Type 0} (R : X → Y → Type 0) (xs : List X) (ys : List Y) → AllZip R xs ys → length xs ≡ length ys
-zipped_length R [] [] h = refl
-zipped_length R [] (y ∷ ys) h = absurd h
-zipped_length R (x ∷ xs) [] h = absurd h
-zipped_length R (x ∷ xs) (y ∷ ys) h = ap suc (zipped_length R xs ys h.1)
-
 front_length : (count place : ℕ) → count < 8 → length (front_schema count place).tables ≡ suc count
 front_length count place some = length-append (first_tables count) (last_table place ∷ []) ∙ ap (λ n. n + 1) (are_first count some).long ∙ omega arith
 
@@ -116,9 +110,9 @@ front_length count place some = length-append (first_tables count) (last_table p
 pub listed_whole : (trees : Trees) → AreListed (trees catalog_tree) office_schema → IsLacking trees → ⊥
 listed_whole trees listed lacks =
     let is = lacks.1 in
-    let nine = zipped_length IsTableRow (filter is_table_row (trees catalog_tree)) office_schema.tables listed.tables in
-    let fewer = zipped_length IsTableRow (filter is_table_row (trees catalog_tree)) (front_schema lacks.0 is.place).tables is.listed.tables in
-    absurd (omega (arith, is.some, sym nine ∙ fewer ∙ front_length lacks.0 is.place is.some))
+    let nine = AllZip-long IsTableRow (filter is_table_row (trees catalog_tree)) office_schema.tables listed.tables in
+    let fewer = AllZip-long IsTableRow (filter is_table_row (trees catalog_tree)) (front_schema lacks.0 is.place).tables is.listed.tables in
+    absurd (omega (arith, is.some, nine ∙ sym fewer ∙ front_length lacks.0 is.place is.some))
 
 pub office_whole : (s : State) → IsOffice s → IsHonest s → IsLacking s.now.trees → ⊥
 office_whole s office honest = listed_whole s.now.trees (subst (AreListed (s.now.trees catalog_tree)) (office.schema honest) (office.sound honest).lists.listed)
@@ -154,7 +148,7 @@ hold_none trees tables e (inl whole) = whole.1 ∙ empty_content trees e
 hold_none trees tables e (inr lacks) =
     let place = place_after lacks.0 in
     lacks.2 ∙ empty_content (emptied_from place trees)
-    (empty_still place trees _ e.0, (empty_still place trees _ e.1.0, (empty_still place trees _ e.1.1.0, (empty_still place trees _ e.1.1.1.0, (empty_still place trees _ e.1.1.1.1.0, (empty_still place trees _ e.1.1.1.1.1.0, (empty_still place trees _ e.1.1.1.1.1.1.0, (empty_still place trees _ e.1.1.1.1.1.1.1.0, tt))))))))
+    (all_weaker (λ t. trees t ≡ []) _ (empty_still place trees) stored_trees e)
 
 -- where the version stands in today's place, the trees of the tables that are missing hold nothing
 module _ (trees : Trees) (count : ℕ) (lacks : Lacks count trees) (stored : version_in trees ≡ Some current_version) where
@@ -171,7 +165,7 @@ module _ (trees : Trees) (count : ℕ) (lacks : Lacks count trees) (stored : ver
 
   pub today_content : content_before count trees ≡ content_of trees
   today_content = same_eight (emptied_from (place_after count) trees) trees
-      (kept_here 0 (omega arith), (kept_here 1 (omega arith), (kept_here 3 (omega arith), (kept_here 5 (omega arith), (kept_here 7 (omega arith), (kept_here 9 (omega arith), (kept_here 11 (omega arith), (kept_here 13 (omega arith), tt))))))))
+      (all_from _ stored_trees (λ t there. kept_here t (low_trees t there)))
 
 -- ---- a schema with a table
 

@@ -46,14 +46,28 @@ module _ {S : Type 0} (g : Ghosts S) (conn : Held S) where
   pub untouched : IsAsFound g conn conn.store
   untouched = record { clean = omega arith; was_open = λ h. h.1; committed = λ h. inl refl; crash = λ h trees may. inl may }
 
+  -- a connection that wrote, by what a stop may leave of it
+  ended_left : (c : Held S) (C M P : Trees → Type 0) → Survives old (state g c) P
+      → (IsHonest (state g c) → IsHonest old)
+      → (IsHonest (state g c) → ((state g c).committed.trees ≡ old.committed.trees)
+      ⊎ C (state g c).committed.trees)
+      → (HasCleanDisk (state g c) → (trees : Trees) → P trees → M trees) → IsLeft g conn C M c.store
+  ended_left c C M P survives honest committed becomes = record {
+    clean = survives.clean;
+    was_open = λ h. (honest h).1;
+    committed = committed;
+    crash = λ h trees may. elim (survives.crash h trees may) [
+      | inl was ↦ inl was
+      | inr new ↦ inr (becomes h trees new)
+    ];
+  }
+
   -- a connection by which the tables were read alone
   pub read_found : (c : Held S) → IsSettled old → OnlyReads old (state g c) → IsAsFound g conn c.store
-  read_found c settled only = record {
-    clean = only.1.clean;
-    was_open = λ h. (only.0.honest h).1;
-    committed = λ h. inl (ap (λ (d : Database). d.trees) (sym (only.0.office.settled h) ∙ only.0.same h ∙ settled (only.0.honest h).1));
-    crash = λ h trees may. elim (only.1.crash h trees may) [ inl was ↦ inl was | inr none ↦ absurd none ];
-  }
+  read_found c settled only = ended_left c _ _ _ only.1 only.0.honest
+      (λ h. inl (ap (λ (d : Database). d.trees)
+      (sym (only.0.office.settled h) ∙ only.0.same h ∙ settled (only.0.honest h).1)))
+      (λ h trees none. none)
 
   -- its database was checked again
   pub again_found : (c : Held S) → IsCheckedAgain old (state g c) → IsAsFound g conn c.store
@@ -76,28 +90,16 @@ module _ {S : Type 0} (g : Ghosts S) (conn : Held S) where
   -- today's version was to be stored in tables without a row
   pub claimed_left : (c : Held S) → IsSettled old → (IsHonest (state g c) → IsHonest old) → (IsHonest (state g c) → (state g c).committed.trees ≡ old.committed.trees) → Claims old (state g c)
       → IsLeft g conn (AreGone g old.committed.trees) (MayBeNew g old.committed.trees) c.store
-  claimed_left c settled honest same claims = record {
-    clean = claims.clean;
-    was_open = λ h. (honest h).1;
-    committed = λ h. inl (same h);
-    crash = λ h trees may. elim (claims.crash h trees may) [
-      | inl was ↦ inl was
-      | inr new ↦ inr (inl (subst (λ (d : Database). IsUnclaimed d.trees) (settled new.0.1) new.1, inr new.2))
-    ];
-  }
+  claimed_left c settled honest same claims =
+      ended_left c _ _ _ claims honest (λ h. inl (same h)) (λ h trees new.
+      inl (subst (λ (d : Database). IsUnclaimed d.trees) (settled new.0.1) new.1, inr new.2))
 
   -- tables were to be made where there are none
   pub made_left : (c : Held S) → (IsHonest (state g c) → IsHonest old) → (IsHonest (state g c) → (state g c).committed.trees ≡ old.committed.trees)
       → (IsHonest old → IsUnclaimed old.committed.trees) → Survives old (state g c) (λ trees. IsHonest old × IsNewOffice trees) → IsLeft g conn (AreGone g old.committed.trees) (MayBeNew g old.committed.trees) c.store
-  made_left c honest same unclaimed survives = record {
-    clean = survives.clean;
-    was_open = λ h. (honest h).1;
-    committed = λ h. inl (same h);
-    crash = λ h trees may. elim (survives.crash h trees may) [
-      | inl was ↦ inl was
-      | inr new ↦ inr (inl (unclaimed new.0, inr new.1))
-    ];
-  }
+  made_left c honest same unclaimed survives =
+      ended_left c _ _ _ survives honest (λ h. inl (same h))
+      (λ h trees new. inl (unclaimed new.0, inr new.1))
 
   -- why it is refused: by the database, or for want of memory
   pub refused_left : (why : OpenFault) (back : Result (Held S) S) → why ≢ fault.Version → why ≢ fault.Damaged
@@ -154,8 +156,11 @@ module _ {S : Type 0} (g : Ghosts S) (conn : Held S) where
 
 -- the connection as it was before its database was checked again
 module _ {S : Type 0} (g : Ghosts S) (conn found : Held S) (it : IsCheckedAgain (state g conn) (state g found)) where
+  seen : HasCleanDisk (state g found) → (state g found).now.trees ≡ (state g found).committed.trees
+  seen h = ap (λ (d : Database). d.trees) (it.opens h).0.clean
+
   same_then : HasCleanDisk (state g found) → (state g found).committed.trees ≡ (state g conn).committed.trees
-  same_then h = sym (ap (λ (d : Database). d.trees) (it.opens h).0.clean) ∙ it.kept h
+  same_then h = sym (seen h) ∙ it.kept h
 
   pub left_before : (C M : Trees → Trees → Type 0) (left : S) → IsLeft g found (C (state g found).committed.trees) (M (state g found).committed.trees) left
       → IsLeft g conn (C (state g conn).committed.trees) (M (state g conn).committed.trees) left
@@ -193,19 +198,12 @@ module _ {S : Type 0} (g : Ghosts S) (conn found : Held S) (it : IsCheckedAgain 
       → (HasCleanDisk (state g found) → Lacks count (state g conn).committed.trees)
       → Survives (state g found) (state g c) (λ trees. IsHonest (state g found) × Completes count (state g found).now.trees trees)
       → IsLeft g conn (AreGone g (state g conn).committed.trees) (MayBeNew g (state g conn).committed.trees) c.store
-  mended_left c count honest same lacks survives = record {
-    clean = omega (arith, it.clean, survives.clean);
-    was_open = λ h. it.was_open (honest h).0;
-    committed = λ h. inl (same h ∙ same_then (honest h).0);
-    crash = λ h trees may. elim (survives.crash h trees may) [
-      | inl was ↦ inl (it.crash (omega (arith, h, survives.clean)) trees was)
-      | inr grown ↦ inr (inr (record {
+  mended_left c count honest same lacks survives = left_before (AreGone g) (MayBeNew g) c.store
+      (ended_left g found c _ _ _ survives honest (λ h. inl (same h)) (λ h trees grown. inr (record {
         count = count;
-        lacks = lacks grown.0.0;
-        completes = subst (λ (t : Trees). Completes count t trees) (it.kept grown.0.0) grown.1;
-      }))
-    ];
-  }
+        lacks = subst (Lacks count) (sym (same_then grown.0.0)) (lacks grown.0.0);
+        completes = subst (λ (t : Trees). Completes count t trees) (seen grown.0.0) grown.1;
+      })))
 
   -- tables in another layout were dropped, and new ones to be made
   pub anew_left : (c : Held S) → (IsHonest (state g c) → IsHonest (state g found))
@@ -213,22 +211,25 @@ module _ {S : Type 0} (g : Ghosts S) (conn found : Held S) (it : IsCheckedAgain 
       → (HasCleanDisk (state g found) → IsUnclaimed (state g conn).committed.trees)
       → Survives (state g found) (state g c) (λ trees. WereDropped g (state g found).now.trees trees ⊎ IsNewOffice trees)
       → IsLeft g conn (AreGone g (state g conn).committed.trees) (MayBeNew g (state g conn).committed.trees) c.store
-  anew_left c honest kept unclaimed survives = record {
-    clean = omega (arith, it.clean, survives.clean);
-    was_open = λ h. it.was_open (honest h).0;
-    committed = λ h. elim (kept h) [
-      | inl same ↦ inl (same ∙ same_then (honest h).0)
-      | inr dropped ↦ inr (unclaimed (honest h).0, from (honest h).0 _ dropped)
-    ];
-    crash = λ h trees may. elim (survives.crash h trees may) [
-      | inl was ↦ inl (it.crash (clean h) trees was)
-      | inr (inl dropped) ↦ inr (inl (unclaimed (clean h), inl (from (clean h) _ dropped)))
-      | inr (inr new) ↦ inr (inl (unclaimed (clean h), inr new))
-    ];
-  }
+  anew_left c honest kept unclaimed survives = left_before (AreGone g) (MayBeNew g) c.store
+      (ended_left g found c _ _ _ survives honest
+      (λ h. elim (kept h) [
+        | inl same ↦ inl same
+        | inr dropped ↦ inr (was (honest h).0, from (honest h).0 _ dropped)
+      ])
+      (λ h trees left. inl (
+        was (clean h),
+        elim left [
+          | inl dropped ↦ inl (from (clean h) trees dropped)
+          | inr new ↦ inr new
+        ],
+      )))
     where
       clean : HasCleanDisk (state g c) → HasCleanDisk (state g found)
       clean h = omega (arith, h, survives.clean)
 
-      from : HasCleanDisk (state g found) → (trees : Trees) → WereDropped g (state g found).now.trees trees → WereDropped g (state g conn).committed.trees trees
-      from h trees dropped = subst (λ (t : Trees). WereDropped g t trees) (it.kept h) dropped
+      was : HasCleanDisk (state g found) → IsUnclaimed (state g found).committed.trees
+      was h = subst IsUnclaimed (sym (same_then h)) (unclaimed h)
+
+      from : HasCleanDisk (state g found) → (trees : Trees) → WereDropped g (state g found).now.trees trees → WereDropped g (state g found).committed.trees trees
+      from h trees dropped = subst (λ (t : Trees). WereDropped g t trees) (seen h) dropped

@@ -1,6 +1,4 @@
 pub mod VersionLemmas
-mod StatementLemmas
-pub mod BlankLemmas
 pub mod ArrangedLemmas
 pub mod OpenLemmas
 pub mod LeftLemmas
@@ -8,4 +6,4 @@ pub mod MemoryLemmas
 mod MadeLemmas
 mod FrontLemmas
 pub mod LackingLemmas
-mod FoundLemmas
+pub mod FoundLemmas

@@ -1,5 +1,5 @@
 -- What the texts that make the tables make of a database that has none.
-use Rattle.std.proofs.Common.{◌≡◌, ◌≢◌, ◌≤◌, ℕ, true, false, List, [], ◌∷◌, ◌++◌, map, Some, Result, Ok, Err, refl, sym, ap, subst, ◌∙◌, arith}
+use Rattle.std.proofs.Common.{◌≡◌, ◌≤◌, ℕ, true, false, List, [], ◌∷◌, map, Some, Result, Ok, Err, refl, sym, ap, subst, ◌∙◌, arith}
 use Rattle.std.specs.List.{AllByRecursion}
 use Rattle.std.specs.Prelude.{OnOk, ⊤}
 use Rattle.sqlite.specs.Command.TheVariants.{CreateTable}
@@ -8,7 +8,6 @@ use Rattle.sqlite.specs.Effect.{Database, IsDatabase}
 use Rattle.sqlite.specs.Given.{IsPlain}
 use Rattle.sqlite.specs.Held.{Held, state}
 use Rattle.sqlite.specs.Listing.{understood}
-use Rattle.sqlite.specs.Order.{Row}
 use Rattle.sqlite.specs.Rows.{Then, Gives}
 use Rattle.sqlite.specs.State.{State, ExecutesInside, HasCleanDisk, Shows}
 use Rattle.sqlite.specs.Tree.{Trees}
@@ -22,6 +21,8 @@ use Rattle.sqlite_tied.specs.Compute.{everything}
 use Rattle.sqlite_trees.specs.declared.store.Shape.TheVariants as shape
 use Rattle.sqlite_trees.specs.declared.store.Store.{Ghosts}
 use Rattle.sqlite_trees.specs.View.{doubt}
+use Rattle.sqlite_trees.proofs.ListLemmas.{all_both, all_weaker}
+use Rattle.office_tables_shelf.proofs.ListLemmas.{all_more}
 use Rattle.office_tables_shelf.specs.Content.{no_content}
 use Rattle.office_tables_sql.specs.Calls.{AreOrdered, IsOffice, IsReady, command_of, statement_of}
 use Rattle.office_tables_sql.specs.Schema.{no_schema, office_schema}
@@ -43,12 +44,9 @@ pub record Makes (schema : Schema) (sql : List ℕ) (table : Table) : Type 0 whe
   pub uncounted : lacks_sequence (created schema table) ≡ false
 
 pub kept_rows : (ts : List Table) (rows old new : Trees) → KeepsRows ts old new → AllByRecursion (λ t. old t.tree ≡ rows t.tree) ts → AllByRecursion (λ t. new t.tree ≡ rows t.tree) ts
-kept_rows [] rows old new kept held = tt
-kept_rows (t ∷ ts) rows old new kept held = (kept.0 ∙ held.0, kept_rows ts rows old new kept.1 held.1)
-
-all_snoc : {X : Type 0} (P : X → Type 0) (xs : List X) (y : X) → AllByRecursion P xs → P y → AllByRecursion P (xs ++ y ∷ [])
-all_snoc P [] y all h = (h, tt)
-all_snoc P (x ∷ xs) y all h = (all.0, all_snoc P xs y all.1 h)
+kept_rows ts rows old new kept held =
+    all_both (λ t. new t.tree ≡ old t.tree) (λ t. old t.tree ≡ rows t.tree) _
+    (λ t same was. same ∙ was) ts kept held
 
 abbrev pub second_of : {A B E : Type 0} → B → Result (A × B) E → B
 second_of other (Ok both) = both.1
@@ -70,7 +68,7 @@ over_step rows old new count schema sql table makes free bare ran =
     let empty = subst (λ (d : Database). d.trees (next_tree schema) ≡ []) whole (subst (λ (s : Schema). made.0.trees (next_tree s) ≡ []) bare.schema_is made.1.empty) in (
       record {
         schema_is = ap (λ (d : Database). d.schema) (sym whole) ∙ schema_then;
-        holds = all_snoc (λ (t : Table). new.now.trees t.tree ≡ rows t.tree) schema.tables _ (kept_rows schema.tables rows old.now.trees new.now.trees others bare.holds) (empty ∙ sym free);
+        holds = all_more (λ (t : Table). new.now.trees t.tree ≡ rows t.tree) schema.tables _ (kept_rows schema.tables rows old.now.trees new.now.trees others bare.holds) (empty ∙ sym free);
       },
       did.sound,
     )
@@ -99,21 +97,20 @@ module _ {S : Type 0} (g : Ghosts S) (rows : Trees) where
   abbrev pub Ends : Held S → Schema → Type 0
   Ends h schema = IsOver rows (state g h) schema × IsDatabase (state g h).now × ((state g h).in_transaction ≡ true)
 
-  pub over_run : (texts : List (List ℕ)) (tables : List Table) (schema : Schema) → AreMaking schema texts tables → AreFree rows schema tables → (old new : Held S) → AreRun g texts old new → Ends old schema → Ends new (made_of schema tables)
-  over_run [] [] schema making free old new run start = subst (λ (h : Held S). Ends h schema) (sym run) start
-  over_run [] (t ∷ ts) schema making free old new run start = absurd making
-  over_run (sql ∷ more) [] schema making free old new run start = absurd making
-  over_run (sql ∷ more) (t ∷ ts) schema making free old new run start =
-      over_run more ts (created schema t) making.1 free.1 run.0 new run.3
-      (let it = over_step rows (state g old) (state g run.0) run.1 schema sql t making.0 free.0 start.0 run.2 in (it.0, it.1, run.2.1.mode))
-
-  -- the first statement finds a database that is open
-  pub all_made : (texts : List (List ℕ)) (tables : List Table) (schema : Schema) → texts ≢ [] → AreMaking schema texts tables → AreFree rows schema tables → (old new : Held S) → AreRun g texts old new → IsOver rows (state g old) schema → Ends new (made_of schema tables)
-  all_made [] tables schema some making free old new run start = absurd (some refl)
-  all_made (sql ∷ more) [] schema some making free old new run start = absurd making
-  all_made (sql ∷ more) (t ∷ ts) schema some making free old new run start =
-      over_run more ts (created schema t) making.1 free.1 run.0 new run.3
-      (let it = over_step rows (state g old) (state g run.0) run.1 schema sql t making.0 free.0 start run.2 in (it.0, it.1, run.2.1.mode))
+  -- the first statement finds a database that is open; without one, what is known before is known
+  pub over_run : (texts : List (List ℕ)) (tables : List Table) (schema : Schema)
+      → AreMaking schema texts tables → AreFree rows schema tables → (old new : Held S)
+      → AreRun g texts old new → IsOver rows (state g old) schema
+      → (texts ≡ [] → Ends old schema) → Ends new (made_of schema tables)
+  over_run [] [] schema making free old new run over none =
+      subst (λ (h : Held S). Ends h schema) (sym run) (none refl)
+  over_run [] (t ∷ ts) schema making free old new run over none = absurd making
+  over_run (sql ∷ more) [] schema making free old new run over none = absurd making
+  over_run (sql ∷ more) (t ∷ ts) schema making free old new run over none =
+      let it = over_step rows (state g old) (state g run.0) run.1 schema sql t making.0 free.0 over
+      run.2 in
+      over_run more ts (created schema t) making.1 free.1 run.0 new run.3 it.0
+      (λ _. (it.0, it.1, run.2.1.mode))
 
 -- ---- the tables of the office
 
@@ -155,19 +152,18 @@ office_made : made_of no_schema (map untreed office_schema.tables) ≡ office_sc
 unfolding everything
 office_made = refl
 
-no_row_shaped : (rows : List Row) → rows ≡ [] → IsShaped shape.Table rows
-no_row_shaped rows none = subst (IsShaped shape.Table) (sym none) (tt, tt)
-
-all_shaped : (trees : Trees) (ts : List Table) → AllByRecursion (λ t. trees t.tree ≡ []) ts → AllByRecursion (λ t. IsShaped shape.Table (trees t.tree)) ts
-all_shaped trees [] all = tt
-all_shaped trees (t ∷ ts) all = (no_row_shaped (trees t.tree) all.0, all_shaped trees ts all.1)
-
 module _ {S : Type 0} (g : Ghosts S) (old new : Held S) (run : AreRun g office_texts old new) (blank : (state g old).now.schema ≡ no_schema) where
   ended : Ends g (λ _. []) new office_schema
-  ended = subst (Ends g (λ _. []) new) office_made (all_made g (λ _. []) office_texts (map untreed office_schema.tables) no_schema (λ none. absurd (cc)) office_making (none_free no_schema (map untreed office_schema.tables)) old new run (record { schema_is = blank; holds = tt }))
+  ended = subst (Ends g (λ _. []) new) office_made (over_run g (λ _. []) office_texts (map untreed office_schema.tables) no_schema office_making (none_free no_schema (map untreed office_schema.tables)) old new run (record { schema_is = blank; holds = tt }) (λ none. absurd cc))
 
   pub office_ready : IsReady (state g new)
-  office_ready = record { inside = rw ended.2; schema = ended.0.schema_is; ordered = all_shaped (state g new).now.trees office_schema.tables ended.0.holds; sound = ended.1 }
+  office_ready = record {
+    inside = rw ended.2;
+    schema = ended.0.schema_is;
+    ordered = all_weaker (λ t. (state g new).now.trees t.tree ≡ []) (λ t. IsShaped shape.Table ((state g new).now.trees t.tree))
+        (λ t none. subst (IsShaped shape.Table) (sym none) (tt, tt)) office_schema.tables ended.0.holds;
+    sound = ended.1;
+  }
 
   pub office_empty : AreEmpty (state g new).now.trees
   office_empty =

@@ -1,5 +1,5 @@
 -- What the steps of an opening come to.
-use Rattle.std.proofs.Common.{◌≡◌, ◌≤◌, inl, inr, [], Option, None, Some, option_map, IsTrue, Bool, true, false, not, refl, sym, ap, subst, ◌∙◌, arith}
+use Rattle.std.proofs.Common.{◌≡◌, ◌≤◌, inl, inr, [], Option, Some, option_map, IsTrue, false, refl, sym, ap, subst, ◌∙◌, arith}
 use Rattle.sqlite.specs.Effect.{Database, IsDatabase}
 use Rattle.sqlite.specs.Held.{Held, state}
 use Rattle.sqlite.specs.State.{State, HasCleanDisk, Opens, IsLive}
@@ -16,23 +16,17 @@ use Rattle.office_tables_sql.specs.Calls.{IsHonest, IsOffice}
 use Rattle.office_tables_sql.specs.Schema.{office_schema, no_schema, version_table}
 use Rattle.office_tables_sql.specs.Stored.{cells, content_now, content_of}
 use Rattle.office_tables_open.specs.Arranged.{IsArranged, IsUnchanged, IsTaken, IsCheckedAgain}
-use Rattle.office_tables_open.specs.Found.{HasOtherVersion, HasRowsAlone, IsFound, IsFoundIn, IsOneOfEight, IsUnclaimed, StoreNone}
+use Rattle.office_tables_open.specs.Found.{HasOtherVersion, HasRowsAlone, IsFound, IsFoundIn, IsUnclaimed}
 use Rattle.office_tables_open.specs.Opening.{AreMade, IsMadeNew, IsOpened, IsSettled, MayBeTaken, IsOpenIfClean}
 use Rattle.office_tables_open.specs.Lacking.{Hold, IsLacking, Rise}
 use Rattle.office_tables_open.specs.SqlShelf.{SqlView}
-use Rattle.office_tables_open.specs.Version.{AreEmpty, HasRow, TellsOther, version_in, current_version}
+use Rattle.office_tables_open.specs.Version.{AreEmpty, TellsOther, version_in, current_version}
 use Rattle.office_tables_open.specs.declared.found.Found.{Found}
 use Rattle.office_tables_open.specs.declared.found.Found.TheVariants.{Nothing, RowsAlone, OtherVersion}
-use Rattle.office_tables_open.specs.declared.found.TheConstants.{KEEPER}
 use Rattle.office_tables_open.proofs.ArrangedLemmas.{tables_rise}
-use Rattle.office_tables_open.proofs.BlankLemmas.{found_empty}
-use Rattle.office_tables_open.proofs.FoundLemmas.{apart, differ, store_none, have_no_row}
+use Rattle.office_tables_open.proofs.FoundLemmas.{found_empty, store_none, have_no_row}
 use Rattle.office_tables_open.proofs.LackingLemmas.{hold_none, unclaimed_whole}
 use Rattle.office_tables_open.proofs.VersionLemmas.{empty_content}
-
-pub not_true : (b : Bool) → not b ≡ true → b ≡ false
-not_true true h = absurd (cc)
-not_true false h = refl
 
 -- the tables of the office in a database that holds what it lists
 pub arranged_office : (s : State) → s.in_transaction ≡ false → s.now.schema ≡ office_schema → (IsHonest s → s.now ≡ s.committed)
@@ -57,20 +51,6 @@ module _ (db : Database) (is : db.schema ≡ office_schema) (sound : IsDatabase 
 
   pub office_told : (row : Option Row) (r : Row) → row ≡ Some r → option_map cells row ≡ version_in db.trees → TellsOther r 2 → HasOtherVersion db.trees
   office_told row r some found told = office_other r (sym found ∙ ap (option_map cells) some) told
-
-  office_none : version_in db.trees ≡ None → StoreNone office_schema.tables db.trees
-  office_none none = ((λ named. absurd (differ _ _ named refl)), ((λ named. absurd (differ _ _ named refl)), ((λ named. absurd (differ _ _ named refl)), ((λ named. absurd (differ _ _ named refl)), ((λ named. absurd (differ _ _ named refl)), ((λ named. absurd (differ _ _ named refl)), ((λ named. absurd (differ _ _ named refl)), ((λ named. absurd (differ _ _ named refl)), ((λ named. none), tt)))))))))
-
-  pub office_unclaimed : version_in db.trees ≡ None → AreEmpty db.trees → IsUnclaimed db.trees
-  office_unclaimed none empty =
-      (office_schema, office_listed, (office_none none, ((λ _. empty.0), ((λ _. empty.1.0), ((λ _. empty.1.1.0), ((λ _. empty.1.1.1.0), ((λ _. empty.1.1.1.1.0), ((λ _. empty.1.1.1.1.1.0), ((λ _. empty.1.1.1.1.1.1.0), ((λ _. empty.1.1.1.1.1.1.1.0), ((λ one. keeper one), tt)))))))))))
-    where
-      keeper : IsOneOfEight KEEPER.now → db.trees 15 ≡ []
-      keeper one = absurd (apart KEEPER.now one refl)
-
-  pub office_rows : version_in db.trees ≡ None → HasRow db.trees → HasRowsAlone db.trees
-  office_rows none some =
-      (office_schema, office_listed, (office_none none, λ all. some (all.0 (inl refl), (all.1.0 (inr (inl refl)), (all.1.1.0 (inr (inr (inl refl))), (all.1.1.1.0 (inr (inr (inr (inl refl)))), (all.1.1.1.1.0 (inr (inr (inr (inr (inl refl))))), (all.1.1.1.1.1.0 (inr (inr (inr (inr (inr (inl refl)))))), (all.1.1.1.1.1.1.0 (inr (inr (inr (inr (inr (inr (inl refl))))))), (all.1.1.1.1.1.1.1.0 (inr (inr (inr (inr (inr (inr (inr (inl refl)))))))), tt))))))))))
 
 module _ {S : Type 0} (g : Ghosts S) (conn : Held S) (shelf : SqlView S) where
   module _ (new : Held S) (is : shelf.conn ≡ new) (none : shelf.counts ≡ no_writes) (office : IsOffice (state g new))

@@ -1,88 +1,87 @@
--- The queries of all rows of a table.
-use Rattle.std.proofs.Common.{◌≡◌, Bor, ℕ, List, [], ◌∷◌, filter, length, codes, refl, sym, ap, subst, ◌∙◌, arith}
+-- The stored version and its statements, and the queries of all rows of a table.
+use Rattle.std.proofs.Common.{◌≡◌, Bor, ℕ, List, [], ◌∷◌, filter, length, codes, refl, sym, ap, subst, ◌∙◌, arith, ◌≢◌, cond, Option, Some, IfSome, option_map, pos}
+use Rattle.std.specs.List.{AllByRecursion}
 use Rattle.std.proofs.lemmas.List.Sorted.{length_permutation}
 use Rattle.std.proofs.lemmas.List.{length-map}
 use Rattle.sqlite.specs.Command.{Command}
-use Rattle.sqlite.specs.Command.TheVariants.{Select}
+use Rattle.sqlite.specs.Command.TheVariants.{Select, Insert, Delete}
 use Rattle.sqlite.specs.Query.{Join, inner}
 use Rattle.sqlite.specs.Effect as effect
 use Rattle.sqlite.specs.Effect.{Database}
 use Rattle.sqlite.specs.Listing.{understood}
 use Rattle.sqlite.specs.Order.{Row}
 use Rattle.sqlite.specs.Program.{overlay}
-use Rattle.sqlite.specs.declared.types.Value.TheVariants.{Null}
+use Rattle.sqlite.specs.declared.types.Value.TheVariants.{Null, Int}
 use Rattle.sqlite_tied.specs.Compute.{everything}
 use Rattle.office_tables_sql.specs.Layout as layout
 use Rattle.office_tables_shelf.specs.Content.{no_content}
-use Rattle.office_tables_sql.specs.Stored.{rows_in, content_of}
+use Rattle.office_tables_sql.specs.Stored.{rows_in, content_of, cells, rows_of, content_now}
 use Rattle.sqlite.specs.Tree.{Trees}
-use Rattle.office_tables_open.specs.Version.{AreEmpty, ListsRows}
-use Rattle.office_tables_sql.specs.Calls.{IsQuery, Reads}
-use Rattle.office_tables_sql.proofs.QueryLemmas.{answers}
+use Rattle.office_tables_open.specs.Version.{AreEmpty, IsListing, ListsRows, stored_trees, version_in, current_version}
+use Rattle.office_tables_sql.specs.Calls.{IsQuery, Reads, IsReady, Ran}
+use Rattle.office_tables_sql.proofs.QueryLemmas.{answers, IsRead, IsWrite, AreShaped, found_by_key, has_width}
+use Rattle.std.specs.Option.{option_to_list}
+use Rattle.std.specs.FinMap.{get, insert, get-insert}
+use Rattle.sqlite.specs.Cast.{cast_row}
+use Rattle.sqlite.specs.Source.{Source}
+use Rattle.sqlite.specs.Source.TheVariants.{Values}
+use Rattle.sqlite.specs.State.{State}
+use Rattle.sqlite.specs.Term.{lit, col}
+use Rattle.sqlite.specs.View.{IsShaped}
+use Rattle.sqlite_trees.specs.declared.store.Shape.TheVariants as shape
+use Rattle.office_tables_shelf.specs.Cells.{number}
+use Rattle.office_tables_shelf.proofs.CellLemmas.{cells_total}
+use Rattle.office_tables_sql.specs.Schema.{office_schema, version_table}
+use Rattle.office_tables_shelf.specs.declared.rows.Table.{Table}
+use Rattle.office_tables_sql.specs.Tables.{schema_at, found_by}
+use Rattle.office_tables_sql.specs.Layout.{office_version}
+use Rattle.office_tables_sql.proofs.StoredLemmas.{get_columns, sound_rowids}
+use Rattle.office_tables_sql.proofs.Casts.{cast_int, cast_null}
+use Rattle.office_tables_sql.proofs.ContentLemmas.{tie_self, put_at, free_rowid}
+use Rattle.office_tables_sql.proofs.WriteLemmas.{Added, adds, IsIdle, wrote}
+use Rattle.office_tables_sql.proofs.RemoveLemmas.{remove_keyed}
+use Rattle.office_tables_sql.proofs.TableLemmas.{each, none_in}
+use Rattle.office_tables_open.specs.declared.version.TheConstants.{FIND as FIND_VERSION, DROP as DROP_VERSION, PUT as PUT_VERSION}
 
-pub lists_intersection : ListsRows (codes "SELECT id FROM intersection") 0
-unfolding understood everything
-lists_intersection = record { shown = 0; names = codes "id" ∷ []; is = refl; low = λ trees. refl }
+-- the text shows all rows of that table, and only reads
+pub record Lists (sql : List ℕ) (tree : ℕ) : Type 0 where
+  pub rows : ListsRows sql tree
+  pub query : IsQuery sql
 
-pub queries_intersection : IsQuery (codes "SELECT id FROM intersection")
-unfolding understood everything
-queries_intersection = record { plain = (refl, refl); unlisted = refl }
+pub is_listing : {sql : List ℕ} {tree : ℕ} → Lists sql tree → IsListing sql
+is_listing {sql} {tree} it = record { tree = tree; lists = it.rows; query = it.query }
 
-pub lists_timing : ListsRows (codes "SELECT inter FROM timing") 1
+pub lists_intersection : Lists (codes "SELECT id FROM intersection") 0
 unfolding understood everything
-lists_timing = record { shown = 1; names = codes "inter" ∷ []; is = refl; low = λ trees. refl }
+lists_intersection = record { rows = record { shown = 0; names = codes "id" ∷ []; is = refl; low = λ trees. refl }; query = record { plain = (refl, refl); unlisted = refl } }
 
-pub queries_timing : IsQuery (codes "SELECT inter FROM timing")
+pub lists_timing : Lists (codes "SELECT inter FROM timing") 1
 unfolding understood everything
-queries_timing = record { plain = (refl, refl); unlisted = refl }
+lists_timing = record { rows = record { shown = 1; names = codes "inter" ∷ []; is = refl; low = λ trees. refl }; query = record { plain = (refl, refl); unlisted = refl } }
 
-pub lists_draft : ListsRows (codes "SELECT inter FROM draft") 3
+pub lists_draft : Lists (codes "SELECT inter FROM draft") 3
 unfolding understood everything
-lists_draft = record { shown = 1; names = codes "inter" ∷ []; is = refl; low = λ trees. refl }
+lists_draft = record { rows = record { shown = 1; names = codes "inter" ∷ []; is = refl; low = λ trees. refl }; query = record { plain = (refl, refl); unlisted = refl } }
 
-pub queries_draft : IsQuery (codes "SELECT inter FROM draft")
+pub lists_inspection : Lists (codes "SELECT inter FROM inspection") 5
 unfolding understood everything
-queries_draft = record { plain = (refl, refl); unlisted = refl }
+lists_inspection = record { rows = record { shown = 1; names = codes "inter" ∷ []; is = refl; low = λ trees. refl }; query = record { plain = (refl, refl); unlisted = refl } }
 
-pub lists_inspection : ListsRows (codes "SELECT inter FROM inspection") 5
+pub lists_work_order : Lists (codes "SELECT inter FROM work_order") 7
 unfolding understood everything
-lists_inspection = record { shown = 1; names = codes "inter" ∷ []; is = refl; low = λ trees. refl }
+lists_work_order = record { rows = record { shown = 1; names = codes "inter" ∷ []; is = refl; low = λ trees. refl }; query = record { plain = (refl, refl); unlisted = refl } }
 
-pub queries_inspection : IsQuery (codes "SELECT inter FROM inspection")
+pub lists_part : Lists (codes "SELECT hand FROM part") 9
 unfolding understood everything
-queries_inspection = record { plain = (refl, refl); unlisted = refl }
+lists_part = record { rows = record { shown = 2; names = codes "hand" ∷ []; is = refl; low = λ trees. refl }; query = record { plain = (refl, refl); unlisted = refl } }
 
-pub lists_work_order : ListsRows (codes "SELECT inter FROM work_order") 7
+pub lists_delivery : Lists (codes "SELECT day FROM delivery") 11
 unfolding understood everything
-lists_work_order = record { shown = 1; names = codes "inter" ∷ []; is = refl; low = λ trees. refl }
+lists_delivery = record { rows = record { shown = 3; names = codes "day" ∷ []; is = refl; low = λ trees. refl }; query = record { plain = (refl, refl); unlisted = refl } }
 
-pub queries_work_order : IsQuery (codes "SELECT inter FROM work_order")
+pub lists_used_part : Lists (codes "SELECT inter FROM used_part") 13
 unfolding understood everything
-queries_work_order = record { plain = (refl, refl); unlisted = refl }
-
-pub lists_part : ListsRows (codes "SELECT hand FROM part") 9
-unfolding understood everything
-lists_part = record { shown = 2; names = codes "hand" ∷ []; is = refl; low = λ trees. refl }
-
-pub queries_part : IsQuery (codes "SELECT hand FROM part")
-unfolding understood everything
-queries_part = record { plain = (refl, refl); unlisted = refl }
-
-pub lists_delivery : ListsRows (codes "SELECT day FROM delivery") 11
-unfolding understood everything
-lists_delivery = record { shown = 3; names = codes "day" ∷ []; is = refl; low = λ trees. refl }
-
-pub queries_delivery : IsQuery (codes "SELECT day FROM delivery")
-unfolding understood everything
-queries_delivery = record { plain = (refl, refl); unlisted = refl }
-
-pub lists_used_part : ListsRows (codes "SELECT inter FROM used_part") 13
-unfolding understood everything
-lists_used_part = record { shown = 1; names = codes "inter" ∷ []; is = refl; low = λ trees. refl }
-
-pub queries_used_part : IsQuery (codes "SELECT inter FROM used_part")
-unfolding understood everything
-queries_used_part = record { plain = (refl, refl); unlisted = refl }
+lists_used_part = record { rows = record { shown = 1; names = codes "inter" ∷ []; is = refl; low = λ trees. refl }; query = record { plain = (refl, refl); unlisted = refl } }
 
 module _ (sql : List ℕ) (tree : ℕ) (it : ListsRows sql tree) where
   abbrev whole : layout.Layout
@@ -123,15 +122,90 @@ same_tree sql m n a b = ap table_of (sym a.is ∙ b.is)
 pub shows_none : (db : Database) (sql : List ℕ) (tree : ℕ) → ListsRows sql tree → db.trees tree ≡ [] → (other : ℕ) → ListsRows sql other → db.trees other ≡ []
 shows_none db sql tree lists none other also = subst (λ t. db.trees t ≡ []) (same_tree sql tree other lists also) none
 
+-- trees that hold the same rows of the eight tables have the same content
+pub same_eight : (a b : Trees) → AllByRecursion (λ t. a t ≡ b t) stored_trees → content_of a ≡ content_of b
+same_eight a b e = λ i. record {
+  intersection = rows_in layout.intersection (e.0 i);
+  timing = rows_in layout.timing (e.1.0 i);
+  draft = rows_in layout.draft (e.1.1.0 i);
+  inspection = rows_in layout.inspection (e.1.1.1.0 i);
+  work_order = rows_in layout.work_order (e.1.1.1.1.0 i);
+  part = rows_in layout.part (e.1.1.1.1.1.0 i);
+  delivery = rows_in layout.delivery (e.1.1.1.1.1.1.0 i);
+  used_part = rows_in layout.used_part (e.1.1.1.1.1.1.1.0 i);
+}
+
 -- tables with no row have no content
 pub empty_content : (trees : Trees) → AreEmpty trees → content_of trees ≡ no_content
-empty_content trees none = λ i. record {
-  intersection = rows_in layout.intersection (none.0 i);
-  timing = rows_in layout.timing (none.1.0 i);
-  draft = rows_in layout.draft (none.1.1.0 i);
-  inspection = rows_in layout.inspection (none.1.1.1.0 i);
-  work_order = rows_in layout.work_order (none.1.1.1.1.0 i);
-  part = rows_in layout.part (none.1.1.1.1.1.0 i);
-  delivery = rows_in layout.delivery (none.1.1.1.1.1.1.0 i);
-  used_part = rows_in layout.used_part (none.1.1.1.1.1.1.1.0 i);
-}
+empty_content trees none = same_eight trees (λ _. []) none
+
+pub find_version_is : IsRead FIND_VERSION.now (Select (record { lets = []; body = found_by office_version office_version.columns }) (codes "version" ∷ []))
+unfolding understood everything
+find_version_is = record { is = refl; query = record { plain = (refl, refl); unlisted = refl } }
+
+pub put_version_is : IsWrite PUT_VERSION.now (Insert 8 (Values (col 0 0 ∷ lit Null ∷ col 0 1 ∷ []) 3))
+unfolding understood everything
+put_version_is = record { is = refl; plain = (refl, refl) }
+
+pub drop_version_is : IsWrite DROP_VERSION.now (Delete 8 (record { lets = []; body = found_by office_version (0 ∷ []) }))
+unfolding understood everything
+drop_version_is = record { is = refl; plain = (refl, refl) }
+
+pub find_version : (db : Database) → AreShaped db.trees office_version → (row : Option Row) → Reads FIND_VERSION.now (Int (pos 1) ∷ []) db (option_to_list row) → option_map cells row ≡ version_in db.trees
+find_version db shaped row reads =
+    let rows = db.trees 15 in
+    ap (option_map cells) (found_by_key office_version tt office_version.columns FIND_VERSION.now _
+    find_version_is.is (Int (pos 1) ∷ []) db rows refl row reads)
+    ∙ sym (get_columns office_version rows (Int (pos 1) ∷ [])
+    (sound_rowids office_version refl rows shaped) refl)
+
+pub version_width : (db : Database) (row : Option Row) → Reads FIND_VERSION.now (Int (pos 1) ∷ []) db (option_to_list row) → IfSome row (λ r. length r ≡ 1)
+version_width db = has_width office_version tt office_version.columns FIND_VERSION.now _
+    find_version_is.is (Int (pos 1) ∷ []) db (db.trees 15) refl
+
+-- ---- what is stored
+
+version_idle : IsIdle office_schema version_table
+version_idle = record { on_change = λ olds new. refl; on_delete = λ olds. refl }
+
+abbrev stored_version : Row
+stored_version = Int (pos 1) ∷ Null ∷ Int (pos 2) ∷ []
+
+abbrev version_source : Source
+version_source = Values (col 0 0 ∷ lit Null ∷ col 0 1 ∷ []) 3
+
+cast_version : cast_row version_table stored_version ≡ stored_version
+cast_version = λ i. cast_int (pos 1) i ∷ cast_null i ∷ cast_int (pos 2) i ∷ []
+
+-- none of the eight tables is that of the version
+apart : (t : Table) → (schema_at t).tree ≢ 15
+apart = each (λ t. (schema_at t).tree ≢ 15) (λ e. cc) (λ e. cc) (λ e. cc) (λ e. cc) (λ e. cc)
+    (λ e. cc) (λ e. cc) (λ e. cc)
+
+pub put_version : (old new : State) (count : ℕ) → IsReady old → Ran PUT_VERSION.now (Int (pos 1) ∷ Int (pos 2) ∷ []) old new count
+    → IsReady new × ((content_now new ≡ content_now old) × (version_in new.now.trees ≡ Some current_version))
+put_version old new count ready did =
+    let params = Int (pos 1) ∷ Int (pos 2) ∷ [] in
+    let rows = old.now.trees 15 in
+    let was : IsShaped shape.Table rows = ready.ordered.1.1.1.1.1.1.1.1.0 in
+    let wrote_it = wrote PUT_VERSION.now _ put_version_is 8 version_table refl params old new count (record { runs = λ w. w; does = λ db out d. d }) ready did in
+    let it = subst (Added version_table refl version_idle version_source params stored_version old.step_limit old.now.trees) (sym wrote_it.trees)
+    (adds version_table refl version_idle version_source params stored_version old.step_limit old.now.trees (λ rows h. h.1) cast_version was wrote_it.written wrote_it.rows) in
+    let at : rows_in layout.office_version (new.now.trees 15) ≡ insert (rows_of layout.office_version old.now.trees) (number (pos 1) ∷ []) current_version =
+    ap (rows_in layout.office_version) it.rows ∙ put_at layout.office_version rows [] stored_version (λ r id there among at_id. absurd among) (free_rowid rows (pos 1) (Null ∷ Int (pos 2) ∷ []) was it.fresh layout.office_version refl) it.fresh in
+    let key = number (pos 1) ∷ [] in (
+      wrote_it.goes_on it.others it.shapes,
+      (
+        none_in old.now.trees new.now.trees 15 it.others apart,
+        ap (λ rows. get rows key) at ∙ get-insert cells_total (rows_of layout.office_version old.now.trees) key current_version key ∙ ap (λ b. cond b (Some current_version) (version_in old.now.trees)) (tie_self key),
+      ),
+    )
+
+pub drop_version : (old new : State) (count : ℕ) → IsReady old → Ran DROP_VERSION.now (Int (pos 1) ∷ []) old new count → IsReady new × (content_now new ≡ content_now old)
+drop_version old new count ready did =
+    let was : IsShaped shape.Table (old.now.trees 15) = ready.ordered.1.1.1.1.1.1.1.1.0 in
+    let it = remove_keyed office_version tt version_table 8 refl (λ trees. refl) version_idle DROP_VERSION.now drop_version_is (Int (pos 1) ∷ []) refl
+    old new count was (sound_rowids office_version refl (old.now.trees 15) was) ready did in (
+      it.0,
+      none_in old.now.trees new.now.trees 15 it.1.others apart,
+    )

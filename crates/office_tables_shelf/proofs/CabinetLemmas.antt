@@ -1,18 +1,17 @@
 -- Trees of the cabinet's records: each stays under its own key, and those of an intersection are listed in order.
-use Rattle.std.proofs.Common.{◌≡◌, ◌⊎◌, inl, inr, ℕ, pos, ◌==◌, true, false, eqb, eqb-true, List, [], ◌∷◌, map, if◌then◌else◌, Option, Some, None, option_map, Ordering, nat_cmp, refl, sym, ap, subst, subst₂, ◌∙◌, arith}
+use Rattle.std.proofs.Common.{◌≡◌, inl, inr, ℕ, pos, List, [], ◌∷◌, map, Option, Some, None, option_map, Ordering, nat_cmp, refl, sym, ap, subst, subst₂, ◌∙◌}
 use Rattle.std.proofs.lemmas.Bool.{cases_Bool}
-use Rattle.std.proofs.lemmas.Bool.Decides.{nat_tests}
 use Rattle.std.proofs.lemmas.Map.Entries.{entries_from_clone}
 use Rattle.std.specs.BTreeMap.{insert_entry, is_at}
 use Rattle.std.specs.Cmp.Lexicographic.{slice_cmp}
 use Rattle.std.specs.FinMap.{get}
-use Rattle.std.specs.FinMap.Entries.{where_key}
 use Rattle.std.specs.List.{AllByRecursion, AllZip}
 use Rattle.std.specs.List.Sorted.{IsStrictlySortedBy}
 use Rattle.std.specs.Map.{keys_of, lookup}
 use Rattle.std.specs.Ordering.{is_eq, match_ordering, ordering_then}
 use Rattle.std.specs.Prelude.{IfSome}
 use Rattle.std.specs.declared.cmp.Ordering.TheVariants.{Less, Equal, Greater}
+use Rattle.cabinet_core.specs.Within.{IsInspectionWithin, IsOrderWithin, IsUsedLineWithin}
 use Rattle.cabinet_core.specs.declared.record.Inspection.{Inspection}
 use Rattle.cabinet_core.specs.declared.record.Order.{Order}
 use Rattle.cabinet_core.specs.declared.record.UsedLine.{UsedLine}
@@ -22,12 +21,13 @@ use Rattle.office_tables_shelf.specs.CabinetRows.{inspection_key, inspection_col
 use Rattle.office_tables_shelf.specs.CabinetReads.{ReadsInspection, ReadsOrder, ReadsUsed, ReadsDelivery}
 use Rattle.office_tables_shelf.specs.Content.{no_content}
 use Rattle.office_tables_shelf.specs.MapCabinet.{inspection_place_key, order_place_key, line_place_key, delivery_place_key, inspection_rows, order_rows, used_rows, delivery_rows, IsInspectionAt, IsOrderAt, IsUsedAt, IsDeliveryAt, AreInspectionsPlaced, AreOrdersPlaced, AreUsedPlaced, AreDeliveriesPlaced}
-use Rattle.office_tables_shelf.specs.Shelf.{is_of, rows_of}
+use Rattle.office_tables_shelf.specs.Shelf.{rows_of}
 use Rattle.office_tables_shelf.specs.declared.place.RecordPlace.{RecordPlace}
 use Rattle.office_tables_shelf.specs.declared.place.LinePlace.{LinePlace}
 use Rattle.office_tables_shelf.specs.declared.place.DeliveryPlace.{DeliveryPlace}
 use Rattle.office_tables_shelf.proofs.CellLemmas.{cells_exact, tied}
-use Rattle.office_tables_shelf.proofs.ListLemmas.{tree_entries}
+pub use Rattle.office_tables_shelf.proofs.PlaceLemmas.{of_number}
+use Rattle.office_tables_shelf.proofs.PlaceLemmas.{under_by, under_listed}
 use Rattle.office_tables_shelf.proofs.TreeLemmas.{ranged_cmp, then_last, number_order, entry_at, get_tree}
 
 -- ---- how places compare, as their cells do
@@ -112,14 +112,13 @@ module _ {K X : Type 0} (R : K → K → Ordering) (exact : (a b : K) → R a b 
   -- what stands at a key in a tree of such records is that of the key
   pub standing_found : (es : List (K × X)) (k : K) (x : X) → AreStanding es → lookup (is_at (R k)) es ≡ Some x → Stands k x
   standing_found [] k x h found = absurd cc
-  standing_found (e ∷ es) k x h found = go (cases_Bool (is_eq (R k e.0))) (standing_found es k x h.1)
-    where
-      go : (is_eq (R k e.0) ≡ true) ⊎ (is_eq (R k e.0) ≡ false) → (lookup (is_at (R k)) es ≡ Some x → Stands k x) → Stands k x
-      go (inl hit) later =
-          let is : Some e.1 ≡ Some x = rw hit at found in
-          let same : e.1 ≡ x = cc in
-          subst₂ Stands (sym (exact k e.0 (tied _ hit))) same h.0
-      go (inr miss) later = later (rw miss at found)
+  standing_found (e ∷ es) k x h found = elim (cases_Bool (is_eq (R k e.0))) [
+    | inl hit ↦
+        let is : Some e.1 ≡ Some x = rw hit at found in
+        let same : e.1 ≡ x = cc in
+        subst₂ Stands (sym (exact k e.0 (tied _ hit))) same h.0
+    | inr miss ↦ standing_found es k x h.1 (rw miss at found)
+  ]
 
 module _ {K X : Type 0} (R : K → K → Ordering) (exact : (a b : K) → R a b ≡ Equal → a ≡ b) (Stands : K → X → Type 0) (key : K → List Cell) (columns : X → List Cell) (order : (a b : K) → cells_cmp (key a) (key b) ≡ R a b) where
   -- what a tree of such records has at a place are the cells of the place's own record
@@ -142,22 +141,26 @@ pub reads_inspection : (es : List (RecordPlace × Inspection)) (place : RecordPl
     → ReadsInspection (record no_content { inspection = inspection_rows es }) place.inter place.number found
 reads_inspection es place found placed here =
     let stands = stands_under record_cmp record_exact IsInspectionAt inspection_place_key inspection_columns inspection_order es place found placed here in
-    record { stored = stands.0; number = stands.1 }
+    let named = both_of (λ i. i.number ≡ place.number) IsInspectionWithin found stands.1 in
+    record { stored = stands.0; number = named.0 }
 
 -- an order
 pub reads_order : (es : List (RecordPlace × Order)) (place : RecordPlace) (found : Option Order) → AreOrdersPlaced es → entry_at record_cmp order_place_key order_columns es place ≡ found
     → ReadsOrder (record no_content { work_order = order_rows es }) place.inter place.number found
 reads_order es place found placed here =
     let stands = stands_under record_cmp record_exact IsOrderAt order_place_key order_columns order_order es place found placed here in
-    record { stored = stands.0; number = stands.1 }
+    let named = both_of (λ o. o.number ≡ place.number) IsOrderWithin found stands.1 in
+    record { stored = stands.0; number = named.0 }
 
 -- a used part, under an intersection, an order and a line
 pub reads_used : (es : List (LinePlace × UsedLine)) (place : LinePlace) (found : Option UsedLine) → AreUsedPlaced es → entry_at line_cmp line_place_key used_columns es place ≡ found
     → ReadsUsed (record no_content { used_part = used_rows es }) place.inter place.order place.line found
 reads_used es place found placed here =
     let stands = stands_under line_cmp line_exact IsUsedAt line_place_key used_columns line_order es place found placed here in
-    let named = both_of (λ u. u.order ≡ place.order) (λ u. u.line ≡ place.line) found stands.1 in
-    record { stored = stands.0; of = named.0; number = named.1 }
+    let named = both_of (λ u. u.order ≡ place.order)
+    (λ u. (u.line ≡ place.line) × IsUsedLineWithin u) found stands.1 in
+    let numbered = both_of (λ u. u.line ≡ place.line) IsUsedLineWithin found named.1 in
+    record { stored = stands.0; of = named.0; number = numbered.0 }
 
 -- a delivery, under a part and a number
 pub reads_delivery : (es : List (DeliveryPlace × Delivery)) (place : DeliveryPlace) (found : Option Delivery) → AreDeliveriesPlaced es → entry_at delivery_cmp delivery_place_key delivery_columns es place ≡ found
@@ -173,37 +176,9 @@ same_clones = entries_from_clone (λ x y. y ≡ x) (λ x y. y ≡ x) (λ x y h. 
 
 -- ---- the records of an intersection
 
-pub of_number : (id n : ℕ) (cells : List Cell) → is_of id (number (pos n) ∷ cells) ≡ (n == id)
-of_number id n cells = ap is_eq (number_order id n) ∙ same id n
-  where
-    same : (m k : ℕ) → is_eq (nat_cmp m k) ≡ eqb k m
-    same m k = grind (arith, nat_tests)
-
-module _ {K X : Type 0} (inter : K → ℕ) where
-  -- the records of the entries of an intersection, in their order
-  abbrev pub records_under : ℕ → List (K × X) → List X
-  records_under id [] = []
-  records_under id (e ∷ es) = if inter e.0 == id then e.1 ∷ records_under id es else records_under id es
-
-  module _ (R : K → K → Ordering) (Stands : K → X → Type 0) (key : K → List Cell) (columns : X → List Cell) (shown : ℕ → X → List Cell × List Cell)
-      (order : (a b : K) → cells_cmp (key a) (key b) ≡ R a b)
-      (begins : (id : ℕ) (k : K) → is_of id (key k) ≡ (inter k == id))
-      (shows : (e : K × X) → Stands e.0 e.1 → shown (inter e.0) e.1 ≡ (key e.0, columns e.1)) where
-    abbrev cells_in : K × X → List Cell × List Cell
-    cells_in e = (key e.0, columns e.1)
-
-    under_where : (id : ℕ) (es : List (K × X)) → AllByRecursion (λ e. Stands e.0 e.1) es → map (shown id) (records_under id es) ≡ where_key cells_cmp (is_of id) (map cells_in es)
-    under_where id [] h = refl
-    under_where id (e ∷ es) h = go (cases_Bool (inter e.0 == id)) (under_where id es h.1)
-      where
-        go : ((inter e.0 == id) ≡ true) ⊎ ((inter e.0 == id) ≡ false) → map (shown id) (records_under id es) ≡ where_key cells_cmp (is_of id) (map cells_in es) → map (shown id) (records_under id (e ∷ es)) ≡ where_key cells_cmp (is_of id) (map cells_in (e ∷ es))
-        go (inl hit) rest =
-            let here : shown id e.1 ≡ cells_in e = subst (λ n. shown n e.1 ≡ cells_in e) (eqb-true (inter e.0) id hit) (shows e h.0) in
-            rw (begins id e.0, hit) (λ i. here i ∷ rest i)
-        go (inr miss) rest = rw (begins id e.0, miss) rest
-
-    pub records_listed : (id : ℕ) (es : List (K × X)) → IsStrictlySortedBy R (keys_of es) → AllByRecursion (λ e. Stands e.0 e.1) es → map (shown id) (records_under id es) ≡ rows_of id (tree_rows key columns es)
-    records_listed id es sorted h = under_where id es h ∙ ap (where_key cells_cmp (is_of id)) (sym (tree_entries R key columns order es sorted))
+-- the records of the entries of an intersection, in their order
+abbrev pub records_under : {K X : Type 0} → (K → ℕ) → ℕ → List (K × X) → List X
+records_under inter = under_by inter (λ e. e.1)
 
 abbrev pub record_inter : RecordPlace → ℕ
 record_inter place = place.inter
@@ -213,15 +188,15 @@ line_inter place = place.inter
 
 pub inspections_listed : (id : ℕ) (es : List (RecordPlace × Inspection)) → IsStrictlySortedBy record_cmp (keys_of es) → AreInspectionsPlaced es
     → map (λ inspection. (inspection_key id inspection.number, inspection_columns inspection)) (records_under record_inter id es) ≡ rows_of id (inspection_rows es)
-inspections_listed = records_listed record_inter record_cmp IsInspectionAt inspection_place_key inspection_columns (λ id inspection. (inspection_key id inspection.number, inspection_columns inspection))
-    inspection_order (λ id place. of_number id place.inter (number (pos place.number) ∷ [])) (λ e here i. (inspection_key e.0.inter (here i), inspection_columns e.1))
+inspections_listed = under_listed record_inter (λ e. e.1) record_cmp IsInspectionAt inspection_place_key inspection_columns (λ id inspection. (inspection_key id inspection.number, inspection_columns inspection))
+    inspection_order (λ id place. of_number id place.inter []) (λ e here i. (inspection_key e.0.inter (here.0 i), inspection_columns e.1))
 
 pub orders_listed : (id : ℕ) (es : List (RecordPlace × Order)) → IsStrictlySortedBy record_cmp (keys_of es) → AreOrdersPlaced es
     → map (λ order. (order_key id order.number, order_columns order)) (records_under record_inter id es) ≡ rows_of id (order_rows es)
-orders_listed = records_listed record_inter record_cmp IsOrderAt order_place_key order_columns (λ id order. (order_key id order.number, order_columns order))
-    order_order (λ id place. of_number id place.inter (number (pos place.number) ∷ [])) (λ e here i. (order_key e.0.inter (here i), order_columns e.1))
+orders_listed = under_listed record_inter (λ e. e.1) record_cmp IsOrderAt order_place_key order_columns (λ id order. (order_key id order.number, order_columns order))
+    order_order (λ id place. of_number id place.inter []) (λ e here i. (order_key e.0.inter (here.0 i), order_columns e.1))
 
 pub used_listed : (id : ℕ) (es : List (LinePlace × UsedLine)) → IsStrictlySortedBy line_cmp (keys_of es) → AreUsedPlaced es
     → map (λ used. (used_key id used.order used.line, used_columns used)) (records_under line_inter id es) ≡ rows_of id (used_rows es)
-used_listed = records_listed line_inter line_cmp IsUsedAt line_place_key used_columns (λ id used. (used_key id used.order used.line, used_columns used))
-    line_order (λ id place. of_number id place.inter (number (pos place.order) ∷ number (pos place.line) ∷ [])) (λ e here i. (used_key e.0.inter (here.0 i) (here.1 i), used_columns e.1))
+used_listed = under_listed line_inter (λ e. e.1) line_cmp IsUsedAt line_place_key used_columns (λ id used. (used_key id used.order used.line, used_columns used))
+    line_order (λ id place. of_number id place.inter []) (λ e here i. (used_key e.0.inter (here.0 i) (here.1.0 i), used_columns e.1))

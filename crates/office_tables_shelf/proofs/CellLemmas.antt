@@ -31,9 +31,9 @@ cells_exact = slice_cmp-IsAntisymmetric cell_exact
 
 -- ---- what stands under a key
 
-mapped : {X Y : Type 0} (f : X → Y) (b : Bool) (x : X) (o : Option X) → cond b (Some (f x)) (option_map f o) ≡ option_map f (cond b (Some x) o)
-mapped f true x o = refl
-mapped f false x o = refl
+pub mapped : {X Y : Type 0} (f : X → Y) (b : Bool) (o p : Option X) → option_map f (cond b o p) ≡ cond b (option_map f o) (option_map f p)
+mapped f true o p = refl
+mapped f false o p = refl
 
 module _ {X : Type 0} (key columns : X → List Cell) where
   -- the first of a list at a key, and its other cells
@@ -45,7 +45,7 @@ module _ {X : Type 0} (key columns : X → List Cell) where
 
   pub find_entry : (xs : List X) (q : List Cell) → finite.find cells_cmp q (map {B = List Cell × List Cell} (λ (x : X). (key x, columns x)) xs) ≡ first_under xs q
   find_entry [] q = refl
-  find_entry (x ∷ xs) q = ap (cond (is_under q x) (Some (columns x))) (find_entry xs q) ∙ mapped columns (is_under q x) x (find (is_under q) xs)
+  find_entry (x ∷ xs) q = ap (cond (is_under q x) (Some (columns x))) (find_entry xs q) ∙ sym (mapped columns (is_under q x) (Some x) (find (is_under q) xs))
 
   pub get_by : (xs : List X) (q : List Cell) → get (rows_by key columns xs) q ≡ first_under xs q
   get_by xs q = get-from_entries cells_total (map {B = List Cell × List Cell} (λ (x : X). (key x, columns x)) xs) q ∙ find_entry xs q

@@ -1,5 +1,5 @@
 -- What stands at a key, told from the list of the rows of an intersection.
-use Rattle.std.proofs.Common.{◌≡◌, ◌⊎◌, inl, inr, ℕ, pos, Bool, true, false, List, [], ◌∷◌, map, find, cond, Option, None, Some, option_map, T, refl, sym, ap, subst, ◌∙◌}
+use Rattle.std.proofs.Common.{◌≡◌, inl, inr, ℕ, pos, true, false, List, [], ◌∷◌, map, find, cond, Option, None, Some, option_map, T, refl, sym, ap, subst, ◌∙◌}
 use Rattle.std.proofs.lemmas.Bool.{cases_Bool}
 use Rattle.std.specs.Option.{option_or}
 use Rattle.std.specs.Cmp.{tied_itself}
@@ -24,7 +24,7 @@ use Rattle.office_tables_shelf.specs.Content.{Content}
 use Rattle.office_tables_shelf.specs.Rows.{timing_key, timing_columns, draft_columns}
 use Rattle.office_tables_shelf.specs.StandFor.{said_columns}
 use Rattle.office_tables_shelf.specs.Shelf.{is_of, rows_of, ListsTiming, ListsDraft}
-use Rattle.office_tables_shelf.proofs.CellLemmas.{cells_exact, cell_total, is_under, first_under, find_entry, tied}
+use Rattle.office_tables_shelf.proofs.CellLemmas.{cells_exact, cell_total, is_under, first_under, find_entry, mapped, tied}
 use Rattle.office_tables_shelf.proofs.ListLemmas.{parts, less}
 use Rattle.office_tables_shelf.proofs.TreeLemmas.{timing_order, timing_ties}
 
@@ -38,7 +38,7 @@ first_at key xs q = find (λ x. eq_by_cmp key_cmp q (key x)) xs
 abbrev pub row_in : List Row → Key → Option Row
 row_in = first_at key_of
 
-of_itself : (id : ℕ) (key : Key) → is_of id (timing_key id key) ≡ true
+pub of_itself : (id : ℕ) (key : Key) → is_of id (timing_key id key) ≡ true
 of_itself id key = ap is_eq (tied_itself cell_total (number (pos id)))
 
 module _ {X : Type 0} (key : X → Key) (columns : X → List Cell) (id : ℕ) where
@@ -51,13 +51,9 @@ module _ {X : Type 0} (key : X → Key) (columns : X → List Cell) (id : ℕ) w
   first_same : (xs : List X) (q : Key) → first_under cells_at columns xs (timing_key id q) ≡ option_map columns (first_at key xs q)
   first_same [] q = refl
   first_same (x ∷ xs) q =
-      here (is_under cells_at columns (timing_key id q) x) x (find (is_under cells_at columns (timing_key id q)) xs)
+      mapped columns (is_under cells_at columns (timing_key id q) x) (Some x) (find (is_under cells_at columns (timing_key id q)) xs)
       ∙ (λ i. cond (timing_ties id q (key x) i) (Some (columns x)) (first_same xs q i))
-      ∙ sym (here (eq_by_cmp key_cmp q (key x)) x (first_at key xs q))
-    where
-      here : (b : Bool) (y : X) (o : Option X) → option_map columns (cond b (Some y) o) ≡ cond b (Some (columns y)) (option_map columns o)
-      here true y o = refl
-      here false y o = refl
+      ∙ sym (mapped columns (eq_by_cmp key_cmp q (key x)) (Some x) (first_at key xs q))
 
   -- what a table has at a key is what the list of its rows has
   pub get_listed : (rows : Rows) (xs : List X) → map placed xs ≡ rows_of id rows → (q : Key) → get rows (timing_key id q) ≡ option_map columns (first_at key xs q)
@@ -98,12 +94,10 @@ puts rows = map Put rows
 
 at_put : (set_before : set.Rows) (row : Row) (rows : List Row) (key : Key) → AllByRecursion (λ k. key_cmp (key_of row) k ≡ Less) (map key_of rows)
     → option_or (row_in rows key) (cond (eq_by_cmp key_cmp key (key_of row)) (Some row) (get set_before key)) ≡ option_or (row_in (row ∷ rows) key) (get set_before key)
-at_put before row rows key above = go (cases_Bool (eq_by_cmp key_cmp key (key_of row)))
-  where
-    go : (eq_by_cmp key_cmp key (key_of row) ≡ true) ⊎ (eq_by_cmp key_cmp key (key_of row) ≡ false)
-        → option_or (row_in rows key) (cond (eq_by_cmp key_cmp key (key_of row)) (Some row) (get before key)) ≡ option_or (row_in (row ∷ rows) key) (get before key)
-    go (inl hit) = rw (hit, none_above key_of timing_columns 0 row rows key above (tied _ hit))
-    go (inr miss) = rw miss
+at_put before row rows key above = elim (cases_Bool (eq_by_cmp key_cmp key (key_of row))) [
+  | inl hit ↦ rw (hit, none_above key_of timing_columns 0 row rows key above (tied _ hit))
+  | inr miss ↦ rw miss
+]
 
 after_puts : (before : set.Rows) (rows : List Row) (key : Key) → IsStrictlySortedBy key_cmp (map key_of rows) → get (set.after_changes before (puts rows)) key ≡ option_or (row_in rows key) (get before key)
 unfolding IsStrictlySortedBy
@@ -154,13 +148,12 @@ pub row_at_first : (changes : List Change) → IsStrictlySortedBy key_cmp (map c
     → (key : Key) → row_at changes key ≡ any_said (first_at changed_key changes key)
 unfolding IsStrictlySortedBy
 row_at_first [] rise key = refl
-row_at_first (change ∷ changes) rise key = go (cases_Bool (eq_by_cmp key_cmp key (changed_key change))) (row_at_first changes rise.1 key)
-  where
-    go : (eq_by_cmp key_cmp key (changed_key change) ≡ true) ⊎ (eq_by_cmp key_cmp key (changed_key change) ≡ false)
-        → row_at changes key ≡ any_said (first_at changed_key changes key)
-        → row_at (change ∷ changes) key ≡ any_said (first_at changed_key (change ∷ changes) key)
-    go (inl hit) later = rw (later, hit, none_above changed_key draft_columns 0 change changes key rise.0 (tied _ hit))
-    go (inr miss) later = rw (miss, later) (alone (any_said (first_at changed_key changes key)))
+row_at_first (change ∷ changes) rise key =
+    let later = row_at_first changes rise.1 key in
+    elim (cases_Bool (eq_by_cmp key_cmp key (changed_key change))) [
+      | inl hit ↦ rw (later, hit, none_above changed_key draft_columns 0 change changes key rise.0 (tied _ hit))
+      | inr miss ↦ rw (miss, later) (alone (any_said (first_at changed_key changes key)))
+    ]
 
 stored_said : (o : Option Change) → option_map draft_columns o ≡ said_columns (any_said o)
 stored_said None = refl

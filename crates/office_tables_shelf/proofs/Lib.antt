@@ -2,10 +2,10 @@ pub mod CellLemmas
 pub mod TreeLemmas
 pub mod ListLemmas
 pub mod PlaceLemmas
+pub mod RangeLemmas
 pub mod CabinetLemmas
 pub mod KeyLemmas
 pub mod RowLemmas
-pub mod CountLemmas
 pub mod KeptLemmas
 pub mod OverdueLemmas
 pub mod StoredMaps

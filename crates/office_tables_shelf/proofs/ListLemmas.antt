@@ -1,18 +1,19 @@
 -- A list in key order of the rows that pass a test of their keys is the list of the map's entries that pass it.
 use Rattle.std.proofs.Common.{◌≡◌, ◌⊎◌, inl, inr, ℕ, ◌+◌, suc, Bool, true, false, ◌&&◌, List, [], ◌∷◌, map, filter, find, cond, Option, None, Some, option_map, Ordering, Less, Equal, Greater, T, refl, sym, ap, subst, subst₂, ◌∙◌, arith, true≢false, slice_index_or}
-use Rattle.std.proofs.Common.{◌++◌}
+use Rattle.std.proofs.Common.{◌++◌, ◌<◌, zero, length, get_or}
 use Rattle.std.proofs.lemmas.Bool.{cases_Bool}
+use Rattle.std.proofs.lemmas.List.{append-nil}
 use Rattle.std.proofs.lemmas.List.Elements.{All-head, All-tail, All-from_recursion}
 use Rattle.std.proofs.lemmas.List.Sorted.{IsPermutation-sym, All-permutation}
-use Rattle.std.specs.Cmp.{alike_right, eq_by_cmp_equiv}
+use Rattle.std.specs.Cmp.{alike_right, eq_by_cmp_equiv, tied_itself}
 use Rattle.std.specs.FinMap as finite
-use Rattle.std.specs.FinMap.{entries, entries_sorted, get-entries, from_entries, from_sorted, entries-from_sorted, get-from_sorted, get-from_entries, same_map}
+use Rattle.std.specs.FinMap.{get, entries, entries_sorted, get-entries, retain_keys, get-retain_keys, from_entries, from_sorted, entries-from_sorted, get-from_sorted, get-from_entries, same_map}
 use Rattle.std.specs.FinMap.Entries.{is_sorted, below_all, where_key, is_sorted-where_key, find-where_key, same_entries}
 use Rattle.std.specs.List.{All, AllByRecursion, IsDistinct}
 use Rattle.std.specs.List.Sorted.{IsPermutation, IsSorted, IsStrictlySortedBy}
 use Rattle.std.specs.Map.{keys_of}
 use Rattle.std.specs.Ordering.{is_eq, is_lt, is_gt, ordering_reverse, eq_by_cmp}
-use Rattle.office_tables_shelf.specs.Cells.{Cell, rows_by, tree_rows, cells_cmp}
+use Rattle.office_tables_shelf.specs.Cells.{Cell, Rows, rows_by, tree_rows, cells_cmp}
 use Rattle.office_tables_shelf.proofs.CellLemmas.{cells_total, cells_exact, is_under, find_entry, get_by, tied}
 
 -- ---- elements of a list
@@ -22,7 +23,7 @@ abbrev pub IsIn : {X : Type 0} → List X → X → Type 0
 IsIn [] x = ⊥
 IsIn (y ∷ ys) x = (x ≡ y) ⊎ IsIn ys x
 
-all_in : {X : Type 0} (P : X → Type 0) (xs : List X) (x : X) → All P xs → IsIn xs x → P x
+pub all_in : {X : Type 0} (P : X → Type 0) (xs : List X) (x : X) → All P xs → IsIn xs x → P x
 all_in P [] x all h = absurd h
 all_in P (y ∷ xs) x all (inl same) = subst P (sym same) (All-head P y xs all)
 all_in P (y ∷ xs) x all (inr more) = all_in P xs x (All-tail P y xs all) more
@@ -43,7 +44,23 @@ pub all_more : {X : Type 0} (P : X → Type 0) (xs : List X) (x : X) → AllByRe
 all_more P [] x all one = (one, tt)
 all_more P (y ∷ xs) x all one = (all.0, all_more P xs x all.1 one)
 
+pub in_index : {X : Type 0} (xs : List X) (k : ℕ) (d : X) → k < length xs → IsIn xs (get_or xs k d)
+in_index [] k d h = absurd (omega arith)
+in_index (x ∷ xs) zero d h = inl refl
+in_index (x ∷ xs) (suc k) d h = inr (in_index xs k d (omega arith))
+
+-- what was taken of the entries so far is that of all of them, where none is left
+pub all_taken : {E Y : Type 0} (f : List E → List Y) (found : List Y) (left es : List E)
+    → f [] ≡ [] → left ≡ [] → found ++ f left ≡ f es → found ≡ f es
+all_taken f found left es none ended so_far =
+    sym (append-nil found) ∙ ap (λ ys. found ++ ys) (sym (ap f ended ∙ none)) ∙ so_far
+
 -- ---- a list in key order
+
+-- all entries pass no test
+pub where_all : {X : Type 0} (es : List (List Cell × X)) → where_key cells_cmp (λ _. true) es ≡ es
+where_all [] = refl
+where_all (e ∷ es) = ap (λ xs. e ∷ xs) (where_all es)
 
 pub parts : (a b : Bool) → T (a && b) → T a × T b
 parts true b h = (tt, h)
@@ -55,27 +72,27 @@ less Equal h = absurd h
 less Greater h = absurd h
 
 module _ {X : Type 0} (p : X → Bool) where
-  found_has : (xs : List X) (x : X) → find p xs ≡ Some x → IsIn xs x × (p x ≡ true)
+  pub found_has : (xs : List X) (x : X) → find p xs ≡ Some x → IsIn xs x × (p x ≡ true)
   found_has [] x h = absurd (let e = h in cc)
-  found_has (y ∷ xs) x h = go (cases_Bool (p y)) (found_has xs x)
-    where
-      go : (p y ≡ true) ⊎ (p y ≡ false) → (find p xs ≡ Some x → IsIn xs x × (p x ≡ true)) → IsIn (y ∷ xs) x × (p x ≡ true)
-      go (inl hit) later =
-          let is : Some y ≡ Some x = rw hit at h in
-          let same : y ≡ x = cc in
-          (inl (sym same), subst (λ z. p z ≡ true) same hit)
-      go (inr miss) later = let there = later (rw miss at h) in (inr there.0, there.1)
+  found_has (y ∷ xs) x h = elim (cases_Bool (p y)) [
+    | inl hit ↦
+        let is : Some y ≡ Some x = rw hit at h in
+        let same : y ≡ x = cc in
+        (inl (sym same), subst (λ z. p z ≡ true) same hit)
+    | inr miss ↦ let there = found_has xs x (rw miss at h) in (inr there.0, there.1)
+  ]
 
   none_has : (xs : List X) (x : X) → find p xs ≡ None → IsIn xs x → p x ≡ false
   none_has [] x h there = absurd there
-  none_has (y ∷ xs) x h there = go (cases_Bool (p y)) there (none_has xs x)
-    where
-      go : (p y ≡ true) ⊎ (p y ≡ false) → IsIn (y ∷ xs) x → (find p xs ≡ None → IsIn xs x → p x ≡ false) → p x ≡ false
-      go (inl hit) at later = absurd (let is : Some y ≡ None = rw hit at h in cc)
-      go (inr miss) (inl same) later = ap p same ∙ miss
-      go (inr miss) (inr more) later = later (rw miss at h) more
+  none_has (y ∷ xs) x h there = elim (cases_Bool (p y)) [
+    | inl hit ↦ absurd (let is : Some y ≡ None = rw hit at h in cc)
+    | inr miss ↦ elim there [
+      | inl same ↦ ap p same ∙ miss
+      | inr more ↦ none_has xs x (rw miss at h) more
+    ]
+  ]
 
-  no_find : (xs : List X) → ((x : X) → IsIn xs x → p x ≡ false) → find p xs ≡ None
+  pub no_find : (xs : List X) → ((x : X) → IsIn xs x → p x ≡ false) → find p xs ≡ None
   no_find [] none = refl
   no_find (x ∷ xs) none = rw (none x (inl refl), no_find xs (λ y h. none y (inr h)))
 
@@ -89,7 +106,7 @@ module _ {X : Type 0} (key columns : X → List Cell) where
   below_has k (y ∷ ys) x below (inr more) = below_has k ys x (parts _ _ below).1 more
 
   -- in a list in order, a row is the first under its own key
-  sorted_found : (ys : List X) (x : X) (q : List Cell) → T (is_sorted cells_cmp (map entry ys)) → IsIn ys x → is_under key columns q x ≡ true → find (is_under key columns q) ys ≡ Some x
+  pub sorted_found : (ys : List X) (x : X) (q : List Cell) → T (is_sorted cells_cmp (map entry ys)) → IsIn ys x → is_under key columns q x ≡ true → find (is_under key columns q) ys ≡ Some x
   sorted_found [] x q sorted there hit = absurd there
   sorted_found (y ∷ ys) x q sorted (inl same) hit =
       let here : is_under key columns q y ≡ true = subst (λ (z : X). is_under key columns q z ≡ true) same hit in
@@ -99,7 +116,7 @@ module _ {X : Type 0} (key columns : X → List Cell) where
       let apart : is_under key columns q y ≡ false = (eq_by_cmp_equiv cells_total).symm q (key y) ∙ ap is_eq (alike_right cells_total q (key x) (key y) (tied _ hit) ∙ below) in
       rw apart (sorted_found ys x q (parts _ _ sorted).1 more hit)
 
-  entries_filter : (test : List Cell → Bool) (xs : List X) → where_key cells_cmp test (map entry xs) ≡ map entry (filter (λ x. test (key x)) xs)
+  pub entries_filter : (test : List Cell → Bool) (xs : List X) → where_key cells_cmp test (map entry xs) ≡ map entry (filter (λ x. test (key x)) xs)
   entries_filter test [] = refl
   entries_filter test (x ∷ xs) =
       elim (test (key x)) as (λ b. cond b (entry x ∷ where_key cells_cmp test (map entry xs)) (where_key cells_cmp test (map entry xs)) ≡ map entry (cond b (x ∷ filter (λ z. test (key z)) xs) (filter (λ z. test (key z)) xs))) [
@@ -116,6 +133,43 @@ module _ {X : Type 0} (key columns : X → List Cell) where
       go (Some x) is =
           let found = found_has (is_under key columns q) zs x is in
           sorted_found ys x q sorted (permuted ys zs (IsPermutation-sym zs ys same) x found.0) found.1 ∙ sym is
+
+  -- the map of the rows that pass a test of their keys
+  pub rows_kept : (test : List Cell → Bool) (xs : List X)
+      → rows_by key columns (filter (λ x. test (key x)) xs)
+      ≡ retain_keys (rows_by key columns xs) test
+  rows_kept test xs = same_map cells_total cells_exact _ _ (λ q.
+      let kept = filter (λ x. test (key x)) xs in
+      let alike : (k : List Cell) → cells_cmp q k ≡ Equal → test k ≡ test q = λ k tie.
+      ap test (sym (cells_exact q k tie)) in
+      get_by key columns kept q
+      ∙ sym (find_entry key columns kept q)
+      ∙ ap (finite.find cells_cmp q) (sym (entries_filter test xs))
+      ∙ find-where_key cells_cmp test q alike (map entry xs)
+      ∙ ap (λ o. cond (test q) o None) (find_entry key columns xs q ∙ sym (get_by key columns xs q))
+      ∙ sym (get-retain_keys (rows_by key columns xs) test q alike))
+
+  -- what is in a list of the entries that pass a test stands in the map, under its key
+  pub stands : (test : List Cell → Bool) (rows : Rows) (xs : List X)
+      → map entry xs ≡ where_key cells_cmp test (entries rows) → (x : X) → IsIn xs x
+      → (test (key x) ≡ true) × (get rows (key x) ≡ Some (columns x))
+  stands test rows xs is x there =
+      let q = key x in
+      let sorted = subst (λ es. T (is_sorted cells_cmp es)) (sym is)
+      (is_sorted-where_key cells_cmp test (entries rows) (entries_sorted rows)) in
+      let tie : is_under key columns q x ≡ true = ap is_eq (tied_itself cells_total q) in
+      let found = find_entry key columns xs q
+      ∙ ap (option_map columns) (sorted_found xs x q sorted there tie) in
+      let alike : (k : List Cell) → cells_cmp q k ≡ Equal → test k ≡ test q = λ k same.
+      ap test (sym (cells_exact q k same)) in
+      chosen (test q) (get rows q) (columns x) (ap (λ o. cond (test q) o None) (get-entries rows q)
+      ∙ sym (find-where_key cells_cmp test q alike (entries rows))
+      ∙ ap (finite.find cells_cmp q) (sym is) ∙ found)
+    where
+      chosen : (b : Bool) (o : Option (List Cell)) (cells : List Cell) → cond b o None ≡ Some cells
+          → (b ≡ true) × (o ≡ Some cells)
+      chosen true o cells h = (refl, h)
+      chosen false o cells h = absurd cc
 
 -- The rows of a list that pass a test of their keys, seen by what a query shows of each, and put in the order of their keys.
 module _ {X Y : Type 0} (key columns : X → List Cell) (view : X → Y) (key_shown columns_shown : Y → List Cell) (keys : (x : X) → key_shown (view x) ≡ key x) (others : (x : X) → columns_shown (view x) ≡ columns x) where
@@ -134,14 +188,6 @@ module _ {X Y : Type 0} (key columns : X → List Cell) (view : X → Y) (key_sh
       ∙ find-where_key cells_cmp test q alike (map (entry key columns) xs)
       ∙ ap (λ o. cond (test q) o None) (find_entry key columns xs q ∙ sym (get_by key columns xs q) ∙ get-entries rows q)
       ∙ sym (find-where_key cells_cmp test q alike (entries rows)))
-
--- the rows in key order, all of them, are the entries, so they are counted by them
-module _ {X : Type 0} (key columns : X → List Cell) where
-  pub all_listed : (xs ys : List X) → IsPermutation xs ys → T (is_sorted cells_cmp (map (entry key columns) ys)) → map (entry key columns) ys ≡ entries (rows_by key columns xs)
-  all_listed xs ys same sorted =
-      let rows = rows_by key columns xs in
-      same_entries cells_cmp cells_total cells_exact _ _ sorted (entries_sorted rows) (λ q.
-      find_sorted key columns xs ys same sorted q ∙ find_entry key columns xs q ∙ sym (get_by key columns xs q) ∙ get-entries rows q)
 
 -- ---- from what ORDER BY gives to keys that strictly rise
 

@@ -1,20 +1,18 @@
 -- Rows that were listed: none of them is damaged, and each stands under its key.
-use Rattle.std.proofs.Common.{◌≡◌, ◌⊎◌, inl, inr, ℕ, zero, suc, ◌<◌, true, false, cond}
-use Rattle.std.proofs.Common.{List, [], ◌∷◌, map, length, get_or, Some, None, is_some}
-use Rattle.std.proofs.Common.{refl, ap, sym, ◌∙◌, arith}
-use Rattle.std.proofs.lemmas.Bool.{cases_Bool}
-use Rattle.std.specs.Cmp.{tied_itself}
+use Rattle.std.proofs.Common.{◌≡◌, ℕ, ◌<◌, true, cond}
+use Rattle.std.proofs.Common.{List, map, find, length, get_or, Option, Some, None, is_some, option_map}
+use Rattle.std.proofs.Common.{refl, ap, subst, sym, ◌∙◌}
+use Rattle.std.proofs.lemmas.List.Elements.{All-from_recursion}
 use Rattle.std.specs.FinMap as finite
 use Rattle.std.specs.FinMap.{get, entries, get-entries}
 use Rattle.std.specs.FinMap.Entries.{find-where_key}
 use Rattle.std.specs.List.{AllByRecursion}
-use Rattle.std.specs.Option.{IsSome}
-use Rattle.std.specs.Ordering.{eq_by_cmp, is_eq}
 use Rattle.cabinet_core.specs.Within.{IsInspectionWithin, IsOrderWithin, IsUsedLineWithin}
 use Rattle.cabinet_core.specs.declared.record.Inspection.{Inspection}
 use Rattle.cabinet_core.specs.declared.record.Order.{Order}
 use Rattle.cabinet_core.specs.declared.record.UsedLine.{UsedLine}
-use Rattle.office_tables_shelf.proofs.CellLemmas.{cells_exact, cells_total, tied}
+use Rattle.office_tables_shelf.proofs.CellLemmas.{cells_exact, find_entry, is_under, tied}
+use Rattle.office_tables_shelf.proofs.ListLemmas.{IsIn, all_in, found_has, in_index, stands, where_all}
 use Rattle.office_tables_shelf.specs.CabinetReads.{HasDamagedInspection, HasDamagedOrder}
 use Rattle.office_tables_shelf.specs.CabinetReads.{HasDamagedPart, HasDamagedUsed, IsPartWithin}
 use Rattle.office_tables_shelf.specs.CabinetReads.{ListsInspections, ListsOrders, ListsParts}
@@ -30,9 +28,6 @@ use Rattle.office_tables_shelf.specs.Shelf.{is_of, rows_of, IsIntersectionWithin
 use Rattle.office_tables_shelf.specs.Shelf.{ListsIntersections}
 use Rattle.office_tables_shelf.specs.declared.rows.IntersectionRow.{IntersectionRow}
 
-same_columns : (a b : List Cell) → Some a ≡ Some b → a ≡ b
-same_columns a b e = cc
-
 -- ---- what stands under a key
 
 module _ {X : Type 0} (key columns : X → List Cell) (Within : X → Type 0) where
@@ -40,26 +35,21 @@ module _ {X : Type 0} (key columns : X → List Cell) (Within : X → Type 0) wh
   entry x = (key x, columns x)
 
   -- what stands under a key is one of the rows
-  pub found_row : (xs : List X) (q cells : List Cell) → AllByRecursion Within xs
+  found_row : (xs : List X) (q cells : List Cell) → AllByRecursion Within xs
       → finite.find cells_cmp q (map entry xs) ≡ Some cells
       → (x : X) × Within x × (q ≡ key x) × (cells ≡ columns x)
-  found_row [] q cells each is = absurd (let f : None ≡ Some cells = is in cc)
-  found_row (x ∷ xs) q cells each is =
-      go (cases_Bool (eq_by_cmp cells_cmp q (key x))) (found_row xs q cells each.1)
+  found_row xs q cells each is =
+      go (find (is_under key columns q) xs) refl (sym (find_entry key columns xs q) ∙ is)
     where
-      go : (eq_by_cmp cells_cmp q (key x) ≡ true) ⊎ (eq_by_cmp cells_cmp q (key x) ≡ false)
-          → (finite.find cells_cmp q (map entry xs) ≡ Some cells
-          → (y : X) × Within y × (q ≡ key y) × (cells ≡ columns y))
-          → (y : X) × Within y × (q ≡ key y) × (cells ≡ columns y)
-      go (inl hit) later = (
-        x,
-        each.0,
-        cells_exact q (key x) (tied _ hit),
-        same_columns _ _ (sym is ∙ ap (λ b. cond b (Some (columns x))
-            (finite.find cells_cmp q (map entry xs))) hit),
-      )
-      go (inr miss) later = later (sym (ap
-          (λ b. cond b (Some (columns x)) (finite.find cells_cmp q (map entry xs))) miss) ∙ is)
+      go : (o : Option X) → find (is_under key columns q) xs ≡ o
+          → option_map columns o ≡ Some cells
+          → (x : X) × Within x × (q ≡ key x) × (cells ≡ columns x)
+      go None at e = absurd cc
+      go (Some x) at e =
+          let there = found_has (is_under key columns q) xs x at in
+          let whole = all_in Within xs x (All-from_recursion Within xs each) there.0 in
+          let same : columns x ≡ cells = cc in
+          (x, whole, cells_exact q (key x) (tied _ there.1), sym same)
 
   -- of the rows of a table, those of the list are all
   pub table_row : (rows : Rows) (xs : List X) (q cells : List Cell) → map entry xs ≡ entries rows
@@ -123,39 +113,12 @@ intersections_whole tables rows lists within damaged =
     damaged.stored in
     damaged.no_row is.0.0 is.1.0 is.0.1 is.1.1 is.2 is.3
 
--- ---- a row of the list stands
-
-module _ {X : Type 0} (key columns : X → List Cell) where
-  abbrev cells_of : X → List Cell × List Cell
-  cells_of x = (key x, columns x)
-
-  is_found : (xs : List X) (i : ℕ) (x : X) → i < length xs → x ≡ get_or xs i x
-      → is_some (finite.find cells_cmp (key x) (map cells_of xs)) ≡ true
-  is_found [] i x low at = absurd (omega arith)
-  is_found (y ∷ xs) zero x low at =
-      let same : eq_by_cmp cells_cmp (key x) (key y) ≡ true =
-      ap (λ z. eq_by_cmp cells_cmp (key x) (key z)) (sym at)
-      ∙ ap is_eq (tied_itself cells_total (key x)) in
-      rw same refl
-  is_found (y ∷ xs) (suc i) x low at =
-      go (cases_Bool (eq_by_cmp cells_cmp (key x) (key y))) (is_found xs i x (omega arith) at)
-    where
-      go : (eq_by_cmp cells_cmp (key x) (key y) ≡ true)
-          ⊎ (eq_by_cmp cells_cmp (key x) (key y) ≡ false)
-          → is_some (finite.find cells_cmp (key x) (map cells_of xs)) ≡ true
-          → is_some (finite.find cells_cmp (key x) (map cells_of (y ∷ xs))) ≡ true
-      go (inl hit) later = rw hit refl
-      go (inr miss) later = rw miss later
-
-  stands : (rows : Rows) (xs : List X) (i : ℕ) (x : X) → map cells_of xs ≡ entries rows
-      → i < length xs → x ≡ get_or xs i x → IsSome (get rows (key x))
-  stands rows xs i x lists low at =
-      ap is_some (get-entries rows (key x) ∙ ap (finite.find cells_cmp (key x)) (sym lists))
-      ∙ is_found xs i x low at
-
 -- there is an intersection for each row of the list
 pub listed_is_there : (tables : Content) (rows : List (ℕ × IntersectionRow)) (i : ℕ)
     (e : ℕ × IntersectionRow) → ListsIntersections tables rows → i < length rows
     → e ≡ get_or rows i e → IsThere tables e.0
-listed_is_there tables =
-    stands (λ e. intersection_key e.0) (λ e. intersection_columns e.1) tables.intersection
+listed_is_there tables rows i e lists low at =
+    let there = subst (IsIn rows) (sym at) (in_index rows i e low) in
+    ap is_some (stands (λ (x : ℕ × IntersectionRow). intersection_key x.0)
+    (λ (x : ℕ × IntersectionRow). intersection_columns x.1) (λ _. true) tables.intersection rows
+    (lists ∙ sym (where_all (entries tables.intersection))) e there).1

@@ -17,8 +17,7 @@ use Rattle.office_tables_shelf.specs.Rows.{intersection_columns, intersection_ke
 use Rattle.office_tables_shelf.specs.Shelf.{IsIntersectionWithin, ListsIntersections}
 use Rattle.office_tables_shelf.specs.declared.rows.IntersectionRow.{IntersectionRow}
 use Rattle.office_tables_shelf.proofs.ListLemmas.{all_more}
-use Rattle.office_tables_shelf.proofs.ListedRows.{inspections_whole, intersections_whole}
-use Rattle.office_tables_shelf.proofs.ListedRows.{table_row}
+use Rattle.office_tables_shelf.proofs.ListedRows.{inspections_whole, intersections_whole, table_row}
 
 -- ---- the latest day
 
@@ -26,13 +25,6 @@ use Rattle.office_tables_shelf.proofs.ListedRows.{table_row}
 abbrev pub latest_with : Option ℕ → Option ℕ → Option ℕ
 latest_with None last = last
 latest_with (Some day) last = Some (greater day last)
-
--- the next day counts before those that are left
-pub latest_shift : (day : ℕ) (last rest : Option ℕ) → latest_with (Some (greater day last)) rest ≡ latest_with last (Some (greater day rest))
-latest_shift day None None = refl
-latest_shift day None (Some d) = refl
-latest_shift day (Some l) None = ap Some (omega arith)
-latest_shift day (Some l) (Some d) = ap Some (omega arith)
 
 pub latest_with_none : (last : Option ℕ) → latest_with last None ≡ last
 latest_with_none None = refl

@@ -1,161 +1,205 @@
--- The cells of a row tell the row: its fields hold no comma, so the body gives them back, and they spell one row.
-use Rattle.std.proofs.Common.{◌≡◌, ℕ, ◌^◌, ◌<◌, Bool, true, false, not, eqb, rules, List, [], ◌∷◌, Option, Some, None, refl, sym, ap, ◌∙◌, arith}
-use Rattle.std.proofs.lemmas.Bool.Decides.{nat_tests}
-use Rattle.std.proofs.lemmas.Fmt.{digits_decimal}
-use Rattle.std.proofs.lemmas.List.Elements.{All-from_recursion}
-use Rattle.std.proofs.lemmas.List.Folds.{list_all-append}
-use Rattle.std.proofs.lemmas.List.Splits.{slice_split_none, slice_split_at}
-use Rattle.std.proofs.lemmas.Str.Parse.{IsNumeralModel, numerals_by_value}
+-- The cells of a row tell the row: no field has a comma, so its text, cut at the commas, gives the
+-- fields back, and these spell one row.
+use Rattle.std.proofs.Common.{◌≡◌, ℕ, zero, suc, ◌^◌, ◌<◌, ◌≤◌, Bool, true, false, eqb}
+use Rattle.std.proofs.Common.{List, [], ◌∷◌, map, Option, Some, None, refl, sym, ap, ◌∙◌, arith}
+use Rattle.std.specs.Prelude.{codes, slice_index, not, ◌&&◌, IfSome, IsTrue}
+use Rattle.std.specs.Char.{is_ascii, is_ascii_digit}
 use Rattle.std.specs.Fmt.{decimal}
-use Rattle.std.specs.List.{All, AllByRecursion, list_all, slice_split, join_with_byte}
-use Rattle.std.specs.Prelude.{IfSome, IsTrue}
-use Rattle.std.specs.Char.{is_ascii_digit}
-use Rattle.std.specs.Str.Parse.{digits_value}
-use Rattle.signal_records.specs.PhaseList.{is_phase, is_distinct, is_phase_list}
-use Rattle.signal_records.specs.Reading.{row_at}
-use Rattle.signal_records.specs.Spelling.{list, flag, ped_fields, spelling}
-use Rattle.signal_records.specs.SplitMode.{mode_code}
-use Rattle.signal_records.specs.Within.{current_limits, IsAnyPedWithin, IsRowWithin, IsChangeWithin}
+use Rattle.std.specs.Str.{IsUtf8}
+use Rattle.std.proofs.lemmas.Str.{IsUtf8-from_ascii}
+use Rattle.std.specs.List.{All, list_all, join_with_byte, slice_split}
+use Rattle.std.proofs.lemmas.Bool.{and_parts, and_from, not-true}
+use Rattle.std.proofs.lemmas.Bool.Decides.{nat_tests}
+use Rattle.std.proofs.lemmas.List.Folds.{list_all-append}
+use Rattle.std.proofs.lemmas.List.Elements.{All-weaker}
+use Rattle.std.proofs.lemmas.List.Splits.{join_with_byte-slice_split, slice_split_at, slice_split_none}
+use Rattle.std.proofs.lemmas.List.Sums.{AllPass-from_list_all, list_all-from_AllPass}
 use Rattle.signal_records.specs.declared.record.Ped.{Ped}
-use Rattle.signal_records.specs.declared.record.Change.{Change}
-use Rattle.signal_records.specs.declared.record.Change.TheVariants.{Put, Remove}
-use Rattle.signal_records.specs.declared.record.Row.{Row}
-use Rattle.signal_records.specs.declared.record.Row.TheVariants as row
+use Rattle.signal_records.specs.declared.record.Phase.{Phase}
 use Rattle.signal_records.specs.declared.record.SplitMode.{SplitMode}
 use Rattle.signal_records.specs.declared.record.SplitMode.TheVariants.{NoRecall, MinimumVehicleRecall, MaximumVehicleRecall, PedestrianRecall, MaximumVehicleAndPedestrianRecall, PhaseOmitted}
-use Rattle.signal_records.proofs.FieldLaws.{same_ok}
-use Rattle.signal_records.proofs.Lists.{and_parts}
+use Rattle.signal_records.specs.declared.record.Row.{Row}
+use Rattle.signal_records.specs.declared.record.Row.TheVariants as row
+use Rattle.signal_records.specs.PhaseList.{is_phase, is_phase_list, is_distinct}
+use Rattle.signal_records.specs.Reading.{is_numeral, row_at}
+use Rattle.signal_records.specs.Spelling.{list, flag, lead_field, ped_fields, phase_front, phase_fields, spelling}
+use Rattle.signal_records.specs.SplitMode.{mode_code}
+use Rattle.signal_records.specs.declared.limits.Limits.{Limits}
+use Rattle.signal_records.specs.declared.number.TheConstants.{PHASES}
+use Rattle.signal_records.specs.Within.{AreLimits, current_limits, most_lead, IsAnyPedWithin, IsPhaseWithin, IsRowWithin}
+use Rattle.signal_records.proofs.FieldLaws.{numeral_decimal, in_range, same_ok}
 use Rattle.signal_records.proofs.RowLaws.{row_only, are_current}
-use Rattle.office_tables_shelf.specs.Rows.{body_in, body_of, timing_columns, left_columns, draft_key, draft_columns}
-use Rattle.office_tables_shelf.proofs.KeyLemmas.{timing_key_tells}
+use Rattle.office_tables_shelf.specs.Rows.{body_in, body_of, timing_columns, left_columns_in, left_columns}
 
--- ---- fields without a comma
-
-abbrev is_comma : ℕ → Bool
+abbrev pub is_comma : ℕ → Bool
 is_comma b = eqb b 44
 
-abbrev is_plain : List ℕ → Bool
-is_plain = list_all (λ b. not (is_comma b))
+-- ASCII, and no comma
+abbrev is_plain : ℕ → Bool
+is_plain b = not (is_comma b) && is_ascii b
 
-digit_plain : (b : ℕ) → is_ascii_digit b ≡ true → not (is_comma b) ≡ true
-digit_plain b h = grind (arith, nat_tests)
+abbrev is_whole : List ℕ → Bool
+is_whole = list_all is_plain
 
-digits_plain : (ds : List ℕ) → list_all is_ascii_digit ds ≡ true → is_plain ds ≡ true
-digits_plain [] h = refl
-digits_plain (d ∷ ds) h =
-    let p = and_parts (is_ascii_digit d) (list_all is_ascii_digit ds) h in
-    rw (digit_plain d p.0, digits_plain ds p.1)
+-- ---- cut and joined
 
-own : IsNumeralModel (λ ds. list_all is_ascii_digit ds ≡ true) (digits_value 10)
-own = numerals_by_value _ (search rules)
+weaker : {X : Type 0} (p q : X → Bool) → ((x : X) → p x ≡ true → q x ≡ true) → (xs : List X)
+    → list_all p xs ≡ true → list_all q xs ≡ true
+weaker p q holds xs h = list_all-from_AllPass q xs
+    (All-weaker (λ x. p x ≡ true) (λ x. q x ≡ true) holds xs (AllPass-from_list_all p xs h))
 
-number_plain : (n : ℕ) → n < 2 ^ 64 → is_plain (decimal n) ≡ true
-number_plain n small = digits_plain (decimal n) (digits_decimal own n small)
+-- what passes with the byte between passes joined
+joined : (p : ℕ → Bool) (c : ℕ) (xs : List (List ℕ)) → p c ≡ true
+    → list_all (list_all p) xs ≡ true → list_all p (join_with_byte c xs) ≡ true
+joined p c [] between h = refl
+joined p c (x ∷ []) between h = (and_parts (list_all p x) true h).0
+joined p c (x ∷ y ∷ xs) between h =
+    let all = and_parts (list_all p x) (list_all (list_all p) (y ∷ xs)) h in
+    list_all-append p x (c ∷ join_with_byte c (y ∷ xs))
+    ∙ and_from _ _ all.0 (and_from _ _ between (joined p c (y ∷ xs) between all.1))
 
-flag_plain : (b : Bool) → is_plain (flag b) ≡ true
-flag_plain true = number_plain 1 (omega arith)
-flag_plain false = number_plain 0 (omega arith)
+no_commas : (bs : List ℕ) → is_whole bs ≡ true → All (λ b. is_comma b ≡ false) bs
+no_commas bs h = All-weaker (λ b. is_plain b ≡ true) (λ b. is_comma b ≡ false)
+    (λ b k. not-true (is_comma b) (and_parts _ _ k).0) bs (AllPass-from_list_all is_plain bs h)
 
-mode_plain : (mode : SplitMode) → is_plain (decimal (mode_code mode)) ≡ true
-mode_plain NoRecall = number_plain 2 (omega arith)
-mode_plain MinimumVehicleRecall = number_plain 3 (omega arith)
-mode_plain MaximumVehicleRecall = number_plain 4 (omega arith)
-mode_plain PedestrianRecall = number_plain 5 (omega arith)
-mode_plain MaximumVehicleAndPedestrianRecall = number_plain 6 (omega arith)
-mode_plain PhaseOmitted = number_plain 7 (omega arith)
+cut_joined : (x : List ℕ) (xs : List (List ℕ)) → list_all is_whole (x ∷ xs) ≡ true → slice_split is_comma (join_with_byte 44 (x ∷ xs)) ≡ x ∷ xs
+cut_joined x [] h = slice_split_none is_comma x (no_commas x (and_parts (is_whole x) true h).0)
+cut_joined x (y ∷ ys) h =
+    let all = and_parts (is_whole x) (list_all is_whole (y ∷ ys)) h in
+    slice_split_at is_comma x 44 (join_with_byte 44 (y ∷ ys)) (no_commas x all.0) refl
+    ∙ ap (λ rest. x ∷ rest) (cut_joined y ys all.1)
 
-phase_small : (last n : ℕ) → last < 2 ^ 64 → is_phase last n ≡ true → n < 2 ^ 64
-phase_small last n small h = grind (arith, nat_tests)
+-- ---- fields
 
-phases_plain : (last : ℕ) (ns : List ℕ) → last < 2 ^ 64 → list_all (is_phase last) ns ≡ true → is_plain (list ns) ≡ true
-phases_plain last [] small h = refl
-phases_plain last (n ∷ []) small h = let p = and_parts (is_phase last n) true h in number_plain n (phase_small last n small p.0)
-phases_plain last (n ∷ m ∷ ns) small h =
-    let p = and_parts (is_phase last n) (list_all (is_phase last) (m ∷ ns)) h in
-    rw (list_all-append (λ b. not (is_comma b)) (decimal n) (32 ∷ list (m ∷ ns)), number_plain n (phase_small last n small p.0), phases_plain last (m ∷ ns) small p.1)
+digit_whole : (b : ℕ) → is_ascii_digit b ≡ true → is_plain b ≡ true
+digit_whole b h = grind (arith, nat_tests)
 
-list_plain : (last : ℕ) (ns : List ℕ) → last < 2 ^ 64 → IsTrue (is_phase_list last ns) → is_plain (list ns) ≡ true
-list_plain last ns small h = phases_plain last ns small (and_parts (list_all (is_phase last) ns) (is_distinct ns) h).0
+numeral_whole : (bs : List ℕ) → is_numeral bs ≡ true → is_whole bs ≡ true
+numeral_whole [] h = refl
+numeral_whole (b ∷ bs) h = weaker is_ascii_digit is_plain digit_whole (b ∷ bs)
+    (and_parts (list_all is_ascii_digit (b ∷ bs)) _ h).0
 
--- ---- the fields of a row
+decimal_whole : (n : ℕ) → n < 2 ^ 64 → is_whole (decimal n) ≡ true
+decimal_whole n small = numeral_whole (decimal n) (numeral_decimal n small)
 
-abbrev ArePlain : List (List ℕ) → Type 0
-ArePlain = AllByRecursion (λ field. is_plain field ≡ true)
+flag_whole : (b : Bool) → is_whole (flag b) ≡ true
+flag_whole true = decimal_whole 1 (omega arith)
+flag_whole false = decimal_whole 0 (omega arith)
 
-ped_plain : (ped : Option Ped) → IsAnyPedWithin true ped → ArePlain (ped_fields true ped)
-ped_plain None within = tt
-ped_plain (Some ped) within =
-    (number_plain ped.walk (omega arith), (number_plain ped.clear (omega arith), (number_plain ped.width (omega arith), (number_plain ped.setback (omega arith), (flag_plain ped.short, (number_plain ped.lead (omega arith), tt))))))
+mode_whole : (m : SplitMode) → is_whole (decimal (mode_code m)) ≡ true
+mode_whole NoRecall = decimal_whole 2 (omega arith)
+mode_whole MinimumVehicleRecall = decimal_whole 3 (omega arith)
+mode_whole MaximumVehicleRecall = decimal_whole 4 (omega arith)
+mode_whole PedestrianRecall = decimal_whole 5 (omega arith)
+mode_whole MaximumVehicleAndPedestrianRecall = decimal_whole 6 (omega arith)
+mode_whole PhaseOmitted = decimal_whole 7 (omega arith)
 
-row_plain : (r : Row) → IsRowWithin current_limits r → ArePlain (spelling current_limits r)
-row_plain (row.Phase p phase) within = (
-  refl,
-  (
-    number_plain p (omega arith),
-    (
-      number_plain phase.ring (omega arith),
-      (
-        number_plain phase.min_green (omega arith),
-        (
-          number_plain phase.passage (omega arith),
-          (number_plain phase.max1 (omega arith), (number_plain phase.yellow (omega arith), (number_plain phase.red (omega arith), (list_plain current_limits.phases phase.mates (omega arith) within.mates, ped_plain phase.ped within.ped)))),
-        ),
-      ),
-    ),
-  ),
-)
-row_plain (row.Seq n ring r) within = (refl, (number_plain n (omega arith), (number_plain ring (omega arith), (list_plain current_limits.phases r.list (omega arith) within.1.1, tt))))
-row_plain (row.Split n p split) within =
-    (refl, (number_plain n (omega arith), (number_plain p (omega arith), (number_plain split.time (omega arith), (mode_plain split.mode, (flag_plain split.coord, tt))))))
-row_plain (row.Pattern n pattern) within =
-    (refl, (number_plain n (omega arith), (number_plain pattern.cycle (omega arith), (number_plain pattern.offset (omega arith), (number_plain pattern.split (omega arith), (number_plain pattern.seq (omega arith), tt))))))
+phases_whole : (last : ℕ) (ns : List ℕ) → last ≤ PHASES → list_all (is_phase last) ns ≡ true → list_all is_whole (map decimal ns) ≡ true
+phases_whole last [] small h = refl
+phases_whole last (n ∷ ns) small h =
+    let p = and_parts (is_phase last n) (list_all (is_phase last) ns) h in
+    let top = (in_range 1 last n p.0).1 in
+    and_from _ _ (decimal_whole n (omega arith)) (phases_whole last ns small p.1)
 
--- ---- joined by commas, and cut again
+list_whole : (last : ℕ) (ns : List ℕ) → last ≤ PHASES → IsTrue (is_phase_list last ns) → is_whole (list ns) ≡ true
+list_whole last ns small h = joined is_plain 32 (map decimal ns) refl (phases_whole last ns small (and_parts (list_all (is_phase last) ns) (is_distinct ns) h).0)
 
-not_comma : (b : ℕ) → not (is_comma b) ≡ true → is_comma b ≡ false
-not_comma b h = grind (arith, nat_tests)
+joined_ascii : (xs : List (List ℕ)) → list_all is_whole xs ≡ true → list_all is_ascii (join_with_byte 44 xs) ≡ true
+joined_ascii xs h = joined is_ascii 44 xs refl (weaker is_whole (list_all is_ascii)
+    (weaker is_plain is_ascii (λ b k. (and_parts (not (is_comma b)) _ k).1)) xs h)
 
-all_plain : (bs : List ℕ) → is_plain bs ≡ true → AllByRecursion (λ b. is_comma b ≡ false) bs
-all_plain [] h = tt
-all_plain (b ∷ bs) h = let p = and_parts (not (is_comma b)) (is_plain bs) h in (not_comma b p.0, all_plain bs p.1)
+-- ---- rows
 
-no_commas : (bs : List ℕ) → is_plain bs ≡ true → All (λ b. is_comma b ≡ false) bs
-no_commas bs h = All-from_recursion (λ b. is_comma b ≡ false) bs (all_plain bs h)
+abbrev are_whole : List (List ℕ) → Bool
+are_whole = list_all is_whole
 
-cut_again : (x : List ℕ) (xs : List (List ℕ)) → ArePlain (x ∷ xs) → slice_split is_comma (join_with_byte 44 (x ∷ xs)) ≡ x ∷ xs
-cut_again x [] h = slice_split_none is_comma x (no_commas x h.0)
-cut_again x (y ∷ ys) h = slice_split_at is_comma x 44 (join_with_byte 44 (y ∷ ys)) (no_commas x h.0) refl ∙ ap (λ rest. x ∷ rest) (cut_again y ys h.1)
+lead_whole : (has_lead : Bool) (lead : ℕ) → lead ≤ most_lead has_lead → are_whole (lead_field has_lead lead) ≡ true
+lead_whole true lead most = and_from _ _ (decimal_whole lead (omega arith)) refl
+lead_whole false lead most = refl
 
-row_cut : (r : Row) → IsRowWithin current_limits r → slice_split is_comma (body_of r) ≡ spelling current_limits r
+ped_whole : (has_lead : Bool) (ped : Option Ped) → IsAnyPedWithin has_lead ped → are_whole (ped_fields has_lead ped) ≡ true
+ped_whole has_lead None within = refl
+ped_whole has_lead (Some ped) within =
+    rw (decimal_whole ped.walk (omega arith), decimal_whole ped.clear (omega arith), decimal_whole ped.width (omega arith), decimal_whole ped.setback (omega arith), flag_whole ped.short, lead_whole has_lead ped.lead within.lead) refl
+
+phase_whole : (limits : Limits) (p : ℕ) (phase : Phase) → AreLimits limits → IsPhaseWithin limits p phase → are_whole (codes "phase" ∷ phase_fields limits p phase) ≡ true
+phase_whole limits p phase are within =
+    let front : are_whole (codes "phase" ∷ phase_front p phase) ≡ true =
+    rw (
+      decimal_whole p (omega arith),
+      decimal_whole phase.ring (omega arith),
+      decimal_whole phase.min_green (omega arith),
+      decimal_whole phase.passage (omega arith),
+      decimal_whole phase.max1 (omega arith),
+      decimal_whole phase.yellow (omega arith),
+      decimal_whole phase.red (omega arith),
+      list_whole limits.phases phase.mates are.phases within.mates,
+    ) refl in
+    list_all-append is_whole (codes "phase" ∷ phase_front p phase) (ped_fields limits.has_lead phase.ped) ∙ and_from _ _ front (ped_whole limits.has_lead phase.ped within.ped)
+
+row_whole : (limits : Limits) (r : Row) → AreLimits limits → IsRowWithin limits r → are_whole (spelling limits r) ≡ true
+row_whole limits (row.Phase p phase) are within = phase_whole limits p phase are within
+row_whole limits (row.Seq n ring r) are within =
+    rw (decimal_whole n (omega arith), decimal_whole ring (omega arith), list_whole limits.phases r.list are.phases within.1.1) refl
+row_whole limits (row.Split n p split) are within =
+    rw (decimal_whole n (omega arith), decimal_whole p (omega arith), decimal_whole split.time (omega arith), mode_whole split.mode, flag_whole split.coord) refl
+row_whole limits (row.Pattern n pattern) are within =
+    rw (decimal_whole n (omega arith), decimal_whole pattern.cycle (omega arith), decimal_whole pattern.offset (omega arith), decimal_whole pattern.split (omega arith), decimal_whole pattern.seq (omega arith)) refl
+
+cut_spelling : (limits : Limits) (r : Row) → are_whole (spelling limits r) ≡ true → slice_split is_comma (join_with_byte 44 (spelling limits r)) ≡ spelling limits r
+cut_spelling limits (row.Phase p phase) h = cut_joined (codes "phase") _ h
+cut_spelling limits (row.Seq n ring r) h = cut_joined (codes "seq") _ h
+cut_spelling limits (row.Split n p split) h = cut_joined (codes "split") _ h
+cut_spelling limits (row.Pattern n pattern) h = cut_joined (codes "pattern") _ h
+
+-- a row's text, cut at the commas, gives its fields
+pub fields_back : (limits : Limits) (r : Row) → AreLimits limits → IsRowWithin limits r → slice_split is_comma (body_in limits r) ≡ spelling limits r
 unfolding body_in
-row_cut (row.Phase p phase) within = cut_again _ _ (row_plain (row.Phase p phase) within)
-row_cut (row.Seq n ring r) within = cut_again _ _ (row_plain (row.Seq n ring r) within)
-row_cut (row.Split n p split) within = cut_again _ _ (row_plain (row.Split n p split) within)
-row_cut (row.Pattern n pattern) within = cut_again _ _ (row_plain (row.Pattern n pattern) within)
+fields_back limits r are within = cut_spelling limits r (row_whole limits r are within)
 
--- ---- what the cells tell
+-- fields that were cut at the commas are those of a text
+pub body_back : (limits : Limits) (r : Row) (bytes : List ℕ) → slice_split is_comma bytes ≡ spelling limits r → body_in limits r ≡ bytes
+unfolding body_in
+body_back limits r bytes same = ap (join_with_byte 44) (sym same) ∙ join_with_byte-slice_split 44 bytes
 
--- the body of a row within the limits tells the row
-pub body_tells : (a b : Row) → IsRowWithin current_limits a → IsRowWithin current_limits b → body_of a ≡ body_of b → a ≡ b
-body_tells a b in_a in_b same =
-    let fields : spelling current_limits a ≡ spelling current_limits b = sym (row_cut a in_a) ∙ ap (slice_split is_comma) same ∙ row_cut b in_b in
-    let read = sym (row_only current_limits a are_current in_a) ∙ ap (row_at current_limits) fields ∙ row_only current_limits b are_current in_b in
+all_below : (bs : List ℕ) → list_all is_ascii bs ≡ true → (i : ℕ) → slice_index bs i < 128
+all_below [] h i = omega arith
+all_below (b ∷ bs) h zero = let first : is_ascii b ≡ true = (and_parts (is_ascii b) _ h).0 in grind (arith, nat_tests)
+all_below (b ∷ bs) h (suc i) = all_below bs (and_parts (is_ascii b) _ h).1 i
+
+-- a row's text is ASCII, and so a text
+pub body_utf8 : (limits : Limits) (r : Row) → AreLimits limits → IsRowWithin limits r → IsUtf8 (body_in limits r)
+unfolding body_in
+body_utf8 limits r are within =
+    IsUtf8-from_ascii (body_in limits r) (all_below (body_in limits r) (joined_ascii (spelling limits r) (row_whole limits r are within)))
+
+-- ---- what the text and the cells tell
+
+-- a text is that of one row
+pub same_row : (limits : Limits) (a b : Row) → AreLimits limits → IsRowWithin limits a
+    → IsRowWithin limits b → body_in limits a ≡ body_in limits b → a ≡ b
+same_row limits a b are in_a in_b same =
+    let fields : spelling limits a ≡ spelling limits b =
+    sym (fields_back limits a are in_a) ∙ ap (slice_split is_comma) same
+    ∙ fields_back limits b are in_b in
+    let read = sym (row_only limits a are in_a) ∙ ap (row_at limits) fields
+    ∙ row_only limits b are in_b in
     same_ok a b read
 
--- the cells of a row within the limits tell the row
+-- and so do the cells of what a draft row leaves
+pub same_left : (limits : Limits) (a b : Option Row) → AreLimits limits
+    → IfSome a (IsRowWithin limits) → IfSome b (IsRowWithin limits)
+    → left_columns_in limits a ≡ left_columns_in limits b → a ≡ b
+same_left limits None None are in_a in_b same = refl
+same_left limits None (Some b) are in_a in_b same = absurd cc
+same_left limits (Some a) None are in_a in_b same = absurd cc
+same_left limits (Some a) (Some b) are in_a in_b same =
+    let bodies : body_in limits a ≡ body_in limits b = cc in
+    ap Some (same_row limits a b are in_a in_b bodies)
+
+-- in today's version
 pub timing_columns_tell : (a b : Row) → IsRowWithin current_limits a → IsRowWithin current_limits b → timing_columns a ≡ timing_columns b → a ≡ b
-timing_columns_tell a b in_a in_b same = let bodies : body_of a ≡ body_of b = cc in body_tells a b in_a in_b bodies
+timing_columns_tell a b in_a in_b same = let bodies : body_of a ≡ body_of b = cc in same_row current_limits a b are_current in_a in_b bodies
 
--- the cells of what a draft row leaves tell it
 pub left_columns_tell : (a b : Option Row) → IfSome a (IsRowWithin current_limits) → IfSome b (IsRowWithin current_limits) → left_columns a ≡ left_columns b → a ≡ b
-left_columns_tell None None in_a in_b same = refl
-left_columns_tell None (Some b) in_a in_b same = absurd cc
-left_columns_tell (Some a) None in_a in_b same = absurd cc
-left_columns_tell (Some a) (Some b) in_a in_b same = ap Some (timing_columns_tell a b in_a in_b same)
-
--- the cells of a draft row, with those of its key, tell the intersection and the change
-pub draft_row_tells : (id other : ℕ) (c d : Change) → IsChangeWithin current_limits c → IsChangeWithin current_limits d → draft_key id c ≡ draft_key other d → draft_columns c ≡ draft_columns d → (id ≡ other) × (c ≡ d)
-draft_row_tells id other (Put a) (Put b) in_c in_d keys same = ((timing_key_tells id other _ _ keys).0, ap Put (timing_columns_tell a b in_c in_d same))
-draft_row_tells id other (Put a) (Remove k) in_c in_d keys same = absurd cc
-draft_row_tells id other (Remove k) (Put b) in_c in_d keys same = absurd cc
-draft_row_tells id other (Remove k) (Remove j) in_c in_d keys same = let told = timing_key_tells id other k j keys in (told.0, ap Remove told.1)
+left_columns_tell a b = same_left current_limits a b are_current

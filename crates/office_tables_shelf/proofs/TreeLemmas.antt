@@ -1,9 +1,9 @@
 -- A tree of records stands for the map of their cells, and follows its changes.
-use Rattle.std.proofs.Common.{◌≡◌, ◌⊎◌, inl, inr, ℕ, Bool, true, false, List, [], ◌∷◌, find, cond, Option, None, Some, option_map, Ordering, nat_cmp, pos, refl, sym, ap, subst, ◌∙◌, arith}
+use Rattle.std.proofs.Common.{◌≡◌, ◌⊎◌, inl, inr, ℕ, true, false, List, [], ◌∷◌, find, cond, Option, None, Some, option_map, Ordering, nat_cmp, pos, refl, sym, ap, subst, ◌∙◌, arith}
 use Rattle.std.proofs.lemmas.Bool.{cases_Bool}
 use Rattle.std.proofs.lemmas.Bool.Decides.{nat_tests}
 use Rattle.std.specs.BTreeMap.{is_at}
-use Rattle.std.specs.Cmp.{eq_by_cmp_equiv, both_tied, nat_cmp_total, tied_itself}
+use Rattle.std.specs.Cmp.{eq_by_cmp_equiv, nat_cmp_total, tied_itself}
 use Rattle.std.specs.FinMap.{insert, remove, get, same_map, get-insert, get-remove}
 use Rattle.std.specs.Map.{lookup}
 use Rattle.std.specs.Ordering.{is_eq, eq_by_cmp, int_cmp, ordering_then}
@@ -13,7 +13,7 @@ use Rattle.office_tables_shelf.specs.MapShelf.{place_key}
 use Rattle.office_tables_shelf.specs.Rows.{timing_key}
 use Rattle.office_tables_shelf.specs.declared.place.Place.{Place}
 use Rattle.office_tables_shelf.specs.Cells.{Cell, number, tree_rows, cell_cmp, cells_cmp}
-use Rattle.office_tables_shelf.proofs.CellLemmas.{cells_total, cells_exact, is_under, first_under, get_by, tied}
+use Rattle.office_tables_shelf.proofs.CellLemmas.{cells_total, cells_exact, is_under, first_under, get_by, mapped, tied}
 use Rattle.std.specs.declared.cmp.Ordering.TheVariants.{Less, Equal, Greater}
 
 module _ {K X : Type 0} (R : K → K → Ordering) (key : K → List Cell) (columns : X → List Cell) where
@@ -28,20 +28,12 @@ module _ {K X : Type 0} (R : K → K → Ordering) (key : K → List Cell) (colu
   columns_in e = columns e.1
 
   module _ (ties : (a b : K) → is_eq (cells_cmp (key a) (key b)) ≡ is_eq (R a b)) where
-    here : (b : Bool) (e : K × X) (o : Option (K × X)) → option_map columns_in (cond b (Some e) o) ≡ cond b (Some (columns e.1)) (option_map columns_in o)
-    here true e o = refl
-    here false e o = refl
-
-    moved : (b : Bool) (o p : Option X) → option_map columns (cond b o p) ≡ cond b (option_map columns o) (option_map columns p)
-    moved true o p = refl
-    moved false o p = refl
-
     under_key : (es : List (K × X)) (k : K) → first_under key_in columns_in es (key k) ≡ option_map columns (entry_at es k)
     under_key [] k = refl
     under_key (e ∷ es) k =
-        here (is_under key_in columns_in (key k) e) e (find (is_under key_in columns_in (key k)) es)
+        mapped columns_in (is_under key_in columns_in (key k) e) (Some e) (find (is_under key_in columns_in (key k)) es)
         ∙ (λ i. cond (ties k e.0 i) (Some (columns e.1)) (under_key es k i))
-        ∙ sym (moved (is_at (R k) e.0) (Some e.1) (entry_at es k))
+        ∙ sym (mapped columns (is_at (R k) e.0) (Some e.1) (entry_at es k))
 
     -- the map has at the cells of a key what the tree has at the key
     pub get_tree : (es : List (K × X)) (k : K) → get (tree_rows key columns es) (key k) ≡ option_map columns (entry_at es k)
@@ -50,13 +42,10 @@ module _ {K X : Type 0} (R : K → K → Ordering) (key : K → List Cell) (colu
     -- the cells are those of a key, or nothing stands under them
     pub some_key : (es : List (K × X)) (q : List Cell) → ((k : K) × (q ≡ key k)) ⊎ (first_under key_in columns_in es q ≡ None)
     some_key [] q = inr refl
-    some_key (e ∷ es) q = go (cases_Bool (is_under key_in columns_in q e)) (some_key es q)
-      where
-        go : (is_under key_in columns_in q e ≡ true) ⊎ (is_under key_in columns_in q e ≡ false) → ((k : K) × (q ≡ key k)) ⊎ (first_under key_in columns_in es q ≡ None)
-            → ((k : K) × (q ≡ key k)) ⊎ (first_under key_in columns_in (e ∷ es) q ≡ None)
-        go (inl hit) later = inl (e.0, cells_exact q (key e.0) (tied _ hit))
-        go (inr miss) (inl found) = inl found
-        go (inr miss) (inr none) = inr (rw (miss, none))
+    some_key (e ∷ es) q = elim (cases_Bool (is_under key_in columns_in q e)) [
+      | inl hit ↦ inl (e.0, cells_exact q (key e.0) (tied _ hit))
+      | inr miss ↦ elim (some_key es q) [ inl found ↦ inl found | inr none ↦ inr (rw (miss, none)) ]
+    ]
 
     -- trees that differ at one key
     module _ (es fs : List (K × X)) (k : K) (next : Option X) (updates : (q : K) → entry_at fs q ≡ cond (is_at (R k) q) next (entry_at es q)) where
@@ -65,7 +54,7 @@ module _ {K X : Type 0} (R : K → K → Ordering) (key : K → List Cell) (colu
 
       at_key : (q : K) → Follows (key q)
       at_key q =
-          under_key fs q ∙ ap (option_map columns) (updates q) ∙ moved (is_at (R k) q) next (entry_at es q)
+          under_key fs q ∙ ap (option_map columns) (updates q) ∙ mapped columns (is_at (R k) q) next (entry_at es q)
           ∙ (λ i. cond ((sym (ties k q) ∙ (eq_by_cmp_equiv cells_total).symm (key k) (key q)) i) (option_map columns next) (sym (under_key es q) i))
 
       pub follows : (q : List Cell) → Follows q
@@ -90,13 +79,6 @@ module _ {K X : Type 0} (R : K → K → Ordering) (key : K → List Cell) (colu
     remove_tree es fs k updates = same_map cells_total cells_exact _ _ (λ q.
         get_by key_in columns_in fs q ∙ follows es fs k None updates q
         ∙ sym (get-remove cells_total (tree_rows key columns es) (key k) q ∙ ap (cond (is_eq (cells_cmp q (key k))) None) (get_by key_in columns_in es q)))
-
-one_number : (a b : ℕ) → is_eq (cell_cmp (number (pos a)) (number (pos b))) ≡ is_eq (nat_cmp a b)
-unfolding cell_cmp
-one_number a b = grind (arith, nat_tests)
-
-then_ties : (r s r' s' : Ordering) → is_eq r ≡ is_eq r' → is_eq s ≡ is_eq s' → is_eq (ordering_then r s) ≡ is_eq (ordering_then r' s')
-then_ties r s r' s' p q = sym (both_tied (is_eq r) (is_eq s) r s refl refl) ∙ both_tied (is_eq r) (is_eq s) r' s' p q
 
 -- a key that is one number
 pub number_ties : (a b : ℕ) → is_eq (cells_cmp (number (pos a) ∷ []) (number (pos b) ∷ [])) ≡ is_eq (nat_cmp a b)

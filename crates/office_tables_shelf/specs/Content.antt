@@ -1,8 +1,9 @@
 -- What the tables of the office hold, whatever keeps them.
-use Rattle.std.specs.Prelude.{ℕ, Bool, ◌==◌, cond, List, refl}
+use Rattle.std.specs.Prelude.{ℕ, pos, Bool, false, not, ◌==◌, cond, List, [], ◌∷◌, refl}
 use Rattle.std.specs.Coded.{Coded, code_by, coded×}
-use Rattle.std.specs.FinMap.{empty, insert, remove}
-use Rattle.office_tables_shelf.specs.Cells.{Cell, Rows, rows_code}
+use Rattle.std.specs.FinMap.{empty, insert, remove, retain_keys}
+use Rattle.std.specs.Ordering.{eq_by_cmp}
+use Rattle.office_tables_shelf.specs.Cells.{Cell, Rows, number, cell_cmp, rows_code}
 use Rattle.office_tables_shelf.specs.declared.rows.Table.{Table}
 use Rattle.office_tables_shelf.specs.declared.rows.Table.TheVariants as table
 
@@ -76,6 +77,19 @@ put_in tables t key columns = with_rows tables t (insert (rows_at tables t) key 
 -- the row under the key is gone from it
 abbrev pub remove_in : Content → Table → List Cell → Content
 remove_in tables t key = with_rows tables t (remove (rows_at tables t) key)
+
+-- the key cells begin with the number of the intersection
+abbrev pub is_of : ℕ → List Cell → Bool
+is_of id [] = false
+is_of id (cell ∷ cells) = eq_by_cmp cell_cmp (number (pos id)) cell
+
+-- the rows of all other intersections
+abbrev pub rows_but : ℕ → Rows → Rows
+rows_but id rows = retain_keys rows (λ key. not (is_of id key))
+
+-- the rows of the intersection are gone from it
+abbrev pub drop_in : Content → Table → ℕ → Content
+drop_in tables t id = with_rows tables t (rows_but id (rows_at tables t))
 
 -- ---- how the logic stores it
 

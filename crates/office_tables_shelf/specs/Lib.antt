@@ -8,6 +8,7 @@ pub mod Shelf
 pub mod Damage
 pub mod MapCabinet
 pub mod MapShelf
+pub mod Places
 pub mod CabinetReads
 pub mod Overdue
 pub mod RegisterStands

@@ -1,6 +1,7 @@
 -- The cabinet's tables that records in memory stand for.
 use Rattle.std.specs.Prelude.{◌≡◌, ℕ, List}
 use Rattle.std.specs.List.{AllByRecursion}
+use Rattle.cabinet_core.specs.Within.{IsInspectionWithin, IsOrderWithin, IsUsedLineWithin}
 use Rattle.cabinet_core.specs.declared.record.Inspection.{Inspection}
 use Rattle.cabinet_core.specs.declared.record.Order.{Order}
 use Rattle.cabinet_core.specs.declared.record.UsedLine.{UsedLine}
@@ -68,16 +69,18 @@ OfTables rows inspections Holds =
     (tables : Content) → tables.intersection ≡ intersection_rows rows
     → tables.inspection ≡ inspection_rows inspections → Holds tables
 
--- ---- each record stands under its own key
+-- ---- each record stands under its own key, within its limits
 
 abbrev pub IsInspectionAt : RecordPlace → Inspection → Type 0
-IsInspectionAt place inspection = inspection.number ≡ place.number
+IsInspectionAt place inspection =
+    (inspection.number ≡ place.number) × IsInspectionWithin inspection
 
 abbrev pub IsOrderAt : RecordPlace → Order → Type 0
-IsOrderAt place order = order.number ≡ place.number
+IsOrderAt place order = (order.number ≡ place.number) × IsOrderWithin order
 
 abbrev pub IsUsedAt : LinePlace → UsedLine → Type 0
-IsUsedAt place used = (used.order ≡ place.order) × (used.line ≡ place.line)
+IsUsedAt place used =
+    (used.order ≡ place.order) × ((used.line ≡ place.line) × IsUsedLineWithin used)
 
 abbrev pub IsDeliveryAt : DeliveryPlace → Delivery → Type 0
 IsDeliveryAt place delivery = (delivery.part ≡ place.part) × (delivery.number ≡ place.number)

@@ -3,6 +3,7 @@ use Rattle.std.specs.Prelude.{◌≡◌, ◌≢◌, ℕ, List, Option, Some, Non
 use Rattle.std.specs.List.{AllByRecursion}
 use Rattle.std.specs.Coded.{Coded, code_by, coded×}
 use Rattle.signal_records.specs.Row.{key_of}
+use Rattle.signal_records.specs.Within.{current_limits, IsKeyWithin}
 use Rattle.signal_records.specs.declared.key.Key.{Key}
 use Rattle.signal_records.specs.declared.record.Row.{Row}
 use Rattle.signal_records.specs.declared.record.Change.{Change}
@@ -46,13 +47,21 @@ with_timing es = record no_content { timing = timing_rows es }
 abbrev pub with_drafts : List (Place × Option Row) → Content
 with_drafts es = record no_content { draft = draft_rows es }
 
+-- a row stands under its own key, which is one of today's
+abbrev pub IsRowAt : Key → Row → Type 0
+IsRowAt key row = (key_of row ≡ key) × IsKeyWithin current_limits key
+
+-- and so does a row that a draft row leaves, if it leaves one
+abbrev pub IsLeftAt : Key → Option Row → Type 0
+IsLeftAt key left = IfSome left (λ row. key_of row ≡ key) × IsKeyWithin current_limits key
+
 -- each row stands under its own key
 abbrev pub AreRowsPlaced : List (Place × Row) → Type 0
-AreRowsPlaced = AllByRecursion (λ e. key_of e.1 ≡ e.0.key)
+AreRowsPlaced = AllByRecursion (λ e. IsRowAt e.0.key e.1)
 
 -- and each row that a draft row leaves
 abbrev pub AreLeftPlaced : List (Place × Option Row) → Type 0
-AreLeftPlaced = AllByRecursion (λ e. IfSome e.1 (λ row. key_of row ≡ e.0.key))
+AreLeftPlaced = AllByRecursion (λ e. IsLeftAt e.0.key e.1)
 
 -- the change that leaves this at a key
 abbrev pub change_at : Key → Option Row → Change

@@ -1,15 +1,15 @@
 -- What the clauses of a shelf cite.
-use Rattle.std.specs.Prelude.{◌≡◌, ℕ, pos, Bool, false, List, [], ◌∷◌, map, length, Option, IsSome, Result, Ok, Err, ⊤}
+use Rattle.std.specs.Prelude.{◌≡◌, ℕ, List, map, length, Option, IsSome, Result, Ok, Err, ⊤}
 use Rattle.std.specs.Int.{IsInRange}
 use Rattle.std.specs.Option.{option_map}
-use Rattle.std.specs.Ordering.{eq_by_cmp}
 use Rattle.std.specs.FinMap.{get, entries}
 use Rattle.std.specs.FinMap.Entries.{where_key}
 use Rattle.signal_records.specs.Row.{key_of}
 use Rattle.signal_records.specs.declared.record.Row.{Row}
 use Rattle.signal_records.specs.declared.record.Change.{Change}
-use Rattle.office_tables_shelf.specs.Cells.{Cell, Rows, number, cell_cmp, cells_cmp}
+use Rattle.office_tables_shelf.specs.Cells.{Cell, Rows, cells_cmp}
 use Rattle.office_tables_shelf.specs.Content.{Content}
+pub use Rattle.office_tables_shelf.specs.Content.{is_of}
 use Rattle.office_tables_shelf.specs.Rows.{intersection_key, intersection_columns}
 use Rattle.office_tables_shelf.specs.Rows.{IsIntersectionRow}
 use Rattle.office_tables_shelf.specs.Rows.{timing_key, timing_columns, draft_key, draft_columns}
@@ -39,11 +39,6 @@ pub record AnswersOpen {S A : Type 0} (is_clean is_honest : S → Type 0) (resul
 -- the cells that stand under a number are those of the row
 abbrev pub ReadsIntersection : Content → ℕ → Option IntersectionRow → Type 0
 ReadsIntersection tables id row = get tables.intersection (intersection_key id) ≡ option_map intersection_columns row
-
--- the key cells begin with the number of the intersection
-abbrev pub is_of : ℕ → List Cell → Bool
-is_of id [] = false
-is_of id (cell ∷ cells) = eq_by_cmp cell_cmp (number (pos id)) cell
 
 -- the rows of an intersection in a table, by their keys
 abbrev pub rows_of : ℕ → Rows → List (List Cell × List Cell)

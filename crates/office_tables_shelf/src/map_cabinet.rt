@@ -39,6 +39,7 @@ pub(crate) fn put_inspection(
     ensures rows { OnOk result (inspection_rows rows.new.entries ≡ finite.insert (inspection_rows rows.old.entries) (inspection_key inter inspection.number) (inspection_columns inspection)) }
     ensures placed { AreInspectionsPlaced rows.old.entries → AreInspectionsPlaced rows.new.entries }
 {
+    inspection_is_within(&inspection);
     let number = inspection.number;
     rows.insert(RecordPlace { inter, number }, inspection)?;
     Ok(())
@@ -70,7 +71,7 @@ pub(crate) fn inspections_of(
     ensures within { IfOk result (λ list. AllByRecursion IsInspectionWithin list.items) }
 {
     let mut list = Vec::new(alloc);
-    for (place, inspection) in rows {
+    for (place, inspection) in rows.range(RecordPlace::all_of(inter)) {
         if place.inter == inter {
             inspection_is_within(inspection);
             list.push(inspection.clone()?)?;
@@ -88,6 +89,7 @@ pub(crate) fn put_order(
     ensures rows { OnOk result (order_rows rows.new.entries ≡ finite.insert (order_rows rows.old.entries) (order_key inter order.number) (order_columns order)) }
     ensures placed { AreOrdersPlaced rows.old.entries → AreOrdersPlaced rows.new.entries }
 {
+    order_is_within(&order);
     let number = order.number;
     rows.insert(RecordPlace { inter, number }, order)?;
     Ok(())
@@ -119,7 +121,7 @@ pub(crate) fn orders_of(
     ensures within { IfOk result (λ list. AllByRecursion IsOrderWithin list.items) }
 {
     let mut list = Vec::new(alloc);
-    for (place, order) in rows {
+    for (place, order) in rows.range(RecordPlace::all_of(inter)) {
         if place.inter == inter {
             order_is_within(order);
             list.push(order.clone()?)?;
@@ -137,6 +139,7 @@ pub(crate) fn put_line(
     ensures rows { OnOk result (used_rows rows.new.entries ≡ finite.insert (used_rows rows.old.entries) (used_key inter used.order used.line) (used_columns used)) }
     ensures placed { AreUsedPlaced rows.old.entries → AreUsedPlaced rows.new.entries }
 {
+    used_line_is_within(&used);
     let (order, line) = (used.order, used.line);
     rows.insert(LinePlace { inter, order, line }, used)?;
     Ok(())
@@ -169,7 +172,7 @@ pub(crate) fn lines_of(
     ensures within { IfOk result (λ list. AllByRecursion IsUsedLineWithin list.items) }
 {
     let mut list = Vec::new(alloc);
-    for (place, used) in rows {
+    for (place, used) in rows.range(LinePlace::all_of(inter)) {
         if place.inter == inter {
             used_line_is_within(used);
             list.push(used.clone()?)?;

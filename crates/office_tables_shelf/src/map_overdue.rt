@@ -19,7 +19,7 @@ pub(crate) fn last_of(rows: &BTreeMap<RecordPlace, Inspection>, inter: InterId) 
         ReadsLast (with_inspections rows.now.entries) inter result }
 {
     let mut last = None;
-    for (place, inspection) in rows {
+    for (place, inspection) in rows.range(RecordPlace::all_of(inter)) {
         if place.inter == inter {
             inspection_is_within(inspection);
             last = Some(later(inspection.day, last));

@@ -5,11 +5,12 @@ ghost use Rattle.std.specs.List.{AllByRecursion};
 ghost use Rattle.std.specs.Option.{option_map};
 ghost use Rattle.signal_records.specs.Row.{key_of};
 ghost use Rattle.draft_core.specs.DraftRows.{changed_key, left_by};
+ghost use Rattle.office_tables_shelf.specs.Content.{rows_but};
 ghost use Rattle.office_tables_shelf.specs.Rows.{intersection_key, intersection_columns};
 ghost use Rattle.office_tables_shelf.specs.Rows.{timing_key, timing_columns, draft_key};
 ghost use Rattle.office_tables_shelf.specs.Rows.{draft_columns};
 ghost use Rattle.office_tables_shelf.specs.Shelf.{ListsIntersections, ListsTiming, ListsDraft};
-ghost use Rattle.office_tables_shelf.specs.Shelf.{IsIntersectionWithin};
+ghost use Rattle.office_tables_shelf.specs.Shelf.{CountsTiming, IsIntersectionWithin};
 ghost use Rattle.office_tables_shelf.specs.MapShelf.{intersection_rows, timing_rows, draft_rows};
 ghost use Rattle.office_tables_shelf.specs.MapShelf.{change_at as left_at, AreRowsPlaced};
 ghost use Rattle.office_tables_shelf.specs.MapShelf.{AreLeftPlaced, with_intersections};
@@ -18,7 +19,7 @@ ghost use Rattle.office_tables_shelf.specs.MapShelf.{with_timing, with_drafts};
 use crate::bounds::intersection_is_within;
 use crate::place::Place;
 use crate::rows::IntersectionRow;
-use signal_records::{Change, InterId, Key, NoMemory, Row};
+use signal_records::{Change, InterId, Key, NoMemory, Row, key_is_within};
 use std::alloc::Global;
 use std::collections::BTreeMap;
 
@@ -82,6 +83,7 @@ pub(crate) fn put_timing(
     ensures rows { OnOk result (timing_rows rows.new.entries ≡ finite.insert (timing_rows rows.old.entries) (timing_key inter (key_of row)) (timing_columns row)) }
     ensures placed { AreRowsPlaced rows.old.entries → AreRowsPlaced rows.new.entries }
 {
+    key_is_within(row.key());
     let key = row.key();
     rows.insert(Place { inter, key }, row)?;
     Ok(())
@@ -105,12 +107,26 @@ pub(crate) fn timing_of(
         ListsTiming (with_timing rows.now.entries) inter list.items) }
 {
     let mut list = Vec::new(alloc);
-    for (place, row) in rows {
+    for (place, row) in rows.range(Place::all_of(inter)) {
         if place.inter == inter {
             list.push(row.clone()?)?;
         }
     }
     Ok(list)
+}
+
+/// How many committed rows an intersection has.
+pub(crate) fn count_of(rows: &BTreeMap<Place, Row>, inter: InterId) -> usize
+    ensures { AreRowsPlaced rows.now.entries →
+        CountsTiming (with_timing rows.now.entries) inter result }
+{
+    let mut count = 0;
+    for (place, _) in rows.range(Place::all_of(inter)) {
+        if place.inter == inter {
+            count += 1;
+        }
+    }
+    count
 }
 
 /// The key that a change names.
@@ -142,6 +158,7 @@ pub(crate) fn put_draft(
     ensures rows { OnOk result (draft_rows rows.new.entries ≡ finite.insert (draft_rows rows.old.entries) (draft_key inter change.now) (draft_columns change.now)) }
     ensures placed { AreLeftPlaced rows.old.entries → AreLeftPlaced rows.new.entries }
 {
+    key_is_within(key_of_change(change));
     let key = key_of_change(change);
     let left = left_by_change(change)?;
     rows.insert(Place { inter, key }, left)?;
@@ -154,6 +171,14 @@ pub(crate) fn remove_draft(rows: &mut BTreeMap<Place, Option<Row>>, inter: Inter
     ensures placed { AreLeftPlaced rows.old.entries → AreLeftPlaced rows.new.entries }
 {
     rows.remove(&Place { inter, key });
+}
+
+/// Removes the draft rows of an intersection.
+pub(crate) fn drop_drafts(rows: &mut BTreeMap<Place, Option<Row>>, inter: InterId)
+    ensures rows { draft_rows rows.new.entries ≡ rows_but inter (draft_rows rows.old.entries) }
+    ensures placed { AreLeftPlaced rows.old.entries → AreLeftPlaced rows.new.entries }
+{
+    rows.retain(|place, _| place.inter != inter);
 }
 
 /// The change that leaves this at a key.
@@ -185,7 +210,7 @@ pub(crate) fn draft_of(
         ListsDraft (with_drafts rows.now.entries) inter list.items) }
 {
     let mut list = Vec::new(alloc);
-    for (place, left) in rows {
+    for (place, left) in rows.range(Place::all_of(inter)) {
         if place.inter == inter {
             list.push(change_at(place.key, left)?)?;
         }

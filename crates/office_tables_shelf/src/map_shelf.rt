@@ -10,8 +10,9 @@ use crate::map_cabinet::{
 };
 use crate::map_overdue::{last_of, overdue_of};
 use crate::map_rows::{
-    all_intersections, copied_drafts, copied_intersections, draft_of, intersection_at, put_draft,
-    put_intersection, put_timing, remove_draft, remove_timing, timing_of,
+    all_intersections, copied_drafts, copied_intersections, count_of, draft_of, drop_drafts,
+    intersection_at, put_draft, put_intersection, put_timing, remove_draft, remove_timing,
+    timing_of,
 };
 use crate::place::{DeliveryPlace, LinePlace, Place, RecordPlace};
 use crate::rows::{IntersectionRow, RowChange, Table};
@@ -88,7 +89,8 @@ impl MapShelf {
         }
     }
 
-    fn copy(&self) -> Result<MapShelf, NoMemory>
+    /// A copy of the tables, with the counts.
+    pub fn copied(&self) -> Result<MapShelf, NoMemory>
         ensures { IfOk result (λ copy. copy ≡ self.now) }
     {
         let intersection = copied_intersections(&self.intersection)?;
@@ -118,22 +120,31 @@ impl MapShelf {
         ensures counts { self.new.counts ≡ self.old.counts }
     {
         match change {
+            RowChange::AddIntersection(id, row) => {
+                put_intersection(&mut self.intersection, *id, row.clone()?)?;
+            }
             RowChange::PutIntersection(id, row) => {
                 put_intersection(&mut self.intersection, *id, row.clone()?)?;
             }
+            RowChange::AddTiming(id, row) => put_timing(&mut self.timing, *id, row.clone()?)?,
             RowChange::PutTiming(id, row) => put_timing(&mut self.timing, *id, row.clone()?)?,
             RowChange::RemoveTiming(id, key) => remove_timing(&mut self.timing, *id, *key),
+            RowChange::AddDraft(id, change) => put_draft(&mut self.draft, *id, change)?,
             RowChange::PutDraft(id, change) => put_draft(&mut self.draft, *id, change)?,
             RowChange::RemoveDraft(id, key) => remove_draft(&mut self.draft, *id, *key),
-            RowChange::PutInspection(id, inspection) => {
+            RowChange::DropDraft(id) => drop_drafts(&mut self.draft, *id),
+            RowChange::AddInspection(id, inspection) => {
                 put_inspection(&mut self.inspection, *id, inspection.clone()?)?;
+            }
+            RowChange::AddOrder(id, order) => {
+                put_order(&mut self.work_order, *id, order.clone()?)?;
             }
             RowChange::PutOrder(id, order) => {
                 put_order(&mut self.work_order, *id, order.clone()?)?;
             }
-            RowChange::PutLine(id, used) => put_line(&mut self.used_part, *id, used.clone()?)?,
+            RowChange::AddLine(id, used) => put_line(&mut self.used_part, *id, used.clone()?)?,
             RowChange::PutPart(part, hand) => put_part(&mut self.part, part.clone()?, *hand)?,
-            RowChange::PutDelivery(delivery) => {
+            RowChange::AddDelivery(delivery) => {
                 put_delivery(&mut self.delivery, delivery.clone()?)?;
             }
         }
@@ -204,17 +215,28 @@ impl MapShelf {
         self.counts.count_all(changes);
     }
 
-    /// A copy with the changes made, in their order, and counted.
-    fn changed(&self, changes: &[RowChange]) -> Result<MapShelf, NoMemory>
-        ensures tables { IfOk result (λ next. next.tables ≡ changed_by self.now.tables changes.now) }
-        ensures counts { IfOk result (λ next. next.counts ≡ counts_after self.now.counts changes.now) }
+    /// These tables with the changes made, in their order, and counted.
+    pub fn made(self, changes: &[RowChange]) -> Result<MapShelf, NoMemory>
+        ensures tables { IfOk result (λ next. next.tables ≡ changed_by self.tables changes.now) }
+        ensures counts { IfOk result (λ next. next.counts ≡ counts_after self.counts changes.now) }
     {
-        let mut next = self.copy()?;
+        let mut next = self;
         for change in changes {
             next.change(change)?;
         }
         next.count(changes);
         Ok(next)
+    }
+
+    /// A copy with the changes made, in their order, and counted.
+    fn changed(&self, changes: &[RowChange]) -> Result<MapShelf, NoMemory>
+        ensures tables { IfOk result (λ next.
+            next.tables ≡ changed_by self.now.tables changes.now) }
+        ensures counts { IfOk result (λ next.
+            next.counts ≡ counts_after self.now.counts changes.now) }
+    {
+        let next = self.copied()?;
+        next.made(changes)
     }
 }
 
@@ -274,13 +296,12 @@ impl Shelf for MapShelf {
         Ok(timing_of(alloc, &self.timing, id)?)
     }
 
-    fn committed_count(&mut self, alloc: Global, id: InterId) -> Result<usize, ShelfFault>
+    fn committed_count(&mut self, _alloc: Global, id: InterId) -> Result<usize, ShelfFault>
         ensures count { IfOk result (λ count. CountsTiming self.old.tables id count) }
         ensures unchanged { self.new ≡ self.old }
         ensures sound { IsFreeOfStore result }
     {
-        let rows = timing_of(alloc, &self.timing, id)?;
-        Ok(rows.len())
+        Ok(count_of(&self.timing, id))
     }
 
     fn draft_rows(&mut self, alloc: Global, id: InterId) -> Result<Vec<Change>, ShelfFault>

@@ -41,26 +41,33 @@ impl Clone for IntersectionRow {
     }
 }
 
-/// A row to be written or removed. An intersection is never removed.
+/// A row to be written or removed. An intersection is never removed. A row that is added is new:
+/// where one stands under its key already, a shelf may refuse the changes.
 #[derive(Drop)]
 pub enum RowChange {
+    AddIntersection(InterId, IntersectionRow),
     PutIntersection(InterId, IntersectionRow),
     /// A row of the committed set, under its own key.
+    AddTiming(InterId, Row),
     PutTiming(InterId, Row),
     RemoveTiming(InterId, Key),
     /// A draft row that keeps the change; a removal is a row too.
+    AddDraft(InterId, Change),
     PutDraft(InterId, Change),
     RemoveDraft(InterId, Key),
+    /// All draft rows of the intersection are removed.
+    DropDraft(InterId),
     /// An inspection of the intersection's cabinet, under its number.
-    PutInspection(InterId, Inspection),
+    AddInspection(InterId, Inspection),
     /// An order on the intersection, under its number.
+    AddOrder(InterId, Order),
     PutOrder(InterId, Order),
     /// A part used for an order on the intersection, under order and line.
-    PutLine(InterId, UsedLine),
+    AddLine(InterId, UsedLine),
     /// How many of a part are on hand.
     PutPart(PartCode, Hand),
     /// A delivery, under its part and its number.
-    PutDelivery(Delivery),
+    AddDelivery(Delivery),
 }
 
 /// A table whose rows are written.
@@ -82,14 +89,16 @@ impl RowChange {
         ensures { result ≡ table_of self.now }
     {
         match self {
-            RowChange::PutIntersection(..) => Table::Intersection,
-            RowChange::PutTiming(..) | RowChange::RemoveTiming(..) => Table::Timing,
-            RowChange::PutDraft(..) | RowChange::RemoveDraft(..) => Table::Draft,
-            RowChange::PutInspection(..) => Table::Inspection,
-            RowChange::PutOrder(..) => Table::WorkOrder,
-            RowChange::PutLine(..) => Table::UsedPart,
+            RowChange::AddIntersection(..) | RowChange::PutIntersection(..) => Table::Intersection,
+            RowChange::AddTiming(..) | RowChange::PutTiming(..) => Table::Timing,
+            RowChange::RemoveTiming(..) => Table::Timing,
+            RowChange::AddDraft(..) | RowChange::PutDraft(..) => Table::Draft,
+            RowChange::RemoveDraft(..) | RowChange::DropDraft(..) => Table::Draft,
+            RowChange::AddInspection(..) => Table::Inspection,
+            RowChange::AddOrder(..) | RowChange::PutOrder(..) => Table::WorkOrder,
+            RowChange::AddLine(..) => Table::UsedPart,
             RowChange::PutPart(..) => Table::Part,
-            RowChange::PutDelivery(..) => Table::Delivery,
+            RowChange::AddDelivery(..) => Table::Delivery,
         }
     }
 }

@@ -1,10 +1,12 @@
 -- What a new row does to the map of a table's rows.
-use Rattle.std.proofs.Common.{◌≡◌, ◌⊎◌, inl, inr, ℤ, List, [], ◌∷◌, filter, find, Bool, true, false, not, Some, cond, option_map, refl, sym, ap, subst, ◌∙◌, true≢false}
+use Rattle.std.proofs.Common.{◌≡◌, ◌⊎◌, inl, inr, ℤ, List, [], ◌∷◌, map, find, Bool, true, false, not, Some, cond, option_map, refl, sym, ap, subst, ◌∙◌, true≢false}
 use Rattle.std.proofs.lemmas.Bool.{cases_Bool, false_from_ne_true, not-true, not-false, or_parts}
 use Rattle.std.proofs.lemmas.Cmp.{tied_back}
+use Rattle.std.specs.Cmp.{tied_itself}
+use Rattle.std.specs.List.{AllByRecursion, IsDistinct}
 use Rattle.std.specs.declared.cmp.Ordering.{Ordering}
 use Rattle.std.specs.declared.cmp.Ordering.TheVariants.{Less, Equal, Greater}
-use Rattle.std.specs.Ordering.{is_eq, match_ordering, ordering_reverse}
+use Rattle.std.specs.Ordering.{is_eq, match_ordering}
 use Rattle.sqlite.specs.declared.types.Value.TheVariants.{Int}
 use Rattle.sqlite.specs.Order.{Row, value_cmp}
 use Rattle.sqlite.specs.Tree.{rowid, has_rowid, put_row, without_rowid, IsTable}
@@ -12,10 +14,11 @@ use Rattle.sqlite.specs.View.{IsShaped}
 use Rattle.sqlite.specs.Edit.{is_taken, without_all, id_in}
 use Rattle.sqlite_trees.specs.declared.store.Shape.TheVariants as shape
 use Rattle.sqlite_value.proofs.OrderLemmas.{value_cmp_total}
-use Rattle.sqlite_rules.specs.Calls.{ids_of}
 use Rattle.sqlite_rules.specs.Lists.{Has}
 use Rattle.sqlite_rules.proofs.ListLemmas.{all_has, has_filtered, some_from}
-use Rattle.sqlite_rules.proofs.TableLemmas.{int_is, without_all_has}
+use Rattle.sqlite_rules.proofs.TableLemmas.{has_put, int_is, without_all_has}
+use Rattle.sqlite_trees.proofs.ListLemmas.{all_from_map}
+use Rattle.sqlite_catalog.proofs.ListFacts.{find_within}
 use Rattle.std.specs.FinMap.{insert, same_map, get-insert}
 use Rattle.office_tables_shelf.specs.Cells.{Cell, cells_cmp, number}
 use Rattle.office_tables_shelf.proofs.CellLemmas.{cells_total, cells_exact, tied}
@@ -24,19 +27,11 @@ use Rattle.office_tables_sql.proofs.StoredLemmas.{has_cells, get_rows}
 use Rattle.office_tables_sql.specs.Layout.{Layout}
 
 module _ (p : Row → Bool) where
-  find_filter : (q : Row → Bool) (rows : List Row) → ((r : Row) → Has rows r → q r ≡ false → p r ≡ false) → find p (filter q rows) ≡ find p rows
-  find_filter q [] out = refl
-  find_filter q (r ∷ rows) out = go (cases_Bool (q r)) (find_filter q rows (λ x there. out x (inr there)))
-    where
-      go : (q r ≡ true) ⊎ (q r ≡ false) → find p (filter q rows) ≡ find p rows → find p (filter q (r ∷ rows)) ≡ find p (r ∷ rows)
-      go (inl kept) later = elim (cases_Bool (p r)) [ inl hit ↦ rw (kept, hit) | inr miss ↦ rw (kept, miss, later) ]
-      go (inr gone) later = rw (gone, out r (inl refl) gone, later)
-
   pub find_without : (ids : List ℤ) (rows : List Row) → ((r : Row) (id : ℤ) → Has rows r → Has ids id → has_rowid id r ≡ true → p r ≡ false) → find p (without_all rows ids) ≡ find p rows
   find_without [] rows out = refl
   find_without (id ∷ ids) rows out =
       find_without ids (without_rowid id rows) (λ r i there h. out r i (has_filtered _ rows r there).0 (inr h))
-      ∙ find_filter (λ r. not (has_rowid id r)) rows (λ r there gone. out r id there (inl refl) (not-false _ gone))
+      ∙ find_within p (λ r. not (has_rowid id r)) rows (λ r there gone. out r id there (inl refl) (not-false _ gone))
 
   find_put_other : (new : Row) (rows : List Row) → is_taken rows new ≡ false → p new ≡ false → find p (put_row new rows) ≡ find p rows
   find_put_other new [] free miss = rw miss
@@ -61,24 +56,9 @@ left_without [] rows r id there h = absurd h
 left_without (i ∷ ids) rows r id there (inl is) = subst (λ n. has_rowid n r ≡ false) (sym is) (not-true _ (has_filtered _ rows r (without_all_has ids (without_rowid i rows) r there)).1)
 left_without (i ∷ ids) rows r id there (inr h) = left_without ids (without_rowid i rows) r id there h
 
-pub has_id : (found : List Row) (id : ℤ) → Has (ids_of found) id → (x : Row) × Has found x × (id ≡ id_in (rowid x))
-has_id [] id h = absurd h
-has_id (x ∷ found) id (inl is) = (x, inl refl, is)
-has_id (x ∷ found) id (inr h) = let later = has_id found id h in (later.0, inr later.1, later.2)
-
-pub id_has : (found : List Row) (x : Row) → Has found x → Has (ids_of found) (id_in (rowid x))
-id_has [] x h = absurd h
-id_has (y ∷ found) x (inl is) = inl (ap (λ r. id_in (rowid r)) is)
-id_has (y ∷ found) x (inr h) = inr (id_has found x h)
-
-pub level : (o : Ordering) → o ≡ ordering_reverse o → o ≡ Equal
-level Less h = absurd cc
-level Equal h = refl
-level Greater h = absurd cc
-
 -- cells tie with themselves
 pub tie_self : (key : List Cell) → is_eq (cells_cmp key key) ≡ true
-tie_self key = ap is_eq (level (cells_cmp key key) (cells_total.antisymm key key))
+tie_self key = ap is_eq (tied_itself cells_total key)
 
 -- no rowid comes twice
 pub one_rowid : (rows : List Row) (a b : Row) → IsTable rows → Has rows a → Has rows b → value_cmp (rowid a) (rowid b) ≡ Equal → a ≡ b
@@ -88,6 +68,39 @@ one_rowid (r ∷ rows) a b up (inl x) (inr k) same = absurd (let less = subst (�
 one_rowid (r ∷ rows) a b up (inr h) (inl y) same =
     absurd (let less = subst (λ v. value_cmp (rowid v) (rowid a) ≡ Less) (sym y) (all_has _ rows a up.0 h) in let back = tied_back value_cmp_total (rowid a) (rowid b) same in cc)
 one_rowid (r ∷ rows) a b up (inr h) (inr k) same = one_rowid rows a b up.1 h k same
+
+-- ---- a row that was put beside others
+
+module _ {K : Type 0} (e : K → K → Bool) (symm : (a b : K) → e a b ≡ e b a) (key : Row → K)
+    (new : Row) where
+  apart_from : (k : K) (rows : List Row) → AllByRecursion (λ j. e k j ≡ false) (map key rows)
+      → (r : Row) → Has rows r → e k (key r) ≡ false
+  apart_from k rows apart r there =
+      all_has _ rows r (all_from_map (λ j. e k j ≡ false) key rows apart) there
+
+  -- where no two rows have the same key, none of the others has its
+  pub put_apart : (rows : List Row) → is_taken rows new ≡ false
+      → IsDistinct e (map key (put_row new rows)) → (r : Row) → Has rows r
+      → e (key new) (key r) ≡ false
+  unfolding IsDistinct
+  put_apart [] free apart r there = absurd there
+  put_apart (x ∷ rows) free apart r there =
+      go (value_cmp (rowid x) (rowid new)) (or_parts _ _ free).0 apart
+      (put_apart rows (or_parts _ _ free).1) there
+    where
+      go : (o : Ordering) → is_eq o ≡ false
+          → IsDistinct e (map key (match_ordering o (x ∷ put_row new rows) (new ∷ rows)
+          (new ∷ x ∷ rows)))
+          → (IsDistinct e (map key (put_row new rows)) → (y : Row) → Has rows y
+          → e (key new) (key y) ≡ false)
+          → Has (x ∷ rows) r → e (key new) (key r) ≡ false
+      go Less other apart later (inl same) =
+          subst (λ (y : Row). e (key new) (key y) ≡ false) (sym same)
+          (symm (key new) (key x) ∙ apart_from (key x) (put_row new rows) apart.0 new
+          (has_put new rows))
+      go Less other apart later (inr more) = later apart.1 r more
+      go Equal other apart later there = absurd (true≢false other)
+      go Greater other apart later there = apart_from (key new) (x ∷ rows) apart.0 r there
 
 -- a row goes in place of those that have its key
 module _ (t : Layout) (rows : List Row) (ids : List ℤ) (stored : Row)
@@ -122,5 +135,5 @@ free_rowid rows n row shaped free t keys r there = false_from_ne_true _ (λ hit.
     let same : number n ∷ [] ≡ cell_of (rowid r) ∷ [] = subst (λ places. number n ∷ [] ≡ cells_at places r) keys (cells_exact _ _ (tied _ hit)) in
     let cell : number n ∷ [] ≡ number (id_in (rowid r)) ∷ [] = same ∙ ap (λ v. cell_of v ∷ []) int in
     let is : n ≡ id_in (rowid r) = cc in
-    let tie : is_eq (value_cmp (rowid r) (Int n)) ≡ true = subst (λ v. is_eq (value_cmp (rowid r) v) ≡ true) (int ∙ ap Int (sym is)) (ap is_eq (level (value_cmp (rowid r) (rowid r)) (value_cmp_total.antisymm (rowid r) (rowid r)))) in
+    let tie : is_eq (value_cmp (rowid r) (Int n)) ≡ true = subst (λ v. is_eq (value_cmp (rowid r) v) ≡ true) (int ∙ ap Int (sym is)) (ap is_eq (tied_itself value_cmp_total (rowid r))) in
     true≢false (sym (some_from (λ x. is_eq (value_cmp (rowid x) (Int n))) rows r there tie) ∙ free))

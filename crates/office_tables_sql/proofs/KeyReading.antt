@@ -1,8 +1,7 @@
 -- A key from the numbers of its columns.
-use Rattle.std.proofs.Common.{◌≡◌, ℕ, ◌<◌, ◌^◌, pos, sym, subst, ◌∙◌, arith}
+use Rattle.std.proofs.Common.{◌≡◌, ℕ, ◌<◌, ◌^◌, pos, arith}
 use Rattle.sqlite.specs.Order.{Row, column}
 use Rattle.signal_records.specs.Key.{kind_of, first_of, second_of}
-use Rattle.signal_records.specs.KeyOrder.{key_at, key_at-place_of}
 use Rattle.signal_records.specs.Within.{IsKeyWithin, current_limits}
 use Rattle.signal_records.specs.declared.key.Key.{Key}
 use Rattle.signal_records.specs.declared.key.Key.TheVariants.{Phase, Seq, Split, Pattern}
@@ -10,13 +9,6 @@ use Rattle.office_tables_shelf.specs.Cells.{number}
 use Rattle.office_tables_shelf.specs.Rows.{timing_key}
 use Rattle.office_tables_sql.specs.Listed.{shown_key}
 use Rattle.office_tables_sql.specs.Stored.{cell_of}
-
--- a key is the one at its kind and numbers
-pub placed : (kind first second : ℕ) (key : Key) → kind_of key ≡ kind → first_of key ≡ first → second_of key ≡ second → key ≡ key_at kind first second
-placed kind first second key k f s = sym (key_at-place_of key) ∙ (λ i. key_at (k i) (f i) (s i))
-
-pub placed_within : (kind first second : ℕ) (key : Key) → IsKeyWithin current_limits key → kind_of key ≡ kind → first_of key ≡ first → second_of key ≡ second → IsKeyWithin current_limits (key_at kind first second)
-placed_within kind first second key within k f s = subst (IsKeyWithin current_limits) (placed kind first second key k f s) within
 
 -- there are four kinds
 pub kinds : (key : Key) → (0 < kind_of key) × (kind_of key < 5)
@@ -46,6 +38,3 @@ module _ (row : Row) (id : ℕ) (key : Key) (same : shown_key row ≡ timing_key
 
   pub second_shown : cell_of (column row 3) ≡ number (pos (second_of key))
   second_shown = cc
-
-pub same_number : (m n : ℕ) → number (pos m) ≡ number (pos n) → m ≡ n
-same_number m n h = cc

@@ -3,11 +3,11 @@ use Rattle.std.proofs.Common.{◌≡◌, ℕ, Bool, true, false, List, [], ◌�
 use Rattle.std.proofs.lemmas.Bool.{and_parts, and_from}
 use Rattle.std.specs.Cmp.{both_tied, eq_by_cmp_equiv}
 use Rattle.std.specs.FinMap.{get}
-use Rattle.std.specs.Ordering.{is_eq}
+use Rattle.std.specs.Ordering.{is_eq, ordering_then}
 use Rattle.sqlite.specs.Collation.TheVariants.{Binary}
 use Rattle.sqlite.specs.declared.types.Value.{Value}
 use Rattle.sqlite.specs.declared.types.Value.TheVariants.{Null, Int, Real, Text, Blob}
-use Rattle.sqlite.specs.Order.{Row, column}
+use Rattle.sqlite.specs.Order.{Row, column, value_cmp, row_cmp}
 use Rattle.sqlite.specs.Tree.{rowid}
 use Rattle.sqlite.specs.View.{IsShaped}
 use Rattle.sqlite_trees.specs.declared.store.Shape.TheVariants as shape
@@ -29,21 +29,39 @@ told : (b : Bool) → is_true (from_truth (Some b)) ≡ b
 told true = refl
 told false = refl
 
-equal_ties : (a b : Value) → is_sound a ≡ true → is_sound b ≡ true → equal Binary a b ≡ is_eq (cell_cmp (cell_of a) (cell_of b))
+-- sound values are ordered as their cells, and = is the tie
+compared : (a b : Value) → is_sound a ≡ true → is_sound b ≡ true
+    → (value_cmp a b ≡ cell_cmp (cell_of a) (cell_of b))
+    × (equal Binary a b ≡ is_eq (value_cmp a b))
 unfolding binary cell_cmp
-equal_ties Null b h k = absurd (true≢false (sym h))
-equal_ties (Real x) b h k = absurd (true≢false (sym h))
-equal_ties (Blob x) b h k = absurd (true≢false (sym h))
-equal_ties (Int m) Null h k = absurd (true≢false (sym k))
-equal_ties (Int m) (Real y) h k = absurd (true≢false (sym k))
-equal_ties (Int m) (Blob y) h k = absurd (true≢false (sym k))
-equal_ties (Int m) (Int n) h k = told _ ∙ ap is_eq (value_cmp-Int m n ∙ sym (then-Equal (int_cmp m n)))
-equal_ties (Int m) (Text t) h k = told _ ∙ ap is_eq (value_cmp-apart (Int m) (Text t) (λ e. cc))
-equal_ties (Text s) Null h k = absurd (true≢false (sym k))
-equal_ties (Text s) (Real y) h k = absurd (true≢false (sym k))
-equal_ties (Text s) (Blob y) h k = absurd (true≢false (sym k))
-equal_ties (Text s) (Int n) h k = told _ ∙ ap is_eq (value_cmp-apart (Text s) (Int n) (λ e. cc))
-equal_ties (Text s) (Text t) h k = told _ ∙ ap is_eq (value_cmp-Text s t)
+compared Null b h k = absurd (true≢false (sym h))
+compared (Real x) b h k = absurd (true≢false (sym h))
+compared (Blob x) b h k = absurd (true≢false (sym h))
+compared (Int m) Null h k = absurd (true≢false (sym k))
+compared (Int m) (Real y) h k = absurd (true≢false (sym k))
+compared (Int m) (Blob y) h k = absurd (true≢false (sym k))
+compared (Int m) (Int n) h k = (value_cmp-Int m n ∙ sym (then-Equal (int_cmp m n)), told _)
+compared (Int m) (Text t) h k = (value_cmp-apart (Int m) (Text t) (λ e. cc), told _)
+compared (Text s) Null h k = absurd (true≢false (sym k))
+compared (Text s) (Real y) h k = absurd (true≢false (sym k))
+compared (Text s) (Blob y) h k = absurd (true≢false (sym k))
+compared (Text s) (Int n) h k = (value_cmp-apart (Text s) (Int n) (λ e. cc), told _)
+compared (Text s) (Text t) h k = (value_cmp-Text s t, told _)
+
+equal_ties : (a b : Value) → is_sound a ≡ true → is_sound b ≡ true → equal Binary a b ≡ is_eq (cell_cmp (cell_of a) (cell_of b))
+equal_ties a b h k = let it = compared a b h k in it.1 ∙ ap is_eq it.0
+
+-- SQL's order of the values of sound keys is that of their cells
+pub same_order : (ps qs : List ℕ) (a b : Row) → are_sound ps a ≡ true → are_sound qs b ≡ true → row_cmp (values_at ps a) (values_at qs b) ≡ cells_cmp (cells_at ps a) (cells_at qs b)
+same_order [] [] a b h k = refl
+same_order [] (q ∷ qs) a b h k = refl
+same_order (p ∷ ps) [] a b h k = refl
+same_order (p ∷ ps) (q ∷ qs) a b h k =
+    let hs = and_parts _ _ h in
+    let ks = and_parts _ _ k in
+    let first = compared (column a p) (column b q) hs.0 ks.0 in
+    let later = same_order ps qs a b hs.1 ks.1 in
+    λ i. ordering_then (first.0 i) (later i)
 
 -- over the values of sound keys, SQL's = is the tie of their cells
 pub agree_ties : (ps qs : List ℕ) (a b : Row) → are_sound ps a ≡ true → are_sound qs b ≡ true → agree plain ps a qs b ≡ is_eq (cells_cmp (cells_at ps a) (cells_at qs b))

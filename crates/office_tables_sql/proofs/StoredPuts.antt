@@ -1,7 +1,10 @@
--- The statements that put and remove a row, and what they make of the tables.
-use Rattle.std.proofs.Common.{◌≡◌, ◌≢◌, ℕ, List, [], ◌∷◌, ◌++◌, map, filter, length, false, refl, sym, ap, subst, ◌∙◌}
-use Rattle.std.specs.FinMap.{insert, remove}
+-- The statements that put and remove rows, and what they make of the tables.
+use Rattle.std.proofs.Common.{◌≡◌, ◌≢◌, ℕ, List, [], ◌∷◌, ◌++◌, map, filter, length, not, refl, sym, ap, subst, ◌∙◌}
+use Rattle.std.specs.FinMap.{insert, remove, retain_keys}
+use Rattle.std.specs.Cmp.{eq_by_cmp_equiv}
+use Rattle.std.specs.List.{IsDistinct}
 use Rattle.std.specs.List.Sorted.{IsPermutation}
+use Rattle.std.specs.Ordering.{eq_by_cmp}
 use Rattle.sqlite.specs.declared.types.Value.TheVariants.{Null}
 use Rattle.sqlite.specs.Cast.{cast_row}
 use Rattle.sqlite.specs.Edit.{with_rowid}
@@ -9,45 +12,33 @@ use Rattle.sqlite.specs.Kind.TheVariants as kind
 use Rattle.sqlite.specs.Rowids.TheVariants.{Chosen}
 use Rattle.sqlite.specs.Order.{Row}
 use Rattle.sqlite.specs.Program.{overlay}
+use Rattle.sqlite.specs.Query.{IsAnswer}
 use Rattle.sqlite.specs.Rows.{Written}
 use Rattle.sqlite.specs.State.{State}
-use Rattle.sqlite.specs.Term.{eval_all}
-use Rattle.sqlite.specs.Tree.{Trees}
+use Rattle.sqlite.specs.Term.{col, eval_all}
 use Rattle.sqlite_rules.specs.Lists.{Has}
-use Rattle.office_tables_shelf.specs.Cells.{Cell, null}
+use Rattle.office_tables_shelf.specs.Cells.{Cell, cells_cmp, null}
+use Rattle.office_tables_shelf.proofs.CellLemmas.{cells_total}
 use Rattle.office_tables_shelf.specs.Content.{Content}
 use Rattle.office_tables_shelf.specs.declared.rows.Table.{Table}
-use Rattle.office_tables_shelf.specs.declared.rows.Table.TheVariants as table
 use Rattle.office_tables_sql.specs.Calls.{IsReady, Ran}
-use Rattle.office_tables_sql.specs.Layout.{has_key}
+use Rattle.office_tables_sql.specs.Layout.{has_key, values_at}
 use Rattle.office_tables_sql.specs.Schema.{office_schema}
-use Rattle.office_tables_sql.specs.Stored.{content_of, content_now, rows_in}
+use Rattle.office_tables_sql.specs.Stored.{cells_at, content_now, rows_in}
 use Rattle.office_tables_sql.proofs.Casts.{cast_one, cast_suited}
-use Rattle.office_tables_sql.proofs.ContentLemmas.{put_at}
-use Rattle.office_tables_sql.proofs.InsertLemmas.{Added, adds}
-use Rattle.office_tables_sql.proofs.QueryLemmas.{picked}
-use Rattle.office_tables_sql.proofs.RemoveLemmas.{remove_keyed}
-use Rattle.office_tables_sql.proofs.StoredLemmas.{has_cells}
+use Rattle.office_tables_sql.proofs.ContentLemmas.{put_at, put_apart}
+use Rattle.office_tables_sql.proofs.WriteLemmas.{Added, adds, went_on, same_value, wrote}
+use Rattle.office_tables_sql.proofs.QueryLemmas.{picked, where_picked}
+use Rattle.office_tables_sql.proofs.RemoveLemmas.{dropped_rows, loses, remove_keyed}
 use Rattle.office_tables_sql.proofs.UpdateLemmas.{Renewed, renews}
-use Rattle.office_tables_sql.proofs.WriteLemmas.{went_on, same_value, wrote}
 use Rattle.office_tables_sql.specs.Tables.{beside_rowid, id_given, row_given, source_at, rows_at, with_rows, layout_at, schema_at, place_at, renewed_at, put_in, remove_in, key_given, values_of, IsKeyOf, IsUpdateText, IsInsertText, IsRemoveText, Fits}
-use Rattle.office_tables_sql.proofs.TableLemmas.{is_placed, is_low, is_uncounted, is_idle, facts, same_tree, rows_in_tree, only_in}
-use Rattle.office_tables_sql.proofs.StoredLists.{shaped, own_keys, seen}
+use Rattle.office_tables_sql.specs.Tables.{filter_of, is_among, params_of, picked_where, IsDropText}
+use Rattle.office_tables_sql.proofs.TableLemmas.{each, is_placed, is_low, is_uncounted, is_idle, facts, in_tree, same_tree, only_in}
+use Rattle.office_tables_sql.proofs.StoredLists.{distinct, shaped, own_keys, seen}
 
 -- the content with the rows that it has
 with_same : (t : Table) (tables : Content) → with_rows tables t (rows_at tables t) ≡ tables
-with_same table.Intersection tables = refl
-with_same table.Timing tables = refl
-with_same table.Draft tables = refl
-with_same table.Inspection tables = refl
-with_same table.WorkOrder tables = refl
-with_same table.Part tables = refl
-with_same table.Delivery tables = refl
-with_same table.UsedPart tables = refl
-
--- the rows of a table as its tree has them
-in_tree : (t : Table) (trees : Trees) → rows_at (content_of trees) t ≡ rows_in (layout_at t) (trees (schema_at t).tree)
-in_tree t trees = rows_in_tree t trees ∙ ap (λ n. rows_in (layout_at t) (trees n)) (same_tree t)
+with_same t tables = each (λ t. with_rows tables t (rows_at tables t) ≡ tables) refl refl refl refl refl refl refl refl t
 
 module _ (t : Table) (key columns : List Cell) (fits : Fits t key columns) where
   abbrev tree : ℕ
@@ -56,14 +47,10 @@ module _ (t : Table) (key columns : List Cell) (fits : Fits t key columns) where
   abbrev params : Row
   params = values_of (key ++ columns)
 
-  -- no row has the key
-  abbrev IsFree : Trees → Type 0
-  IsFree trees = (r : Row) → Has (trees tree) r → has_cells (layout_at t) key r ≡ false
-
   -- The row under the key has the other cells, or there is none and all is as it was.
   pub record Updated (count : ℕ) (old new : State) : Type 0 where
     pub ready : IsReady new
-    pub none : count ≡ 0 → (content_now new ≡ content_now old) × IsFree new.now.trees
+    pub none : count ≡ 0 → content_now new ≡ content_now old
     pub some : count ≢ 0 → content_now new ≡ put_in (content_now old) t key columns
 
   pub updates : (sql : List ℕ) → IsUpdateText t sql → (old new : State) (count : ℕ) → IsReady old → Ran sql params old new count → Updated count old new
@@ -78,15 +65,13 @@ module _ (t : Table) (key columns : List Cell) (fits : Fits t key columns) where
       let it = subst (Renewed t key columns fits old.now ready.schema ready.sound ready.ordered count) (sym next) (renews t key columns fits old.now ready.schema ready.sound ready.ordered count edited.0 asked.0 found edited.1 told) in
       record {
         ready = did_write.goes_on it.others it.shapes;
-        none = λ none. (
-          only_in old.now.trees new.now.trees t _ it.others (ap (rows_in (layout_at t)) (it.none none).0 ∙ sym (in_tree t old.now.trees)) ∙ with_same t (content_now old),
-          subst (λ rows. (r : Row) → Has rows r → has_cells (layout_at t) key r ≡ false) (sym (it.none none).0) (it.none none).1,
-        );
+        none = λ none. only_in old.now.trees new.now.trees t _ it.others (ap (rows_in (layout_at t)) (it.none none) ∙ sym (in_tree t old.now.trees)) ∙ with_same t (content_now old);
         some = λ some. only_in old.now.trees new.now.trees t _ it.others (it.some some ∙ ap (λ rows. insert rows key columns) (sym (in_tree t old.now.trees)));
       }
 
-  pub inserts : (sql : List ℕ) → IsInsertText t sql → (old new : State) (count : ℕ) → IsReady old → IsFree old.now.trees → Ran sql params old new count → IsReady new × (content_now new ≡ put_in (content_now old) t key columns)
-  inserts sql means old new count ready free did =
+  -- an INSERT that was accepted added the row, and no other had its key
+  pub inserts : (sql : List ℕ) → IsInsertText t sql → (old new : State) (count : ℕ) → IsReady old → Ran sql params old new count → IsReady new × (content_now new ≡ put_in (content_now old) t key columns)
+  inserts sql means old new count ready did =
       let rows = old.now.trees tree in
       let did_write = wrote sql _ (record { is = means.is; plain = means.plain }) (place_at t) (schema_at t) (is_placed t) params old new count (record { runs = λ w. w; does = λ db out d. d }) ready did in
       let given = row_given t key columns in
@@ -95,9 +80,16 @@ module _ (t : Table) (key columns : List Cell) (fits : Fits t key columns) where
       (adds (schema_at t) (is_uncounted t) (is_idle t) (source_at t) params given old.step_limit old.now.trees (fits.given old.step_limit (record { schema = office_schema; trees = old.now.trees })) casts
       (shaped t old.now ready.schema ready.sound ready.ordered) did_write.written did_write.rows) in
       let placed = fits.placed rows in
-      let at = put_at (layout_at t) rows [] (with_rowid Chosen rows given) (λ r id there among at_id. absurd among) (λ r there. subst (λ k. has_cells (layout_at t) k r ≡ false) (sym placed.0) (free r there)) it.fresh in
+      let now = did_write.goes_on it.others it.shapes in
+      let stored = with_rowid Chosen rows given in
+      let apart = subst (λ (all : List Row). IsDistinct (eq_by_cmp cells_cmp)
+      (map (cells_at (layout_at t).keys) all)) it.rows
+      (distinct t new.now now.schema now.sound now.ordered) in
+      let at = put_at (layout_at t) rows [] stored (λ r id there among at_id. absurd among)
+      (put_apart (eq_by_cmp cells_cmp) (eq_by_cmp_equiv cells_total).symm
+      (cells_at (layout_at t).keys) stored rows it.fresh apart) it.fresh in
       let put : rows_in (layout_at t) (new.now.trees tree) ≡ insert (rows_in (layout_at t) rows) key columns = ap (rows_in (layout_at t)) it.rows ∙ at ∙ (λ i. insert (rows_in (layout_at t) rows) (placed.0 i) (placed.1 i)) in (
-        did_write.goes_on it.others it.shapes,
+        now,
         only_in old.now.trees new.now.trees t _ it.others (put ∙ ap (λ rows. insert rows key columns) (sym (in_tree t old.now.trees))),
       )
 
@@ -109,8 +101,8 @@ module _ (t : Table) (key columns : List Cell) (fits : Fits t key columns) where
       → IsReady new × (content_now new ≡ put_in (content_now old) t key columns)
   two_put update insert changes adds old mid new count added none ready first second =
       let it = updates update changes old mid count ready first in
-      let then = inserts insert adds mid new added it.ready (it.none none).1 second in
-      (then.0, then.1 ∙ ap (λ tables. put_in tables t key columns) (it.none none).0)
+      let then = inserts insert adds mid new added it.ready second in
+      (then.0, then.1 ∙ ap (λ tables. put_in tables t key columns) (it.none none))
 
 pub removes : (t : Table) (sql : List ℕ) (means : IsRemoveText t sql) (key : Row) (given : IsKeyOf t key) (old new : State) (count : ℕ) → IsReady old → Ran sql key old new count
     → IsReady new × (content_now new ≡ remove_in (content_now old) t (key_given t key))
@@ -119,4 +111,33 @@ removes t sql means key given old new count ready did =
     old new count (shaped t old.now ready.schema ready.sound ready.ordered) (own_keys t old.now ready.schema ready.sound ready.ordered) ready did in (
       it.0,
       only_in old.now.trees new.now.trees t _ it.1.others (it.1.at ∙ ap (λ rows. remove rows (key_given t key)) (sym (in_tree t old.now.trees))),
+    )
+
+pub drops : (t : Table) (sql : List ℕ) (means : IsDropText t sql) (id : ℕ) (old new : State)
+    (count : ℕ) → IsReady old → Ran sql (params_of t id) old new count
+    → IsReady new × (content_now new ≡ with_rows (content_now old) t
+    (retain_keys (rows_at (content_now old) t) (λ key. not (is_among t id key))))
+drops t sql means id old new count ready did =
+    let db = old.now.trees in
+    let rows = db (schema_at t).tree in
+    let test = λ (r : Row). is_among t id (cells_at (layout_at t).keys r) in
+    let whole = shaped t old.now ready.schema ready.sound ready.ordered in
+    let keys = own_keys t old.now ready.schema ready.sound ready.ordered in
+    let low = seen t old.now ready.schema ready.sound ready.ordered in
+    let shows = λ (found : List Row)
+    (answer : IsAnswer (picked_where (layout_at t) (filter_of t) (col 1 0 ∷ [])) (overlay db [])
+    (params_of t id) found).
+    subst (λ all. IsPermutation (map (values_at (0 ∷ [])) (filter test all)) found) low
+    (where_picked (layout_at t) (filter_of t) (col 1 0 ∷ []) (params_of t id) test
+    (values_at (0 ∷ [])) (λ row. refl) (overlay db []) found
+    (λ row there. (facts t).first id row (keys row (subst (λ all. Has all row) low there)))
+    answer) in
+    let it = loses (schema_at t) (place_at t) (is_placed t) (is_idle t) sql
+    (picked_where (layout_at t) (filter_of t) (col 1 0 ∷ []))
+    (record { is = means.is; plain = means.plain }) (params_of t id) old new count test shows whole
+    ready did in
+    let left = dropped_rows (layout_at t) rows (is_among t id) it.1.found it.1.hits whole in (
+      it.0,
+      only_in db new.now.trees t _ it.1.others (ap (rows_in (layout_at t)) it.1.left ∙ left
+          ∙ ap (λ all. retain_keys all (λ key. not (is_among t id key))) (sym (in_tree t db))),
     )

@@ -1,40 +1,64 @@
 -- What is known of each table by computation on the schema.
-use Rattle.std.proofs.Common.{◌≡◌, ◌≢◌, ◌⊎◌, inl, inr, ℕ, ◌+◌, ◌/◌, true, false, true≢false, cond, [], ◌∷◌, slice_get, unwrap_or, None, Some, refl, sym, ap, subst, ◌∙◌, eq-eqb}
-use Rattle.std.proofs.lemmas.Bool.{cases_Bool, eqb-true}
+use Rattle.std.proofs.Common.{◌≡◌, ◌≢◌, ◌⊎◌, inl, inr, ℕ, ◌+◌, ◌/◌, true, false, true≢false, cond, List, [], ◌∷◌, slice_get, unwrap_or, None, Some, refl, sym, ap, subst, ◌∙◌, eq-eqb, pos}
+use Rattle.std.proofs.lemmas.Bool.{cases_Bool, eqb-true, and_parts, and_from}
 use Rattle.std.specs.List.{AllByRecursion, list_all}
-use Rattle.sqlite.specs.Order.{Row}
-use Rattle.sqlite.specs.Term.{holds}
+use Rattle.sqlite.specs.Order.{Row, column}
+use Rattle.sqlite.specs.Term.{Term, holds}
 use Rattle.sqlite.specs.Tree.{Trees}
 use Rattle.sqlite.specs.Program.{overlay}
 use Rattle.sqlite_rules.specs.Lists.{Has}
 use Rattle.sqlite_rules.proofs.ListLemmas.{all_has}
 use Rattle.sqlite_schema.specs.Rules.{guards}
 use Rattle.sqlite_schema.specs.declared.schema.Index.{Index}
-use Rattle.sqlite_value.specs.Keys.{plain}
-use Rattle.office_tables_shelf.specs.Cells.{Rows}
+use Rattle.sqlite_value.specs.Keys.{plain, first_key}
+use Rattle.office_tables_shelf.specs.Cells.{Rows, number, cell_cmp}
 use Rattle.office_tables_shelf.specs.Content.{Content, is_same_table}
 use Rattle.office_tables_shelf.specs.declared.rows.Table.{Table}
 use Rattle.office_tables_shelf.specs.declared.rows.Table.TheVariants as table
 use Rattle.office_tables_sql.specs.Schema.{office_schema}
-use Rattle.office_tables_sql.specs.Stored.{cells_at, rows_in, content_of, are_sound}
+use Rattle.office_tables_sql.specs.Stored.{cells_at, rows_in, content_of, are_sound, cell_of}
 use Rattle.office_tables_sql.proofs.ListedLemmas.{IsListing}
 use Rattle.office_tables_sql.proofs.QueryLemmas.{ArePaired}
 use Rattle.office_tables_sql.proofs.SoundLemmas.{has_key_at}
 use Rattle.office_tables_sql.proofs.WriteLemmas.{IsIdle}
-use Rattle.office_tables_sql.specs.Tables.{rows_at, with_rows, layout_at, schema_at, place_at, key_shown, columns_shown, filter_of, params_of, is_among}
-use Rattle.office_tables_sql.proofs.FirstColumn.{first_is}
+use Rattle.office_tables_sql.specs.Tables.{rows_at, with_rows, layout_at, schema_at, place_at, key_shown, columns_shown, filter_of, params_of, is_among, of_key}
+use Rattle.std.specs.Cmp.{eq_by_cmp_equiv}
+use Rattle.std.specs.Ordering.{is_eq}
+use Rattle.sqlite.specs.declared.types.Value.TheVariants.{Int}
+use Rattle.sqlite_value.proofs.OrderLemmas.{then-Equal}
+use Rattle.office_tables_shelf.specs.Shelf.{is_of}
+use Rattle.office_tables_shelf.proofs.CellLemmas.{cell_total}
+use Rattle.office_tables_sql.proofs.StoredLemmas.{agree_ties}
+
+abbrev pub of_first : List Term
+of_first = of_key (1 ∷ []) (0 ∷ [])
+
+-- it is where its cell is that number
+pub first_is : (id : ℕ) (rest : List ℕ) (row : Row) → are_sound (1 ∷ rest) row ≡ true → list_all (holds ((Int (pos id) ∷ []) ∷ row ∷ [])) of_first ≡ is_of id (cells_at (1 ∷ rest) row)
+unfolding first_key
+first_is id rest row sound =
+    let first = and_from _ _ (and_parts _ _ sound).0 refl in
+    agree_ties (1 ∷ []) (0 ∷ []) row (Int (pos id) ∷ []) first refl
+    ∙ ap is_eq (then-Equal (cell_cmp (cell_of (column row 1)) (number (pos id))))
+    ∙ (eq_by_cmp_equiv cell_total).symm (cell_of (column row 1)) (number (pos id))
+
+-- what holds of each of the eight
+pub each : (P : Table → Type 0) → P table.Intersection → P table.Timing → P table.Draft
+    → P table.Inspection → P table.WorkOrder → P table.Part → P table.Delivery → P table.UsedPart
+    → (t : Table) → P t
+each P a b c d e f g h table.Intersection = a
+each P a b c d e f g h table.Timing = b
+each P a b c d e f g h table.Draft = c
+each P a b c d e f g h table.Inspection = d
+each P a b c d e f g h table.WorkOrder = e
+each P a b c d e f g h table.Part = f
+each P a b c d e f g h table.Delivery = g
+each P a b c d e f g h table.UsedPart = h
 
 -- ---- the schema
 
 pub same_tree : (t : Table) → (layout_at t).tree ≡ (schema_at t).tree
-same_tree table.Intersection = refl
-same_tree table.Timing = refl
-same_tree table.Draft = refl
-same_tree table.Inspection = refl
-same_tree table.WorkOrder = refl
-same_tree table.Part = refl
-same_tree table.Delivery = refl
-same_tree table.UsedPart = refl
+same_tree = each (λ t. (layout_at t).tree ≡ (schema_at t).tree) refl refl refl refl refl refl refl refl
 
 pub is_listed : (t : Table) → Has office_schema.tables (schema_at t)
 is_listed table.Intersection = inl refl
@@ -47,34 +71,15 @@ is_listed table.Delivery = inr (inr (inr (inr (inr (inr (inl refl))))))
 is_listed table.UsedPart = inr (inr (inr (inr (inr (inr (inr (inl refl)))))))
 
 pub is_placed : (t : Table) → slice_get office_schema.tables (place_at t) ≡ Some (schema_at t)
-is_placed table.Intersection = refl
-is_placed table.Timing = refl
-is_placed table.Draft = refl
-is_placed table.Inspection = refl
-is_placed table.WorkOrder = refl
-is_placed table.Part = refl
-is_placed table.Delivery = refl
-is_placed table.UsedPart = refl
+is_placed =
+    each (λ t. slice_get office_schema.tables (place_at t) ≡ Some (schema_at t)) refl refl refl refl refl refl refl refl
 
 pub is_low : (t : Table) (trees : Trees) → overlay trees [] (layout_at t).tree ≡ trees (layout_at t).tree
-is_low table.Intersection trees = refl
-is_low table.Timing trees = refl
-is_low table.Draft trees = refl
-is_low table.Inspection trees = refl
-is_low table.WorkOrder trees = refl
-is_low table.Part trees = refl
-is_low table.Delivery trees = refl
-is_low table.UsedPart trees = refl
+is_low t trees =
+    each (λ t. overlay trees [] (layout_at t).tree ≡ trees (layout_at t).tree) refl refl refl refl refl refl refl refl t
 
 pub is_uncounted : (t : Table) → (schema_at t).is_counted ≡ false
-is_uncounted table.Intersection = refl
-is_uncounted table.Timing = refl
-is_uncounted table.Draft = refl
-is_uncounted table.Inspection = refl
-is_uncounted table.WorkOrder = refl
-is_uncounted table.Part = refl
-is_uncounted table.Delivery = refl
-is_uncounted table.UsedPart = refl
+is_uncounted = each (λ t. (schema_at t).is_counted ≡ false) refl refl refl refl refl refl refl refl
 
 pub is_idle : (t : Table) → IsIdle office_schema (schema_at t)
 is_idle table.Intersection = record { on_change = λ olds new. refl; on_delete = λ olds. refl }
@@ -121,41 +126,33 @@ table_at n = unwrap_or (slice_get (table.Intersection ∷ table.Timing ∷ table
 
 at_place : (t : Table) → table_at (place_at t) ≡ t
 unfolding table_at
-at_place table.Intersection = refl
-at_place table.Timing = refl
-at_place table.Draft = refl
-at_place table.Inspection = refl
-at_place table.WorkOrder = refl
-at_place table.Part = refl
-at_place table.Delivery = refl
-at_place table.UsedPart = refl
+at_place = each (λ t. table_at (place_at t) ≡ t) refl refl refl refl refl refl refl refl
 
 same_table : (t other : Table) → is_same_table t other ≡ true → t ≡ other
 same_table t other same = sym (at_place t) ∙ ap table_at (eqb-true (place_at t) (place_at other) same) ∙ at_place other
 
 -- ---- what a query shows
 
-pub listing_of : (t : Table) → IsListing (layout_at t) (filter_of t) (key_shown t) (columns_shown t)
-listing_of table.Intersection = record { shows = λ params row. refl; orders = λ a b. refl; keys = λ row. refl; others = λ row. refl }
-listing_of table.Timing = record { shows = λ params row. refl; orders = λ a b. refl; keys = λ row. refl; others = λ row. refl }
-listing_of table.Draft = record { shows = λ params row. refl; orders = λ a b. refl; keys = λ row. refl; others = λ row. refl }
-listing_of table.Inspection = record { shows = λ params row. refl; orders = λ a b. refl; keys = λ row. refl; others = λ row. refl }
-listing_of table.WorkOrder = record { shows = λ params row. refl; orders = λ a b. refl; keys = λ row. refl; others = λ row. refl }
-listing_of table.Part = record { shows = λ params row. refl; orders = λ a b. refl; keys = λ row. refl; others = λ row. refl }
-listing_of table.Delivery = record { shows = λ params row. refl; orders = λ a b. refl; keys = λ row. refl; others = λ row. refl }
-listing_of table.UsedPart = record { shows = λ params row. refl; orders = λ a b. refl; keys = λ row. refl; others = λ row. refl }
+-- whatever its filter
+pub listing_of : (filter : List Term) (t : Table) → IsListing (layout_at t) filter (key_shown t) (columns_shown t)
+listing_of filter table.Intersection = record { shows = λ params row. refl; orders = λ a b. refl; keys = λ row. refl; others = λ row. refl }
+listing_of filter table.Timing = record { shows = λ params row. refl; orders = λ a b. refl; keys = λ row. refl; others = λ row. refl }
+listing_of filter table.Draft = record { shows = λ params row. refl; orders = λ a b. refl; keys = λ row. refl; others = λ row. refl }
+listing_of filter table.Inspection = record { shows = λ params row. refl; orders = λ a b. refl; keys = λ row. refl; others = λ row. refl }
+listing_of filter table.WorkOrder = record { shows = λ params row. refl; orders = λ a b. refl; keys = λ row. refl; others = λ row. refl }
+listing_of filter table.Part = record { shows = λ params row. refl; orders = λ a b. refl; keys = λ row. refl; others = λ row. refl }
+listing_of filter table.Delivery = record { shows = λ params row. refl; orders = λ a b. refl; keys = λ row. refl; others = λ row. refl }
+listing_of filter table.UsedPart = record { shows = λ params row. refl; orders = λ a b. refl; keys = λ row. refl; others = λ row. refl }
 
 -- ---- the content
 
 pub rows_in_tree : (t : Table) (trees : Trees) → rows_at (content_of trees) t ≡ rows_in (layout_at t) (trees (layout_at t).tree)
-rows_in_tree table.Intersection trees = refl
-rows_in_tree table.Timing trees = refl
-rows_in_tree table.Draft trees = refl
-rows_in_tree table.Inspection trees = refl
-rows_in_tree table.WorkOrder trees = refl
-rows_in_tree table.Part trees = refl
-rows_in_tree table.Delivery trees = refl
-rows_in_tree table.UsedPart trees = refl
+rows_in_tree t trees = each (λ t. rows_at (content_of trees) t
+    ≡ rows_in (layout_at t) (trees (layout_at t).tree)) refl refl refl refl refl refl refl refl t
+
+-- the same by the tree of the schema
+pub in_tree : (t : Table) (trees : Trees) → rows_at (content_of trees) t ≡ rows_in (layout_at t) (trees (schema_at t).tree)
+in_tree t trees = rows_in_tree t trees ∙ ap (λ n. rows_in (layout_at t) (trees n)) (same_tree t)
 
 -- what holds the same rows table by table is the same
 pub same_content : (a b : Content) → ((t : Table) → rows_at a t ≡ rows_at b t) → a ≡ b
@@ -171,33 +168,19 @@ same_content a b same = λ i. record {
 }
 
 rows_with : (tables : Content) (t : Table) (rows : Rows) (other : Table) → rows_at (with_rows tables t rows) other ≡ cond (is_same_table t other) rows (rows_at tables other)
-rows_with tables t rows table.Intersection = refl
-rows_with tables t rows table.Timing = refl
-rows_with tables t rows table.Draft = refl
-rows_with tables t rows table.Inspection = refl
-rows_with tables t rows table.WorkOrder = refl
-rows_with tables t rows table.Part = refl
-rows_with tables t rows table.Delivery = refl
-rows_with tables t rows table.UsedPart = refl
+rows_with tables t rows = each (λ other. rows_at (with_rows tables t rows) other
+    ≡ cond (is_same_table t other) rows (rows_at tables other)) refl refl refl refl refl refl refl refl
 
 -- the place of a table from its number
 placed : (t : Table) → ((schema_at t).tree + 1) / 2 ≡ place_at t
-placed table.Intersection = refl
-placed table.Timing = refl
-placed table.Draft = refl
-placed table.Inspection = refl
-placed table.WorkOrder = refl
-placed table.Part = refl
-placed table.Delivery = refl
-placed table.UsedPart = refl
+placed = each (λ t. ((schema_at t).tree + 1) / 2 ≡ place_at t) refl refl refl refl refl refl refl refl
 
 -- the trees of the tables but the one with this number are as they were
 module _ (old new : Trees) (tree : ℕ) (others : AllByRecursion (λ x. x.tree ≢ tree → new x.tree ≡ old x.tree) office_schema.tables) where
   stays : (t : Table) → (schema_at t).tree ≢ tree → rows_at (content_of new) t ≡ rows_at (content_of old) t
   stays t apart =
       let same = all_has (λ x. x.tree ≢ tree → new x.tree ≡ old x.tree) office_schema.tables (schema_at t) others (is_listed t) apart in
-      let at = same_tree t in
-      rows_in_tree t new ∙ ap (λ n. rows_in (layout_at t) (new n)) at ∙ ap (rows_in (layout_at t)) same ∙ ap (λ n. rows_in (layout_at t) (old n)) (sym at) ∙ sym (rows_in_tree t old)
+      in_tree t new ∙ ap (rows_in (layout_at t)) same ∙ sym (in_tree t old)
 
   -- it is none of the eight
   pub none_in : ((t : Table) → (schema_at t).tree ≢ tree) → content_of new ≡ content_of old
@@ -210,7 +193,7 @@ only_in old new t rows others is =
     same_content (content_of new) (with_rows (content_of old) t rows) (λ other. go other (cases_Bool (is_same_table t other)) ∙ sym (rows_with (content_of old) t rows other))
   where
     here : rows_at (content_of new) t ≡ rows
-    here = rows_in_tree t new ∙ ap (λ n. rows_in (layout_at t) (new n)) (same_tree t) ∙ is
+    here = in_tree t new ∙ is
 
     go : (other : Table) → (is_same_table t other ≡ true) ⊎ (is_same_table t other ≡ false) → rows_at (content_of new) other ≡ cond (is_same_table t other) rows (rows_at (content_of old) other)
     go other (inl same) = rw same (subst (λ u. rows_at (content_of new) u ≡ rows) (same_table t other same) here)

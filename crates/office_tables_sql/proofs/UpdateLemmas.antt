@@ -1,5 +1,5 @@
 -- What UPDATE of the row under a key makes of a table: that row takes the new columns, and where there is none the rows stay as they are.
-use Rattle.std.proofs.Common.{◌≡◌, ◌≢◌, ℕ, ℤ, List, [], ◌∷◌, ◌++◌, map, filter, drop, length, Bool, true, false, cond, Ok, refl, sym, ap, subst, ◌∙◌, arith, true≢false, inl, inr}
+use Rattle.std.proofs.Common.{◌≡◌, ◌≢◌, ◌≤◌, ℕ, ℤ, List, [], ◌∷◌, ◌++◌, map, filter, drop, length, Bool, true, false, cond, Ok, refl, sym, ap, subst, ◌∙◌, arith, true≢false, inl}
 use Rattle.std.proofs.lemmas.Bool.{false_from_ne_true, not-true, and_parts}
 use Rattle.std.proofs.lemmas.List.{map-append, length-map}
 use Rattle.std.proofs.lemmas.List.Sorted.{length_permutation}
@@ -24,7 +24,8 @@ use Rattle.sqlite_trees.specs.declared.store.Shape.TheVariants as shape
 use Rattle.sqlite_trees.proofs.TreeLemmas.{IsShaped-put_row}
 use Rattle.sqlite_rules.specs.Calls.{ids_of}
 use Rattle.sqlite_rules.specs.Lists.{Has}
-use Rattle.sqlite_rules.proofs.ListLemmas.{all_has, has_filtered}
+use Rattle.sqlite_rules.proofs.ListLemmas.{all_from, all_has, has_filtered}
+use Rattle.sqlite_trees.proofs.ListLemmas.{all-map}
 use Rattle.sqlite_rules.proofs.TableLemmas.{int_is, without_all_has}
 use Rattle.office_tables_shelf.specs.Cells.{Cell, cells_cmp, null}
 use Rattle.office_tables_shelf.proofs.CellLemmas.{cells_exact, tied}
@@ -38,7 +39,8 @@ use Rattle.office_tables_sql.proofs.Casts.{cast_int, cast_suited}
 use Rattle.office_tables_sql.proofs.ContentLemmas.{put_at, tie_self}
 use Rattle.office_tables_sql.proofs.ListedLemmas.{distinct_kept}
 use Rattle.office_tables_sql.proofs.QueryLemmas.{cols, shown_values}
-use Rattle.office_tables_sql.proofs.RemoveLemmas.{gone, stays, permuted, has_map}
+use Rattle.sqlite_rules.proofs.ProbeLemmas.{has_mapped}
+use Rattle.office_tables_sql.proofs.RemoveLemmas.{gone, stays, permuted}
 use Rattle.office_tables_sql.proofs.StoredLemmas.{HaveKeys, agree_ties, has_cells}
 use Rattle.office_tables_sql.proofs.StoredLists.{shaped, own_keys, distinct}
 use Rattle.office_tables_sql.proofs.WriteLemmas.{shaped_without}
@@ -72,23 +74,14 @@ beside_is false terms key params row e = refl
 
 -- ---- one row at most has a key
 
-module _ (p : Row → Bool) (key : Row → List Cell) (rows : List Row) (apart : IsDistinct (eq_by_cmp cells_cmp) (map key rows)) (same : (a b : Row) → Has rows a → Has rows b → p a ≡ true → p b ≡ true → key a ≡ key b) where
-  twice : (a b : Row) (more : List Row) → filter p rows ≡ a ∷ b ∷ more → ⊥
-  unfolding IsDistinct
-  twice a b more is =
-      let split = subst (λ xs. IsDistinct (eq_by_cmp cells_cmp) (map key xs)) is (distinct_kept (eq_by_cmp cells_cmp) key p rows apart) in
-      let one = has_filtered p rows a (subst (λ xs. Has xs a) (sym is) (inl refl)) in
-      let two = has_filtered p rows b (subst (λ xs. Has xs b) (sym is) (inr (inl refl))) in
-      let tie = subst (λ k. is_eq (cells_cmp (key a) k) ≡ true) (same a b one.0 two.0 one.1 two.1) (tie_self (key a)) in
-      true≢false (sym tie ∙ split.0.0)
-
-  pub one_at_most : length (filter p rows) ≢ 0 → length (filter p rows) ≡ 1
-  one_at_most some = go (filter p rows) refl some
-    where
-      go : (kept : List Row) → filter p rows ≡ kept → length kept ≢ 0 → length kept ≡ 1
-      go [] is n = absurd (n refl)
-      go (a ∷ []) is n = refl
-      go (a ∷ b ∷ more) is n = absurd (twice a b more is)
+few : (key : List Cell) (keys : List (List Cell)) → IsDistinct (eq_by_cmp cells_cmp) keys
+    → AllByRecursion (λ k. k ≡ key) keys → length keys ≤ 1
+unfolding IsDistinct
+few key [] apart same = omega arith
+few key (j ∷ []) apart same = omega arith
+few key (j ∷ k ∷ keys) apart same =
+    let tie = subst (λ x. is_eq (cells_cmp j x) ≡ true) (same.0 ∙ sym same.1.0) (tie_self j) in
+    absurd (true≢false (sym tie ∙ apart.0.0))
 
 -- ---- the statement
 
@@ -138,7 +131,7 @@ module _ (t : Table) (key columns : List Cell) (fits : Fits t key columns) (db :
   pub record Renewed (count : ℕ) (next : Trees) : Type 0 where
     pub shapes : IsShaped shape.Table (next tree)
     pub others : AllByRecursion (λ x. x.tree ≢ tree → next x.tree ≡ db.trees x.tree) office_schema.tables
-    pub none : count ≡ 0 → (next tree ≡ rows) × ((r : Row) → Has rows r → has_cells (layout_at t) key r ≡ false)
+    pub none : count ≡ 0 → next tree ≡ rows
     pub some : count ≢ 0 → rows_in (layout_at t) (next tree) ≡ insert (rows_in (layout_at t) rows) key columns
 
   module _ (count : ℕ) (next : Trees) where
@@ -151,7 +144,7 @@ module _ (t : Table) (key columns : List Cell) (fits : Fits t key columns) (db :
         record {
           shapes = subst (IsShaped shape.Table) (sym it.rows) was;
           others = it.tables;
-          none = λ _. (it.rows, λ r there. missed r there (stays (layout_at t) rows params show (λ x. refl) [] hits was r there));
+          none = λ _. it.rows;
           some = λ some. absurd (some counted);
         }
       where
@@ -160,7 +153,7 @@ module _ (t : Table) (key columns : List Cell) (fits : Fits t key columns) (db :
     renews (x ∷ []) hits did counted =
         let edit = step (x ∷ []) in
         let one : count ≡ 1 = counted in
-        let back = has_map show (filter has rows) x (permuted _ (x ∷ []) hits x (inl refl)) in
+        let back = has_mapped show (filter has rows) x (permuted _ (x ∷ []) hits x (inl refl)) in
         let r = back.0 in
         let there = has_filtered has rows r back.1 in
         let int = int_is (rowid r) (all_has _ rows r was.1 there.0) in
@@ -175,8 +168,8 @@ module _ (t : Table) (key columns : List Cell) (fits : Fits t key columns) (db :
         let fresh : is_taken rest new ≡ false = not-true _ (and_parts _ _ (subst (λ news. are_fresh rest news ≡ true) made it.fresh)).0 in
         let at_key = fits.kept n (drop 1 r) (subst (λ row. cells_at (layout_at t).keys row ≡ key) (begins r n int) (under r there.0 there.1)) in
         let at = put_at (layout_at t) rows (ids_of (x ∷ [])) new
-        (λ y id here among at_id. subst (λ k. has_cells (layout_at t) k y ≡ true) (sym at_key) (held y here (gone (layout_at t) rows params show (λ z. refl) (x ∷ []) hits was y id here among at_id)))
-        (λ y left. subst (λ k. has_cells (layout_at t) k y ≡ false) (sym at_key) (missed y (without_all_has (ids_of (x ∷ [])) rows y left) (stays (layout_at t) rows params show (λ z. refl) (x ∷ []) hits was y left))) fresh in
+        (λ y id here among at_id. subst (λ k. has_cells (layout_at t) k y ≡ true) (sym at_key) (held y here (gone rows has show (λ z. refl) (x ∷ []) hits was y id here among at_id)))
+        (λ y left. subst (λ k. has_cells (layout_at t) k y ≡ false) (sym at_key) (missed y (without_all_has (ids_of (x ∷ [])) rows y left) (stays rows has show (λ z. refl) (x ∷ []) hits was y left))) fresh in
         record {
           shapes = subst (IsShaped shape.Table) (sym now) (IsShaped-put_row new rest refl (shaped_without (ids_of (x ∷ [])) rows was));
           others = it.tables;
@@ -190,10 +183,15 @@ module _ (t : Table) (key columns : List Cell) (fits : Fits t key columns) (db :
         drop_first : (x : Row) (n : ℤ) → x ≡ Int n ∷ Int n ∷ stored_beside t key columns → drop 1 x ≡ Int n ∷ stored_beside t key columns
         drop_first x n is = ap (drop 1) is
     renews (x ∷ y ∷ more) hits did counted =
+        let of_key = λ (r : Row). cells_at (layout_at t).keys r in
+        let kept = filter has rows in
+        let apart = distinct_kept (eq_by_cmp cells_cmp) of_key has rows (distinct t db is sound ordered) in
+        let same = all-map (λ k. k ≡ key) of_key kept (all_from (λ r. of_key r ≡ key) kept (λ r there.
+        let hit = has_filtered has rows r there in under r hit.0 hit.1)) in
         absurd (omega (
           arith,
+          few key (map of_key kept) apart same,
+          length-map kept of_key,
+          length-map kept show,
           length_permutation _ (x ∷ y ∷ more) hits,
-          length-map (filter has rows) show,
-          one_at_most has (cells_at (layout_at t).keys) rows (distinct t db is sound ordered)
-              (λ a b here there hit met. under a here hit ∙ sym (under b there met)) (λ none. omega (arith, none, length_permutation _ (x ∷ y ∷ more) hits, length-map (filter has rows) show)),
         ))

@@ -7,7 +7,8 @@ use Rattle.signal_records.specs.declared.record.Change.TheVariants.{Put, Remove}
 use Rattle.office_tables_shelf.specs.Rows.{draft_key, draft_columns}
 use Rattle.office_tables_shelf.specs.declared.rows.Table.TheVariants.{Draft}
 use Rattle.office_tables_sql.specs.Tables.{IsListText, IsFindText, IsUpdateText, IsInsertText, IsRemoveText, Fits}
-use Rattle.office_tables_sql.specs.declared.draft.TheConstants.{LIST, FIND, UPDATE, INSERT, REMOVE}
+use Rattle.office_tables_sql.specs.Tables.{IsDropText}
+use Rattle.office_tables_sql.specs.declared.draft.TheConstants.{LIST, FIND, UPDATE, INSERT, REMOVE, DROP}
 
 pub lists : IsListText Draft LIST.now
 unfolding understood everything
@@ -28,6 +29,10 @@ inserts = record { is = refl; plain = (refl, refl) }
 pub removes : IsRemoveText Draft REMOVE.now
 unfolding understood everything
 removes = record { is = refl; plain = (refl, refl) }
+
+pub drops : IsDropText Draft DROP.now
+unfolding understood everything
+drops = record { is = refl; plain = (refl, refl) }
 
 pub fits : (id : ℕ) (change : Change) → Fits Draft (draft_key id change) (draft_columns change)
 fits id (Put row) = record {

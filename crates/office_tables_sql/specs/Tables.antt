@@ -31,6 +31,7 @@ use Rattle.signal_records.specs.declared.key.Key.{Key}
 use Rattle.office_tables_shelf.specs.Cells.{Cell, Rows, cells_cmp, null, number, text, odd}
 use Rattle.office_tables_shelf.specs.Content.{Content}
 pub use Rattle.office_tables_shelf.specs.Content.{rows_at, place_at, with_rows, put_in, remove_in}
+pub use Rattle.office_tables_shelf.specs.Content.{drop_in}
 use Rattle.office_tables_shelf.specs.Shelf.{is_of}
 use Rattle.office_tables_shelf.specs.declared.rows.Table.{Table}
 use Rattle.office_tables_shelf.specs.declared.rows.Table.TheVariants as table
@@ -212,11 +213,11 @@ of_key [] at = []
 of_key (p ∷ ps) [] = []
 of_key (p ∷ ps) (q ∷ qs) = op2 (Compare Eq Binary) (col 1 p) (col 0 q) ∷ of_key ps qs
 
--- these terms of the rows whose key columns are the parameters
-abbrev pub picked_by : Layout → List Term → Query
-picked_by t shown = record {
+-- these terms of the rows that pass the filter
+abbrev pub picked_where : Layout → List Term → List Term → Query
+picked_where t filter shown = record {
   from = inner t.tree end;
-  filter = of_key t.keys t.places;
+  filter = filter;
   group = None;
   project = shown;
   distinct = false;
@@ -225,6 +226,10 @@ picked_by t shown = record {
   limit = lit (Int (negsuc 0));
   offset = lit (Int (pos 0));
 }
+
+-- these terms of the rows whose key columns are the parameters
+abbrev pub picked_by : Layout → List Term → Query
+picked_by t = picked_where t (of_key t.keys t.places)
 
 abbrev pub found_by : Layout → List ℕ → Query
 found_by t shown = picked_by t (map (col 1) shown)
@@ -272,6 +277,15 @@ pub record IsInsertText (t : Table) (sql : List ℕ) : Type 0 where
 -- the text removes the row whose key is the parameters
 pub record IsRemoveText (t : Table) (sql : List ℕ) : Type 0 where
   pub is : command_of (understood office_schema sql) ≡ Delete (place_at t) (record { lets = []; body = found_by (layout_at t) (0 ∷ []) })
+  pub plain : IsWriting sql
+
+-- the text removes the rows of a list
+pub record IsDropText (t : Table) (sql : List ℕ) : Type 0 where
+  pub is : command_of (understood office_schema sql)
+      ≡ Delete (place_at t) (record {
+        lets = [];
+        body = picked_where (layout_at t) (filter_of t) (col 1 0 ∷ []);
+      })
   pub plain : IsWriting sql
 
 -- a key of timing as its columns are bound

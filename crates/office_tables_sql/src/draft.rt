@@ -1,19 +1,25 @@
 //! The table `draft`: the changes that a draft keeps.
 
-ghost use Rattle.std.specs.Prelude.{◌≡◌, [], ◌∷◌, IfOk};
+ghost use Rattle.std.specs.Prelude.{◌≡◌, [], ◌∷◌, IfOk, OnOk};
+ghost use Rattle.sqlite.specs.Held.{state};
+ghost use Rattle.sqlite.specs.State.{HasCleanDisk, Survives};
 ghost use Rattle.sqlite.specs.Values.{bound_value};
 ghost use Rattle.sqlite_value.specs.Value.{owned};
 ghost use Rattle.draft_core.specs.DraftRows.{changed_key};
 ghost use Rattle.office_tables_shelf.specs.Rows.{draft_columns};
-ghost use Rattle.office_tables_sql.specs.Tables.{values_of};
+ghost use Rattle.office_tables_sql.specs.Calls.{IsHonest, IsReady, StandsOn};
+ghost use Rattle.office_tables_sql.specs.Stored.{content_now};
+ghost use Rattle.office_tables_sql.specs.Tables.{drop_in, values_of};
 
 use crate::body::write_body;
 use crate::listed::{body_at, check_key, read_key};
+use crate::statement::{SqlFault, write};
 use crate::stored_row::{StoredRow, TimingKeyed};
+use office_tables_shelf::rows::Table;
 use office_tables_shelf::shelf::ShelfFault;
 use signal_records::{Change, InterId, Key, NoMemory, change_is_within};
-use sqlite::Row as SqlRow;
 use sqlite::types::{ToSql, ValueRef};
+use sqlite::{Alter, Row as SqlRow, Transaction, params};
 use std::alloc::Global;
 
 const LIST: &str =
@@ -28,6 +34,8 @@ const UPDATE: &str =
 const INSERT: &str = "INSERT INTO draft (inter, kind, a, b, body) VALUES (?1, ?2, ?3, ?4, ?5)";
 
 const REMOVE: &str = "DELETE FROM draft WHERE inter = ?1 AND kind = ?2 AND a = ?3 AND b = ?4";
+
+const DROP: &str = "DELETE FROM draft WHERE inter = ?1";
 
 /// The key that the change names.
 fn key_of(change: &Change) -> Key
@@ -152,4 +160,22 @@ impl TimingKeyed for Change {
     fn remove_text() -> &'static str {
         REMOVE
     }
+}
+
+/// Removes all draft rows of the intersection.
+pub fn drop_all<S: Alter>(tx: &mut Transaction<'_, S>, id: InterId) -> Result<(), SqlFault>
+    ensures same_reference { tx.new.conn.ghost_name ≡ tx.old.conn.ghost_name }
+    ensures ready { HasCleanDisk (state S.Store tx.new.conn.now) → OnOk result
+        (IsReady (state S.Store tx.old.conn.now) → IsReady (state S.Store tx.new.conn.now)) }
+    ensures dropped { HasCleanDisk (state S.Store tx.new.conn.now) → OnOk result
+        (IsReady (state S.Store tx.old.conn.now) → content_now (state S.Store tx.new.conn.now)
+        ≡ drop_in (content_now (state S.Store tx.old.conn.now)) Table.Draft id) }
+    ensures honest { HasCleanDisk (state S.Store tx.new.conn.now) →
+        OnOk result (IsHonest (state S.Store tx.old.conn.now)) }
+    ensures stands { StandsOn (state S.Store tx.old.conn.now) (state S.Store tx.new.conn.now) }
+    ensures crash { Survives (state S.Store tx.old.conn.now) (state S.Store tx.new.conn.now)
+        (λ _. ⊥) }
+{
+    write(tx, DROP, params![id.get()])?;
+    Ok(())
 }

@@ -1,7 +1,6 @@
 //! The table `intersection`, whose key is the rowid.
 
 ghost use Rattle.std.specs.Prelude.{◌≡◌, ◌≢◌, pos, [], length, Option, IfOk, IfSome, OnOk};
-ghost use Rattle.std.specs.FinMap.{insert};
 ghost use Rattle.sqlite.specs.Order.{column};
 ghost use Rattle.sqlite.specs.State.{HasCleanDisk, Survives};
 ghost use Rattle.sqlite.specs.Held.{state};
@@ -11,11 +10,13 @@ ghost use Rattle.signal_records.specs.Words.{AreWords};
 ghost use Rattle.draft_core.specs.declared.state.Holder.{Holder};
 ghost use Rattle.draft_core.specs.declared.state.Stage.{Stage};
 ghost use Rattle.office_tables_shelf.specs.Cells.{number};
+ghost use Rattle.office_tables_shelf.specs.Content.{put_in};
 ghost use Rattle.office_tables_shelf.specs.Rows.{stage_number, state_number, owner_cell};
 ghost use Rattle.office_tables_shelf.specs.Rows.{intersection_key, intersection_columns};
 ghost use Rattle.office_tables_shelf.specs.Shelf.{ReadsIntersection};
 ghost use Rattle.office_tables_shelf.specs.Damage.{HasDamagedIntersection};
 ghost use Rattle.office_tables_shelf.specs.declared.rows.IntersectionRow.{IntersectionRow};
+ghost use Rattle.office_tables_shelf.specs.declared.rows.Table.TheVariants as table;
 ghost use Rattle.office_tables_sql.specs.Stored.{cell_of, content_now};
 ghost use Rattle.office_tables_sql.specs.Calls.{IsHonest, IsOffice, IsReady, Keeps, StandsOn};
 ghost use Rattle.office_tables_sql.specs.Calls.{TellsOpen};
@@ -208,15 +209,40 @@ pub fn put<S: Alter>(
 ) -> Result<(), SqlFault>
     ensures same_reference { tx.new.conn.ghost_name ≡ tx.old.conn.ghost_name }
     ensures ready { HasCleanDisk (state S.Store tx.new.conn.now) → OnOk result (IsReady (state S.Store tx.old.conn.now) → IsReady (state S.Store tx.new.conn.now)) }
-    ensures put { HasCleanDisk (state S.Store tx.new.conn.now) → OnOk result (IsReady (state S.Store tx.old.conn.now) → content_now (state S.Store tx.new.conn.now) ≡ record (content_now (state S.Store tx.old.conn.now)) {
-      intersection = insert (content_now (state S.Store tx.old.conn.now)).intersection (intersection_key id) (intersection_columns row.now);
-    }) }
+    ensures put { HasCleanDisk (state S.Store tx.new.conn.now) → OnOk result
+        (IsReady (state S.Store tx.old.conn.now) → content_now (state S.Store tx.new.conn.now)
+        ≡ put_in (content_now (state S.Store tx.old.conn.now)) table.Intersection
+        (intersection_key id) (intersection_columns row.now)) }
     ensures honest { HasCleanDisk (state S.Store tx.new.conn.now) → OnOk result (IsHonest (state S.Store tx.old.conn.now)) }
     ensures stands { StandsOn (state S.Store tx.old.conn.now) (state S.Store tx.new.conn.now) }
     ensures crash { Survives (state S.Store tx.old.conn.now) (state S.Store tx.new.conn.now) (λ _. ⊥) }
 {
     let found = (id, copy_of(row)?);
     stored_row::put(alloc, tx, (), &found)
+}
+
+/// Adds the row of a new intersection.
+pub fn add<S: Alter>(
+    alloc: Global,
+    tx: &mut Transaction<'_, S>,
+    id: InterId,
+    row: &IntersectionRow,
+) -> Result<(), SqlFault>
+    ensures same_reference { tx.new.conn.ghost_name ≡ tx.old.conn.ghost_name }
+    ensures ready { HasCleanDisk (state S.Store tx.new.conn.now) → OnOk result
+        (IsReady (state S.Store tx.old.conn.now) → IsReady (state S.Store tx.new.conn.now)) }
+    ensures added { HasCleanDisk (state S.Store tx.new.conn.now) → OnOk result
+        (IsReady (state S.Store tx.old.conn.now) → content_now (state S.Store tx.new.conn.now)
+        ≡ put_in (content_now (state S.Store tx.old.conn.now)) table.Intersection
+        (intersection_key id) (intersection_columns row.now)) }
+    ensures honest { HasCleanDisk (state S.Store tx.new.conn.now) →
+        OnOk result (IsHonest (state S.Store tx.old.conn.now)) }
+    ensures stands { StandsOn (state S.Store tx.old.conn.now) (state S.Store tx.new.conn.now) }
+    ensures crash { Survives (state S.Store tx.old.conn.now) (state S.Store tx.new.conn.now)
+        (λ _. ⊥) }
+{
+    let found = (id, copy_of(row)?);
+    stored_row::add(alloc, tx, (), &found)
 }
 
 /// The number that is stored for the state.

@@ -14,7 +14,7 @@ ghost use Rattle.office_tables_sql.specs.Stored.{cell_of};
 ghost use Rattle.office_tables_sql.specs.Listed.{shown_key};
 
 use crate::body_reading::row_of_body;
-use crate::value::{number_at, value_at};
+use crate::value::{number_at, text_or_null_at};
 use office_tables_shelf::shelf::ShelfFault;
 use signal_records::{InterId, Key, PatternNo, PhaseNo, RingNo, Row, SeqNo, SplitNo};
 use sqlite::Row as SqlRow;
@@ -27,11 +27,10 @@ pub fn body_at(alloc: Global, row: &SqlRow, at: usize) -> Result<Option<Row>, Sh
     ensures damaged { result ≡ Err ShelfFault.Damaged → at < length row.now → (r : Row) → IsRowWithin current_limits r → cell_of (column row.now at) ≢ text (body_of r) }
     ensures damaged_null { result ≡ Err ShelfFault.Damaged → at < length row.now → cell_of (column row.now at) ≢ null }
 {
-    let body: Option<String> = value_at(row, at)?;
-    let Some(body) = body else {
+    let Some(body) = text_or_null_at(row, at)? else {
         return Ok(None);
     };
-    match row_of_body(alloc, body.as_bytes())? {
+    match row_of_body(alloc, body)? {
         Some(found) => Ok(Some(found)),
         None => Err(ShelfFault::Damaged),
     }

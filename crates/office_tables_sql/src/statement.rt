@@ -51,7 +51,8 @@ impl From<SqlFault> for ShelfFault {
     }
 }
 
-/// All rows of the answer. The text is prepared first, which commits nothing and shows that the connection is open.
+/// All rows of the answer. The empty text is prepared first, which commits nothing and shows that
+/// the connection is open.
 pub fn select<S: Alter>(
     conn: &mut Connection<S>,
     sql: &str,
@@ -64,8 +65,8 @@ pub fn select<S: Alter>(
     ensures crash { Survives (state S.Store conn.old) (state S.Store conn.new) (λ _. ⊥) }
     ensures open { StaysOpen result (state S.Store conn.new) }
 {
-    let statement = conn.prepare(sql)?;
-    let rows = statement.query_all(conn, params)?;
+    let _empty = conn.prepare("")?;
+    let rows = conn.query_all(sql, params)?;
     Ok(rows)
 }
 

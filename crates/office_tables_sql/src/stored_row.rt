@@ -159,6 +159,34 @@ pub fn put<T: StoredRow, S: Alter>(
     Ok(())
 }
 
+/// Adds a row that is new. Where one stands under its key, the database refuses.
+pub fn add<T: StoredRow, S: Alter>(
+    alloc: Global,
+    tx: &mut Transaction<'_, S>,
+    of: T::Of,
+    row: &T,
+) -> Result<(), SqlFault>
+    ensures same_reference { tx.new.conn.ghost_name ≡ tx.old.conn.ghost_name }
+    ensures ready { HasCleanDisk (state S.Store tx.new.conn.now) → OnOk result
+        (IsReady (state S.Store tx.old.conn.now) → IsReady (state S.Store tx.new.conn.now)) }
+    ensures added { HasCleanDisk (state S.Store tx.new.conn.now) → OnOk result
+        (IsReady (state S.Store tx.old.conn.now) → content_now (state S.Store tx.new.conn.now)
+        ≡ put_in (content_now (state S.Store tx.old.conn.now)) T.table
+        (T.key (T.number of) row.now) (T.columns row.now)) }
+    ensures honest { HasCleanDisk (state S.Store tx.new.conn.now) →
+        OnOk result (IsHonest (state S.Store tx.old.conn.now)) }
+    ensures stands { StandsOn (state S.Store tx.old.conn.now) (state S.Store tx.new.conn.now) }
+    ensures crash { Survives (state S.Store tx.old.conn.now) (state S.Store tx.new.conn.now)
+        (λ _. ⊥) }
+{
+    let mut text = String::new(alloc);
+    let Ok(values) = row.bind(alloc, of, &mut text) else {
+        return Err(SqlFault::NoMemory);
+    };
+    write(tx, T::insert_text(), values.as_slice())?;
+    Ok(())
+}
+
 /// Removes the row of the intersection under the key, if there is one.
 pub fn remove<T: TimingKeyed, S: Alter>(
     tx: &mut Transaction<'_, S>,

@@ -1,6 +1,7 @@
 //! The values of a stored row, as what they stand for.
 
-ghost use Rattle.std.specs.Prelude.{◌≡◌, ◌≢◌, ◌≤◌, ◌<◌, ◌^◌, ℕ, pos, length, List, Option, IfOk, IfSome, OnOk};
+ghost use Rattle.std.specs.Prelude.{◌≡◌, ◌≢◌, ◌≤◌, ◌<◌, ◌^◌, ℕ, pos, length, List, Option};
+ghost use Rattle.std.specs.Prelude.{option_map, IfOk, IfSome, OnOk};
 ghost use Rattle.sqlite.specs.Order.{column};
 ghost use Rattle.signal_records.specs.Words.{AreWords};
 ghost use Rattle.cabinet_core.specs.Day.{IsDay};
@@ -13,7 +14,7 @@ use cabinet_core::{Day, PartCode};
 use draft_core::revision::Revision;
 use office_tables_shelf::shelf::ShelfFault;
 use signal_records::{Number, Words};
-use sqlite::types::FromSql;
+use sqlite::types::{FromSql, ValueRef};
 use sqlite::{Error, ErrorCode, Row};
 use std::alloc::Global;
 
@@ -65,6 +66,32 @@ pub fn revision_at(row: &Row, at: usize) -> Result<Revision, ShelfFault>
 }
 
 /// The text in a column.
+pub fn text_at(row: &Row, at: usize) -> Result<&[u8], ShelfFault>
+    ensures ok { IfOk result (λ found. cell_of (column row.now at) ≡ text found.now) }
+    ensures damaged { result ≡ Err ShelfFault.Damaged → at < length row.now →
+        (t : List ℕ) → cell_of (column row.now at) ≢ text t }
+{
+    match row.get_ref(at) {
+        Ok(ValueRef::Text(found)) => Ok(found),
+        _ => Err(ShelfFault::Damaged),
+    }
+}
+
+/// The text in a column, where it is not NULL.
+pub fn text_or_null_at(row: &Row, at: usize) -> Result<Option<&[u8]>, ShelfFault>
+    ensures ok { IfOk result (λ found. cell_of (column row.now at)
+        ≡ text_or_null (option_map (λ t. t.now) found)) }
+    ensures damaged { result ≡ Err ShelfFault.Damaged → at < length row.now →
+        (t : Option (List ℕ)) → cell_of (column row.now at) ≢ text_or_null t }
+{
+    match row.get_ref(at) {
+        Ok(ValueRef::Null) => Ok(None),
+        Ok(ValueRef::Text(found)) => Ok(Some(found)),
+        _ => Err(ShelfFault::Damaged),
+    }
+}
+
+/// The words in a column.
 pub fn words_at<const MAX: usize>(
     alloc: Global,
     row: &Row,
@@ -73,14 +100,13 @@ pub fn words_at<const MAX: usize>(
     ensures ok { IfOk result (λ words. cell_of (column row.now at) ≡ text words) }
     ensures damaged { result ≡ Err ShelfFault.Damaged → at < length row.now → (words : List ℕ) → AreWords MAX words → cell_of (column row.now at) ≢ text words }
 {
-    let text: String = value_at(row, at)?;
-    match Words::new(alloc, text.as_bytes())? {
+    match Words::new(alloc, text_at(row, at)?)? {
         Some(words) => Ok(words),
         None => Err(ShelfFault::Damaged),
     }
 }
 
-/// The text in a column, where it is not NULL.
+/// The words in a column, where it is not NULL.
 pub fn words_or_null_at<const MAX: usize>(
     alloc: Global,
     row: &Row,
@@ -89,11 +115,10 @@ pub fn words_or_null_at<const MAX: usize>(
     ensures ok { IfOk result (λ words. cell_of (column row.now at) ≡ text_or_null words) }
     ensures damaged { result ≡ Err ShelfFault.Damaged → at < length row.now → (words : Option (List ℕ)) → IfSome words (AreWords MAX) → cell_of (column row.now at) ≢ text_or_null words }
 {
-    let text: Option<String> = value_at(row, at)?;
-    let Some(text) = text else {
+    let Some(found) = text_or_null_at(row, at)? else {
         return Ok(None);
     };
-    match Words::new(alloc, text.as_bytes())? {
+    match Words::new(alloc, found)? {
         Some(words) => Ok(Some(words)),
         None => Err(ShelfFault::Damaged),
     }
@@ -116,8 +141,7 @@ pub fn code_at(alloc: Global, row: &Row, at: usize) -> Result<PartCode, ShelfFau
     ensures ok { IfOk result (λ code. cell_of (column row.now at) ≡ text code) }
     ensures damaged { result ≡ Err ShelfFault.Damaged → at < length row.now → (code : List ℕ) → IsPartCode code → cell_of (column row.now at) ≢ text code }
 {
-    let text: String = value_at(row, at)?;
-    match PartCode::new(alloc, text.as_bytes())? {
+    match PartCode::new(alloc, text_at(row, at)?)? {
         Some(code) => Ok(code),
         None => Err(ShelfFault::Damaged),
     }

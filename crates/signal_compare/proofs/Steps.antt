@@ -2,7 +2,6 @@
 use Rattle.std.proofs.Common.{◌≡◌, ◌≢◌, Bool, true, false, cond, T, List, [], ◌∷◌, ◌++◌, Option}
 use Rattle.std.proofs.Common.{Some, None, get_or, drop, refl, sym, ap, subst, ◌∙◌, append_assoc}
 use Rattle.std.proofs.Common.{append-nil, inl, inr}
-use Rattle.std.specs.Prelude.{◌&&◌}
 use Rattle.std.specs.declared.cmp.Ordering.{Ordering}
 use Rattle.std.specs.declared.cmp.Ordering.TheVariants.{Less, Equal, Greater}
 use Rattle.std.specs.Ordering.{is_lt, is_eq, ordering_reverse}
@@ -13,24 +12,12 @@ use Rattle.signal_records.specs.declared.record.Row.{Row}
 use Rattle.signal_records.specs.Key.{key_cmp}
 use Rattle.signal_records.specs.KeyOrder.{key_total, key_exact}
 use Rattle.signal_records.specs.Row.{key_of}
+use Rattle.signal_records.proofs.Sets.{both, is_less, not_found, parts, tied}
 use Rattle.signal_compare.specs.declared.difference.Difference.{Difference}
 use Rattle.signal_compare.specs.declared.difference.Difference.TheVariants.{Added, Removed, Changed}
 use Rattle.signal_compare.specs.Difference.{difference_at, Explains}
 use Rattle.signal_compare.specs.Merging.{keyed, placed, AreInOrder, AreDifferences, TellsChange}
 use Rattle.signal_compare.specs.Merging.{next_order}
-
-pub both : (a b : Bool) → T a → T b → T (a && b)
-both true b p q = q
-both false b p q = absurd p
-
-pub parts : (a b : Bool) → T (a && b) → T a × T b
-parts true b h = (tt, h)
-parts false b h = absurd h
-
-pub is_less : (o : Ordering) → T (is_lt o) → o ≡ Less
-is_less Less h = refl
-is_less Equal h = absurd h
-is_less Greater h = absurd h
 
 pub less : (o : Ordering) → o ≡ Less → T (is_lt o)
 less o e = subst (λ p. T (is_lt p)) (sym e) tt
@@ -44,26 +31,8 @@ below_further k j (e ∷ es) low h =
     both _ _ (less _ (key_total.trans k j e.0 low (is_less _ each.0)))
     (below_further k j es low each.1)
 
-not_equal : (o : Ordering) → T (is_lt o) → is_eq o ≡ false
-not_equal Less h = refl
-not_equal Equal h = absurd h
-not_equal Greater h = absurd h
-
--- a key below all others isn't there
-pub not_found : {X : Type 0} (k : Key) (es : List (Key × X)) → T (below_all key_cmp k es)
-    → find key_cmp k es ≡ None
-not_found k [] h = refl
-not_found k (e ∷ es) h =
-    let low = parts (is_lt (key_cmp k e.0)) (below_all key_cmp k es) h in
-    rw (not_equal (key_cmp k e.0) low.0) (not_found k es low.1)
-
 same_key : (q k : Key) → is_eq (key_cmp q k) ≡ true → q ≡ k
-same_key q k e =
-    elim (key_cmp q k) as (λ o. key_cmp q k ≡ o → is_eq o ≡ true → q ≡ k) [
-      | Less ↦ λ is t. cc
-      | Equal ↦ λ is t. key_exact q k is
-      | Greater ↦ λ is t. cc
-    ] refl e
+same_key q k e = key_exact q k (tied (key_cmp q k) e)
 
 -- the same, where the key is given as another one
 pub found_nowhere : {X : Type 0} (q k : Key) (es : List (Key × X)) → is_eq (key_cmp q k) ≡ true
@@ -185,20 +154,18 @@ module _ (whole_first whole_second : List Row) where
       → row ≡ get_or first 0 row → copy ≡ row → next ≡ drop 1 first → new ≡ old ++ Removed copy ∷ []
       → Continues whole_first whole_second first second old
       → Continues whole_first whole_second next second new
-  after_less [] [] next row copy old new less order_a order_b at same after pushed so_far rest are =
-      cc
-  after_less [] (b ∷ second) next row copy old new less order_a order_b at same after pushed so_far
-      rest are = cc
-  after_less (a ∷ first) [] next row copy old new less order_a order_b at same after pushed so_far
-      rest are =
+  after_less [] [] next row copy old new lt = absurd cc
+  after_less [] (b ∷ second) next row copy old new lt = absurd cc
+  after_less (a ∷ first) [] next row copy old new lt =
+      λ order_a order_b at same after pushed so_far rest are.
       let one : copy ≡ a = same ∙ at in
       rw (pushed, append_assoc, one) (so_far (Removed a ∷ rest)
       (removed_first a first [] rest order_a tt
       (subst (λ n. AreDifferences n [] rest) after are)))
-  after_less (a ∷ first) (b ∷ second) next row copy old new is_less order_a order_b at same after
-      pushed so_far rest are =
+  after_less (a ∷ first) (b ∷ second) next row copy old new lt =
+      λ order_a order_b at same after pushed so_far rest are.
       let one : copy ≡ a = same ∙ at in
-      let lower : key_cmp (key_of a) (key_of b) ≡ Less = some_same _ _ is_less in
+      let lower : key_cmp (key_of a) (key_of b) ≡ Less = some_same _ _ lt in
       let low = both _ _ (less _ lower) (below_further (key_of a) (key_of b) (keyed second) lower
       (parts (below_all key_cmp (key_of b) (keyed second)) _ order_b).0) in
       rw (pushed, append_assoc, one) (so_far (Removed a ∷ rest)
@@ -210,18 +177,16 @@ module _ (whole_first whole_second : List Row) where
       → row ≡ get_or second 0 row → copy ≡ row → next ≡ drop 1 second → new ≡ old ++ Added copy ∷ []
       → Continues whole_first whole_second first second old
       → Continues whole_first whole_second first next new
-  after_greater [] [] next row copy old new greater order_a order_b at same after pushed so_far rest
-      are = cc
-  after_greater (a ∷ first) [] next row copy old new greater order_a order_b at same after pushed
-      so_far rest are = cc
-  after_greater [] (b ∷ second) next row copy old new greater order_a order_b at same after pushed
-      so_far rest are =
+  after_greater [] [] next row copy old new greater = absurd cc
+  after_greater (a ∷ first) [] next row copy old new greater = absurd cc
+  after_greater [] (b ∷ second) next row copy old new greater =
+      λ order_a order_b at same after pushed so_far rest are.
       let one : copy ≡ b = same ∙ at in
       rw (pushed, append_assoc, one) (so_far (Added b ∷ rest)
       (added_first b [] second rest order_b tt
       (subst (λ n. AreDifferences [] n rest) after are)))
-  after_greater (a ∷ first) (b ∷ second) next row copy old new greater order_a order_b at same after
-      pushed so_far rest are =
+  after_greater (a ∷ first) (b ∷ second) next row copy old new greater =
+      λ order_a order_b at same after pushed so_far rest are.
       let one : copy ≡ b = same ∙ at in
       let lower : key_cmp (key_of b) (key_of a) ≡ Less =
       key_total.antisymm (key_of b) (key_of a) ∙ ap ordering_reverse (some_same _ _ greater) in
@@ -237,14 +202,11 @@ module _ (whole_first whole_second : List Row) where
       → next_second ≡ drop 1 second → TellsChange a b old new
       → Continues whole_first whole_second first second old
       → Continues whole_first whole_second next_first next_second new
-  after_equal [] [] nf ns a b old new equal order_a order_b at_a at_b after_a after_b told so_far
-      rest are = cc
-  after_equal [] (y ∷ second) nf ns a b old new equal order_a order_b at_a at_b after_a after_b told
-      so_far rest are = cc
-  after_equal (x ∷ first) [] nf ns a b old new equal order_a order_b at_a at_b after_a after_b told
-      so_far rest are = cc
-  after_equal (x ∷ first) (y ∷ second) nf ns a b old new equal order_a order_b at_a at_b after_a
-      after_b told so_far rest are =
+  after_equal [] [] nf ns a b old new equal = absurd cc
+  after_equal [] (y ∷ second) nf ns a b old new equal = absurd cc
+  after_equal (x ∷ first) [] nf ns a b old new equal = absurd cc
+  after_equal (x ∷ first) (y ∷ second) nf ns a b old new equal =
+      λ order_a order_b at_a at_b after_a after_b told so_far rest are.
       let left : AreDifferences first second rest = rw (← after_a, ← after_b) are in
       elim told [
         | inl same ↦
@@ -266,6 +228,5 @@ module _ (whole_first whole_second : List Row) where
       → AreDifferences whole_first whole_second old
   at_the_end [] [] old none so_far = subst (AreDifferences whole_first whole_second)
       (append-nil old) (so_far [] nothing_left)
-  at_the_end [] (b ∷ second) old none so_far = cc
   at_the_end (a ∷ first) [] old none so_far = cc
-  at_the_end (a ∷ first) (b ∷ second) old none so_far = cc
+  at_the_end _ _ old none so_far = cc

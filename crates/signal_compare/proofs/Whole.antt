@@ -20,17 +20,17 @@ use Rattle.signal_compare.specs.declared.difference.Difference.TheVariants.{Adde
 use Rattle.signal_compare.specs.Difference.{place_of, change_of, changes_of, difference_at}
 use Rattle.signal_compare.specs.Difference.{Explains}
 use Rattle.signal_compare.specs.Merging.{keyed, placed, AreInOrder, AreDifferences}
-use Rattle.signal_compare.proofs.Steps.{parts, is_less, found_nowhere}
-
--- the rows of a set under their keys are its entries
-keyed_values : (es : List (Key × Row)) → AreKeyed es → keyed (map (λ e. e.1) es) ≡ es
-keyed_values [] h = refl
-keyed_values (e ∷ es) h = λ i. (h.0 i, e.1) ∷ keyed_values es h.1 i
+use Rattle.signal_records.proofs.Sets.{is_less, keyed_values, parts}
+use Rattle.signal_compare.proofs.Steps.{found_nowhere}
 
 -- the rows of a set, in the order of their keys
 pub record AreRowsOf (set : Rows) (rows : List Row) : Type 0 where
   pub are : rows ≡ values set
   pub stand : AreKeyed (entries set)
+
+pub rows_of : {set : Rows} {rows shown : List Row} → shown ≡ rows → rows ≡ values set
+    → AreKeyed (entries set) → AreRowsOf set shown
+rows_of same are stand = record { are = same ∙ are; stand = stand }
 
 keyed_rows : (set : Rows) (rows : List Row) → AreRowsOf set rows → keyed rows ≡ entries set
 keyed_rows set rows of = ap keyed of.are ∙ keyed_values (entries set) of.stand
@@ -81,8 +81,7 @@ made_told : (first second : Option Row) (told : Option Difference) → Explains 
     → made told first ≡ second
 made_told first second None h = h
 made_told first second (Some (Added row)) h = sym h.1
-made_told first second (Some (Removed row)) h = sym h.1
-made_told first second (Some (Changed before after)) h = sym h.1
+made_told first second (Some _) h = sym h.1
 
 after_one : (set : Rows) (d : Difference) (q : Key)
     → get (after_change set (change_of d)) q ≡ cond (eq_by_cmp key_cmp q (place_of d))
@@ -95,9 +94,8 @@ first_or_last : (t : Bool) (d : Difference) (later : Option Difference) (there :
     → (t ≡ true → later ≡ None) → made later (cond t (made (Some d) there) there)
     ≡ made (cond t (Some d) later) there
 first_or_last true (Added row) later there none = rw (none refl) refl
-first_or_last true (Removed row) later there none = rw (none refl) refl
-first_or_last true (Changed before after) later there none = rw (none refl) refl
 first_or_last false d later there none = refl
+first_or_last true _ later there none = rw (none refl) refl
 
 made_all : (set : Rows) (ds : List Difference) (q : Key) → T (is_sorted key_cmp (placed ds))
     → get (after_changes set (changes_of ds)) q ≡ made (difference_at q ds) (get set q)

@@ -27,8 +27,8 @@ pub(crate) struct Spelled<'a> {
 
 /// Appends the field at a place, where it differs.
 fn push_field(
-    parts: &mut Vec<String>,
     alloc: Global,
+    parts: &mut Vec<String>,
     rows: Spelled<'_>,
     place: usize,
     name: &str,
@@ -46,38 +46,38 @@ fn push_field(
 }
 
 /// Appends the fields that differ of two phases up to their mates.
-fn push_front(parts: &mut Vec<String>, alloc: Global, rows: Spelled<'_>) -> Result<(), NoMemory>
+fn push_front(alloc: Global, parts: &mut Vec<String>, rows: Spelled<'_>) -> Result<(), NoMemory>
     ensures { OnOk result (map string_bytes parts.new.items ≡ map string_bytes parts.old.items
         ++ front_changes (map string_bytes rows.entry.before.now)
         (map string_bytes rows.entry.after.now)) }
 {
-    push_field(parts, alloc, rows, 2, "ring")?;
-    push_field(parts, alloc, rows, 3, "minGreen")?;
-    push_field(parts, alloc, rows, 4, "passage")?;
-    push_field(parts, alloc, rows, 5, "max1")?;
-    push_field(parts, alloc, rows, 6, "yellow")?;
-    push_field(parts, alloc, rows, 7, "red")?;
-    push_field(parts, alloc, rows, 8, "mates")
+    push_field(alloc, parts, rows, 2, "ring")?;
+    push_field(alloc, parts, rows, 3, "minGreen")?;
+    push_field(alloc, parts, rows, 4, "passage")?;
+    push_field(alloc, parts, rows, 5, "max1")?;
+    push_field(alloc, parts, rows, 6, "yellow")?;
+    push_field(alloc, parts, rows, 7, "red")?;
+    push_field(alloc, parts, rows, 8, "mates")
 }
 
 /// Appends the fields that differ of their pedestrian parts.
-fn push_ped(parts: &mut Vec<String>, alloc: Global, rows: Spelled<'_>) -> Result<(), NoMemory>
+fn push_ped(alloc: Global, parts: &mut Vec<String>, rows: Spelled<'_>) -> Result<(), NoMemory>
     ensures { OnOk result (map string_bytes parts.new.items ≡ map string_bytes parts.old.items
         ++ ped_changes (map string_bytes rows.entry.before.now)
         (map string_bytes rows.entry.after.now)) }
 {
-    push_field(parts, alloc, rows, 9, "walk")?;
-    push_field(parts, alloc, rows, 10, "clear")?;
-    push_field(parts, alloc, rows, 11, "width")?;
-    push_field(parts, alloc, rows, 12, "setback")?;
-    push_field(parts, alloc, rows, 13, "short")?;
-    push_field(parts, alloc, rows, 14, "lead")
+    push_field(alloc, parts, rows, 9, "walk")?;
+    push_field(alloc, parts, rows, 10, "clear")?;
+    push_field(alloc, parts, rows, 11, "width")?;
+    push_field(alloc, parts, rows, 12, "setback")?;
+    push_field(alloc, parts, rows, 13, "short")?;
+    push_field(alloc, parts, rows, 14, "lead")
 }
 
 /// Appends the fields that differ of two rows of a key.
 fn push_fields(
-    parts: &mut Vec<String>,
     alloc: Global,
+    parts: &mut Vec<String>,
     key: Key,
     rows: Spelled<'_>,
 ) -> Result<(), NoMemory>
@@ -87,20 +87,20 @@ fn push_fields(
 {
     match key {
         Key::Phase(_) => {
-            push_front(parts, alloc, rows)?;
-            push_ped(parts, alloc, rows)
+            push_front(alloc, parts, rows)?;
+            push_ped(alloc, parts, rows)
         }
-        Key::Seq(_, _) => push_field(parts, alloc, rows, 3, "phases"),
+        Key::Seq(_, _) => push_field(alloc, parts, rows, 3, "phases"),
         Key::Split(_, _) => {
-            push_field(parts, alloc, rows, 3, "time")?;
-            push_field(parts, alloc, rows, 4, "mode")?;
-            push_field(parts, alloc, rows, 5, "coord")
+            push_field(alloc, parts, rows, 3, "time")?;
+            push_field(alloc, parts, rows, 4, "mode")?;
+            push_field(alloc, parts, rows, 5, "coord")
         }
         Key::Pattern(_) => {
-            push_field(parts, alloc, rows, 2, "cycle")?;
-            push_field(parts, alloc, rows, 3, "offset")?;
-            push_field(parts, alloc, rows, 4, "split")?;
-            push_field(parts, alloc, rows, 5, "sequence")
+            push_field(alloc, parts, rows, 2, "cycle")?;
+            push_field(alloc, parts, rows, 3, "offset")?;
+            push_field(alloc, parts, rows, 4, "split")?;
+            push_field(alloc, parts, rows, 5, "sequence")
         }
     }
 }
@@ -120,6 +120,6 @@ pub(crate) fn changed_fields(
         after: new.as_slice(),
     };
     let mut parts = Vec::new(alloc);
-    push_fields(&mut parts, alloc, after.key(), rows)?;
+    push_fields(alloc, &mut parts, after.key(), rows)?;
     Ok(parts)
 }

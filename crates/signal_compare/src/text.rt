@@ -52,7 +52,7 @@ fn push_key(text: &mut String, key: Key) -> Result<(), AllocError>
 }
 
 /// Appends a row as it stands in a CSV file.
-fn push_row(text: &mut String, alloc: Global, row: &Row) -> Result<(), NoMemory>
+fn push_row(alloc: Global, text: &mut String, row: &Row) -> Result<(), NoMemory>
     ensures { OnOk result (string_bytes text.new ≡ string_bytes text.old
         ++ separated (codes ",") (spelling current_limits row.now)) }
 {
@@ -62,7 +62,7 @@ fn push_row(text: &mut String, alloc: Global, row: &Row) -> Result<(), NoMemory>
 }
 
 /// Appends the key of two rows and the fields that differ.
-fn push_changed(text: &mut String, alloc: Global, before: &Row, after: &Row) -> Result<(), NoMemory>
+fn push_changed(alloc: Global, text: &mut String, before: &Row, after: &Row) -> Result<(), NoMemory>
     ensures { OnOk result (string_bytes text.new ≡ string_bytes text.old
         ++ difference_text (Difference.Changed before.now after.now)) }
 {
@@ -75,8 +75,8 @@ fn push_changed(text: &mut String, alloc: Global, before: &Row, after: &Row) -> 
 }
 
 fn push_difference(
-    text: &mut String,
     alloc: Global,
+    text: &mut String,
     difference: &Difference,
 ) -> Result<(), NoMemory>
     ensures { OnOk result
@@ -85,13 +85,13 @@ fn push_difference(
     match difference {
         Difference::Added(row) => {
             text.push_str("+ ")?;
-            push_row(text, alloc, row)
+            push_row(alloc, text, row)
         }
         Difference::Removed(row) => {
             text.push_str("- ")?;
-            push_row(text, alloc, row)
+            push_row(alloc, text, row)
         }
-        Difference::Changed { before, after } => push_changed(text, alloc, before, after),
+        Difference::Changed { before, after } => push_changed(alloc, text, before, after),
     }
 }
 
@@ -105,7 +105,7 @@ pub fn comparison_text(alloc: Global, differences: &[Difference]) -> Result<Vec<
 {
     let mut text = String::new(alloc);
     for difference in differences {
-        push_difference(&mut text, alloc, difference)?;
+        push_difference(alloc, &mut text, difference)?;
         text.push_str("\n")?;
     }
     if differences.is_empty() {

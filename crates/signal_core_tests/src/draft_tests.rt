@@ -120,7 +120,7 @@ fn a_draft_is_begun_and_edited(rt: HostRuntime) -> Result<(), Fail> {
     assert!(rt;
         matches!(
             leads(edited(alloc, "Ana", BEGUN)?, to).as_deref(),
-            Some([TimingChange::Drafted(_), TimingChange::Drafted(_)])
+            Some([TimingChange::DraftedNew(_), TimingChange::DraftedNew(_)])
         )
     );
     assert_eq!(rt;
@@ -142,7 +142,7 @@ fn an_edit_keeps_what_differs_from_what_is_committed(rt: HostRuntime) -> Result<
     assert!(rt;
         matches!(
             leads(changed(alloc, "Ana", (BEGUN, ""), sent)?, to).as_deref(),
-            Some([TimingChange::Drafted(_)])
+            Some([TimingChange::DraftedNew(_)])
         )
     );
     assert!(rt;
@@ -154,7 +154,7 @@ fn an_edit_keeps_what_differs_from_what_is_committed(rt: HostRuntime) -> Result<
             .as_deref(),
             Some([
                 TimingChange::DraftGone(Key::Split(..)),
-                TimingChange::Drafted(_)
+                TimingChange::DraftedNew(_)
             ])
         )
     );
@@ -163,8 +163,30 @@ fn an_edit_keeps_what_differs_from_what_is_committed(rt: HostRuntime) -> Result<
         matches!(
             leads(changed(alloc, "Ana", (BEGUN, ""), turned)?, to).as_deref(),
             Some([
-                TimingChange::Drafted(_),
+                TimingChange::DraftedNew(_),
                 TimingChange::DraftGone(Key::Pattern(_))
+            ])
+        )
+    );
+    Ok(())
+}
+
+#[test]
+fn a_draft_row_is_added_once(rt: HostRuntime) -> Result<(), Fail> {
+    let alloc = rt.alloc();
+    let to = (7, DbState::Transaction, Verdict::NotDone);
+    let again = "split,1,8,27,2,0;remove,pattern,1;remove,pattern,1";
+    assert!(rt;
+        matches!(
+            leads(
+                changed(alloc, "Ana", (BEGUN, "split,1,8,26,2,0"), again)?,
+                to
+            )
+            .as_deref(),
+            Some([
+                TimingChange::Drafted(_),
+                TimingChange::DraftedNew(_),
+                TimingChange::Drafted(_)
             ])
         )
     );
@@ -198,10 +220,19 @@ fn a_draft_is_committed(rt: HostRuntime) -> Result<(), Fail> {
     assert!(rt;
         matches!(
             rows.as_deref(),
-            Some(
-                [_, TimingChange::DraftGone(Key::Pattern(_))]
-                    | [TimingChange::DraftGone(Key::Pattern(_)), _]
-            )
+            Some([TimingChange::DraftDropped, TimingChange::Committed(_)])
+        )
+    );
+    let added = (7, DONE, "pattern,1,60,1,1,1;pattern,2,60,0,1,1");
+    let rows = leads(asked(alloc, Call::Commit, "Ana", added)?, to);
+    assert!(rt;
+        matches!(
+            rows.as_deref(),
+            Some([
+                TimingChange::DraftDropped,
+                TimingChange::Committed(_),
+                TimingChange::CommittedNew(_)
+            ])
         )
     );
     let to = (999_999, DbState::Normal, Verdict::NotDone);
@@ -226,12 +257,7 @@ fn a_draft_is_reopened_and_abandoned(rt: HostRuntime) -> Result<(), Fail> {
     assert_eq!(rt; other, Some(DraftRefusal::NotOwner));
     let to = (7, DbState::Normal, Verdict::NotDone);
     let rows = leads(asked(alloc, Call::Abandon, "Bo", (7, DONE, BROKEN))?, to);
-    assert!(rt;
-        matches!(
-            rows.as_deref(),
-            Some([TimingChange::DraftGone(_), TimingChange::DraftGone(_)])
-        )
-    );
+    assert!(rt; matches!(rows.as_deref(), Some([TimingChange::DraftDropped])));
     let free = asked(alloc, Call::Abandon, "Ana", (7, None, ""))?.err();
     assert_eq!(rt; free, Some(DraftRefusal::NotTransaction));
     Ok(())

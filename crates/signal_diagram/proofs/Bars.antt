@@ -1,19 +1,20 @@
 -- The phases of a row, each from the second at which it begins to the one at which it ends.
 use Rattle.std.proofs.Common.{◌≡◌, ℕ, zero, suc, ◌+◌, ◌-◌, ◌<◌, ◌≤◌, Bool, true, false, eqb, ltb, leb}
-use Rattle.std.proofs.Common.{List, [], ◌∷◌, ◌++◌, map, filter, length, Option, Some}
+use Rattle.std.proofs.Common.{List, [], ◌∷◌, ◌++◌, map, filter, length, Some}
 use Rattle.std.proofs.Common.{◌⊎◌, inl, inr}
 use Rattle.std.proofs.Common.{refl, sym, ap, ap₂, ◌∙◌, subst, arith}
-use Rattle.std.proofs.lemmas.Bool.{and_from, and_left, and_right, and_parts, or_cases}
+use Rattle.std.proofs.lemmas.Bool.{and_from, and_left, and_parts}
 use Rattle.std.proofs.lemmas.Bool.{or_from, or_left, or_right}
-use Rattle.std.proofs.lemmas.Bool.{cases_eq, cond-true, cond-false, eq-eqb, eqb-true, ne_eqb}
-use Rattle.std.proofs.lemmas.Bool.{le-leb, le-ltb, lt-ltb, ltb-true, ltb-false}
+use Rattle.std.proofs.lemmas.Bool.{cases_eq, cond-true, cond-false, eq-eqb, ne_eqb}
+use Rattle.std.proofs.lemmas.Bool.{le-leb, le-ltb, lt-ltb, ltb-false}
 use Rattle.std.proofs.lemmas.List.Elements.{All-nil, All-cons}
-use Rattle.std.specs.Prelude.{All, cond, find, option_map, replicate, slice_get, ◌||◌, ◌&&◌}
+use Rattle.std.specs.Prelude.{All, cond, option_map, replicate, slice_get, ◌||◌, ◌&&◌}
 use Rattle.std.specs.List.{list_any}
 use Rattle.signal_rules.specs.Lookup.{is_in}
-use Rattle.signal_rules.specs.CutPoints.{timed, start_of, starts, phase_in}
+use Rattle.signal_rules.specs.CutPoints.{timed, start_of, starts}
+use Rattle.std.proofs.lemmas.Bool.Decides.{nat_tests}
 use Rattle.signal_rules.proofs.CutPoints.{length-timed, same_answer}
-use Rattle.signal_diagram.specs.Chart.{Bar, Follow, end_of, covers, phase_at_second}
+use Rattle.signal_diagram.specs.Chart.{Bar, Follow, end_of, phase_at_second}
 use Rattle.signal_diagram.specs.Chart.{changes}
 
 -- a phase of some time from a second on, where it has any
@@ -80,72 +81,8 @@ ends time (p ∷ ps) from =
           → end_of (from + n) (bars time (from + n) ps) ≡ from + n + length (timed time ps)
           → end_of from (bar_of n from p ++ bars time (from + n) ps)
           ≡ from + (n + length (timed time ps))
-      step zero h =
-          let same : from + 0 ≡ from = omega arith in
-          let sums : from + 0 + length (timed time ps) ≡ from + (0 + length (timed time ps)) =
-          omega arith in
-          subst
-          (λ (k : ℕ). end_of k (bars time (from + 0) ps) ≡ from + (0 + length (timed time ps)))
-          same (h ∙ sums)
-      step (suc n) h =
-          let sums : from + suc n + length (timed time ps)
-          ≡ from + (suc n + length (timed time ps)) =
-          omega arith in
-          h ∙ sums
-
--- the phase at a second is that of the row
-at_second : (time : ℕ → ℕ) (row : List ℕ) (from t : ℕ)
-    → phase_at_second (bars time from row) (from + t) ≡ phase_in time row t
-at_second time [] from t = refl
-at_second time (p ∷ ps) from t =
-    step (time p) (at_second time ps (from + time p) (t - time p)) where
-      later : (n : ℕ) → n ≤ t
-          → phase_at_second (bars time (from + n) ps) (from + n + (t - n))
-          ≡ phase_in time ps (t - n)
-          → phase_at_second (bars time (from + n) ps) (from + t) ≡ phase_in time ps (t - n)
-      later n le h =
-          let same : from + n + (t - n) ≡ from + t = omega arith in
-          subst
-          (λ (k : ℕ). phase_at_second (bars time (from + n) ps) k ≡ phase_in time ps (t - n))
-          same h
-
-      here : (n : ℕ) (b : Bool) → ltb t (suc n) ≡ b
-          → (suc n ≤ t → phase_at_second (bars time (from + suc n) ps) (from + t)
-          ≡ phase_in time ps (t - suc n))
-          → phase_at_second (bar_of (suc n) from p ++ bars time (from + suc n) ps) (from + t)
-          ≡ cond (ltb t (suc n)) (Some p) (phase_in time ps (t - suc n))
-      here n true e h =
-          let early : leb from (from + t) ≡ true = le-leb from (from + t) (omega arith) in
-          let lt : t < suc n = ltb-true t (suc n) e in
-          let within : ltb (from + t) (from + suc n) ≡ true =
-          lt-ltb (from + t) (from + suc n) (omega arith) in
-          ap (option_map (λ (bar : Bar). bar.phase))
-          (cond-true (leb from (from + t) && ltb (from + t) (from + suc n))
-          (Some (record { phase = p; from = from; to = from + suc n }))
-          (find (covers (from + t)) (bars time (from + suc n) ps))
-          (and_from _ _ early within))
-          ∙ sym (cond-true (ltb t (suc n)) (Some p) (phase_in time ps (t - suc n)) e)
-      here n false e h =
-          let le : suc n ≤ t = ltb-false t (suc n) e in
-          let past : ltb (from + t) (from + suc n) ≡ false =
-          le-ltb (from + t) (from + suc n) (omega arith) in
-          ap (option_map (λ (bar : Bar). bar.phase))
-          (cond-false (leb from (from + t) && ltb (from + t) (from + suc n))
-          (Some (record { phase = p; from = from; to = from + suc n }))
-          (find (covers (from + t)) (bars time (from + suc n) ps))
-          (and_right (leb from (from + t)) _ past))
-          ∙ (h le ∙ sym (cond-false (ltb t (suc n)) (Some p) (phase_in time ps (t - suc n)) e))
-
-      step : (n : ℕ)
-          → phase_at_second (bars time (from + n) ps) (from + n + (t - n))
-          ≡ phase_in time ps (t - n)
-          → phase_at_second (bar_of n from p ++ bars time (from + n) ps) (from + t)
-          ≡ cond (ltb t n) (Some p) (phase_in time ps (t - n))
-      step zero h =
-          later 0 (omega arith) h
-          ∙ sym (cond-false (ltb t 0) (Some p) (phase_in time ps (t - 0))
-          (le-ltb t 0 (omega arith)))
-      step (suc n) h = here n (ltb t (suc n)) refl (λ le. later (suc n) le h)
+      step zero h = let same : from + 0 ≡ from = omega arith in rw same ((rw same at h) ∙ omega arith)
+      step (suc n) h = h ∙ omega arith
 
 repeated : (n t p : ℕ) (xs : List ℕ)
     → slice_get (replicate n p ++ xs) t ≡ cond (ltb t n) (Some p) (slice_get xs (t - n))
@@ -158,26 +95,43 @@ repeated (suc n) zero p xs =
     (lt-ltb 0 (suc n) (omega arith)))
 repeated (suc n) (suc t) p xs =
     let same : t - n ≡ suc t - suc n = omega arith in
-    let test : ltb t n ≡ ltb (suc t) (suc n) =
-    same_answer (ltb t n) (ltb (suc t) (suc n))
-    (λ h. let lt : t < n = ltb-true t n h in lt-ltb (suc t) (suc n) (omega arith))
-    (λ h. let lt : suc t < suc n = ltb-true (suc t) (suc n) h in lt-ltb t n (omega arith)) in
+    let test : ltb t n ≡ ltb (suc t) (suc n) = grind (arith, nat_tests) in
     repeated n t p xs ∙ ap₂ (λ (b : Bool) (k : ℕ). cond b (Some p) (slice_get xs k)) test same
 
-timed_at : (time : ℕ → ℕ) (row : List ℕ) (t : ℕ)
-    → slice_get (timed time row) t ≡ phase_in time row t
-timed_at time [] t = refl
-timed_at time (p ∷ ps) t =
-    repeated (time p) t p (timed time ps)
-    ∙ ap (λ (o : Option ℕ). cond (ltb t (time p)) (Some p) o) (timed_at time ps (t - time p))
+covered : (from t n : ℕ) → (leb from (from + t) && ltb (from + t) (from + n)) ≡ ltb t n
+covered from t n =
+    let below : leb from (from + t) ≡ true = le-leb from (from + t) (omega arith) in
+    rw below (grind (arith, nat_tests))
 
 -- the phase at a second is that of the lane, which has its phases once a second
+at_second : (time : ℕ → ℕ) (row : List ℕ) (from t : ℕ)
+    → phase_at_second (bars time from row) (from + t) ≡ slice_get (timed time row) t
+at_second time [] from t = refl
+at_second time (p ∷ ps) from t =
+    step (time p) (ltb t (time p)) refl (at_second time ps (from + time p) (t - time p))
+    ∙ sym (repeated (time p) t p (timed time ps)) where
+      step : (n : ℕ) (b : Bool) → ltb t n ≡ b
+          → phase_at_second (bars time (from + n) ps) (from + n + (t - n))
+          ≡ slice_get (timed time ps) (t - n)
+          → phase_at_second (bar_of n from p ++ bars time (from + n) ps) (from + t)
+          ≡ cond (ltb t n) (Some p) (slice_get (timed time ps) (t - n))
+      step zero b e h =
+          let same : from + 0 + (t - 0) ≡ from + t = omega arith in
+          (rw same at h) ∙ sym (cond-false (ltb t 0) _ _ (le-ltb t 0 (omega arith)))
+      step (suc n) true e h =
+          ap (option_map (λ (bar : Bar). bar.phase)) (cond-true _ _ _ (covered from t (suc n) ∙ e))
+          ∙ sym (cond-true (ltb t (suc n)) _ _ e)
+      step (suc n) false e h =
+          let le : suc n ≤ t = ltb-false t (suc n) e in
+          let same : from + suc n + (t - suc n) ≡ from + t = omega arith in
+          ap (option_map (λ (bar : Bar). bar.phase)) (cond-false _ _ _ (covered from t (suc n) ∙ e))
+          ∙ (rw same at h) ∙ sym (cond-false (ltb t (suc n)) _ _ e)
+
 pub seconds : (time : ℕ → ℕ) (row : List ℕ) (t : ℕ)
     → phase_at_second (bars time 0 row) t ≡ slice_get (timed time row) t
 seconds time row t =
     let same : t ≡ 0 + t = omega arith in
     ap (phase_at_second (bars time 0 row)) same ∙ at_second time row 0 t
-    ∙ sym (timed_at time row t)
 
 -- ---- the seconds at which a phase begins or ends
 
@@ -187,26 +141,17 @@ begins_at second bar = eqb bar.from second
 abbrev pub ends_at : ℕ → Bar → Bool
 ends_at second bar = eqb bar.to second
 
-starts_are : (time : ℕ → ℕ) (row : List ℕ) (from : ℕ)
-    → starts time from row ≡ map (λ (bar : Bar). bar.from) (bars time from row)
-starts_are time [] from = refl
-starts_are time (p ∷ ps) from = step (time p) (starts_are time ps (from + time p)) where
-  step : (n : ℕ)
-      → starts time (from + n) ps ≡ map (λ (bar : Bar). bar.from) (bars time (from + n) ps)
-      → start_of n from ++ starts time (from + n) ps
-      ≡ map (λ (bar : Bar). bar.from) (bar_of n from p ++ bars time (from + n) ps)
-  step zero e = e
-  step (suc n) e = ap (λ (xs : List ℕ). from ∷ xs) e
-
-in_map : (second : ℕ) (xs : List Bar)
-    → is_in second (map (λ (bar : Bar). bar.from) xs) ≡ list_any (begins_at second) xs
-in_map second [] = refl
-in_map second (x ∷ xs) = ap (λ (b : Bool). eqb x.from second || b) (in_map second xs)
-
 begins : (time : ℕ → ℕ) (row : List ℕ) (from second : ℕ)
     → is_in second (starts time from row) ≡ list_any (begins_at second) (bars time from row)
-begins time row from second =
-    ap (is_in second) (starts_are time row from) ∙ in_map second (bars time from row)
+begins time [] from second = refl
+begins time (p ∷ ps) from second = step (time p) (begins time ps (from + time p) second) where
+  step : (n : ℕ)
+      → is_in second (starts time (from + n) ps)
+      ≡ list_any (begins_at second) (bars time (from + n) ps)
+      → is_in second (start_of n from ++ starts time (from + n) ps)
+      ≡ list_any (begins_at second) (bar_of n from p ++ bars time (from + n) ps)
+  step zero e = e
+  step (suc n) e = ap (λ b. eqb from second || b) e
 
 -- where a phase begins that is not the first, another one ends
 ended : (time : ℕ → ℕ) (row : List ℕ) (from second : ℕ) → (from ≡ second → ⊥)
@@ -215,22 +160,12 @@ ended : (time : ℕ → ℕ) (row : List ℕ) (from second : ℕ) → (from ≡ 
 ended time [] from second apart h = h
 ended time (p ∷ ps) from second apart h =
     step (time p) (ended time ps (from + time p) second) h where
-      here : (n : ℕ) → (from + suc n ≡ second) ⊎ (from + suc n ≡ second → ⊥)
+      first : (n : ℕ) → (from + suc n ≡ second) ⊎ (from + suc n ≡ second → ⊥)
           → ((from + suc n ≡ second → ⊥)
           → list_any (ends_at second) (bars time (from + suc n) ps) ≡ true)
           → list_any (ends_at second) (bar_of (suc n) from p ++ bars time (from + suc n) ps) ≡ true
-      here n (inl same) later = or_left _ _ (eq-eqb _ _ same)
-      here n (inr other) later = or_right _ _ (later other)
-
-      first : (n : ℕ)
-          → (eqb from second ≡ true)
-          ⊎ (list_any (begins_at second) (bars time (from + suc n) ps) ≡ true)
-          → ((from + suc n ≡ second → ⊥)
-          → list_any (begins_at second) (bars time (from + suc n) ps) ≡ true
-          → list_any (ends_at second) (bars time (from + suc n) ps) ≡ true)
-          → list_any (ends_at second) (bar_of (suc n) from p ++ bars time (from + suc n) ps) ≡ true
-      first n (inl e) later = absurd (apart (eqb-true from second e))
-      first n (inr h) later = here n (cases_eq (from + suc n) second) (λ other. later other h)
+      first n (inl same) later = or_left _ _ (eq-eqb _ _ same)
+      first n (inr other) later = or_right _ _ (later other)
 
       step : (n : ℕ)
           → ((from + n ≡ second → ⊥)
@@ -239,7 +174,10 @@ ended time (p ∷ ps) from second apart h =
           → list_any (begins_at second) (bar_of n from p ++ bars time (from + n) ps) ≡ true
           → list_any (ends_at second) (bar_of n from p ++ bars time (from + n) ps) ≡ true
       step zero later h = later (λ e. apart (omega arith)) h
-      step (suc n) later h = first n (or_cases (eqb from second) _ h) later
+      step (suc n) later h =
+          first n (cases_eq (from + suc n) second)
+          (λ other. later other (sym (ap (λ b. b || list_any (begins_at second)
+          (bars time (from + suc n) ps)) (ne_eqb from second apart)) ∙ h))
 
 -- no phase ends at second 0
 none_ends : (time : ℕ → ℕ) (row : List ℕ) (from : ℕ)

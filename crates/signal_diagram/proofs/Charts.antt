@@ -1,30 +1,29 @@
 -- The picture of a pattern shows its chart.
-use Rattle.std.proofs.Common.{◌≡◌, ℕ, zero, suc, ◌+◌, ◌-◌, ◌*◌, ◌<◌, ◌≤◌, Bool, true, false, eqb}
-use Rattle.std.proofs.Common.{ltb, List, [], ◌∷◌, ◌++◌, map, filter, length, get_or, flat_map, Some}
-use Rattle.std.proofs.Common.{◌⊎◌, inl, inr, refl, sym, ap, ap₂, ◌∙◌, arith, codes}
-use Rattle.std.proofs.lemmas.Bool.{and_from, and_left, and_parts, or_cases, or_left, or_right, eq-eqb, eqb-true}
-use Rattle.std.proofs.lemmas.Bool.{lt-ltb, ltb-true, false≢true}
+use Rattle.std.proofs.Common.{◌≡◌, ℕ, zero, suc, ◌+◌, ◌-◌, ◌*◌, ◌<◌, Bool, false, eqb}
+use Rattle.std.proofs.Common.{leb, ltb, List, [], ◌∷◌, ◌++◌, map, filter, length, get_or, flat_map, Some}
+use Rattle.std.proofs.Common.{refl, sym, ap, ap₂, ◌∙◌, arith, codes}
+use Rattle.std.proofs.lemmas.Bool.{and_left}
+use Rattle.std.proofs.lemmas.Bool.Decides.{nat_tests}
 use Rattle.std.proofs.lemmas.List.{append-nil, length-map}
 use Rattle.std.proofs.lemmas.List.Concat.{flat_map-append}
 use Rattle.std.proofs.lemmas.List.Elements.{All-map}
-use Rattle.std.proofs.lemmas.List.Folds.{list_any-append}
-use Rattle.std.specs.Prelude.{cond, decimal, ◌||◌, ◌&&◌}
+use Rattle.std.proofs.lemmas.List.Folds.{list_all-map, list_any-append}
+use Rattle.std.specs.Prelude.{decimal, ◌||◌, ◌&&◌}
 use Rattle.std.specs.List.{list_all}
 use Rattle.signal_records.specs.declared.record.Pattern.{Pattern}
-use Rattle.signal_records.specs.Numbers.{numbers}
 use Rattle.signal_records.specs.TimingSet.{Rows}
 use Rattle.signal_rules.specs.Lookup.{is_in, pattern_at, phase_at, split_at}
 use Rattle.signal_rules.specs.SequenceRule.{ring_row}
 use Rattle.signal_rules.specs.PatternRules.{is_coordinated, lane, used_rings}
 use Rattle.signal_rules.specs.CutPoints.{timed}
 use Rattle.signal_rules.specs.Starts.{times}
-use Rattle.signal_rules.proofs.CutPoints.{same_answer}
+use Rattle.signal_rules.proofs.Among.{is_filtered, is_number}
 use Rattle.signal_diagram.specs.declared.geometry.TheConstants.{LABEL_LEFT}
 use Rattle.signal_diagram.specs.Geometry.{shown_seconds, top_of, width_of, height_of}
 use Rattle.signal_diagram.specs.Elements.{where_long, words_at}
 use Rattle.signal_diagram.specs.PhasePicture.{phase_picture}
 use Rattle.signal_diagram.specs.Lanes.{lane_phases, lane_pictures}
-use Rattle.signal_diagram.specs.Barriers.{all_start, barrier, barriers, ring_starts, seconds_within}
+use Rattle.signal_diagram.specs.Barriers.{all_start, barrier, barriers, seconds_within}
 use Rattle.signal_diagram.specs.Scale.{scale}
 use Rattle.signal_diagram.specs.Notes.{head}
 use Rattle.signal_diagram.specs.Diagram.{opening, body, picture, picture_of}
@@ -78,31 +77,26 @@ end_together : (set : Rows) (pattern : Pattern) (rings : List ℕ)
     (map (lane set pattern.seq pattern.split) rings)
     ≡ list_all (λ (shown : Lane). eqb (end_of 0 shown.bars) pattern.cycle)
     (map (lane_of set pattern) rings)
-end_together set pattern [] = refl
-end_together set pattern (ring ∷ rings) =
+end_together set pattern rings =
     let time : ℕ → ℕ = times set pattern.split in
-    let row : List ℕ = ring_row set pattern.seq ring in
-    let whole : 0 + length (timed time row) ≡ length (timed time row) = omega arith in
-    ap₂ (λ (a b : Bool). a && b)
-    (ap (λ (k : ℕ). eqb k pattern.cycle) (sym (ends time row 0 ∙ whole)))
-    (end_together set pattern rings)
+    let row : ℕ → List ℕ = ring_row set pattern.seq in
+    let whole : (ring : ℕ) → length (timed time (row ring)) ≡ end_of 0 (bars time 0 (row ring)) =
+    λ ring. omega (arith, ends time (row ring) 0) in
+    let each : list_all (λ ring. eqb (length (timed time (row ring))) pattern.cycle) rings
+    ≡ list_all (λ ring. eqb (end_of 0 (bars time 0 (row ring))) pattern.cycle) rings =
+    λ i. list_all (λ ring. eqb (whole ring i) pattern.cycle) rings in
+    list_all-map _ (lane set pattern.seq pattern.split) rings ∙ each
+    ∙ sym (list_all-map _ (lane_of set pattern) rings)
 
 -- ---- the barriers
-
-each_changes : (set : Rows) (pattern : Pattern) (rings : List ℕ) (second : ℕ) → 0 < second
-    → list_all (changes second) (map (lane_of set pattern) rings)
-    ≡ list_all (ring_starts set pattern second) rings
-each_changes set pattern [] second later = refl
-each_changes set pattern (ring ∷ rings) second later =
-    ap₂ (λ (a b : Bool). a && b)
-    (changes_at_starts (times set pattern.split) (ring_row set pattern.seq ring) ring second later)
-    (each_changes set pattern rings second later)
 
 all_changes : (set : Rows) (pattern : Pattern) (rings : List ℕ) (second : ℕ) → 0 < second
     → all_change second (map (lane_of set pattern) rings) ≡ all_start set pattern rings second
 all_changes set pattern [] second later = refl
 all_changes set pattern (ring ∷ rings) second later =
-    each_changes set pattern (ring ∷ rings) second later
+    list_all-map (changes second) (lane_of set pattern) (ring ∷ rings)
+    ∙ (λ i. list_all (λ r. changes_at_starts (times set pattern.split)
+    (ring_row set pattern.seq r) r second later i) (ring ∷ rings))
 
 none_at_zero : (set : Rows) (pattern : Pattern) (rings : List ℕ)
     → all_change 0 (map (lane_of set pattern) rings) ≡ false
@@ -111,119 +105,27 @@ none_at_zero set pattern (ring ∷ rings) =
     and_left _ _
     (no_change_at_zero (times set pattern.split) (ring_row set pattern.seq ring) ring)
 
--- the numbers that pass a test
-passed : (T : ℕ → Bool) (n first s : ℕ) → is_in s (filter T (numbers n first)) ≡ true
-    → (first ≤ s) × (s < first + n) × (T s ≡ true)
-passed T zero first s h = absurd (false≢true h)
-passed T (suc n) first s h = step (T first) refl h (passed T n (first + 1) s) where
-  later : (first + 1 ≤ s) × (s < first + 1 + n) × (T s ≡ true)
-      → (first ≤ s) × (s < first + suc n) × (T s ≡ true)
-  later h =
-      let low : first + 1 ≤ s = h.0 in
-      let high : s < first + 1 + n = h.1 in
-      (omega arith, omega arith, h.2)
-
-  here : (T first ≡ true) → (eqb first s ≡ true) ⊎ (is_in s (filter T (numbers n (first + 1))) ≡ true)
-      → (is_in s (filter T (numbers n (first + 1))) ≡ true
-      → (first + 1 ≤ s) × (s < first + 1 + n) × (T s ≡ true))
-      → (first ≤ s) × (s < first + suc n) × (T s ≡ true)
-  here e (inl same) more =
-      let one : first ≡ s = eqb-true first s same in
-      (omega arith, omega arith, ap T (sym one) ∙ e)
-  here e (inr h) more = later (more h)
-
-  step : (b : Bool) → T first ≡ b
-      → is_in s (cond b (first ∷ filter T (numbers n (first + 1)))
-      (filter T (numbers n (first + 1)))) ≡ true
-      → (is_in s (filter T (numbers n (first + 1))) ≡ true
-      → (first + 1 ≤ s) × (s < first + 1 + n) × (T s ≡ true))
-      → (first ≤ s) × (s < first + suc n) × (T s ≡ true)
-  step true e h more = here e (or_cases (eqb first s) _ h) more
-  step false e h more = later (more h)
-
-passes : (T : ℕ → Bool) (n first s : ℕ) → first ≤ s → s < first + n → T s ≡ true
-    → is_in s (filter T (numbers n first)) ≡ true
-passes T zero first s low high passing = absurd (omega arith)
-passes T (suc n) first s low high passing =
-    step (T first) refl (places first s low) (passes T n (first + 1) s) where
-      places : (a b : ℕ) → a ≤ b → (a ≡ b) ⊎ (a + 1 ≤ b)
-      places a b le = grind arith
-
-      step : (b : Bool) → T first ≡ b → (first ≡ s) ⊎ (first + 1 ≤ s)
-          → (first + 1 ≤ s → s < first + 1 + n → T s ≡ true
-          → is_in s (filter T (numbers n (first + 1))) ≡ true)
-          → is_in s (cond b (first ∷ filter T (numbers n (first + 1)))
-          (filter T (numbers n (first + 1)))) ≡ true
-      step true e (inl same) more = or_left _ _ (eq-eqb first s same)
-      step true e (inr le) more = or_right _ _ (more le (omega arith) passing)
-      step false e (inl same) more =
-          let bad : false ≡ true = sym e ∙ ap T same ∙ passing in absurd (false≢true bad)
-      step false e (inr le) more = more le (omega arith) passing
+-- within the cycle or at its end, where nothing changes at second 0
+barrier_where : (start change : Bool) (second cycle : ℕ) → (second ≡ 0 → change ≡ false)
+    → (0 < second → change ≡ start)
+    → ((start && (leb 1 second && ltb second (1 + (cycle - 1)))) || (eqb cycle second || false))
+    ≡ (eqb second cycle || (ltb second cycle && change))
+barrier_where start change second cycle none same = grind (arith, nat_tests)
 
 are_barriers : (set : Rows) (pattern : Pattern) (rings : List ℕ) (second : ℕ)
     → is_in second (barrier_seconds set pattern rings)
     ≡ (eqb second pattern.cycle
     || (ltb second pattern.cycle && all_change second (map (lane_of set pattern) rings)))
 are_barriers set pattern rings second =
-    same_answer _ _
-    (λ h. drawn (or_cases _ _ (sym parts ∙ h)))
-    (λ h. parts ∙ needed (or_cases (eqb second pattern.cycle) _ h)) where
-      parts : is_in second (barrier_seconds set pattern rings)
-          ≡ (is_in second (filter (all_start set pattern rings) (seconds_within pattern.cycle))
-          || (eqb pattern.cycle second || false))
-      parts = list_any-append (λ m. eqb m second)
-          (filter (all_start set pattern rings) (seconds_within pattern.cycle)) (pattern.cycle ∷ [])
-
-      at_end : (eqb pattern.cycle second ≡ true) ⊎ (false ≡ true)
-          → (eqb second pattern.cycle
-          || (ltb second pattern.cycle && all_change second (map (lane_of set pattern) rings)))
-          ≡ true
-      at_end (inl e) = or_left _ _ (eq-eqb _ _ (sym (eqb-true pattern.cycle second e)))
-      at_end (inr bad) = absurd (false≢true bad)
-
-      drawn : (is_in second (filter (all_start set pattern rings) (seconds_within pattern.cycle))
-          ≡ true) ⊎ ((eqb pattern.cycle second || false) ≡ true)
-          → (eqb second pattern.cycle
-          || (ltb second pattern.cycle && all_change second (map (lane_of set pattern) rings)))
-          ≡ true
-      drawn (inl h) =
-          let found = passed (all_start set pattern rings) (pattern.cycle - 1) 1 second h in
-          let low : 1 ≤ second = found.0 in
-          let high : second < 1 + (pattern.cycle - 1) = found.1 in
-          or_right _ _
-          (and_from _ _ (lt-ltb second pattern.cycle (omega arith))
-          (all_changes set pattern rings second (omega arith) ∙ found.2))
-      drawn (inr h) = at_end (or_cases (eqb pattern.cycle second) false h)
-
-      zero_or_later : (s : ℕ) → (s ≡ 0) ⊎ (0 < s)
-      zero_or_later zero = inl refl
-      zero_or_later (suc n) = inr (omega arith)
-
-      changed : second < pattern.cycle
-          → all_change second (map (lane_of set pattern) rings) ≡ true
-          → (second ≡ 0) ⊎ (0 < second)
-          → is_in second (filter (all_start set pattern rings) (seconds_within pattern.cycle))
-          ≡ true
-      changed lt change (inl first) =
-          let bad : false ≡ true =
-          sym (none_at_zero set pattern rings)
-          ∙ sym (ap (λ (k : ℕ). all_change k (map (lane_of set pattern) rings)) first) ∙ change in
-          absurd (false≢true bad)
-      changed lt change (inr later) =
-          passes (all_start set pattern rings) (pattern.cycle - 1) 1 second (omega arith)
-          (omega arith) (sym (all_changes set pattern rings second later) ∙ change)
-
-      needed : (eqb second pattern.cycle ≡ true)
-          ⊎ ((ltb second pattern.cycle && all_change second (map (lane_of set pattern) rings))
-          ≡ true)
-          → (is_in second (filter (all_start set pattern rings) (seconds_within pattern.cycle))
-          || (eqb pattern.cycle second || false)) ≡ true
-      needed (inl e) =
-          or_right _ _ (or_left _ _ (eq-eqb _ _ (sym (eqb-true second pattern.cycle e))))
-      needed (inr h) =
-          let both = and_parts (ltb second pattern.cycle) _ h in
-          or_left _ _
-          (changed (ltb-true second pattern.cycle both.0) both.1 (zero_or_later second))
+    list_any-append (λ m. eqb m second)
+    (filter (all_start set pattern rings) (seconds_within pattern.cycle)) (pattern.cycle ∷ [])
+    ∙ ap (λ b. b || (eqb pattern.cycle second || false))
+    (is_filtered (all_start set pattern rings) (seconds_within pattern.cycle) second
+    ∙ ap (λ b. all_start set pattern rings second && b) (is_number (pattern.cycle - 1) 1 second))
+    ∙ barrier_where _ _ second pattern.cycle
+    (λ e. ap (λ (k : ℕ). all_change k (map (lane_of set pattern) rings)) e
+    ∙ none_at_zero set pattern rings)
+    (λ later. all_changes set pattern rings second later)
 
 pub is_chart : (set : Rows) (pattern : Pattern) → IsChart set pattern (chart_of set pattern)
 is_chart set pattern = record {
@@ -269,12 +171,10 @@ lanes_drawn : (set : Rows) (pattern : Pattern) (rings : List ℕ) (index : ℕ)
     → lane_pictures set pattern index rings
     ≡ lane_drawings set pattern index (map (lane_of set pattern) rings)
 lanes_drawn set pattern [] index = refl
-lanes_drawn set pattern (ring ∷ rings) index =
-    ap₂ (λ (xs ys : List ℕ). xs ++ ys)
-    (ap (λ (xs : List ℕ). words_at LABEL_LEFT (top_of index + 40)
-    (codes "Ring " ++ decimal ring) ++ xs)
-    (phases_drawn set pattern (top_of index) (ring_row set pattern.seq ring) 0))
-    (lanes_drawn set pattern rings (index + 1))
+lanes_drawn set pattern (ring ∷ rings) index = λ i.
+    (words_at LABEL_LEFT (top_of index + 40) (codes "Ring " ++ decimal ring)
+    ++ phases_drawn set pattern (top_of index) (ring_row set pattern.seq ring) 0 i)
+    ++ lanes_drawn set pattern rings (index + 1) i
 
 barriers_drawn : (set : Rows) (pattern : Pattern) (rings : List ℕ)
     → barriers set pattern rings

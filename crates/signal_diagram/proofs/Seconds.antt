@@ -1,8 +1,6 @@
 -- One second more of a cycle: the lines that were drawn and those that are left.
 use Rattle.std.proofs.Common.{◌≡◌, ℕ, suc, ◌+◌, ◌-◌, ◌<◌, ◌≤◌, Bool, true, false, List, [], ◌∷◌, ◌++◌}
-use Rattle.std.proofs.Common.{flat_map, filter, ◌⊎◌, inl, inr, refl, sym, ap, ◌∙◌, append_assoc, arith}
-use Rattle.std.proofs.lemmas.Bool.{cond-true, cond-false}
-use Rattle.std.specs.Prelude.{cond}
+use Rattle.std.proofs.Common.{flat_map, filter, ◌⊎◌, inl, inr, refl, append_assoc, arith}
 use Rattle.signal_records.specs.Numbers.{numbers}
 
 next_number : (cycle second : ℕ) → second < cycle
@@ -20,28 +18,9 @@ pub one_second : (line : ℕ → List ℕ) (T : ℕ → Bool) (cycle second : �
     → before ++ flat_map line (filter T (numbers (cycle - second) second)) ≡ all
     → ((T second ≡ true) × (now ≡ before ++ line second)) ⊎ ((T second ≡ false) × (now ≡ before))
     → now ++ flat_map line (filter T (numbers (cycle - (second + 1)) (second + 1))) ≡ all
-one_second line T cycle second before now all lt so_far this = by_test this where
-  left : before ++ flat_map line (cond (T second)
-      (second ∷ filter T (numbers (cycle - (second + 1)) (second + 1)))
-      (filter T (numbers (cycle - (second + 1)) (second + 1)))) ≡ all
-  left =
-      ap (λ (xs : List ℕ). before ++ flat_map line (filter T xs))
-      (sym (next_number cycle second lt)) ∙ so_far
-
-  by_test : ((T second ≡ true) × (now ≡ before ++ line second)) ⊎ ((T second ≡ false) × (now ≡ before))
-      → now ++ flat_map line (filter T (numbers (cycle - (second + 1)) (second + 1))) ≡ all
-  by_test (inl passing) =
-      ap (λ (xs : List ℕ). xs ++ flat_map line (filter T (numbers (cycle - (second + 1))
-      (second + 1)))) passing.1
-      ∙ append_assoc before (line second) _
-      ∙ ap (λ (xs : List ℕ). before ++ flat_map line xs)
-      (sym (cond-true (T second) (second ∷ filter T (numbers (cycle - (second + 1)) (second + 1)))
-      (filter T (numbers (cycle - (second + 1)) (second + 1))) passing.0))
-      ∙ left
-  by_test (inr failing) =
-      ap (λ (xs : List ℕ). xs ++ flat_map line (filter T (numbers (cycle - (second + 1))
-      (second + 1)))) failing.1
-      ∙ ap (λ (xs : List ℕ). before ++ flat_map line xs)
-      (sym (cond-false (T second) (second ∷ filter T (numbers (cycle - (second + 1)) (second + 1)))
-      (filter T (numbers (cycle - (second + 1)) (second + 1))) failing.0))
-      ∙ left
+one_second line T cycle second before now all lt so_far this =
+    let left = rw (next_number cycle second lt) at so_far in
+    elim this [
+      | inl passing ↦ rw (passing.1, append_assoc) (rw passing.0 at left)
+      | inr failing ↦ rw failing.1 (rw failing.0 at left)
+    ]

@@ -1,17 +1,9 @@
--- How the program tells what the office refused.
+-- What the fault of a query tells.
 use Rattle.std.specs.Prelude.{◌≡◌, ◌⊎◌, ℕ, None}
 use Rattle.std.specs.FinMap.{get}
 use Rattle.office_machine.specs.Office.{Office}
-use Rattle.office_machine.specs.declared.refusal.Refusal.{Refusal}
-use Rattle.office_machine.specs.declared.refusal.Refusal.TheVariants as refusal
 use Rattle.signal_office_asking.specs.declared.fault.Fault.{Fault}
 use Rattle.signal_office_asking.specs.declared.fault.Fault.TheVariants as told
-
--- the fault that is told of a refused query
-abbrev pub fault_of : Refusal → Fault
-fault_of refusal.UnknownIntersection = told.UnknownIntersection
-fault_of refusal.Damaged = told.Damaged
-fault_of other = told.Store
 
 -- the faults of a query about one intersection
 abbrev pub IsFaultOfQuery : Fault → Type 0

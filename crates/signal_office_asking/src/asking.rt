@@ -5,6 +5,7 @@ ghost use Rattle.office_tables_shelf.specs.Shelf.{IsKept};
 ghost use Rattle.office_desk.specs.Answers.{AnswersAny};
 ghost use Rattle.office_desk.specs.Changes.{IsQuery};
 ghost use Rattle.office_desk.specs.Damage.{MeetsDamage};
+ghost use Rattle.office_desk.specs.Named.{IsNamedFor};
 
 use office_desk::office::Office;
 use office_machine::command::Command;
@@ -19,6 +20,8 @@ pub fn ask<S: Shelf>(alloc: Global, office: &mut Office<S>, query: Command) -> R
     requires { IsQuery query }
     ensures kept { IsKept S.is_honest S.content S.written S.may_leave office.old office.new }
     ensures step { S.is_honest office.new → AnswersAny (S.content office.old) query result (S.content office.old) }
+    // It is refused for what its line of the table names, and else Unavailable or Damaged.
+    ensures named { IsNamedFor query result }
     ensures damaged { result ≡ Reply.Refused Refusal.Damaged → S.is_honest office.new → MeetsDamage (S.content office.old) query }
 {
     let decided = office.decide(alloc, &query);

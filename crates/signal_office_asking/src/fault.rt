@@ -145,21 +145,6 @@ impl From<Error> for Fault {
     }
 }
 
-impl From<Refusal> for Fault {
-    ghost use Rattle.std.specs.Prelude.{◌≡◌};
-    ghost use Rattle.signal_office_asking.specs.Fault.{fault_of};
-
-    ghost from_gives = { λ refusal fault. fault ≡ fault_of refusal };
-
-    fn from(refusal: Refusal) -> Fault {
-        match refusal {
-            Refusal::UnknownIntersection => Fault::UnknownIntersection,
-            Refusal::Damaged => Fault::Damaged,
-            _ => Fault::Store,
-        }
-    }
-}
-
 impl From<OpenFault> for Fault {
     ghost use Rattle.std.specs.Prelude.{◌≡◌, ◌↔◌};
     ghost use Rattle.office_tables_open.specs.declared.open.OpenFault.TheVariants as opened;

@@ -1,5 +1,5 @@
--- The fault of a query that is handed on.
-use Rattle.std.proofs.Common.{◌≡◌, ℕ, Option, None, Result, Ok, Err, IfErr, IsErrAnd, sym, subst}
+-- The fault of a query for a draft that is handed on.
+use Rattle.std.proofs.Common.{◌≡◌, ℕ, Option, None, Result, Ok, Err}
 use Rattle.draft_core.specs.declared.state.DbState.{DbState}
 use Rattle.draft_core.specs.declared.state.DbState.TheVariants.{Normal, Transaction, Verify, Done}
 use Rattle.signal_records.specs.TimingSet.{Rows}
@@ -8,19 +8,13 @@ use Rattle.signal_office_asking.specs.Showing.{ShowsDraft}
 use Rattle.signal_office_asking.specs.declared.fault.Fault.{Fault}
 use Rattle.signal_office_page.specs.Asking.{ShowsDraftIn, ShowsOpen}
 
--- what holds of it holds of that which is told
-pub handed_on : {A : Type 0} (told : Result A Fault) (fault : Fault) (P : Fault → Type 0)
-    → IsErrAnd told (λ why. why ≡ fault) → P fault → IfErr told P
-handed_on (Ok x) fault P is holds = tt
-handed_on (Err why) fault P is holds = subst P (sym is) holds
-
 abbrev IsNothing : Result (Option Rows) Fault → Type 0
 IsNothing draft = draft ≡ Ok None
 
 no_draft : (why : Fault) → IsNothing (Err why) → ⊥
 no_draft why e = cc
 
--- that of the draft, of which nothing is asked in state Normal
+-- nothing is asked of it in state Normal
 open_of : (tables : Content) (id : ℕ) (state : DbState) (why : Fault) (P : Type 0)
     → (ShowsOpen tables id (Err why) → P) → ShowsDraftIn tables id state (Err why) → P
 open_of tables id Normal why P f shows = absurd (no_draft why shows)

@@ -11,11 +11,11 @@ ghost use Rattle.signal_office_page.specs.Paging.{IsPageOf, IsPageOfFile};
 
 use crate::asking::intersection_in;
 use office_desk::office::Office;
-use office_files::{CsvFault, read_timing_csv};
+use office_files::{CsvFault, read_plan_csv};
 use office_tables_shelf::shelf::Shelf;
 use signal_office_asking::Fault;
 use signal_page::{intersection_page, plan_page};
-use signal_records::{InterId, TimingSet};
+use signal_records::InterId;
 use std::alloc::Global;
 
 /// The page of an intersection. The office is as it was.
@@ -46,8 +46,7 @@ pub fn page_in(alloc: Global, bytes: &[u8]) -> Result<Vec<u8>, CsvFault>
     ensures page { IfOk result (λ text. IsPageOfFile bytes.now text.items) }
     ensures fault { IfErr result (λ why. why ≢ CsvFault.NoMemory → changes_of bytes.now ≡ Err why) }
 {
-    let changes = read_timing_csv(alloc, bytes)?;
-    let mut plan = TimingSet::new(alloc);
-    plan.apply(alloc, &changes)?;
-    Ok(plan_page(alloc, &plan)?)
+    let plan = read_plan_csv(alloc, bytes)?;
+    let text = plan_page(alloc, &plan)?;
+    Ok(text)
 }

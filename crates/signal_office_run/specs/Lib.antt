@@ -1,5 +1,1 @@
-pub mod File
-pub mod Memory
-pub mod Migrating
-pub mod Serving
 pub mod Tasks

@@ -1,9 +1,6 @@
 //! What the program's words ask for, from a source of bytes to its two outputs.
 
 use crate::done::Done;
-use crate::memory::{open_in_memory, serve_new_office};
-use crate::migrating::migrate_file;
-use crate::serving::serve_port;
 use crate::task::{Shown, Task, batch_in_file, do_in_file};
 use cabinet_core::read_day;
 use office_desk::office::Office;
@@ -12,8 +9,9 @@ use office_tables_shelf::shelf::Shelf;
 use signal_office_asking::{Fault, report};
 use signal_office_line::{Edit, Job, JobFault, Plan, Plans, job_of};
 use signal_office_page::page_in;
-use signal_office_plans::{compare_files, diagram_in};
-use signal_office_reports::violations_in;
+use signal_office_plan_views::{compare_files, diagram_in};
+use signal_office_printing::violations_in;
+use signal_office_serving::{migrate_file, open_in_memory, serve_new_office, serve_port};
 use signal_records::{InterId, Interval, PatternNo, Words};
 use sqlite::Wary;
 use std::alloc::Global;
@@ -38,7 +36,7 @@ fn batch<R: Source, W: Sink>(
     out: &mut W,
 ) -> Result<u8, Fault> {
     match db {
-        None => serve_new_office(alloc, source, out, BATCH_LIMIT)??,
+        None => serve_new_office(alloc, source, out, BATCH_LIMIT)?,
         Some(path) => batch_in_file(rt, alloc, path, source, out, BATCH_LIMIT)?,
     };
     Ok(0)
@@ -101,7 +99,7 @@ fn serve<W: Sink>(
     out: &mut W,
 ) -> Result<u8, Fault> {
     match db {
-        None => serve_by(rt, alloc, open_in_memory(alloc)?, port, count, out),
+        None => serve_by(rt, alloc, open_in_memory(alloc), port, count, out),
         Some(path) => in_file(rt, alloc, path, &Task::Serve { port, count }, out),
     }
 }

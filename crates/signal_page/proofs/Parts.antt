@@ -1,7 +1,11 @@
 -- Parts that are appended one after the other.
-use Rattle.std.proofs.Common.{◌≡◌, ℕ, List, [], ◌++◌, Result, Ok, Err, ap, ◌∙◌, append_assoc}
+use Rattle.std.proofs.Common.{◌≡◌, ℕ, List, [], ◌++◌, Result, Ok, Err, ap, ◌∙◌, append_assoc, rules}
+use Rattle.std.proofs.lemmas.Result.{IfOk-equal}
 use Rattle.std.specs.Prelude.{OnOk, cond}
 use Rattle.std.specs.Result.{is_ok}
+
+-- parts that are appended one after the other are one part
+pub ruleset appends = (rules, IfOk-equal, append_assoc)
 
 pub two : {A : Type 0} (old one both first second : List A) → one ≡ old ++ first
     → both ≡ one ++ second → both ≡ old ++ (first ++ second)

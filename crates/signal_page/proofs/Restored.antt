@@ -13,20 +13,8 @@ in_case : (b : ℕ) (rest : List ℕ) (t : Bool) (x y : List ℕ) → (t ≡ tru
 in_case b rest true x y p q = p refl
 in_case b rest false x y p q = q refl
 
-amp : (b : ℕ) (rest : List ℕ) → b ≡ 38 → IsReadAs b rest (codes "&amp;")
-amp b rest e = rw e refl
-
-lt : (b : ℕ) (rest : List ℕ) → b ≡ 60 → IsReadAs b rest (codes "&lt;")
-lt b rest e = rw e refl
-
-gt : (b : ℕ) (rest : List ℕ) → b ≡ 62 → IsReadAs b rest (codes "&gt;")
-gt b rest e = rw e refl
-
-quot : (b : ℕ) (rest : List ℕ) → b ≡ 34 → IsReadAs b rest (codes "&quot;")
-quot b rest e = rw e refl
-
-apos : (b : ℕ) (rest : List ℕ) → b ≡ 39 → IsReadAs b rest (codes "&#39;")
-apos b rest e = rw e refl
+entity : (b n : ℕ) (rest text : List ℕ) → IsReadAs n rest text → b ≡ n → IsReadAs b rest text
+entity b n rest text h e = rw e h
 
 plain : (b : ℕ) (rest : List ℕ) → eqb b 38 ≡ false → IsReadAs b rest (b ∷ [])
 plain b rest e = rw e refl
@@ -34,11 +22,17 @@ plain b rest e = rw e refl
 -- an entity is read as its byte, and each other byte as itself
 byte_read : (b : ℕ) (rest : List ℕ) → IsReadAs b rest (escaped_byte b)
 byte_read b rest =
-    in_case b rest (eqb b 38) _ _ (λ e. amp b rest (eqb-true b 38 e)) (λ other.
-    in_case b rest (eqb b 60) _ _ (λ e. lt b rest (eqb-true b 60 e)) (λ _.
-    in_case b rest (eqb b 62) _ _ (λ e. gt b rest (eqb-true b 62 e)) (λ _.
-    in_case b rest (eqb b 34) _ _ (λ e. quot b rest (eqb-true b 34 e)) (λ _.
-    in_case b rest (eqb b 39) _ _ (λ e. apos b rest (eqb-true b 39 e)) (λ _. plain b rest other)))))
+    in_case b rest (eqb b 38) _ _
+    (λ e. entity b 38 rest (codes "&amp;") refl (eqb-true b 38 e)) (λ other.
+    in_case b rest (eqb b 60) _ _
+    (λ e. entity b 60 rest (codes "&lt;") refl (eqb-true b 60 e)) (λ _.
+    in_case b rest (eqb b 62) _ _
+    (λ e. entity b 62 rest (codes "&gt;") refl (eqb-true b 62 e)) (λ _.
+    in_case b rest (eqb b 34) _ _
+    (λ e. entity b 34 rest (codes "&quot;") refl (eqb-true b 34 e)) (λ _.
+    in_case b rest (eqb b 39) _ _
+    (λ e. entity b 39 rest (codes "&#39;") refl (eqb-true b 39 e))
+    (λ _. plain b rest other)))))
 
 pub restored : (words : List ℕ) → unescaped (escaped words) ≡ words
 unfolding escaped

@@ -112,8 +112,8 @@ fn push_header(text: &mut String, shown: &IntersectionShown) -> Result<(), Alloc
 
 /// Appends the plan that runs.
 fn push_plan_section(
-    text: &mut String,
     alloc: Global,
+    text: &mut String,
     committed: &TimingSet,
 ) -> Result<(), NoMemory>
     ensures { OnOk result (string_bytes text.new
@@ -121,15 +121,15 @@ fn push_plan_section(
 {
     push_markup(text, "<section id='plan' aria-labelledby='plan-title'>\n")?;
     push_markup(text, "<h2 id='plan-title'>The plan that runs</h2>\n")?;
-    push_plan(text, alloc, false, &[], committed)?;
+    push_plan(alloc, text, false, &[], committed)?;
     push_markup(text, "</section>\n")
 }
 
 /// Appends a draft, and what it changes.
 #[tactic(auto, unfolding(crate::specs::Page::open_draft_section))]
 fn push_open_draft(
-    text: &mut String,
     alloc: Global,
+    text: &mut String,
     draft: &TimingSet,
     differences: &[Difference],
 ) -> Result<(), NoMemory>
@@ -142,14 +142,14 @@ fn push_open_draft(
     push_violations_note(text, &broken)?;
     push_changes_part(text, differences)?;
     push_markup(text, "<h3>The whole draft</h3>\n")?;
-    push_plan(text, alloc, true, &broken, draft)?;
+    push_plan(alloc, text, true, &broken, draft)?;
     push_markup(text, "</section>\n")
 }
 
 /// Appends the draft, where there is one.
 fn push_draft_section(
-    text: &mut String,
     alloc: Global,
+    text: &mut String,
     draft: &Option<TimingSet>,
     differences: &[Difference],
 ) -> Result<(), NoMemory>
@@ -158,14 +158,14 @@ fn push_draft_section(
 {
     match draft {
         None => Ok(()),
-        Some(draft) => push_open_draft(text, alloc, draft, differences),
+        Some(draft) => push_open_draft(alloc, text, draft, differences),
     }
 }
 
 /// Appends the register of the cabinet.
 fn push_cabinet_section(
-    text: &mut String,
     alloc: Global,
+    text: &mut String,
     shown: &IntersectionShown,
 ) -> Result<(), NoMemory>
     ensures { OnOk result (string_bytes text.new
@@ -176,7 +176,7 @@ fn push_cabinet_section(
         "<section id='cabinet' aria-labelledby='cabinet-title'>\n",
     )?;
     push_markup(text, "<h2 id='cabinet-title'>The cabinet</h2>\n")?;
-    push_register(text, alloc, shown.state.interval, &shown.cabinet.view)?;
+    push_register(alloc, text, shown.state.interval, &shown.cabinet.view)?;
     push_markup(text, "</section>\n")
 }
 
@@ -204,9 +204,9 @@ fn whole_page(
 {
     let mut text = String::new(alloc);
     push_header(&mut text, shown)?;
-    push_plan_section(&mut text, alloc, &shown.committed)?;
-    push_draft_section(&mut text, alloc, &shown.draft, differences)?;
-    push_cabinet_section(&mut text, alloc, shown)?;
+    push_plan_section(alloc, &mut text, &shown.committed)?;
+    push_draft_section(alloc, &mut text, &shown.draft, differences)?;
+    push_cabinet_section(alloc, &mut text, shown)?;
     end_page(&mut text)?;
     Ok(text.into_bytes())
 }
@@ -236,7 +236,7 @@ pub fn plan_page(alloc: Global, plan: &TimingSet) -> Result<Vec<u8>, NoMemory>
     end_head(&mut text)?;
     push_markup(&mut text, "Timing plan</h1>\n</header>\n<main id='main'>\n")?;
     push_violations_note(&mut text, &broken)?;
-    push_plan(&mut text, alloc, true, &broken, plan)?;
+    push_plan(alloc, &mut text, true, &broken, plan)?;
     end_page(&mut text)?;
     Ok(text.into_bytes())
 }

@@ -1,14 +1,13 @@
 //! How an intersection stands, above its plan.
 
-ghost use Rattle.std.specs.Prelude.{◌≡◌, ◌+◌, ◌++◌, OnOk, codes, decimal, filter, length};
+ghost use Rattle.std.specs.Prelude.{◌≡◌, ◌+◌, ◌++◌, OnOk, codes, decimal};
 ghost use Rattle.std.specs.Prelude.{string_bytes};
 ghost use Rattle.cabinet_core.specs.Day.{day_text};
-ghost use Rattle.cabinet_core.specs.Orders.{is_open};
 ghost use Rattle.signal_page.specs.State.{state_words, verdict_words, owner_text, due_text, fact};
 ghost use Rattle.signal_page.specs.State.{draft_facts, cabinet_facts};
 
 use crate::words::push_isolated;
-use cabinet_core::{Day, Order, due};
+use cabinet_core::{Day, Order, due, open_count};
 use draft_core::state::{DbState, Verdict};
 use office_machine::reply::IntersectionState;
 use signal_records::{Interval, Words};
@@ -34,25 +33,6 @@ fn verdict_words(verdict: Verdict) -> &'static str
         Verdict::DoneWithError => "done, with errors",
         Verdict::DoneWithNoError => "done, without errors",
     }
-}
-
-fn is_open(order: &Order) -> bool
-    ensures { result ≡ is_open order.now }
-{
-    order.closing.is_none()
-}
-
-/// How many orders are open.
-fn open_count(orders: &[Order]) -> usize
-    ensures { result ≡ length (filter is_open orders.now) }
-{
-    let mut count: usize = 0;
-    for order in orders {
-        if is_open(order) {
-            count += 1;
-        }
-    }
-    count
 }
 
 /// Opens what is told under a name.

@@ -16,8 +16,8 @@ use std::fmt::Write;
 
 /// Appends the picture of the pattern of a number.
 fn push_figure(
-    text: &mut String,
     alloc: Global,
+    text: &mut String,
     set: &TimingSet,
     n: PatternNo,
 ) -> Result<(), NoMemory>
@@ -32,8 +32,8 @@ fn push_figure(
 
 /// Appends the picture of a pattern for its row, and nothing for a row of another kind.
 fn push_picture(
-    text: &mut String,
     alloc: Global,
+    text: &mut String,
     set: &TimingSet,
     row: &Row,
 ) -> Result<(), NoMemory>
@@ -44,15 +44,15 @@ fn push_picture(
         return Ok(());
     };
     text.push_str("<figure>\n")?;
-    push_figure(text, alloc, set, *n)?;
+    push_figure(alloc, text, set, *n)?;
     text.push_str("</figure>\n")
 }
 
 /// Appends the pictures of all patterns.
 #[tactic(auto, unfolding(crate::specs::Plan::pictures))]
 fn push_pictures(
-    text: &mut String,
     alloc: Global,
+    text: &mut String,
     set: &TimingSet,
     rows: &[Row],
 ) -> Result<(), NoMemory>
@@ -60,7 +60,7 @@ fn push_pictures(
         ≡ string_bytes text.old ++ pictures set.now rows.now) }
 {
     for row in rows {
-        push_picture(text, alloc, set, row)?;
+        push_picture(alloc, text, set, row)?;
     }
     Ok(())
 }
@@ -80,8 +80,8 @@ fn push_no_rows(text: &mut String, rows: &[Row]) -> Result<(), AllocError>
 /// Appends a plan by its rows.
 #[tactic(auto, unfolding(crate::specs::Plan::plan_rows))]
 fn push_plan_rows(
-    text: &mut String,
     alloc: Global,
+    text: &mut String,
     told: bool,
     violations: &[Violation],
     set: &TimingSet,
@@ -91,14 +91,14 @@ fn push_plan_rows(
         ≡ string_bytes text.old ++ plan_rows told violations.now set.now rows.now) }
 {
     push_no_rows(text, rows)?;
-    push_pictures(text, alloc, set, rows)?;
+    push_pictures(alloc, text, set, rows)?;
     push_tables(text, told, violations, rows)
 }
 
 /// Appends a plan, with the rules that its rows break where they are told.
 pub(crate) fn push_plan(
-    text: &mut String,
     alloc: Global,
+    text: &mut String,
     told: bool,
     violations: &[Violation],
     set: &TimingSet,
@@ -107,7 +107,7 @@ pub(crate) fn push_plan(
         ≡ string_bytes text.old ++ plan_part told violations.now set.now) }
 {
     let rows = set.rows(alloc)?;
-    push_plan_rows(text, alloc, told, violations, set, &rows)
+    push_plan_rows(alloc, text, told, violations, set, &rows)
 }
 
 /// Appends that so many rules are broken.

@@ -18,7 +18,7 @@ use std::alloc::{AllocError, Global};
 use std::fmt::Write;
 
 /// Appends a day.
-fn push_day(text: &mut String, alloc: Global, day: Day) -> Result<(), NoMemory>
+fn push_day(alloc: Global, text: &mut String, day: Day) -> Result<(), NoMemory>
     ensures { OnOk result (string_bytes text.new ≡ string_bytes text.old ++ day_cell day) }
 {
     let spelling = write_day(alloc, day)?;
@@ -71,8 +71,8 @@ fn push_parts(text: &mut String, lines: &[UsedLine], order: RecordNo) -> Result<
 /// Appends the cells of an order, open or closed.
 #[tactic(auto, unfolding(crate::specs::Register::order_cells))]
 fn push_order_cells(
-    text: &mut String,
     alloc: Global,
+    text: &mut String,
     lines: &[UsedLine],
     order: &Order,
 ) -> Result<(), NoMemory>
@@ -80,7 +80,7 @@ fn push_order_cells(
         ≡ string_bytes text.old ++ order_cells lines.now order.now) }
 {
     push_row_heading(text, order.number.get())?;
-    push_day(text, alloc, order.opened)?;
+    push_day(alloc, text, order.opened)?;
     push_text(text, order.clerk.as_str())?;
     push_text(text, order.text.as_str())?;
     push_parts(text, lines, order.number)
@@ -88,18 +88,18 @@ fn push_order_cells(
 
 /// Appends when and by whom an order was closed.
 #[tactic(auto, unfolding(crate::specs::Register::closing_cells))]
-fn push_closing(text: &mut String, alloc: Global, closing: &Closing) -> Result<(), NoMemory>
+fn push_closing(alloc: Global, text: &mut String, closing: &Closing) -> Result<(), NoMemory>
     ensures { OnOk result (string_bytes text.new
         ≡ string_bytes text.old ++ closing_cells closing.now) }
 {
-    push_day(text, alloc, closing.day)?;
+    push_day(alloc, text, closing.day)?;
     push_text(text, closing.closer.as_str())
 }
 
 /// Appends the row of an order that is open, and nothing for a closed one.
 fn push_open(
-    text: &mut String,
     alloc: Global,
+    text: &mut String,
     lines: &[UsedLine],
     order: &Order,
 ) -> Result<(), NoMemory>
@@ -109,7 +109,7 @@ fn push_open(
     match &order.closing {
         None => {
             text.push_str("<tr>")?;
-            push_order_cells(text, alloc, lines, order)?;
+            push_order_cells(alloc, text, lines, order)?;
             text.push_str("</tr>\n")
         }
         Some(_) => Ok(()),
@@ -118,8 +118,8 @@ fn push_open(
 
 /// Appends the row of an order that is closed, and nothing for an open one.
 fn push_closed(
-    text: &mut String,
     alloc: Global,
+    text: &mut String,
     lines: &[UsedLine],
     order: &Order,
 ) -> Result<(), NoMemory>
@@ -130,8 +130,8 @@ fn push_closed(
         None => Ok(()),
         Some(closing) => {
             text.push_str("<tr>")?;
-            push_order_cells(text, alloc, lines, order)?;
-            push_closing(text, alloc, closing)?;
+            push_order_cells(alloc, text, lines, order)?;
+            push_closing(alloc, text, closing)?;
             text.push_str("</tr>\n")
         }
     }
@@ -150,8 +150,8 @@ fn push_order_headings(text: &mut String) -> Result<(), AllocError>
 }
 
 fn push_each_open(
-    text: &mut String,
     alloc: Global,
+    text: &mut String,
     lines: &[UsedLine],
     orders: &[Order],
 ) -> Result<(), NoMemory>
@@ -159,15 +159,15 @@ fn push_each_open(
         ≡ string_bytes text.old ++ flat_map (open_row lines.now) orders.now) }
 {
     for order in orders {
-        push_open(text, alloc, lines, order)?;
+        push_open(alloc, text, lines, order)?;
     }
     Ok(())
 }
 
 /// Appends the open orders.
 fn push_open_orders(
-    text: &mut String,
     alloc: Global,
+    text: &mut String,
     lines: &[UsedLine],
     orders: &[Order],
 ) -> Result<(), NoMemory>
@@ -177,13 +177,13 @@ fn push_open_orders(
     open_table(text, "Open orders")?;
     push_order_headings(text)?;
     begin_rows(text)?;
-    push_each_open(text, alloc, lines, orders)?;
+    push_each_open(alloc, text, lines, orders)?;
     end_table(text)
 }
 
 fn push_each_closed(
-    text: &mut String,
     alloc: Global,
+    text: &mut String,
     lines: &[UsedLine],
     orders: &[Order],
 ) -> Result<(), NoMemory>
@@ -191,15 +191,15 @@ fn push_each_closed(
         ≡ string_bytes text.old ++ flat_map (closed_row lines.now) orders.now) }
 {
     for order in orders {
-        push_closed(text, alloc, lines, order)?;
+        push_closed(alloc, text, lines, order)?;
     }
     Ok(())
 }
 
 /// Appends the closed orders.
 fn push_closed_orders(
-    text: &mut String,
     alloc: Global,
+    text: &mut String,
     lines: &[UsedLine],
     orders: &[Order],
 ) -> Result<(), NoMemory>
@@ -211,15 +211,15 @@ fn push_closed_orders(
     push_words_heading(text, "Closed")?;
     push_words_heading(text, "Closed by")?;
     begin_rows(text)?;
-    push_each_closed(text, alloc, lines, orders)?;
+    push_each_closed(alloc, text, lines, orders)?;
     end_table(text)
 }
 
 /// Appends the row of an inspection.
 #[tactic(auto, unfolding(crate::specs::Register::inspection_row))]
 fn push_inspection(
-    text: &mut String,
     alloc: Global,
+    text: &mut String,
     inspection: &Inspection,
 ) -> Result<(), NoMemory>
     ensures { OnOk result (string_bytes text.new
@@ -227,22 +227,22 @@ fn push_inspection(
 {
     text.push_str("<tr>")?;
     push_row_heading(text, inspection.number.get())?;
-    push_day(text, alloc, inspection.day)?;
+    push_day(alloc, text, inspection.day)?;
     push_text(text, inspection.clerk.as_str())?;
     push_text(text, inspection.text.as_str())?;
     text.push_str("</tr>\n")
 }
 
 fn push_each_inspection(
-    text: &mut String,
     alloc: Global,
+    text: &mut String,
     inspections: &[Inspection],
 ) -> Result<(), NoMemory>
     ensures { OnOk result (string_bytes text.new
         ≡ string_bytes text.old ++ flat_map inspection_row inspections.now) }
 {
     for inspection in inspections {
-        push_inspection(text, alloc, inspection)?;
+        push_inspection(alloc, text, inspection)?;
     }
     Ok(())
 }
@@ -260,8 +260,8 @@ fn push_inspection_headings(text: &mut String) -> Result<(), AllocError>
 
 /// Appends the inspections.
 fn push_inspections(
-    text: &mut String,
     alloc: Global,
+    text: &mut String,
     inspections: &[Inspection],
 ) -> Result<(), NoMemory>
     ensures { OnOk result (string_bytes text.new
@@ -270,7 +270,7 @@ fn push_inspections(
     open_table(text, "Inspections")?;
     push_inspection_headings(text)?;
     begin_rows(text)?;
-    push_each_inspection(text, alloc, inspections)?;
+    push_each_inspection(alloc, text, inspections)?;
     end_table(text)
 }
 
@@ -315,8 +315,8 @@ fn push_due_note(
 /// Appends the register of a cabinet.
 #[tactic(auto, unfolding(crate::specs::Register::register_part))]
 pub(crate) fn push_register(
-    text: &mut String,
     alloc: Global,
+    text: &mut String,
     interval: Interval,
     view: &CabinetView,
 ) -> Result<(), NoMemory>
@@ -327,7 +327,7 @@ pub(crate) fn push_register(
     let lines = view.lines.as_slice();
     let orders = view.orders.as_slice();
     push_due_note(text, interval, latest(inspections))?;
-    push_open_orders(text, alloc, lines, orders)?;
-    push_closed_orders(text, alloc, lines, orders)?;
-    push_inspections(text, alloc, inspections)
+    push_open_orders(alloc, text, lines, orders)?;
+    push_closed_orders(alloc, text, lines, orders)?;
+    push_inspections(alloc, text, inspections)
 }

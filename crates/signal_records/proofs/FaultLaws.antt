@@ -6,12 +6,11 @@ use Rattle.signal_records.specs.declared.fault.RowFault.{RowFault}
 use Rattle.signal_records.specs.declared.fault.RowFault.TheVariants as fault
 use Rattle.signal_records.specs.declared.limits.Limits.{Limits}
 use Rattle.signal_records.specs.declared.record.Ped.{Ped}
-use Rattle.signal_records.specs.declared.record.SplitMode.{SplitMode}
 use Rattle.signal_records.specs.declared.record.Row.{Row}
 use Rattle.signal_records.specs.declared.record.Change.{Change}
 use Rattle.signal_records.specs.declared.record.Change.TheVariants as change
 use Rattle.signal_records.specs.RowFault.{is_timing_fault}
-use Rattle.signal_records.specs.Reading.{◌>>=◌, text_at, number_of, number_at, flag_of, flag_at, mode_in, mode_at, parts, phases_in, or_no_list, list_of, list_at, some_ped, ped_width, lead_in, ped_record, ped_at, phase_record, seq_record, split_record, pattern_record, counted, row_at, phase_key, seq_key, split_key, pattern_key, key_at, removal_at, put_at, change_at, Gives}
+use Rattle.signal_records.specs.Reading.{◌>>=◌, text_at, number_of, number_at, flag_of, flag_at, mode_in, mode_at, parts, phases_in, or_no_list, list_at, some_ped, ped_width, lead_in, ped_record, ped_at, phase_record, seq_record, split_record, pattern_record, counted, row_at, phase_key, seq_key, split_key, pattern_key, key_at, removal_at, put_at, change_at, Gives}
 
 -- a fault that is read from the fields of a timing row
 abbrev pub is_read_fault : RowFault → Bool
@@ -60,21 +59,12 @@ number_then low high place fields f next = bind_timing (number_of low high place
 pub flag_timing : (place : ℕ) (fields : List (List ℕ)) → IsTiming (flag_of place (text_at place fields))
 flag_timing place fields = number_then 0 1 place fields _ (λ n. ok_timing _)
 
-flag_then : {B : Type 0} (place : ℕ) (fields : List (List ℕ)) (f : Bool → Result B RowFault) → ((b : Bool) → IsTiming (f b)) → IsTiming (flag_of place (text_at place fields) >>= f)
-flag_then place fields f next = bind_timing (flag_of place (text_at place fields)) f (flag_timing place fields) next
-
 pub mode_timing : (place : ℕ) (bytes : List ℕ) → IsTiming (mode_in place bytes)
 mode_timing place bytes = if_timing _ _ _ (if_timing _ _ _ (ok_timing _) (fault_timing _ fault.Mode refl)) (fault_timing _ (fault.Number place) refl)
-
-mode_then : {B : Type 0} (place : ℕ) (fields : List (List ℕ)) (f : SplitMode → Result B RowFault) → ((m : SplitMode) → IsTiming (f m)) → IsTiming (mode_in place (text_at place fields) >>= f)
-mode_then place fields f next = bind_timing (mode_in place (text_at place fields)) f (mode_timing place (text_at place fields)) next
 
 pub or_timing : (place : ℕ) (found : Option (List ℕ)) → IsTiming (or_no_list place found)
 or_timing place None = fault_timing _ (fault.List place) refl
 or_timing place (Some ns) = ok_timing ns
-
-list_then : {B : Type 0} (last place : ℕ) (fields : List (List ℕ)) (f : List ℕ → Result B RowFault) → ((ns : List ℕ) → IsTiming (f ns)) → IsTiming (list_of last place (text_at place fields) >>= f)
-list_then last place fields f next = bind_timing (list_of last place (text_at place fields)) f (or_timing place (phases_in last (parts (text_at place fields)))) next
 
 -- rows
 
@@ -90,7 +80,7 @@ ped_timing has_lead fields =
     number_then 0 255 11 fields _ (λ clear.
     number_then 0 9999 12 fields _ (λ width.
     number_then 0 999 13 fields _ (λ setback.
-    flag_then 14 fields _ (λ short.
+    bind_timing _ _ (flag_timing 14 fields) (λ short.
     bind_timing (lead_in has_lead fields) _ (lead_timing has_lead fields) (λ lead. ok_timing _))))))
 
 some_timing : (r : Result Ped RowFault) → IsTiming r → IsTiming (some_ped r)
@@ -111,7 +101,7 @@ phase_timing limits fields =
     number_then 0 255 6 fields _ (λ max1.
     number_then 0 255 7 fields _ (λ yellow.
     number_then 0 255 8 fields _ (λ red.
-    list_then limits.phases 9 fields _ (λ mates.
+    bind_timing _ _ (or_timing 9 (phases_in limits.phases (parts (text_at 9 fields)))) (λ mates.
     bind_timing (ped_at limits fields) _ (any_ped_timing limits fields) (λ ped. ok_timing _)))))))))
 
 seq_timing : (limits : Limits) (fields : List (List ℕ)) → IsTiming (seq_record limits fields)
@@ -119,7 +109,7 @@ unfolding seq_record number_at list_at
 seq_timing limits fields =
     number_then 1 20 2 fields _ (λ n.
     number_then 1 limits.rings 3 fields _ (λ ring.
-    list_then limits.phases 4 fields _ (λ run. ok_timing _)))
+    bind_timing _ _ (or_timing 4 (phases_in limits.phases (parts (text_at 4 fields)))) (λ run. ok_timing _)))
 
 split_timing : (limits : Limits) (fields : List (List ℕ)) → IsTiming (split_record limits fields)
 unfolding split_record number_at mode_at flag_at
@@ -127,8 +117,8 @@ split_timing limits fields =
     number_then 1 20 2 fields _ (λ n.
     number_then 1 limits.phases 3 fields _ (λ p.
     number_then 0 255 4 fields _ (λ time.
-    mode_then 5 fields _ (λ mode.
-    flag_then 6 fields _ (λ coord. ok_timing _)))))
+    bind_timing _ _ (mode_timing 5 (text_at 5 fields)) (λ mode.
+    bind_timing _ _ (flag_timing 6 fields) (λ coord. ok_timing _)))))
 
 pattern_timing : (fields : List (List ℕ)) → IsTiming (pattern_record fields)
 unfolding pattern_record number_at
@@ -151,30 +141,20 @@ row_timing limits (kind ∷ rest) =
 
 -- changes
 
-phase_key_timing : (limits : Limits) (fields : List (List ℕ)) → IsTiming (phase_key limits fields)
-unfolding phase_key number_at
-phase_key_timing limits fields = number_then 1 limits.phases 3 fields _ (λ p. ok_timing _)
-
-seq_key_timing : (limits : Limits) (fields : List (List ℕ)) → IsTiming (seq_key limits fields)
-unfolding seq_key number_at
-seq_key_timing limits fields = number_then 1 20 3 fields _ (λ n. number_then 1 limits.rings 4 fields _ (λ ring. ok_timing _))
-
-split_key_timing : (limits : Limits) (fields : List (List ℕ)) → IsTiming (split_key limits fields)
-unfolding split_key number_at
-split_key_timing limits fields = number_then 1 20 3 fields _ (λ n. number_then 1 limits.phases 4 fields _ (λ p. ok_timing _))
-
-pattern_key_timing : (fields : List (List ℕ)) → IsTiming (pattern_key fields)
-unfolding pattern_key number_at
-pattern_key_timing fields = number_then 1 48 3 fields _ (λ n. ok_timing _)
-
 pub key_timing : (limits : Limits) (fields : List (List ℕ)) → IsTiming (key_at limits fields)
-unfolding key_at
+unfolding key_at phase_key seq_key split_key pattern_key number_at
 key_timing limits fields =
     let kind = text_at 2 fields in
-    if_timing (bytes_eq kind (codes "phase")) _ _ (counted_timing (eqb (length fields) 3) (phase_key limits fields) (phase_key_timing limits fields)) (
-    if_timing (bytes_eq kind (codes "seq")) _ _ (counted_timing (eqb (length fields) 4) (seq_key limits fields) (seq_key_timing limits fields)) (
-    if_timing (bytes_eq kind (codes "split")) _ _ (counted_timing (eqb (length fields) 4) (split_key limits fields) (split_key_timing limits fields)) (
-    if_timing (bytes_eq kind (codes "pattern")) _ _ (counted_timing (eqb (length fields) 3) (pattern_key fields) (pattern_key_timing fields)) (fault_timing _ fault.Kind refl))))
+    if_timing (bytes_eq kind (codes "phase")) _ _ (counted_timing (eqb (length fields) 3) _
+    (number_then 1 limits.phases 3 fields _ (λ p. ok_timing _))) (
+    if_timing (bytes_eq kind (codes "seq")) _ _ (counted_timing (eqb (length fields) 4) _
+    (number_then 1 20 3 fields _ (λ n.
+    number_then 1 limits.rings 4 fields _ (λ ring. ok_timing _)))) (
+    if_timing (bytes_eq kind (codes "split")) _ _ (counted_timing (eqb (length fields) 4) _
+    (number_then 1 20 3 fields _ (λ n.
+    number_then 1 limits.phases 4 fields _ (λ p. ok_timing _)))) (
+    if_timing (bytes_eq kind (codes "pattern")) _ _ (counted_timing (eqb (length fields) 3) _
+    (number_then 1 48 3 fields _ (λ n. ok_timing _))) (fault_timing _ fault.Kind refl))))
 
 change_timing : (limits : Limits) (fields : List (List ℕ)) → IsTiming (change_at limits fields)
 unfolding change_at removal_at put_at
@@ -190,15 +170,9 @@ none_read read e h is = fault_is _ e (subst (λ r. IsTiming r) is h)
 
 given_timing : {X : Type 0} (read result : Result X RowFault) → IsTiming read → Gives result read → IfErr result (λ e. IsTrue (is_timing_fault e))
 given_timing read (Ok x) h gives = tt
-given_timing read (Err fault.NoMemory) h gives = refl
-given_timing read (Err fault.Kind) h gives = refl
-given_timing read (Err fault.Count) h gives = refl
-given_timing read (Err (fault.Number field)) h gives = refl
-given_timing read (Err (fault.Range field)) h gives = refl
-given_timing read (Err (fault.List field)) h gives = refl
-given_timing read (Err fault.Mode) h gives = refl
 given_timing read (Err (fault.Day field)) h gives = none_read read (fault.Day field) h (gives (λ is. absurd cc))
 given_timing read (Err (fault.Text field)) h gives = none_read read (fault.Text field) h (gives (λ is. absurd cc))
+given_timing read (Err _) h gives = refl
 
 pub given_row_timing : (limits : Limits) (fields : List (List ℕ)) (result : Result Row RowFault) → Gives result (row_at limits fields) → IfErr result (λ e. IsTrue (is_timing_fault e))
 given_row_timing limits fields result gives = given_timing (row_at limits fields) result (row_timing limits fields) gives

@@ -6,7 +6,7 @@ ghost use Rattle.std.specs.Char.{is_ascii_digit};
 ghost use Rattle.std.specs.List.{list_all};
 ghost use Rattle.std.specs.Str.Parse.{digits_value};
 ghost use Rattle.signal_records.specs.declared.number.TheConstants.{PHASES};
-ghost use Rattle.signal_records.specs.Reading.{texts, is_numeral};
+ghost use Rattle.signal_records.specs.Reading.{texts, is_numeral, number_spelled};
 ghost use Rattle.signal_records.specs.Reading.{number_at, flag_at, mode_at, list_at};
 
 use crate::fault::RowFault;
@@ -40,6 +40,18 @@ pub(crate) fn numeral(bytes: &[u8]) -> Option<u32>
         [] => None,
         [b'0', _, ..] => None,
         _ => digits(bytes),
+    }
+}
+
+impl<Of, const LOW: u32, const HIGH: u32> Number<Of, LOW, HIGH> {
+    /// The number that a text spells in decimal digits without a leading zero, if it is in the
+    /// range.
+    #[tactic(auto, unfolding(crate::specs::Reading::number_spelled))]
+    pub fn parse(text: &[u8]) -> Option<Self>
+        requires { HIGH < 2 ^ 32 - 1 }
+        ensures { result ≡ number_spelled LOW HIGH text.now }
+    {
+        Number::new(numeral(text)?)
     }
 }
 

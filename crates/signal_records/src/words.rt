@@ -26,24 +26,44 @@ impl<const MAX: usize> Model for Words<MAX> {
 }
 
 impl<const MAX: usize> Words<MAX> {
+    /// The text that the bytes are, if it may be one of these. It takes no memory.
+    pub fn parse(bytes: &[u8]) -> Option<&str>
+        ensures accepts { IsSome result ↔ AreWords MAX bytes.now }
+        ensures keeps { IfSome result (λ text. text.now ≡ bytes.now) }
+        ensures words { IfSome result (λ text. AreWords MAX text.now) }
+    {
+        if bytes.is_empty() || MAX < bytes.len() {
+            return None;
+        }
+        if !bytes.iter().all(|&b| 32 <= b && b != 127) {
+            return None;
+        }
+        let Ok(text) = str::from_utf8(bytes) else {
+            return None;
+        };
+        Some(text)
+    }
+
+    /// A text that `parse` gave, in memory of its own.
+    pub fn from_parsed(alloc: Global, text: &str) -> Result<Self, NoMemory>
+        requires { AreWords MAX text.now }
+        ensures { IfOk result (λ words. words ≡ text.now) }
+    {
+        Ok(Words {
+            text: String::from_str(alloc, text)?,
+        })
+    }
+
     /// The text, if the bytes are one. Memory is taken for a text alone.
     pub fn new(alloc: Global, bytes: &[u8]) -> Result<Option<Self>, NoMemory>
         ensures accepts { IfOk result (λ words. IsSome words ↔ AreWords MAX bytes.now) }
         ensures keeps { IfOk result (λ words. IfSome words (λ text. text ≡ bytes.now)) }
         ensures memory { IfErr result (λ _. AreWords MAX bytes.now) }
     {
-        if bytes.is_empty() || MAX < bytes.len() {
-            return Ok(None);
-        }
-        if !bytes.iter().all(|&b| 32 <= b && b != 127) {
-            return Ok(None);
-        }
-        let Ok(text) = str::from_utf8(bytes) else {
+        let Some(text) = Self::parse(bytes) else {
             return Ok(None);
         };
-        Ok(Some(Words {
-            text: String::from_str(alloc, text)?,
-        }))
+        Ok(Some(Self::from_parsed(alloc, text)?))
     }
 
     /// The text.

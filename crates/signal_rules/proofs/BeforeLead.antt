@@ -6,7 +6,7 @@ use Rattle.signal_records.specs.declared.record.Ped.{Ped}
 use Rattle.signal_records.specs.declared.record.Phase.{Phase}
 use Rattle.signal_records.specs.declared.record.Split.{Split}
 use Rattle.signal_records.specs.declared.record.SplitMode.{SplitMode}
-use Rattle.signal_records.specs.declared.record.SplitMode.TheVariants.{NoRecall, MinimumVehicleRecall, MaximumVehicleRecall, PedestrianRecall, MaximumVehicleAndPedestrianRecall, PhaseOmitted}
+use Rattle.signal_records.specs.declared.record.SplitMode.TheVariants.{PedestrianRecall, MaximumVehicleAndPedestrianRecall}
 use Rattle.signal_records.specs.Need.{need_of}
 use Rattle.signal_records.specs.TimingSet.{Rows}
 use Rattle.signal_rules.specs.declared.violation.Rule.{Rule}
@@ -35,14 +35,11 @@ zero_first n = omega arith
 
 -- and the need is as it was
 need_same : (phase : Phase) (mode : SplitMode) (ped : Option Ped) → phase.ped ≡ ped → IfSome ped (λ p. p.lead ≡ 0) → need_of phase mode ≡ need_before_lead phase mode
-need_same phase NoRecall ped is none = rw (zero_first phase.min_green) refl
-need_same phase MinimumVehicleRecall ped is none = rw (zero_first phase.min_green) refl
-need_same phase MaximumVehicleRecall ped is none = rw (zero_first phase.min_green) refl
-need_same phase PhaseOmitted ped is none = rw (zero_first phase.min_green) refl
 need_same phase PedestrianRecall None is none = rw (is, zero_first phase.min_green) refl
 need_same phase MaximumVehicleAndPedestrianRecall None is none = rw (is, zero_first phase.min_green) refl
 need_same phase PedestrianRecall (Some p) is none = rw (is, none, zero_first phase.min_green) refl
 need_same phase MaximumVehicleAndPedestrianRecall (Some p) is none = rw (is, none, zero_first phase.min_green) refl
+need_same phase _ ped is none = rw (zero_first phase.min_green) refl
 
 module _ (set : Rows) where
   phase_same : (p : ℕ) (phase : Option Phase) → HasNoLead phase → broken (subject.Phase p) (for_phase set p phase) ≡ broken (subject.Phase p) (for_phase_before set p phase)
@@ -62,9 +59,8 @@ module _ (set : Rows) where
 
   at_same : (s : Subject) → ((p : ℕ) → HasNoLead (phase_at set p)) → violations_at set s ≡ violations_before_at set s
   at_same (subject.Phase p) none = phase_same p (phase_at set p) (none p)
-  at_same (subject.Seq n) none = refl
   at_same (subject.Split n p) none = row_same n p (split_at set n p) (none p)
-  at_same (subject.Pattern n) none = refl
+  at_same _ none = refl
 
   pub same_violations : ((p : ℕ) → HasNoLead (phase_at set p)) → violations_of set ≡ violations_before_lead set
   unfolding violations_of violations_before_lead

@@ -1,5 +1,5 @@
 -- One pass over the phases of a set finds what the definitions find.
-use Rattle.std.proofs.Common.{◌≡◌, ℕ, zero, suc, ◌+◌, ◌<◌, ◌≤◌, Bool, true, false, cond, eqb, ◌&&◌, List, [], ◌∷◌, ◌++◌, filter, Option, Some, None, is_some, ◌⊎◌, inl, inr, refl, sym, ap, ◌∙◌, arith}
+use Rattle.std.proofs.Common.{◌≡◌, ℕ, ◌+◌, ◌<◌, ◌≤◌, Bool, true, false, cond, eqb, ◌&&◌, List, [], ◌∷◌, ◌++◌, filter, Option, Some, None, is_some, refl, sym, ap, ◌∙◌, arith}
 use Rattle.std.proofs.lemmas.Bool.{and_parts, and_from, eqb-true, eq-eqb, both_ways, false_from_ne_true}
 use Rattle.std.proofs.lemmas.List.Elements.{filter_agree}
 use Rattle.std.specs.Prelude.{◌||◌, count_by}
@@ -13,6 +13,7 @@ use Rattle.signal_rules.specs.PatternRules.{is_used, used_rings}
 use Rattle.signal_rules.specs.SequenceRule.{in_ring, ring_row, has_each_once, has_no_other, rows_are_right}
 use Rattle.signal_rules.specs.OnePass.{ring_of, rings_at, stands_in_ring, each_stands_once, no_other_stands}
 use Rattle.signal_rules.proofs.CutPoints.{all_numbers, at_number}
+use Rattle.signal_rules.proofs.Among.{all_at, in_filter, in_numbers}
 
 -- ---- the rings that are used
 
@@ -70,20 +71,9 @@ first_kept T F x xs = by_test (F x) where
 -- a test of the numbers that are kept, at one of them
 kept_at : (T F : ℕ → Bool) (n first : ℕ) → list_all T (filter F (numbers n first)) ≡ true
     → (t : ℕ) → first ≤ t → t < first + n → F t ≡ true → T t ≡ true
-kept_at T F zero first h t low high is = absurd (omega arith)
-kept_at T F (suc n) first h t low high is =
-    here (cases_first first t low) (F first) refl (sym (first_kept T F first (numbers n (first + 1))) ∙ h)
-    (λ rest more. kept_at T F n (first + 1) rest t more (omega arith) is) where
-      cases_first : (a b : ℕ) → a ≤ b → (a ≡ b) ⊎ (a + 1 ≤ b)
-      cases_first a b le = grind arith
-
-      here : (first ≡ t) ⊎ (first + 1 ≤ t) → (b : Bool) → F first ≡ b
-          → cond b (T first && list_all T (filter F (numbers n (first + 1)))) (list_all T (filter F (numbers n (first + 1)))) ≡ true
-          → (list_all T (filter F (numbers n (first + 1))) ≡ true → first + 1 ≤ t → T t ≡ true) → T t ≡ true
-      here (inl e) true f g later = ap T (sym e) ∙ (and_parts _ _ g).0
-      here (inl e) false f g later = absurd (both_ways (F t) (ap F (sym e) ∙ f) is)
-      here (inr more) true f g later = later (and_parts _ _ g).1 more
-      here (inr more) false f g later = later g more
+kept_at T F n first h t low high is =
+    all_at T (filter F (numbers n first)) t h
+    (in_filter F (numbers n first) t is (in_numbers n first t low high))
 
 -- the phases of a ring, where each phase stands once in the row of its ring
 ring_stands : (set : Rows) (n ring : ℕ) (xs : List ℕ)

@@ -1,6 +1,6 @@
 -- The rows of each kind: their numbers rise, a key is found where its number is among them, and they are the subjects.
-use Rattle.std.proofs.Common.{◌≡◌, ℕ, zero, suc, ◌+◌, ◌<◌, ◌≤◌, Bool, true, false, cond, eqb, leb, ◌&&◌, List, [], ◌∷◌, map, Option, Some, None, is_some, ◌⊎◌, inl, inr, refl, ap, ◌∙◌, arith}
-use Rattle.std.proofs.lemmas.Bool.{and_parts, leb-true, eqb-true, eq-eqb, or_left, or_right}
+use Rattle.std.proofs.Common.{◌≡◌, ℕ, ◌+◌, ◌<◌, ◌≤◌, Bool, true, false, cond, eqb, leb, ◌&&◌, List, [], ◌∷◌, map, Option, Some, None, is_some, inl, inr, refl, ap, ◌∙◌, arith}
+use Rattle.std.proofs.lemmas.Bool.{and_parts, leb-true, eqb-true, eq-eqb}
 use Rattle.std.specs.Prelude.{◌||◌}
 use Rattle.std.specs.declared.cmp.Ordering.TheVariants.{Less, Equal}
 use Rattle.std.specs.FinMap.{find}
@@ -12,13 +12,14 @@ use Rattle.signal_records.specs.declared.number.TheConstants.{PHASES, RINGS}
 use Rattle.signal_records.specs.declared.record.Row.{Row}
 use Rattle.signal_records.specs.declared.record.Row.TheVariants as row
 use Rattle.signal_records.specs.Key.{key_cmp}
-use Rattle.signal_records.specs.Numbers.{numbers}
 use Rattle.signal_records.specs.Row.{key_of}
 use Rattle.signal_rules.specs.declared.violation.Subject.TheVariants as subject
 use Rattle.signal_rules.specs.Lookup.{the_phase, the_list, the_split, the_pattern, last_sequence, last_split, last_pattern, ring_numbers, is_in}
 use Rattle.signal_rules.specs.RowWalk.{keyed, of_kind, sequence_of, sequences_after, is_from_to, is_within}
-use Rattle.signal_rules.proofs.InOrder.{cases_first, firsts, second_at}
-use Rattle.signal_rules.proofs.KeyOrder.{number_less, pair_less, number_tied, pair_tied, tied_alone}
+use Rattle.signal_rules.proofs.Among.{any_at, in_numbers}
+use Rattle.signal_rules.proofs.InOrder.{firsts, second_at}
+use Rattle.signal_records.proofs.Sets.{numbers_tie}
+use Rattle.signal_rules.proofs.KeyOrder.{number_less, pair_less, pair_tied, tied_alone}
 use Rattle.signal_rules.proofs.RowNumbers.{within_bounds, found_or}
 use Rattle.signal_rules.proofs.Unreached.{list_any_same}
 
@@ -35,30 +36,23 @@ phase_rises (row.Phase m x) (row.Phase n y) p q lt e f =
       | inl below ↦ omega arith
       | inr level ↦ let other : Equal ≡ Less = level.1 in absurd (cc)
     ]
-phase_rises (row.Phase m x) b p q lt e f = absurd (cc)
 phase_rises a b p q lt e f = absurd (cc)
 
 pub phase_inside : (r : Row) (p : ℕ) → is_within r ≡ true → phase_of r ≡ Some p → (1 ≤ p) × (p < 33)
 phase_inside (row.Phase m x) p h e = within_bounds PHASES m p h e
-phase_inside (row.Seq n ring x) p h e = absurd (cc)
-phase_inside (row.Split n m x) p h e = absurd (cc)
-phase_inside (row.Pattern n x) p h e = absurd (cc)
+phase_inside _ p h e = absurd (cc)
 
 pub phase_found : (p : ℕ) (rows : List Row) → is_some (the_phase (find key_cmp (key.Phase p) (keyed rows))) ≡ is_in p (filter_map phase_of rows)
 phase_found p [] = refl
 phase_found p (row.Phase m x ∷ rows) =
     found_or the_phase (row.Phase m x) (find key_cmp (key.Phase p) (keyed rows)) (eq_by_cmp key_cmp (key.Phase p) (key.Phase m)) _ refl (phase_found p rows)
     ∙ ap (λ b. b || is_in p (filter_map phase_of rows)) (tied_alone p m)
-phase_found p (row.Seq n ring x ∷ rows) = phase_found p rows
-phase_found p (row.Split n m x ∷ rows) = phase_found p rows
-phase_found p (row.Pattern n x ∷ rows) = phase_found p rows
+phase_found p (_ ∷ rows) = phase_found p rows
 
 pub phase_subjects : (rows : List Row) → flat_map (of_kind 1) rows ≡ map (λ p. subject.Phase p) (filter_map phase_of rows)
 phase_subjects [] = refl
 phase_subjects (row.Phase m x ∷ rows) = ap (λ l. subject.Phase m ∷ l) (phase_subjects rows)
-phase_subjects (row.Seq n ring x ∷ rows) = phase_subjects rows
-phase_subjects (row.Split n m x ∷ rows) = phase_subjects rows
-phase_subjects (row.Pattern n x ∷ rows) = phase_subjects rows
+phase_subjects (_ ∷ rows) = phase_subjects rows
 
 -- ---- patterns
 
@@ -73,30 +67,23 @@ pattern_rises (row.Pattern m x) (row.Pattern n y) p q lt e f =
       | inl below ↦ omega arith
       | inr level ↦ let other : Equal ≡ Less = level.1 in absurd (cc)
     ]
-pattern_rises (row.Pattern m x) b p q lt e f = absurd (cc)
 pattern_rises a b p q lt e f = absurd (cc)
 
 pub pattern_inside : (r : Row) (p : ℕ) → is_within r ≡ true → pattern_of r ≡ Some p → (1 ≤ p) × (p < 49)
-pattern_inside (row.Phase m x) p h e = absurd (cc)
-pattern_inside (row.Seq n ring x) p h e = absurd (cc)
-pattern_inside (row.Split n m x) p h e = absurd (cc)
 pattern_inside (row.Pattern n x) p h e = within_bounds last_pattern n p h e
+pattern_inside _ p h e = absurd (cc)
 
 pub pattern_found : (p : ℕ) (rows : List Row) → is_some (the_pattern (find key_cmp (key.Pattern p) (keyed rows))) ≡ is_in p (filter_map pattern_of rows)
 pattern_found p [] = refl
-pattern_found p (row.Phase m x ∷ rows) = pattern_found p rows
-pattern_found p (row.Seq n ring x ∷ rows) = pattern_found p rows
-pattern_found p (row.Split n m x ∷ rows) = pattern_found p rows
 pattern_found p (row.Pattern m x ∷ rows) =
     found_or the_pattern (row.Pattern m x) (find key_cmp (key.Pattern p) (keyed rows)) (eq_by_cmp key_cmp (key.Pattern p) (key.Pattern m)) _ refl (pattern_found p rows)
     ∙ ap (λ b. b || is_in p (filter_map pattern_of rows)) (tied_alone p m)
+pattern_found p (_ ∷ rows) = pattern_found p rows
 
 pub pattern_subjects : (rows : List Row) → flat_map (of_kind 4) rows ≡ map (λ p. subject.Pattern p) (filter_map pattern_of rows)
 pattern_subjects [] = refl
-pattern_subjects (row.Phase m x ∷ rows) = pattern_subjects rows
-pattern_subjects (row.Seq n ring x ∷ rows) = pattern_subjects rows
-pattern_subjects (row.Split n m x ∷ rows) = pattern_subjects rows
 pattern_subjects (row.Pattern m x ∷ rows) = ap (λ l. subject.Pattern m ∷ l) (pattern_subjects rows)
+pattern_subjects (_ ∷ rows) = pattern_subjects rows
 
 -- ---- sequences
 
@@ -107,14 +94,11 @@ sequence_rises (row.Seq m r x) (row.Seq n s y) p q lt e f =
       | inl below ↦ omega arith
       | inr level ↦ let same = level.0 in omega arith
     ]
-sequence_rises (row.Seq m r x) b p q lt e f = absurd (cc)
 sequence_rises a b p q lt e f = absurd (cc)
 
 pub sequence_inside : (r : Row) (p : ℕ) → is_within r ≡ true → sequence_of r ≡ Some p → (1 ≤ p) × (p < 21)
-sequence_inside (row.Phase m x) p h e = absurd (cc)
 sequence_inside (row.Seq n ring x) p h e = within_bounds last_sequence n p (and_parts _ _ h).0 e
-sequence_inside (row.Split n m x) p h e = absurd (cc)
-sequence_inside (row.Pattern n x) p h e = absurd (cc)
+sequence_inside _ p h e = absurd (cc)
 
 either : (f g : ℕ → Bool) (xs : List ℕ) → list_any (λ x. f x || g x) xs ≡ (list_any f xs || list_any g xs)
 either f g [] = refl
@@ -125,46 +109,36 @@ either f g (x ∷ xs) = step (f x) (g x) _ (list_any f xs) (list_any g xs) (eith
   step false true c false e h = refl
   step false false c d e h = h
 
-any_number : (P : ℕ → Bool) (n first t : ℕ) → first ≤ t → t < first + n → P t ≡ true → list_any P (numbers n first) ≡ true
-any_number P zero first t low high is = absurd (omega arith)
-any_number P (suc n) first t low high is =
-    by_place (cases_first first t low) (λ more. any_number P n (first + 1) t more (omega arith) is) where
-      by_place : (first ≡ t) ⊎ (first + 1 ≤ t) → (first + 1 ≤ t → list_any P (numbers n (first + 1)) ≡ true) → (P first || list_any P (numbers n (first + 1))) ≡ true
-      by_place (inl here) later = or_left (P first) _ (ap P here ∙ is)
-      by_place (inr more) later = or_right (P first) _ (later more)
-
 any_ring : (b : Bool) (ring : ℕ) → 1 ≤ ring → ring ≤ RINGS → list_any (λ s. b && eqb ring s) ring_numbers ≡ b
-any_ring true ring low high = any_number (λ s. eqb ring s) RINGS 1 ring low (omega arith) (eq-eqb ring ring refl)
+any_ring true ring low high =
+    any_at (λ s. eqb ring s) ring_numbers ring (in_numbers RINGS 1 ring low (omega arith))
+    (eq-eqb ring ring refl)
 any_ring false ring low high = refl
 
 pub sequence_found : (n : ℕ) (rows : List Row) → list_all is_within rows ≡ true
     → list_any (λ ring. is_some (the_list (find key_cmp (key.Seq n ring) (keyed rows)))) ring_numbers ≡ is_in n (filter_map sequence_of rows)
 sequence_found n [] within = refl
-sequence_found n (row.Phase m x ∷ rows) within = sequence_found n rows (and_parts _ _ within).1
 sequence_found n (row.Seq m r x ∷ rows) within =
     let both = and_parts (is_within (row.Seq m r x)) (list_all is_within rows) within in
     let bounds = and_parts (is_from_to 1 last_sequence m) (is_from_to 1 RINGS r) both.0 in
     let ring = and_parts (leb 1 r) (leb r RINGS) bounds.1 in
     list_any_same (λ s. is_some (the_list (find key_cmp (key.Seq n s) (keyed (row.Seq m r x ∷ rows))))) (λ s. (eqb m n && eqb r s) || is_some (the_list (find key_cmp (key.Seq n s) (keyed rows)))) ring_numbers
     (λ s. found_or the_list (row.Seq m r x) (find key_cmp (key.Seq n s) (keyed rows)) (eq_by_cmp key_cmp (key.Seq n s) (key.Seq m r)) _ refl refl
-    ∙ ap (λ b. b || is_some (the_list (find key_cmp (key.Seq n s) (keyed rows)))) (pair_tied n m (nat_cmp s r) ∙ ap (λ b. eqb m n && b) (number_tied s r)))
+    ∙ ap (λ b. b || is_some (the_list (find key_cmp (key.Seq n s) (keyed rows)))) (pair_tied n m (nat_cmp s r) ∙ ap (λ b. eqb m n && b) (numbers_tie s r)))
     ∙ either (λ s. eqb m n && eqb r s) (λ s. is_some (the_list (find key_cmp (key.Seq n s) (keyed rows)))) ring_numbers
     ∙ ap (λ b. b || list_any (λ s. is_some (the_list (find key_cmp (key.Seq n s) (keyed rows)))) ring_numbers) (any_ring (eqb m n) r (leb-true 1 r ring.0) (leb-true r RINGS ring.1))
     ∙ ap (λ b. eqb m n || b) (sequence_found n rows both.1)
-sequence_found n (row.Split m p x ∷ rows) within = sequence_found n rows (and_parts _ _ within).1
-sequence_found n (row.Pattern m x ∷ rows) within = sequence_found n rows (and_parts _ _ within).1
+sequence_found n (_ ∷ rows) within = sequence_found n rows (and_parts _ _ within).1
 
 pub walked_firsts : (last : ℕ) (rows : List Row) → sequences_after last rows ≡ firsts last (filter_map sequence_of rows)
 walked_firsts last [] = refl
-walked_firsts last (row.Phase m x ∷ rows) = walked_firsts last rows
 walked_firsts last (row.Seq m r x ∷ rows) = by_test (eqb m last) (λ k. walked_firsts k rows) where
   by_test : (b : Bool) → ((k : ℕ) → sequences_after k rows ≡ firsts k (filter_map sequence_of rows))
       → cons_option (cond b None (Some m)) (sequences_after (unwrap_or (cond b None (Some m)) last) rows)
       ≡ cond b (firsts last (filter_map sequence_of rows)) (m ∷ firsts m (filter_map sequence_of rows))
   by_test true later = later last
   by_test false later = ap (λ l. m ∷ l) (later m)
-walked_firsts last (row.Split n m x ∷ rows) = walked_firsts last rows
-walked_firsts last (row.Pattern n x ∷ rows) = walked_firsts last rows
+walked_firsts last (_ ∷ rows) = walked_firsts last rows
 
 -- ---- split rows
 
@@ -187,14 +161,11 @@ split_rises (row.Split m r x) (row.Split n s y) p q lt e f =
       | inl below ↦ omega arith
       | inr level ↦ let same = level.0 in omega arith
     ]
-split_rises (row.Split m r x) b p q lt e f = absurd (cc)
 split_rises a b p q lt e f = absurd (cc)
 
 pub split_inside : (r : Row) (p : ℕ) → is_within r ≡ true → split_of r ≡ Some p → (1 ≤ p) × (p < 21)
-split_inside (row.Phase m x) p h e = absurd (cc)
-split_inside (row.Seq n ring x) p h e = absurd (cc)
 split_inside (row.Split n m x) p h e = within_bounds last_split n p (and_parts _ _ h).0 e
-split_inside (row.Pattern n x) p h e = absurd (cc)
+split_inside _ p h e = absurd (cc)
 
 -- the pair of a split number
 chosen : (n m r p : ℕ) → second_at n (m, r) ≡ Some p → (m ≡ n) × (r ≡ p)
@@ -211,45 +182,34 @@ phase_split_rises k (row.Split m r x) (row.Split n s y) p q lt e f =
       | inl below ↦ omega arith
       | inr level ↦ let below : r < s = number_less r s level.1 in omega arith
     ]
-phase_split_rises k (row.Split m r x) b p q lt e f = absurd (cc)
 phase_split_rises k a b p q lt e f = absurd (cc)
 
 pub phase_split_inside : (k : ℕ) (r : Row) (p : ℕ) → is_within r ≡ true → phase_split k r ≡ Some p → (1 ≤ p) × (p < 33)
-phase_split_inside k (row.Phase m x) p h e = absurd (cc)
-phase_split_inside k (row.Seq n ring x) p h e = absurd (cc)
 phase_split_inside k (row.Split n m x) p h e = within_bounds PHASES m p (and_parts _ _ h).1 (ap (λ t. Some t) (chosen k n m p e).1)
-phase_split_inside k (row.Pattern n x) p h e = absurd (cc)
+phase_split_inside k _ p h e = absurd (cc)
 
 pub split_found : (n p : ℕ) (rows : List Row) → is_some (the_split (find key_cmp (key.Split n p) (keyed rows))) ≡ is_in p (filter_map (phase_split n) rows)
 split_found n p [] = refl
-split_found n p (row.Phase m x ∷ rows) = split_found n p rows
-split_found n p (row.Seq m ring x ∷ rows) = split_found n p rows
 split_found n p (row.Split m r x ∷ rows) =
     found_or the_split (row.Split m r x) (find key_cmp (key.Split n p) (keyed rows)) (eq_by_cmp key_cmp (key.Split n p) (key.Split m r)) _ refl (split_found n p rows)
-    ∙ ap (λ b. b || is_in p (filter_map (phase_split n) rows)) (pair_tied n m (nat_cmp p r) ∙ ap (λ b. eqb m n && b) (number_tied p r))
+    ∙ ap (λ b. b || is_in p (filter_map (phase_split n) rows)) (pair_tied n m (nat_cmp p r) ∙ ap (λ b. eqb m n && b) (numbers_tie p r))
     ∙ by_test (eqb m n) where
       by_test : (b : Bool) → ((b && eqb r p) || is_in p (filter_map (phase_split n) rows)) ≡ is_in p (cons_option (cond b (Some r) None) (filter_map (phase_split n) rows))
       by_test true = refl
       by_test false = refl
-split_found n p (row.Pattern m x ∷ rows) = split_found n p rows
+split_found n p (_ ∷ rows) = split_found n p rows
 
 pub split_pairs : (n : ℕ) (rows : List Row) → filter_map (phase_split n) rows ≡ filter_map (second_at n) (filter_map pair_of rows)
 split_pairs n [] = refl
-split_pairs n (row.Phase m x ∷ rows) = split_pairs n rows
-split_pairs n (row.Seq m ring x ∷ rows) = split_pairs n rows
 split_pairs n (row.Split m r x ∷ rows) = ap (cons_option (second_at n (m, r))) (split_pairs n rows)
-split_pairs n (row.Pattern m x ∷ rows) = split_pairs n rows
+split_pairs n (_ ∷ rows) = split_pairs n rows
 
 pub first_numbers : (rows : List Row) → filter_map split_of rows ≡ map (λ q. q.0) (filter_map pair_of rows)
 first_numbers [] = refl
-first_numbers (row.Phase m x ∷ rows) = first_numbers rows
-first_numbers (row.Seq m ring x ∷ rows) = first_numbers rows
 first_numbers (row.Split m r x ∷ rows) = ap (λ l. m ∷ l) (first_numbers rows)
-first_numbers (row.Pattern m x ∷ rows) = first_numbers rows
+first_numbers (_ ∷ rows) = first_numbers rows
 
 pub pair_subjects : (rows : List Row) → flat_map (of_kind 3) rows ≡ map (λ q. subject.Split q.0 q.1) (filter_map pair_of rows)
 pair_subjects [] = refl
-pair_subjects (row.Phase m x ∷ rows) = pair_subjects rows
-pair_subjects (row.Seq m ring x ∷ rows) = pair_subjects rows
 pair_subjects (row.Split m r x ∷ rows) = ap (λ l. subject.Split m r ∷ l) (pair_subjects rows)
-pair_subjects (row.Pattern m x ∷ rows) = pair_subjects rows
+pair_subjects (_ ∷ rows) = pair_subjects rows

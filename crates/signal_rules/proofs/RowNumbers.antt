@@ -1,5 +1,5 @@
 -- The rows of a set in the order of their keys, and the numbers of the rows of a kind.
-use Rattle.std.proofs.Common.{◌≡◌, ℕ, ◌+◌, ◌<◌, ◌≤◌, Bool, true, false, cond, leb, T, List, [], ◌∷◌, map, Option, Some, None, is_some, refl, sym, ap, subst, ◌∙◌, arith}
+use Rattle.std.proofs.Common.{◌≡◌, ℕ, ◌+◌, ◌<◌, ◌≤◌, Bool, true, false, cond, leb, T, List, [], ◌∷◌, Option, Some, None, is_some, refl, sym, ap, subst, ◌∙◌, arith}
 use Rattle.std.proofs.lemmas.Bool.{and_parts, leb-true}
 use Rattle.std.specs.Prelude.{◌||◌}
 use Rattle.std.specs.declared.cmp.Ordering.TheVariants.{Less}
@@ -14,13 +14,9 @@ use Rattle.signal_records.specs.Row.{key_of}
 use Rattle.signal_records.specs.TimingSet.{Rows, AreKeyed}
 use Rattle.signal_rules.specs.RowWalk.{keyed, is_from_to, is_within}
 use Rattle.signal_rules.proofs.InOrder.{Rising}
-use Rattle.signal_rules.proofs.KeyOrder.{is_less, parts}
+use Rattle.signal_records.proofs.Sets.{is_less, keyed_values, parts}
 
 -- ---- the rows of a set
-
-keyed_values : (es : List (Key × Row)) → AreKeyed es → keyed (map (λ e. e.1) es) ≡ es
-keyed_values [] h = refl
-keyed_values (e ∷ es) h = λ i. (h.0 i, e.1) ∷ keyed_values es h.1 i
 
 -- the rows of a set, in the order of their keys
 pub record AreRowsOf (set : Rows) (rows : List Row) : Type 0 where

@@ -1,7 +1,6 @@
 -- A set without violations keeps each rule on each of its subjects.
 use Rattle.std.proofs.Common.{◌≡◌, ℕ, Bool, true, false, eqb, if◌then◌else◌, List, [], ◌∷◌, ◌++◌, map, filter, is_some, Some, ◌⊎◌, inl, inr, refl, sym, ap, ◌∙◌}
 use Rattle.std.proofs.lemmas.Bool.{false≢true, or_cases, eqb-true}
-use Rattle.std.proofs.lemmas.List.Concat.{flat_map-append}
 use Rattle.std.specs.List.{flat_map}
 use Rattle.signal_records.specs.declared.record.Pattern.{Pattern}
 use Rattle.signal_records.specs.declared.record.Phase.{Phase}
@@ -17,13 +16,10 @@ use Rattle.signal_rules.specs.SequenceRule.{rows_are_right}
 use Rattle.signal_rules.specs.SplitRule.{split_is_right, time_is_right}
 use Rattle.signal_rules.specs.PatternRules.{has_rows, offset_is_right, has_coordinated, lanes_fill_cycle, lanes_agree}
 use Rattle.signal_rules.specs.Violations.{Findings, broken, phase_findings, pattern_findings, for_phase, for_sequence, for_split, for_pattern, violations_at, violations_of, split_rows, split_subjects}
-use Rattle.signal_rules.proofs.Kept.{nil_parts}
-use Rattle.signal_street.proofs.Members.{in_filter}
+use Rattle.signal_rules.proofs.Kept.{nil_append, nil_parts}
+use Rattle.signal_rules.proofs.Among.{in_filter}
 
 -- subjects that were joined or made in a list without violations
-none_of : {A B : Type 0} (V : A → List B) (xs ys : List A) → flat_map V (xs ++ ys) ≡ [] → (flat_map V xs ≡ []) × (flat_map V ys ≡ [])
-none_of V xs ys none = nil_parts (flat_map V xs) (flat_map V ys) (sym (flat_map-append V xs ys) ∙ none)
-
 mapped_at : {S B : Type 0} (V : S → List B) (make : ℕ → S) (ns : List ℕ) (t : ℕ) → flat_map V (map make ns) ≡ [] → is_in t ns ≡ true → V (make t) ≡ []
 mapped_at V make [] t none among = absurd (false≢true among)
 mapped_at V make (n ∷ ns) t none among =
@@ -39,7 +35,7 @@ made_at V make P ns t none among is = mapped_at V make (filter P ns) t none (in_
 joined_at : {S B : Type 0} (V : S → List B) (f : ℕ → List S) (ns : List ℕ) (t : ℕ) → flat_map V (flat_map f ns) ≡ [] → is_in t ns ≡ true → flat_map V (f t) ≡ []
 joined_at V f [] t none among = absurd (false≢true among)
 joined_at V f (n ∷ ns) t none among =
-    let parts = none_of V (f n) (flat_map f ns) none in
+    let parts = nil_append V (f n) (flat_map f ns) none in
     by_place (or_cases (eqb n t) (is_in t ns) among) parts.0 (joined_at V f ns t parts.1) where
       by_place : (eqb n t ≡ true) ⊎ (is_in t ns ≡ true) → flat_map V (f n) ≡ [] → (is_in t ns ≡ true → flat_map V (f t) ≡ []) → flat_map V (f t) ≡ []
       by_place (inl e) here later = ap (λ k. flat_map V (f k)) (sym (eqb-true n t e)) ∙ here
@@ -47,9 +43,9 @@ joined_at V f (n ∷ ns) t none among =
 
 four_parts : {A B : Type 0} (V : A → List B) (a b c d : List A) → flat_map V (a ++ (b ++ (c ++ d))) ≡ [] → (flat_map V a ≡ []) × (flat_map V b ≡ []) × (flat_map V c ≡ []) × (flat_map V d ≡ [])
 four_parts V a b c d none =
-    let one = none_of V a (b ++ (c ++ d)) none in
-    let two = none_of V b (c ++ d) one.1 in
-    let three = none_of V c d two.1 in
+    let one = nil_append V a (b ++ (c ++ d)) none in
+    let two = nil_append V b (c ++ d) one.1 in
+    let three = nil_append V c d two.1 in
     (one.0, two.0, three.0, three.1)
 
 -- no subject of any kind has a violation
@@ -74,23 +70,15 @@ abbrev of_a_phase : Bool → Bool → Bool → Bool → Bool → Bool → Bool �
 of_a_phase a b c d e f g = (rule.V1, a) ∷ (rule.V2, b) ∷ (rule.V3, c) ∷ (rule.V4, d) ∷ (rule.V5, e) ∷ (rule.V6, f) ∷ (rule.V14, g) ∷ []
 
 phase_holds : (s : Subject) (a b c d e f g : Bool) → broken s (of_a_phase a b c d e f g) ≡ [] → (d ≡ true) × (e ≡ true)
-phase_holds s false b c d e f g none = absurd (cc)
-phase_holds s true false c d e f g none = absurd (cc)
-phase_holds s true true false d e f g none = absurd (cc)
-phase_holds s true true true false e f g none = absurd (cc)
-phase_holds s true true true true false f g none = absurd (cc)
 phase_holds s true true true true true f g none = (refl, refl)
+phase_holds s _ _ _ _ _ _ _ none = absurd (cc)
 
 abbrev of_a_pattern : Bool → Bool → Bool → Bool → Bool → Findings
 of_a_pattern r o c f g = (rule.V9, r) ∷ (rule.V10, o) ∷ (rule.V11, c) ∷ (if r then ((rule.V12, f) ∷ (if f then (rule.V13, g) ∷ [] else [])) else [])
 
 pattern_holds : (s : Subject) (r o c f g : Bool) → broken s (of_a_pattern r o c f g) ≡ [] → (r ≡ true) × (f ≡ true) × (g ≡ true)
-pattern_holds s false o c f g none = absurd (cc)
-pattern_holds s true false c f g none = absurd (cc)
-pattern_holds s true true false f g none = absurd (cc)
-pattern_holds s true true true false g none = absurd (cc)
-pattern_holds s true true true true false none = absurd (cc)
 pattern_holds s true true true true true none = (refl, refl, refl)
+pattern_holds s _ _ _ _ _ none = absurd (cc)
 
 module _ (set : Rows) (clean : IsClean set) where
   -- V4 and V5 of a phase

@@ -22,7 +22,8 @@ use Rattle.signal_rules.specs.Starts.{times}
 use Rattle.signal_rules.proofs.CutPoints.{at_number}
 use Rattle.signal_street.specs.Timing.{HasPhase, HasPattern, phases_or_none, order, time_or_none, split_time, TimesIn}
 use Rattle.signal_street.specs.StreetLaws.{Lists, AreConcurrent}
-use Rattle.signal_street.proofs.Members.{in_numbers, in_filter, all_at, any_at, all_middle, contains, some_value, pair_at}
+use Rattle.signal_rules.proofs.Among.{in_numbers, in_filter, all_at, any_at, contains}
+use Rattle.signal_street.proofs.Members.{all_middle, some_value, pair_at}
 use Rattle.signal_street.proofs.Places.{places, length_is, times_within, lane_at}
 use Rattle.signal_street.proofs.Clean.{IsClean, sequence_rule, split_rule, pattern_rules}
 

@@ -1,12 +1,12 @@
 -- What a split has room for, and how long a walker crosses.
-use Rattle.std.proofs.Common.{◌≡◌, ◌≢◌, ◌↔◌, ℕ, ◌+◌, ◌-◌, ◌*◌, ◌<◌, ◌≤◌, max, Bool, true, false, ◌&&◌, eqb, leb, Option, Some, None, IfSome, ◌⊎◌, inl, inr, refl, sym, ap, ◌∙◌, arith}
+use Rattle.std.proofs.Common.{◌≡◌, ◌≢◌, ◌↔◌, ℕ, ◌+◌, ◌-◌, ◌*◌, ◌<◌, ◌≤◌, max, Bool, true, ◌&&◌, eqb, leb, Option, Some, None, IfSome, ◌⊎◌, inl, inr, refl, sym, ap, ◌∙◌, arith}
 use Rattle.std.proofs.lemmas.Bool.{false≢true, or_cases, eq-eqb, eqb-true, leb-true}
-use Rattle.std.specs.Bool.{beq}
+use Rattle.std.specs.Cmp.{booleans_Decides}
 use Rattle.signal_records.specs.declared.record.Ped.{Ped}
 use Rattle.signal_records.specs.declared.record.Phase.{Phase}
 use Rattle.signal_records.specs.declared.record.Split.{Split}
 use Rattle.signal_records.specs.declared.record.SplitMode.{SplitMode}
-use Rattle.signal_records.specs.declared.record.SplitMode.TheVariants.{NoRecall, MinimumVehicleRecall, MaximumVehicleRecall, PedestrianRecall, MaximumVehicleAndPedestrianRecall, PhaseOmitted}
+use Rattle.signal_records.specs.declared.record.SplitMode.TheVariants.{PhaseOmitted}
 use Rattle.signal_records.specs.Need.{called, lead_time, walk_time, need_of}
 use Rattle.signal_rules.specs.PhaseRules.{clearance, clears_crossing, clears_setback, where_walked}
 use Rattle.signal_rules.specs.SplitRule.{is_omitted, time_fits_mode, time_is_enough, coordination_is_right, time_is_right}
@@ -14,27 +14,16 @@ use Rattle.signal_street.specs.Intervals.{CallsPedestrian, FitsCrossing, FitsSpl
 
 three : (a b c : Bool) → (a && b && c) ≡ true → (a ≡ true) × (b ≡ true)
 three true true c h = (refl, refl)
-three true false c h = absurd (false≢true h)
-three false b c h = absurd (false≢true h)
-
-same : (a b : Bool) → beq a b ≡ true → a ≡ b
-same true true h = refl
-same true false h = absurd (false≢true h)
-same false true h = absurd (false≢true h)
-same false false h = refl
+three _ _ c h = absurd (false≢true h)
 
 omitted_is : (mode : SplitMode) → is_omitted mode ≡ true → mode ≡ PhaseOmitted
-omitted_is NoRecall h = absurd (false≢true h)
-omitted_is MinimumVehicleRecall h = absurd (false≢true h)
-omitted_is MaximumVehicleRecall h = absurd (false≢true h)
-omitted_is PedestrianRecall h = absurd (false≢true h)
-omitted_is MaximumVehicleAndPedestrianRecall h = absurd (false≢true h)
 omitted_is PhaseOmitted h = refl
+omitted_is _ h = absurd (false≢true h)
 
 -- a split has no time exactly where the phase is omitted
 pub none_where_omitted : (split : Split) (phase : Phase) → time_is_right split phase ≡ true → (split.time ≡ 0) ↔ (split.mode ≡ PhaseOmitted)
 none_where_omitted split phase right =
-    let fits : eqb split.time 0 ≡ is_omitted split.mode = same (eqb split.time 0) (is_omitted split.mode) (three (time_fits_mode split) (time_is_enough split phase) (coordination_is_right split) right).0 in
+    let fits : eqb split.time 0 ≡ is_omitted split.mode = (booleans_Decides (eqb split.time 0) (is_omitted split.mode)).0 (three (time_fits_mode split) (time_is_enough split phase) (coordination_is_right split) right).0 in
     ((λ none. omitted_is split.mode (sym fits ∙ eq-eqb split.time 0 none)), (λ omitted. eqb-true split.time 0 (fits ∙ ap is_omitted omitted)))
 
 -- a mode that calls the walk takes the pedestrian part into the need

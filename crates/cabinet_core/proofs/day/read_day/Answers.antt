@@ -1,5 +1,6 @@
 use Rattle.std.proofs.Common.{rules, arith}
-use Rattle.cabinet_core.proofs.DayLemmas.{civil_day_is_short, spelt_digits, civil_from_reads, spelt_from_reads, IfSome_weaker, day_picked, epoch_day_counted}
+use Rattle.std.proofs.lemmas.Option.{IfSome_then}
+use Rattle.cabinet_core.proofs.DayLemmas.{civil_day_is_short, spelt_digits, civil_from_reads, spelt_from_reads, day_picked, epoch_day_counted}
 use Rattle.cabinet_core.proofs.day.read_day.Goals as goal
 
 pub returns-then-bytes-ne10-clause-accepted : goal.returns-then-bytes-ne10-clause-accepted
@@ -34,7 +35,7 @@ returns-in_err-date_of-clause-accepted c = λ n s.
 
 pub returns-clause-spelt : goal.returns-clause-spelt
 returns-clause-spelt c =
-    IfSome_weaker c.from_date.result _ _ (λ k is. spelt_from_reads c.args.bytes.now k c.in_ok-date_of.field-0 is.0 is.1 _ _ _ _ (record { size = search rules; first = search rules; second = search rules }) c.in_ok-century.ensures.value c.in_ok-year.ensures.value c.in_ok-month.ensures.value c.in_ok-day.ensures.value c.in_ok-date_of.ensures.value) c.from_date.ensures.value
+    IfSome_then c.from_date.result c.from_date.ensures.value (λ k is. spelt_from_reads c.args.bytes.now k c.in_ok-date_of.field-0 is.0 is.1 _ _ _ _ (record { size = search rules; first = search rules; second = search rules }) c.in_ok-century.ensures.value c.in_ok-year.ensures.value c.in_ok-month.ensures.value c.in_ok-day.ensures.value c.in_ok-date_of.ensures.value)
 
 pub returns-clause-accepted : goal.returns-clause-accepted
 returns-clause-accepted c = λ n s.

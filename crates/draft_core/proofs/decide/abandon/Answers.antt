@@ -1,6 +1,8 @@
-use Rattle.std.proofs.Common.{◌≡◌, not, ap, ◌∙◌}
+use Rattle.std.proofs.Common.{◌≡◌, not, ap, sym, subst, ◌∙◌}
+use Rattle.std.specs.List.{AllByRecursion}
 use Rattle.std.specs.Prelude.{Ok}
 use Rattle.draft_core.specs.Moves.{Follows, drafted_in, move_to}
+use Rattle.draft_core.specs.News.{AddsNone}
 use Rattle.draft_core.specs.Transaction.{abandoned_from}
 use Rattle.draft_core.specs.Writes.{dropping}
 use Rattle.draft_core.specs.declared.timing.Move.{Move}
@@ -8,7 +10,7 @@ use Rattle.draft_core.specs.declared.state.Holding.TheVariants.{Dropped}
 use Rattle.draft_core.specs.declared.state.Verdict.TheVariants.{NotDone}
 use Rattle.draft_core.proofs.Lines.{held}
 use Rattle.draft_core.proofs.Makes.{abandon_makes}
-use Rattle.draft_core.proofs.Written.{drafted_in-dropping, dropping_writes}
+use Rattle.draft_core.proofs.Written.{drafted_in-dropping, dropping_adds, dropping_writes}
 use Rattle.draft_core.proofs.decide.abandon.Goals as goal
 
 pub returns-clause-line : goal.returns-clause-line
@@ -20,6 +22,13 @@ returns-clause-line c = λ rows side stands.
     abandon_makes stands stands.read clerk made (c.moves_to.ensures
     ∙ ap (move_to c.args.timing.now.revision Dropped NotDone) (c.in_ok-changes.ensures
     ∙ ap dropping c.as_slice.ensures.list)))
+
+pub returns-clause-news : goal.returns-clause-news
+returns-clause-news c =
+    let made : c.moves_to.result.changes ≡ dropping c.args.timing.now.delta =
+    ap (λ (m : Move). m.changes) c.moves_to.ensures ∙ c.in_ok-changes.ensures
+    ∙ ap dropping c.as_slice.ensures.list in
+    subst (AllByRecursion AddsNone) (sym made) (dropping_adds c.args.timing.now.delta)
 
 pub returns-clause-drafts : goal.returns-clause-drafts
 returns-clause-drafts c = ap (λ (m : Move). drafted_in m.changes) c.moves_to.ensures

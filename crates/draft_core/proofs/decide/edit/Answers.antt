@@ -1,7 +1,9 @@
 use Rattle.std.proofs.Common.{◌≡◌, ◌≤◌, length, sym, subst}
 use Rattle.draft_core.specs.Drafting.{AreAmong, KeepsOnlyChanges}
 use Rattle.draft_core.specs.Moves.{drafted_in, draft_writes, timing_writes}
+use Rattle.draft_core.specs.News.{AddsOnlyNew}
 use Rattle.draft_core.specs.declared.timing.Move.{Move}
+use Rattle.draft_core.specs.declared.timing.Reach.TheVariants as reach
 use Rattle.draft_core.proofs.Lines.{owned_moves}
 use Rattle.draft_core.proofs.Makes.{edit_makes}
 use Rattle.draft_core.proofs.decide.edit.Goals as goal
@@ -18,6 +20,12 @@ returns-clause-keeps c =
     subst (λ (m : Move).
     KeepsOnlyChanges timing.committed timing.delta c.args.changes.now m.changes)
     (sym c.moves_to.ensures) c.in_ok-changes.ensures.keeps
+
+pub returns-clause-news : goal.returns-clause-news
+returns-clause-news c =
+    let timing = c.args.timing.now in
+    subst (λ (m : Move). AddsOnlyNew reach.Plan timing m.changes) (sym c.moves_to.ensures)
+    (λ order. c.in_ok-changes.ensures.news)
 
 pub returns-clause-drafts : goal.returns-clause-drafts
 returns-clause-drafts c =

@@ -1,12 +1,16 @@
-use Rattle.std.proofs.Common.{◌≡◌, ap, ◌∙◌}
+use Rattle.std.proofs.Common.{◌≡◌, ap, sym, subst, ◌∙◌}
+use Rattle.std.specs.FinMap.{get}
 use Rattle.signal_rules.specs.Violations.{violations_of}
 use Rattle.draft_core.specs.declared.state.Holding.TheVariants.{Dropped}
 use Rattle.draft_core.specs.declared.state.Verdict.TheVariants.{NotDone}
 use Rattle.draft_core.specs.declared.timing.Move.{Move}
+use Rattle.draft_core.specs.DraftRows.{row_at}
 use Rattle.draft_core.specs.Moves.{drafted_in, move_to}
+use Rattle.draft_core.specs.News.{AreNewAt}
 use Rattle.draft_core.specs.Writes.{next_revision, settling}
 use Rattle.draft_core.proofs.Lines.{commit_follows, commit_refuses, refusal_follows}
 use Rattle.draft_core.proofs.Makes.{commit_makes}
+use Rattle.draft_core.proofs.News.{settling_new}
 use Rattle.draft_core.proofs.Overlaid.{draft_violations}
 use Rattle.draft_core.proofs.Written.{drafted_in-settling, settling_writes}
 use Rattle.draft_core.proofs.decide.settled.Goals as goal
@@ -21,18 +25,31 @@ returns-clause-line c = λ rows side draft clerk stands held sound.
     ∙ ap (λ n. next_revision n (violations_of draft.set)) stands.same_revision)
     (commit_makes stands stands.read.0 draft clerk _ _ held (c.moves_to.ensures
     ∙ ap (move_to c.in_ok-revision.revision Dropped NotDone)
-    (c.in_ok-changes.ensures ∙ ap settling c.as_slice-3.ensures.list)))
+    (c.in_ok-changes.ensures
+    ∙ ap (settling c.args.timing.now.committed) c.as_slice-3.ensures.list)))
 
 pub returns-clause-drafts : goal.returns-clause-drafts
 returns-clause-drafts c = ap (λ (m : Move). drafted_in m.changes) c.moves_to.ensures
-    ∙ ap drafted_in c.in_ok-changes.ensures ∙ drafted_in-settling c.as_slice-3.result.now
+    ∙ ap drafted_in c.in_ok-changes.ensures
+    ∙ drafted_in-settling c.args.timing.now.committed c.as_slice-3.result.now
 
 pub returns-clause-bounds : goal.returns-clause-bounds
 returns-clause-bounds c =
-    let made : c.moves_to.result.changes ≡ settling c.args.timing.now.delta =
+    let timing = c.args.timing.now in
+    let made : c.moves_to.result.changes ≡ settling timing.committed timing.delta =
     ap (λ (m : Move). m.changes) c.moves_to.ensures ∙ c.in_ok-changes.ensures
-    ∙ ap settling c.as_slice-3.ensures.list in
-    rw made (settling_writes c.args.timing.now.delta)
+    ∙ ap (settling timing.committed) c.as_slice-3.ensures.list in
+    rw made (settling_writes timing.committed timing.delta)
+
+pub returns-clause-news : goal.returns-clause-news
+returns-clause-news c = λ order key.
+    let timing = c.args.timing.now in
+    let made : c.moves_to.result.changes ≡ settling timing.committed timing.delta =
+    ap (λ (m : Move). m.changes) c.moves_to.ensures ∙ c.in_ok-changes.ensures
+    ∙ ap (settling timing.committed) c.as_slice-3.ensures.list in
+    let said = row_at timing.delta key in
+    subst (λ list. AreNewAt list key (get timing.committed key) said) (sym made)
+    (settling_new timing.committed timing.delta order key said)
 
 pub returns-in_err-revision-clause-line : goal.returns-in_err-revision-clause-line
 returns-in_err-revision-clause-line c = λ rows side draft clerk stands held sound.

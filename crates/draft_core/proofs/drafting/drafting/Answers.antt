@@ -7,13 +7,13 @@ use Rattle.signal_records.specs.Key.{key_cmp}
 use Rattle.signal_records.specs.declared.key.Key.{Key}
 use Rattle.signal_records.specs.declared.record.Change.{Change}
 use Rattle.draft_core.specs.declared.timing.TimingChange.{TimingChange}
-use Rattle.draft_core.specs.declared.timing.TimingChange.TheVariants.{Drafted, DraftGone}
+use Rattle.draft_core.specs.declared.timing.TimingChange.TheVariants.{DraftGone}
 use Rattle.draft_core.specs.DraftRows.{row_at}
 use Rattle.draft_core.specs.Drafting.{DraftsChanges, is_said}
 use Rattle.draft_core.proofs.OnlyChanges.{DraftsSoFar, drafts_none, is_gone, is_kept, is_passed}
 use Rattle.draft_core.proofs.OnlyChanges.{one_more}
 use Rattle.draft_core.proofs.drafting.drafting.Goals as goal
-use Rattle.draft_core.proofs.drafting.drafting.Goals.{then-not-says_committed+in_ok-insert+in_ok-copy_change+in_ok-push}
+use Rattle.draft_core.proofs.drafting.drafting.Goals.{then-not-says_committed+in_ok-is_new+in_ok-drafted_row+in_ok-push}
 use Rattle.draft_core.proofs.drafting.drafting.Goals.{else-not-says_committed+then-remove+in_ok-push-2}
 use Rattle.draft_core.proofs.drafting.drafting.Goals.{else-not-says_committed+else-remove}
 
@@ -44,14 +44,16 @@ loop-change-preserved c =
     subst (λ done. DraftsSoFar timing.committed timing.delta done new longer) (sym next)
     (one_more timing.committed timing.delta (take index all) change old new written longer
     c.loop-change.invariant (elim c.if-not-says_committed.branch [
-      | then-not-says_committed+in_ok-insert+in_ok-copy_change+in_ok-push w ↦
-          let updates = rw c.changed_key-key.ensures at w.in_ok-insert.ensures.updates.0 in
+      | then-not-says_committed+in_ok-is_new+in_ok-drafted_row+in_ok-push w ↦
+          let updates = rw c.changed_key-key.ensures at w.in_ok-is_new.ensures.updates.0 in
+          let tells = rw c.changed_key-key.ensures at w.in_ok-is_new.ensures.added in
           is_kept
           (λ says. absurd (let f : false ≡ true = sym w.if-not-says_committed.true
           ∙ c.says_committed.ensures.other says in cc))
+          w.in_ok-is_new.is_new tells
           (λ key. ap (λ (set : BTreeSet Key). contains key_cmp set key) w.drafted-is ∙ updates key)
           (ap (λ (v : Vec TimingChange). v.items) w.written-is ∙ w.in_ok-push.ensures.items
-          ∙ ap (λ (kept : Change). written ++ Drafted kept ∷ []) w.in_ok-copy_change.ensures)
+          ∙ ap (λ (kept : TimingChange). written ++ kept ∷ []) w.in_ok-drafted_row.ensures)
       | else-not-says_committed+then-remove+in_ok-push-2 w ↦
           let updates = rw c.changed_key-key.ensures at w.remove.ensures.updates.0 in
           is_gone (c.says_committed.ensures.is w.if-not-says_committed.false)

@@ -6,7 +6,8 @@ use Rattle.signal_records.specs.Key.{key_cmp}
 use Rattle.signal_records.specs.declared.key.Key.{Key}
 use Rattle.draft_core.specs.DraftRows.{row_at}
 use Rattle.draft_core.specs.Drafting.{AreNamed, is_said}
-use Rattle.draft_core.proofs.OnlyChanges.{named_more, row_at-push}
+use Rattle.draft_core.proofs.OnlyChanges.{named_more}
+use Rattle.draft_core.proofs.Pushed.{row_at-push}
 use Rattle.draft_core.proofs.drafting.named_keys.Goals as goal
 
 pub loop-change-init : goal.loop-change-init

@@ -1,10 +1,8 @@
-use Rattle.std.proofs.Common.{◌≡◌, ◌+◌, ◌≤◌, ◌<◌, ◌∙◌, List, [], length, drop, take, get_or, Err, inl, inr, ap, sym, refl, subst, arith}
-use Rattle.std.specs.Prelude.{◌⊎◌}
+use Rattle.std.proofs.Common.{◌≡◌, ◌+◌, ◌≤◌, ◌<◌, ◌∙◌, List, [], length, drop, take, get_or, inl, inr, ap, sym, refl, subst, arith}
 use Rattle.std.proofs.lemmas.List.{drop_all, take_all}
 use Rattle.cabinet_core.specs.declared.command.RecordCommand.{RecordCommand}
 use Rattle.office_tables_shelf.specs.Change.{changed_by}
 use Rattle.office_tables_shelf.specs.declared.rows.RowChange.{RowChange}
-use Rattle.office_tables_shelf.specs.declared.shelf.ShelfFault.{ShelfFault}
 use Rattle.office_desk_cabinet.specs.RegisterDamage.{KeepsDamage}
 use Rattle.office_tables_shelf.specs.Shelf.{IsTold}
 use Rattle.office_desk_cabinet.proofs.KeptDamage.{kept_after, nothing_kept}
@@ -12,13 +10,15 @@ use Rattle.office_desk_cabinet.proofs.Opened.{handed_told}
 use Rattle.office_desk.specs.Damage.{MeetsCabinetDamage, MeetsImportDamage}
 use Rattle.office_machine.specs.Step.{cabinet_of}
 use Rattle.office_desk.specs.Blaming.{AreTaken}
+use Rattle.office_desk.specs.Recording.{AreFound}
+use Rattle.office_desk.proofs.FoundAgain.{none_found}
 use Rattle.office_desk.specs.Importing.{ImportsAny, IsNamedTaken, LeavesAnyTiming, TakesLine, TakesRecord}
 use Rattle.office_desk.specs.declared.importing.Taken.{Taken}
-use Rattle.office_desk.specs.declared.importing.Taken.TheVariants.{Added, Same, Refused}
+use Rattle.office_desk.specs.declared.importing.Taken.TheVariants.{Refused}
 use Rattle.office_machine.specs.declared.reply.Reply.TheVariants.{Imported}
 use Rattle.office_desk.proofs.Decisions.{fault_decides}
-use Rattle.office_desk.proofs.Blames.{blames_next, taken_blames, none_met, one_further, taken_next}
-use Rattle.office_desk.proofs.Imports.{counted_on, damage_of_record, import_decides, imports_on, imports_start, never_met, next_left, none_next, some_read, taken_open, whole_stored, nothing_leaves, nothing_written, refused_decides, same_stored, writes_left, writes_whole}
+use Rattle.office_desk.proofs.Blames.{WentOn, blames_next, taken_blames, none_met, one_further, taken_next}
+use Rattle.office_desk.proofs.Imports.{counted_on, damage_of_record, import_decides, imports_on, imports_start, never_met, next_left, none_next, some_read, taken_new, taken_open, whole_stored, nothing_leaves, nothing_written, refused_decides, same_stored, writes_left, writes_whole}
 use Rattle.office_tables_shelf.proofs.KeptLemmas.{kept_on}
 use Rattle.office_desk.proofs.importing.decide_import.Goals as goal
 use Rattle.office_desk.proofs.importing.decide_import.Goals.{in-Added, in-Same}
@@ -31,6 +31,7 @@ loop-index-init g c =
       imports = λ honest. subst (ImportsAny (g.S.Shelf.content c.args.shelf.now) c.args.records.now c.args.records.now 1 0 0) (sym none) (imports_start (g.S.Shelf.content c.args.shelf.now) c.args.records.now);
       spares = λ honest. subst (λ (list : List RowChange). KeepsDamage (g.S.Shelf.content c.args.shelf.now) (changed_by (g.S.Shelf.content c.args.shelf.now) list)) (sym none) (nothing_kept (g.S.Shelf.content c.args.shelf.now));
       whole = λ honest damaged. damaged;
+      found = λ honest. none_found (g.S.Shelf.content c.args.shelf.now) c.new-found.result c.new-found.ensures.empty;
       fresh = λ start. none;
       clean = λ clean. clean;
       stays = λ clean honest. honest;
@@ -41,16 +42,21 @@ loop-index-init g c =
       kept = record { honest_before = λ honest. honest; same_content = λ honest. refl; same_counts = refl; same_outcomes = λ tables left. left };
     }
 
+pub take_record-requires : goal.take_record-requires
+take_record-requires g c = λ honest.
+    let kept = c.loop-index.invariant.kept in
+    subst (λ tables. AreFound tables c.loop-index.found) (sym (kept.same_content honest)) (c.loop-index.invariant.found honest)
+
 pub returns-in_err-taken-clause-decides : goal.returns-in_err-taken-clause-decides
 returns-in_err-taken-clause-decides g c =
     let index = c.loop-index.index in
     let item = c.command-item.result in
     let low = subst (λ (list : List RecordCommand). index < length list) c.as_slice-command-items.ensures c.loop-index-test.true in
     let at = subst (λ (list : List RecordCommand). item ≡ get_or list index item) c.as_slice-command-items.ensures c.command-item.is in
-    fault_decides _ _ _ c.in_err-taken.field-0.0 _ c.from_residual.ensures.1
+    fault_decides _ _ _ _ _ _ c.in_err-taken.was c.from_residual.ensures.1
     (λ damaged honest. damage_of_record _ c.args.records.now index item low at
     (subst (λ tables. MeetsCabinetDamage tables item (cabinet_of item)) (c.loop-index.invariant.kept.same_content (c.take_record.ensures.kept.honest_before honest))
-    (c.take_record.ensures.damaged (c.in_err-taken.was ∙ ap (λ (f : ShelfFault). Err f) damaged) honest)))
+    (c.take_record.ensures.damaged damaged honest)))
 
 pub returns-in_err-taken-clause-kept : goal.returns-in_err-taken-clause-kept
 returns-in_err-taken-clause-kept g c =
@@ -117,7 +123,7 @@ loop-index-preserved g c =
     let at = subst (λ (list : List RecordCommand). item ≡ get_or list index item) c.as_slice-command-items.ensures c.command-item.is in
     let now_open = λ (clean : shelf.is_clean c.take_record.new.shelf).
     taken_open shelf.is_clean shelf.is_honest before index _ c.loop-index.shelf c.take_record.new.shelf c.loop-index.invariant.fresh c.loop-index.invariant.read c.in_ok-taken.ensures.open clean tt in
-    let came : ((t ≡ Added) × (c.match-taken.added ≡ c.loop-index.added + 1) × (c.match-taken.same ≡ c.loop-index.same)) ⊎ ((t ≡ Same) × (c.match-taken.added ≡ c.loop-index.added) × (c.match-taken.same ≡ c.loop-index.same + 1)) =
+    let came : WentOn t c.loop-index.added c.loop-index.same c.match-taken.added c.match-taken.same =
     elim c.match-taken.branch [ in-Added w ↦ inl (w.in-Added.is, w.added-is, w.same-is) | in-Same w ↦ inr (w.in-Same.is, w.added-is, w.same-is) ] in
     record {
       counted = counted_on c.loop-index.added c.loop-index.same index _ _ t c.loop-index.invariant.counted came;
@@ -135,6 +141,10 @@ loop-index-preserved g c =
           let now = whole_stored before item after (c.loop-index.invariant.kept.same_content first) (c.in_ok-taken.ensures.whole honest) in
           subst (λ (list : List RecordCommand). ¬ MeetsImportDamage stored list) (sym (one_further all index item low at))
           (none_met stored (take index all) item (c.loop-index.invariant.whole first) (never_met stored before item after (c.loop-index.invariant.spares first) now));
+      found = λ honest.
+          let first = c.take_record.ensures.kept.honest_before honest in
+          subst (λ tables. AreFound tables c.take_record.new.found) (c.loop-index.invariant.kept.same_content first)
+          (c.in_ok-taken.ensures.found honest);
       taken = λ honest.
           let first = c.take_record.ensures.kept.honest_before honest in
           subst (λ (list : List RecordCommand). AreTaken stored [] list after) (sym (one_further all index item low at))
@@ -161,7 +171,8 @@ returns-clause-decides g c =
     import_decides _ (g.S.Shelf.content c.args.shelf.now) all (drop index all) (index + 1) c.loop-index.added c.loop-index.same c.loop-index.pending _
     (drop_all index all high) c.loop-index.invariant.imports
     (λ honest. subst (λ (list : List RecordCommand). ¬ MeetsImportDamage (g.S.Shelf.content c.args.shelf.now) list) (take_all index all high) (c.loop-index.invariant.whole honest)) c.loop-index.invariant.leaves
-    (λ table. writes_whole table all index _ _ high (c.loop-index.invariant.writes table)) refl c.into_changes.ensures
+    (λ table. writes_whole table all index _ _ high (c.loop-index.invariant.writes table))
+    (λ honest. taken_new (g.S.Shelf.content c.args.shelf.now) [] (take index all) _ (c.loop-index.invariant.taken honest) tt) refl c.into_changes.ensures
 
 -- ---- on a clean disk
 

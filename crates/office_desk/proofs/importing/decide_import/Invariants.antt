@@ -8,6 +8,7 @@ use Rattle.office_desk.specs.Blaming.{AreTaken}
 use Rattle.office_desk.specs.Changes.{most_import_writes}
 use Rattle.office_desk.specs.Damage.{MeetsImportDamage}
 use Rattle.office_desk.specs.Importing.{ImportsAny, LeavesAnyTiming}
+use Rattle.office_desk.specs.Recording.{AreFound}
 use Rattle.office_desk.proofs.importing.decide_import.Given as goal
 
 -- the records before the next were taken, and their rows are pending; once one was, the shelf is open
@@ -19,6 +20,7 @@ invariant-loop-index g l =
       imports : shelf.is_honest l.shelf → ImportsAny (shelf.content l.fn.shelf) l.records (drop l.index l.records) (l.index + 1) l.added l.same l.pending;
       spares : shelf.is_honest l.shelf → KeepsDamage (shelf.content l.fn.shelf) (changed_by (shelf.content l.fn.shelf) l.pending);
       whole : shelf.is_honest l.shelf → ¬ MeetsImportDamage (shelf.content l.fn.shelf) (take l.index l.records);
+      found : shelf.is_honest l.shelf → AreFound (shelf.content l.fn.shelf) l.found;
       fresh : l.index ≡ 0 → l.pending ≡ [];
       clean : shelf.is_clean l.shelf → shelf.is_clean l.fn.shelf;
       stays : shelf.is_clean l.shelf → shelf.is_honest l.fn.shelf → shelf.is_honest l.shelf;

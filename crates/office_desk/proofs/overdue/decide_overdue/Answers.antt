@@ -1,20 +1,18 @@
-use Rattle.std.proofs.Common.{◌∙◌, ◌<◌, List, ap, arith}
+use Rattle.std.proofs.Common.{◌∙◌, ◌<◌, ◌≤◌, List, ap, arith}
 use Rattle.cabinet_core.specs.Overdue.{Listed}
 use Rattle.office_machine.specs.declared.reply.Reply.TheVariants.{Overdue}
 use Rattle.office_desk.proofs.Decisions.{told_decides}
-use Rattle.office_desk.proofs.OverdueRows.{overdue_answers}
+use Rattle.office_desk.proofs.OverdueRows.{overdue_shows}
 use Rattle.office_desk.proofs.overdue.decide_overdue.Goals as goal
 
 pub returns-clause-decides : goal.returns-clause-decides
 returns-clause-decides g c =
-    told_decides _ _ _ _ _ c.unchanged.ensures.reply (λ e. cc) (λ why e. absurd cc)
-    c.unchanged.ensures.no_changes
+    let many : 9999 ≤ 18_446_744_073_709_551_615 = omega arith in
+    told_decides _ _ _ _ _
+    (c.unchanged.ensures.reply ∙ ap (λ (list : List Listed). Overdue list) c.new-found.ensures)
+    (λ e. cc) (λ why e. absurd cc) c.unchanged.ensures.no_changes
     (λ honest. c.in_ok-late.ensures.whole honest
     (let few : c.in_ok-late.late.len < 18_446_744_073_709_551_615 =
     omega (arith, c.in_ok-late.late.ok.1, c.in_ok-late.late.small) in few))
-    (λ honest office stands.
-    overdue_answers (g.S.Shelf.content c.args.shelf.now) office c.args.day
-    18_446_744_073_709_551_615
-    c.in_ok-late.late.items _ _ (omega arith) stands (c.in_ok-late.ensures.rows honest)
-    (c.unchanged.ensures.reply ∙ ap (λ (list : List Listed). Overdue list) c.new-found.ensures)
-    c.unchanged.ensures.no_changes)
+    (λ honest office stands. overdue_shows (g.S.Shelf.content c.args.shelf.now) office c.args.day
+    18_446_744_073_709_551_615 _ many stands (c.in_ok-late.ensures.rows honest))

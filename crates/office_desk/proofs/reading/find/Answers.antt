@@ -1,4 +1,4 @@
-use Rattle.std.proofs.Common.{subst}
+use Rattle.std.proofs.Common.{sym, subst}
 use Rattle.office_tables_shelf.specs.Shelf.{ReadsIntersection}
 use Rattle.office_desk.specs.Reading.{ListsPlan}
 use Rattle.office_desk.proofs.ReadBack.{finds_none, finds_some}
@@ -27,6 +27,20 @@ returns-clause-found g c = λ honest office stands.
     (subst (λ t. ListsPlan c.args.reach t c.args.id rows changes)
     (c.intersection_row.ensures.kept.same_content first) (c.in_ok-rows.ensures.lists honest))
     c.in_ok-found.ensures
+
+pub returns-clause-listed : goal.returns-clause-listed
+returns-clause-listed g c = λ honest.
+    let tables = g.S.Shelf.content c.args.shelf.now in
+    let first = c.plan_rows.ensures.kept.honest_before honest in
+    let rows = c.in_ok-rows.rows.items in
+    let changes = c.in_ok-rows.changes.items in (
+      rows,
+      subst (ListsPlan c.args.reach tables c.args.id rows) (sym c.in_ok-found.ensures.same_delta)
+          (subst (λ t. ListsPlan c.args.reach t c.args.id rows changes)
+          (c.intersection_row.ensures.kept.same_content first)
+          (c.in_ok-rows.ensures.lists honest)),
+      c.in_ok-found.ensures.same_committed,
+    )
 
 pub returns-clause-whole : goal.returns-clause-whole
 returns-clause-whole g c = λ honest.

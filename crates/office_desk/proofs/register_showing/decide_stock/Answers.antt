@@ -1,13 +1,12 @@
 use Rattle.std.proofs.Common.{◌∙◌, ℕ, List, ap}
 use Rattle.office_machine.specs.declared.reply.Reply.TheVariants.{Stock}
 use Rattle.office_desk.proofs.Decisions.{told_decides}
-use Rattle.office_desk.proofs.Recorded.{stock_answers}
+use Rattle.office_desk.proofs.Recorded.{stock_shows}
 use Rattle.office_desk.proofs.register_showing.decide_stock.Goals as goal
 
 pub returns-clause-decides : goal.returns-clause-decides
 returns-clause-decides g c =
-    told_decides _ _ _ _ _ c.unchanged.ensures.reply (λ e. cc)
-    (λ why e. absurd cc) c.unchanged.ensures.no_changes c.in_ok-list.ensures.whole
-    (λ honest office stands.
-    stock_answers (g.S.Shelf.content c.args.shelf.now) office c.in_ok-list.list.items _ _ stands (c.in_ok-list.ensures.shows honest)
-    (c.unchanged.ensures.reply ∙ ap (λ (parts : List (List ℕ × ℕ)). Stock parts) c.new-parts.ensures) c.unchanged.ensures.no_changes)
+    told_decides _ _ _ _ _
+    (c.unchanged.ensures.reply ∙ ap (λ (parts : List (List ℕ × ℕ)). Stock parts) c.new-parts.ensures)
+    (λ e. cc) (λ why e. absurd cc) c.unchanged.ensures.no_changes c.in_ok-list.ensures.whole
+    (λ honest office stands. stock_shows _ office _ stands (c.in_ok-list.ensures.shows honest))

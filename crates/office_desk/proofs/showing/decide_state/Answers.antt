@@ -1,11 +1,11 @@
-use Rattle.std.proofs.Common.{◌≡◌, ◌∙◌, Some, None, subst, sym, refl, inl, Err, ap, inr}
+use Rattle.std.proofs.Common.{◌≡◌, ◌∙◌, Some, None, subst, sym, refl, inl, inr}
 use Rattle.office_tables_shelf.specs.Rows.{intersection_columns}
-use Rattle.office_tables_shelf.specs.declared.shelf.ShelfFault.{ShelfFault}
 use Rattle.office_tables_shelf.specs.Shelf.{ReadsIntersection, CountsTiming}
 use Rattle.office_desk.specs.Damage.{HasDamage}
 use Rattle.office_desk.specs.Decisions.{IsVerdictOf}
 use Rattle.office_desk.proofs.Decisions.{fault_decides, told_decides, unknown_decides}
-use Rattle.office_desk.proofs.Shown.{state_answers, unknown_state}
+use Rattle.office_desk.proofs.ReadBack.{none_found}
+use Rattle.office_desk.proofs.Shown.{state_shows}
 use Rattle.office_desk.proofs.WholeRows.{judged_whole}
 use Rattle.office_desk.proofs.showing.decide_state.Goals as goal
 
@@ -16,7 +16,7 @@ returns-in_default-clause-decides g c =
       | inl row ↦ c.in_ok-row.ensures.whole honest row
       | inr judged ↦ absurd (let f : None ≡ Some (intersection_columns judged.row) = sym (subst (ReadsIntersection (g.S.Shelf.content c.args.shelf.now) c.args.id) c.in_default.is (c.in_ok-row.ensures.row honest)) ∙ judged.read in cc)
     ]) (λ honest office stands.
-    unknown_state _ office _ _ _ stands (subst (ReadsIntersection (g.S.Shelf.content c.args.shelf.now) c.args.id) c.in_default.is (c.in_ok-row.ensures.row honest)) c.refused.ensures.reply c.refused.ensures.no_changes)
+    rw (none_found _ office c.args.id stands (subst (ReadsIntersection (g.S.Shelf.content c.args.shelf.now) c.args.id) c.in_default.is (c.in_ok-row.ensures.row honest))))
 
 pub returns-clause-decides : goal.returns-clause-decides
 returns-clause-decides g c =
@@ -30,20 +30,19 @@ returns-clause-decides g c =
     let first = c.committed_count.ensures.kept.honest_before read in
     let same = c.intersection_row.ensures.kept.same_content first in
     let still = c.committed_count.ensures.kept.same_content read ∙ same in
-    state_answers (g.S.Shelf.content c.args.shelf.now) office c.args.id c.in-Some.row c.in_ok-rows.rows c.in_ok-verify.verify _ _ stands
+    state_shows (g.S.Shelf.content c.args.shelf.now) office c.args.id c.in-Some.row c.in_ok-rows.rows c.in_ok-verify.verify stands
     (subst (ReadsIntersection (g.S.Shelf.content c.args.shelf.now) c.args.id) c.in-Some.is (c.in_ok-row.ensures.row first))
     (subst (λ t. CountsTiming t c.args.id c.in_ok-rows.rows) same (c.in_ok-rows.ensures.count read))
-    (subst (λ t. IsVerdictOf t c.args.id c.in-Some.row c.in_ok-verify.verify) still (c.in_ok-verify.ensures.verdict honest))
-    (c.unchanged.ensures.reply ∙ c.shown.ensures) c.unchanged.ensures.no_changes)
+    (subst (λ t. IsVerdictOf t c.args.id c.in-Some.row c.in_ok-verify.verify) still (c.in_ok-verify.ensures.verdict honest)))
 
 pub returns-in_err-verify-clause-decides : goal.returns-in_err-verify-clause-decides
 returns-in_err-verify-clause-decides g c =
     let tables = g.S.Shelf.content c.args.shelf.now in
-    fault_decides _ _ _ c.in_err-verify.field-0.0 _ c.from_residual-in_err-verify.ensures.1 (λ damaged honest.
+    fault_decides _ _ _ _ _ _ c.in_err-verify.was c.from_residual-in_err-verify.ensures.1 (λ damaged honest.
     let read = c.verdict_at.ensures.kept.honest_before honest in
     let first = c.committed_count.ensures.kept.honest_before read in
     let still = c.committed_count.ensures.kept.same_content read ∙ c.intersection_row.ensures.kept.same_content first in
-    let met = c.verdict_at.ensures.damaged (c.in_err-verify.was ∙ ap (λ (f : ShelfFault). Err f) damaged) honest in
+    let met = c.verdict_at.ensures.damaged damaged honest in
     inr (record {
       row = c.in-Some.row;
       read = subst (ReadsIntersection tables c.args.id) c.in-Some.is (c.in_ok-row.ensures.row first);

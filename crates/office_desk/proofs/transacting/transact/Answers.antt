@@ -1,6 +1,5 @@
-use Rattle.std.proofs.Common.{◌∙◌, Err, Option, Some, None, ap, subst}
+use Rattle.std.proofs.Common.{Option, Some, None, subst}
 use Rattle.std.specs.Prelude.{IfSome}
-use Rattle.office_tables_shelf.specs.declared.shelf.ShelfFault.{ShelfFault}
 use Rattle.draft_core.specs.declared.timing.Reach.{Reach}
 use Rattle.office_desk.specs.Damage.{HasDamageIn}
 use Rattle.office_desk.specs.Reading.{FindsAny, ListsFound}
@@ -12,11 +11,10 @@ use Rattle.office_desk.proofs.transacting.transact.Goals as goal
 pub returns-in_err-found-clause-decides : goal.returns-in_err-found-clause-decides
 returns-in_err-found-clause-decides g c =
     let tables = g.S.Shelf.content c.args.shelf.now in
-    fault_decides _ _ _ c.in_err-found.field-0.0 _ c.from_residual.ensures.1
+    fault_decides _ _ _ _ _ _ c.in_err-found.was c.from_residual.ensures.1
     (λ damaged honest. meets _ _ _ c.args.ask (subst
     (λ (r : Reach). HasDamageIn r tables c.args.id) c.reach.ensures
-    (c.find.ensures.damaged (c.in_err-found.was
-    ∙ ap (λ (f : ShelfFault). Err f) damaged) honest)))
+    (c.find.ensures.damaged damaged honest)))
 
 pub returns-in_default-clause-decides : goal.returns-in_default-clause-decides
 returns-in_default-clause-decides g c =
@@ -42,6 +40,6 @@ returns-clause-decides g c =
     (subst (λ (o : Option Found). IfSome o (ListsFound c.reach.result tables c.args.id))
     c.in-Some.is (c.in_ok-found.ensures.listed honest)))
     c.decision-decision.ensures.line c.decision-decision.ensures.bounds
-    c.decision-decision.ensures.refuses
+    c.decision-decision.ensures.news c.decision-decision.ensures.refuses
     (λ honest. subst (λ (r : Reach). ¬ HasDamageIn r tables c.args.id) c.reach.ensures
     (c.in_ok-found.ensures.whole honest)) c.answer.ensures.writes c.answer.ensures.fault

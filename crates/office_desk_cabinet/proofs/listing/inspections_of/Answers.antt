@@ -1,16 +1,12 @@
-use Rattle.std.proofs.Common.{subst, sym}
 use Rattle.office_tables_shelf.proofs.ListedRows.{inspections_whole}
-use Rattle.office_tables_shelf.specs.CabinetReads.{ListsInspections}
 use Rattle.office_desk_cabinet.proofs.InOrder.{inspections_in_order}
 use Rattle.office_desk_cabinet.proofs.listing.inspections_of.Goals as goal
 
 pub returns-clause-rows : goal.returns-clause-rows
 returns-clause-rows g c = λ honest.
-    let tables = g.S.Shelf.content c.args.shelf.now in
     let lists = c.in_ok-list.ensures.rows honest in
-    subst (λ list. ListsInspections tables c.args.id list)
-    (sym (c.new.ensures.same (inspections_in_order tables c.args.id c.in_ok-list.list.items lists
-    (c.in_ok-list.ensures.within honest)))) lists
+    rw (c.new.ensures.same (inspections_in_order (g.S.Shelf.content c.args.shelf.now) c.args.id
+    c.in_ok-list.list.items lists (c.in_ok-list.ensures.within honest))) lists
 
 pub returns-clause-whole : goal.returns-clause-whole
 returns-clause-whole g c = λ honest.

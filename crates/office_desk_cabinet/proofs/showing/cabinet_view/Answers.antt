@@ -1,9 +1,8 @@
-use Rattle.std.proofs.Common.{◌∙◌, subst}
+use Rattle.std.proofs.Common.{◌∙◌, ⊎_elim, subst}
 use Rattle.office_tables_shelf.specs.CabinetReads.{HasDamagedOrder, HasDamagedUsed, ListsOrders}
 use Rattle.office_tables_shelf.specs.CabinetReads.{ListsUsed}
 use Rattle.office_desk_cabinet.proofs.ListedRecords.{inspections_listed, orders_listed}
 use Rattle.office_desk_cabinet.proofs.ListedRecords.{lines_listed}
-use Rattle.office_desk_cabinet.proofs.WholeRecords.{neither}
 use Rattle.office_desk_cabinet.proofs.showing.cabinet_view.Goals as goal
 
 pub returns-clause-shows : goal.returns-clause-shows
@@ -32,6 +31,6 @@ returns-clause-whole g c = λ honest.
     let first = c.orders_of.ensures.kept.honest_before second in
     let same_first = c.inspections_of.ensures.kept.same_content first in
     let same_second = c.orders_of.ensures.kept.same_content second ∙ same_first in
-    neither (c.in_ok-inspections.ensures.whole first)
-    (neither (subst (λ t. ¬ HasDamagedOrder t id) same_first (c.in_ok-orders.ensures.whole second))
+    ⊎_elim (c.in_ok-inspections.ensures.whole first)
+    (⊎_elim (subst (λ t. ¬ HasDamagedOrder t id) same_first (c.in_ok-orders.ensures.whole second))
     (subst (λ t. ¬ HasDamagedUsed t id) same_second (c.in_ok-lines.ensures.whole honest)))

@@ -1,24 +1,28 @@
-use Rattle.std.proofs.Common.{Some, subst}
-use Rattle.office_tables_shelf.specs.CabinetReads.{ReadsHand}
-use Rattle.office_desk_cabinet.specs.Puts.{Puts}
-use Rattle.office_desk_cabinet.proofs.Opened.{no_hand, unread_stays}
-use Rattle.office_desk_cabinet.proofs.WholeRecords.{hand_whole}
+use Rattle.std.proofs.Common.{Some}
+use Rattle.office_desk_cabinet.proofs.Opened.{unread_stays}
+use Rattle.office_desk_cabinet.proofs.PendingLemmas.{nothing_put}
+use Rattle.office_desk_cabinet.proofs.Places.{Part, whole_at}
 use Rattle.office_desk_cabinet.proofs.standing.hand_at.Goals as goal
 
 pub returns-in-Some-clause-row : goal.returns-in-Some-clause-row
 returns-in-Some-clause-row g c = λ honest.
-    subst (Puts (λ tables there. ReadsHand tables c.args.part.now there) c.args.pending.now) c.in-Some.is c.hand.ensures (g.S.Shelf.content c.args.shelf.now)
+    (rw c.in-Some.is at c.hand.ensures) (g.S.Shelf.content c.args.shelf.now)
 
 pub returns-clause-row : goal.returns-clause-row
-returns-clause-row g c = λ honest.
-    subst (Puts (λ tables there. ReadsHand tables c.args.part.now there) c.args.pending.now) c.in_default.is c.hand.ensures (g.S.Shelf.content c.args.shelf.now) c.in_ok-before.before (c.in_ok-before.ensures.row honest)
+returns-clause-row g c = λ honest. (rw c.in_default.is at c.hand.ensures)
+    (g.S.Shelf.content c.args.shelf.now) c.in_ok-before.before (c.in_ok-before.ensures.row honest)
 
 pub returns-in-Some-clause-whole : goal.returns-in-Some-clause-whole
-returns-in-Some-clause-whole g c = λ honest. hand_whole _ c.args.part.now (Some c.in-Some.put) (returns-in-Some-clause-row g c honest) c.any_hand_is_within.ensures
+returns-in-Some-clause-whole g c = λ honest.
+    whole_at _ (Part c.args.part.now) (Some c.in-Some.put) (returns-in-Some-clause-row g c honest)
+    c.any_hand_is_within.ensures
 
 pub returns-clause-whole : goal.returns-clause-whole
-returns-clause-whole g c = λ honest. hand_whole _ c.args.part.now c.in_ok-before.before (returns-clause-row g c honest) c.any_hand_is_within-2.ensures
+returns-clause-whole g c = λ honest.
+    whole_at _ (Part c.args.part.now) c.in_ok-before.before (returns-clause-row g c honest)
+    c.any_hand_is_within-2.ensures
 
 pub returns-in-Some-clause-open : goal.returns-in-Some-clause-open
-returns-in-Some-clause-open g c = unread_stays _ _ _ _ _ (λ none told. absurd (no_hand c.args.pending.now c.args.part.now c.in-Some.put
-    (subst (Puts (λ tables there. ReadsHand tables c.args.part.now there) c.args.pending.now) c.in-Some.is c.hand.ensures) none))
+returns-in-Some-clause-open g c = unread_stays _ _ _ _ _ (λ none told. absurd
+    (nothing_put (Part c.args.part.now) c.args.pending.now c.in-Some.put
+    (rw c.in-Some.is at c.hand.ensures) none))

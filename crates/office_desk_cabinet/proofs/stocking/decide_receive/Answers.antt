@@ -1,11 +1,10 @@
-use Rattle.std.proofs.Common.{subst}
+use Rattle.std.proofs.Common.{⊎_elim, subst}
 use Rattle.cabinet_core.specs.Cabinet.{receive_line}
 use Rattle.cabinet_core.specs.declared.command.RecordCommand.TheVariants.{Receive}
 use Rattle.office_tables_shelf.specs.CabinetReads.{HasDamagedDelivery, ReadsDelivery}
 use Rattle.office_tables_shelf.specs.Change.{changed_by}
 use Rattle.office_desk_cabinet.proofs.Decided.{decided}
 use Rattle.office_desk_cabinet.proofs.Stocked.{received_tells}
-use Rattle.office_desk_cabinet.proofs.WholeRecords.{neither}
 use Rattle.office_desk_cabinet.proofs.stocking.decide_receive.Goals as goal
 
 pub returns-clause-decides : goal.returns-clause-decides
@@ -26,7 +25,7 @@ returns-clause-decides g c =
         c.in_ok-hand.ensures.row at_hand,
       );
       whole =
-          neither (subst (λ t. ¬ HasDamagedDelivery (changed_by t pending) asked.part asked.number)
+          ⊎_elim (subst (λ t. ¬ HasDamagedDelivery (changed_by t pending) asked.part asked.number)
           first (c.in_ok-there.ensures.whole honest)) (c.in_ok-hand.ensures.whole at_hand);
     })
     says.line (says.makes 0)

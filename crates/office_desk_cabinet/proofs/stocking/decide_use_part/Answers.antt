@@ -1,10 +1,9 @@
-use Rattle.std.proofs.Common.{subst, ◌∙◌}
+use Rattle.std.proofs.Common.{⊎_elim, subst, ◌∙◌}
 use Rattle.cabinet_core.specs.declared.command.RecordCommand.TheVariants.{UsePart}
 use Rattle.office_tables_shelf.specs.CabinetReads.{ReadsUsed, ReadsOrder}
 use Rattle.office_tables_shelf.specs.CabinetReads.{HasDamagedOrderAt, HasDamagedUsedAt}
 use Rattle.office_tables_shelf.specs.Change.{changed_by}
 use Rattle.office_desk_cabinet.proofs.Decided.{decided}
-use Rattle.office_desk_cabinet.proofs.WholeRecords.{neither}
 use Rattle.office_desk_cabinet.proofs.stocking.decide_use_part.Goals as goal
 
 pub returns-clause-decides : goal.returns-clause-decides
@@ -32,9 +31,9 @@ returns-clause-decides g c =
         c.in_ok-hand.ensures.row at_hand,
       );
       whole =
-          neither (subst (λ t. ¬ HasDamagedUsedAt (changed_by t pending) id n asked.line) first
+          ⊎_elim (subst (λ t. ¬ HasDamagedUsedAt (changed_by t pending) id n asked.line) first
           (c.in_ok-there.ensures.whole at_line))
-          (neither (subst (λ t. ¬ HasDamagedOrderAt (changed_by t pending) id n) second
+          (⊎_elim (subst (λ t. ¬ HasDamagedOrderAt (changed_by t pending) id n) second
           (c.in_ok-order.ensures.whole honest)) (c.in_ok-hand.ensures.whole at_hand));
     })
     says.line (says.makes id) c.registered.ensures.tells c.registered.ensures.fault

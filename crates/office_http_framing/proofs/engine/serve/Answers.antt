@@ -9,7 +9,7 @@ use Rattle.office_http_framing.proofs.AskLemmas.{AsksSoFar, asks-start, asks-nex
 use Rattle.office_http_framing.proofs.EndLemmas.{Grows-refl, Grows-trans, Rose-after, Rose-empty}
 use Rattle.office_http_framing.proofs.StopLemmas.{ran-start, ran-next}
 use Rattle.office_http_framing.proofs.StreamLemmas.{request-bound, incomplete-bound}
-use Rattle.office_http_framing.proofs.ServeLemmas.{Progress-start, Progress-more, Progress-next, Progress-as, Did-ended, Did-broken, Did-nothing, all_taken, one_more_taken, one_more_begun, written_whole, written_in_part, Consumes-none, Consumes-from_Keeps, left_after-last, left_after-other}
+use Rattle.office_http_framing.proofs.ServeLemmas.{Progress-start, Progress-more, Progress-next, Progress-as, Did-ended, Did-broken, Did-nothing, all_taken, one_more_taken, one_more_begun, written_whole, written_in_part, Consumes-none, Consumes-from_Keeps}
 use Rattle.office_http_framing.proofs.engine.serve.Goals as goal
 
 pub loop-left-init : goal.loop-left-init
@@ -38,9 +38,7 @@ returns-then-is_err-clause-did g c clean before held keeps =
       step.1,
       step.2,
       Did-broken g.M.Machine.protocol _ c.args.max_requests c.loop-left.requests c.loop-left.left c.loop-left.buffer
-          (ends_of (g.R.Source.told c.args.reader.now) (g.W.Sink.told c.args.writer.now))
-          (ends_of (g.R.Source.told c.loop-left.reader) (g.W.Sink.told c.loop-left.writer))
-          (ends_of (g.R.Source.told c.loop-left.reader) (g.W.Sink.told c.serve_request.new.writer)) so_far.2 _ (plain c.in-Whole.request) c.in-Whole.length step.0 c.loop-left-test.true whole
+          _ (ends_of (g.R.Source.told c.loop-left.reader) (g.W.Sink.told c.loop-left.writer)) _ so_far.2 _ (plain c.in-Whole.request) c.in-Whole.length step.0 c.loop-left-test.true whole
           (ran-next g.M.Machine.protocol g.M.Machine.storage _ held _ before c.loop-left.machine c.serve_request.new.machine so_far.1 step.2 so_far.0 (plain c.in-Whole.request) step.0 step.1 step.3 step.4)
           (Consumes-nil _) (written_in_part c.serve_request.result _ _ step.0 (sym c.if-is_err.ensures.value) step.5),
     )
@@ -48,8 +46,8 @@ returns-then-is_err-clause-did g c clean before held keeps =
 omega_length : (held : List ℕ) (len : ℕ) (rest : List ℕ) → rest ≡ drop len held → length rest ≡ length held - len
 omega_length held len rest is = ap length is ∙ length-drop len held
 
-pub loop-left-preserved-then-last : goal.loop-left-preserved-then-last
-loop-left-preserved-then-last g c =
+pub loop-left-preserved-in-Whole : goal.loop-left-preserved-in-Whole
+loop-left-preserved-in-Whole g c =
     let len = c.in-Whole.length in
     let buffer = c.loop-left.buffer in
     let request = plain c.in-Whole.request in
@@ -63,40 +61,12 @@ loop-left-preserved-then-last g c =
           let step = c.serve_request.ensures.step clean so_far.0 so_far.1 so_far.2.ran.keeps in (
             step.1,
             step.2,
-            Progress-as _ _ _ _ _ _ _ _ _ _ _ (left_after-last c.loop-left.left request c.if-last.true) (sym c.consume.ensures)
+            Progress-as _ _ _ _ _ _ _ _ _ _ _ (sym c.left_after-left.ensures.left) (sym c.consume.ensures)
                 (Progress-next _ c.args.max_requests c.loop-left.requests c.loop-left.left buffer (g.R.Source.told c.args.reader.now).bytes (g.R.Source.told c.loop-left.reader).bytes (g.W.Sink.told c.args.writer.now).bytes (g.W.Sink.told c.loop-left.writer).bytes so_far.2 _ request len step.0 (g.W.Sink.told c.serve_request.new.writer).bytes c.loop-left-test.true whole
                 (ran-next g.M.Machine.protocol g.M.Machine.storage _ held _ before c.loop-left.machine c.serve_request.new.machine so_far.1 step.2 so_far.0 request step.0 step.1 step.3 step.4)
                 (written_whole c.serve_request.result _ _ step.0 (sym c.if-is_err.ensures.value) step.5)),
           );
-      asks = asks-next _ _ _ buffer _ _ c.loop-left.invariant.asks request len _ _ c.loop-left-test.true whole (left_after-last c.loop-left.left request c.if-last.true) (sym c.consume.ensures);
-      room = omega (arith, c.loop-left.invariant.room);
-      held = omega (arith, c.loop-left.invariant.held, shorter);
-      reads = omega (arith, c.loop-left.invariant.reads, shorter, request-bound buffer request len whole);
-      reader = c.loop-left.invariant.reader;
-      writer = Grows-trans c.loop-left.invariant.writer c.serve_request.ensures.counts;
-    }
-
-pub loop-left-preserved-else-last : goal.loop-left-preserved-else-last
-loop-left-preserved-else-last g c =
-    let len = c.in-Whole.length in
-    let buffer = c.loop-left.buffer in
-    let request = plain c.in-Whole.request in
-    let whole : BeginsWithRequest buffer request len = subst (λ b. BeginsWithRequest b request len) c.held.ensures.bytes c.in-Whole.ensures in
-    let shorter = omega_length buffer len c.consume.new.self c.consume.ensures in
-    record {
-      clean = λ clean. c.loop-left.invariant.clean (c.serve_request.ensures.clean clean);
-      honest = λ honest. c.loop-left.invariant.honest (c.serve_request.ensures.honest honest);
-      progress = λ clean before held keeps.
-          let so_far = c.loop-left.invariant.progress (c.serve_request.ensures.clean clean) before held keeps in
-          let step = c.serve_request.ensures.step clean so_far.0 so_far.1 so_far.2.ran.keeps in (
-            step.1,
-            step.2,
-            Progress-as _ _ _ _ _ _ _ _ _ _ _ (left_after-other c.loop-left.left request c.if-last.false) (sym c.consume.ensures)
-                (Progress-next _ c.args.max_requests c.loop-left.requests c.loop-left.left buffer (g.R.Source.told c.args.reader.now).bytes (g.R.Source.told c.loop-left.reader).bytes (g.W.Sink.told c.args.writer.now).bytes (g.W.Sink.told c.loop-left.writer).bytes so_far.2 _ request len step.0 (g.W.Sink.told c.serve_request.new.writer).bytes c.loop-left-test.true whole
-                (ran-next g.M.Machine.protocol g.M.Machine.storage _ held _ before c.loop-left.machine c.serve_request.new.machine so_far.1 step.2 so_far.0 request step.0 step.1 step.3 step.4)
-                (written_whole c.serve_request.result _ _ step.0 (sym c.if-is_err.ensures.value) step.5)),
-          );
-      asks = asks-next _ _ _ buffer _ _ c.loop-left.invariant.asks request len _ _ c.loop-left-test.true whole (left_after-other c.loop-left.left request c.if-last.false) (sym c.consume.ensures);
+      asks = asks-next _ _ _ buffer _ _ c.loop-left.invariant.asks request len _ _ c.loop-left-test.true whole (sym c.left_after-left.ensures.left) (sym c.consume.ensures);
       room = omega (arith, c.loop-left.invariant.room);
       held = omega (arith, c.loop-left.invariant.held, shorter);
       reads = omega (arith, c.loop-left.invariant.reads, shorter, request-bound buffer request len whole);
@@ -112,9 +82,7 @@ returns-then-is_err-2-clause-did g c clean before held keeps =
       so_far.0,
       so_far.1,
       Did-ended g.M.Machine.protocol _ c.args.max_requests c.loop-left.requests c.loop-left.left c.loop-left.buffer
-          (ends_of (g.R.Source.told c.args.reader.now) (g.W.Sink.told c.args.writer.now))
-          (ends_of (g.R.Source.told c.loop-left.reader) (g.W.Sink.told c.loop-left.writer))
-          (ends_of (g.R.Source.told c.loop-left.reader) (g.W.Sink.told c.serve_fault.new.writer)) so_far.2 _ (closing.0 ∷ []) (Consumes-nil _)
+          _ (ends_of (g.R.Source.told c.loop-left.reader) (g.W.Sink.told c.loop-left.writer)) _ so_far.2 _ (closing.0 ∷ []) (Consumes-nil _)
           (refl, inr (c.in-Bad.fault, (c.loop-left-test.true, at_fault), (closing.0, closing.1, refl)))
           (λ answers taken. one_more_begun _ _ _ answers closing.0 taken (written_in_part c.serve_fault.result _ _ closing.0 (sym c.if-is_err-2.ensures.value) closing.2)),
     )
@@ -127,9 +95,7 @@ returns-in-Bad-clause-did g c clean before held keeps =
       so_far.0,
       so_far.1,
       Did-ended g.M.Machine.protocol _ c.args.max_requests c.loop-left.requests c.loop-left.left c.loop-left.buffer
-          (ends_of (g.R.Source.told c.args.reader.now) (g.W.Sink.told c.args.writer.now))
-          (ends_of (g.R.Source.told c.loop-left.reader) (g.W.Sink.told c.loop-left.writer))
-          (ends_of (g.R.Source.told c.loop-left.reader) (g.W.Sink.told c.serve_fault.new.writer)) so_far.2 _ (closing.0 ∷ []) (Consumes-nil _)
+          _ (ends_of (g.R.Source.told c.loop-left.reader) (g.W.Sink.told c.loop-left.writer)) _ so_far.2 _ (closing.0 ∷ []) (Consumes-nil _)
           (refl, faulty c.in-Bad.fault, (c.loop-left-test.true, at_fault), (closing.0, closing.1, refl), λ not_so. cc)
           (λ answers taken. one_more_taken _ _ _ answers closing.0 taken (written_whole c.serve_fault.result _ _ closing.0 (sym c.if-is_err-2.ensures.value) closing.2)),
     )
@@ -147,9 +113,7 @@ returns-in-Ok-eq0-clause-did g c clean before held keeps =
       so_far.0,
       so_far.1,
       Did-ended g.M.Machine.protocol _ c.args.max_requests c.loop-left.requests c.loop-left.left c.loop-left.buffer
-          (ends_of (g.R.Source.told c.args.reader.now) (g.W.Sink.told c.args.writer.now))
-          (ends_of (g.R.Source.told c.loop-left.reader) (g.W.Sink.told c.loop-left.writer))
-          (ends_of (g.R.Source.told c.fill.new.source) (g.W.Sink.told c.loop-left.writer)) so_far.2 _ [] (Consumes-none _ _ bytes.0 (bytes.1 ∙ c.in-Ok-eq0.field-0-test) bytes.3) (
+          _ (ends_of (g.R.Source.told c.loop-left.reader) (g.W.Sink.told c.loop-left.writer)) _ so_far.2 _ [] (Consumes-none _ _ bytes.0 (bytes.1 ∙ c.in-Ok-eq0.field-0-test) bytes.3) (
             refl,
             unfinished,
             (c.loop-left-test.true, incomplete),
@@ -166,9 +130,7 @@ returns-in-Err-clause-did g c clean before held keeps =
       so_far.0,
       so_far.1,
       Did-ended g.M.Machine.protocol _ c.args.max_requests c.loop-left.requests c.loop-left.left c.loop-left.buffer
-          (ends_of (g.R.Source.told c.args.reader.now) (g.W.Sink.told c.args.writer.now))
-          (ends_of (g.R.Source.told c.loop-left.reader) (g.W.Sink.told c.loop-left.writer))
-          (ends_of (g.R.Source.told c.fill.new.source) (g.W.Sink.told c.loop-left.writer)) so_far.2 _ [] (Consumes-from_Keeps _ _ c.in-Err.ensures.bytes.1)
+          _ (ends_of (g.R.Source.told c.loop-left.reader) (g.W.Sink.told c.loop-left.writer)) _ so_far.2 _ [] (Consumes-from_Keeps _ _ c.in-Err.ensures.bytes.1)
           (refl, (c.loop-left-test.true, incomplete), refl) (λ answers taken. all_taken _ _ answers taken),
     )
 
@@ -220,9 +182,7 @@ returns-clause-did g c clean before held keeps =
       so_far.0,
       so_far.1,
       Did-ended g.M.Machine.protocol _ c.args.max_requests c.loop-left.requests c.loop-left.left c.loop-left.buffer
-          (ends_of (g.R.Source.told c.args.reader.now) (g.W.Sink.told c.args.writer.now))
-          (ends_of (g.R.Source.told c.loop-left.reader) (g.W.Sink.told c.loop-left.writer))
-          (ends_of (g.R.Source.told c.loop-left.reader) (g.W.Sink.told c.loop-left.writer)) so_far.2 _ [] (Consumes-nil _)
+          _ (ends_of (g.R.Source.told c.loop-left.reader) (g.W.Sink.told c.loop-left.writer)) _ so_far.2 _ [] (Consumes-nil _)
           (refl, closed, none, refl, λ not_so. cc) (λ answers taken. all_taken _ _ answers taken),
     )
 

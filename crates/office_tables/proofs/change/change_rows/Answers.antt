@@ -3,8 +3,7 @@ use Rattle.std.proofs.lemmas.List.{drop_more}
 use Rattle.office_tables_shelf.specs.Change.{changed, changed_by}
 use Rattle.office_tables_sql.specs.Stored.{content_now}
 use Rattle.sqlite.specs.Held.{state}
-use Rattle.sqlite.proofs.StateLemmas.{survives_then}
-use Rattle.office_tables_sql.proofs.CallLemmas.{stands_then}
+use Rattle.office_tables_sql.proofs.CallLemmas.{stands_then, survives_on}
 use Rattle.office_tables_open.proofs.VersionLemmas.{none_left}
 use Rattle.office_tables.proofs.change.change_rows.Goals as goal
 
@@ -17,7 +16,7 @@ loop-change-preserved g c =
     let it = c.in_ok-change_row.ensures in (
       it.same_reference ∙ was.0,
       stands_then old mid new was.1 it.stands,
-      survives_then old mid new (λ _. ⊥) (λ _. ⊥) (λ _. ⊥) (λ _ db none. none) (λ _ db none. none) was.2 it.crash,
+      survives_on old mid new was.2 it.crash,
       λ clean. inr (was.1.honest (c.in_ok-change_row.ensures.honest clean)),
       λ clean ready.
           let before = was.4 (omega (arith, clean, it.crash.clean)) ready in

@@ -1,10 +1,11 @@
 use Rattle.std.proofs.Common.{sym, ◌∙◌}
+use Rattle.std.proofs.lemmas.Bool.{not-true}
 use Rattle.sqlite.specs.Held.{state}
-use Rattle.office_tables_open.proofs.OpenLemmas.{arranged_office, not_true}
+use Rattle.office_tables_open.proofs.OpenLemmas.{arranged_office}
 use Rattle.office_tables.proofs.migrate.migrate.Goals as goal
 
 pub stored_version-requires : goal.stored_version-requires
 stored_version-requires g c =
     let s = state g.S.Store c.args.conn.now in
-    arranged_office s (not_true s.in_transaction (sym c.is_autocommit.ensures.value ∙ c.if-not-is_autocommit.false)) (sym c.schema.ensures.value ∙ c.is_office.ensures.is c.if-not-is_office.false)
+    arranged_office s (not-true s.in_transaction (sym c.is_autocommit.ensures.value ∙ c.if-not-is_autocommit.false)) (sym c.schema.ensures.value ∙ c.is_office.ensures.is c.if-not-is_office.false)
     (λ h. c.is_autocommit.ensures.settled c.if-not-is_autocommit.false h.1) (λ h. (c.schema.ensures.live h.1).0) c.requires

@@ -4,10 +4,11 @@ use Rattle.sqlite.specs.Held.{state}
 use Rattle.sqlite_trees.specs.Objects.{catalog_tree}
 use Rattle.sqlite_catalog.specs.Listing.{AreListed}
 use Rattle.office_tables_sql.specs.Schema.{no_schema}
-use Rattle.office_tables_open.proofs.BlankLemmas.{blank_rows, blank_unclaimed}
+use Rattle.office_tables_open.proofs.FoundLemmas.{blank_rows, blank_unclaimed}
 use Rattle.office_tables_open.proofs.LeftLemmas.{made_left, refused_given, refused_left}
-use Rattle.office_tables_open.proofs.OpenLemmas.{arranged_office, not_true}
+use Rattle.office_tables_open.proofs.OpenLemmas.{arranged_office}
 use Rattle.office_tables_open.proofs.open.prepared.Goals as goal
+use Rattle.std.proofs.lemmas.Bool.{not-true}
 
 pub returns-in-Ok-clause-made : goal.returns-in-Ok-clause-made
 returns-in-Ok-clause-made g c made honest =
@@ -35,7 +36,7 @@ returns-in-Err-clause-refused g c =
 pub returns-then-is_office-clause-office : goal.returns-then-is_office-clause-office
 returns-then-is_office-clause-office g c =
     let s = state g.S.Store c.args.conn in
-    arranged_office s (not_true s.in_transaction (sym c.is_autocommit.ensures.value ∙ c.if-not-is_autocommit.false)) (sym c.schema-2.ensures.value ∙ c.is_office.ensures.is c.if-is_office.true)
+    arranged_office s (not-true s.in_transaction (sym c.is_autocommit.ensures.value ∙ c.if-not-is_autocommit.false)) (sym c.schema-2.ensures.value ∙ c.is_office.ensures.is c.if-is_office.true)
     (λ h. c.is_autocommit.ensures.settled c.if-not-is_autocommit.false h.1) (λ h. (c.schema.ensures.live h.1).0) c.requires
 
 pub returns-then-not-is_autocommit-clause-refused : goal.returns-then-not-is_autocommit-clause-refused

@@ -2,8 +2,7 @@ use Rattle.std.proofs.Common.{◌≡◌, true, inl, inr, map, refl, sym, subst, 
 use Rattle.std.proofs.lemmas.Bool.{cases_Bool}
 use Rattle.std.proofs.lemmas.List.{drop_more, drop_all}
 use Rattle.sqlite.specs.Held.{state}
-use Rattle.sqlite.proofs.StateLemmas.{survives_then}
-use Rattle.office_tables_sql.proofs.CallLemmas.{ran_stands, stands_then}
+use Rattle.office_tables_sql.proofs.CallLemmas.{ran_stands, stands_then, survives_on}
 use Rattle.office_tables_open.specs.Opening.{AreRun}
 use Rattle.office_tables_open.proofs.open.run_all.Goals as goal
 
@@ -17,7 +16,7 @@ loop-sql-preserved g c =
     let inside : old.in_transaction ≡ true = elim (cases_Bool old.in_transaction) [ inl on ↦ on | inr off ↦ absurd (let e = (it.ended off).0 in cc) ] in (
       it.same_reference ∙ was.0,
       stands_then first (state g.S.Store old) (state g.S.Store new) was.1 (ran_stands 0 _ _ (state g.S.Store old) (state g.S.Store new) it.survives.clean c.in_ok-execute.field-0 (λ clean. it.runs clean (rw inside))),
-      survives_then first (state g.S.Store old) (state g.S.Store new) (λ _. ⊥) (λ _. ⊥) (λ _. ⊥) (λ _ db none. none) (λ _ db none. none) was.2 it.survives,
+      survives_on first (state g.S.Store old) (state g.S.Store new) was.2 it.survives,
       λ clean begun.
           let before = was.3 (omega (arith, clean, it.survives.clean)) begun in
           let ran = it.runs clean (rw inside) in (

@@ -1,12 +1,10 @@
-use Rattle.std.proofs.Common.{◌≡◌, true, Some, refl, ap, subst, ◌∙◌, rules, arith}
+use Rattle.std.proofs.Common.{◌≡◌, true, Some, refl, subst, rules}
 use Rattle.sqlite.specs.Tree.{Trees}
 use Rattle.sqlite.specs.Held.{state}
-use Rattle.sqlite.proofs.StateLemmas.{survives_then}
-use Rattle.sqlite.proofs.Callers.{survives_begin}
 use Rattle.sqlite.specs.State.{HasCleanDisk, Survives}
 use Rattle.office_tables_sql.specs.Calls.{IsHonest, IsOffice, IsReady}
 use Rattle.office_tables_sql.specs.Stored.{content_now, content_of}
-use Rattle.office_tables_sql.proofs.CallLemmas.{undone_office, begun_stands, failed_commit}
+use Rattle.office_tables_sql.proofs.CallLemmas.{ended_survives, undone_office, begun_stands, failed_commit}
 use Rattle.office_tables_open.specs.Version.{version_in, current_version}
 use Rattle.office_tables_open.proofs.version.store_version.Goals as goal
 
@@ -31,11 +29,10 @@ returns-in_err-commit-clause-crash g c =
     let begun = c.transaction-tx.ensures.begun in
     let it = c.in_ok-put_version.ensures in
     let P = λ (trees : Trees). IsHonest (state g.S.Store old) × (content_of trees ≡ content_now (state g.S.Store old)) × (version_in trees ≡ Some current_version) in
-    let whole = survives_then (state g.S.Store old) (state g.S.Store mid) (state g.S.Store c.commit.new.self.0) _ _ P (λ _ db none. absurd none) (λ clean db is.
-    let early : HasCleanDisk (state g.S.Store mid) = omega (arith, clean, c.commit.ensures.survives.clean) in
-    let honest : IsHonest (state g.S.Store old) = rw begun at (it.honest early) in
+    let whole = ended_survives g.S.Store old mid (state g.S.Store c.commit.new.self.0) P
+    (rw begun at it.crash) c.commit.ensures.survives (λ clean.
+    let honest : IsHonest (state g.S.Store old) = rw begun at (it.honest clean) in
     let ready : IsReady (state g.S.Store (record old { in_transaction = true })) = record { inside = refl; schema = c.requires.schema honest; ordered = c.requires.ordered honest; sound = c.requires.sound honest } in
-    (honest, ap content_of is ∙ (rw begun at (it.same early)) ready, ap version_in is ∙ (rw begun at (it.stored early)) ready))
-    (survives_begin g.S.Store old (state g.S.Store mid) _ (rw begun at it.crash)) c.commit.ensures.survives in
+    (honest, (rw begun at (it.same clean)) ready, (rw begun at (it.stored clean)) ready)) in
     let same : c.commit.new.self.0 ≡ c.conn-2-1.given.0 = search rules in
     subst (λ h. Survives (state g.S.Store old) (state g.S.Store h) P) same whole

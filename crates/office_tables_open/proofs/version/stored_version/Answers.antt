@@ -4,7 +4,8 @@ use Rattle.std.proofs.lemmas.Result.{IfOk-weaker}
 use Rattle.sqlite.specs.declared.types.Value.TheVariants.{Int}
 use Rattle.sqlite.specs.Held.{state}
 use Rattle.office_tables_sql.specs.Calls.{Reads}
-use Rattle.office_tables_open.proofs.StatementLemmas.{find_version_text, find_version_is, find_version, version_width}
+use Rattle.office_tables_open.specs.declared.version.TheConstants.{FIND}
+use Rattle.office_tables_open.proofs.VersionLemmas.{find_version_is, find_version, version_width}
 use Rattle.office_tables_open.proofs.version.stored_version.Goals as goal
 
 pub select_one-requires-clause-query : goal.select_one-requires-clause-query
@@ -13,11 +14,11 @@ select_one-requires-clause-query g c = find_version_is.query
 pub returns-clause-found : goal.returns-clause-found
 returns-clause-found g c honest =
     let db = (state g.S.Store c.args.conn.now).now in
-    IfOk-weaker c.select_one.result (λ row. Reads find_version_text (Int (pos 1) ∷ []) db (option_to_list row)) _
+    IfOk-weaker c.select_one.result (λ row. Reads FIND.now (Int (pos 1) ∷ []) db (option_to_list row)) _
     (find_version db (c.requires.ordered (c.select_one.ensures.kept.honest honest)).1.1.1.1.1.1.1.1.0) (rw c.params-to_sql.ensures at (c.select_one.ensures.row honest))
 
 pub returns-clause-width : goal.returns-clause-width
 returns-clause-width g c honest =
     let db = (state g.S.Store c.args.conn.now).now in
-    IfOk-weaker c.select_one.result (λ row. Reads find_version_text (Int (pos 1) ∷ []) db (option_to_list row)) _
+    IfOk-weaker c.select_one.result (λ row. Reads FIND.now (Int (pos 1) ∷ []) db (option_to_list row)) _
     (version_width db) (rw c.params-to_sql.ensures at (c.select_one.ensures.row honest))

@@ -8,6 +8,6 @@ use Rattle.office_tables_shelf.proofs.map_cabinet.lines_of.Given as goal
 abbrev pub invariant-loop-place : goal.invariant-loop-place
 invariant-loop-place l = record {
   so_far : l.list.items ++ records_under line_inter l.inter l.place-iterator
-      ≡ records_under line_inter l.inter l.rows.entries;
+      ≡ records_under line_inter l.inter l.initial.place-iterator;
   within : AllByRecursion IsUsedLineWithin l.list.items;
 }

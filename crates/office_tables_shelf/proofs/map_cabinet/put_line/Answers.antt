@@ -13,4 +13,4 @@ returns-clause-rows c =
 pub returns-clause-placed : goal.returns-clause-placed
 returns-clause-placed c = λ placed.
     rw c.in_ok-insert.ensures.entries
-    (standing_put line_cmp line_exact IsUsedAt c.args.rows.now.entries (record { inter = c.args.inter; order = c.args.used.order; line = c.args.used.line }) c.args.used (refl, refl) placed)
+    (standing_put line_cmp line_exact IsUsedAt c.args.rows.now.entries (record { inter = c.args.inter; order = c.args.used.order; line = c.args.used.line }) c.args.used (refl, (refl, c.used_line_is_within.ensures)) placed)

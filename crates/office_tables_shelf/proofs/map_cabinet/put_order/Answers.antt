@@ -13,4 +13,4 @@ returns-clause-rows c =
 pub returns-clause-placed : goal.returns-clause-placed
 returns-clause-placed c = λ placed.
     rw c.in_ok-insert.ensures.entries
-    (standing_put record_cmp record_exact IsOrderAt c.args.rows.now.entries (record { inter = c.args.inter; number = c.args.order.number }) c.args.order refl placed)
+    (standing_put record_cmp record_exact IsOrderAt c.args.rows.now.entries (record { inter = c.args.inter; number = c.args.order.number }) c.args.order (refl, c.order_is_within.ensures) placed)

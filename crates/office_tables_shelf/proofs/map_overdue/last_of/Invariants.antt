@@ -11,7 +11,8 @@ use Rattle.office_tables_shelf.proofs.map_overdue.last_of.Given as goal
 abbrev pub invariant-loop-place : goal.invariant-loop-place
 invariant-loop-place l = record {
   latest : latest_with l.last (latest_day (records_under record_inter l.inter l.place-iterator))
-      ≡ latest_day (records_under record_inter l.inter l.rows.entries);
+      ≡ latest_day (records_under record_inter l.inter l.initial.place-iterator);
   within : AllByRecursion IsInspectionWithin (records_under record_inter l.inter l.place-iterator)
-      → AllByRecursion IsInspectionWithin (records_under record_inter l.inter l.rows.entries);
+      → AllByRecursion IsInspectionWithin
+      (records_under record_inter l.inter l.initial.place-iterator);
 }

@@ -1,8 +1,7 @@
-use Rattle.std.proofs.Common.{◌≡◌, ◌∙◌}
+use Rattle.std.proofs.Common.{◌∙◌, sym, subst}
+use Rattle.signal_records.specs.Within.{current_limits, IsKeyWithin}
 use Rattle.std.specs.FinMap.{insert}
-use Rattle.std.specs.Prelude.{IfSome}
-use Rattle.signal_records.specs.Row.{key_of}
-use Rattle.office_tables_shelf.specs.MapShelf.{place_key, draft_rows}
+use Rattle.office_tables_shelf.specs.MapShelf.{place_key, draft_rows, IsLeftAt}
 use Rattle.office_tables_shelf.specs.Rows.{timing_key, left_columns}
 use Rattle.office_tables_shelf.proofs.PlaceLemmas.{standing_inserted, left_stands}
 use Rattle.office_tables_shelf.proofs.TreeLemmas.{place_cmp, place_ties, insert_tree}
@@ -16,5 +15,5 @@ returns-clause-rows c =
 pub returns-clause-placed : goal.returns-clause-placed
 returns-clause-placed c = λ placed.
     rw c.in_ok-insert.ensures.entries
-    (standing_inserted (λ key left. IfSome left (λ row. key_of row ≡ key)) c.args.rows.now.entries (record { inter = c.args.inter; key = c.key_of_change-key.result }) c.in_ok-left.left
-    (left_stands c.args.change.now c.key_of_change-key.result c.in_ok-left.left c.key_of_change-key.ensures c.in_ok-left.ensures) placed)
+    (standing_inserted IsLeftAt c.args.rows.now.entries (record { inter = c.args.inter; key = c.key_of_change-key.result }) c.in_ok-left.left
+    (left_stands c.args.change.now c.key_of_change-key.result c.in_ok-left.left c.key_of_change-key.ensures c.in_ok-left.ensures, subst (IsKeyWithin current_limits) (c.key_of_change.ensures ∙ sym c.key_of_change-key.ensures) c.key_is_within.ensures) placed)

@@ -1,8 +1,9 @@
 use Rattle.signal_records.specs.Row.{key_of}
-use Rattle.office_tables_shelf.specs.MapShelf.{place_key}
+use Rattle.office_tables_shelf.specs.MapShelf.{place_key, IsRowAt}
 use Rattle.office_tables_shelf.specs.Rows.{timing_columns}
 use Rattle.office_tables_shelf.specs.declared.place.Place.{Place}
-use Rattle.std.proofs.Common.{◌≡◌, sym}
+use Rattle.std.proofs.Common.{sym, subst, ◌∙◌}
+use Rattle.signal_records.specs.Within.{current_limits, IsKeyWithin}
 use Rattle.office_tables_shelf.proofs.PlaceLemmas.{standing_inserted}
 use Rattle.office_tables_shelf.proofs.TreeLemmas.{place_cmp, place_ties, insert_tree}
 use Rattle.office_tables_shelf.proofs.map_rows.put_timing.Goals as goal
@@ -16,4 +17,4 @@ returns-clause-rows c =
 pub returns-clause-placed : goal.returns-clause-placed
 returns-clause-placed c = λ placed.
     rw c.in_ok-insert.ensures.entries
-    (standing_inserted (λ key row. key_of row ≡ key) c.args.rows.now.entries (record { inter = c.args.inter; key = c.key-key.result }) c.args.row (sym c.key-key.ensures) placed)
+    (standing_inserted IsRowAt c.args.rows.now.entries (record { inter = c.args.inter; key = c.key-key.result }) c.args.row (sym c.key-key.ensures, subst (IsKeyWithin current_limits) (c.key.ensures ∙ sym c.key-key.ensures) c.key_is_within.ensures) placed)

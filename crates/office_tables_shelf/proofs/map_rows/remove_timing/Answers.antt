@@ -1,6 +1,4 @@
-use Rattle.std.proofs.Common.{◌≡◌}
-use Rattle.signal_records.specs.Row.{key_of}
-use Rattle.office_tables_shelf.specs.MapShelf.{place_key}
+use Rattle.office_tables_shelf.specs.MapShelf.{place_key, IsRowAt}
 use Rattle.office_tables_shelf.specs.Rows.{timing_columns}
 use Rattle.office_tables_shelf.proofs.PlaceLemmas.{standing_removed}
 use Rattle.office_tables_shelf.proofs.TreeLemmas.{place_cmp, place_ties, remove_tree}
@@ -11,4 +9,4 @@ returns-clause-rows c =
     remove_tree place_cmp place_key timing_columns place_ties c.args.rows.now.entries c.remove.new.self.entries (record { inter = c.args.inter; key = c.args.key }) c.remove.ensures.updates.0
 
 pub returns-clause-placed : goal.returns-clause-placed
-returns-clause-placed c = λ placed. rw c.remove.ensures.entries (standing_removed (λ key row. key_of row ≡ key) c.args.rows.now.entries _ placed)
+returns-clause-placed c = λ placed. rw c.remove.ensures.entries (standing_removed IsRowAt c.args.rows.now.entries _ placed)

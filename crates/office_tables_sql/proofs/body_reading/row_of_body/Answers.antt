@@ -3,7 +3,7 @@ use Rattle.signal_records.specs.Reading.{texts}
 use Rattle.signal_records.specs.Within.{current_limits}
 use Rattle.signal_records.proofs.RowLaws.{are_current}
 use Rattle.std.specs.List.{slice_split}
-use Rattle.office_tables_sql.proofs.BodyReading.{is_comma, fields_back, body_back}
+use Rattle.office_tables_shelf.proofs.RowLemmas.{is_comma, fields_back, body_back}
 use Rattle.office_tables_sql.proofs.body_reading.row_of_body.Goals as goal
 
 pub returns-in-Ok-clause-ok : goal.returns-in-Ok-clause-ok

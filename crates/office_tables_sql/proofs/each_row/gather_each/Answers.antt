@@ -12,8 +12,26 @@ use Rattle.office_tables_sql.specs.Stored.{content_now}
 use Rattle.office_tables_sql.specs.Tables.{params_of, row_shown, stored_for, HasDamagedRow}
 use Rattle.office_tables_sql.specs.Gathers.{Gathers}
 use Rattle.office_tables_sql.proofs.StoredLists.{lists, width, damaged_at}
-use Rattle.office_tables_sql.proofs.EachLemmas.{plain_at, refused_keeps, began_survives, still_keeps, broken_keeps, all_read, some_read, has_mid, one_more, survives_on, next_keeps}
+use Rattle.office_tables_sql.proofs.CallLemmas.{survives_on}
+use Rattle.office_tables_sql.proofs.CallLemmas.{plain_at, refused_keeps, began_survives, still_keeps, broken_keeps, all_read, some_read, has_mid, one_more, next_honest, next_keeps}
+use Rattle.office_tables_sql.proofs.each_row.gather_each.Given.{Over}
 use Rattle.office_tables_sql.proofs.each_row.gather_each.Goals as goal
+use Rattle.office_tables_sql.proofs.each_row.gather_each.Goals.{In_default}
+
+-- what the call left once the query was asked for one more row
+keeps : (g : Over) (c : In_default g) → Keeps (state g.S.Store c.args.conn.now) (state g.S.Store c.advance.new.self.conn.now)
+keeps g c =
+    let inv = c.rows.invariant in
+    let step = c.in_default.ensures in
+    next_keeps g.T.StoredRow.list_text g.met.T.StoredRow.lists.query _ c.requires.office _ inv.1
+    inv.2 (λ clean. (inv.3 clean).0) _ step.survives step.mode step.same
+
+honest : (g : Over) (c : In_default g) → HasCleanDisk (state g.S.Store c.advance.new.self.conn.now) → IsHonest (state g.S.Store c.advance.new.self.conn.now)
+honest g c =
+    let inv = c.rows.invariant in
+    let step = c.in_default.ensures in
+    next_honest g.T.StoredRow.list_text g.met.T.StoredRow.lists.query _ c.requires.office _ inv.1
+    inv.2 (λ clean. (inv.3 clean).0) _ step.survives step.mode step.same
 
 pub returns-in-Err-clause-kept : goal.returns-in-Err-clause-kept
 returns-in-Err-clause-kept g c =
@@ -48,16 +66,11 @@ rows-init g c =
 
 pub returns-in-Err-advance-clause-kept : goal.returns-in-Err-advance-clause-kept
 returns-in-Err-advance-clause-kept g c =
-    let sql = g.T.StoredRow.list_text in
-    let text = c.args.statement.now.text in
-    let params : Row = params_of g.T.StoredRow.table (g.T.StoredRow.number c.args.of) in
-    let means = g.met.T.StoredRow.lists in
     let inv = c.rows.invariant in
-    let old = state g.S.Store c.args.conn.now in
-    let mid = state g.S.Store c.rows.rows.conn.now in
-    let new = state g.S.Store c.advance.new.self.conn.now in
     let step = c.in-Err-advance.ensures in
-    let kept : Keeps old new = broken_keeps sql text params means.query old c.requires.office c.requires.opened c.requires.text mid inv.1 inv.2 (λ clean. (inv.3 clean).0) new step.survives.clean (step.mode inv.2) _ step.kept in
+    let kept : Keeps (state g.S.Store c.args.conn.now) (state g.S.Store c.advance.new.self.conn.now) =
+    broken_keeps g.T.StoredRow.list_text g.met.T.StoredRow.lists.query _ c.requires.office _ inv.1
+    inv.2 (λ clean. (inv.3 clean).0) _ step.survives.clean (step.mode inv.2) _ step.kept in
     search rules
 
 pub returns-in_default-get-clause-rows : goal.returns-in_default-get-clause-rows
@@ -71,9 +84,6 @@ returns-in_default-get-clause-rows g c =
     let mid = state g.S.Store c.rows.rows.conn.now in
     let new = state g.S.Store c.advance.new.self.conn.now in
     let step = c.in_default.ensures in
-    let survives = survives_on old mid new inv.1 step.survives in
-    let mode = step.mode inv.2 in
-    let unchanged = λ (clean : HasCleanDisk new). unchanged_then old mid new (inv.3 (omega (arith, clean, step.survives.clean))).0 (step.same clean) in
     let none : row_if c.advance.new.self.has_row c.advance.new.self.conn.now ≡ None = sym c.get.ensures ∙ ap option_copied c.in_default-get.is in
     let told : IsHonest new → Gathers g.G.Gather.holds g.T.StoredRow.table g.T.StoredRow.is_within
     g.T.StoredRow.key g.T.StoredRow.columns (content_now old)
@@ -81,8 +91,8 @@ returns-in_default-get-clause-rows g c =
     let before = c.requires.office.schema in
     let now = inv.3 (omega (arith, honest.0, step.survives.clean)) in
     let shown = λ (clean : HasCleanDisk new). subst (GivesOn g.S.Store text params c.rows.rows.conn.now c.advance.new.self.conn.now now.1) none (step.ok clean text params now.1 now.2) in
-    let reads : Reads sql params old.now now.1 = all_read sql text params means.query old c.requires.office c.requires.opened c.requires.text mid inv.1 inv.2 (λ clean. (inv.3 clean).0) new step.survives mode now.1 shown honest in
-    let was : IsHonest old = (still_keeps sql text params means.query old c.requires.office c.requires.opened c.requires.text new survives mode unchanged).honest honest in
+    let reads : Reads sql params old.now now.1 = all_read sql text params means.query old c.requires.office c.requires.opened c.requires.text mid inv.1 inv.2 (λ clean. (inv.3 clean).0) new step.survives (step.mode inv.2) now.1 shown honest in
+    let was : IsHonest old = (next_keeps sql means.query old c.requires.office mid inv.1 inv.2 (λ clean. (inv.3 clean).0) new step.survives step.mode step.same).honest honest in
     let listed = lists g.T.StoredRow.table old.now (c.requires.office.schema was)
     (c.requires.office.sound was) (c.requires.office.ordered was) sql means
     (g.T.StoredRow.number c.args.of) now.1 reads in
@@ -91,26 +101,12 @@ returns-in_default-get-clause-rows g c =
 
 pub returns-in_default-get-clause-open : goal.returns-in_default-get-clause-open
 returns-in_default-get-clause-open g c =
-    let inv = c.rows.invariant in
-    let old = state g.S.Store c.args.conn.now in
-    let mid = state g.S.Store c.rows.rows.conn.now in
-    let new = state g.S.Store c.advance.new.self.conn.now in
-    let step = c.in_default.ensures in
-    let told : HasCleanDisk new → IsHonest new = λ clean. (clean, (unchanged_then old mid new (inv.3 (omega (arith, clean, step.survives.clean))).0 (step.same clean)).0.is_open) in
+    let told = honest g (goal.at.returns-in_default-get-clause-open g c).In_default in
     search rules
 
 pub returns-in_default-get-clause-kept : goal.returns-in_default-get-clause-kept
 returns-in_default-get-clause-kept g c =
-    let sql = g.T.StoredRow.list_text in
-    let text = c.args.statement.now.text in
-    let params : Row = params_of g.T.StoredRow.table (g.T.StoredRow.number c.args.of) in
-    let means = g.met.T.StoredRow.lists in
-    let inv = c.rows.invariant in
-    let old = state g.S.Store c.args.conn.now in
-    let mid = state g.S.Store c.rows.rows.conn.now in
-    let new = state g.S.Store c.advance.new.self.conn.now in
-    let step = c.in_default.ensures in
-    let kept : Keeps old new = next_keeps sql text params means.query old c.requires.office c.requires.opened c.requires.text mid inv.1 inv.2 (λ clean. (inv.3 clean).0) new step.survives step.mode step.same in
+    let kept = keeps g (goal.at.returns-in_default-get-clause-kept g c).In_default in
     search rules
 
 pub returns-in_err-record-clause-damaged : goal.returns-in_err-record-clause-damaged
@@ -134,7 +130,7 @@ returns-in_err-record-clause-damaged g c bad =
     let so_far = now.1 ++ c.in-Some.row.now ∷ [] in
     let given = subst (GivesOn g.S.Store text params c.rows.rows.conn.now c.advance.new.self.conn.now now.1) some (step.ok honest.0 text params now.1 now.2) in
     let whole = some_read sql text params means.query old c.requires.office c.requires.opened c.requires.text new survives mode unchanged g.T.StoredRow.table means honest so_far (given_begin g.S.Store text params c.advance.new.self.conn.now so_far given) in
-    let was : IsHonest old = (still_keeps sql text params means.query old c.requires.office c.requires.opened c.requires.text new survives mode unchanged).honest honest in
+    let was : IsHonest old = (still_keeps sql means.query old c.requires.office new survives mode unchanged).honest honest in
     let all = so_far ++ whole.0 in
     let schema = c.requires.office.schema was in
     let sound = c.requires.office.sound was in
@@ -146,40 +142,17 @@ returns-in_err-record-clause-damaged g c bad =
 
 pub returns-in_err-record-clause-open : goal.returns-in_err-record-clause-open
 returns-in_err-record-clause-open g c =
-    let inv = c.rows.invariant in
-    let old = state g.S.Store c.args.conn.now in
-    let mid = state g.S.Store c.rows.rows.conn.now in
-    let new = state g.S.Store c.advance.new.self.conn.now in
-    let step = c.in_default.ensures in
-    let told : HasCleanDisk new → IsHonest new = λ clean. (clean, (unchanged_then old mid new (inv.3 (omega (arith, clean, step.survives.clean))).0 (step.same clean)).0.is_open) in
+    let told = honest g (goal.at.returns-in_err-record-clause-open g c).In_default in
     search rules
 
 pub returns-in_err-record-clause-kept : goal.returns-in_err-record-clause-kept
 returns-in_err-record-clause-kept g c =
-    let sql = g.T.StoredRow.list_text in
-    let text = c.args.statement.now.text in
-    let params : Row = params_of g.T.StoredRow.table (g.T.StoredRow.number c.args.of) in
-    let means = g.met.T.StoredRow.lists in
-    let inv = c.rows.invariant in
-    let old = state g.S.Store c.args.conn.now in
-    let mid = state g.S.Store c.rows.rows.conn.now in
-    let new = state g.S.Store c.advance.new.self.conn.now in
-    let step = c.in_default.ensures in
-    let kept : Keeps old new = next_keeps sql text params means.query old c.requires.office c.requires.opened c.requires.text mid inv.1 inv.2 (λ clean. (inv.3 clean).0) new step.survives step.mode step.same in
+    let kept = keeps g (goal.at.returns-in_err-record-clause-kept g c).In_default in
     search rules
 
 pub returns-in_err-take-clause-kept : goal.returns-in_err-take-clause-kept
 returns-in_err-take-clause-kept g c =
-    let sql = g.T.StoredRow.list_text in
-    let text = c.args.statement.now.text in
-    let params : Row = params_of g.T.StoredRow.table (g.T.StoredRow.number c.args.of) in
-    let means = g.met.T.StoredRow.lists in
-    let inv = c.rows.invariant in
-    let old = state g.S.Store c.args.conn.now in
-    let mid = state g.S.Store c.rows.rows.conn.now in
-    let new = state g.S.Store c.advance.new.self.conn.now in
-    let step = c.in_default.ensures in
-    let kept : Keeps old new = next_keeps sql text params means.query old c.requires.office c.requires.opened c.requires.text mid inv.1 inv.2 (λ clean. (inv.3 clean).0) new step.survives step.mode step.same in
+    let kept = keeps g (goal.at.returns-in_err-take-clause-kept g c).In_default in
     search rules
 
 pub rows-preserved : goal.rows-preserved

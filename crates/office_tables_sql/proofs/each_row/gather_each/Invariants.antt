@@ -4,7 +4,7 @@ use Rattle.sqlite.specs.State.{HasCleanDisk, IsUnchanged, Survives}
 use Rattle.sqlite.specs.Held.{state}
 use Rattle.sqlite.specs.Given.{HasGiven}
 use Rattle.office_tables_sql.specs.Tables.{params_of}
-use Rattle.office_tables_sql.proofs.EachLemmas.{HasGathered}
+use Rattle.office_tables_sql.proofs.CallLemmas.{HasGathered}
 use Rattle.office_tables_sql.proofs.each_row.gather_each.Given as goal
 
 abbrev pub invariant-rows : goal.invariant-rows

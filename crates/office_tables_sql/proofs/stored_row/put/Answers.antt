@@ -5,57 +5,40 @@ use Rattle.office_tables_sql.specs.Calls.{IsReady, Ran}
 use Rattle.office_tables_sql.specs.Stored.{content_now}
 use Rattle.office_tables_sql.specs.Tables.{put_in, values_of}
 use Rattle.office_tables_sql.proofs.StoredPuts.{one_put, two_put}
+use Rattle.office_tables_sql.proofs.stored_row.put.Given.{Over}
 use Rattle.office_tables_sql.proofs.stored_row.put.Goals as goal
-use Rattle.office_tables_sql.proofs.stored_row.put.Goals.{then-changed-eq0+in_ok-write, else-changed-eq0}
+use Rattle.office_tables_sql.proofs.stored_row.put.Goals.{After-drop-text-2, then-changed-eq0+in_ok-write, else-changed-eq0}
+
+-- what the rows are after both ways
+stored : (g : Over) (c : After-drop-text-2 g) → HasCleanDisk (state g.S.Store c.if-changed-eq0.tx.conn.now) → IsReady (state g.S.Store c.args.tx.now.conn.now)
+    → IsReady (state g.S.Store c.if-changed-eq0.tx.conn.now) × (content_now (state g.S.Store c.if-changed-eq0.tx.conn.now) ≡ put_in (content_now (state g.S.Store c.args.tx.now.conn.now)) g.T.StoredRow.table (g.T.StoredRow.key (g.T.StoredRow.number c.args.of) c.args.row.now) (g.T.StoredRow.columns c.args.row.now))
+stored g c clean ready =
+    let T = g.T.StoredRow in
+    let key = T.key (T.number c.args.of) c.args.row.now in
+    let columns = T.columns c.args.row.now in
+    let met = g.met.T.StoredRow in
+    let fits = met.fits (T.number c.args.of) c.args.row.now in
+    let old = state g.S.Store c.args.tx.now.conn.now in
+    let mid = state g.S.Store c.write.new.tx.conn.now in
+    let first : HasCleanDisk mid → Ran T.update_text (values_of (key ++ columns)) old mid c.in_ok-changed.changed = λ clear.
+    rw (c.update_text.ensures, c.as_slice.ensures.value, c.in-Ok.ensures) at (c.in_ok-changed.ensures.ran clear) in
+    elim c.if-changed-eq0.branch [
+      | then-changed-eq0+in_ok-write w ↦
+          let new = state g.S.Store w.write-then-changed-eq0.new.tx.conn.now in
+          let clear : HasCleanDisk new = subst (λ tx. HasCleanDisk (state g.S.Store tx.conn.now)) w.tx-is clean in
+          let second : Ran T.insert_text (values_of (key ++ columns)) mid new w.in_ok-write.field-0 =
+          rw (w.insert_text.ensures, w.as_slice-then-changed-eq0.ensures.value, c.in-Ok.ensures) at (w.in_ok-write.ensures.ran clear) in
+          subst (λ tx. IsReady (state g.S.Store tx.conn.now) × (content_now (state g.S.Store tx.conn.now) ≡ put_in (content_now old) T.table key columns)) (sym w.tx-is)
+          (two_put T.table key columns fits T.update_text T.insert_text met.updates met.inserts old mid new c.in_ok-changed.changed w.in_ok-write.field-0 w.if-changed-eq0.true ready
+          (first (omega (arith, clear, w.in_ok-write.ensures.crash.clean))) second)
+      | else-changed-eq0 w ↦
+          let clear : HasCleanDisk mid = subst (λ tx. HasCleanDisk (state g.S.Store tx.conn.now)) w.tx-is clean in
+          subst (λ tx. IsReady (state g.S.Store tx.conn.now) × (content_now (state g.S.Store tx.conn.now) ≡ put_in (content_now old) T.table key columns)) (sym w.tx-is)
+          (one_put T.table key columns fits T.update_text met.updates old mid c.in_ok-changed.changed w.if-changed-eq0.false ready (first clear))
+    ]
 
 pub returns-clause-ready : goal.returns-clause-ready
-returns-clause-ready g c clean ready =
-    let T = g.T.StoredRow in
-    let key = T.key (T.number c.args.of) c.args.row.now in
-    let columns = T.columns c.args.row.now in
-    let met = g.met.T.StoredRow in
-    let fits = met.fits (T.number c.args.of) c.args.row.now in
-    let old = state g.S.Store c.args.tx.now.conn.now in
-    let mid = state g.S.Store c.write.new.tx.conn.now in
-    let first : HasCleanDisk mid → Ran T.update_text (values_of (key ++ columns)) old mid c.in_ok-changed.changed = λ clear.
-    rw (c.update_text.ensures, c.as_slice.ensures.value, c.in-Ok.ensures) at (c.in_ok-changed.ensures.ran clear) in
-    elim c.if-changed-eq0.branch [
-      | then-changed-eq0+in_ok-write w ↦
-          let new = state g.S.Store w.write-then-changed-eq0.new.tx.conn.now in
-          let clear : HasCleanDisk new = subst (λ tx. HasCleanDisk (state g.S.Store tx.conn.now)) w.tx-is clean in
-          let second : Ran T.insert_text (values_of (key ++ columns)) mid new w.in_ok-write.field-0 =
-          rw (w.insert_text.ensures, w.as_slice-then-changed-eq0.ensures.value, c.in-Ok.ensures) at (w.in_ok-write.ensures.ran clear) in
-          subst (λ tx. IsReady (state g.S.Store tx.conn.now)) (sym w.tx-is)
-          (two_put T.table key columns fits T.update_text T.insert_text met.updates met.inserts old mid new c.in_ok-changed.changed w.in_ok-write.field-0 w.if-changed-eq0.true ready
-          (first (omega (arith, clear, w.in_ok-write.ensures.crash.clean))) second).0
-      | else-changed-eq0 w ↦
-          let clear : HasCleanDisk mid = subst (λ tx. HasCleanDisk (state g.S.Store tx.conn.now)) w.tx-is clean in
-          subst (λ tx. IsReady (state g.S.Store tx.conn.now)) (sym w.tx-is)
-          (one_put T.table key columns fits T.update_text met.updates old mid c.in_ok-changed.changed w.if-changed-eq0.false ready (first clear)).0
-    ]
+returns-clause-ready g c clean ready = (stored g (goal.at.returns-clause-ready g c).After-drop-text-2 clean ready).0
 
 pub returns-clause-put : goal.returns-clause-put
-returns-clause-put g c clean ready =
-    let T = g.T.StoredRow in
-    let key = T.key (T.number c.args.of) c.args.row.now in
-    let columns = T.columns c.args.row.now in
-    let met = g.met.T.StoredRow in
-    let fits = met.fits (T.number c.args.of) c.args.row.now in
-    let old = state g.S.Store c.args.tx.now.conn.now in
-    let mid = state g.S.Store c.write.new.tx.conn.now in
-    let first : HasCleanDisk mid → Ran T.update_text (values_of (key ++ columns)) old mid c.in_ok-changed.changed = λ clear.
-    rw (c.update_text.ensures, c.as_slice.ensures.value, c.in-Ok.ensures) at (c.in_ok-changed.ensures.ran clear) in
-    elim c.if-changed-eq0.branch [
-      | then-changed-eq0+in_ok-write w ↦
-          let new = state g.S.Store w.write-then-changed-eq0.new.tx.conn.now in
-          let clear : HasCleanDisk new = subst (λ tx. HasCleanDisk (state g.S.Store tx.conn.now)) w.tx-is clean in
-          let second : Ran T.insert_text (values_of (key ++ columns)) mid new w.in_ok-write.field-0 =
-          rw (w.insert_text.ensures, w.as_slice-then-changed-eq0.ensures.value, c.in-Ok.ensures) at (w.in_ok-write.ensures.ran clear) in
-          subst (λ tx. content_now (state g.S.Store tx.conn.now) ≡ put_in (content_now old) T.table key columns) (sym w.tx-is)
-          (two_put T.table key columns fits T.update_text T.insert_text met.updates met.inserts old mid new c.in_ok-changed.changed w.in_ok-write.field-0 w.if-changed-eq0.true ready
-          (first (omega (arith, clear, w.in_ok-write.ensures.crash.clean))) second).1
-      | else-changed-eq0 w ↦
-          let clear : HasCleanDisk mid = subst (λ tx. HasCleanDisk (state g.S.Store tx.conn.now)) w.tx-is clean in
-          subst (λ tx. content_now (state g.S.Store tx.conn.now) ≡ put_in (content_now old) T.table key columns) (sym w.tx-is)
-          (one_put T.table key columns fits T.update_text met.updates old mid c.in_ok-changed.changed w.if-changed-eq0.false ready (first clear)).1
-    ]
+returns-clause-put g c clean ready = (stored g (goal.at.returns-clause-put g c).After-drop-text-2 clean ready).1

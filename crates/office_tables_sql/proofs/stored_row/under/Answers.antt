@@ -4,7 +4,7 @@ use Rattle.std.specs.Option.{option_to_list}
 use Rattle.sqlite.specs.Held.{state}
 use Rattle.sqlite.specs.Values.{bound}
 use Rattle.office_tables_sql.specs.Calls.{IsQuery, Reads}
-use Rattle.office_tables_sql.proofs.StoredFinds.{finds}
+use Rattle.office_tables_sql.proofs.StoredLists.{finds}
 use Rattle.office_tables_sql.proofs.stored_row.under.Goals as goal
 
 pub select_one-requires-clause-query : goal.select_one-requires-clause-query

@@ -8,3 +8,6 @@ returns-clause-step g c = λ honest.
 
 pub returns-clause-damaged : goal.returns-clause-damaged
 returns-clause-damaged g c = c.decide-decided.ensures.answers.damaged
+
+pub returns-clause-named : goal.returns-clause-named
+returns-clause-named g c = c.decide-decided.ensures.answers.named

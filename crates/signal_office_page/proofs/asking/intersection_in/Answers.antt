@@ -1,7 +1,8 @@
 use Rattle.std.proofs.Common.{Ok, Err, inl, inr, subst, ◌∙◌}
 use Rattle.office_tables_shelf.proofs.KeptLemmas.{kept_on}
 use Rattle.signal_office_asking.specs.Showing.{ShowsTiming, ShowsDraft, ShowsCabinet}
-use Rattle.signal_office_page.proofs.FaultLemmas.{draft_refused, handed_on}
+use Rattle.signal_office_asking.proofs.FaultLemmas.{on_fault}
+use Rattle.signal_office_page.proofs.FaultLemmas.{draft_refused}
 use Rattle.signal_office_page.specs.Asking.{ShowsDraftIn}
 use Rattle.signal_office_page.proofs.asking.intersection_in.Goals as goal
 
@@ -28,12 +29,12 @@ returns-clause-shown g c = λ honest.
 
 pub returns-in_err-state-clause-fault : goal.returns-in_err-state-clause-fault
 returns-in_err-state-clause-fault g c =
-    handed_on _ c.in_err-state.field-0.0 _ c.from_residual.ensures.1 (λ honest.
+    on_fault _ c.in_err-state.field-0.0 _ c.from_residual.ensures.1 (λ honest.
     inl (c.in_err-state.ensures.shown honest))
 
 pub returns-in_err-committed-clause-fault : goal.returns-in_err-committed-clause-fault
 returns-in_err-committed-clause-fault g c =
-    handed_on _ c.in_err-committed.field-0.0 _ c.from_residual-in_err-committed.ensures.1 (λ honest.
+    on_fault _ c.in_err-committed.field-0.0 _ c.from_residual-in_err-committed.ensures.1 (λ honest.
     let after_state = c.timing_in.ensures.kept.honest_before honest in
     let one = c.state_in.ensures.kept.same_content after_state in
     inr (inl (subst (λ tables. ShowsTiming tables c.args.id (Err c.in_err-committed.field-0.0)) one
@@ -41,7 +42,7 @@ returns-in_err-committed-clause-fault g c =
 
 pub returns-in_err-draft-clause-fault : goal.returns-in_err-draft-clause-fault
 returns-in_err-draft-clause-fault g c =
-    handed_on _ c.in_err-draft.field-0.0 _ c.from_residual-in_err-draft.ensures.1 (λ honest.
+    on_fault _ c.in_err-draft.field-0.0 _ c.from_residual-in_err-draft.ensures.1 (λ honest.
     let after_timing = c.draft_where_open.ensures.kept.honest_before honest in
     let after_state = c.timing_in.ensures.kept.honest_before after_timing in
     let one = c.state_in.ensures.kept.same_content after_state in
@@ -51,7 +52,7 @@ returns-in_err-draft-clause-fault g c =
 
 pub returns-in_err-cabinet-clause-fault : goal.returns-in_err-cabinet-clause-fault
 returns-in_err-cabinet-clause-fault g c =
-    handed_on _ c.in_err-cabinet.field-0.0 _ c.from_residual-in_err-cabinet.ensures.1 (λ honest.
+    on_fault _ c.in_err-cabinet.field-0.0 _ c.from_residual-in_err-cabinet.ensures.1 (λ honest.
     let after_draft = c.cabinet_in.ensures.kept.honest_before honest in
     let after_timing = c.draft_where_open.ensures.kept.honest_before after_draft in
     let after_state = c.timing_in.ensures.kept.honest_before after_timing in

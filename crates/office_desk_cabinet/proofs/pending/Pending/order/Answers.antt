@@ -1,12 +1,9 @@
-use Rattle.std.proofs.Common.{rules, ◌≡◌, ◌∙◌, ap, subst}
-use Rattle.office_tables_shelf.specs.CabinetReads.{ReadsOrder}
-use Rattle.office_tables_shelf.specs.Change.{changed_by}
-use Rattle.office_tables_shelf.specs.Content.{Content, no_content}
-use Rattle.office_desk_cabinet.proofs.PendingLemmas.{order_put}
+use Rattle.std.proofs.Common.{◌≡◌, rules}
+use Rattle.office_desk_cabinet.proofs.PendingLemmas.{put_seen}
+use Rattle.office_desk_cabinet.proofs.Places.{Order}
 use Rattle.office_desk_cabinet.proofs.pending.Pending.order.Goals as goal
 
 pub returns : goal.returns
 returns c =
     let viewed : c.self.inside.changes.items ≡ c.args.self.now = search rules in
-    order_put c.args.self.now c.args.id c.args.number c.in_ok-put.put
-    (subst (λ (tables : Content). ReadsOrder tables c.args.id c.args.number c.in_ok-put.put) (c.self.invariant ∙ ap (changed_by no_content) viewed) c.in_ok-put.ensures)
+    put_seen (Order c.args.id c.args.number) c.in_ok-put.put viewed c.self.invariant c.in_ok-put.ensures

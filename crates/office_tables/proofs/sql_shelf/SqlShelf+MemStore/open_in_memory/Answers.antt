@@ -6,8 +6,7 @@ use Rattle.sqlite.specs.Held.{state}
 use Rattle.sqlite.specs.Steps.{over_memory}
 use Rattle.sqlite_catalog.specs.Listing.{AreListed}
 use Rattle.sqlite_trees.specs.Objects.{catalog_tree}
-use Rattle.office_tables_sql.specs.Schema.{no_schema}
-use Rattle.office_tables_open.proofs.BlankLemmas.{blank_alone, blank_other}
+use Rattle.office_tables_open.proofs.FoundLemmas.{blank_alone, blank_other}
 use Rattle.office_tables_open.proofs.MemoryLemmas.{always_clean, memory_is_honest}
 use Rattle.office_tables.proofs.sql_shelf.SqlShelf+MemStore.open_in_memory.Goals as goal
 

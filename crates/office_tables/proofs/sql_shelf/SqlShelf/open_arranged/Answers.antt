@@ -1,8 +1,7 @@
 use Rattle.std.proofs.Common.{◌≡◌, ◌⊎◌, inl, inr, Err, refl, sym, ap, subst, ◌∙◌, true≢false}
 use Rattle.sqlite.specs.Effect.{Database}
 use Rattle.sqlite.specs.Held.{state}
-use Rattle.sqlite.specs.Tree.{Trees}
-use Rattle.office_tables_sql.specs.Calls.{IsHonest, IsOffice}
+use Rattle.office_tables_sql.specs.Calls.{IsHonest}
 use Rattle.office_tables_sql.specs.Stored.{content_now, content_of}
 use Rattle.office_tables_open.specs.Found.{HasOtherVersion, HasRowsAlone}
 use Rattle.office_tables_open.specs.Lacking.{IsLacking}

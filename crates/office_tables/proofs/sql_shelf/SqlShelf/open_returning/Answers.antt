@@ -8,7 +8,7 @@ use Rattle.sqlite_catalog.specs.Listing.{AreListed}
 use Rattle.office_tables_sql.specs.Schema.{no_schema}
 use Rattle.office_tables_open.specs.Arranged.{IsArranged}
 use Rattle.office_tables_open.specs.Version.{AreEmpty}
-use Rattle.office_tables_open.proofs.BlankLemmas.{blank_rows}
+use Rattle.office_tables_open.proofs.FoundLemmas.{blank_rows}
 use Rattle.office_tables_open.proofs.LeftLemmas.{as_left, refused_before, refused_given, refused_left}
 use Rattle.office_tables_open.proofs.OpenLemmas.{opened_before}
 use Rattle.office_tables.proofs.sql_shelf.SqlShelf.open_returning.Goals as goal

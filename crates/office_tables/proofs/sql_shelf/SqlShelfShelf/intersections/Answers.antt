@@ -3,7 +3,7 @@ use Rattle.std.proofs.lemmas.Result.{IfOk-weaker}
 use Rattle.std.specs.FinMap.{entries}
 use Rattle.sqlite.specs.Held.{state}
 use Rattle.office_tables_sql.specs.Stored.{content_now}
-use Rattle.office_tables_sql.proofs.KeyReads.{where_all}
+use Rattle.office_tables_shelf.proofs.ListLemmas.{where_all}
 use Rattle.office_tables.proofs.sql_shelf.SqlShelfShelf.intersections.Goals as goal
 
 pub returns-clause-rows : goal.returns-clause-rows

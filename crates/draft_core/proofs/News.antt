@@ -1,0 +1,129 @@
+-- That the rows which a commit adds are new.
+use Rattle.std.proofs.Common.{◌≡◌, ◌⊎◌, Bool, true, false, cond, List, [], ◌∷◌, map, Option, Result}
+use Rattle.std.proofs.Common.{Ok, Err, refl, ap, sym, subst, ◌∙◌, inl, inr}
+use Rattle.std.proofs.lemmas.Bool.{cases_Bool}
+use Rattle.std.specs.Prelude.{IfOk}
+use Rattle.std.specs.Cmp.{tied_itself}
+use Rattle.std.specs.FinMap.{get}
+use Rattle.std.specs.List.{AllByRecursion}
+use Rattle.std.specs.List.Sorted.{IsStrictlySortedBy}
+use Rattle.std.specs.Ordering.{eq_by_cmp, is_eq}
+use Rattle.std.specs.declared.cmp.Ordering.TheVariants.{Less}
+use Rattle.signal_records.specs.Key.{key_cmp}
+use Rattle.signal_records.specs.KeyOrder.{key_total}
+use Rattle.signal_records.specs.TimingSet.{Rows}
+use Rattle.signal_records.specs.declared.key.Key.{Key}
+use Rattle.signal_records.specs.declared.record.Row.{Row}
+use Rattle.signal_records.specs.declared.record.Change.{Change}
+use Rattle.signal_records.specs.declared.record.Change.TheVariants.{Put, Remove}
+use Rattle.draft_core.specs.declared.refusal.DraftRefusal.{DraftRefusal}
+use Rattle.draft_core.specs.declared.timing.Move.{Move}
+use Rattle.draft_core.specs.declared.timing.Reach.{Reach}
+use Rattle.draft_core.specs.declared.timing.Reach.TheVariants as reach
+use Rattle.draft_core.specs.declared.timing.Timing.{Timing}
+use Rattle.draft_core.specs.declared.timing.TimingChange.{TimingChange}
+use Rattle.draft_core.specs.DraftRows.{Said, silent, leaves, removes, changed_key, said_by}
+use Rattle.draft_core.specs.DraftRows.{said_at, later_of, overlaid, row_at}
+use Rattle.draft_core.specs.Drafting.{is_said}
+use Rattle.draft_core.specs.Moves.{committed_by, said_after}
+use Rattle.draft_core.specs.News.{AddsOnlyNew, AddsNone, AreInOrder, AreNewAt, IsNewAt}
+use Rattle.draft_core.specs.Writes.{settled_by, settling}
+use Rattle.draft_core.proofs.OnlyChanges.{same_key}
+use Rattle.draft_core.proofs.Pushed.{later_of-silent}
+use Rattle.draft_core.proofs.Written.{committing, settled_commits, settled_either}
+
+-- ---- of which keys changes say something
+
+-- of none that is below those that they name
+unsaid : (key : Key) (changes : List Change)
+    → AllByRecursion (λ k. key_cmp key k ≡ Less) (map changed_key changes)
+    → row_at changes key ≡ silent
+unsaid key [] above = refl
+unsaid key (change ∷ changes) above =
+    let apart : eq_by_cmp key_cmp key (changed_key change) ≡ false = ap is_eq above.0 in
+    ap (λ b. later_of (row_at changes key) (cond b (said_by change) silent)) apart
+    ∙ later_of-silent (row_at changes key) ∙ unsaid key changes above.1
+
+later_said : (later : Said) (change : Change) → is_said (later_of later (said_by change)) ≡ true
+later_said silent (Put row) = refl
+later_said silent (Remove key) = refl
+later_said (leaves row) change = refl
+later_said removes change = refl
+
+-- of each that they name
+said_of : (change : Change) (changes : List Change)
+    → is_said (row_at (change ∷ changes) (changed_key change)) ≡ true
+said_of change changes =
+    let key = changed_key change in
+    let tied : eq_by_cmp key_cmp key key ≡ true = ap is_eq (tied_itself key_total key) in
+    ap (λ b. is_said (later_of (row_at changes key) (cond b (said_by change) silent))) tied
+    ∙ later_said (row_at changes key) change
+
+not_silent : (change : Change) (changes : List Change) (key : Key) → key ≡ changed_key change
+    → row_at (change ∷ changes) key ≡ silent → ⊥
+not_silent change changes key here none =
+    let told : is_said (row_at (change ∷ changes) key) ≡ true =
+    ap (λ k. is_said (row_at (change ∷ changes) k)) here ∙ said_of change changes in
+    let f : true ≡ false = sym told ∙ ap is_said none in cc
+
+-- ---- each row that is added is new
+
+module _ (set : Rows) (change : Change) (changes : List Change) (key : Key)
+    (committed : Option Row)
+    (start : (row_at (change ∷ changes) key ≡ silent → ⊥) → committed ≡ get set key) where
+  first_new : (said : Said) → IsNewAt (settled_by set change) key committed said
+  first_new said =
+      settled_either (λ one. IsNewAt one key committed said) set change tt (λ row is none here.
+      start (not_silent change changes key (here ∙ ap changed_key (sym is)))
+      ∙ ap (get set) here ∙ none)
+
+  -- what later changes name is as it was
+  later_start : AllByRecursion (λ k. key_cmp (changed_key change) k ≡ Less)
+      (map changed_key changes)
+      → (row_at changes key ≡ silent → ⊥)
+      → committed_by (settled_by set change) key committed ≡ get set key
+  later_start above named = go (cases_Bool (eq_by_cmp key_cmp key (changed_key change)))
+    where
+      go : (eq_by_cmp key_cmp key (changed_key change) ≡ true)
+          ⊎ (eq_by_cmp key_cmp key (changed_key change) ≡ false)
+          → committed_by (settled_by set change) key committed ≡ get set key
+      go (inl hit) = absurd (named (ap (row_at changes) (same_key key (changed_key change) hit)
+          ∙ unsaid (changed_key change) changes above))
+      go (inr miss) =
+          settled_commits set change key committed
+          ∙ ap (λ b. overlaid committed (cond b (said_by change) silent)) miss
+          ∙ start (λ none. named (sym (later_of-silent (row_at changes key))
+          ∙ ap (λ b. later_of (row_at changes key) (cond b (said_by change) silent)) (sym miss)
+          ∙ none))
+
+committing_new : (set : Rows) (changes : List Change) → AreInOrder changes → (key : Key)
+    (committed : Option Row) (said : Said)
+    → ((row_at changes key ≡ silent → ⊥) → committed ≡ get set key)
+    → AreNewAt (committing set changes) key committed said
+unfolding IsStrictlySortedBy
+committing_new set [] order key committed said start = tt
+committing_new set (change ∷ changes) order key committed said start = (
+  first_new set change changes key committed start said,
+  committing_new set changes order.1 key (committed_by (settled_by set change) key committed)
+      (said_after (settled_by set change) key said)
+      (later_start set change changes key committed start order.0),
+)
+
+pub settling_new : (set : Rows) (changes : List Change) → AreInOrder changes → (key : Key)
+    (said : Said) → AreNewAt (settling set changes) key (get set key) said
+settling_new set [] order key said = tt
+settling_new set (change ∷ changes) order key said =
+    (tt, committing_new set (change ∷ changes) order key (get set key) silent (λ named. refl))
+
+-- ---- a move without rows adds none
+
+pub none_new : (how : Reach) (timing : Timing) (result : Result Move DraftRefusal)
+    → IfOk result (λ move. move.changes ≡ [])
+    → IfOk result (λ move. AddsOnlyNew how timing move.changes)
+none_new how timing (Ok move) none = subst (AddsOnlyNew how timing) (sym none) (go how)
+  where
+    go : (r : Reach) → AddsOnlyNew r timing []
+    go reach.Row = tt
+    go reach.Drafts = tt
+    go reach.Plan = λ order key. tt
+none_new how timing (Err refusal) none = tt

@@ -1,7 +1,0 @@
-use Rattle.std.proofs.Common.{◌≡◌, ◌++◌, drop}
-use Rattle.draft_core.specs.Writes as writes
-use Rattle.draft_core.proofs.writes.dropping.Given as goal
-
--- what is made, and what is made of the changes that are left
-abbrev pub invariant-loop-change : goal.invariant-loop-change
-invariant-loop-change l = l.made.items ++ writes.dropping (drop l.change-index l.changes) ≡ writes.dropping l.changes

@@ -1,0 +1,48 @@
+-- Intersections that were found, and what is known of them.
+use Rattle.std.proofs.Common.{◌≡◌, ◌≢◌, ℕ, Bool, true, false, List, [], Option, None, Some}
+use Rattle.std.proofs.Common.{Result, Ok, Err, nat_cmp, sym, ap, subst, ◌∙◌, true≢false}
+use Rattle.std.proofs.lemmas.List.Elements.{All-contains, All-nil}
+use Rattle.std.proofs.lemmas.Map.Lookups.{CmpEqualImpliesEq, exact_unsigned}
+use Rattle.std.proofs.lemmas.Map.Views.{All-insert_key, Contains-from_any, tells_apart}
+use Rattle.std.specs.BTreeSet.{BTreeSet, insert_key}
+use Rattle.std.specs.List.{All, Contains, list_any}
+use Rattle.std.specs.Ordering.{eq_by_cmp}
+use Rattle.office_tables_shelf.specs.Content.{Content}
+use Rattle.office_tables_shelf.specs.declared.shelf.ShelfFault.{ShelfFault}
+use Rattle.office_tables_shelf.proofs.TreeLemmas.{ranged_cmp, then_last}
+use Rattle.office_desk.specs.Recording.{AreFound, IsAmong, IsFound}
+
+ranged_exact : CmpEqualImpliesEq ranged_cmp
+ranged_exact a b same = exact_unsigned a b (sym (then_last (nat_cmp a b)) ∙ same)
+
+-- a number that a set has is one of its keys
+pub has_number : (found : BTreeSet ℕ) (id : ℕ)
+    → list_any (eq_by_cmp ranged_cmp id) found.keys ≡ true → Contains found.keys id
+has_number found id has = Contains-from_any (tells_apart ranged_exact) id found.keys has
+
+pub none_found : (tables : Content) (found : BTreeSet ℕ) → found.keys ≡ []
+    → AreFound tables found
+none_found tables found none =
+    subst (λ (ids : List ℕ). All (λ id. IsFound tables (Some id)) ids) (sym none)
+    (All-nil (λ id. IsFound tables (Some id)))
+
+pub among_found : (tables : Content) (found : BTreeSet ℕ) (about : Option ℕ)
+    → AreFound tables found → IsAmong found about → IsFound tables about
+among_found tables found None all among = absurd among
+among_found tables found (Some id) all among =
+    All-contains (λ id. IsFound tables (Some id)) found.keys id all among
+
+pub one_found : (tables : Content) (found more : BTreeSet ℕ) (id : ℕ)
+    → more.keys ≡ insert_key ranged_cmp found.keys id → AreFound tables found
+    → IsFound tables (Some id) → AreFound tables more
+one_found tables found more id keys all one =
+    subst (λ (ids : List ℕ). All (λ id. IsFound tables (Some id)) ids) (sym keys)
+    (All-insert_key ranged_cmp id (λ id. IsFound tables (Some id)) found.keys all one)
+
+-- whether it was told that one is there
+abbrev pub told_there : Result Bool ShelfFault → Bool
+told_there (Ok there) = there
+told_there (Err fault) = false
+
+pub not_told : (result : Result Bool ShelfFault) → told_there result ≡ false → result ≢ Ok true
+not_told result gone is = true≢false (sym (ap told_there is) ∙ gone)

@@ -1,0 +1,207 @@
+-- What one command may make of an office, and one import of its register: what each keeps, a run
+-- keeps.
+use Rattle.std.proofs.Common.{◌≡◌, ℕ, ◌+◌, Bool, true, false, ◌==◌, ◌&&◌, cond, if◌then◌else◌, List, [], ◌∷◌}
+use Rattle.std.proofs.Common.{Option, Some, None, Result, Ok, Err, inl, inr, refl, sym, subst, subst₂}
+use Rattle.std.specs.FinMap.{get}
+use Rattle.std.specs.Str.{bytes_eq}
+use Rattle.cabinet_core.specs.Cabinet.{Line, added as added_line, same as same_line, refused as refused_line}
+use Rattle.cabinet_core.specs.Step.{line_at, with_record, after_line}
+use Rattle.cabinet_core.specs.declared.command.RecordCommand.{RecordCommand}
+use Rattle.draft_core.specs.Transaction.{Draft, TimingSide}
+use Rattle.draft_core.specs.declared.refusal.DraftRefusal.{DraftRefusal}
+use Rattle.office_machine.specs.Office.{Office, Intersection}
+use Rattle.office_machine.specs.RegisterRuns.{accepted_of, is_accepted, records_asked}
+use Rattle.office_machine.specs.Step.{Step, answered, added, new_intersection, with_intersection, transacted, moved, moved_to, shown, state_shown, timing_shown, draft_shown, told, recorded, recorded_at, known, cabinet_of, is_known, with_recorded, import_by, import_from, imported, cabinet_shown}
+use Rattle.office_machine.specs.Timing.{is_moved}
+use Rattle.office_machine.specs.declared.command.Command.{Command}
+use Rattle.office_machine.specs.declared.command.Command.TheVariants as command
+use Rattle.office_machine.specs.declared.refusal.Refusal.{Refusal}
+use Rattle.office_machine.specs.declared.refusal.Refusal.TheVariants as refusal
+use Rattle.office_machine.specs.declared.reply.Reply.{Reply}
+use Rattle.office_machine.specs.declared.reply.Reply.TheVariants as reply
+use Rattle.cabinet_core.specs.Orders.{open_at}
+use Rattle.office_desk.specs.Transacting.{command_of, edit_of, line_of}
+use Rattle.office_desk.specs.declared.transacting.Ask.{Ask}
+use Rattle.office_desk.specs.declared.transacting.Ask.TheVariants.{Begin, Verify, Check, Commit, Reopen, Abandon}
+
+-- ---- one command
+
+-- What is said of a command, its reply and the office after it holds of each kind of step: the
+-- office stays, and neither a step of the transaction nor a record was accepted; an intersection is
+-- added; a step of the transaction is taken; a record is added; or an import is accepted.
+pub record HoldsOfEach (office : Office) (Holds : Command → Reply → Office → Type 0) : Type 0 where
+  pub stays : (asked : Command) (said : Reply) → is_moved said ≡ false
+      → accepted_of office asked said ≡ [] → Holds asked said office
+  pub adds : (id interval : ℕ) (name : List ℕ) → get office.intersections id ≡ None
+      → Holds (command.AddIntersection id interval name) reply.Added
+      (with_intersection office id (new_intersection interval name))
+  pub moves : (id : ℕ) (clerk : List ℕ) (ask : Ask) (i : Intersection) (next : TimingSide)
+      → get office.intersections id ≡ Some i → line_of ask clerk i.timing ≡ Ok next
+      → Holds (command_of id clerk ask) (moved_to next)
+      (with_intersection office id (record i { timing = next }))
+  pub records : (c : RecordCommand) → line_at office.register c ≡ added_line
+      → Holds (command.Record c) reply.Added (with_recorded office c)
+  pub imports : (records : List RecordCommand) (done : ℕ × ℕ × Office)
+      → import_from 1 0 0 office records ≡ Ok done
+      → Holds (command.Import records) (reply.Imported done.0 done.1) done.2
+
+none_asked : (b : Bool) → ◌≡◌ {A = List RecordCommand} (cond b [] []) []
+none_asked true = refl
+none_asked false = refl
+
+same_unmoved : (b : Bool)
+    → is_moved (if b then reply.Same else reply.Refused refusal.IntersectionDiffers) ≡ false
+same_unmoved true = refl
+same_unmoved false = refl
+
+draft_unmoved : (draft : Option Draft) → is_moved (draft_shown draft) ≡ false
+draft_unmoved None = refl
+draft_unmoved (Some draft) = refl
+
+module _ (office : Office) (Holds : Command → Reply → Office → Type 0)
+    (each : HoldsOfEach office Holds) where
+  abbrev Has : Command → Reply × Office → Type 0
+  Has asked answer = Holds asked answer.0 answer.1
+
+  -- a command that brings no record, answered by what is no step of the transaction
+  quiet : (asked : Command) (said : Reply) → is_moved said ≡ false
+      → records_asked office asked ≡ [] → Has asked (said, office)
+  quiet asked said unmoved none = each.stays asked said unmoved
+      (subst (λ (cs : List RecordCommand). cond (is_accepted said) cs [] ≡ []) (sym none)
+      (none_asked (is_accepted said)))
+
+  add_so : (id interval : ℕ) (name : List ℕ) (there : Option Intersection)
+      → get office.intersections id ≡ there
+      → Has (command.AddIntersection id interval name) (added office id interval name there)
+  add_so id interval name None is = each.adds id interval name is
+  add_so id interval name (Some i) is = quiet (command.AddIntersection id interval name) _
+      (same_unmoved (bytes_eq i.name name && (i.interval == interval))) refl
+
+  move_so : (id : ℕ) (clerk : List ℕ) (ask : Ask) (i : Intersection)
+      (side : Result TimingSide DraftRefusal) → get office.intersections id ≡ Some i
+      → line_of ask clerk i.timing ≡ side → Has (command_of id clerk ask) (moved office id i side)
+  move_so id clerk ask i (Ok next) there took = each.moves id clerk ask i next there took
+  move_so id clerk ask i (Err why) there took = each.stays (command_of id clerk ask) _ refl refl
+
+  transact_so : (id : ℕ) (clerk : List ℕ) (ask : Ask) → Has (command_of id clerk ask)
+      (transacted office id (line_of ask clerk) (get office.intersections id))
+  transact_so id clerk ask = at (get office.intersections id) refl
+    where
+      at : (there : Option Intersection) → get office.intersections id ≡ there
+          → Has (command_of id clerk ask) (transacted office id (line_of ask clerk) there)
+      at None is = each.stays (command_of id clerk ask) _ refl refl
+      at (Some i) is = move_so id clerk ask i (line_of ask clerk i.timing) is refl
+
+  show_so : (asked : Command) (id : ℕ) (show : Intersection → Reply)
+      → records_asked office asked ≡ [] → ((i : Intersection) → is_moved (show i) ≡ false)
+      → Has asked (shown (get office.intersections id) show, office)
+  show_so asked id show none unmoved = at (get office.intersections id)
+    where
+      at : (there : Option Intersection) → Has asked (shown there show, office)
+      at None = quiet asked (reply.Refused refusal.UnknownIntersection) refl none
+      at (Some i) = quiet asked (show i) (unmoved i) none
+
+  line_so : (c : RecordCommand) (line : Line) → line_at office.register c ≡ line
+      → Has (command.Record c) (
+        told line,
+        record office {
+          register = after_line line (with_record office.register c) office.register;
+        },
+      )
+  line_so c added_line is = each.records c is
+  line_so c same_line is = each.stays (command.Record c) reply.Same refl refl
+  line_so c (refused_line why) is = each.stays (command.Record c) _ refl refl
+
+  record_so : (c : RecordCommand)
+      → Has (command.Record c) (recorded_at office (cabinet_of c) (recorded office c))
+  record_so c = at (cabinet_of c)
+    where
+      there : (o : Option Intersection)
+          → Has (command.Record c) (known office o (recorded office c))
+      there None = each.stays (command.Record c) _ refl refl
+      there (Some i) = line_so c (line_at office.register c) refl
+
+      at : (about : Option ℕ)
+          → Has (command.Record c) (recorded_at office about (recorded office c))
+      at None = line_so c (line_at office.register c) refl
+      at (Some id) = there (get office.intersections id)
+
+  import_so : (records : List RecordCommand) (done : Result (ℕ × ℕ × Office) Refusal)
+      → import_from 1 0 0 office records ≡ done
+      → Has (command.Import records) (imported office done)
+  import_so records (Ok done) is = each.imports records done is
+  import_so records (Err why) is = each.stays (command.Import records) _ refl refl
+
+  answer_so : (asked : Command) → Has asked (answered office asked)
+  answer_so (command.AddIntersection id interval name) =
+      add_so id interval name (get office.intersections id) refl
+  answer_so (command.Begin id clerk) = transact_so id clerk Begin
+  answer_so (command.Edit id clerk changes) = transact_so id clerk (edit_of changes)
+  answer_so (command.Verify id clerk) = transact_so id clerk Verify
+  answer_so (command.Check id clerk) = transact_so id clerk Check
+  answer_so (command.Commit id clerk) = transact_so id clerk Commit
+  answer_so (command.Reopen id clerk) = transact_so id clerk Reopen
+  answer_so (command.Abandon id clerk) = transact_so id clerk Abandon
+  answer_so (command.State id) =
+      show_so (command.State id) id (λ i. reply.State (state_shown id i)) refl (λ i. refl)
+  answer_so (command.Timing id) =
+      show_so (command.Timing id) id (λ i. reply.Timing (timing_shown i)) refl (λ i. refl)
+  answer_so (command.Draft id) = show_so (command.Draft id) id (λ i. draft_shown i.timing.draft)
+      refl (λ i. draft_unmoved i.timing.draft)
+  answer_so (command.Record c) = record_so c
+  answer_so (command.Import records) =
+      import_so records (import_from 1 0 0 office records) refl
+  answer_so (command.Cabinet id) = show_so (command.Cabinet id) id
+      (λ i. reply.Cabinet (cabinet_shown office.register id)) refl (λ i. refl)
+  answer_so (command.OpenOrders id) = show_so (command.OpenOrders id) id
+      (λ i. reply.OpenOrders (open_at office.register id)) refl (λ i. refl)
+  answer_so command.Stock = quiet command.Stock _ refl refl
+  answer_so (command.Overdue day) = quiet (command.Overdue day) _ refl refl
+
+  -- so it holds of a command that takes its step, or is answered Unavailable
+  pub step_so : (asked : Command) (said : Reply) (next : Office) → Step office asked said next
+      → Holds asked said next
+  step_so asked said next (inl left) = subst₂ (Holds asked) (sym left.0) (sym left.1)
+      (each.stays asked (reply.Refused refusal.Unavailable) refl refl)
+  step_so asked said next (inr is) =
+      subst (λ (p : Reply × Office). Holds asked p.0 p.1) is (answer_so asked)
+
+-- ---- the records of an import
+
+-- What is said of an office, records, and the office after their import holds of no records, and of
+-- records of which the first is new or is there, and the others are imported after it.
+pub record HoldsOfRecords (Holds : Office → List RecordCommand → Office → Type 0) : Type 0 where
+  pub none : (office : Office) → Holds office [] office
+  pub new : (office : Office) (c : RecordCommand) (cs : List RecordCommand) (last : Office)
+      → is_known office (cabinet_of c) ≡ true → line_at office.register c ≡ added_line
+      → Holds (with_recorded office c) cs last → Holds office (c ∷ cs) last
+  pub old : (office : Office) (c : RecordCommand) (cs : List RecordCommand) (last : Office)
+      → is_known office (cabinet_of c) ≡ true → line_at office.register c ≡ same_line
+      → Holds office cs last → Holds office (c ∷ cs) last
+
+-- where an import goes on after a record, that is known, and was added or was there
+goes_on : {X P : Type 0} (at : ℕ) (there : Bool) (line : Line) (new old : Result X Refusal)
+    (done : X) → (there ≡ true → line ≡ added_line → new ≡ Ok done → P)
+    → (there ≡ true → line ≡ same_line → old ≡ Ok done → P)
+    → import_by at there line new old ≡ Ok done → P
+goes_on at false line new old done if_new if_old is = absurd cc
+goes_on at true added_line new old done if_new if_old is = if_new refl refl is
+goes_on at true same_line new old done if_new if_old is = if_old refl refl is
+goes_on at true (refused_line why) new old done if_new if_old is = absurd cc
+
+-- so it holds of an import that is accepted
+pub records_so : (Holds : Office → List RecordCommand → Office → Type 0) → HoldsOfRecords Holds
+    → (records : List RecordCommand) (at added same : ℕ) (office : Office) (done : ℕ × ℕ × Office)
+    → import_from at added same office records ≡ Ok done → Holds office records done.2
+records_so Holds each [] at added same office done is =
+    let f : Ok (added, same, office) ≡ Ok done = is in
+    let same_done : (added, same, office) ≡ done = cc in
+    subst (λ (d : ℕ × ℕ × Office). Holds office [] d.2) same_done (each.none office)
+records_so Holds each (c ∷ cs) at added same office done is =
+    goes_on at (is_known office (cabinet_of c)) (line_at office.register c)
+    (import_from (at + 1) (added + 1) same (with_recorded office c) cs)
+    (import_from (at + 1) added (same + 1) office cs) done
+    (λ there line made. each.new office c cs done.2 there line
+    (records_so Holds each cs (at + 1) (added + 1) same (with_recorded office c) done made))
+    (λ there line made. each.old office c cs done.2 there line
+    (records_so Holds each cs (at + 1) added (same + 1) office done made)) is

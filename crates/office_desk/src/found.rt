@@ -1,0 +1,71 @@
+//! Intersections that were found in the tables, so that the row of none is read twice.
+ghost use Rattle.std.specs.Prelude.{◌≡◌, ◌≢◌, true, false, Ok, Err};
+ghost use Rattle.std.specs.Prelude.{IfOk, IsSome, IsTrue, OnErr, OnOk};
+ghost use Rattle.office_tables_shelf.specs.Content.{Content};
+ghost use Rattle.office_tables_shelf.specs.Shelf.{IsKept};
+ghost use Rattle.office_desk_cabinet.specs.Open.{StaysOpen};
+ghost use Rattle.office_desk.specs.Recording.{AreFound, IsAmong, IsFound};
+ghost use Rattle.office_desk.specs.Recording.{IsKnownIn, HasDamagedAbout, TellsAbout};
+
+use crate::recording::is_known;
+use office_tables_shelf::shelf::{Shelf, ShelfFault};
+use signal_records::{InterId, NoMemory};
+use std::alloc::Global;
+use std::collections::BTreeSet;
+
+/// Whether one of these is asked for.
+fn is_among(found: &BTreeSet<InterId>, about: Option<InterId>) -> bool
+    ensures { IsTrue result → IsAmong found.now about }
+{
+    match about {
+        Some(id) => found.contains(&id),
+        None => false,
+    }
+}
+
+/// Keeps the one that was asked for, beside these.
+fn keep(found: &mut BTreeSet<InterId>, about: Option<InterId>) -> Result<(), NoMemory>
+    ensures kept { OnOk result ((tables : Content) → AreFound tables found.old →
+        IsFound tables about → AreFound tables found.new) }
+    ensures fault { OnErr result (IsSome about) }
+{
+    let Some(id) = about else {
+        return Ok(());
+    };
+    found.insert(id)?;
+    Ok(())
+}
+
+/// As `is_known`, of which these are not asked again; one that is there is kept beside them.
+pub(crate) fn is_found<S: Shelf>(
+    shelf: &mut S,
+    alloc: Global,
+    found: &mut BTreeSet<InterId>,
+    about: Option<InterId>,
+) -> Result<bool, ShelfFault>
+    requires { S.is_honest shelf.old → AreFound (S.content shelf.old) found.old }
+    ensures found { IfOk result (λ _. S.is_honest shelf.new →
+        AreFound (S.content shelf.old) found.new) }
+    ensures known { IfOk result (λ known. S.is_honest shelf.new →
+        IsKnownIn (S.content shelf.old) about known) }
+    ensures tells { IfOk result (λ known. S.is_honest shelf.new →
+        TellsAbout (S.content shelf.old) about known) }
+    ensures asked { result ≡ Ok false → IsSome about }
+    ensures fault { OnErr result (IsSome about) }
+    ensures whole { IfOk result (λ _. S.is_honest shelf.new →
+        ¬ HasDamagedAbout (S.content shelf.old) about) }
+    ensures damaged { result ≡ Err ShelfFault.Damaged → S.is_honest shelf.new →
+        HasDamagedAbout (S.content shelf.old) about }
+    ensures kept { IsKept S.is_honest S.content S.written S.may_leave shelf.old shelf.new }
+    ensures open { StaysOpen S.is_clean S.is_honest (result ≢ Ok true)
+        result shelf.old shelf.new }
+{
+    if is_among(found, about) {
+        return Ok(true);
+    }
+    if !is_known(shelf, alloc, about)? {
+        return Ok(false);
+    }
+    keep(found, about)?;
+    Ok(true)
+}

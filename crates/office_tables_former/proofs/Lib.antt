@@ -1,3 +1,0 @@
-pub mod ListsAll
-pub mod KeptLemmas
-pub mod Migration

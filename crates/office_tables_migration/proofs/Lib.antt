@@ -1,0 +1,2 @@
+pub mod ListsAll
+pub mod Migration

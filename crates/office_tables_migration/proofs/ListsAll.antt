@@ -1,0 +1,82 @@
+-- The query of all rows of a table that is keyed as `timing` is, what it shows, and what the cells of a row tell.
+use Rattle.std.proofs.Common.{◌≡◌, ℕ, List, [], ◌++◌, true, map, length, Some, refl, sym, subst, ap, ◌∙◌, ◌∷◌, pos, Result, Ok, Err}
+use Rattle.std.specs.FinMap.{entries, get}
+use Rattle.std.specs.List.{AllByRecursion}
+use Rattle.sqlite.specs.declared.types.Value.TheVariants.{Null}
+use Rattle.sqlite.specs.Effect as effect
+use Rattle.sqlite.specs.Effect.{Database, IsDatabase}
+use Rattle.sqlite.specs.Order.{Row as SqlRow, column}
+use Rattle.sqlite.specs.Program.{overlay}
+use Rattle.sqlite.specs.Query.{IsAnswer}
+use Rattle.sqlite_rules.specs.Lists.{Has}
+use Rattle.office_tables_shelf.specs.Cells.{Cell, null, number, text}
+use Rattle.office_tables_shelf.specs.declared.rows.Table.{Table}
+use Rattle.office_tables_sql.specs.Calls.{AreOrdered, Reads}
+use Rattle.office_tables_sql.specs.Listed.{shown_key, shown_body}
+use Rattle.office_tables_sql.specs.Schema.{office_schema}
+use Rattle.office_tables_sql.specs.Stored.{cells_at, content_of, cell_of}
+use Rattle.office_tables_sql.specs.Tables.{rows_at, layout_at, row_shown, listed_by, places_from}
+use Rattle.office_tables_shelf.proofs.ListLemmas.{stands, where_all}
+use Rattle.office_tables_sql.proofs.ListedLemmas.{is_in}
+use Rattle.office_tables_sql.proofs.StoredLists.{lists_where, width_where}
+use Rattle.office_tables_migration.specs.Former.{shown_cells}
+use Rattle.office_tables_migration.specs.Listing.{ListsAll}
+use Rattle.std.specs.Prelude.{IfOk}
+use Rattle.signal_records.specs.Row.{key_of}
+use Rattle.signal_records.specs.Within.{IsRowWithin, IsChangeWithin, version_1_limits}
+use Rattle.signal_records.specs.declared.record.Change.{Change}
+use Rattle.signal_records.specs.declared.record.Change.TheVariants.{Put, Remove}
+use Rattle.signal_records.specs.declared.record.Row.{Row}
+use Rattle.signal_records.proofs.RowLaws.{are_version_1}
+use Rattle.draft_core.specs.DraftRows.{left_by}
+use Rattle.office_tables_shelf.specs.Rows.{body_in, timing_key, draft_key, left_columns_in}
+use Rattle.office_tables_shelf.proofs.RowLemmas.{same_row}
+
+-- the row of a text, in whichever intersection its first column says
+pub one_key : (row : SqlRow) (found : Row) (id mine : ℕ) (change : Change) → IsRowWithin version_1_limits found → IsChangeWithin version_1_limits change → cell_of (column row 4) ≡ text (body_in version_1_limits found)
+    → cell_of (column row 0) ≡ number (pos mine) → shown_key row ≡ draft_key id change → cell_of (column row 4) ∷ [] ≡ left_columns_in version_1_limits (left_by change) → shown_key row ≡ timing_key mine (key_of found)
+one_key row found id mine (Remove k) in_found within body first keys columns =
+    absurd (let e : text (body_in version_1_limits found) ∷ [] ≡ null ∷ [] = ap (λ (c : Cell). c ∷ []) (sym body) ∙ columns in cc)
+one_key row found id mine (Put r) in_found within body first keys columns =
+    let told : body_in version_1_limits found ≡ body_in version_1_limits r = cc in
+    let same : found ≡ r = same_row version_1_limits found r are_version_1 in_found within told in
+    let here : id ≡ mine = cc in
+    keys ∙ (λ i. timing_key (here i) (key_of (sym same i)))
+
+-- two facts of what was answered are one
+pub both : {X E : Type 0} (r : Result X E) (P Q R : X → Type 0) → ((x : X) → P x → Q x → R x) → IfOk r P → IfOk r Q → IfOk r R
+both (Ok x) P Q R f p q = f x p q
+both (Err e) P Q R f p q = tt
+
+-- one more row that was read
+pub one_more : {X Y Z : Type 0} (f : X → Z) (g : Y → Z) (xs : List X) (x : X) (y : Y) (ys : List Y) → f x ≡ g y → map f (xs ++ x ∷ []) ++ map g ys ≡ map f xs ++ map g (y ∷ ys)
+one_more f g [] x y ys e = ap (λ z. z ∷ map g ys) e
+one_more f g (w ∷ xs) x y ys e = ap (λ zs. f w ∷ zs) (one_more f g xs x y ys e)
+
+module _ (t : Table) (db : Database) (is : db.schema ≡ office_schema) (sound : IsDatabase db) (ordered : AreOrdered db.trees) (sql : List ℕ) (means : ListsAll t sql) (shown : List SqlRow) (reads : Reads sql [] db shown) where
+  answer : IsAnswer (listed_by (layout_at t) []) (overlay db.trees []) [] shown
+  answer =
+      let got = subst (λ k. effect.Reads k db [] shown) means.is reads in
+      got.answer Null
+
+  same_cells : (row : SqlRow) → row_shown t row ≡ shown_cells row
+  same_cells row = λ i. (cells_at (places_from 0 (means.keys i)) row, cells_at (places_from (length (means.keys i)) (means.columns i)) row)
+
+  -- the query shows all rows
+  pub all_shown : map shown_cells shown ≡ entries (rows_at (content_of db.trees) t)
+  all_shown =
+      sym (ap (λ (f : SqlRow → List Cell × List Cell). map f shown) (λ i row. same_cells row i))
+      ∙ lists_where t db is sound ordered [] [] (λ _. true) (λ row whole. refl) shown answer
+      ∙ where_all (entries (rows_at (content_of db.trees) t))
+
+  pub five_wide : AllByRecursion (λ row. length row ≡ 5) shown
+  five_wide = subst (λ n. AllByRecursion (λ row. length row ≡ n) shown)
+      (λ i. length (means.keys i ++ means.columns i))
+      (width_where t db is sound ordered [] [] (λ _. true) (λ row whole. refl) shown answer)
+
+  -- what a shown row has stands in the table
+  pub stored_at : (row : SqlRow) → Has shown row → get (rows_at (content_of db.trees) t) (shown_key row) ≡ Some (shown_body row)
+  stored_at row there =
+      let rows = rows_at (content_of db.trees) t in
+      (stands shown_key shown_body (λ _. true) rows shown (all_shown ∙ sym (where_all (entries rows)))
+      row (is_in shown row there)).1

@@ -1,0 +1,56 @@
+-- The queries of all rows of `timing` and of `draft`.
+use Rattle.std.specs.Prelude.{◌≡◌, ℕ, List, [], ◌∷◌, codes, refl, Vec, Result, IfOk, Err}
+use Rattle.std.specs.declared.alloc.Global.{Global}
+use Rattle.sqlite.specs.Command.TheVariants.{Select}
+use Rattle.sqlite.specs.Listing.{understood}
+use Rattle.sqlite.specs.State.{State}
+use Rattle.sqlite_tied.specs.Compute.{everything}
+use Rattle.signal_records.specs.declared.record.Change.{Change}
+use Rattle.office_tables_shelf.specs.Cells.{Rows}
+use Rattle.office_tables_shelf.specs.declared.rows.Table.{Table}
+use Rattle.office_tables_shelf.specs.declared.rows.Table.TheVariants.{Timing, Draft}
+use Rattle.office_tables_shelf.specs.declared.shelf.ShelfFault.{ShelfFault}
+use Rattle.office_tables_shelf.specs.declared.shelf.ShelfFault.TheVariants as fault
+use Rattle.office_tables_sql.specs.Calls.{IsHonest, IsQuery, command_of}
+use Rattle.office_tables_sql.specs.Schema.{office_schema}
+use Rattle.office_tables_sql.specs.Tables.{layout_at, listed_by}
+use Rattle.office_tables_migration.specs.Former.{AreKept, HasNoFormer}
+use Rattle.office_tables_migration.specs.declared.listing.TheConstants.{TIMING, DRAFT}
+
+-- the text lists all rows of a table that is keyed as `timing` is, in the order of their keys
+pub record ListsAll (t : Table) (sql : List ℕ) : Type 0 where
+  pub names : List (List ℕ)
+  pub is : command_of (understood office_schema sql) ≡ Select (record { lets = []; body = listed_by (layout_at t) [] }) names
+  pub keys : (layout_at t).keys ≡ 1 ∷ 2 ∷ 3 ∷ 4 ∷ []
+  pub columns : (layout_at t).columns ≡ 5 ∷ []
+
+-- what a call gives is what the table kept
+abbrev pub Lists : Result (Vec (ℕ × Change) Global) ShelfFault → State → Rows → Type 0
+Lists result new rows = IfOk result (λ kept. IsHonest new → AreKept rows kept.items)
+
+-- and where it tells damage, version 1 kept no such cells
+abbrev pub TellsNoFormer : Result (Vec (ℕ × Change) Global) ShelfFault → State → Rows → Type 0
+TellsNoFormer result new rows = result ≡ Err fault.Damaged → IsHonest new → HasNoFormer rows
+
+-- the same of each table that the text lists
+abbrev pub ListsEach : Result (Vec (ℕ × Change) Global) ShelfFault → State → List ℕ → (Table → Rows) → Type 0
+ListsEach result new sql rows = IfOk result (λ kept. IsHonest new → (t : Table) → ListsAll t sql → AreKept (rows t) kept.items)
+
+abbrev pub TellsNoFormerOfEach : Result (Vec (ℕ × Change) Global) ShelfFault → State → List ℕ → (Table → Rows) → Type 0
+TellsNoFormerOfEach result new sql rows = result ≡ Err fault.Damaged → IsHonest new → (t : Table) → ListsAll t sql → HasNoFormer (rows t)
+
+pub lists_timing : ListsAll Timing TIMING.now
+unfolding understood everything
+lists_timing = record { names = codes "inter" ∷ codes "kind" ∷ codes "a" ∷ codes "b" ∷ codes "body" ∷ []; is = refl; keys = refl; columns = refl }
+
+pub queries_timing : IsQuery TIMING.now
+unfolding understood everything
+queries_timing = record { plain = (refl, refl); unlisted = refl }
+
+pub lists_draft : ListsAll Draft DRAFT.now
+unfolding understood everything
+lists_draft = record { names = codes "inter" ∷ codes "kind" ∷ codes "a" ∷ codes "b" ∷ codes "body" ∷ []; is = refl; keys = refl; columns = refl }
+
+pub queries_draft : IsQuery DRAFT.now
+unfolding understood everything
+queries_draft = record { plain = (refl, refl); unlisted = refl }

@@ -1,0 +1,4 @@
+pub mod File
+pub mod Memory
+pub mod Migrating
+pub mod Serving

@@ -1,0 +1,96 @@
+#!/usr/bin/env python3
+"""Draws requests, has the office in Python (tests/model) answer them, and makes row files of both,
+which crates/office_rows plays.
+
+    tests/draw_rows.py                          sees that the stored rows are what is drawn today
+    tests/draw_rows.py SEED COUNT               tells what would be drawn, and how often
+    tests/draw_rows.py SEED COUNT --write       writes crates/office_rows/data/drawn_*.row
+
+Each route has to be answered, and each refusal but 18, each fault of a row and each broken rule has
+to come; what does not is told, and the status is 1. Builds nothing, and needs no program.
+"""
+import itertools
+import random
+import re
+import sys
+
+from model import requests
+from model.office import Office
+from model.rows import DATA, written
+from model.tally import Tally
+from model.wire import answer
+
+# Of a hundred requests so many are of a theme.
+SHARES = {"transactions": 22, "plans": 30, "registers": 22, "days": 8, "faults": 18}
+STREAM, OPENED = 50, 3  # requests of a stream, and streams after which the tables are opened again
+
+
+def drawn(name, seed, count):
+    """The requests of a theme with their answers."""
+    dice, office = random.Random(f"{name} {seed}"), Office()
+    theme = getattr(requests, name)(dice, office)
+    for method, target, keys in itertools.islice(theme, count):
+        body = requests.body_of(keys)
+        yield (method, target, body), answer(office, method, target, (body or "").encode())
+
+
+def row(name, seed, count, tally):
+    """The text of a row file."""
+    about = getattr(requests, name).__doc__.replace("\n   ", "")
+    yield f"# Drawn by tests/draw_rows.py {seed} {count}, and not written by hand. {about}"
+    share = count * SHARES[name] // 100
+    for at, (request, told) in enumerate(drawn(name, seed, share), 1):
+        tally.note(*request[:2], told[1])
+        yield f"> {written(*request)}"
+        yield f"< {' '.join(told)}"
+        if at % STREAM == 0 or at == share:
+            yield f"served {(at - 1) % STREAM + 1}"
+        if at % (STREAM * OPENED) == 0:
+            yield "opens"
+
+
+def rows(seed, count):
+    """Each row file's name and text, and the tally of all."""
+    tally = Tally()
+    texts = {DATA / f"drawn_{name}.row": "\n".join([*row(name, seed, count, tally), ""])
+             for name in SHARES}
+    return texts, tally
+
+
+def stored():
+    """The seed and the count by which the stored rows were drawn."""
+    told = [re.match(r"# Drawn by tests/draw_rows.py (\d+) (\d+),", path.read_text())
+            for path in sorted(DATA.glob("drawn_*.row"))]
+    if len(told) != len(SHARES) or not all(told) or len({it.groups() for it in told}) != 1:
+        sys.exit("draw_rows.py: the stored rows are not those of one seed and count")
+    return map(int, told[0].groups())
+
+
+def check():
+    """Sees that the stored rows are what is drawn today."""
+    texts, _ = rows(*stored())
+    other = [path.name for path, text in texts.items() if path.read_text() != text]
+    if other:
+        sys.exit(f"draw_rows.py: {', '.join(other)}: not what is drawn today")
+    print("ok")
+
+
+def main():
+    """Checks, or tells or writes what is drawn."""
+    words = [it for it in sys.argv[1:] if it != "--write"]
+    if not sys.argv[1:]:
+        return check()
+    if len(words) != 2 or not all(it.isdigit() for it in words):
+        sys.exit(__doc__)
+    texts, tally = rows(*map(int, words))
+    print("\n".join(tally.lines()))
+    for path, text in texts.items():
+        print(f"{len(text.encode()):7} bytes: {path.name}")
+        if "--write" in sys.argv:
+            path.write_text(text)
+    if tally.missing():
+        sys.exit(f"draw_rows.py: {', '.join(tally.missing())} did not come")
+
+
+if __name__ == "__main__":
+    main()
