@@ -7,7 +7,8 @@
   is a clause of that call, and each definition, part of one, file of definitions, row and crate
   that it names is there; a call that asks something of its caller says so; and each public call of
   a library is in the table or in the list of those that are left out, once.
-- docs/crates.svg is what tests/drawing.py draws.
+- docs/crates.svg is what tests/drawing.py draws, and no line of crates.txt names a crate of this
+  repository that its own crate doesn't name.
 - In all documents: each link leads somewhere, each file named by its path is there, no line passes
   100 columns but in tables, and nothing is named that a reader has not. README.md has at most 150
   lines, and its headline is that of docs/PROOF.md.
@@ -333,12 +334,23 @@ def wrong_drawing():
         yield "docs/crates.svg is another picture than tests/drawing.py draws"
 
 
+def unused_crates():
+    """Each crate that a line of crates.txt names in vain: it would be waited for."""
+    for crate, below in drawing.crates()[0].items():
+        kinds = (("src", ".rt"), ("specs", ".antt"), ("proofs", ".antt"))
+        text = "\n".join(path.read_text() for kind in kinds for path in files(crate, *kind))
+        for name in below:
+            if not re.search(rf"\b{name}\s*::|\bRattle\.{name}\.|\buse {name}\b", text):
+                yield f"crates.txt: {crate} names {name}, and nothing in it does"
+
+
 def main():
     if sys.argv[1:]:
         sys.exit("documents.py: it takes no words")
     proof = Proof()
     wrong = [*proof.wrong(), *missing_rules(proof.words), *missing_links(), *missing_files()]
     wrong += [*long_lines(), *private_words(), *wrong_readme(), *wrong_drawing()]
+    wrong += unused_crates()
     print("\n".join(wrong) if wrong else "ok")
     sys.exit(1 if wrong else 0)
 
