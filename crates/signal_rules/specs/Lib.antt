@@ -9,6 +9,7 @@ pub mod RowWalk
 pub mod Touched
 pub mod CutPoints
 pub mod Starts
+pub mod Slots
 pub mod Counts
 pub mod Difference
 pub mod Texts

@@ -200,10 +200,11 @@ fn judge_lanes(
     ensures found { OnOk result (found.new.items ≡ found.old.items ++ broken (Subject.Pattern n) (lane_findings set.now pattern.now)) }
 {
     let rings = pattern::rings_of(alloc, set, phases)?;
-    let fill = lanes::rings_fill(set, pattern, &rings);
+    let mut slots = Vec::new(alloc);
+    let fill = lanes::rings_fill(set, pattern, &rings, &mut slots)?;
     report(fill, Subject::Pattern(n), Rule::V12, found)?;
     if fill {
-        let agree = lanes::rings_agree(alloc, set, pattern, &rings, ticks)?;
+        let agree = lanes::rings_agree(&slots, ticks);
         report(agree, Subject::Pattern(n), Rule::V13, found)?;
     }
     Ok(())

@@ -1,44 +1,86 @@
-//! V12 and V13, the rules on the lanes of a pattern. No lane is built: its length is a sum of splits,
-//! and the rings are compared only at the seconds at which one of them starts a phase.
+//! V12 and V13, the rules on the lanes of a pattern. No lane is built second by second: its length
+//! is a sum of splits, and the rings are compared only at the seconds at which one of them starts a
+//! phase. What that takes of the set is looked up once for each ring and for each phase of its row.
 
-ghost use Rattle.std.specs.Prelude.{◌≡◌, ◌<◌, ◌+◌, ◌^◌, ◌==◌, true, IfOk, map, length};
+ghost use Rattle.std.specs.Prelude.{◌≡◌, ◌<◌, ◌+◌, ◌^◌, ◌++◌, ◌==◌, true, IfOk, OnOk, length};
 ghost use Rattle.std.specs.List.{list_all};
-ghost use Rattle.signal_rules.specs.Lookup.{lists};
-ghost use Rattle.signal_rules.specs.SequenceRule.{ring_row};
-ghost use Rattle.signal_rules.specs.PatternRules.{time_of, list_each_other, all_list_each_other};
-ghost use Rattle.signal_rules.specs.CutPoints.{timed, start_of, phase_in, phases_in};
-ghost use Rattle.signal_rules.specs.Starts.{times, agree_at, agree_at_row, agree_at_starts, rings_fill};
-ghost use Rattle.signal_rules.specs.Counts.{greatest, RisesAtMost, entries_of};
+ghost use Rattle.signal_rules.specs.Lookup.{phase_at, the_mates, lists};
+ghost use Rattle.signal_rules.specs.PatternRules.{time_of};
+ghost use Rattle.signal_rules.specs.CutPoints.{timed};
+ghost use Rattle.signal_rules.specs.Starts.{times, rings_fill};
+ghost use Rattle.signal_rules.specs.Slots.{spans_at, spans_from, spans_of, has_second, are_mates};
+ghost use Rattle.signal_rules.specs.Slots.{all_are_mates, listings_in, agree_where_begun};
+ghost use Rattle.signal_rules.specs.Counts.{RisesAtMost};
 
 use crate::lookup::{phase_at, ring_row, split_at};
 use signal_records::{NoMemory, Pattern, PhaseNo, RingNo, Split, TimingSet};
-use std::alloc::Global;
+use std::marker::Model;
 
-/// V12: the splits of each ring's row sum up to the cycle.
-pub(crate) fn rings_fill(set: &TimingSet, pattern: &Pattern, rings: &[RingNo]) -> bool
-    ensures { result ≡ rings_fill set.now pattern.now rings.now }
-{
-    for ring in rings {
-        if !row_fills(set, pattern, ring_row(set, pattern.seq, *ring)) {
-            return false;
-        }
-    }
-    true
+/// A phase that has its ring's lane from a second up to another one, and the phases that it lists.
+#[derive(Drop)]
+pub(crate) struct Slot<'s> {
+    from: u32,
+    until: u32,
+    phase: PhaseNo,
+    mates: &'s [PhaseNo],
 }
 
-/// The splits of a row are taken from the cycle, so that no sum grows past it.
-fn row_fills(set: &TimingSet, pattern: &Pattern, row: &[PhaseNo]) -> bool
-    ensures { result ≡ (length (timed (times set.now pattern.now.split) row.now) == pattern.now.cycle) }
+impl<'s> Model for Slot<'s> {
+    ghost use Rattle.signal_rules.specs.Slots.{Span};
+
+    ghost Value = { Span };
+
+    ghost view = { λ s. record {
+      from = s.from;
+      until = s.until;
+      listing = record { phase = s.phase; mates = s.mates.now };
+    } };
+}
+
+/// V12: the splits of each ring's row sum up to the cycle. Where they do, the slots of the rows are
+/// added.
+pub(crate) fn rings_fill<'s>(
+    set: &'s TimingSet,
+    pattern: &Pattern,
+    rings: &[RingNo],
+    slots: &mut Vec<Slot<'s>>,
+) -> Result<bool, NoMemory>
+    ensures fill { IfOk result (λ fill. fill ≡ rings_fill set.now pattern.now rings.now) }
+    ensures slots { IfOk result (λ fill. fill ≡ true →
+        slots.new.items ≡ slots.old.items ++ spans_of set.now pattern.now rings.now) }
 {
-    let mut left = pattern.cycle.get();
+    for ring in rings {
+        let row = ring_row(set, pattern.seq, *ring);
+        if !row_fills(set, pattern, row, slots)? {
+            return Ok(false);
+        }
+    }
+    Ok(true)
+}
+
+/// The same of a row. It is left where it passes the cycle, so that no sum grows past it.
+fn row_fills<'s>(
+    set: &'s TimingSet,
+    pattern: &Pattern,
+    row: &[PhaseNo],
+    slots: &mut Vec<Slot<'s>>,
+) -> Result<bool, NoMemory>
+    ensures fill { IfOk result (λ fill. fill ≡
+        (length (timed (times set.now pattern.now.split) row.now) == pattern.now.cycle)) }
+    ensures slots { IfOk result (λ fill. fill ≡ true →
+        slots.new.items ≡ slots.old.items ++ spans_from set.now pattern.now.split 0 row.now) }
+{
+    let cycle = pattern.cycle.get();
+    let mut second: u32 = 0;
     for p in row {
         let time = u32::from(time_of(split_at(set, pattern.split, *p)));
-        if left < time {
-            return false;
+        if cycle < second + time {
+            return Ok(false);
         }
-        left -= time;
+        push_slot(set, *p, time, second, slots)?;
+        second += time;
     }
-    left == 0
+    Ok(second == cycle)
 }
 
 /// The seconds of a phase.
@@ -51,143 +93,95 @@ fn time_of(split: Option<Split>) -> u8
     }
 }
 
-/// V13, where the rings fill the cycle: they agree at each second at which one of them starts a phase,
-/// and so at each second. Each comparison is a tick.
-pub(crate) fn rings_agree(
-    alloc: Global,
-    set: &TimingSet,
-    pattern: &Pattern,
-    rings: &[RingNo],
-    ticks: &mut u64,
-) -> Result<bool, NoMemory>
-    requires { rings_fill set.now pattern.now rings.now ≡ true }
-    ensures agree { IfOk result (λ agree. agree ≡ agree_at_starts set.now pattern.now rings.now rings.now) }
-    ensures ticks { RisesAtMost (entries_of set.now pattern.now.seq rings.now) ticks.old ticks.new }
-{
-    // It is read, so that its range is known.
-    let _cycle = pattern.cycle.get();
-    for ring in rings {
-        let row = ring_row(set, pattern.seq, *ring);
-        if !starts_agree(alloc, set, pattern, rings, row, ticks)? {
-            return Ok(false);
-        }
-    }
-    Ok(true)
-}
-
-/// The rings agree at each second at which a row starts a phase.
-fn starts_agree(
-    alloc: Global,
-    set: &TimingSet,
-    pattern: &Pattern,
-    rings: &[RingNo],
-    row: &[PhaseNo],
-    ticks: &mut u64,
-) -> Result<bool, NoMemory>
-    requires { length (timed (times set.now pattern.now.split) row.now) < 2 ^ 32 }
-    ensures agree { IfOk result (λ agree. agree ≡ agree_at_row set.now pattern.now rings.now row.now) }
-    ensures ticks { RisesAtMost (length row.now) ticks.old ticks.new }
-{
-    let mut second: u32 = 0;
-    for p in row {
-        let time = time_of(split_at(set, pattern.split, *p));
-        if !start_agrees(alloc, set, pattern, rings, time, second, ticks)? {
-            return Ok(false);
-        }
-        second += u32::from(time);
-    }
-    Ok(true)
-}
-
-/// The rings agree at the start of a phase, which has one if it has any time.
-fn start_agrees(
-    alloc: Global,
-    set: &TimingSet,
-    pattern: &Pattern,
-    rings: &[RingNo],
-    time: u8,
+/// Adds the slot of a phase that starts at a second, which has one if it has any time.
+fn push_slot<'s>(
+    set: &'s TimingSet,
+    phase: PhaseNo,
+    time: u32,
     second: u32,
-    ticks: &mut u64,
-) -> Result<bool, NoMemory>
-    ensures agree { IfOk result (λ agree. agree ≡ list_all (agree_at set.now pattern.now rings.now) (start_of time second)) }
-    ensures ticks { RisesAtMost 1 ticks.old ticks.new }
-    ensures counted { ticks.old < greatest → ticks.new ≡ ticks.old + length (start_of time second) }
+    slots: &mut Vec<Slot<'s>>,
+) -> Result<(), NoMemory>
+    requires { second + time < 2 ^ 32 }
+    ensures { OnOk result
+        (slots.new.items ≡ slots.old.items ++ spans_at set.now phase time second) }
 {
-    if time == 0 {
-        return Ok(true);
+    if time != 0 {
+        slots.push(Slot {
+            from: second,
+            until: second + time,
+            phase,
+            mates: mates_of(set, phase),
+        })?;
     }
-    *ticks = ticks.saturating_add(1);
-    let phases = phases_in(alloc, set, pattern, rings, second)?;
-    Ok(all_list_each_other(set, &phases))
+    Ok(())
 }
 
-/// The phases that the rings have at a second.
-fn phases_in(
-    alloc: Global,
-    set: &TimingSet,
-    pattern: &Pattern,
-    rings: &[RingNo],
-    second: u32,
-) -> Result<Vec<PhaseNo>, NoMemory>
-    ensures { IfOk result (λ phases. phases.items ≡ phases_in (times set.now pattern.now.split) (map (ring_row set.now pattern.now.seq) rings.now) second) }
+/// V13, where the rings fill the cycle: they agree at each second at which one of them starts a
+/// phase, and so at each second. Each comparison is a tick.
+pub(crate) fn rings_agree(slots: &[Slot<'_>], ticks: &mut u64) -> bool
+    ensures agree { result ≡ agree_where_begun slots.now slots.now }
+    ensures ticks { RisesAtMost (length slots.now) ticks.old ticks.new }
 {
-    let mut phases = Vec::new(alloc);
-    for ring in rings {
-        if let Some(p) = phase_in(set, pattern, ring_row(set, pattern.seq, *ring), second) {
-            phases.push(p)?;
-        }
-    }
-    Ok(phases)
-}
-
-/// The phase that a row has at a second, if it lasts so long.
-fn phase_in(set: &TimingSet, pattern: &Pattern, row: &[PhaseNo], second: u32) -> Option<PhaseNo>
-    ensures { result ≡ phase_in (times set.now pattern.now.split) row.now second }
-{
-    let mut left = second;
-    for p in row {
-        let time = u32::from(time_of(split_at(set, pattern.split, *p)));
-        if left < time {
-            return Some(*p);
-        }
-        left -= time;
-    }
-    None
-}
-
-/// Each phase of the list and each later one list each other.
-fn all_list_each_other(set: &TimingSet, phases: &[PhaseNo]) -> bool
-    ensures { result ≡ all_list_each_other set.now phases.now }
-{
-    match phases {
-        [] => true,
-        [p, others @ ..] => { all_with(set, *p, others) && all_list_each_other(set, others) }
-    }
-}
-
-fn all_with(set: &TimingSet, p: PhaseNo, others: &[PhaseNo]) -> bool
-    ensures { result ≡ list_all (list_each_other set.now p) others.now }
-{
-    for q in others {
-        if !list_each_other(set, p, *q) {
+    for slot in slots {
+        *ticks = ticks.saturating_add(1);
+        if !agree_at(slots, slot.from) {
             return false;
         }
     }
     true
 }
 
-fn list_each_other(set: &TimingSet, p: PhaseNo, q: PhaseNo) -> bool
-    ensures { result ≡ list_each_other set.now p q }
+/// The phases that have a second list each other.
+fn agree_at(slots: &[Slot<'_>], second: u32) -> bool
+    ensures { result ≡ all_are_mates (listings_in second slots.now) }
 {
-    lists(set, p, q) && lists(set, q, p)
+    match slots {
+        [] => true,
+        [slot, later @ ..] => {
+            if has_second(slot, second) && !agrees_with(slot, later, second) {
+                return false;
+            }
+            agree_at(later, second)
+        }
+    }
+}
+
+fn agrees_with(slot: &Slot<'_>, later: &[Slot<'_>], second: u32) -> bool
+    ensures { result ≡ list_all (are_mates slot.now.listing) (listings_in second later.now) }
+{
+    for other in later {
+        if has_second(other, second) && !list_each_other(slot, other) {
+            return false;
+        }
+    }
+    true
+}
+
+fn has_second(slot: &Slot<'_>, second: u32) -> bool
+    ensures { result ≡ has_second second slot.now }
+{
+    slot.from <= second && second < slot.until
+}
+
+fn list_each_other(slot: &Slot<'_>, other: &Slot<'_>) -> bool
+    ensures { result ≡ are_mates slot.now.listing other.now.listing }
+{
+    slot.mates.contains(&other.phase) && other.mates.contains(&slot.phase)
 }
 
 /// `phaseConcurrency` of the first phase has the second.
 pub(crate) fn lists(set: &TimingSet, p: PhaseNo, q: PhaseNo) -> bool
     ensures { result ≡ lists set.now p q }
 {
+    mates_of(set, p).contains(&q)
+}
+
+/// `phaseConcurrency` of a phase; one that is not in the set has none.
+fn mates_of(set: &TimingSet, p: PhaseNo) -> &[PhaseNo]
+    ensures { result.now ≡ the_mates (phase_at set.now p) }
+{
     match phase_at(set, p) {
-        Some(phase) => phase.mates.as_slice().contains(&q),
-        None => false,
+        Some(phase) => phase.mates.as_slice(),
+        None => &[],
     }
 }

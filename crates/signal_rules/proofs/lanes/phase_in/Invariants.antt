@@ -1,7 +1,0 @@
-use Rattle.std.proofs.Common.{◌≡◌, drop}
-use Rattle.signal_rules.specs.CutPoints.{phase_in}
-use Rattle.signal_rules.specs.Starts.{times}
-use Rattle.signal_rules.proofs.lanes.phase_in.Given as goal
-
-abbrev pub invariant-loop-p : goal.invariant-loop-p
-invariant-loop-p l = phase_in (times l.set l.pattern.split) (drop l.p-index l.row) l.left ≡ phase_in (times l.set l.pattern.split) l.row l.second
