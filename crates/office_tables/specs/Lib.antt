@@ -6,7 +6,7 @@ pub use Rattle.office_tables_shelf.specs.Change
 pub use Rattle.office_tables_shelf.specs.Counts
 pub use Rattle.office_tables_shelf.specs.Shelf
 pub use Rattle.office_tables_shelf.specs.Damage
-pub use Rattle.office_tables_sql.specs.Schema
+pub use Rattle.office_tables_schema.specs.Schema
 pub use Rattle.office_tables_sql.specs.Layout
 pub use Rattle.office_tables_sql.specs.Stored
 pub use Rattle.office_tables_sql.specs.Calls

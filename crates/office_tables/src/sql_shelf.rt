@@ -16,7 +16,7 @@ ghost use Rattle.office_tables_open.specs.Opening.{MayBeTaken, TellsOfTables};
 ghost use Rattle.office_tables_shelf.specs.Content.{no_content};
 ghost use Rattle.office_tables_shelf.specs.Counts.{no_writes};
 ghost use Rattle.office_tables_sql.specs.Stored.{content_now};
-ghost use Rattle.office_tables_sql.specs.Schema.{office_schema};
+ghost use Rattle.office_tables_schema.specs.Schema.{office_schema};
 
 use crate::change;
 use crate::migrate::migrate;

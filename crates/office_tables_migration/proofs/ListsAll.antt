@@ -13,7 +13,7 @@ use Rattle.office_tables_shelf.specs.Cells.{Cell, null, number, text}
 use Rattle.office_tables_shelf.specs.declared.rows.Table.{Table}
 use Rattle.office_tables_sql.specs.Calls.{AreOrdered, Reads}
 use Rattle.office_tables_sql.specs.Listed.{shown_key, shown_body}
-use Rattle.office_tables_sql.specs.Schema.{office_schema}
+use Rattle.office_tables_schema.specs.Schema.{office_schema}
 use Rattle.office_tables_sql.specs.Stored.{cells_at, content_of, cell_of}
 use Rattle.office_tables_sql.specs.Tables.{rows_at, layout_at, row_shown, listed_by, places_from}
 use Rattle.office_tables_shelf.proofs.ListLemmas.{stands, where_all}

@@ -43,7 +43,7 @@ use Rattle.sqlite_schema.specs.declared.schema.Schema.{Schema}
 use Rattle.sqlite_schema.specs.declared.schema.View.{View as Stored}
 use Rattle.sqlite_sql.specs.Catalog.{IsIndexOf, entry_of}
 use Rattle.sqlite_store.proofs.AlikeLemmas.{no_code}
-use Rattle.office_tables_sql.specs.Schema.{no_schema}
+use Rattle.office_tables_schema.specs.Schema.{no_schema}
 use Rattle.office_tables_open.specs.Arranged.{IsArranged}
 use Rattle.office_tables_open.proofs.VersionLemmas.{none_left}
 

@@ -28,9 +28,9 @@ use Rattle.sqlite_trees.specs.declared.store.Shape.TheVariants as shape
 use Rattle.sqlite_trees.specs.declared.store.Store.{Ghosts}
 use Rattle.sqlite_trees.proofs.ListLemmas.{all-append, all_both}
 use Rattle.office_tables_sql.specs.Calls.{IsReady, command_of, statement_of}
-use Rattle.office_tables_sql.specs.Schema.{front_schema, numbered, office_schema, place_after, version_table}
+use Rattle.office_tables_schema.specs.Schema.{front_schema, numbered, office_schema, place_after, version_table}
 use Rattle.office_tables_sql.specs.Stored.{content_now, content_of}
-use Rattle.office_tables_sql.specs.declared.schema.TheConstants.{CREATES}
+use Rattle.office_tables_schema.specs.declared.TheConstants.{CREATES}
 use Rattle.office_tables_open.specs.Lacking.{IsGrown, IsSpread, SeesFront, content_before, emptied_from}
 use Rattle.office_tables_open.specs.Opening.{AreRun}
 use Rattle.office_tables_open.specs.Version.{version_in, current_version}

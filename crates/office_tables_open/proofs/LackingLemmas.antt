@@ -22,7 +22,7 @@ use Rattle.sqlite_trees.specs.Objects.{catalog_tree, number_in}
 use Rattle.sqlite_value.specs.Order.{bytes}
 use Rattle.office_tables_shelf.specs.Content.{Content, no_content}
 use Rattle.office_tables_sql.specs.Calls.{IsHonest, IsOffice}
-use Rattle.office_tables_sql.specs.Schema.{IsFront, front_schema, no_schema, office_schema, place_after}
+use Rattle.office_tables_schema.specs.Schema.{IsFront, front_schema, no_schema, office_schema, place_after}
 use Rattle.office_tables_sql.specs.Stored.{content_of}
 use Rattle.office_tables_open.specs.Arranged.{IsArranged}
 use Rattle.office_tables_open.specs.Found.{IsFoundIn, IsUnclaimed}

@@ -25,8 +25,8 @@ use Rattle.sqlite_trees.proofs.ListLemmas.{all_both, all_weaker}
 use Rattle.office_tables_shelf.proofs.ListLemmas.{all_more}
 use Rattle.office_tables_shelf.specs.Content.{no_content}
 use Rattle.office_tables_sql.specs.Calls.{AreOrdered, IsOffice, IsReady, command_of, statement_of}
-use Rattle.office_tables_sql.specs.Schema.{no_schema, office_schema}
-use Rattle.office_tables_sql.specs.declared.schema.TheConstants.{CREATES}
+use Rattle.office_tables_schema.specs.Schema.{no_schema, office_schema}
+use Rattle.office_tables_schema.specs.declared.TheConstants.{CREATES}
 use Rattle.office_tables_open.specs.Opening.{AreRun, IsNew}
 use Rattle.office_tables_sql.specs.Stored.{content_now}
 use Rattle.office_tables_open.specs.Version.{AreEmpty, version_in, current_version}

@@ -13,7 +13,7 @@ use Rattle.sqlite_trees.specs.Objects.{catalog_tree}
 use Rattle.sqlite_catalog.specs.Listing.{AreListed}
 use Rattle.office_tables_shelf.specs.Counts.{no_writes}
 use Rattle.office_tables_sql.specs.Calls.{IsHonest, IsOffice}
-use Rattle.office_tables_sql.specs.Schema.{office_schema, no_schema, version_table}
+use Rattle.office_tables_schema.specs.Schema.{office_schema, no_schema, version_table}
 use Rattle.office_tables_sql.specs.Stored.{cells, content_now, content_of}
 use Rattle.office_tables_open.specs.Arranged.{IsArranged, IsUnchanged, IsTaken, IsCheckedAgain}
 use Rattle.office_tables_open.specs.Found.{HasOtherVersion, HasRowsAlone, IsFound, IsFoundIn, IsUnclaimed}

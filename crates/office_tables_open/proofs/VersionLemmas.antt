@@ -31,7 +31,7 @@ use Rattle.sqlite.specs.View.{IsShaped}
 use Rattle.sqlite_trees.specs.declared.store.Shape.TheVariants as shape
 use Rattle.office_tables_shelf.specs.Cells.{number}
 use Rattle.office_tables_shelf.proofs.CellLemmas.{cells_total}
-use Rattle.office_tables_sql.specs.Schema.{office_schema, version_table}
+use Rattle.office_tables_schema.specs.Schema.{office_schema, version_table}
 use Rattle.office_tables_shelf.specs.declared.rows.Table.{Table}
 use Rattle.office_tables_sql.specs.Tables.{schema_at, found_by}
 use Rattle.office_tables_sql.specs.Layout.{office_version}

@@ -11,7 +11,7 @@ use Rattle.sqlite.specs.Query.{Query, inner, end}
 use Rattle.sqlite.specs.Term.{lit, col}
 use Rattle.sqlite.specs.Tree.{Trees}
 use Rattle.office_tables_shelf.specs.Cells.{Cell, number}
-use Rattle.office_tables_sql.specs.Schema.{office_schema}
+use Rattle.office_tables_schema.specs.Schema.{office_schema}
 use Rattle.office_tables_sql.specs.Layout as layout
 use Rattle.office_tables_sql.specs.Stored.{cells, rows_of}
 use Rattle.office_tables_sql.specs.Calls.{IsQuery, command_of}

@@ -13,7 +13,7 @@ use Rattle.sqlite_schema.specs.declared.command.Returning.{Returning}
 use Rattle.sqlite.specs.Steps.{FailsToCommit}
 use Rattle.sqlite.specs.Held.{Held, state}
 use Rattle.sqlite_trees.specs.declared.store.Store as store
-use Rattle.office_tables_sql.specs.Schema.{office_schema}
+use Rattle.office_tables_schema.specs.Schema.{office_schema}
 use Rattle.office_tables_sql.specs.Calls.{AreOrdered, IsHonest, IsOffice, Keeps, IsQuery, Reads, IsWriting, Ran, StandsOn, command_of}
 use Rattle.sqlite.proofs.Callers.{reads_as, runs_as, never_commits, survives_begin, begins_shown, unchanged_then, EndsIn}
 use Rattle.sqlite.proofs.StateLemmas.{survives_then, survives_weaker}

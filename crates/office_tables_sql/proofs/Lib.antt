@@ -14,4 +14,3 @@ pub mod Casts
 mod UpdateLemmas
 pub mod StoredLists
 mod StoredPuts
-mod CheckLemmas

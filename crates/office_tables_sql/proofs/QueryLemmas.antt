@@ -31,7 +31,7 @@ use Rattle.sqlite.specs.View.{IsShaped}
 use Rattle.sqlite_trees.specs.declared.store.Shape.TheVariants as shape
 use Rattle.sqlite.specs.Program.{overlay}
 use Rattle.office_tables_sql.specs.Calls.{IsQuery, Reads, command_of}
-use Rattle.office_tables_sql.specs.Schema.{office_schema}
+use Rattle.office_tables_schema.specs.Schema.{office_schema}
 
 -- the columns at these places
 abbrev pub cols : List ℕ → List Term

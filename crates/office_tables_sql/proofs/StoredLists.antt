@@ -21,7 +21,7 @@ use Rattle.office_tables_shelf.specs.Cells.{Cell, cells_cmp, number}
 use Rattle.office_tables_shelf.specs.Content.{Content}
 use Rattle.office_tables_shelf.specs.declared.rows.Table.{Table}
 use Rattle.office_tables_sql.specs.Calls.{AreOrdered, Reads}
-use Rattle.office_tables_sql.specs.Schema.{office_schema}
+use Rattle.office_tables_schema.specs.Schema.{office_schema}
 use Rattle.office_tables_sql.specs.Stored.{are_sound, cells_at, rows_in, content_of, cells, cell_of}
 use Rattle.office_tables_sql.specs.Layout as layout
 use Rattle.office_tables_sql.proofs.StoredLemmas.{HaveKeys, same_order, sound_rowids, agree_ties, get_columns}

@@ -23,7 +23,7 @@ use Rattle.office_tables_shelf.specs.Content.{Content}
 use Rattle.office_tables_shelf.specs.declared.rows.Table.{Table}
 use Rattle.office_tables_sql.specs.Calls.{IsReady, Ran}
 use Rattle.office_tables_sql.specs.Layout.{has_key, values_at}
-use Rattle.office_tables_sql.specs.Schema.{office_schema}
+use Rattle.office_tables_schema.specs.Schema.{office_schema}
 use Rattle.office_tables_sql.specs.Stored.{cells_at, content_now, rows_in}
 use Rattle.office_tables_sql.proofs.Casts.{cast_one, cast_suited}
 use Rattle.office_tables_sql.proofs.ContentLemmas.{put_at, put_apart}

@@ -15,7 +15,7 @@ use Rattle.office_tables_shelf.specs.Cells.{Rows, number, cell_cmp}
 use Rattle.office_tables_shelf.specs.Content.{Content, is_same_table}
 use Rattle.office_tables_shelf.specs.declared.rows.Table.{Table}
 use Rattle.office_tables_shelf.specs.declared.rows.Table.TheVariants as table
-use Rattle.office_tables_sql.specs.Schema.{office_schema}
+use Rattle.office_tables_schema.specs.Schema.{office_schema}
 use Rattle.office_tables_sql.specs.Stored.{cells_at, rows_in, content_of, are_sound, cell_of}
 use Rattle.office_tables_sql.proofs.ListedLemmas.{IsListing}
 use Rattle.office_tables_sql.proofs.QueryLemmas.{ArePaired}

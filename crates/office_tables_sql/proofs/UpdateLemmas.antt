@@ -32,7 +32,7 @@ use Rattle.office_tables_shelf.proofs.CellLemmas.{cells_exact, tied}
 use Rattle.office_tables_shelf.specs.declared.rows.Table.{Table}
 use Rattle.office_tables_sql.specs.Calls.{AreOrdered}
 use Rattle.office_tables_sql.specs.Layout.{has_key, values_at}
-use Rattle.office_tables_sql.specs.Schema.{office_schema}
+use Rattle.office_tables_schema.specs.Schema.{office_schema}
 use Rattle.office_tables_sql.specs.Stored.{cell_of, cells_at, rows_in, is_sound, are_sound}
 use Rattle.office_tables_sql.specs.Tables.{layout_at, schema_at, is_keyed, beside_rowid, others_given, renewed_at, stored_beside, value_of, values_of, Fits}
 use Rattle.office_tables_sql.proofs.Casts.{cast_int, cast_suited}

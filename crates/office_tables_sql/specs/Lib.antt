@@ -1,5 +1,3 @@
-pub mod Schema
-pub mod Wanted
 pub mod Layout
 pub mod Stored
 pub mod Calls

@@ -38,8 +38,8 @@ use Rattle.office_tables_shelf.specs.declared.rows.Table.TheVariants as table
 use Rattle.office_tables_sql.specs.Calls.{IsQuery, IsWriting, command_of}
 use Rattle.office_tables_sql.specs.Layout as layout
 use Rattle.office_tables_sql.specs.Layout.{Layout}
-use Rattle.office_tables_sql.specs.Schema as schema
-use Rattle.office_tables_sql.specs.Schema.{office_schema}
+use Rattle.office_tables_schema.specs.Schema as schema
+use Rattle.office_tables_schema.specs.Schema.{office_schema}
 use Rattle.office_tables_sql.specs.Stored.{cells_at, are_sound}
 
 -- ---- where each table is

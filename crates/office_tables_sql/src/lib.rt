@@ -1,4 +1,4 @@
-//! The tables of the office in SQL: their schema, and the statements that read and write their rows.
+//! The tables of the office in SQL: the statements that read and write their rows.
 #![tactic(auto)]
 
 pub mod body;
@@ -11,7 +11,6 @@ pub mod intersection;
 pub mod listed;
 pub mod order;
 pub mod part;
-pub mod schema;
 pub mod statement;
 pub mod stored_row;
 pub mod timing;

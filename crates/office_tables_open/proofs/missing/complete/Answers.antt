@@ -1,6 +1,6 @@
 use Rattle.std.proofs.Common.{ℕ, ◌<◌, Option, IfSome, subst}
 use Rattle.sqlite.specs.Held.{state}
-use Rattle.office_tables_sql.specs.Schema.{IsFront}
+use Rattle.office_tables_schema.specs.Schema.{IsFront}
 use Rattle.office_tables_open.proofs.missing.complete.Goals as goal
 
 pub make_missing-requires-clause-front : goal.make_missing-requires-clause-front

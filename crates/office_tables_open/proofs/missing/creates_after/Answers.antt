@@ -1,6 +1,6 @@
 use Rattle.std.proofs.Common.{List, ℕ, Bor, map, ap, sym, ◌∙◌}
 use Rattle.std.proofs.lemmas.List.{drop-map}
-use Rattle.office_tables_sql.specs.declared.schema.TheConstants.{CREATES}
+use Rattle.office_tables_schema.specs.declared.TheConstants.{CREATES}
 use Rattle.office_tables_open.proofs.missing.creates_after.Goals as goal
 
 pub returns : goal.returns

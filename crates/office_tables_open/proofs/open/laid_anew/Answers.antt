@@ -1,7 +1,7 @@
 use Rattle.std.proofs.Common.{◌≡◌, inl, inr, ℕ, ◌<◌, Option, IfSome, subst, arith}
 use Rattle.sqlite.specs.Held.{state}
 use Rattle.sqlite.specs.Tree.{Trees}
-use Rattle.office_tables_sql.specs.Schema.{IsFront}
+use Rattle.office_tables_schema.specs.Schema.{IsFront}
 use Rattle.office_tables_open.specs.Arranged.{IsArranged}
 use Rattle.office_tables_open.specs.Found.{IsFoundIn}
 use Rattle.office_tables_open.specs.Lacking.{Completes}

@@ -3,7 +3,7 @@ use Rattle.sqlite.specs.Effect.{Database}
 use Rattle.sqlite.specs.Held.{state}
 use Rattle.sqlite_trees.specs.Objects.{catalog_tree}
 use Rattle.sqlite_catalog.specs.Listing.{AreListed}
-use Rattle.office_tables_sql.specs.Schema.{no_schema}
+use Rattle.office_tables_schema.specs.Schema.{no_schema}
 use Rattle.office_tables_open.proofs.FoundLemmas.{blank_rows, blank_unclaimed}
 use Rattle.office_tables_open.proofs.LeftLemmas.{made_left, refused_given, refused_left}
 use Rattle.office_tables_open.proofs.OpenLemmas.{arranged_office}

@@ -5,7 +5,7 @@ use Rattle.sqlite.specs.Held.{state}
 use Rattle.sqlite.specs.State.{HasCleanDisk}
 use Rattle.sqlite_trees.specs.Objects.{catalog_tree}
 use Rattle.sqlite_catalog.specs.Listing.{AreListed}
-use Rattle.office_tables_sql.specs.Schema.{no_schema}
+use Rattle.office_tables_schema.specs.Schema.{no_schema}
 use Rattle.office_tables_open.specs.Arranged.{IsArranged}
 use Rattle.office_tables_open.specs.Version.{AreEmpty}
 use Rattle.office_tables_open.proofs.FoundLemmas.{blank_rows}

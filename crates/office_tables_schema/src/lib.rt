@@ -1,15 +1,16 @@
-//! Whether a database has the tables of the office.
+//! The schema of the office in SQL: the texts that make its tables, and whether a database has them.
+#![tactic(auto)]
 
 ghost use Rattle.std.specs.Prelude.{◌≡◌, ◌<◌, ◌≤◌, take, length, IsTrue, IfSome};
-ghost use Rattle.office_tables_sql.specs.Schema.{office_schema, no_schema, version_table};
-ghost use Rattle.office_tables_sql.specs.Schema.{numbered, place_after, IsFront};
+ghost use Rattle.office_tables_schema.specs.Schema.{office_schema, no_schema, version_table};
+ghost use Rattle.office_tables_schema.specs.Schema.{numbered, place_after, IsFront};
 
 mod parts;
 mod tables;
 
 use parts::{are_first_indexes, are_first_tables, are_indexes, are_tables, is_alike};
 use sqlite_schema::schema::{Index, Schema, Table};
-use tables::TABLES;
+use tables::{KEEPER, all_tables};
 
 /// The texts that make the tables, in the order of their numbers.
 pub const CREATES: [&str; 9] = [
@@ -29,7 +30,7 @@ pub fn is_office(schema: &Schema) -> bool
     ensures is { IsTrue result → schema.now ≡ office_schema }
     ensures other { schema.now ≡ office_schema → IsTrue result }
 {
-    let tables = &TABLES;
+    let tables = all_tables();
     schema.views.is_empty()
         && are_indexes(schema.indexes.as_slice(), tables)
         && are_tables(schema.tables.as_slice(), tables)
@@ -42,7 +43,7 @@ fn are_first(tables: &[Table], indexes: &[Index]) -> bool
     ensures indexes { IsTrue result →
         indexes.now ≡ take (length indexes.now) office_schema.indexes }
 {
-    let wanted = &TABLES;
+    let wanted = all_tables();
     are_first_tables(tables, wanted) && are_first_indexes(indexes, wanted)
 }
 
@@ -52,7 +53,7 @@ fn is_keeper_after(table: &Table, count: usize) -> bool
     ensures behind { IsTrue result → place_after count ≤ table.now.tree }
     ensures is { IsTrue result → table.now ≡ numbered version_table table.now.tree }
 {
-    table.tree as usize >= (2 * count).saturating_sub(1) && is_alike(table, &TABLES[8])
+    table.tree as usize >= (2 * count).saturating_sub(1) && is_alike(table, &KEEPER)
 }
 
 /// How many of the eight tables are there, where they are the first ones, and then comes that of

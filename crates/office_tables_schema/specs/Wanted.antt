@@ -1,9 +1,9 @@
 -- What the descriptions of the tables ask of a schema.
 use Rattle.std.specs.Prelude.{◌≡◌, ℕ, ◌+◌, false, true, List, [], ◌∷◌, map, Option, Some, None, slice_get}
-use Rattle.sqlite.specs.Collation.TheVariants.{Binary}
-use Rattle.sqlite.specs.declared.types.Value.TheVariants.{Int}
-use Rattle.sqlite.specs.Table.{Table}
-use Rattle.sqlite.specs.Term.{Term, lit, col, op2}
+use Rattle.sqlite_value.specs.declared.keys.Collation.TheVariants.{Binary}
+use Rattle.sqlite_value.specs.declared.value.Value.TheVariants.{Int}
+use Rattle.sqlite_schema.specs.declared.schema.Table.{Table}
+use Rattle.sqlite_sql.specs.Term.{Term, lit, col, op2}
 use Rattle.sqlite_value.specs.Keys.{plain}
 use Rattle.sqlite_value.specs.declared.keys.Order.{Order}
 use Rattle.sqlite_sql.specs.declared.ops.BinaryOp.TheVariants.{Compare}
@@ -12,13 +12,13 @@ use Rattle.sqlite_schema.specs.declared.code.Op.TheVariants as op
 use Rattle.sqlite_schema.specs.declared.schema.Column.{Column}
 use Rattle.sqlite_schema.specs.declared.schema.Index.{Index}
 use Rattle.sqlite_schema.specs.declared.schema.Reference.{Reference}
-use Rattle.office_tables_sql.specs.Schema.{column_of, refers_to}
-use Rattle.office_tables_sql.specs.declared.schema.parts.WantedColumn.{WantedColumn}
-use Rattle.office_tables_sql.specs.declared.schema.parts.WantedReference.{WantedReference}
-use Rattle.office_tables_sql.specs.declared.schema.parts.WantedCheck.{WantedCheck}
-use Rattle.office_tables_sql.specs.declared.schema.parts.WantedKey.{WantedKey}
-use Rattle.office_tables_sql.specs.declared.schema.parts.WantedKey.TheVariants.{Rowid, Places}
-use Rattle.office_tables_sql.specs.declared.schema.parts.WantedTable.{WantedTable}
+use Rattle.office_tables_schema.specs.Schema.{column_of, refers_to}
+use Rattle.office_tables_schema.specs.declared.parts.WantedColumn.{WantedColumn}
+use Rattle.office_tables_schema.specs.declared.parts.WantedReference.{WantedReference}
+use Rattle.office_tables_schema.specs.declared.parts.WantedCheck.{WantedCheck}
+use Rattle.office_tables_schema.specs.declared.parts.WantedKey.{WantedKey}
+use Rattle.office_tables_schema.specs.declared.parts.WantedKey.TheVariants.{Rowid, Places}
+use Rattle.office_tables_schema.specs.declared.parts.WantedTable.{WantedTable}
 
 abbrev pub column_wanted : WantedColumn → Column
 column_wanted want = column_of want.0.now want.1 want.2

@@ -1,6 +1,11 @@
 //! The tables of the office: the text that makes each, and what it has to be.
 
-use crate::schema::parts::{WantedCheck, WantedColumn, WantedKey, WantedReference, WantedTable};
+ghost use Rattle.std.specs.Prelude.{◌≡◌, ◌<◌, ◌^◌, map};
+ghost use Rattle.std.specs.List.{AllByRecursion};
+ghost use Rattle.office_tables_schema.specs.Schema.{office_schema};
+ghost use Rattle.office_tables_schema.specs.Wanted.{table_wanted, indexes_wanted};
+
+use crate::parts::{WantedCheck, WantedColumn, WantedKey, WantedReference, WantedTable};
 use sqlite_schema::schema::Kind;
 use sqlite_sql::ops::CompareOp;
 
@@ -47,9 +52,22 @@ pub(crate) const OFFICE_VERSION: &str = "\
     CREATE TABLE office_version (one INTEGER PRIMARY KEY CHECK (one = 1), \
     version INTEGER NOT NULL) STRICT";
 
+/// The table that keeps the version, which is the last.
+pub(crate) const KEEPER: WantedTable<'static> = WantedTable {
+    name: "office_version",
+    tree: 15,
+    key: WantedKey::Rowid,
+    columns: &[
+        WantedColumn("one", Kind::Integer, false),
+        WantedColumn("version", Kind::Integer, true),
+    ],
+    check: Some(WantedCheck(CompareOp::Eq, 0, 1)),
+    references: &[],
+};
+
 /// Each table in the order of the numbers. A number is a place in the catalog, where each PRIMARY
 /// KEY that is no rowid takes the next one for its index.
-pub(crate) const TABLES: [WantedTable<'static>; 9] = [
+static TABLES: [WantedTable<'static>; 9] = [
     WantedTable {
         name: "intersection",
         tree: 0,
@@ -165,15 +183,14 @@ pub(crate) const TABLES: [WantedTable<'static>; 9] = [
             WantedReference("work_order", &[1, 2]),
         ],
     },
-    WantedTable {
-        name: "office_version",
-        tree: 15,
-        key: WantedKey::Rowid,
-        columns: &[
-            WantedColumn("one", Kind::Integer, false),
-            WantedColumn("version", Kind::Integer, true),
-        ],
-        check: Some(WantedCheck(CompareOp::Eq, 0, 1)),
-        references: &[],
-    },
+    KEEPER,
 ];
+
+/// What all tables have to be, in the order of their numbers.
+pub(crate) fn all_tables() -> &'static [WantedTable<'static>]
+    ensures tables { map table_wanted result.now ≡ office_schema.tables }
+    ensures indexes { indexes_wanted result.now ≡ office_schema.indexes }
+    ensures numbers { AllByRecursion (λ want. want.tree < 2 ^ 31) result.now }
+{
+    &TABLES
+}
