@@ -1,41 +1,28 @@
 -- Tables that are missing behind the first ones: what is known of each number of them, and what making the others comes to.
 use Rattle.std.proofs.Common.{◌≡◌, ℕ, zero, suc, ◌<◌, ◌≤◌, ◌-◌, ◌==◌, nat_lt, Bool, true, false, not, cond, if◌then◌else◌, List, [], ◌∷◌, ◌++◌, codes, map, take, drop, Option, None, Some, slice_get, Result, Ok, Err, refl, sym, ap, subst, ◌∙◌, arith}
-use Rattle.std.specs.Prelude.{OnOk, ⊤}
-use Rattle.std.specs.List.{AllByRecursion, list_all}
-use Rattle.std.proofs.lemmas.Bool.{eq-eqb, ltb-true, ne_eqb}
-use Rattle.std.proofs.lemmas.List.{take-append-drop}
-use Rattle.sqlite.specs.Command.TheVariants.{DropTable}
+use Rattle.std.proofs.{lemmas.Bool.eq-eqb, lemmas.Bool.ltb-true, lemmas.Bool.ne_eqb, lemmas.List.take-append-drop}
+use Rattle.std.specs.{Prelude.OnOk, Prelude.⊤, List.AllByRecursion, List.list_all}
 use Rattle.sqlite.specs.Does.{AtPlace, Drops as DoesDrop, Empties, HoldWithout, Leaves, Redefines, Tally, Tested, Uncounts, UncountsIn, is_acted_on, no_rows}
-use Rattle.sqlite.specs.Effect.{Database, IsDatabase}
-use Rattle.sqlite.specs.Given.{IsPlain}
-use Rattle.sqlite.specs.Held.{Held, state}
-use Rattle.sqlite.specs.Listing.{understood}
 use Rattle.sqlite.specs.Rows.{Gives, Outcome, Part, Task, Then, sequence}
-use Rattle.sqlite.specs.State.{State, ExecutesInside, mode_of}
+use Rattle.sqlite.specs.{Command.TheVariants.DropTable, Effect.Database, Effect.IsDatabase, Given.IsPlain, Held.Held, Held.state, Listing.understood}
+use Rattle.sqlite.specs.{State.State, State.ExecutesInside, State.mode_of, Tree.Trees, View.IsShaped}
 use Rattle.sqlite.specs.declared.run.Mode.{Mode}
-use Rattle.sqlite.specs.Tree.{Trees}
-use Rattle.sqlite.specs.View.{IsShaped}
 use Rattle.sqlite.proofs.Callers.{runs_as, through}
 use Rattle.sqlite_catalog.specs.Change.{without_table, KeepsRows}
 use Rattle.sqlite_catalog.proofs.ListFacts.{filter_all, filter_left}
 use Rattle.sqlite_rules.proofs.ListLemmas.{all_from, all_has, has_left, test_has}
-use Rattle.sqlite_schema.specs.declared.schema.Keys.TheVariants.{Enforced}
-use Rattle.sqlite_schema.specs.declared.schema.Index.{Index}
-use Rattle.sqlite_schema.specs.declared.schema.Schema.{Schema}
-use Rattle.sqlite_schema.specs.declared.schema.Table.{Table}
+use Rattle.sqlite_schema.specs.declared.{schema.Keys.TheVariants.Enforced, schema.Index.Index, schema.Schema.Schema, schema.Table.Table}
 use Rattle.sqlite_tied.specs.Compute.{everything}
 use Rattle.sqlite_trees.specs.declared.store.Shape.TheVariants as shape
 use Rattle.sqlite_trees.specs.declared.store.Store.{Ghosts}
 use Rattle.sqlite_trees.proofs.ListLemmas.{all-append, all_both}
-use Rattle.office_tables_sql.specs.Calls.{IsReady, command_of, statement_of}
 use Rattle.office_tables_sql.specs.Schema.{front_schema, numbered, office_schema, place_after, version_table}
-use Rattle.office_tables_sql.specs.Stored.{content_now, content_of}
+use Rattle.office_tables_sql.specs.{Calls.IsReady, Calls.command_of, Calls.statement_of, Stored.content_now, Stored.content_of}
 use Rattle.office_tables_sql.specs.declared.schema.TheConstants.{CREATES}
 use Rattle.office_tables_open.specs.Lacking.{IsGrown, IsSpread, SeesFront, content_before, emptied_from}
-use Rattle.office_tables_open.specs.Opening.{AreRun}
-use Rattle.office_tables_open.specs.Version.{version_in, current_version}
-use Rattle.office_tables_open.proofs.VersionLemmas.{same_eight}
+use Rattle.office_tables_open.specs.{Opening.AreRun, Version.version_in, Version.current_version}
 use Rattle.office_tables_open.proofs.MadeLemmas.{AreFree, AreMaking, Ends, kept_rows, made_of, office_making, over_run, second_of, untreed}
+use Rattle.office_tables_open.proofs.VersionLemmas.{same_eight}
 
 -- each number below eight
 pub below_8 : (P : ℕ → Type 0) → P 0 → P 1 → P 2 → P 3 → P 4 → P 5 → P 6 → P 7 → (n : ℕ) → n < 8 → P n

@@ -1,22 +1,14 @@
 -- What the texts that make the tables make of a database that has none.
 use Rattle.std.proofs.Common.{◌≡◌, ◌≤◌, ℕ, true, false, List, [], ◌∷◌, map, Some, Result, Ok, Err, refl, sym, ap, subst, ◌∙◌, arith}
-use Rattle.std.specs.List.{AllByRecursion}
-use Rattle.std.specs.Prelude.{OnOk, ⊤}
-use Rattle.sqlite.specs.Command.TheVariants.{CreateTable}
+use Rattle.std.specs.{List.AllByRecursion, Prelude.OnOk, Prelude.⊤}
 use Rattle.sqlite.specs.Does.{MakesTable, MakesSequence, lacks_sequence, no_rows}
-use Rattle.sqlite.specs.Effect.{Database, IsDatabase}
-use Rattle.sqlite.specs.Given.{IsPlain}
-use Rattle.sqlite.specs.Held.{Held, state}
-use Rattle.sqlite.specs.Listing.{understood}
-use Rattle.sqlite.specs.Rows.{Then, Gives}
 use Rattle.sqlite.specs.State.{State, ExecutesInside, HasCleanDisk, Shows}
-use Rattle.sqlite.specs.Tree.{Trees}
-use Rattle.sqlite.specs.View.{IsShaped}
+use Rattle.sqlite.specs.{Command.TheVariants.CreateTable, Effect.Database, Effect.IsDatabase, Given.IsPlain, Held.Held, Held.state, Listing.understood}
+use Rattle.sqlite.specs.{Rows.Then, Rows.Gives, Tree.Trees, View.IsShaped}
 use Rattle.sqlite.proofs.Callers.{runs_as, through}
 use Rattle.sqlite_catalog.specs.Change.{created, next_tree, KeepsRows}
 use Rattle.sqlite_resolve.specs.Compile.{table_defined_by}
-use Rattle.sqlite_schema.specs.declared.schema.Schema.{Schema}
-use Rattle.sqlite_schema.specs.declared.schema.Table.{Table}
+use Rattle.sqlite_schema.specs.declared.{schema.Schema.Schema, schema.Table.Table}
 use Rattle.sqlite_tied.specs.Compute.{everything}
 use Rattle.sqlite_trees.specs.declared.store.Shape.TheVariants as shape
 use Rattle.sqlite_trees.specs.declared.store.Store.{Ghosts}
@@ -25,11 +17,9 @@ use Rattle.sqlite_trees.proofs.ListLemmas.{all_both, all_weaker}
 use Rattle.office_tables_shelf.proofs.ListLemmas.{all_more}
 use Rattle.office_tables_shelf.specs.Content.{no_content}
 use Rattle.office_tables_sql.specs.Calls.{AreOrdered, IsOffice, IsReady, command_of, statement_of}
-use Rattle.office_tables_sql.specs.Schema.{no_schema, office_schema}
+use Rattle.office_tables_sql.specs.{Schema.no_schema, Schema.office_schema, Stored.content_now}
 use Rattle.office_tables_sql.specs.declared.schema.TheConstants.{CREATES}
-use Rattle.office_tables_open.specs.Opening.{AreRun, IsNew}
-use Rattle.office_tables_sql.specs.Stored.{content_now}
-use Rattle.office_tables_open.specs.Version.{AreEmpty, version_in, current_version}
+use Rattle.office_tables_open.specs.{Opening.AreRun, Opening.IsNew, Version.AreEmpty, Version.version_in, Version.current_version}
 
 -- in a transaction over tables that have these rows
 pub record IsOver (rows : Trees) (s : State) (schema : Schema) : Type 0 where
