@@ -1,13 +1,10 @@
 -- How many rows a part used or a delivery writes, and that a delivery's rows are of no intersection alone.
 use Rattle.std.proofs.Common.{ℕ, Option, Result, Ok, Err, sym, ap, ◌∙◌, IfOk}
 use Rattle.cabinet_core.specs.Cabinet.{Line, Records, receive_changes}
-use Rattle.cabinet_core.specs.declared.decide.Recorded.{Recorded}
+use Rattle.cabinet_core.specs.declared.{decide.Recorded.Recorded, record.Delivery.Delivery, refusal.CabinetRefusal.CabinetRefusal}
 use Rattle.cabinet_core.specs.declared.decide.Recorded.TheVariants as recorded
-use Rattle.cabinet_core.specs.declared.record.Delivery.{Delivery}
-use Rattle.cabinet_core.specs.declared.refusal.CabinetRefusal.{CabinetRefusal}
 use Rattle.office_tables_shelf.specs.declared.shelf.ShelfFault.{ShelfFault}
-use Rattle.office_desk_cabinet.specs.Stocking.{TellsStock, stock_rows_of}
-use Rattle.office_desk_cabinet.specs.Telling.{row_changes_of, Tells}
+use Rattle.office_desk_cabinet.specs.{Stocking.TellsStock, Stocking.stock_rows_of, Telling.row_changes_of, Telling.Tells}
 use Rattle.office_desk_cabinet.specs.declared.registered.Registered.{Registered}
 
 -- the rows of such a decision are those of no intersection alone
