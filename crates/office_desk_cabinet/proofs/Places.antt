@@ -122,21 +122,12 @@ pub record NoRecord (tables : Content) (place : Place) : Type 0 where
 damage_of : (tables : Content) (place : Place) → DamagedAt tables place → NoRecord tables place
 damage_of tables (Part code) d =
     record { cells = d.columns; stored = d.stored; no_row = λ x within reads. d.no_row x within }
-damage_of tables (Line id order line) d = record {
-  cells = d.columns;
-  stored = d.stored;
-  no_row = λ x within reads. d.no_row x within reads.of reads.number;
-}
-damage_of tables (Delivery code n) d = record {
-  cells = d.columns;
-  stored = d.stored;
-  no_row = λ x within reads. d.no_row x within reads.part reads.number;
-}
-damage_of tables _ d = record {
-  cells = d.columns;
-  stored = d.stored;
-  no_row = λ x within reads. d.no_row x within reads.number;
-}
+damage_of tables (Line id order line) d =
+    record { cells = d.columns; stored = d.stored; no_row = λ x within reads. d.no_row x within reads.of reads.number }
+damage_of tables (Delivery code n) d =
+    record { cells = d.columns; stored = d.stored; no_row = λ x within reads. d.no_row x within reads.part reads.number }
+damage_of tables _ d =
+    record { cells = d.columns; stored = d.stored; no_row = λ x within reads. d.no_row x within reads.number }
 
 -- a record that was read, or none, is no damaged one
 pub whole_at : (tables : Content) (place : Place) (there : Option (RecordAt place))

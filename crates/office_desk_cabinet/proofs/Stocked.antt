@@ -10,8 +10,7 @@ use Rattle.office_desk_cabinet.specs.declared.registered.Registered.{Registered}
 -- the rows of such a decision are those of no intersection alone
 tells_all : (id : ℕ) (asked : Delivery) (line : Line) (hand : Option ℕ) (decision : Result Recorded CabinetRefusal) (told : Registered) → Records decision line (receive_changes hand asked) → TellsStock decision told → Tells id decision told
 tells_all id asked line hand (Ok (recorded.Added changes)) told decides tells = (tells.0, tells.1 ∙ ap stock_rows_of decides.1 ∙ sym (ap (row_changes_of id) decides.1))
-tells_all id asked line hand (Ok recorded.Same) told decides tells = tells
-tells_all id asked line hand (Err why) told decides tells = tells
+tells_all id asked line hand _ told decides tells = tells
 
 pub received_tells : (id : ℕ) (asked : Delivery) (line : Line) (hand : Option ℕ) (decision : Result Recorded CabinetRefusal) (result : Result Registered ShelfFault)
     → Records decision line (receive_changes hand asked)
