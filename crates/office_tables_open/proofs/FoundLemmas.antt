@@ -4,7 +4,7 @@ use Rattle.std.proofs.{lemmas.Bool.and_parts, lemmas.Bool.cases_Bool, lemmas.Boo
 use Rattle.std.specs.{FinMap.get, FinMap.get-empty, Ordering.is_eq, List.AllZip, List.AllByRecursion, List.list_all}
 use Rattle.sqlite.specs.{Collation.TheVariants.Binary, Ops.binary, Ops.is_true, Ops.from_truth, Order.Row, Order.column, Tree.Trees}
 use Rattle.sqlite.specs.View.{View, IsShaped}
-use Rattle.sqlite.specs.declared.types.Value.TheVariants.{Null, Int, Real, Text, Blob}
+use Rattle.sqlite.specs.declared.types.Value.TheVariants.{Int}
 use Rattle.sqlite.specs.declared.types.Value.{Value}
 use Rattle.sqlite_rules.proofs.ListLemmas.{all_has, all_from, test_has}
 use Rattle.sqlite_rules.specs.Lists.{Has}
@@ -24,7 +24,7 @@ use Rattle.office_tables_sql.specs.{Layout.has_key, Layout.values_at, Stored.cel
 use Rattle.office_tables_sql.proofs.StoredLemmas.{get_columns, sound_rowids}
 use Rattle.office_tables_open.specs.Found.{IsOneOf, IsOneOfEight, KeepsVersion, StoresAt, StoreNone, HaveNoRow, IsFoundAt, IsFound, HasOtherVersion, HasRowsAlone, IsUnclaimed}
 use Rattle.office_tables_open.specs.{Version.version_at, Version.AreEmpty, Version.stored_trees, Arranged.IsArranged}
-use Rattle.office_tables_open.specs.declared.found.Found.TheVariants.{Nothing, RowsAlone, OtherVersion, Today, Unknown}
+use Rattle.office_tables_open.specs.declared.found.Found.TheVariants.{Nothing, RowsAlone, Unknown}
 use Rattle.office_tables_open.specs.declared.{found.Found.Found, found.TheConstants.EIGHT, found.TheConstants.KEEPER}
 use Rattle.sqlite_catalog.specs.Listing.{AreListed, IsSound, IsTableRow, is_table_row, is_index_row, is_view_row}
 use Rattle.sqlite_catalog.proofs.LayoutLemmas.{row_kind, index_row, index_owner, named_tree}
@@ -54,10 +54,7 @@ told false = refl
 key_of_int : (v : Value) → is_int v ≡ true → equal Binary v (Int (pos 1)) && true ≡ is_eq (value_cmp v (Int (pos 1)))
 unfolding binary
 key_of_int (Int n) h = told _
-key_of_int Null h = absurd (cc)
-key_of_int (Real x) h = absurd (cc)
-key_of_int (Text t) h = absurd (cc)
-key_of_int (Blob b) h = absurd (cc)
+key_of_int _ h = absurd (cc)
 
 rowid_key : (r : Row) → is_int (column r 0) ≡ true → has_key layout.office_version (Int (pos 1) ∷ []) r ≡ has_rowid (pos 1) r
 unfolding first_key
@@ -109,9 +106,8 @@ module _ (trees : Trees) where
   pub empty_before : (t : Table) (ts : List Table) (more : Found) → trees t.tree ≡ [] → IsFound more ts trees → IsFound more (t ∷ ts) trees
   empty_before t ts Nothing empty h = (empty, h)
   empty_before t ts RowsAlone empty h = ((λ named. none_here t.tree empty, h.0), λ all. h.1 all.1)
-  empty_before t ts OtherVersion empty h = (h.0, inr h.1, h.2)
-  empty_before t ts Today empty h = (h.0, inr h.1, h.2)
   empty_before t ts Unknown empty h = tt
+  empty_before t ts _ empty h = (h.0, inr h.1, h.2)
 
   -- a table with a row before others that store no version
   pub rows_before : (t : Table) (ts : List Table) → IsFoundAt RowsAlone t trees → StoreNone ts trees → IsFound RowsAlone (t ∷ ts) trees

@@ -74,7 +74,7 @@ drop_step old new count schema sql table drops is ran =
     let uncounted : two.0 ≡ one.0 = (let e : Ok two.0 ≡ Ok one.0 = subst (λ (b : Bool). UncountsIn task one.0 (if b then sequence schema else None) (Ok two.0)) drops.uncounted two.1 in cc) in
     let three = through (Tested mode (HoldWithout task two.0)) (Leaving task mode two.0) (did.tally, new.now) two.2 in
     let four = through (Leaves (without_table schema table.tree) two.0 (λ _. ⊥)) (λ (after : Database). Gives (no_rows three.0, after)) (did.tally, new.now) three.2 in
-    let last : four.0 ≡ new.now = sym (ap (second_of new.now) four.2) in (
+    let last : four.0 ≡ new.now = sym (ap (second_of new.now) {y = Ok (no_rows three.0, four.0)} four.2) in (
       ap (λ (d : Database). d.schema) (sym last) ∙ four.1.0,
       subst (λ (d : Database). KeepsRows (without_table schema table.tree).tables db d.trees) last
           (subst (λ (t : Trees). KeepsRows (without_table schema table.tree).tables t four.0.trees) (uncounted ∙ emptied) four.1.1),
