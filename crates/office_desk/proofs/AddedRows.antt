@@ -72,8 +72,6 @@ pub move_news : (r : Reach) (tables : Content) (id : ℕ) (found : Found) (row :
     (changes : List TimingChange) → ListsFound r tables id found
     → AddsOnlyNew r found.timing changes
     → AddNew tables (PutIntersection id row ∷ row_changes_of id changes)
-move_news reach.Row tables id found row changes lists adds = (tt, none_added id changes _ adds)
-move_news reach.Drafts tables id found row changes lists adds = (tt, none_added id changes _ adds)
 move_news reach.Plan tables id found row changes lists adds =
     let committed = found.timing.committed in
     let delta = found.timing.delta in
@@ -91,3 +89,4 @@ move_news reach.Plan tables id found row changes lists adds =
         news = news key;
       }),
     )
+move_news _ tables id found row changes lists adds = (tt, none_added id changes _ adds)

@@ -65,8 +65,4 @@ pub overdue_shows : (tables : Content) (office : Office) (day most : ℕ) (found
     → StandForSound tables office → ListsOverdue tables day most found
     → answered office (command.Overdue day) ≡ (reply.Overdue (map listed found), office)
 overdue_shows tables office day most found many stands lists =
-    λ k. (
-      reply.Overdue (sym (first_overdue tables office day most found stands lists
-          ∙ all_overdue office day most many stands.sound) k),
-      office,
-    )
+    λ k. (reply.Overdue (sym (first_overdue tables office day most found stands lists ∙ all_overdue office day most many stands.sound) k), office)

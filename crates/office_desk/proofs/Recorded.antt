@@ -17,9 +17,9 @@ use Rattle.office_desk.specs.{Answers.Answers, Changes.IsRefused, Damage.MeetsAf
 use Rattle.office_desk.specs.{Recording.HasDamagedAbout, Recording.IsKnownIn, Recording.TellsAbout, StandFor.StandForSound, StandFor.row_of}
 use Rattle.office_machine.specs.Step.{answered, cabinet_of, cabinet_shown, is_known, known, recorded, recorded_at, refusal_of_record, shown, told}
 use Rattle.office_machine.specs.Office.{Office, Intersection}
+use Rattle.office_machine.specs.declared.{reply.CabinetShown.CabinetShown, refusal.Refusal.Refusal, reply.Reply.Reply}
 use Rattle.office_machine.specs.declared.command.Command.TheVariants as command
 use Rattle.office_desk.specs.declared.decided.Decided.{Decided}
-use Rattle.office_machine.specs.declared.{refusal.Refusal.Refusal, reply.Reply.Reply}
 use Rattle.office_machine.specs.declared.refusal.Refusal.TheVariants as refusal
 use Rattle.office_machine.specs.declared.reply.Reply.TheVariants as reply
 use Rattle.office_desk.proofs.{Decisions.refuses_so, Stands.row_read, Writes.record_writes}
@@ -206,25 +206,17 @@ pub cabinet_shows : (tables : Content) (office : Office) (id : ℕ) (view : Cabi
     → answered office (command.Cabinet id) ≡ (reply.Cabinet (record { id = id; view = view }), office)
 cabinet_shows tables office id view stands there shows =
     let lists = shows office.register (register_of tables office stands) in
-    (λ k. (shown_there (get office.intersections id) (reply.Cabinet (cabinet_shown office.register id)) (there office stands) k, office))
-    ∙ (λ k. (
-      reply.Cabinet (record {
-        id = id;
-        view = record {
-          inspections = sym lists.inspections k;
-          orders = sym lists.orders k;
-          lines = sym lists.lines k;
-        };
-      }),
-      office,
-    ))
+    let same : ◌≡◌ {A = CabinetShown} (cabinet_shown office.register id) (record { id = id; view = view }) =
+    λ k. record { id = id; view = record { inspections = sym lists.inspections k; orders = sym lists.orders k; lines = sym lists.lines k } } in
+    ap (λ (said : Reply). (said, office)) (shown_there (get office.intersections id) (reply.Cabinet (cabinet_shown office.register id)) (there office stands)
+    ∙ (λ k. reply.Cabinet (same k)))
 
 pub orders_show : (tables : Content) (office : Office) (id : ℕ) (numbers : List ℕ)
     → StandForSound tables office → IsKnownIn tables (Some id) true → ((r : Register) → RegisterStandsSound tables r → numbers ≡ open_at r id)
     → answered office (command.OpenOrders id) ≡ (reply.OpenOrders numbers, office)
 orders_show tables office id numbers stands there shows =
-    (λ k. (shown_there (get office.intersections id) (reply.OpenOrders (open_at office.register id)) (there office stands) k, office))
-    ∙ (λ k. (reply.OpenOrders (sym (shows office.register (register_of tables office stands)) k), office))
+    ap (λ (said : Reply). (said, office)) (shown_there (get office.intersections id) (reply.OpenOrders (open_at office.register id)) (there office stands)
+    ∙ ap (λ (list : List ℕ). reply.OpenOrders list) (sym (shows office.register (register_of tables office stands))))
 
 pub stock_shows : (tables : Content) (office : Office) (parts : List (List ℕ × ℕ)) → StandForSound tables office
     → ((r : Register) → RegisterStandsSound tables r → parts ≡ stock_of r) → answered office command.Stock ≡ (reply.Stock parts, office)

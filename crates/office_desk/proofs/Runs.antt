@@ -68,16 +68,12 @@ module _ (tables : Content) (office : Office) (stands : StandForSound tables off
   damage_refuted : (asked : Command) → MeetsDamage tables asked → ⊥
   damage_refuted (command.AddIntersection id interval name) row = row_refuted reach.Row id (inl row)
   damage_refuted (command.Begin id clerk) damage = row_refuted reach.Row id damage
-  damage_refuted (command.Edit id clerk changes) damage = row_refuted reach.Plan id damage
   damage_refuted (command.Verify id clerk) damage = row_refuted reach.Row id damage
-  damage_refuted (command.Check id clerk) damage = row_refuted reach.Plan id damage
-  damage_refuted (command.Commit id clerk) damage = row_refuted reach.Plan id damage
   damage_refuted (command.Reopen id clerk) damage = row_refuted reach.Row id damage
   damage_refuted (command.Abandon id clerk) damage = row_refuted reach.Drafts id damage
   damage_refuted (command.State id) (inl row) = row_refuted reach.Row id (inl row)
   damage_refuted (command.State id) (inr judged) = row_refuted reach.Plan id judged.damage
   damage_refuted (command.Timing id) damage = no_after id (λ timing. no_damaged_timing tables id timing office stands) damage
-  damage_refuted (command.Draft id) damage = row_refuted reach.Plan id damage
   damage_refuted (command.Record c) damage = record_refuted c (cabinet_of c) damage
   damage_refuted (command.Import records) damage = import_refuted records damage
   damage_refuted (command.Cabinet id) damage =
@@ -90,6 +86,7 @@ module _ (tables : Content) (office : Office) (stands : StandForSound tables off
   damage_refuted (command.Overdue day) (inl row) = no_damaged_intersection tables row office stands
   damage_refuted (command.Overdue day) (inr inspection) =
       no_damaged_inspection tables office.register inspection.0 registered inspection.2
+  damage_refuted _ damage = row_refuted reach.Plan _ damage
 
 -- a fault of the shelf, answered as its refusal
 fault_answers : (tables : Content) (command : Command) (fault : ShelfFault) (reply : Reply) (changes : List RowChange) → (fault ≡ Damaged → MeetsDamage tables command) → reply ≡ Refused (refusal_of fault) → changes ≡ [] → AnswersAny tables command reply (changed_by tables changes)
@@ -179,7 +176,6 @@ idle_turned_away tables command reply (inr nothing) damage = absurd (subst (Meet
 -- either an import of no records is asked for, or not
 asks_nothing : (command : Command) → (command ≡ Import []) ⊎ (command ≢ Import [])
 asks_nothing (Import []) = inl refl
-asks_nothing (Import (c ∷ cs)) = inr (λ e. cc)
 asks_nothing _ = inr (λ e. cc)
 
 -- what is decided, on a database that is open or was shut

@@ -122,14 +122,8 @@ pub timing_shows : (tables : Content) (office : Office) (id : ℕ) (row : Inters
 timing_shows tables office id row rows set stands reads lists within made =
     let at = there tables office id row stands reads in
     let same : set ≡ at.0.timing.committed = made ∙ (committed_read tables office id rows stands lists within ∙ ap (λ (o : Option Intersection). (side_of o).committed) at.1) in
-    ap (λ o. (shown o (λ j. reply.Timing (timing_shown j)), office)) at.1 ∙ (λ k. (
-      reply.Timing (record {
-        name = (sym at.2 k).name;
-        revision = (sym at.2 k).revision;
-        rows = sym same k;
-      }),
-      office,
-    ))
+    ap (λ o. (shown o (λ j. reply.Timing (timing_shown j)), office)) at.1
+    ∙ (λ k. (reply.Timing (record { name = (sym at.2 k).name; revision = (sym at.2 k).revision; rows = sym same k }), office))
 
 -- ---- Draft
 

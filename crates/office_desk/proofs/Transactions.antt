@@ -9,7 +9,7 @@ use Rattle.draft_core.specs.Moves.{Follows, FollowsSoundLine, IsUnsettled, Makes
 use Rattle.draft_core.specs.{News.AddsOnlyNew, Transaction.TimingSide, Transaction.is_stage, Transaction.refused_by, Within.AreChangesWithin}
 use Rattle.draft_core.specs.declared.{refusal.DraftRefusal.DraftRefusal, state.Holder.Holder, state.Stage.Stage, timing.Move.Move}
 use Rattle.draft_core.specs.declared.timing.TimingChange.{TimingChange}
-use Rattle.draft_core.specs.declared.timing.TimingChange.TheVariants.{CommittedNew, Committed}
+use Rattle.draft_core.specs.declared.timing.TimingChange.TheVariants.{Committed}
 use Rattle.draft_core.specs.declared.refusal.DraftRefusal.TheVariants as draft
 use Rattle.office_tables_shelf.specs.{Change.changed_by, Content.Content, Shelf.ListsDraft, Shelf.rows_of, Counts.is_same_table, Counts.writes_in}
 use Rattle.office_tables_shelf.specs.declared.{rows.RowChange.RowChange, rows.RowChange.TheVariants.PutIntersection, rows.Table.Table}
@@ -101,14 +101,10 @@ draft_written id (_ ∷ changes) =
 -- other tables are not written
 none_written : (other : Table) → is_same_table table.Timing other ≡ false → is_same_table table.Draft other ≡ false → (id : ℕ) (changes : List TimingChange) → writes_in other (row_changes_of id changes) ≡ 0
 none_written other t d id [] = refl
-none_written other t d id (CommittedNew row ∷ changes) =
-    let later = none_written other t d id changes in rw t (omega (arith, later))
 none_written other t d id (Committed (Put row) ∷ changes) =
-    let later = none_written other t d id changes in rw t (omega (arith, later))
-none_written other t d id (Committed _ ∷ changes) =
-    let later = none_written other t d id changes in rw t (omega (arith, later))
+    let later = none_written other t d id changes in simp (t, d) (omega (arith, later))
 none_written other t d id (_ ∷ changes) =
-    let later = none_written other t d id changes in rw d (omega (arith, later))
+    let later = none_written other t d id changes in simp (t, d) (omega (arith, later))
 
 -- the bounds, of the draft rows that were read
 listed_many : (tables : Content) (id : ℕ) (changes : List Change) → ListsDraft tables id changes
