@@ -1,32 +1,20 @@
 -- The rows that a move adds are new in the tables.
-use Rattle.std.proofs.Common.{◌≡◌, ℕ, List, [], ◌∷◌, Option, refl, ap, sym, ◌∙◌}
-use Rattle.std.specs.List.{AllByRecursion}
-use Rattle.std.specs.Option.{option_map}
-use Rattle.std.specs.FinMap.{get}
+use Rattle.std.proofs.Common.{ℕ, List, [], ◌∷◌, Option, refl, ap, sym, ◌∙◌}
+use Rattle.std.specs.{List.AllByRecursion, Option.option_map, FinMap.get}
 use Rattle.signal_records.specs.Row.{key_of}
 use Rattle.signal_records.specs.TimingSet as set
-use Rattle.signal_records.specs.declared.key.Key.{Key}
-use Rattle.signal_records.specs.declared.record.Row.{Row}
-use Rattle.signal_records.specs.declared.record.Change.TheVariants.{Put}
-use Rattle.draft_core.specs.DraftRows.{Said, changed_key, row_at}
-use Rattle.draft_core.specs.Moves.{committed_by, said_after}
+use Rattle.signal_records.specs.declared.{key.Key.Key, record.Row.Row, record.Change.TheVariants.Put}
 use Rattle.draft_core.specs.News.{AddsNone, AddsOnlyNew, AreNew, AreNewAt}
-use Rattle.draft_core.specs.declared.timing.Reach.{Reach}
+use Rattle.draft_core.specs.{DraftRows.Said, DraftRows.changed_key, DraftRows.row_at, Moves.committed_by, Moves.said_after}
+use Rattle.draft_core.specs.declared.{timing.Reach.Reach, timing.TimingChange.TimingChange}
+use Rattle.draft_core.specs.declared.timing.TimingChange.TheVariants.{CommittedNew, Committed, DraftedNew}
 use Rattle.draft_core.specs.declared.timing.Reach.TheVariants as reach
-use Rattle.draft_core.specs.declared.timing.TimingChange.{TimingChange}
-use Rattle.draft_core.specs.declared.timing.TimingChange.TheVariants.{CommittedNew, Committed}
-use Rattle.draft_core.specs.declared.timing.TimingChange.TheVariants.{DraftedNew}
-use Rattle.office_tables_shelf.specs.Change.{AddNew, AddsNew, changed}
-use Rattle.office_tables_shelf.specs.Content.{Content}
-use Rattle.office_tables_shelf.specs.Rows.{timing_key, timing_columns}
-use Rattle.office_tables_shelf.specs.StandFor.{said_columns}
-use Rattle.office_tables_shelf.specs.declared.rows.IntersectionRow.{IntersectionRow}
-use Rattle.office_tables_shelf.specs.declared.rows.RowChange.TheVariants.{PutIntersection}
+use Rattle.office_tables_shelf.specs.{Change.AddNew, Change.AddsNew, Change.changed, Content.Content, Rows.timing_columns, StandFor.said_columns}
+use Rattle.office_tables_shelf.specs.declared.{rows.IntersectionRow.IntersectionRow, rows.RowChange.TheVariants.PutIntersection}
 use Rattle.office_tables_shelf.proofs.KeyLemmas.{draft_keys_rise, get_listed_draft, get_timing}
-use Rattle.office_desk.specs.Moving.{row_change_of, row_changes_of}
-use Rattle.office_desk.specs.Reading.{ListsFound}
+use Rattle.office_desk.specs.{Moving.row_change_of, Moving.row_changes_of, Reading.ListsFound}
 use Rattle.office_desk.specs.declared.reading.Found.{Found}
-use Rattle.office_desk.proofs.Moved.{draft_step, timing_step}
+use Rattle.office_desk.proofs.Moved.{HoldsAt, holds_then}
 
 -- ---- a move that adds none
 
@@ -44,8 +32,7 @@ none_added id (_ ∷ changes) tables none = (tt, none_added id changes _ none.1)
 record KnownAt (tables : Content) (id : ℕ) (key : Key) (changes : List TimingChange) : Type 0 where
   committed : Option Row
   said : Said
-  timing : get tables.timing (timing_key id key) ≡ option_map timing_columns committed
-  draft : get tables.draft (timing_key id key) ≡ said_columns said
+  holds : HoldsAt tables id key committed said
   news : AreNewAt changes key committed said
 
 known_later : (id : ℕ) (change : TimingChange) (changes : List TimingChange) (tables : Content)
@@ -54,8 +41,7 @@ known_later : (id : ℕ) (change : TimingChange) (changes : List TimingChange) (
 known_later id change changes tables key known = record {
   committed = committed_by change key known.committed;
   said = said_after change key known.said;
-  timing = timing_step id change tables key known.committed known.timing;
-  draft = draft_step id change tables key known.said known.draft;
+  holds = holds_then id tables key known.committed known.said known.holds change;
   news = known.news.1;
 }
 
@@ -64,9 +50,9 @@ one_new : (id : ℕ) (change : TimingChange) (changes : List TimingChange) (tabl
     → AddsNew tables (row_change_of id change)
 one_new id (CommittedNew row) changes tables known =
     let here = known (key_of row) in
-    here.timing ∙ ap (option_map timing_columns) (here.news.0 refl)
+    here.holds.timing ∙ ap (option_map timing_columns) (here.news.0 refl)
 one_new id (DraftedNew change) changes tables known =
-    let here = known (changed_key change) in here.draft ∙ ap said_columns (here.news.0 refl)
+    let here = known (changed_key change) in here.holds.draft ∙ ap said_columns (here.news.0 refl)
 one_new id (Committed (Put row)) changes tables known = tt
 one_new id _ changes tables known = tt
 
@@ -86,8 +72,6 @@ pub move_news : (r : Reach) (tables : Content) (id : ℕ) (found : Found) (row :
     (changes : List TimingChange) → ListsFound r tables id found
     → AddsOnlyNew r found.timing changes
     → AddNew tables (PutIntersection id row ∷ row_changes_of id changes)
-move_news reach.Row tables id found row changes lists adds = (tt, none_added id changes _ adds)
-move_news reach.Drafts tables id found row changes lists adds = (tt, none_added id changes _ adds)
 move_news reach.Plan tables id found row changes lists adds =
     let committed = found.timing.committed in
     let delta = found.timing.delta in
@@ -97,9 +81,12 @@ move_news reach.Plan tables id found row changes lists adds =
       all_new id changes (changed tables (PutIntersection id row)) (λ key. record {
         committed = get committed key;
         said = row_at delta key;
-        timing = get_timing tables id lists.0 lists.1.0 key
-            ∙ ap (λ (rows : set.Rows). option_map timing_columns (get rows key)) (sym lists.2);
-        draft = get_listed_draft tables id delta lists.1.1 key;
+        holds = record {
+          timing = get_timing tables id lists.0 lists.1.0 key
+              ∙ ap (λ (rows : set.Rows). option_map timing_columns (get rows key)) (sym lists.2);
+          draft = get_listed_draft tables id delta lists.1.1 key;
+        };
         news = news key;
       }),
     )
+move_news _ tables id found row changes lists adds = (tt, none_added id changes _ adds)

@@ -1,29 +1,20 @@
 -- Which record of an import is blamed.
 use Rattle.std.specs.Prelude.{◌⊎◌}
-use Rattle.std.proofs.Common.{◌≡◌, ◌≢◌, ◌+◌, ◌++◌, ◌<◌, ℕ, List, [], ◌∷◌, drop, get_or, take, length, ap, inl, inr, sym, subst, ◌∙◌}
-use Rattle.std.proofs.lemmas.List.{take_more}
+use Rattle.std.proofs.Common.{◌≡◌, ◌≢◌, ◌+◌, ◌++◌, ℕ, List, [], ◌∷◌, drop, take, ap, inl, inr, sym, subst, ◌∙◌}
 use Rattle.cabinet_core.specs.declared.command.RecordCommand.{RecordCommand}
 use Rattle.office_tables_shelf.specs.Content.{Content}
-use Rattle.office_tables_shelf.specs.declared.shelf.ShelfFault.{ShelfFault}
-use Rattle.office_tables_shelf.specs.declared.shelf.ShelfFault.TheVariants.{Damaged}
+use Rattle.office_tables_shelf.specs.declared.{shelf.ShelfFault.ShelfFault, shelf.ShelfFault.TheVariants.Damaged, rows.RowChange.RowChange}
 use Rattle.office_desk_cabinet.specs.Registers.{IsOneOf}
-use Rattle.office_tables_shelf.specs.declared.rows.RowChange.{RowChange}
 use Rattle.office_desk.specs.Blaming.{AreTaken, BlamesRightly, IsFirstRefused, IsTakenAfter}
-use Rattle.office_desk.specs.Damage.{MeetsCabinetDamage, MeetsImportDamage}
-use Rattle.office_desk.specs.Decisions.{refusal_of}
-use Rattle.office_desk.specs.Importing.{IsNamedTaken, TakesLine}
+use Rattle.office_desk.specs.{Damage.MeetsCabinetDamage, Damage.MeetsImportDamage, Decisions.refusal_of, Importing.IsNamedTaken, Importing.TakesLine}
 use Rattle.office_desk.specs.Named.{number_of, numbers_of}
-use Rattle.office_machine.specs.Refusal.{line_of}
-use Rattle.office_machine.specs.Step.{cabinet_of}
-use Rattle.office_machine.specs.declared.command.Command.{Command}
+use Rattle.office_machine.specs.{Refusal.line_of, Step.cabinet_of}
+use Rattle.office_machine.specs.declared.{command.Command.Command, refusal.Refusal.Refusal, refusal.Refusal.TheVariants.ImportRow, reply.Reply.Reply}
+use Rattle.office_machine.specs.declared.reply.Reply.TheVariants.{Refused}
 use Rattle.office_machine.specs.declared.command.Command.TheVariants as command
 use Rattle.office_desk.specs.declared.importing.Taken.{Taken}
 use Rattle.office_desk.specs.declared.importing.Taken.TheVariants as taken
-use Rattle.office_machine.specs.declared.refusal.Refusal.{Refusal}
 use Rattle.office_machine.specs.declared.refusal.Refusal.TheVariants as refusal
-use Rattle.office_machine.specs.declared.refusal.Refusal.TheVariants.{ImportRow}
-use Rattle.office_machine.specs.declared.reply.Reply.{Reply}
-use Rattle.office_machine.specs.declared.reply.Reply.TheVariants.{Refused}
 
 -- ---- replies that blame no record
 
@@ -96,10 +87,6 @@ taken_next stored before c t after records added_now added same_now same (inl ne
 taken_next stored before c t after records added_now added same_now same (inr old) takes so_far =
     let now = subst (λ (k : Taken). TakesLine stored before c k after) old.0 takes in
     taken_more stored [] before after records c now.0 so_far (inr now.1) now.2
-
--- the records up to the next one
-pub one_further : (records : List RecordCommand) (n : ℕ) (c : RecordCommand) → n < length records → c ≡ get_or records n c → take (n + 1) records ≡ take n records ++ c ∷ []
-one_further records n c low at = take_more records n c low ∙ ap (λ (x : RecordCommand). take n records ++ x ∷ []) (sym at)
 
 -- the record that is refused is the next one
 pub blames_next : (is_honest : Type 0) (tables : Content) (all : List RecordCommand) (index at cause : ℕ) (c : RecordCommand) (why : Refusal) (said : Reply) → drop index all ≡ c ∷ drop (index + 1) all

@@ -1,12 +1,7 @@
 -- The empty timing set: its rows are records, and it breaks no rule.
 use Rattle.std.proofs.Common.{◌≡◌, ℕ, Bool, false, List, [], ◌∷◌, ◌++◌, map, filter, Option, refl, ap, sym, subst}
-use Rattle.std.specs.Prelude.{IfSome, is_some}
-use Rattle.std.specs.FinMap.{empty, get-empty}
-use Rattle.std.specs.List.{flat_map, list_any}
-use Rattle.signal_records.specs.Key.{key_cmp}
-use Rattle.signal_records.specs.Row.{key_of}
-use Rattle.signal_records.specs.TimingSet.{Rows}
-use Rattle.signal_records.specs.Within.{IsRowWithin, current_limits}
+use Rattle.std.specs.{Prelude.IfSome, Prelude.is_some, FinMap.empty, FinMap.get-empty, List.flat_map, List.list_any}
+use Rattle.signal_records.specs.{Key.key_cmp, Row.key_of, TimingSet.Rows, Within.IsRowWithin, Within.current_limits}
 use Rattle.signal_records.specs.declared.key.Key.TheVariants as key
 use Rattle.signal_records.specs.declared.record.Row.{Row}
 use Rattle.signal_rules.specs.Lookup.{phase_at, split_at, pattern_at, has_sequence, phase_numbers, ring_numbers, sequence_numbers, split_numbers, pattern_numbers, the_phase, the_list, the_split, the_pattern}

@@ -1,51 +1,31 @@
 -- The records of an import, one after the other.
-use Rattle.std.proofs.Common.{◌≡◌, ◌+◌, ◌++◌, ◌≤◌, ◌<◌, ◌≢◌, ℕ, true, false, List, [], ◌∷◌, Option, Some, None, Result, Ok, length, drop, get_or, zero, suc, refl, ap, sym, subst, ◌∙◌, inl, inr, arith, subst₂}
-use Rattle.std.proofs.Math.Seq.{drop-cons}
+use Rattle.std.proofs.Common.{◌≡◌, ◌+◌, ◌++◌, ◌≤◌, ◌<◌, ◌≢◌, ℕ, true, false, List, [], ◌∷◌, Option, Some, None, Result, Ok, length, drop, take, get_or, zero, suc, refl, ap, sym, subst, ◌∙◌, inl, inr, arith, subst₂}
+use Rattle.std.proofs.{Math.Seq.drop-cons, lemmas.List.drop_all, lemmas.List.take_all, lemmas.List.take_more}
 use Rattle.std.specs.Prelude.{◌⊎◌}
-use Rattle.cabinet_core.specs.Cabinet.{Line, added as added_line, same as same_line}
-use Rattle.cabinet_core.specs.declared.command.RecordCommand.{RecordCommand}
-use Rattle.office_tables_shelf.specs.Change.{AddNew, changed_by}
-use Rattle.office_tables_shelf.specs.Content.{Content}
-use Rattle.office_tables_shelf.specs.Counts.{writes_in}
-use Rattle.office_tables_shelf.specs.Shelf.{IsTold}
-use Rattle.office_tables_shelf.specs.declared.shelf.ShelfFault.{ShelfFault}
-use Rattle.office_desk_cabinet.specs.Open.{StaysOpen}
-use Rattle.office_tables_shelf.specs.declared.rows.RowChange.{RowChange}
-use Rattle.office_tables_shelf.specs.declared.rows.Table.{Table}
-use Rattle.cabinet_core.specs.Register.{Register}
+use Rattle.cabinet_core.specs.{Cabinet.Line, Cabinet.added as added_line, Cabinet.same as same_line, Register.Register}
 use Rattle.cabinet_core.specs.Step.{after_line, line_at, with_record}
-use Rattle.office_desk_cabinet.proofs.KeptDamage.{meets_still, nothing_kept}
-use Rattle.office_desk_cabinet.proofs.News.{news_after, tells_new}
-use Rattle.office_desk_cabinet.specs.RegisterDamage.{KeepsDamage, MeetsRecordDamage, SparesDamage}
-use Rattle.office_desk_cabinet.specs.Registers.{RegistersFrom, most_record_writes}
-use Rattle.office_desk_cabinet.specs.RegisterStands.{RegisterStandsSound}
+use Rattle.cabinet_core.specs.declared.command.RecordCommand.{RecordCommand}
+use Rattle.office_tables_shelf.specs.{Change.AddNew, Change.changed_by, Content.Content, Counts.writes_in, Shelf.IsTold}
+use Rattle.office_tables_shelf.specs.declared.{shelf.ShelfFault.ShelfFault, rows.RowChange.RowChange, rows.Table.Table}
+use Rattle.office_desk_cabinet.specs.{Open.StaysOpen, RegisterDamage.KeepsDamage, RegisterDamage.MeetsRecordDamage, RegisterDamage.SparesDamage}
+use Rattle.office_desk_cabinet.specs.{Registers.RegistersFrom, Registers.most_record_writes, RegisterStands.RegisterStandsSound, Decides.DecidesRecord}
+use Rattle.office_desk_cabinet.proofs.{KeptDamage.kept_after, KeptDamage.meets_still, KeptDamage.nothing_kept, News.news_after, News.tells_new}
+use Rattle.office_desk_cabinet.proofs.PendingLemmas.{changed_append}
 use Rattle.office_desk_cabinet.specs.declared.registered.Registered.{Registered}
 use Rattle.office_desk_cabinet.specs.declared.registered.Registered.TheVariants as registered
-use Rattle.office_desk_cabinet.proofs.PendingLemmas.{changed_append}
-use Rattle.office_desk_cabinet.specs.Decides.{DecidesRecord}
-use Rattle.office_desk.specs.Answers.{AnswersAny}
-use Rattle.office_desk.specs.Changes.{IsRefused, most_import_writes, most_writes}
-use Rattle.office_desk.specs.Damage.{MeetsCabinetDamage, MeetsImportDamage}
-use Rattle.office_desk.specs.Deciding.{IsDecision}
-use Rattle.office_desk.specs.Importing.{ImportsAny, LeavesAnyTiming, TakesFrom, TakesRecord, TakesWhole, goes_on, register_with}
-use Rattle.office_machine.specs.Office.{Office}
-use Rattle.office_desk.specs.Recording.{HasDamagedAbout, TellsAbout}
-use Rattle.office_machine.specs.Refusal.{line_of}
-use Rattle.office_desk.specs.StandFor.{StandForSound}
-use Rattle.office_desk.specs.Blaming.{AreTaken, IsTakenAfter}
-use Rattle.office_machine.specs.Step.{cabinet_of, import_by, import_from, imported, is_known}
+use Rattle.office_desk.specs.Importing.{ImportsAny, LeavesAnyTiming, TakesFrom, TakesLine, TakesRecord, TakesWhole, goes_on, register_with}
+use Rattle.office_desk.specs.{Answers.AnswersAny, Changes.most_import_writes, Damage.MeetsCabinetDamage, Damage.MeetsImportDamage, Deciding.IsDecision}
+use Rattle.office_desk.specs.{Recording.HasDamagedAbout, Recording.TellsAbout, StandFor.StandForSound, Named.number_of}
+use Rattle.office_desk.specs.Blaming.{AreTaken, IsFirstRefused, IsTakenAfter}
+use Rattle.office_machine.specs.Step.{answered, cabinet_of, import_by, import_from, imported, is_known}
+use Rattle.office_machine.specs.{Office.Office, Refusal.line_of}
 use Rattle.office_machine.specs.declared.command.Command.TheVariants as command
-use Rattle.office_desk.specs.declared.decided.Decided.{Decided}
-use Rattle.office_desk.specs.declared.importing.Taken.{Taken}
+use Rattle.office_desk.specs.declared.{decided.Decided.Decided, importing.Taken.Taken}
 use Rattle.office_desk.specs.declared.importing.Taken.TheVariants as taken
-use Rattle.office_machine.specs.declared.refusal.Refusal.{Refusal}
-use Rattle.office_machine.specs.declared.refusal.Refusal.TheVariants as refusal
-use Rattle.office_machine.specs.declared.refusal.Refusal.TheVariants.{ImportRow}
-use Rattle.office_machine.specs.declared.reply.Reply.{Reply}
+use Rattle.office_machine.specs.declared.{refusal.Refusal.Refusal, refusal.Refusal.TheVariants.ImportRow}
 use Rattle.office_machine.specs.declared.reply.Reply.TheVariants.{Imported, Refused}
-use Rattle.office_desk.proofs.Blames.{WentOn}
-use Rattle.office_desk.proofs.Decisions.{query_answers, refuses_so}
 use Rattle.office_desk.proofs.Recorded.{gone_whole, record_whole, register_of, stands_after}
+use Rattle.office_desk.proofs.{Blames.WentOn, Blames.none_met, Blames.taken_next, Decisions.accepted_decides, Decisions.idle_decides, Decisions.refuses_so}
 use Rattle.office_desk.proofs.Writes.{import_writes}
 
 -- ---- rows after rows
@@ -83,10 +63,18 @@ leaves_more first then told all those is one two = subst LeavesAnyTiming (sym is
 
 -- ---- the records that are left
 
-pub next_left : {X : Type 0} (xs : List X) (n : ℕ) (x : X) → n < length xs → x ≡ get_or xs n x → drop n xs ≡ x ∷ drop (n + 1) xs
-next_left xs n x low at =
-    let next : suc n ≡ n + 1 = omega arith in
-    drop-cons xs n x low ∙ (λ k. sym at k ∷ drop (next k) xs)
+-- a record is the next of those that are left
+pub record IsNext (all : List RecordCommand) (index : ℕ) (c : RecordCommand) : Type 0 where
+  pub low : index < length all
+  pub left : drop index all ≡ c ∷ drop (index + 1) all
+  pub further : take (index + 1) all ≡ take index all ++ c ∷ []
+
+pub is_next : {list all : List RecordCommand} (index : ℕ) (c : RecordCommand) → list ≡ all → index < length list → c ≡ get_or list index c → IsNext all index c
+is_next {list = list} index c same low at = subst (λ (all : List RecordCommand). IsNext all index c) same (record {
+  low = low;
+  left = let next : suc index ≡ index + 1 = omega arith in drop-cons list index c low ∙ (λ k. sym at k ∷ drop (next k) list);
+  further = take_more list index c low ∙ ap (λ (x : RecordCommand). take index list ++ x ∷ []) (sym at);
+})
 
 -- damage that one of the last records meets
 damage_among : (tables : Content) (records : List RecordCommand) (n : ℕ) → MeetsImportDamage tables (drop n records) → MeetsImportDamage tables records
@@ -94,14 +82,14 @@ damage_among tables records zero damage = damage
 damage_among tables [] (suc n) damage = damage
 damage_among tables (c ∷ cs) (suc n) damage = inr (damage_among tables cs n damage)
 
-pub damage_of_record : (tables : Content) (records : List RecordCommand) (n : ℕ) (c : RecordCommand) → n < length records → c ≡ get_or records n c → MeetsCabinetDamage tables c (cabinet_of c) → MeetsImportDamage tables records
-damage_of_record tables records n c low at damage = damage_among tables records n (subst (MeetsImportDamage tables) (sym (next_left records n c low at)) (inl damage))
+pub damage_of_record : (tables : Content) (records : List RecordCommand) (n : ℕ) (c : RecordCommand) → IsNext records n c → MeetsCabinetDamage tables c (cabinet_of c) → MeetsImportDamage tables records
+damage_of_record tables records n c next damage = damage_among tables records n (subst (MeetsImportDamage tables) (sym next.left) (inl damage))
 
 -- the most writes of the records are those of one and of the others
-pub writes_left : (table : Table) (records : List RecordCommand) (n : ℕ) (c : RecordCommand) (done now all : ℕ) → n < length records → c ≡ get_or records n c
+pub writes_left : (table : Table) (records : List RecordCommand) (n : ℕ) (c : RecordCommand) (done now all : ℕ) → IsNext records n c
     → done + most_import_writes (drop n records) table ≤ all → now ≤ done + most_record_writes c table → now + most_import_writes (drop (n + 1) records) table ≤ all
-writes_left table records n c done now all low at few step =
-    let front : most_import_writes (drop n records) table ≡ most_record_writes c table + most_import_writes (drop (n + 1) records) table = ap (λ cs. most_import_writes cs table) (next_left records n c low at) in
+writes_left table records n c done now all next few step =
+    let front : most_import_writes (drop n records) table ≡ most_record_writes c table + most_import_writes (drop (n + 1) records) table = ap (λ cs. most_import_writes cs table) next.left in
     omega (arith, few, step, front)
 
 pub writes_whole : (table : Table) (records : List RecordCommand) (n done all : ℕ) → length records ≤ n → done + most_import_writes (drop n records) table ≤ all → done ≤ all
@@ -113,67 +101,33 @@ known_same : (office : Office) (r : Register) (about : Option ℕ) → is_known 
 known_same office r None = refl
 known_same office r (Some id) = refl
 
-pub imports_start : (stored : Content) (all : List RecordCommand) → ImportsAny stored all all 1 0 0 []
-imports_start stored all office stands = record { register = office.register; stand = register_of stored office stands; goes = refl }
+-- how an import goes on after the next record: where that is new, and where it is there
+module _ (all : List RecordCommand) (index added same : ℕ) (c : RecordCommand) (office : Office) (r : Register) where
+  abbrev if_new : Result (ℕ × ℕ × Office) Refusal
+  if_new = import_from (index + 1 + 1) (added + 1) same (record office { register = with_record r c }) (drop (index + 1) all)
 
--- how the import of the records that are left begins with the first of them
-first_goes : (office : Office) (r : Register) (c : RecordCommand) (cs : List RecordCommand) (at added same : ℕ) (t : Taken)
-    → ((at : ℕ) (new old : Result (ℕ × ℕ × Office) Refusal) → import_by at (is_known office (cabinet_of c)) (line_at r c) new old ≡ goes_on at t new old)
-    → import_from at added same (record office { register = r }) (c ∷ cs)
-    ≡ goes_on at t (import_from (at + 1) (added + 1) same (record office { register = with_record r c }) cs) (import_from (at + 1) added (same + 1) (record office { register = r }) cs)
-first_goes office r c cs at added same t goes =
-    ap (λ known. import_by at known (line_at r c) (import_from (at + 1) (added + 1) same (record office { register = with_record r c }) cs) (import_from (at + 1) added (same + 1) (record office { register = r }) cs)) (known_same office r (cabinet_of c))
-    ∙ goes at (import_from (at + 1) (added + 1) same (record office { register = with_record r c }) cs) (import_from (at + 1) added (same + 1) (record office { register = r }) cs)
+  abbrev if_old : Result (ℕ × ℕ × Office) Refusal
+  if_old = import_from (index + 1 + 1) added (same + 1) (record office { register = r }) (drop (index + 1) all)
 
--- where the first of them is added or was there, it goes on with the others
-goes_further : (office : Office) (r : Register) (c : RecordCommand) (cs : List RecordCommand) (at added same added_now same_now : ℕ) (t : Taken)
-    → WentOn t added same added_now same_now
-    → goes_on at t (import_from (at + 1) (added + 1) same (record office { register = with_record r c }) cs) (import_from (at + 1) added (same + 1) (record office { register = r }) cs)
-    ≡ import_from (at + 1) added_now same_now (record office { register = register_with t r c }) cs
-goes_further office r c cs at added same added_now same_now t (inl new) =
-    (λ k. goes_on at (new.0 k) (import_from (at + 1) (added + 1) same (record office { register = with_record r c }) cs) (import_from (at + 1) added (same + 1) (record office { register = r }) cs))
-    ∙ (λ k. import_from (at + 1) (sym new.1 k) (sym new.2 k) (record office { register = register_with (sym new.0 k) r c }) cs)
-goes_further office r c cs at added same added_now same_now t (inr old) =
-    (λ k. goes_on at (old.0 k) (import_from (at + 1) (added + 1) same (record office { register = with_record r c }) cs) (import_from (at + 1) added (same + 1) (record office { register = r }) cs))
-    ∙ (λ k. import_from (at + 1) (sym old.1 k) (sym old.2 k) (record office { register = register_with (sym old.0 k) r c }) cs)
-
-pub imports_on : (stored : Content) (all rest : List RecordCommand) (c : RecordCommand) (cs : List RecordCommand) (at added same : ℕ) (before after : List RowChange) (t : Taken) (added_now same_now : ℕ) → rest ≡ c ∷ cs
-    → WentOn t added same added_now same_now
-    → ImportsAny stored all rest at added same before → TakesRecord stored before c t after → ImportsAny stored all cs (at + 1) added_now same_now after
-imports_on stored all rest c cs at added same before after t added_now same_now left went imports takes office stands =
-    let so_far = imports office stands in
-    let now = takes office stands so_far.register so_far.stand in
-    record {
-      register = register_with t so_far.register c;
-      stand = now.stand;
-      goes = so_far.goes ∙ ap (import_from at added same (record office { register = so_far.register })) left
-          ∙ first_goes office so_far.register c cs at added same t now.goes
-          ∙ goes_further office so_far.register c cs at added same added_now same_now t went;
-    }
-
--- the first refusal refuses them all
-import_refused : (stored : Content) (all rest : List RecordCommand) (c : RecordCommand) (cs : List RecordCommand) (at added same cause : ℕ) (before after : List RowChange) (why : Refusal) (said : Reply) (changes : List RowChange) → rest ≡ c ∷ cs
-    → ImportsAny stored all rest at added same before → TakesRecord stored before c (taken.Refused why) after → cause ≡ (line_of why).number
-    → said ≡ Refused (ImportRow at cause) → changes ≡ [] → AnswersAny stored (command.Import all) said (changed_by stored changes)
-import_refused stored all rest c cs at added same cause before after why said changes left imports takes number is none office stands =
-    let so_far = imports office stands in
-    let now = takes office stands so_far.register so_far.stand in
-    let goes = so_far.goes ∙ ap (import_from at added same (record office { register = so_far.register })) left ∙ first_goes office so_far.register c cs at added same (taken.Refused why) now.goes in
-    query_answers stored office (command.Import all) (Refused (ImportRow at cause)) said changes stands
-    (ap (imported office) goes ∙ (λ k. (Refused (ImportRow at (sym number k)), office))) is none
+  goes_further : (t : Taken) (added_now same_now : ℕ) → WentOn t added same added_now same_now
+      → goes_on (index + 1) t if_new if_old ≡ import_from (index + 1 + 1) added_now same_now (record office { register = register_with t r c }) (drop (index + 1) all)
+  goes_further t added_now same_now (inl new) =
+      (λ k. goes_on (index + 1) (new.0 k) if_new if_old)
+      ∙ (λ k. import_from (index + 1 + 1) (sym new.1 k) (sym new.2 k) (record office { register = register_with (sym new.0 k) r c }) (drop (index + 1) all))
+  goes_further t added_now same_now (inr old) =
+      (λ k. goes_on (index + 1) (old.0 k) if_new if_old)
+      ∙ (λ k. import_from (index + 1 + 1) (sym old.1 k) (sym old.2 k) (record office { register = register_with (sym old.0 k) r c }) (drop (index + 1) all))
 
 -- after the last record
-import_done : (stored : Content) (all rest : List RecordCommand) (at added same : ℕ) (pending changes : List RowChange) (said : Reply) → rest ≡ []
-    → ImportsAny stored all rest at added same pending → LeavesAnyTiming pending → said ≡ Imported added same → changes ≡ pending
-    → AnswersAny stored (command.Import all) said (changed_by stored changes)
-import_done stored all rest at added same pending changes said none imports leaves is rows office stands =
+import_done : (stored : Content) (all rest : List RecordCommand) (at added same : ℕ) (pending : List RowChange) → rest ≡ [] → ImportsAny stored all rest at added same pending → LeavesAnyTiming pending
+    → AnswersAny stored (command.Import all) (Imported added same) (changed_by stored pending)
+import_done stored all rest at added same pending none imports leaves office stands =
     let done = imports office stands in
     let next : Office = record office { register = done.register } in
-    let goes = done.goes ∙ ap (import_from at added same next) none in
     record {
       next = next;
-      step = inr (ap (imported office) goes ∙ (λ k. (sym is k, next)));
-      stand = subst (λ list. StandForSound (changed_by stored list) next) (sym rows) (stands_after stored pending office done.register stands (leaves stored) done.stand);
+      step = inr (ap (imported office) (done.goes ∙ ap (import_from at added same next) none));
+      stand = stands_after stored pending office done.register stands (leaves stored) done.stand;
     }
 
 -- what was decided, of the tables as they were stored, and of what it is
@@ -212,9 +166,6 @@ added_whole stored before rows after c list about whole spares = record {
   spares = subst (KeepsDamage (changed_by stored before)) (sym (rows_after stored before rows after list)) spares;
 }
 
-pub whole_stored : (before : List RowChange) (c : RecordCommand) (after : List RowChange) {stored seen : Content} → seen ≡ stored → TakesWhole seen before c after → TakesWhole stored before c after
-whole_stored before c after same takes = subst (λ s. TakesWhole s before c after) same takes
-
 -- of the rows that it reads as they are stored, too, none is damaged
 pub never_met : (stored : Content) (before : List RowChange) (c : RecordCommand) (after : List RowChange) → KeepsDamage stored (changed_by stored before) → TakesWhole stored before c after → ¬ MeetsCabinetDamage stored c (cabinet_of c)
 never_met stored before c after spared takes = go takes.whole
@@ -231,10 +182,6 @@ nothing_leaves tables = record { intersection = refl; timing = refl; draft = ref
 pub nothing_written : (table : Table) (pending : List RowChange) (records : List RecordCommand) → pending ≡ [] → writes_in table pending + most_import_writes records table ≤ most_import_writes records table
 nothing_written table pending records none = let zero_writes = ap (writes_in table) none in omega (arith, zero_writes)
 
--- a record that was taken on the tables as they were stored
-pub same_stored : (before : List RowChange) (c : RecordCommand) (t : Taken) (after : List RowChange) {stored seen : Content} → seen ≡ stored → TakesRecord seen before c t after → TakesRecord stored before c t after
-same_stored before c t after same takes = subst (λ s. TakesRecord s before c t after) same takes
-
 -- ---- on a clean disk
 
 first_or_later : (n : ℕ) → (n ≡ 0) ⊎ (n ≢ 0)
@@ -250,13 +197,91 @@ taken_open is_clean is_honest pending index result old new fresh read opens clea
       | inr later ↦ opens.stays clean told (read (opens.clean_before clean) later)
     ]
 
-pub none_next : (records : List RecordCommand) (n : ℕ) → n < length records → records ≢ []
-none_next records n low none = let few = ap (λ (list : List RecordCommand). length list) none in omega (arith, low, few)
+pub none_next : (records : List RecordCommand) (n : ℕ) (c : RecordCommand) → IsNext records n c → records ≢ []
+none_next records n c next none = let few = ap (λ (list : List RecordCommand). length list) none in omega (arith, next.low, few)
 
 -- after the last of some records, some were read
 pub some_read : (records : List RecordCommand) (n : ℕ) → length records ≤ n → records ≢ [] → n ≢ 0
 some_read [] n high some = absurd (some refl)
 some_read (c ∷ cs) n high some = λ e. let never : ⊥ = omega (arith, high, e) in never
+
+-- ---- one after the other
+
+-- what is known before the next record: those before it were taken, and their rows are pending
+pub record SoFar (stored : Content) (all : List RecordCommand) (index added same : ℕ) (pending : List RowChange) : Type 0 where
+  pub imports : ImportsAny stored all (drop index all) (index + 1) added same pending
+  pub spares : KeepsDamage stored (changed_by stored pending)
+  pub whole : ¬ MeetsImportDamage stored (take index all)
+  pub taken : AreTaken stored [] (take index all) pending
+
+pub nothing_yet : (stored : Content) (all : List RecordCommand) → SoFar stored all 0 0 0 []
+nothing_yet stored all = record {
+  imports = λ office stands. record { register = office.register; stand = register_of stored office stands; goes = refl };
+  spares = nothing_kept stored;
+  whole = λ damaged. damaged;
+  taken = refl;
+}
+
+-- how a record is taken
+pub record Takes (stored : Content) (before : List RowChange) (c : RecordCommand) (t : Taken) (after : List RowChange) : Type 0 where
+  pub step : TakesRecord stored before c t after
+  pub whole : TakesWhole stored before c after
+  pub line : TakesLine stored before c t after
+
+-- on tables that are as they were stored
+pub takes_so : {stored seen : Content} {before after : List RowChange} {c : RecordCommand} {t : Taken} → seen ≡ stored
+    → TakesRecord seen before c t after → TakesWhole seen before c after → TakesLine seen before c t after → Takes stored before c t after
+takes_so {before = before} {after = after} {c = c} {t = t} same step whole line =
+    subst (λ (s : Content). Takes s before c t after) same (record { step = step; whole = whole; line = line })
+
+module _ (stored : Content) (all : List RecordCommand) (index added same : ℕ) (before after : List RowChange) (c : RecordCommand) (t : Taken)
+    (so_far : SoFar stored all index added same before) (next : IsNext all index c) (takes : Takes stored before c t after) where
+  unmet : ¬ MeetsImportDamage stored (take index all ++ c ∷ [])
+  unmet = none_met stored (take index all) c so_far.whole (never_met stored before c after so_far.spares takes.whole)
+
+  -- the import of all goes on as this record is taken
+  goes_as : (office : Office) (stands : StandForSound stored office) → let r = (so_far.imports office stands).register in
+      import_from 1 0 0 office all ≡ goes_on (index + 1) t (if_new all index added same c office r) (if_old all index added same c office r)
+  goes_as office stands =
+      let made = so_far.imports office stands in
+      let new = if_new all index added same c office made.register in
+      let old = if_old all index added same c office made.register in
+      made.goes ∙ ap (import_from (index + 1) added same (record office { register = made.register })) next.left
+      ∙ ap (λ known. import_by (index + 1) known (line_at made.register c) new old) (known_same office made.register (cabinet_of c))
+      ∙ (takes.step office stands made.register made.stand).goes (index + 1) new old
+
+  -- one further
+  pub one_more : (added_now same_now : ℕ) → WentOn t added same added_now same_now → SoFar stored all (index + 1) added_now same_now after
+  one_more added_now same_now went = record {
+    imports = λ office stands.
+        let made = so_far.imports office stands in
+        record {
+          register = register_with t made.register c;
+          stand = (takes.step office stands made.register made.stand).stand;
+          goes = goes_as office stands ∙ goes_further all index added same c office made.register t added_now same_now went;
+        };
+    spares = kept_after stored (changed_by stored before) (changed_by stored after) so_far.spares takes.whole.spares;
+    whole = subst (λ (list : List RecordCommand). ¬ MeetsImportDamage stored list) (sym next.further) unmet;
+    taken = subst (λ (list : List RecordCommand). AreTaken stored [] list after) (sym next.further)
+        (taken_next stored before c t after (take index all) added_now added same_now same went takes.line so_far.taken);
+  }
+
+  -- it is the first that is refused
+  pub first_refused : (why : Refusal) → t ≡ taken.Refused why → IsFirstRefused stored (take index all) c (number_of why)
+  first_refused why is = record {
+    pending = before;
+    taken = so_far.taken;
+    refused = subst (λ (t : Taken). TakesLine stored before c t after) is takes.line;
+    whole = unmet;
+  }
+
+  -- and refuses them all
+  pub refused_all : (why : Refusal) (cause : ℕ) (office : Office) → t ≡ taken.Refused why → cause ≡ (line_of why).number → StandForSound stored office
+      → answered office (command.Import all) ≡ (Refused (ImportRow (index + 1) cause), office)
+  refused_all why cause office is number stands =
+      let r = (so_far.imports office stands).register in
+      ap (imported office) (goes_as office stands ∙ ap (λ (t : Taken). goes_on (index + 1) t (if_new all index added same c office r) (if_old all index added same c office r)) is)
+      ∙ (λ k. (Refused (ImportRow (index + 1) (sym number k)), office))
 
 -- ---- the decision
 
@@ -274,32 +299,20 @@ taken_new stored pending (c ∷ cs) after is news =
     told (inr follows) = tells_new (changed_by stored pending) c same_line is.0 follows.1
 
 -- every record was taken
-pub import_decides : (is_honest : Type 0) (stored : Content) (all rest : List RecordCommand) (at added same : ℕ) (pending : List RowChange) (decided : Decided) → rest ≡ []
-    → (is_honest → ImportsAny stored all rest at added same pending) → (is_honest → ¬ MeetsImportDamage stored all) → LeavesAnyTiming pending → ((table : Table) → writes_in table pending ≤ most_import_writes all table) → (is_honest → AddNew stored pending)
+pub import_decides : (is_honest : Type 0) (stored : Content) (all : List RecordCommand) (index added same : ℕ) (pending : List RowChange) (decided : Decided) → length all ≤ index
+    → (is_honest → SoFar stored all index added same pending) → LeavesAnyTiming pending → ((table : Table) → writes_in table pending ≤ most_import_writes all table)
     → decided.reply ≡ Imported added same → decided.changes.items ≡ pending → IsDecision is_honest stored (command.Import all) decided
-import_decides is_honest stored all rest at added same pending decided none imports whole leaves few news told rows = record {
-  step = λ honest. import_done stored all rest at added same pending decided.changes.items decided.reply none (imports honest) leaves told rows;
-  writes = λ honest. import_writes stored all decided.changes.items (λ table. subst (λ list. writes_in table list ≤ most_import_writes all table) (sym rows) (few table));
-  news = λ honest. subst (AddNew stored) (sym rows) (news honest);
-  refused = λ refused. absurd (subst IsRefused told refused);
-  query = λ query. absurd query;
-  named = λ why e. absurd (let f : Imported added same ≡ Refused why = sym told ∙ e in cc);
-  whole = λ honest damaged. absurd (whole honest damaged);
-  undamaged = λ e. absurd (let f : Imported added same ≡ Refused refusal.Damaged = sym told ∙ e in cc);
-}
+import_decides is_honest stored all index added same pending decided high so_far leaves few told rows =
+    accepted_decides is_honest stored (command.Import all) (Imported added same) pending decided told rows (λ refused. refused) (λ query. query)
+    (λ honest. import_done stored all (drop index all) (index + 1) added same pending (drop_all index all high) (so_far honest).imports leaves)
+    (λ honest. import_writes stored all pending few)
+    (λ honest. taken_new stored [] (take index all) pending (so_far honest).taken tt)
+    (λ honest. subst (λ (list : List RecordCommand). ¬ MeetsImportDamage stored list) (take_all index all high) (so_far honest).whole)
 
 -- a record was refused
-pub refused_decides : (is_honest : Type 0) (stored : Content) (all rest : List RecordCommand) (c : RecordCommand) (cs : List RecordCommand) (at added same cause : ℕ) (before after : List RowChange) (why : Refusal) (decided : Decided)
-    → rest ≡ c ∷ cs → (is_honest → ImportsAny stored all rest at added same before) → (is_honest → TakesRecord stored before c (taken.Refused why) after)
-    → cause ≡ (line_of why).number → decided.reply ≡ Refused (ImportRow at cause) → decided.changes.items ≡ [] → IsDecision is_honest stored (command.Import all) decided
-refused_decides is_honest stored all rest c cs at added same cause before after why decided left imports takes number told none =
-    record {
-      step = λ honest. import_refused stored all rest c cs at added same cause before after why _ _ left (imports honest) (takes honest) number told none;
-      writes = λ honest table. subst (λ (list : List RowChange). writes_in table list ≤ most_writes stored (command.Import all) table) (sym none) (omega arith);
-      news = λ honest. subst (AddNew stored) (sym none) tt;
-      refused = λ refused. none;
-      query = λ query. none;
-      named = λ w e. refuses_so (30 ∷ []) (ImportRow at cause) (inl refl) w (sym told ∙ e);
-      undamaged = λ e. absurd (let f : Refused (ImportRow at cause) ≡ Refused refusal.Damaged = sym told ∙ e in cc);
-      whole = λ honest damaged. (tt, subst IsRefused (sym told) tt);
-    }
+pub refused_decides : (is_honest : Type 0) (stored : Content) (all : List RecordCommand) (at cause : ℕ) (decided : Decided)
+    → (is_honest → (office : Office) → StandForSound stored office → answered office (command.Import all) ≡ (Refused (ImportRow at cause), office))
+    → decided.reply ≡ Refused (ImportRow at cause) → decided.changes.items ≡ [] → IsDecision is_honest stored (command.Import all) decided
+refused_decides is_honest stored all at cause decided answers told none =
+    idle_decides is_honest stored (command.Import all) (Refused (ImportRow at cause)) decided told (λ e. cc) (refuses_so (30 ∷ []) (ImportRow at cause) (inl refl)) none
+    (λ honest damaged. (tt, tt)) answers

@@ -1,10 +1,7 @@
 -- A sound office has at most 9999 intersections, as their numbers are 1 to 9999.
 use Rattle.std.proofs.Common.{◌≤◌, ◌<◌, ◌+◌, ℕ, List, [], ◌∷◌, length, T, arith, nat_cmp, is_lt}
 use Rattle.std.proofs.lemmas.Bool.Decides.{nat_tests}
-use Rattle.std.specs.Cmp.{nat_cmp_total}
-use Rattle.std.specs.FinMap.{entries, entries_sorted}
-use Rattle.std.specs.FinMap.Entries.{is_sorted, below_all}
-use Rattle.std.specs.Int.{IsInRange}
+use Rattle.std.specs.{Cmp.nat_cmp_total, FinMap.entries, FinMap.entries_sorted, FinMap.Entries.is_sorted, FinMap.Entries.below_all, Int.IsInRange}
 use Rattle.std.specs.List.{AllByRecursion}
 use Rattle.cabinet_core.proofs.EntryLemmas.{entries_stand}
 use Rattle.office_tables_shelf.proofs.ListLemmas.{parts}

@@ -1,21 +1,15 @@
 -- The table of the intersections has their rows in the order of their numbers, and each is a record.
 use Rattle.std.proofs.Common.{◌≡◌, ℕ, List, map, Option, ap, sym, subst, ◌∙◌, IfSome}
 use Rattle.std.proofs.lemmas.Cmp.{nat_cmp_total}
-use Rattle.std.specs.Int.{IsInRange}
-use Rattle.std.specs.FinMap.{entries, get}
-use Rattle.office_tables_shelf.specs.Cells.{Cell, Rows}
-use Rattle.office_tables_shelf.specs.Content.{Content}
-use Rattle.office_tables_shelf.specs.Damage.{HasAnyDamagedIntersection}
+use Rattle.std.specs.{Int.IsInRange, FinMap.entries, FinMap.get}
+use Rattle.office_tables_shelf.specs.{Cells.Cell, Cells.Rows, Content.Content, Damage.HasAnyDamagedIntersection, Shelf.ListsIntersections}
 use Rattle.office_tables_shelf.specs.Rows.{intersection_key, intersection_columns}
-use Rattle.office_tables_shelf.specs.Shelf.{ListsIntersections}
 use Rattle.office_tables_shelf.specs.declared.rows.IntersectionRow.{IntersectionRow}
-use Rattle.office_tables_shelf.proofs.KeyCells.{intersection_order}
-use Rattle.office_tables_shelf.proofs.StoredMaps.{stored_entries, stored_found}
+use Rattle.office_tables_shelf.proofs.{KeyCells.intersection_order, StoredMaps.stored_entries, StoredMaps.stored_found}
 use Rattle.office_desk_cabinet.proofs.ListedRecords.{rows_tell}
 use Rattle.office_machine.specs.Office.{Office, Intersection, IsSoundIntersection}
 use Rattle.office_desk.specs.StandFor.{StandFor, StandForSound, columns_of, row_of}
-use Rattle.office_desk.proofs.Rows.{row_from_cells}
-use Rattle.office_desk.proofs.Stands.{sound_row}
+use Rattle.office_desk.proofs.{Rows.row_from_cells, Stands.sound_row}
 
 abbrev pub Entry : Type 0
 Entry = ℕ × Intersection

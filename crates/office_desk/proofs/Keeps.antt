@@ -1,46 +1,28 @@
 -- A step of the transaction leads from a sound timing side to a sound one.
 use Rattle.std.proofs.Common.{◌≡◌, ◌+◌, ◌≤◌, ◌==◌, ℕ, true, false, List, [], ◌∷◌, cond, Option, Some, None, Result, Ok, Err, refl, sym, subst, arith}
 use Rattle.std.proofs.lemmas.Bool.Decides.{nat_tests}
-use Rattle.std.specs.Prelude.{IfSome}
-use Rattle.std.specs.Ordering.{eq_by_cmp}
-use Rattle.std.specs.FinMap.{get, get-insert, get-remove}
-use Rattle.signal_records.specs.Key.{key_cmp}
-use Rattle.signal_records.specs.KeyOrder.{key_total, key_exact}
-use Rattle.signal_records.specs.Row.{key_of}
-use Rattle.signal_records.specs.TimingSet.{Rows, after_change, after_changes}
-use Rattle.signal_records.specs.Within.{IsRowWithin, current_limits}
-use Rattle.signal_records.specs.Words.{AreWords}
-use Rattle.signal_records.specs.declared.key.Key.{Key}
-use Rattle.signal_records.specs.declared.record.Row.{Row}
-use Rattle.signal_records.specs.declared.record.Change.{Change}
+use Rattle.std.specs.{Prelude.IfSome, Ordering.eq_by_cmp, FinMap.get, FinMap.get-remove}
+use Rattle.cabinet_core.proofs.Puts.{all_put}
+use Rattle.signal_records.specs.{Key.key_cmp, KeyOrder.key_total, KeyOrder.key_exact, Row.key_of, Within.IsRowWithin, Within.current_limits}
+use Rattle.signal_records.specs.{TimingSet.Rows, TimingSet.after_change, TimingSet.after_changes, Words.AreWords}
+use Rattle.signal_records.specs.declared.{key.Key.Key, record.Row.Row, record.Change.Change}
 use Rattle.signal_records.specs.declared.record.Change.TheVariants.{Put, Remove}
 use Rattle.signal_rules.specs.Violations.{violations_of}
 use Rattle.draft_core.specs.Transaction.{TimingSide, Draft, holder_of, owned, with_draft, begun_from, edited, committed, abandoned_from}
 use Rattle.draft_core.specs.Within.{AreChangesWithin}
-use Rattle.draft_core.specs.declared.revision.TheConstants.{LAST_REVISION}
-use Rattle.draft_core.specs.declared.refusal.DraftRefusal.{DraftRefusal}
 use Rattle.draft_core.specs.declared.refusal.DraftRefusal.TheVariants.{NotNormal, NotTransaction, NotVerify, NotDone}
-use Rattle.draft_core.specs.declared.state.Stage.{Stage}
+use Rattle.draft_core.specs.declared.{revision.TheConstants.LAST_REVISION, refusal.DraftRefusal.DraftRefusal, state.Stage.Stage}
 use Rattle.draft_core.specs.declared.state.Stage.TheVariants.{Transaction, Verify, Done}
 use Rattle.draft_core.proofs.Sound.{owned_inverts, committed_inverts}
-use Rattle.office_tables_shelf.proofs.CellLemmas.{tied}
 use Rattle.office_machine.specs.Office.{Intersection, IsSoundIntersection, IsSoundDraft, AreRecords}
 use Rattle.office_desk.specs.Transacting.{line_of, IsAskWithin}
-use Rattle.office_desk.specs.declared.transacting.Ask.{Ask}
 use Rattle.office_desk.specs.declared.transacting.Ask.TheVariants.{Begin, Edit, Verify as AskVerify, Check, Commit, Reopen, Abandon}
+use Rattle.office_desk.specs.declared.transacting.Ask.{Ask}
 
 -- ---- records after changes
 
 abbrev IsRecord : Key → Row → Type 0
 IsRecord key row = IsRowWithin current_limits row × (key_of row ≡ key)
-
-put_record : (set : Rows) (row : Row) → AreRecords set → IsRowWithin current_limits row → AreRecords (after_change set (Put row))
-put_record set row records within key =
-    subst (λ o. IfSome o (IsRecord key)) (sym (get-insert key_total set (key_of row) row key))
-    (elim (eq_by_cmp key_cmp key (key_of row)) as (λ b. eq_by_cmp key_cmp key (key_of row) ≡ b → IfSome (cond b (Some row) (get set key)) (IsRecord key)) [
-      | true ↦ λ named. (within, sym (key_exact key (key_of row) (tied _ named)))
-      | false ↦ λ named. records key
-    ] refl)
 
 gone_record : (set : Rows) (k : Key) → AreRecords set → AreRecords (after_change set (Remove k))
 gone_record set k records key =
@@ -52,7 +34,7 @@ gone_record set k records key =
 
 records_after : (changes : List Change) (set : Rows) → AreRecords set → AreChangesWithin changes → AreRecords (after_changes set changes)
 records_after [] set records within = records
-records_after (Put row ∷ changes) set records within = records_after changes (after_change set (Put row)) (put_record set row records within.0) within.1
+records_after (Put row ∷ changes) set records within = records_after changes (after_change set (Put row)) (all_put key_total key_exact IsRecord set (key_of row) row records (within.0, refl)) within.1
 records_after (Remove k ∷ changes) set records within = records_after changes (after_change set (Remove k)) (gone_record set k records) within.1
 
 -- ---- sound timing sides

@@ -1,20 +1,14 @@
 -- The list of the intersections row by row, and what it is of an office.
 use Rattle.std.proofs.Common.{◌≡◌, ◌<◌, ◌+◌, ◌++◌, ℕ, List, [], ◌∷◌, map, length, get_or, take, Option, None, Some, refl, ap, sym, ◌∙◌}
-use Rattle.std.proofs.lemmas.Cmp.{nat_cmp_total}
-use Rattle.std.proofs.lemmas.List.{map-append, take_more}
-use Rattle.std.specs.FinMap.{entries, get, len}
-use Rattle.std.specs.List.{AllByRecursion}
-use Rattle.std.specs.Prelude.{IfSome}
+use Rattle.std.proofs.{lemmas.Cmp.nat_cmp_total, lemmas.List.map-append, lemmas.List.take_more}
+use Rattle.std.specs.{FinMap.entries, FinMap.get, FinMap.len, List.AllByRecursion, Prelude.IfSome}
 use Rattle.cabinet_core.proofs.EntryLemmas.{entries_stand}
 use Rattle.office_tables_shelf.specs.Content.{Content}
 use Rattle.office_tables_shelf.specs.declared.rows.IntersectionRow.{IntersectionRow}
-use Rattle.office_machine.specs.Listed.{intersection_listed, intersections_of}
-use Rattle.office_machine.specs.Office.{Office, Intersection, side_of}
+use Rattle.office_machine.specs.{Listed.intersection_listed, Listed.intersections_of, Office.Office, Office.Intersection, Office.side_of}
 use Rattle.office_machine.specs.declared.intersections.ListedIntersection.{ListedIntersection}
-use Rattle.office_desk.specs.Listing.{ListsRows, listed_in, row_listed}
-use Rattle.office_desk.specs.StandFor.{StandForSound, row_of}
-use Rattle.office_desk.proofs.IntersectionTable.{Entry, of_entry, rows_read}
-use Rattle.office_desk.proofs.TimingCount.{committed_counted}
+use Rattle.office_desk.specs.{Listing.ListsRows, Listing.listed_in, Listing.row_listed, StandFor.StandForSound, StandFor.row_of}
+use Rattle.office_desk.proofs.{IntersectionTable.Entry, IntersectionTable.of_entry, IntersectionTable.rows_read, TimingCount.committed_counted}
 
 -- the next row comes last
 pub listed_more : (tables : Content) (rows : List (ℕ × IntersectionRow)) (i : ℕ) (e : ℕ × IntersectionRow) (count : ℕ)

@@ -1,49 +1,58 @@
 -- The rows of a move make the tables stand for the office with the next timing side.
 use Rattle.std.proofs.Common.{◌≡◌, ℕ, pos, ◌==◌, Bool, true, false, not, List, [], ◌∷◌, cond, Option, Some, None, refl, ap, sym, ◌∙◌, eqb-true}
-use Rattle.std.proofs.lemmas.Bool.{cases_Bool, false_from_ne_true}
-use Rattle.std.specs.Prelude.{◌⊎◌}
-use Rattle.std.proofs.Common.{inl, inr}
-use Rattle.std.specs.Option.{option_map}
-use Rattle.std.specs.Ordering.{eq_by_cmp}
+use Rattle.std.proofs.lemmas.Bool.{false_from_ne_true}
 use Rattle.std.specs.FinMap.{get, insert, remove, get-insert, get-remove, get-retain_keys}
+use Rattle.std.specs.{Option.option_map, Ordering.eq_by_cmp}
 use Rattle.signal_records.specs.Key.{key_cmp, kind_of, first_of, second_of}
 use Rattle.signal_records.specs.Row.{key_of}
-use Rattle.signal_records.specs.declared.key.Key.{Key}
-use Rattle.signal_records.specs.declared.record.Row.{Row}
-use Rattle.signal_records.specs.declared.record.Change.{Change}
+use Rattle.signal_records.specs.declared.{key.Key.Key, record.Row.Row, record.Change.Change}
 use Rattle.signal_records.specs.declared.record.Change.TheVariants.{Put, Remove}
-use Rattle.draft_core.specs.DraftRows.{RowsByKey, Said, silent, leaves, removes}
-use Rattle.draft_core.specs.DraftRows.{changed_key, later_of, left_by, overlaid, said_at, said_by}
-use Rattle.draft_core.specs.Moves.{Makes, committed_after, committed_by, drafted_in}
-use Rattle.draft_core.specs.Moves.{next_holder, row_after, said_after}
-use Rattle.draft_core.specs.Transaction.{TimingSide}
-use Rattle.draft_core.specs.Within.{AreChangesWithin}
-use Rattle.draft_core.specs.declared.timing.Move.{Move}
-use Rattle.draft_core.specs.declared.timing.Reach.{Reach}
-use Rattle.draft_core.specs.declared.timing.TimingChange.{TimingChange}
-use Rattle.draft_core.specs.declared.timing.TimingChange.TheVariants.{CommittedNew, Committed}
-use Rattle.draft_core.specs.declared.timing.TimingChange.TheVariants.{DraftedNew, Drafted}
-use Rattle.draft_core.specs.declared.timing.TimingChange.TheVariants.{DraftGone, DraftDropped}
+use Rattle.draft_core.specs.DraftRows.{RowsByKey, Said, silent, leaves, removes, changed_key, later_of, left_by, overlaid, said_at, said_by}
+use Rattle.draft_core.specs.Moves.{Makes, committed_after, committed_by, drafted_in, next_holder, row_after, said_after}
+use Rattle.draft_core.specs.{Transaction.TimingSide, Within.AreChangesWithin}
+use Rattle.draft_core.specs.declared.timing.TimingChange.TheVariants.{CommittedNew, Committed, DraftedNew, Drafted, DraftGone, DraftDropped}
+use Rattle.draft_core.specs.declared.{timing.Move.Move, timing.Reach.Reach, timing.TimingChange.TimingChange}
 use Rattle.office_tables_shelf.specs.Cells.{Cell, Rows, cells_cmp, number}
-use Rattle.office_tables_shelf.specs.Change.{changed, changed_by}
-use Rattle.office_tables_shelf.specs.Content.{Content, is_of, rows_but}
 use Rattle.office_tables_shelf.specs.Rows.{intersection_key, intersection_columns, timing_key, timing_columns, left_columns}
-use Rattle.office_tables_shelf.specs.declared.rows.IntersectionRow.{IntersectionRow}
-use Rattle.office_tables_shelf.specs.declared.rows.RowChange.TheVariants.{PutDraft, PutIntersection}
-use Rattle.office_tables_shelf.specs.declared.rows.RowChange.TheVariants.{PutTiming}
-use Rattle.office_tables_shelf.proofs.CellLemmas.{cells_total, cells_exact, tied}
-use Rattle.office_tables_shelf.proofs.CabinetLemmas.{of_number}
+use Rattle.office_tables_shelf.specs.{Change.changed, Change.changed_by, Content.Content, Content.is_of, Content.rows_but}
+use Rattle.office_tables_shelf.specs.declared.{rows.IntersectionRow.IntersectionRow, rows.RowChange.TheVariants.PutIntersection}
+use Rattle.office_tables_shelf.proofs.{CellLemmas.cells_total, CellLemmas.cells_exact, CellLemmas.tied, CabinetLemmas.of_number, TreeLemmas.timing_ties}
 use Rattle.office_tables_shelf.proofs.KeyLemmas.{of_itself, timing_key_tells}
-use Rattle.office_tables_shelf.proofs.TreeLemmas.{timing_ties}
 use Rattle.office_desk.specs.declared.reading.Found.{Found}
-use Rattle.office_desk.specs.Moving.{row_change_of, row_changes_of, moved_row}
-use Rattle.office_machine.specs.Office.{Office, Intersection, side_of}
-use Rattle.office_desk.specs.Reading.{FoundStands, drafts_at}
-use Rattle.office_desk.specs.StandFor.{StandFor, HasTimingKeys, IsSaid, row_of, said_columns}
-use Rattle.office_machine.specs.Step.{with_intersection}
-use Rattle.office_desk.proofs.KeptRegister.{KeepsRegister, kept_twice}
-use Rattle.office_desk.proofs.ReadBack.{later_within, said_at_within}
-use Rattle.office_desk.proofs.Stands.{stand_after}
+use Rattle.office_desk.specs.StandFor.{StandFor, HasTimingKeys, IsSaid, IsTimingKey, row_of, said_columns}
+use Rattle.office_desk.specs.{Moving.row_change_of, Moving.row_changes_of, Moving.moved_row, Reading.FoundStands, Reading.drafts_at}
+use Rattle.office_machine.specs.{Office.Office, Office.Intersection, Office.side_of, Step.with_intersection}
+use Rattle.office_desk.proofs.{KeptRegister.KeepsRegister, ReadBack.later_within, ReadBack.said_at_within, Stands.stand_after}
+
+-- ---- rows of one intersection are changed
+
+-- the rows under the keys of other intersections stay, and each row stands under a timing key still
+record Spares (id : ℕ) (old new : Rows) : Type 0 where
+  others : (q : ℕ) → (q ≡ id → ⊥) → (key : Key) → get new (timing_key q key) ≡ get old (timing_key q key)
+  keys : HasTimingKeys old → HasTimingKeys new
+
+none_changed : (id : ℕ) (rows : Rows) → Spares id rows rows
+none_changed id rows = record { others = λ q ne key. refl; keys = λ has. has }
+
+then_spares : (id : ℕ) (old mid new : Rows) → Spares id old mid → Spares id mid new → Spares id old new
+then_spares id old mid new first rest = record {
+  others = λ q ne key. rest.others q ne key ∙ first.others q ne key;
+  keys = λ has. rest.keys (first.keys has);
+}
+
+-- so it is where something is put, or nothing, under cells that are no other intersection's
+spared : (id : ℕ) (old new : Rows) (hits : List Cell → Bool) (put : Option (List Cell))
+    → ((cells : List Cell) → get new cells ≡ cond (hits cells) put (get old cells))
+    → ((q : ℕ) → (q ≡ id → ⊥) → (key : Key) → hits (timing_key q key) ≡ false)
+    → ((cells columns : List Cell) → hits cells ≡ true → put ≡ Some columns → IsTimingKey cells) → Spares id old new
+spared id old new hits put at misses keyed = record {
+  others = λ q ne key. at (timing_key q key) ∙ ap (λ b. cond b put (get old (timing_key q key))) (misses q ne key);
+  keys = λ has cells columns there.
+      elim (hits cells) as (λ b. hits cells ≡ b → cond b put (get old cells) ≡ Some columns → IsTimingKey cells) [
+        | true ↦ λ hit e. keyed cells columns hit e
+        | false ↦ λ miss e. has cells columns e
+      ] refl (sym (at cells) ∙ there);
+}
 
 -- ---- what a table has under the keys of an intersection after one change
 
@@ -54,223 +63,133 @@ module _ (rows : Rows) (id : ℕ) (k : Key) where
   get-gone : (key : Key) → get (remove rows (timing_key id k)) (timing_key id key) ≡ cond (eq_by_cmp key_cmp key k) None (get rows (timing_key id key))
   get-gone key = get-remove cells_total rows (timing_key id k) (timing_key id key) ∙ ap (λ b. cond b None (get rows (timing_key id key))) (timing_ties id key k)
 
-  other_key : (q : ℕ) (key : Key) → (q ≡ id → ⊥) → eq_by_cmp cells_cmp (timing_key q key) (timing_key id k) ≡ false
-  other_key q key ne = go (cases_Bool (eq_by_cmp cells_cmp (timing_key q key) (timing_key id k)))
-    where
-      go : (eq_by_cmp cells_cmp (timing_key q key) (timing_key id k) ≡ true) ⊎ (eq_by_cmp cells_cmp (timing_key q key) (timing_key id k) ≡ false) → eq_by_cmp cells_cmp (timing_key q key) (timing_key id k) ≡ false
-      go (inl hit) = absurd (ne (timing_key_tells q id key k (cells_exact _ _ (tied _ hit))).0)
-      go (inr miss) = miss
+  abbrev hits : List Cell → Bool
+  hits cells = eq_by_cmp cells_cmp cells (timing_key id k)
 
-  put_elsewhere : (columns : List Cell) (q : ℕ) → (q ≡ id → ⊥) → (key : Key) → get (insert rows (timing_key id k) columns) (timing_key q key) ≡ get rows (timing_key q key)
-  put_elsewhere columns q ne key = get-insert cells_total rows (timing_key id k) columns (timing_key q key) ∙ ap (λ b. cond b (Some columns) (get rows (timing_key q key))) (other_key q key ne)
+  other_key : (q : ℕ) → (q ≡ id → ⊥) → (key : Key) → hits (timing_key q key) ≡ false
+  other_key q ne key = false_from_ne_true (hits (timing_key q key))
+      (λ hit. ne (timing_key_tells q id key k (cells_exact _ _ (tied _ hit))).0)
 
-  gone_elsewhere : (q : ℕ) → (q ≡ id → ⊥) → (key : Key) → get (remove rows (timing_key id k)) (timing_key q key) ≡ get rows (timing_key q key)
-  gone_elsewhere q ne key = get-remove cells_total rows (timing_key id k) (timing_key q key) ∙ ap (λ b. cond b None (get rows (timing_key q key))) (other_key q key ne)
+  put_spares : (columns : List Cell) → Spares id rows (insert rows (timing_key id k) columns)
+  put_spares columns = spared id rows _ hits (Some columns) (get-insert cells_total rows (timing_key id k) columns)
+      other_key (λ cells there hit is. (id, k, cells_exact _ _ (tied _ hit)))
 
-  put_keys : (put : List Cell) → HasTimingKeys rows → HasTimingKeys (insert rows (timing_key id k) put)
-  put_keys put has cells columns at =
-      elim (eq_by_cmp cells_cmp cells (timing_key id k)) as (λ b. eq_by_cmp cells_cmp cells (timing_key id k) ≡ b → cond b (Some put) (get rows cells) ≡ Some columns → (n : ℕ) × (j : Key) × (cells ≡ timing_key n j)) [
-        | true ↦ λ hit e. (id, k, cells_exact _ _ (tied _ hit))
-        | false ↦ λ miss e. has cells columns e
-      ] refl (sym (get-insert cells_total rows (timing_key id k) put cells) ∙ at)
-
-  gone_keys : HasTimingKeys rows → HasTimingKeys (remove rows (timing_key id k))
-  gone_keys has cells columns at =
-      elim (eq_by_cmp cells_cmp cells (timing_key id k)) as (λ b. cond b None (get rows cells) ≡ Some columns → (n : ℕ) × (j : Key) × (cells ≡ timing_key n j)) [
-        | true ↦ λ e. absurd (let f : None ≡ Some columns = e in cc)
-        | false ↦ λ e. has cells columns e
-      ] (sym (get-remove cells_total rows (timing_key id k) cells) ∙ at)
+  gone_spares : Spares id rows (remove rows (timing_key id k))
+  gone_spares = spared id rows _ hits None (get-remove cells_total rows (timing_key id k))
+      other_key (λ cells columns hit is. absurd (let f : None ≡ Some columns = is in cc))
 
 -- ---- and once its draft was dropped
 
+turned : {A : Type 0} (b : Bool) (x y : A) → cond (not b) x y ≡ cond b y x
+turned true x y = refl
+turned false x y = refl
+
 module _ (rows : Rows) (id : ℕ) where
   -- what stood under the cells of another intersection stands there still, and nothing else
-  get-dropped : (cells : List Cell)
-      → get (rows_but id rows) cells ≡ cond (not (is_of id cells)) (get rows cells) None
+  get-dropped : (cells : List Cell) → get (rows_but id rows) cells ≡ cond (is_of id cells) None (get rows cells)
   get-dropped cells = get-retain_keys rows (λ k. not (is_of id k)) cells
-      (λ k tie. ap (λ c. not (is_of id c)) (sym (cells_exact cells k tie)))
+      (λ k tie. ap (λ c. not (is_of id c)) (sym (cells_exact cells k tie))) ∙ turned (is_of id cells) (get rows cells) None
 
   dropped_here : (key : Key) → get (rows_but id rows) (timing_key id key) ≡ None
-  dropped_here key = get-dropped (timing_key id key)
-      ∙ ap (λ b. cond (not b) (get rows (timing_key id key)) None) (of_itself id key)
+  dropped_here key = get-dropped (timing_key id key) ∙ ap (λ b. cond b None (get rows (timing_key id key))) (of_itself id key)
 
-  dropped_elsewhere : (q : ℕ) → (q ≡ id → ⊥) → (key : Key)
-      → get (rows_but id rows) (timing_key q key) ≡ get rows (timing_key q key)
-  dropped_elsewhere q ne key = get-dropped (timing_key q key)
-      ∙ ap (λ b. cond (not b) (get rows (timing_key q key)) None)
-      (of_number id q (number (pos (kind_of key)) ∷ number (pos (first_of key))
-      ∷ number (pos (second_of key)) ∷ [])
+  dropped_spares : Spares id rows (rows_but id rows)
+  dropped_spares = spared id rows _ (is_of id) None get-dropped
+      (λ q ne key. of_number id q (number (pos (kind_of key)) ∷ number (pos (first_of key)) ∷ number (pos (second_of key)) ∷ [])
       ∙ false_from_ne_true (q == id) (λ same. ne (eqb-true q id same)))
-
-  dropped_keys : HasTimingKeys rows → HasTimingKeys (rows_but id rows)
-  dropped_keys has cells columns at =
-      elim (not (is_of id cells)) as (λ b. cond b (get rows cells) None ≡ Some columns → (n : ℕ) × (j : Key) × (cells ≡ timing_key n j)) [
-        | true ↦ λ e. has cells columns e
-        | false ↦ λ e. absurd (let f : None ≡ Some columns = e in cc)
-      ] (sym (get-dropped cells) ∙ at)
+      (λ cells columns hit is. absurd (let f : None ≡ Some columns = is in cc))
 
 -- ---- what stays
-
--- rows under the keys of other intersections
-abbrev Elsewhere : ℕ → (old new : Rows) → Type 0
-Elsewhere id old new = (q : ℕ) → (q ≡ id → ⊥) → (key : Key)
-    → get new (timing_key q key) ≡ get old (timing_key q key)
 
 -- all but the timing and draft rows of one intersection
 record Stays (id : ℕ) (old new : Content) : Type 0 where
   intersection : new.intersection ≡ old.intersection
-  timing : Elsewhere id old.timing new.timing
-  timing_keys : HasTimingKeys old.timing → HasTimingKeys new.timing
-  draft : Elsewhere id old.draft new.draft
-  draft_keys : HasTimingKeys old.draft → HasTimingKeys new.draft
+  timing : Spares id old.timing new.timing
+  draft : Spares id old.draft new.draft
   register : KeepsRegister old new
 
-with_rows : (id : ℕ) (tables : Content) (timing drafts : Rows)
-    → Elsewhere id tables.timing timing → (HasTimingKeys tables.timing → HasTimingKeys timing)
-    → Elsewhere id tables.draft drafts → (HasTimingKeys tables.draft → HasTimingKeys drafts)
-    → Stays id tables (record tables { timing = timing; draft = drafts })
-with_rows id tables timing drafts others keys draft_others draft_keys = record {
-  intersection = refl;
-  timing = others;
-  timing_keys = keys;
-  draft = draft_others;
-  draft_keys = draft_keys;
-  register = record { inspection = refl; work_order = refl; part = refl; delivery = refl; used_part = refl };
-}
+with_timing : (id : ℕ) (tables : Content) (rows : Rows) → Spares id tables.timing rows → Stays id tables (record tables { timing = rows })
+with_timing id tables rows spares = record { intersection = refl; timing = spares; draft = none_changed id tables.draft; register = refl }
 
-with_timing : (id : ℕ) (tables : Content) (rows : Rows) → Elsewhere id tables.timing rows
-    → (HasTimingKeys tables.timing → HasTimingKeys rows) → Stays id tables (record tables { timing = rows })
-with_timing id tables rows others keys =
-    with_rows id tables rows tables.draft others keys (λ q ne key. refl) (λ has. has)
-
-with_drafts : (id : ℕ) (tables : Content) (rows : Rows) → Elsewhere id tables.draft rows
-    → (HasTimingKeys tables.draft → HasTimingKeys rows) → Stays id tables (record tables { draft = rows })
-with_drafts id tables rows others keys =
-    with_rows id tables tables.timing rows (λ q ne key. refl) (λ has. has) others keys
-
-row_stays : (id : ℕ) (row : Row) (tables : Content)
-    → Stays id tables (changed tables (PutTiming id row))
-row_stays id row tables = with_timing id tables _
-    (put_elsewhere tables.timing id (key_of row) (timing_columns row))
-    (put_keys tables.timing id (key_of row) (timing_columns row))
-
-draft_stays : (id : ℕ) (change : Change) (tables : Content)
-    → Stays id tables (changed tables (PutDraft id change))
-draft_stays id change tables = with_drafts id tables _
-    (put_elsewhere tables.draft id (changed_key change) (left_columns (left_by change)))
-    (put_keys tables.draft id (changed_key change) (left_columns (left_by change)))
+with_drafts : (id : ℕ) (tables : Content) (rows : Rows) → Spares id tables.draft rows → Stays id tables (record tables { draft = rows })
+with_drafts id tables rows spares = record { intersection = refl; timing = none_changed id tables.timing; draft = spares; register = refl }
 
 one_stays : (id : ℕ) (change : TimingChange) (tables : Content) → Stays id tables (changed tables (row_change_of id change))
-one_stays id (CommittedNew row) tables = row_stays id row tables
-one_stays id (Committed (Put row)) tables = row_stays id row tables
-one_stays id (Committed (Remove k)) tables = with_timing id tables _ (gone_elsewhere tables.timing id k) (gone_keys tables.timing id k)
-one_stays id (DraftedNew change) tables = draft_stays id change tables
-one_stays id (Drafted change) tables = draft_stays id change tables
-one_stays id (DraftGone k) tables = with_drafts id tables _ (gone_elsewhere tables.draft id k) (gone_keys tables.draft id k)
-one_stays id DraftDropped tables = with_drafts id tables _ (dropped_elsewhere tables.draft id)
-    (dropped_keys tables.draft id)
+one_stays id (CommittedNew row) tables = with_timing id tables _ (put_spares tables.timing id (key_of row) (timing_columns row))
+one_stays id (Committed (Put row)) tables = with_timing id tables _ (put_spares tables.timing id (key_of row) (timing_columns row))
+one_stays id (Committed (Remove k)) tables = with_timing id tables _ (gone_spares tables.timing id k)
+one_stays id (DraftedNew change) tables = with_drafts id tables _ (put_spares tables.draft id (changed_key change) (left_columns (left_by change)))
+one_stays id (Drafted change) tables = with_drafts id tables _ (put_spares tables.draft id (changed_key change) (left_columns (left_by change)))
+one_stays id (DraftGone k) tables = with_drafts id tables _ (gone_spares tables.draft id k)
+one_stays id DraftDropped tables = with_drafts id tables _ (dropped_spares tables.draft id)
 
 all_stay : (id : ℕ) (changes : List TimingChange) (tables : Content) → Stays id tables (changed_by tables (row_changes_of id changes))
-all_stay id [] tables = with_timing id tables tables.timing (λ q ne key. refl) (λ has. has)
+all_stay id [] tables = with_timing id tables tables.timing (none_changed id tables.timing)
 all_stay id (change ∷ changes) tables =
     let first = one_stays id change tables in
     let rest = all_stay id changes (changed tables (row_change_of id change)) in
     record {
       intersection = rest.intersection ∙ first.intersection;
-      timing = λ q ne key. rest.timing q ne key ∙ first.timing q ne key;
-      timing_keys = λ has. rest.timing_keys (first.timing_keys has);
-      draft = λ q ne key. rest.draft q ne key ∙ first.draft q ne key;
-      draft_keys = λ has. rest.draft_keys (first.draft_keys has);
-      register = kept_twice tables (changed tables (row_change_of id change)) _ first.register rest.register;
+      timing = then_spares id _ _ _ first.timing rest.timing;
+      draft = then_spares id _ _ _ first.draft rest.draft;
+      register = rest.register ∙ first.register;
     }
 
 -- ---- the rows of the intersection after a move
 
-put_committed : (b : Bool) (row : Row) (c : Option Row) → cond b (Some (timing_columns row))
-    (option_map timing_columns c) ≡ option_map timing_columns (overlaid c (cond b
-    (leaves row) silent))
+-- what the tables have at a key: a committed row, and what the draft rows say
+pub record HoldsAt (tables : Content) (id : ℕ) (key : Key) (c : Option Row) (said : Said) : Type 0 where
+  pub timing : get tables.timing (timing_key id key) ≡ option_map timing_columns c
+  pub draft : get tables.draft (timing_key id key) ≡ said_columns said
+
+put_committed : (b : Bool) (row : Row) (c : Option Row) → cond b (Some (timing_columns row)) (option_map timing_columns c) ≡ option_map timing_columns (overlaid c (cond b (leaves row) silent))
 put_committed true row c = refl
 put_committed false row c = refl
 
-gone_committed : (b : Bool) (c : Option Row) → cond b None
-    (option_map timing_columns c) ≡ option_map timing_columns (overlaid c (cond b removes silent))
+gone_committed : (b : Bool) (c : Option Row) → cond b None (option_map timing_columns c) ≡ option_map timing_columns (overlaid c (cond b removes silent))
 gone_committed true c = refl
 gone_committed false c = refl
 
-timing_put : (id : ℕ) (row : Row) (tables : Content) (key : Key) (c : Option Row)
-    → get tables.timing (timing_key id key) ≡ option_map timing_columns c
-    → get (insert tables.timing (timing_key id (key_of row)) (timing_columns row))
-    (timing_key id key) ≡ option_map timing_columns (overlaid c (said_at (Put row) key))
-timing_put id row tables key c e =
-    get-put tables.timing id (key_of row) (timing_columns row) key
-    ∙ ap (cond (eq_by_cmp key_cmp key (key_of row)) (Some (timing_columns row))) e
-    ∙ put_committed (eq_by_cmp key_cmp key (key_of row)) row c
-
--- the committed row at a key after one change
-pub timing_step : (id : ℕ) (change : TimingChange) (tables : Content) (key : Key)
-    (c : Option Row) → get tables.timing (timing_key id key) ≡ option_map timing_columns c
-    → get (changed tables (row_change_of id change)).timing (timing_key id key)
-    ≡ option_map timing_columns (committed_by change key c)
-timing_step id (CommittedNew row) tables key c e = timing_put id row tables key c e
-timing_step id (Committed (Put row)) tables key c e = timing_put id row tables key c e
-timing_step id (Committed (Remove k)) tables key c e =
-    get-gone tables.timing id k key ∙ ap (cond (eq_by_cmp key_cmp key k) None) e
-    ∙ gone_committed (eq_by_cmp key_cmp key k) c
-timing_step id _ tables key c e = e
-
-timing_after : (id : ℕ) (changes : List TimingChange) (tables : Content) (key : Key)
-    (c : Option Row) → get tables.timing (timing_key id key) ≡ option_map timing_columns c
-    → get (changed_by tables (row_changes_of id changes)).timing (timing_key id key)
-    ≡ option_map timing_columns (committed_after changes key c)
-timing_after id [] tables key c e = e
-timing_after id (change ∷ changes) tables key c e =
-    timing_after id changes (changed tables (row_change_of id change)) key
-    (committed_by change key c) (timing_step id change tables key c e)
-
-put_draft : (b : Bool) (change : Change) (said : Said) → cond b (Some (left_columns
-    (left_by change))) (said_columns said) ≡ said_columns (later_of (cond b
-    (said_by change) silent) said)
+put_draft : (b : Bool) (change : Change) (said : Said) → cond b (Some (left_columns (left_by change))) (said_columns said) ≡ said_columns (later_of (cond b (said_by change) silent) said)
 put_draft true (Put row) said = refl
 put_draft true (Remove k) said = refl
 put_draft false change said = refl
 
-gone_draft : (b : Bool) (said : Said) → cond b None (said_columns said) ≡ said_columns
-    (cond b silent said)
+gone_draft : (b : Bool) (said : Said) → cond b None (said_columns said) ≡ said_columns (cond b silent said)
 gone_draft true said = refl
 gone_draft false said = refl
 
-draft_put : (id : ℕ) (change : Change) (tables : Content) (key : Key) (said : Said)
-    → get tables.draft (timing_key id key) ≡ said_columns said
-    → get (insert tables.draft (timing_key id (changed_key change)) (left_columns (left_by change)))
-    (timing_key id key) ≡ said_columns (later_of (said_at change key) said)
-draft_put id change tables key said e =
-    get-put tables.draft id (changed_key change) (left_columns (left_by change)) key
-    ∙ ap (cond (eq_by_cmp key_cmp key (changed_key change))
-    (Some (left_columns (left_by change)))) e
-    ∙ put_draft (eq_by_cmp key_cmp key (changed_key change)) change said
+module _ (id : ℕ) (tables : Content) (key : Key) (c : Option Row) (said : Said) (h : HoldsAt tables id key c said) where
+  row_put : (row : Row) → get (insert tables.timing (timing_key id (key_of row)) (timing_columns row)) (timing_key id key) ≡ option_map timing_columns (overlaid c (said_at (Put row) key))
+  row_put row = get-put tables.timing id (key_of row) (timing_columns row) key
+      ∙ ap (cond (eq_by_cmp key_cmp key (key_of row)) (Some (timing_columns row))) h.timing ∙ put_committed (eq_by_cmp key_cmp key (key_of row)) row c
 
--- what the draft rows say of a key after one change
-pub draft_step : (id : ℕ) (change : TimingChange) (tables : Content) (key : Key) (said : Said)
-    → get tables.draft (timing_key id key) ≡ said_columns said
-    → get (changed tables (row_change_of id change)).draft (timing_key id key)
-    ≡ said_columns (said_after change key said)
-draft_step id (DraftedNew change) tables key said e = draft_put id change tables key said e
-draft_step id (Drafted change) tables key said e = draft_put id change tables key said e
-draft_step id (DraftGone k) tables key said e =
-    get-gone tables.draft id k key ∙ ap (cond (eq_by_cmp key_cmp key k) None) e
-    ∙ gone_draft (eq_by_cmp key_cmp key k) said
-draft_step id DraftDropped tables key said e = dropped_here tables.draft id key
-draft_step id (Committed (Put row)) tables key said e = e
-draft_step id _ tables key said e = e
+  draft_put : (change : Change) → get (insert tables.draft (timing_key id (changed_key change)) (left_columns (left_by change))) (timing_key id key) ≡ said_columns (later_of (said_at change key) said)
+  draft_put change = get-put tables.draft id (changed_key change) (left_columns (left_by change)) key
+      ∙ ap (cond (eq_by_cmp key_cmp key (changed_key change)) (Some (left_columns (left_by change)))) h.draft
+      ∙ put_draft (eq_by_cmp key_cmp key (changed_key change)) change said
 
-draft_after : (id : ℕ) (changes : List TimingChange) (tables : Content) (key : Key) (said : Said)
-    → get tables.draft (timing_key id key) ≡ said_columns said
-    → get (changed_by tables (row_changes_of id changes)).draft (timing_key id key) ≡ said_columns
-    (row_after changes key said)
-draft_after id [] tables key said e = e
-draft_after id (change ∷ changes) tables key said e =
-    draft_after id changes (changed tables (row_change_of id change)) key
-    (said_after change key said) (draft_step id change tables key said e)
+  -- and after one change
+  pub holds_then : (change : TimingChange) → HoldsAt (changed tables (row_change_of id change)) id key (committed_by change key c) (said_after change key said)
+  holds_then (CommittedNew row) = record { timing = row_put row; draft = h.draft }
+  holds_then (Committed (Put row)) = record { timing = row_put row; draft = h.draft }
+  holds_then (Committed (Remove k)) = record {
+    timing = get-gone tables.timing id k key ∙ ap (cond (eq_by_cmp key_cmp key k) None) h.timing ∙ gone_committed (eq_by_cmp key_cmp key k) c;
+    draft = h.draft;
+  }
+  holds_then (DraftedNew change) = record { timing = h.timing; draft = draft_put change }
+  holds_then (Drafted change) = record { timing = h.timing; draft = draft_put change }
+  holds_then (DraftGone k) = record {
+    timing = h.timing;
+    draft = get-gone tables.draft id k key ∙ ap (cond (eq_by_cmp key_cmp key k) None) h.draft ∙ gone_draft (eq_by_cmp key_cmp key k) said;
+  }
+  holds_then DraftDropped = record { timing = h.timing; draft = dropped_here tables.draft id key }
+
+holds_after : (id : ℕ) (changes : List TimingChange) (tables : Content) (key : Key) (c : Option Row) (said : Said) → HoldsAt tables id key c said
+    → HoldsAt (changed_by tables (row_changes_of id changes)) id key (committed_after changes key c) (row_after changes key said)
+holds_after id [] tables key c said h = h
+holds_after id (change ∷ changes) tables key c said h =
+    holds_after id changes _ key (committed_by change key c) (said_after change key said) (holds_then id tables key c said h change)
 
 gone_within : (b : Bool) (key : Key) (said : Said) → IsSaid key said
     → IsSaid key (cond b silent said)
@@ -323,25 +242,24 @@ move_stands tables office id i found clerk move next stand there stands within m
     let first : Content = changed tables (PutIntersection id (moved_row found clerk move)) in
     let changes = move.changes in
     let rest = all_stay id changes first in
-    let timing_now : (key : Key) → get tables.timing (timing_key id key)
-    ≡ option_map timing_columns (get i.timing.committed key) = λ key.
-    stand.timing id key ∙ ap (λ (o : Option Intersection). option_map timing_columns
-    (get (side_of o).committed key)) there in
+    let holds = λ (key : Key). holds_after id changes first key (get i.timing.committed key) (stand.draft id key).said (record {
+      timing = stand.timing id key ∙ ap (λ (o : Option Intersection). option_map timing_columns (get (side_of o).committed key)) there;
+      draft = (stand.draft id key).stored;
+    }) in
     stand_after tables (changed_by first (row_changes_of id changes)) office id (with_timing_side i next) stand (record {
       intersection = rest.intersection ∙ ap (λ (row : IntersectionRow). insert tables.intersection
           (intersection_key id) (intersection_columns row))
           (row_is i found clerk move next stands makes);
-      timing_here = λ key. timing_after id changes first key (get i.timing.committed key)
-          (timing_now key) ∙ ap (option_map timing_columns) (sym (makes.committed key));
-      timing_elsewhere = rest.timing;
-      timing_keys = rest.timing_keys stand.timing_keys;
+      timing_here = λ key. (holds key).timing ∙ ap (option_map timing_columns) (sym (makes.committed key));
+      timing_elsewhere = rest.timing.others;
+      timing_keys = rest.timing.keys stand.timing_keys;
       draft_here = λ key. let held = stand.draft id key in record {
         said = row_after changes key held.said;
-        stored = draft_after id changes first key held.said held.stored;
+        stored = (holds key).draft;
         stands = makes.draft key;
         within = after_within changes key held.said within held.within;
       };
-      draft_elsewhere = rest.draft;
-      draft_keys = rest.draft_keys stand.draft_keys;
-      register = kept_twice tables first _ (record { inspection = refl; work_order = refl; part = refl; delivery = refl; used_part = refl }) rest.register;
+      draft_elsewhere = rest.draft.others;
+      draft_keys = rest.draft.keys stand.draft_keys;
+      register = rest.register;
     })

@@ -1,39 +1,22 @@
 -- What AddIntersection answers, on the row that was read, is a step of the office.
-use Rattle.std.proofs.Common.{◌≡◌, ◌≢◌, ℕ, ◌≤◌, Bool, true, false, List, [], ◌∷◌, Option, Some}
-use Rattle.std.proofs.Common.{None, refl, ap, sym, subst, ◌∙◌, inl, inr, lit≤, arith, if◌then◌else◌}
-use Rattle.std.proofs.Common.{◌==◌, ◌&&◌, bytes_eq, option_map}
+use Rattle.std.proofs.Common.{◌≡◌, ◌≢◌, ℕ, ◌≤◌, Bool, true, false, List, [], ◌∷◌, Option, Some, None, refl, ap, sym, subst, ◌∙◌, inl, inr, lit≤, arith, if◌then◌else◌, ◌==◌, ◌&&◌, bytes_eq, option_map}
 use Rattle.std.specs.FinMap.{get}
-use Rattle.draft_core.specs.DraftRows.{RowStands}
-use Rattle.draft_core.specs.Transaction.{TimingSide}
-use Rattle.office_tables_shelf.specs.Change.{AddNew, changed, changed_by}
-use Rattle.office_tables_shelf.specs.Content.{Content}
-use Rattle.office_tables_shelf.specs.Counts.{writes_in}
-use Rattle.office_tables_shelf.specs.Damage.{HasDamagedIntersection}
-use Rattle.office_tables_shelf.specs.Rows.{timing_columns}
+use Rattle.draft_core.specs.{DraftRows.RowStands, Transaction.TimingSide}
+use Rattle.office_tables_shelf.specs.{Change.changed, Content.Content, Counts.writes_in, Damage.HasDamagedIntersection, Rows.timing_columns}
 use Rattle.office_tables_shelf.specs.Shelf.{ReadsIntersection}
-use Rattle.office_tables_shelf.specs.declared.rows.IntersectionRow.{IntersectionRow}
-use Rattle.office_tables_shelf.specs.declared.rows.RowChange.{RowChange}
-use Rattle.office_tables_shelf.specs.declared.rows.RowChange.TheVariants.{AddIntersection as AddRow}
+use Rattle.office_tables_shelf.specs.declared.{rows.IntersectionRow.IntersectionRow, rows.RowChange.TheVariants.AddIntersection as AddRow}
 use Rattle.office_tables_shelf.specs.declared.rows.Table.{Table}
 use Rattle.office_tables_shelf.specs.declared.rows.Table.TheVariants as table
-use Rattle.office_desk.specs.Adding.{AddsRow, AreLimited}
-use Rattle.office_desk.specs.Answers.{Answers}
-use Rattle.office_desk.specs.Changes.{IsRefused, most_writes}
-use Rattle.office_desk.specs.Deciding.{IsDecision}
-use Rattle.office_desk.specs.Named.{RefusesBy}
-use Rattle.office_machine.specs.Office.{Office, IsSoundIntersection, no_timing, side_of, side_at}
+use Rattle.office_desk.specs.{Adding.AddsRow, Adding.AreLimited, Answers.Answers, Changes.most_writes, Deciding.IsDecision, Named.RefusesBy}
 use Rattle.office_desk.specs.StandFor.{StandFor, StandForSound, row_of}
+use Rattle.office_machine.specs.Office.{Office, IsSoundIntersection, no_timing, side_of, side_at}
 use Rattle.office_machine.specs.Step.{added, new_intersection, with_intersection}
-use Rattle.office_machine.specs.declared.command.Command.TheVariants.{AddIntersection}
+use Rattle.office_machine.specs.declared.{command.Command.TheVariants.AddIntersection, reply.Reply.Reply}
 use Rattle.office_desk.specs.declared.decided.Decided.{Decided}
 use Rattle.office_machine.specs.declared.refusal.Refusal.TheVariants as refusal
-use Rattle.office_machine.specs.declared.reply.Reply.{Reply}
 use Rattle.office_machine.specs.declared.reply.Reply.TheVariants as reply
-use Rattle.office_desk.proofs.Decisions.{refuses_so, told_decides}
-use Rattle.office_desk.proofs.EmptySet.{no_records, no_violations}
-use Rattle.office_desk.proofs.ReadBack.{none_found}
-use Rattle.office_desk.proofs.Shown.{there}
-use Rattle.office_desk.proofs.Stands.{stand_after, sound_with}
+use Rattle.office_desk.proofs.{Decisions.accepted_decides, Decisions.refuses_so, Decisions.told_decides, EmptySet.no_records, EmptySet.no_violations}
+use Rattle.office_desk.proofs.{ReadBack.none_found, Shown.there, Stands.stand_after, Stands.sound_with}
 
 new_stands : (tables : Content) (office : Office) (id interval : ℕ) (name : List ℕ) → StandFor tables office → get office.intersections id ≡ None
     → StandFor (changed tables (AddRow id (row_of (new_intersection interval name)))) (with_intersection office id (new_intersection interval name))
@@ -52,7 +35,7 @@ new_stands tables office id interval name stand absent =
       };
       draft_elsewhere = λ q ne key. refl;
       draft_keys = stand.draft_keys;
-      register = record { inspection = refl; work_order = refl; part = refl; delivery = refl; used_part = refl };
+      register = refl;
     })
 
 new_is_sound : (id interval : ℕ) (name : List ℕ) → AreLimited id name interval → IsSoundIntersection (new_intersection interval name)
@@ -66,19 +49,18 @@ new_is_sound id interval name limited = record {
   draft = tt;
 }
 
-new_answers : (tables : Content) (office : Office) (id interval : ℕ) (name : List ℕ) (reply : Reply) (changes : List RowChange)
-    → StandForSound tables office → ReadsIntersection tables id None → AddsRow id interval name None reply changes
-    → Answers office (AddIntersection id interval name) reply (changed_by tables changes)
-new_answers tables office id interval name reply changes stands reads adds =
+new_answers : (tables : Content) (office : Office) (id interval : ℕ) (name : List ℕ) → StandForSound tables office → ReadsIntersection tables id None → AreLimited id name interval
+    → Answers office (AddIntersection id interval name) reply.Added (changed tables (AddRow id (row_of (new_intersection interval name))))
+new_answers tables office id interval name stands reads limited =
     let i = new_intersection interval name in
     let gone = none_found tables office id stands reads in
     record {
       next = with_intersection office id i;
-      step = inr (ap (added office id interval name) gone ∙ (λ k. (sym adds.0 k, with_intersection office id i)));
-      stand = subst (λ list. StandForSound (changed_by tables list) (with_intersection office id i)) (sym adds.1) (record {
+      step = inr (ap (added office id interval name) gone);
+      stand = record {
         stand = new_stands tables office id interval name stands.stand gone;
-        sound = sound_with office id i adds.2.number stands.sound (new_is_sound id interval name adds.2);
-      });
+        sound = sound_with office id i limited.number stands.sound (new_is_sound id interval name limited);
+      };
     }
 
 -- what is answered where a row is there
@@ -101,16 +83,10 @@ differs_named false why e = refuses_so (11 ∷ []) refusal.IntersectionDiffers (
 
 pub add_decides : (is_honest : Type 0) (tables : Content) (id interval : ℕ) (name : List ℕ) (row : Option IntersectionRow) (decided : Decided)
     → (is_honest → ReadsIntersection tables id row) → (is_honest → ¬ HasDamagedIntersection tables id) → AddsRow id interval name row decided.reply decided.changes.items → IsDecision is_honest tables (AddIntersection id interval name) decided
-add_decides is_honest tables id interval name None decided reads whole adds = record {
-  step = λ honest office stands. new_answers tables office id interval name decided.reply decided.changes.items stands (reads honest) adds;
-  writes = λ honest written. subst (λ (list : List RowChange). writes_in written list ≤ most_writes tables (AddIntersection id interval name) written) (sym adds.1) (one_row tables id interval name (row_of (new_intersection interval name)) written);
-  news = λ honest. subst (AddNew tables) (sym adds.1) (reads honest, tt);
-  refused = λ refused. absurd (subst IsRefused adds.0 refused);
-  query = λ query. absurd query;
-  named = λ why e. absurd (let f : reply.Added ≡ reply.Refused why = sym adds.0 ∙ e in cc);
-  whole = λ honest damaged. absurd (whole honest damaged);
-  undamaged = λ e. absurd (let f : reply.Added ≡ reply.Refused refusal.Damaged = sym adds.0 ∙ e in cc);
-}
+add_decides is_honest tables id interval name None decided reads whole adds =
+    accepted_decides is_honest tables (AddIntersection id interval name) reply.Added _ decided adds.0 adds.1 (λ refused. refused) (λ query. query)
+    (λ honest office stands. new_answers tables office id interval name stands (reads honest) adds.2)
+    (λ honest. one_row tables id interval name (row_of (new_intersection interval name))) (λ honest. (reads honest, tt)) whole
 add_decides is_honest tables id interval name (Some row) decided reads whole adds =
     told_decides is_honest tables (AddIntersection id interval name) _ decided adds.0 (never_damaged (bytes_eq row.name name && (row.interval == interval))) (differs_named (bytes_eq row.name name && (row.interval == interval))) adds.1 whole
     (λ honest office stands.

@@ -1,24 +1,20 @@
 -- The intersections that were read, and what is known of their inspections, are those of the office.
 use Rattle.std.proofs.Common.{◌≡◌, ◌≤◌, ℕ, List, [], ◌∷◌, map, length, take, suc, Option, None, Some, ap, sym, subst, ◌∙◌, arith}
 use Rattle.std.proofs.lemmas.List.{length-map, take_all}
-use Rattle.std.specs.FinMap.{entries}
-use Rattle.std.specs.List.{cons_option}
+use Rattle.std.specs.{FinMap.entries, List.cons_option}
 use Rattle.cabinet_core.specs.Overdue.{Listed, lateness, latest_day, listed, overdue_list}
-use Rattle.cabinet_core.specs.declared.overdue_inspections.OverdueRow.{OverdueRow}
-use Rattle.cabinet_core.specs.declared.overdue_inspections.Seen.{Seen}
-use Rattle.office_tables_shelf.specs.Content.{Content}
-use Rattle.office_tables_shelf.specs.Overdue.{seen_row, IsSeen, AreSeenOf, AreSeen, ListsOverdue}
-use Rattle.office_tables_shelf.specs.declared.rows.IntersectionRow.{IntersectionRow}
 use Rattle.cabinet_core.specs.Register.{Register}
+use Rattle.cabinet_core.specs.declared.{overdue_inspections.OverdueRow.OverdueRow, overdue_inspections.Seen.Seen}
+use Rattle.office_tables_shelf.specs.Overdue.{seen_row, IsSeen, AreSeenOf, AreSeen, ListsOverdue}
+use Rattle.office_tables_shelf.specs.Content.{Content}
+use Rattle.office_tables_shelf.specs.declared.rows.IntersectionRow.{IntersectionRow}
 use Rattle.office_desk_cabinet.specs.RegisterStands.{RegisterStandsSound}
 use Rattle.office_desk_cabinet.proofs.ListedRecords.{inspections_listed}
-use Rattle.office_machine.specs.Office.{Office, IsSound}
+use Rattle.office_machine.specs.{Office.Office, Office.IsSound, Step.answered, Step.overdue_on, Step.seen_of}
 use Rattle.office_desk.specs.StandFor.{StandForSound, row_of}
-use Rattle.office_machine.specs.Step.{answered, overdue_on, seen_of}
 use Rattle.office_machine.specs.declared.command.Command.TheVariants as command
 use Rattle.office_machine.specs.declared.reply.Reply.TheVariants as reply
-use Rattle.office_desk.proofs.IntersectionCount.{at_most_9999}
-use Rattle.office_desk.proofs.IntersectionTable.{Entry, of_entry, rows_read}
+use Rattle.office_desk.proofs.{IntersectionCount.at_most_9999, IntersectionTable.Entry, IntersectionTable.of_entry, IntersectionTable.rows_read}
 use Rattle.office_desk.proofs.Recorded.{register_of}
 
 -- ---- what is seen of each is what the office knows
@@ -69,8 +65,4 @@ pub overdue_shows : (tables : Content) (office : Office) (day most : ℕ) (found
     → StandForSound tables office → ListsOverdue tables day most found
     → answered office (command.Overdue day) ≡ (reply.Overdue (map listed found), office)
 overdue_shows tables office day most found many stands lists =
-    λ k. (
-      reply.Overdue (sym (first_overdue tables office day most found stands lists
-          ∙ all_overdue office day most many stands.sound) k),
-      office,
-    )
+    λ k. (reply.Overdue (sym (first_overdue tables office day most found stands lists ∙ all_overdue office day most many stands.sound) k), office)

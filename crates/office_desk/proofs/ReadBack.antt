@@ -1,30 +1,20 @@
 -- What was read of an intersection, for whichever sound office the tables stand for.
-use Rattle.std.proofs.Common.{◌≡◌, ℕ, Bool, true, false, List, [], ◌∷◌, cond, Option, Some, None}
-use Rattle.std.proofs.Common.{refl, ap, sym, subst, ◌∙◌, IfSome, option_map}
-use Rattle.std.specs.Ordering.{eq_by_cmp}
-use Rattle.std.specs.FinMap.{get, same_map}
-use Rattle.signal_records.specs.Key.{key_cmp}
-use Rattle.signal_records.specs.KeyOrder.{key_total, key_exact}
-use Rattle.signal_records.specs.Row.{key_of}
+use Rattle.std.proofs.Common.{◌≡◌, ℕ, Bool, true, false, List, [], ◌∷◌, cond, Option, Some, None, refl, ap, sym, subst, ◌∙◌, IfSome, option_map}
+use Rattle.std.specs.{Ordering.eq_by_cmp, FinMap.get, FinMap.same_map}
+use Rattle.cabinet_core.proofs.Puts.{if_more}
+use Rattle.signal_records.specs.{Key.key_cmp, KeyOrder.key_total, KeyOrder.key_exact, Row.key_of}
 use Rattle.signal_records.specs.Within.{IsRowWithin, IsChangeWithin, current_limits}
-use Rattle.signal_records.specs.declared.key.Key.{Key}
-use Rattle.signal_records.specs.declared.record.Row.{Row}
-use Rattle.signal_records.specs.declared.record.Change.{Change}
+use Rattle.signal_records.specs.declared.{key.Key.Key, record.Row.Row, record.Change.Change}
 use Rattle.signal_records.specs.declared.record.Change.TheVariants.{Put, Remove}
-use Rattle.draft_core.specs.DraftRows.{Said, silent, leaves, removes, IsRead, RowStands}
-use Rattle.draft_core.specs.DraftRows.{changed_key, later_of, row_at, said_at, said_by}
-use Rattle.draft_core.specs.Transaction.{TimingSide}
-use Rattle.draft_core.specs.Within.{AreChangesWithin}
-use Rattle.draft_core.specs.declared.timing.Timing.{Timing}
-use Rattle.draft_core.specs.declared.timing.Reach.{Reach}
+use Rattle.draft_core.specs.DraftRows.{Said, silent, leaves, removes, IsRead, RowStands, changed_key, later_of, row_at, said_at, said_by}
+use Rattle.draft_core.specs.{Transaction.TimingSide, Within.AreChangesWithin}
+use Rattle.draft_core.specs.declared.{timing.Timing.Timing, timing.Reach.Reach}
 use Rattle.draft_core.specs.declared.timing.Reach.TheVariants as reach
-use Rattle.office_tables_shelf.specs.Content.{Content}
-use Rattle.office_tables_shelf.specs.Rows.{timing_columns, left_columns}
+use Rattle.office_tables_shelf.specs.{Content.Content, Rows.timing_columns, Rows.left_columns}
 use Rattle.office_tables_shelf.specs.Shelf.{ReadsIntersection, ListsTiming, ListsDraft}
 use Rattle.office_tables_shelf.specs.declared.rows.IntersectionRow.{IntersectionRow}
-use Rattle.office_tables_shelf.proofs.CellLemmas.{tied}
 use Rattle.office_tables_shelf.proofs.KeyLemmas.{row_in, timing_keys_rise, get_set_of_rows, get_listed_timing, get_listed_draft}
-use Rattle.office_tables_shelf.proofs.RowLemmas.{timing_columns_tell, left_columns_tell}
+use Rattle.office_tables_shelf.proofs.{CellLemmas.tied, RowLemmas.timing_columns_tell, RowLemmas.left_columns_tell}
 use Rattle.office_desk.specs.declared.reading.Found.{Found}
 use Rattle.office_machine.specs.Office.{Office, Intersection, side_at, side_of}
 use Rattle.office_desk.specs.Reading.{AreWithin, IsMadeOf, Finds, ListsPlan, drafts_at, set_of_rows}
@@ -44,10 +34,6 @@ rows_within : (rows : List Row) (key : Key) → AreWithin rows → IfSome (row_i
 rows_within [] key within = tt
 rows_within (row ∷ rows) key within = row_within (eq_by_cmp key_cmp key (key_of row)) row (row_in rows key) within.0 (rows_within rows key within.1)
 
-record_within : (key : Key) (o : Option Row) → IfSome o (λ row. IsWithin row × (key_of row ≡ key)) → IfSome o IsWithin
-record_within key None h = tt
-record_within key (Some row) h = h.0
-
 rows_tell : (a b : Option Row) → option_map timing_columns a ≡ option_map timing_columns b → IfSome a IsWithin → IfSome b IsWithin → a ≡ b
 rows_tell None None e in_a in_b = refl
 rows_tell (Some x) (Some y) e in_a in_b =
@@ -61,7 +47,7 @@ listed_at : (tables : Content) (office : Office) (id : ℕ) (rows : List Row) �
 listed_at tables office id rows stands lists within key =
     rows_tell (row_in rows key) (get (side_at office id).committed key)
     (sym (get_listed_timing tables id rows lists key) ∙ stands.stand.timing id key)
-    (rows_within rows key within) (record_within key _ (records_at office id stands.sound key))
+    (rows_within rows key within) (if_more _ IsWithin (λ row is. is.0) _ (records_at office id stands.sound key))
 
 -- the set of the rows that were read is the committed set
 pub committed_read : (tables : Content) (office : Office) (id : ℕ) (rows : List Row) → StandForSound tables office → ListsTiming tables id rows → AreWithin rows

@@ -1,50 +1,28 @@
 -- What the commands and queries of the register answer is a step of the office.
 use Rattle.std.proofs.Common.{◌≡◌, ◌≢◌, ◌≤◌, ℕ, Bool, true, false, List, [], ◌∷◌, map, Option, Some, None, is_some, Result, Ok, refl, ap, sym, subst, subst₂, ◌∙◌, inl, inr}
-use Rattle.std.specs.Prelude.{IsSome}
-use Rattle.std.specs.Option.{option_map}
-use Rattle.std.specs.FinMap.{get}
-use Rattle.cabinet_core.specs.declared.command.RecordCommand.{RecordCommand}
-use Rattle.cabinet_core.specs.declared.record.CabinetView.{CabinetView}
-use Rattle.cabinet_core.specs.declared.refusal.CabinetRefusal.{CabinetRefusal}
+use Rattle.std.specs.{Prelude.IsSome, Option.option_map, FinMap.get}
+use Rattle.cabinet_core.specs.declared.{command.RecordCommand.RecordCommand, record.CabinetView.CabinetView, refusal.CabinetRefusal.CabinetRefusal}
 use Rattle.cabinet_core.specs.declared.refusal.CabinetRefusal.TheVariants as cabinet
-use Rattle.office_tables_shelf.specs.Cells.{Cell, Rows}
-use Rattle.office_tables_shelf.specs.Change.{AddNew, changed_by}
-use Rattle.office_tables_shelf.specs.Content.{Content}
-use Rattle.office_tables_shelf.specs.Counts.{writes_in}
+use Rattle.office_tables_shelf.specs.{Cells.Cell, Cells.Rows, Change.AddNew, Change.changed_by, Content.Content, Counts.writes_in, Shelf.ReadsIntersection}
 use Rattle.office_tables_shelf.specs.Rows.{intersection_columns, intersection_key, timing_key}
-use Rattle.office_tables_shelf.specs.Shelf.{ReadsIntersection}
-use Rattle.office_tables_shelf.specs.declared.rows.IntersectionRow.{IntersectionRow}
-use Rattle.office_tables_shelf.specs.declared.rows.RowChange.{RowChange}
-use Rattle.office_tables_shelf.specs.declared.rows.Table.{Table}
-use Rattle.cabinet_core.specs.Orders.{open_at}
-use Rattle.cabinet_core.specs.Register.{Register}
-use Rattle.cabinet_core.specs.Step.{after_record}
-use Rattle.cabinet_core.specs.Stock.{stock_of}
+use Rattle.office_tables_shelf.specs.declared.{rows.IntersectionRow.IntersectionRow, rows.RowChange.RowChange, rows.Table.Table}
 use Rattle.office_tables_shelf.specs.declared.shelf.ShelfFault.{ShelfFault}
-use Rattle.office_desk_cabinet.specs.Decides.{DecidesRecord}
-use Rattle.office_desk_cabinet.specs.RegisterDamage.{MeetsRecordDamage}
-use Rattle.office_desk_cabinet.specs.RegisterStands.{RegisterStandsSound}
+use Rattle.cabinet_core.specs.{Orders.open_at, Register.Register, Step.after_record, Stock.stock_of}
 use Rattle.office_desk_cabinet.specs.Registers.{IsNamed, IsOneOf, LeavesTiming, RegistersFrom, ShowsCabinet, line_told, most_record_writes, refusals_of, rows_told}
+use Rattle.office_desk_cabinet.specs.{Decides.DecidesRecord, RegisterDamage.MeetsRecordDamage, RegisterStands.RegisterStandsSound}
 use Rattle.office_desk_cabinet.specs.declared.registered.Registered.{Registered}
 use Rattle.office_desk_cabinet.specs.declared.registered.Registered.TheVariants.{Added, Same, Refused}
-use Rattle.office_desk.specs.Answers.{Answers}
-use Rattle.office_desk.specs.Changes.{IsRefused}
-use Rattle.office_desk.specs.Damage.{MeetsAfter, MeetsCabinetDamage}
-use Rattle.office_desk.specs.Deciding.{IsDecision}
-use Rattle.office_machine.specs.Office.{Office, Intersection}
 use Rattle.office_desk.specs.Named.{RefusesBy, number_of, numbers_about, numbers_of}
-use Rattle.office_desk.specs.Recording.{HasDamagedAbout, IsKnownIn, TellsAbout}
-use Rattle.office_desk.specs.StandFor.{StandForSound, row_of}
+use Rattle.office_desk.specs.{Answers.Answers, Changes.IsRefused, Damage.MeetsAfter, Damage.MeetsCabinetDamage, Deciding.IsDecision}
+use Rattle.office_desk.specs.{Recording.HasDamagedAbout, Recording.IsKnownIn, Recording.TellsAbout, StandFor.StandForSound, StandFor.row_of}
 use Rattle.office_machine.specs.Step.{answered, cabinet_of, cabinet_shown, is_known, known, recorded, recorded_at, refusal_of_record, shown, told}
+use Rattle.office_machine.specs.Office.{Office, Intersection}
+use Rattle.office_machine.specs.declared.{reply.CabinetShown.CabinetShown, refusal.Refusal.Refusal, reply.Reply.Reply}
 use Rattle.office_machine.specs.declared.command.Command.TheVariants as command
 use Rattle.office_desk.specs.declared.decided.Decided.{Decided}
-use Rattle.office_machine.specs.declared.refusal.Refusal.{Refusal}
 use Rattle.office_machine.specs.declared.refusal.Refusal.TheVariants as refusal
-use Rattle.office_machine.specs.declared.reply.Reply.{Reply}
 use Rattle.office_machine.specs.declared.reply.Reply.TheVariants as reply
-use Rattle.office_desk.proofs.Decisions.{refuses_so}
-use Rattle.office_desk.proofs.Stands.{row_read}
-use Rattle.office_desk.proofs.Writes.{record_writes}
+use Rattle.office_desk.proofs.{Decisions.refuses_so, Stands.row_read, Writes.record_writes}
 
 -- ---- whether the intersection is there
 
@@ -228,25 +206,17 @@ pub cabinet_shows : (tables : Content) (office : Office) (id : ℕ) (view : Cabi
     → answered office (command.Cabinet id) ≡ (reply.Cabinet (record { id = id; view = view }), office)
 cabinet_shows tables office id view stands there shows =
     let lists = shows office.register (register_of tables office stands) in
-    (λ k. (shown_there (get office.intersections id) (reply.Cabinet (cabinet_shown office.register id)) (there office stands) k, office))
-    ∙ (λ k. (
-      reply.Cabinet (record {
-        id = id;
-        view = record {
-          inspections = sym lists.inspections k;
-          orders = sym lists.orders k;
-          lines = sym lists.lines k;
-        };
-      }),
-      office,
-    ))
+    let same : ◌≡◌ {A = CabinetShown} (cabinet_shown office.register id) (record { id = id; view = view }) =
+    λ k. record { id = id; view = record { inspections = sym lists.inspections k; orders = sym lists.orders k; lines = sym lists.lines k } } in
+    ap (λ (said : Reply). (said, office)) (shown_there (get office.intersections id) (reply.Cabinet (cabinet_shown office.register id)) (there office stands)
+    ∙ (λ k. reply.Cabinet (same k)))
 
 pub orders_show : (tables : Content) (office : Office) (id : ℕ) (numbers : List ℕ)
     → StandForSound tables office → IsKnownIn tables (Some id) true → ((r : Register) → RegisterStandsSound tables r → numbers ≡ open_at r id)
     → answered office (command.OpenOrders id) ≡ (reply.OpenOrders numbers, office)
 orders_show tables office id numbers stands there shows =
-    (λ k. (shown_there (get office.intersections id) (reply.OpenOrders (open_at office.register id)) (there office stands) k, office))
-    ∙ (λ k. (reply.OpenOrders (sym (shows office.register (register_of tables office stands)) k), office))
+    ap (λ (said : Reply). (said, office)) (shown_there (get office.intersections id) (reply.OpenOrders (open_at office.register id)) (there office stands)
+    ∙ ap (λ (list : List ℕ). reply.OpenOrders list) (sym (shows office.register (register_of tables office stands))))
 
 pub stock_shows : (tables : Content) (office : Office) (parts : List (List ℕ × ℕ)) → StandForSound tables office
     → ((r : Register) → RegisterStandsSound tables r → parts ≡ stock_of r) → answered office command.Stock ≡ (reply.Stock parts, office)

@@ -1,22 +1,14 @@
 -- What was recorded stays recorded: so an import that was accepted finds all of its records there when it is sent again.
 use Rattle.std.proofs.Common.{◌≡◌, inl, inr, ℕ, ◌+◌, true, false, cond, List, [], ◌∷◌, length, Option, Some, None, Result, Ok, Err, refl, ap, sym, subst, ◌∙◌, arith}
-use Rattle.std.specs.Prelude.{is_some}
-use Rattle.std.specs.Cmp.{nat_cmp_total}
-use Rattle.std.specs.FinMap.{get, get-insert}
-use Rattle.std.specs.Ordering.{nat_cmp, eq_by_cmp}
-use Rattle.cabinet_core.specs.Cabinet.{added as added_line, same as same_line}
+use Rattle.std.specs.{Prelude.is_some, Cmp.nat_cmp_total, FinMap.get, FinMap.get-insert, Ordering.nat_cmp, Ordering.eq_by_cmp}
+use Rattle.cabinet_core.specs.{Cabinet.added as added_line, Cabinet.same as same_line, Step.line_at}
 use Rattle.cabinet_core.specs.declared.command.RecordCommand.{RecordCommand}
-use Rattle.cabinet_core.specs.Step.{line_at}
 use Rattle.cabinet_core.proofs.RecordKept.{same_after, same_kept}
-use Rattle.office_machine.specs.Office.{Office, Intersection}
-use Rattle.office_machine.specs.Repeats.{IsRepeat, AreRepeats, Repeats}
 use Rattle.office_machine.specs.Step.{Step, Run, with_intersection, new_intersection, cabinet_of, is_known, with_recorded, import_by, import_from, imported}
-use Rattle.office_machine.specs.declared.command.Command.{Command}
-use Rattle.office_machine.specs.declared.command.Command.TheVariants as command
-use Rattle.office_machine.specs.declared.refusal.Refusal.{Refusal}
-use Rattle.office_machine.specs.declared.refusal.Refusal.TheVariants.{Unavailable}
-use Rattle.office_machine.specs.declared.reply.Reply.{Reply}
+use Rattle.office_machine.specs.{Office.Office, Office.Intersection, Repeats.IsRepeat, Repeats.AreRepeats, Repeats.Repeats}
+use Rattle.office_machine.specs.declared.{command.Command.Command, refusal.Refusal.Refusal, refusal.Refusal.TheVariants.Unavailable, reply.Reply.Reply}
 use Rattle.office_machine.specs.declared.reply.Reply.TheVariants.{Imported, Refused}
+use Rattle.office_machine.specs.declared.command.Command.TheVariants as command
 use Rattle.office_desk.proofs.Walks.{HoldsOfEach, HoldsOfRecords, records_so, step_so}
 
 -- ---- records that are there

@@ -1,47 +1,30 @@
 -- From a decision to a step that was made, and from steps to runs.
 use Rattle.std.proofs.Common.{◌≡◌, ◌≢◌, ◌≤◌, ◌⊎◌, List, [], ◌∷◌, ◌++◌, ℕ, Option, Some, None, refl, ap, sym, subst, ◌∙◌, inl, inr, ⊎_elim, length, true, arith}
-use Rattle.std.specs.Prelude.{◌==◌, Result, Err}
 use Rattle.std.proofs.lemmas.Bool.Decides.{nat_tests}
+use Rattle.std.specs.Prelude.{◌==◌, Result, Err}
+use Rattle.draft_core.specs.declared.timing.Reach.{Reach}
 use Rattle.draft_core.specs.declared.timing.Reach.TheVariants as reach
-use Rattle.office_tables_shelf.specs.Change.{AddNew, changed_by}
-use Rattle.office_tables_shelf.specs.Content.{Content}
-use Rattle.office_tables_shelf.specs.Counts.{counts_after, writes_in}
-use Rattle.office_tables_shelf.specs.Shelf.{IsKept}
-use Rattle.office_tables_shelf.specs.declared.counts.WriteCounts.{WriteCounts}
-use Rattle.office_tables_shelf.specs.declared.rows.RowChange.{RowChange}
-use Rattle.office_tables_shelf.specs.declared.shelf.ShelfFault.{ShelfFault}
-use Rattle.office_tables_shelf.specs.declared.shelf.ShelfFault.TheVariants.{NoMemory, Store, Damaged}
+use Rattle.office_tables_shelf.specs.{Change.AddNew, Change.changed_by, Content.Content, Counts.counts_after, Counts.writes_in, Shelf.IsKept}
+use Rattle.office_tables_shelf.specs.declared.{counts.WriteCounts.WriteCounts, rows.RowChange.RowChange, shelf.ShelfFault.ShelfFault}
+use Rattle.office_tables_shelf.specs.declared.shelf.ShelfFault.TheVariants.{Damaged}
 use Rattle.office_desk.specs.Answers.{AnswersAny, Answers, EndsIn, IsAfterStep, RunsAny, RunsTo}
-use Rattle.office_desk.specs.Blaming.{BlamesRightly}
-use Rattle.office_desk.specs.Changes.{IsRefused, RiseAtMost, most_writes}
 use Rattle.office_desk.specs.Deciding.{AddsNothing, DecidesIdly, IsAnswered, IsDecision, IsIdle}
-use Rattle.office_desk.specs.Running.{AreRun, IsRun}
+use Rattle.office_desk.specs.Damage.{HasDamageIn, IsTurnedAway, MeetsAfter, MeetsCabinetDamage, MeetsImportDamage, MeetsDamage}
+use Rattle.office_desk.specs.{Blaming.BlamesRightly, Changes.IsRefused, Changes.RiseAtMost, Changes.most_writes, Running.AreRun, Running.IsRun}
+use Rattle.office_desk.specs.{Named.IsNamedFor, Named.RefusesBy, Named.numbers_of, Decisions.refusal_of, StandFor.StandForSound}
 use Rattle.office_desk.specs.declared.decided.Decided.{Decided}
 use Rattle.cabinet_core.specs.declared.command.RecordCommand.{RecordCommand}
 use Rattle.office_desk_cabinet.proofs.Undamaged.{no_damaged_inspection, no_damaged_order, no_damaged_used, no_damaged_part, undamaged_record}
-use Rattle.office_desk.specs.Damage.{IsTurnedAway, MeetsAfter, MeetsCabinetDamage, MeetsImportDamage, MeetsDamage}
-use Rattle.office_desk.specs.Named.{IsNamedFor, RefusesBy, numbers_of}
-use Rattle.office_desk.specs.Decisions.{refusal_of}
-use Rattle.office_machine.specs.Office.{Office, IsSound}
-use Rattle.office_desk.specs.StandFor.{StandForSound}
-use Rattle.office_desk_cabinet.specs.RegisterStands.{RegisterStandsSound}
 use Rattle.office_machine.specs.Step.{AreSound, Step, Run, answered, cabinet_of}
-use Rattle.office_machine.specs.declared.command.Command.{Command}
+use Rattle.office_machine.specs.Office.{Office, IsSound}
+use Rattle.office_desk_cabinet.specs.RegisterStands.{RegisterStandsSound}
+use Rattle.office_machine.specs.declared.{command.Command.Command, command.Command.TheVariants.Import, refusal.Refusal.Refusal, reply.Reply.Reply}
+use Rattle.office_machine.specs.declared.{refusal.Refusal.TheVariants.Unavailable, reply.Reply.TheVariants.Imported, reply.Reply.TheVariants.Refused}
 use Rattle.office_machine.specs.declared.command.Command.TheVariants as command
-use Rattle.office_machine.specs.declared.command.Command.TheVariants.{Import}
-use Rattle.office_machine.specs.declared.refusal.Refusal.{Refusal}
 use Rattle.office_machine.specs.declared.refusal.Refusal.TheVariants as refusal
-use Rattle.office_machine.specs.declared.refusal.Refusal.TheVariants.{Unavailable}
-use Rattle.office_machine.specs.declared.reply.Reply.{Reply}
-use Rattle.office_machine.specs.declared.reply.Reply.TheVariants.{Imported, Refused}
-use Rattle.office_desk.proofs.IntersectionTable.{no_damaged_intersection}
-use Rattle.office_desk.proofs.Recorded.{register_of}
-use Rattle.office_desk.proofs.Stands.{no_damage, no_damaged_timing}
-use Rattle.office_desk.proofs.Blames.{blames_later, fault_blames, unavailable_blames}
-use Rattle.office_desk.proofs.RegisterLaws.{runs_register}
-use Rattle.office_desk.proofs.Repeats.{runs_repeat}
-use Rattle.office_desk.proofs.TimingLaw.{runs_timing}
-use Rattle.office_desk.proofs.Writes.{no_rise, rise_at_most}
+use Rattle.office_desk.proofs.{IntersectionTable.no_damaged_intersection, Recorded.register_of, Stands.no_damage, Stands.no_damaged_timing}
+use Rattle.office_desk.proofs.{Blames.blames_later, Blames.fault_blames, Blames.unavailable_blames, RegisterLaws.runs_register, Repeats.runs_repeat}
+use Rattle.office_desk.proofs.{TimingLaw.runs_timing, Writes.no_rise, Writes.rise_at_most}
 
 -- ---- a decision
 
@@ -79,25 +62,18 @@ module _ (tables : Content) (office : Office) (stands : StandForSound tables off
   import_refuted (c ∷ cs) (inl damage) = record_refuted c (cabinet_of c) damage
   import_refuted (c ∷ cs) (inr damage) = import_refuted cs damage
 
+  row_refuted : (r : Reach) (id : ℕ) → HasDamageIn r tables id → ⊥
+  row_refuted r id damage = no_damage r tables id damage office stands
+
   damage_refuted : (asked : Command) → MeetsDamage tables asked → ⊥
-  damage_refuted (command.AddIntersection id interval name) row =
-      no_damage reach.Row tables id (inl row) office stands
-  damage_refuted (command.Begin id clerk) damage = no_damage reach.Row tables id damage office stands
-  damage_refuted (command.Edit id clerk changes) damage =
-      no_damage reach.Plan tables id damage office stands
-  damage_refuted (command.Verify id clerk) damage = no_damage reach.Row tables id damage office stands
-  damage_refuted (command.Check id clerk) damage = no_damage reach.Plan tables id damage office stands
-  damage_refuted (command.Commit id clerk) damage =
-      no_damage reach.Plan tables id damage office stands
-  damage_refuted (command.Reopen id clerk) damage = no_damage reach.Row tables id damage office stands
-  damage_refuted (command.Abandon id clerk) damage =
-      no_damage reach.Drafts tables id damage office stands
-  damage_refuted (command.State id) (inl row) = no_damage reach.Row tables id (inl row) office stands
-  damage_refuted (command.State id) (inr judged) =
-      no_damage reach.Plan tables id judged.damage office stands
-  damage_refuted (command.Timing id) damage =
-      no_after id (λ timing. no_damaged_timing tables id timing office stands) damage
-  damage_refuted (command.Draft id) damage = no_damage reach.Plan tables id damage office stands
+  damage_refuted (command.AddIntersection id interval name) row = row_refuted reach.Row id (inl row)
+  damage_refuted (command.Begin id clerk) damage = row_refuted reach.Row id damage
+  damage_refuted (command.Verify id clerk) damage = row_refuted reach.Row id damage
+  damage_refuted (command.Reopen id clerk) damage = row_refuted reach.Row id damage
+  damage_refuted (command.Abandon id clerk) damage = row_refuted reach.Drafts id damage
+  damage_refuted (command.State id) (inl row) = row_refuted reach.Row id (inl row)
+  damage_refuted (command.State id) (inr judged) = row_refuted reach.Plan id judged.damage
+  damage_refuted (command.Timing id) damage = no_after id (λ timing. no_damaged_timing tables id timing office stands) damage
   damage_refuted (command.Record c) damage = record_refuted c (cabinet_of c) damage
   damage_refuted (command.Import records) damage = import_refuted records damage
   damage_refuted (command.Cabinet id) damage =
@@ -110,6 +86,7 @@ module _ (tables : Content) (office : Office) (stands : StandForSound tables off
   damage_refuted (command.Overdue day) (inl row) = no_damaged_intersection tables row office stands
   damage_refuted (command.Overdue day) (inr inspection) =
       no_damaged_inspection tables office.register inspection.0 registered inspection.2
+  damage_refuted _ damage = row_refuted reach.Plan _ damage
 
 -- a fault of the shelf, answered as its refusal
 fault_answers : (tables : Content) (command : Command) (fault : ShelfFault) (reply : Reply) (changes : List RowChange) → (fault ≡ Damaged → MeetsDamage tables command) → reply ≡ Refused (refusal_of fault) → changes ≡ [] → AnswersAny tables command reply (changed_by tables changes)
@@ -186,24 +163,19 @@ idle_leaves command reply (inr nothing) office =
 pub idle_answers : (tables : Content) (command : Command) (reply : Reply) → IsIdle command reply → AnswersAny tables command reply tables
 idle_answers tables command reply idle office stands = record { next = office; step = idle_leaves command reply idle office; stand = stands }
 
-idle_undamaged : (command : Command) (reply : Reply) → IsIdle command reply → reply ≢ Refused refusal.Damaged
-idle_undamaged command reply (inl unavailable) damaged = let f : Refused Unavailable ≡ Refused refusal.Damaged = sym unavailable ∙ damaged in cc
-idle_undamaged command reply (inr nothing) damaged = let f : Imported 0 0 ≡ Refused refusal.Damaged = sym nothing.1 ∙ damaged in cc
+-- it says no other refusal
+idle_says : (command : Command) (reply : Reply) → IsIdle command reply → (why : Refusal) → why ≢ Unavailable → reply ≢ Refused why
+idle_says command reply (inl unavailable) why other said = other (refused_as Unavailable why (sym unavailable ∙ said))
+idle_says command reply (inr nothing) why other said = let f : Imported 0 0 ≡ Refused why = sym nothing.1 ∙ said in cc
 
 -- it meets no damaged row: an import of no records reads none
 idle_turned_away : (tables : Content) (command : Command) (reply : Reply) → IsIdle command reply → MeetsDamage tables command → IsTurnedAway command reply
 idle_turned_away tables command reply (inl unavailable) damage = inl (inr unavailable)
 idle_turned_away tables command reply (inr nothing) damage = absurd (subst (MeetsDamage tables) nothing.0 damage)
 
--- and blames no record
-idle_blameless : (command : Command) (reply : Reply) → IsIdle command reply → (at cause : ℕ) → reply ≢ Refused (refusal.ImportRow at cause)
-idle_blameless command reply (inl unavailable) at cause refused = let f : Refused Unavailable ≡ Refused (refusal.ImportRow at cause) = sym unavailable ∙ refused in cc
-idle_blameless command reply (inr nothing) at cause refused = let f : Imported 0 0 ≡ Refused (refusal.ImportRow at cause) = sym nothing.1 ∙ refused in cc
-
 -- either an import of no records is asked for, or not
 asks_nothing : (command : Command) → (command ≡ Import []) ⊎ (command ≢ Import [])
 asks_nothing (Import []) = inl refl
-asks_nothing (Import (c ∷ cs)) = inr (λ e. cc)
 asks_nothing _ = inr (λ e. cc)
 
 -- what is decided, on a database that is open or was shut
@@ -240,10 +212,10 @@ answered_clean is_clean is_honest tables command decided shut is = record {
   named = is.named;
   blames = λ records at cause asked refused.
       blames_later is_clean is_honest tables command decided.reply (λ clean. ⊎_elim (λ honest. honest)
-      (λ (idle : DecidesIdly command decided). absurd (idle_blameless command decided.reply idle.idle at cause refused)) (shut clean))
+      (λ (idle : DecidesIdly command decided). absurd (idle_says command decided.reply idle.idle (refusal.ImportRow at cause) (λ e. cc) refused)) (shut clean))
       is.blames records at cause asked refused;
   damaged = λ told clean. ⊎_elim (is.damaged told)
-      (λ (idle : DecidesIdly command decided). absurd (idle_undamaged command decided.reply idle.idle told)) (shut clean);
+      (λ (idle : DecidesIdly command decided). absurd (idle_says command decided.reply idle.idle refusal.Damaged (λ e. cc) told)) (shut clean);
   turned_away = λ clean damage. ⊎_elim (λ honest. is.turned_away honest damage)
       (λ (idle : DecidesIdly command decided). idle_turned_away tables command decided.reply idle.idle damage) (shut clean);
 }
@@ -405,24 +377,25 @@ module _ {S : Type 0} (is_clean is_honest : S → Type 0) (content : S → Conte
   one_more (c ∷ cs) (r ∷ rs) old mid new command reply all run = (all.0, all.1, one_more cs rs all.0 mid new command reply all.2 run)
   one_more _ _ old mid new command reply all run = absurd all
 
+  -- what holds after each command only where it held before, held before the first
+  first_holds : (P : S → Type 0) → ((c : Command) (r : Reply) (old mid : S) → IsRun is_clean is_honest content written may_leave c r old mid → P mid → P old)
+      → (commands : List Command) (replies : List Reply) (old new : S) → AreRun is_clean is_honest content written may_leave commands replies old new → P new → P old
+  first_holds P before [] [] old new same holds = subst P same holds
+  first_holds P before (c ∷ cs) (r ∷ rs) old new all holds = before c r old all.0 all.1 (first_holds P before cs rs all.0 new all.2 holds)
+  first_holds P before _ _ old new all holds = absurd all
+
   pub honest_first : (commands : List Command) (replies : List Reply) (old new : S) → AreRun is_clean is_honest content written may_leave commands replies old new → is_honest new → is_honest old
-  honest_first [] [] old new same honest = subst is_honest same honest
-  honest_first (c ∷ cs) (r ∷ rs) old new all honest = all.1.honest (honest_first cs rs all.0 new all.2 honest)
-  honest_first _ _ old new all honest = absurd all
+  honest_first = first_holds is_honest (λ c r old mid run. run.honest)
 
   pub clean_first : (commands : List Command) (replies : List Reply) (old new : S) → AreRun is_clean is_honest content written may_leave commands replies old new → is_clean new → is_clean old
-  clean_first [] [] old new same clean = subst is_clean same clean
-  clean_first (c ∷ cs) (r ∷ rs) old new all clean = all.1.clean (clean_first cs rs all.0 new all.2 clean)
-  clean_first _ _ old new all clean = absurd all
+  clean_first = first_holds is_clean (λ c r old mid run. run.clean)
 
   -- what each command makes of the office before it is a run
   pub run_any : (commands : List Command) (replies : List Reply) (old new : S) → AreRun is_clean is_honest content written may_leave commands replies old new → is_honest new → RunsAny (content old) commands replies (content new)
-  run_any [] [] old new same honest office stands = runs_to office office [] [] (content new) stands.sound refl stands.sound (subst (λ (s : S). StandForSound (content s) office) (sym same) stands)
-  run_any (c ∷ cs) (r ∷ rs) old new all honest office stands =
-      let now = all.1.step (honest_first cs rs all.0 new all.2 honest) office stands in
-      let rest = run_any cs rs all.0 new all.2 honest now.next now.stand in
-      runs_to office rest.last (c ∷ cs) (r ∷ rs) (content new) stands.sound (now.next, now.step, rest.run) (stands.sound, rest.sound) rest.stand
-  run_any _ _ old new all honest office stands = absurd all
+  run_any [] [] old new same honest = λ office stands. runs_to office office [] [] (content new) stands.sound refl stands.sound (subst (λ (s : S). StandForSound (content s) office) (sym same) stands)
+  run_any (c ∷ cs) (r ∷ rs) old new all honest =
+      one_then (content old) (content all.0) (content new) c r cs rs (all.1.step (honest_first cs rs all.0 new all.2 honest)) (run_any cs rs all.0 new all.2 honest)
+  run_any _ _ old new all honest = absurd all
 
   -- The tables of a run on a clean disk: those of the shelf while it is open, and once it was shut they stay.
   next_tables : (c : Command) (r : Reply) (old mid : S) → IsRun is_clean is_honest content written may_leave c r old mid → is_clean mid → (tables : Content) → (is_honest old → content old ≡ tables)

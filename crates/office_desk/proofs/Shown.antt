@@ -1,6 +1,5 @@
 -- What the queries answer, on the rows that were read, is a step of the office.
-use Rattle.std.proofs.Common.{◌≡◌, ℕ, List, [], Option, Some, None, refl, ap, sym, subst, ◌∙◌}
-use Rattle.std.proofs.Common.{option_map, IfSome}
+use Rattle.std.proofs.Common.{◌≡◌, ℕ, List, [], Option, Some, None, refl, ap, sym, subst, ◌∙◌, option_map, IfSome}
 use Rattle.std.specs.FinMap.{get, len}
 use Rattle.signal_records.specs.TimingSet.{Rows, after_changes}
 use Rattle.signal_records.specs.declared.record.Row.{Row}
@@ -9,19 +8,13 @@ use Rattle.signal_rules.specs.declared.violation.Violation.{Violation}
 use Rattle.draft_core.specs.Transaction.{Draft, state_of, state_of_holder, TimingSide, holder_of, verdict_of}
 use Rattle.draft_core.specs.DraftRows.{RowsByKey, Stands}
 use Rattle.draft_core.proofs.Overlaid.{draft_is}
-use Rattle.draft_core.specs.declared.state.Holder.{Holder}
-use Rattle.draft_core.specs.declared.timing.Timing.{Timing}
-use Rattle.draft_core.specs.declared.timing.Reach.{Reach}
+use Rattle.draft_core.specs.declared.{state.Holder.Holder, timing.Timing.Timing, timing.Reach.Reach, state.Verdict.Verdict}
 use Rattle.draft_core.specs.declared.timing.Reach.TheVariants as reach
-use Rattle.draft_core.specs.declared.state.Verdict.{Verdict}
-use Rattle.office_tables_shelf.specs.Content.{Content}
-use Rattle.office_tables_shelf.specs.Shelf.{ReadsIntersection, ListsTiming, CountsTiming}
+use Rattle.office_tables_shelf.specs.{Content.Content, Shelf.ReadsIntersection, Shelf.ListsTiming, Shelf.CountsTiming}
 use Rattle.office_tables_shelf.specs.declared.rows.IntersectionRow.{IntersectionRow}
-use Rattle.office_desk.specs.Decisions.{row_shown, IsVerdictOf, ShowsDraft}
+use Rattle.office_desk.specs.Reading.{AreWithin, FoundStands, Finds, FindsAny, drafts_at, set_of_rows}
+use Rattle.office_desk.specs.{Decisions.row_shown, Decisions.IsVerdictOf, Decisions.ShowsDraft, StandFor.StandForSound, StandFor.row_of}
 use Rattle.office_machine.specs.Office.{Office, Intersection, IsSoundIntersection, side_of}
-use Rattle.office_desk.specs.Reading.{AreWithin, FoundStands, Finds, FindsAny, drafts_at}
-use Rattle.office_desk.specs.Reading.{set_of_rows}
-use Rattle.office_desk.specs.StandFor.{StandForSound, row_of}
 use Rattle.office_machine.specs.Step.{answered, shown, state_shown, draft_shown, timing_shown}
 use Rattle.office_machine.specs.declared.command.Command.TheVariants as command
 use Rattle.office_desk.specs.declared.reading.Found.{Found}
@@ -29,19 +22,20 @@ use Rattle.draft_core.specs.declared.refusal.DraftRefusal.TheVariants as draft
 use Rattle.office_machine.specs.declared.refusal.Refusal.TheVariants as refusal
 use Rattle.office_machine.specs.declared.reply.Reply.{Reply}
 use Rattle.office_machine.specs.declared.reply.Reply.TheVariants as reply
-use Rattle.office_desk.proofs.Stands.{row_read}
-use Rattle.office_desk.proofs.ReadBack.{committed_read}
-use Rattle.office_desk.proofs.TimingCount.{committed_counted}
+use Rattle.office_desk.proofs.{Stands.row_read, ReadBack.committed_read, TimingCount.committed_counted}
 
 -- ---- the intersection that was read
 
+-- what there is, where there is something
+some_of : {X : Type 0} (P : Option X → Type 0) → (P None → ⊥) → (o : Option X) → P o → (x : X) × (o ≡ Some x) × P (Some x)
+some_of P never None p = absurd (never p)
+some_of P never (Some x) p = (x, refl, p)
+
 pub there : (tables : Content) (office : Office) (id : ℕ) (row : IntersectionRow) → StandForSound tables office → ReadsIntersection tables id (Some row)
     → (i : Intersection) × (get office.intersections id ≡ Some i) × (row ≡ row_of i)
-there tables office id row stands reads = go (get office.intersections id) refl (row_read tables office id (Some row) stands.stand reads)
-  where
-    go : (o : Option Intersection) → get office.intersections id ≡ o → Some row ≡ option_map row_of o → (i : Intersection) × (get office.intersections id ≡ Some i) × (row ≡ row_of i)
-    go None is e = absurd (let f : Some row ≡ None = e in cc)
-    go (Some i) is e = (i, is, let f : Some row ≡ Some (row_of i) = e in cc)
+there tables office id row stands reads =
+    let at = some_of (λ o. Some row ≡ option_map row_of o) (λ e. let f : Some row ≡ None = e in cc) (get office.intersections id) (row_read tables office id (Some row) stands.stand reads) in
+    (at.0, at.1, let f : Some row ≡ Some (row_of at.0) = at.2 in cc)
 
 -- ---- State
 
@@ -88,14 +82,8 @@ pub found_there : (reach : Reach) (tables : Content) (office : Office) (id : ℕ
     (stands : StandForSound tables office) → FindsAny reach tables id (Some found)
     → (i : Intersection) × (get office.intersections id ≡ Some i)
     × FoundStands reach (drafts_at stands.stand id) i found
-found_there reach tables office id found stands finds = go (get office.intersections id) refl (finds office stands)
-  where
-    go : (o : Option Intersection) → get office.intersections id ≡ o
-        → Finds reach (drafts_at stands.stand id) o (Some found)
-        → (i : Intersection) × (get office.intersections id ≡ Some i)
-        × FoundStands reach (drafts_at stands.stand id) i found
-    go None is f = absurd f
-    go (Some i) is f = (i, is, f)
+found_there reach tables office id found stands finds =
+    some_of (λ o. Finds reach (drafts_at stands.stand id) o (Some found)) (λ f. f) (get office.intersections id) (finds office stands)
 
 pub found_none : (reach : Reach) (tables : Content) (office : Office) (id : ℕ)
     → StandForSound tables office → FindsAny reach tables id None → get office.intersections id ≡ None
@@ -134,14 +122,8 @@ pub timing_shows : (tables : Content) (office : Office) (id : ℕ) (row : Inters
 timing_shows tables office id row rows set stands reads lists within made =
     let at = there tables office id row stands reads in
     let same : set ≡ at.0.timing.committed = made ∙ (committed_read tables office id rows stands lists within ∙ ap (λ (o : Option Intersection). (side_of o).committed) at.1) in
-    ap (λ o. (shown o (λ j. reply.Timing (timing_shown j)), office)) at.1 ∙ (λ k. (
-      reply.Timing (record {
-        name = (sym at.2 k).name;
-        revision = (sym at.2 k).revision;
-        rows = sym same k;
-      }),
-      office,
-    ))
+    ap (λ o. (shown o (λ j. reply.Timing (timing_shown j)), office)) at.1
+    ∙ (λ k. (reply.Timing (record { name = (sym at.2 k).name; revision = (sym at.2 k).revision; rows = sym same k }), office))
 
 -- ---- Draft
 

@@ -2,29 +2,20 @@
 use Rattle.std.proofs.Common.{◌≡◌, ℕ, ◌+◌, ◌-◌, ◌≤◌, Bool, true, false, ◌&&◌, ◌||◌, ◌==◌, cond, List, [], ◌∷◌, ◌++◌, map, filter, Option, Some, None, T, refl, ap, sym, subst, ◌∙◌, arith}
 use Rattle.std.specs.FinMap as finite
 use Rattle.std.specs.FinMap.{get, entries, entries_sorted, get-entries}
-use Rattle.std.specs.FinMap.Entries.{is_sorted, below_all, where_key}
-use Rattle.std.specs.List.{AllByRecursion}
+use Rattle.std.specs.{FinMap.Entries.is_sorted, FinMap.Entries.below_all, FinMap.Entries.where_key, List.AllByRecursion, Prelude.IfSome}
 use Rattle.std.specs.Ordering.{eq_by_cmp, is_eq}
-use Rattle.std.specs.Prelude.{IfSome}
 use Rattle.cabinet_core.specs.Cabinet.{added, on_hand, close_line, with_closing, record_of}
-use Rattle.cabinet_core.specs.declared.command.RecordCommand.{RecordCommand}
-use Rattle.cabinet_core.specs.declared.command.RecordCommand.TheVariants.{Inspect, OpenOrder, UsePart, CloseOrder, Receive}
-use Rattle.cabinet_core.specs.declared.record.Closing.{Closing}
-use Rattle.cabinet_core.specs.declared.record.Order.{Order}
-use Rattle.cabinet_core.proofs.EntryLemmas.{entries_stand, tied}
-use Rattle.cabinet_core.proofs.KeyOrders.{record_exact, record_total, record_ties}
-use Rattle.cabinet_core.proofs.Puts.{all_put, if_more}
-use Rattle.cabinet_core.proofs.RecordLaws.{open_law, delivered_law, used_law}
-use Rattle.cabinet_core.proofs.Sound.{usable, receivable}
-use Rattle.cabinet_core.proofs.StockLemmas.{line_stocked, delivery_stocked, hand_adds}
-use Rattle.cabinet_core.proofs.StockList.{stock_has}
-use Rattle.office_tables_shelf.proofs.ListLemmas.{less, parts}
 use Rattle.cabinet_core.specs.Orders.{is_open, is_open_at, is_open_order, open_at}
-use Rattle.cabinet_core.specs.Register.{RecordKey, Register, record_cmp}
 use Rattle.cabinet_core.specs.Runs.{AreAccepted, open_by, received_by, spent_by}
-use Rattle.cabinet_core.specs.Sound.{IsOrderAt, IsSoundRegister}
-use Rattle.cabinet_core.specs.Step.{line_at, with_closed, with_record}
 use Rattle.cabinet_core.specs.Stock.{IsStocked, delivered, hand_of, pieces, stock_by_code, stock_of, used}
+use Rattle.cabinet_core.specs.{Register.RecordKey, Register.Register, Register.record_cmp, Sound.IsOrderAt, Sound.IsSoundRegister}
+use Rattle.cabinet_core.specs.Step.{line_at, with_closed, with_record}
+use Rattle.cabinet_core.specs.declared.command.RecordCommand.TheVariants.{Inspect, OpenOrder, UsePart, CloseOrder, Receive}
+use Rattle.cabinet_core.specs.declared.{command.RecordCommand.RecordCommand, record.Closing.Closing, record.Order.Order}
+use Rattle.cabinet_core.proofs.{EntryLemmas.entries_stand, EntryLemmas.tied, KeyOrders.record_exact, KeyOrders.record_total, KeyOrders.record_ties}
+use Rattle.cabinet_core.proofs.{Puts.all_put, Puts.if_more, RecordLaws.open_law, RecordLaws.delivered_law, RecordLaws.used_law, StockList.stock_has}
+use Rattle.cabinet_core.proofs.{Sound.usable, Sound.receivable, StockLemmas.line_stocked, StockLemmas.delivery_stocked, StockLemmas.hand_adds}
+use Rattle.office_tables_shelf.proofs.ListLemmas.{less, parts}
 use Rattle.office_machine.specs.RegisterRuns.{is_among, pieces_in}
 
 -- ---- what stays over records that are accepted

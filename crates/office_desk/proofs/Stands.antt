@@ -1,37 +1,26 @@
 -- The tables that stand for an office: what they hold of an intersection, that each row is a record, and what a new intersection makes of them.
-use Rattle.std.proofs.Common.{◌≡◌, ℕ, List, Option, Some, None, refl, ap, sym, subst, ◌∙◌, cond}
-use Rattle.std.proofs.Common.{true, false, inl, inr, IfSome, pos, option_map, arith}
+use Rattle.std.proofs.Common.{◌≡◌, ℕ, List, Option, Some, None, refl, ap, sym, subst, ◌∙◌, cond, true, false, inl, inr, IfSome, pos, option_map, arith}
 use Rattle.std.proofs.lemmas.Bool.Decides.{nat_tests}
 use Rattle.std.specs.FinMap.{get, insert, get-insert, nat_cmp-IsAntisymmetric}
-use Rattle.std.specs.Cmp.{nat_cmp_total}
-use Rattle.std.specs.Int.{IsInRange}
-use Rattle.std.specs.Ordering.{nat_cmp, eq_by_cmp}
-use Rattle.signal_records.specs.Row.{key_of}
-use Rattle.signal_records.specs.Within.{IsRowWithin, current_limits}
-use Rattle.signal_records.specs.Words.{AreWords}
-use Rattle.signal_records.specs.declared.key.Key.{Key}
-use Rattle.signal_records.specs.declared.record.Row.{Row}
-use Rattle.signal_records.specs.declared.record.Change.TheVariants.{Put, Remove}
+use Rattle.std.specs.{Cmp.nat_cmp_total, Int.IsInRange, Ordering.nat_cmp, Ordering.eq_by_cmp}
+use Rattle.cabinet_core.proofs.Puts.{all_put}
+use Rattle.signal_records.specs.{Row.key_of, Within.IsRowWithin, Within.current_limits, Words.AreWords}
+use Rattle.signal_records.specs.declared.{key.Key.Key, record.Row.Row, record.Change.TheVariants.Put, record.Change.TheVariants.Remove}
 use Rattle.draft_core.specs.DraftRows.{Said, silent, leaves, removes, RowStands}
 use Rattle.draft_core.specs.Transaction.{Draft, TimingSide, holder_of}
-use Rattle.office_tables_shelf.proofs.CellLemmas.{cell_exact, tied}
-use Rattle.office_tables_shelf.proofs.KeyCells.{intersection_order}
+use Rattle.office_tables_shelf.proofs.{CellLemmas.cell_exact, CellLemmas.tied, KeyCells.intersection_order}
 use Rattle.office_tables_shelf.proofs.StoredMaps.{get_stored, insert_stored}
-use Rattle.office_tables_shelf.specs.Cells.{Cell, Rows, number}
-use Rattle.office_tables_shelf.specs.Content.{Content}
-use Rattle.office_tables_shelf.specs.Damage.{HasDamagedIntersection, HasDamagedTiming, HasDamagedDraft}
 use Rattle.office_tables_shelf.specs.Rows.{intersection_key, intersection_columns, timing_key, timing_columns, left_columns, IsIntersectionRow}
-use Rattle.office_tables_shelf.specs.Shelf.{ReadsIntersection, is_of}
+use Rattle.office_tables_shelf.specs.{Cells.Cell, Cells.Rows, Cells.number, Content.Content, Shelf.ReadsIntersection, Shelf.is_of}
+use Rattle.office_tables_shelf.specs.Damage.{HasDamagedIntersection, HasDamagedTiming, HasDamagedDraft}
 use Rattle.office_tables_shelf.specs.declared.rows.IntersectionRow.{IntersectionRow}
 use Rattle.draft_core.specs.declared.timing.Reach.{Reach}
 use Rattle.draft_core.specs.declared.timing.Reach.TheVariants as reach
+use Rattle.office_desk.specs.StandFor.{StandFor, StandForSound, DraftRowStands, HasTimingKeys, IsSaid, row_of, columns_of, said_columns}
 use Rattle.office_desk.specs.Damage.{HasDamageIn, HasDamagedPlan}
 use Rattle.office_machine.specs.Office.{Office, Intersection, IsSound, IsSoundIntersection, IsSoundDraft, AreRecords, side_at, side_of}
-use Rattle.office_desk.specs.StandFor.{StandFor, StandForSound, DraftRowStands, HasTimingKeys, IsSaid, row_of, columns_of, said_columns}
 use Rattle.office_machine.specs.Step.{with_intersection}
-use Rattle.office_desk.proofs.EmptySet.{no_records}
-use Rattle.office_desk.proofs.KeptRegister.{KeepsRegister, still_stands}
-use Rattle.office_desk.proofs.Rows.{read_from_cells}
+use Rattle.office_desk.proofs.{EmptySet.no_records, KeptRegister.KeepsRegister, KeptRegister.still_stands, Rows.read_from_cells}
 
 -- ---- what is stored of an intersection
 
@@ -81,20 +70,25 @@ no_damaged_row tables id damaged office stands =
         let same : damaged.columns ≡ columns_of i = cc in
         damaged.no_row (row_of i) (sound_row i sound) same
 
--- a timing key that begins with the number of an intersection is one of its keys
-own_key : (id other : ℕ) (key : Key) (cells : List Cell) → is_of id cells ≡ true → cells ≡ timing_key other key → cells ≡ timing_key id key
-own_key id other key cells of is =
-    let begins : is_of id (timing_key other key) ≡ true = ap (is_of id) (sym is) ∙ of in
-    let numbers : number (pos id) ≡ number (pos other) = cell_exact _ _ (tied _ begins) in
-    let same : id ≡ other = cc in
-    is ∙ ap (λ n. timing_key n key) (sym same)
+-- a row that stands under cells which begin with the number of an intersection stands under one of its keys
+record IsOwn (rows : Rows) (id : ℕ) (cells columns : List Cell) : Type 0 where
+  key : Key
+  is : cells ≡ timing_key id key
+  there : Some columns ≡ get rows (timing_key id key)
+
+own : (rows : Rows) (id : ℕ) (cells columns : List Cell) → HasTimingKeys rows → is_of id cells ≡ true → get rows cells ≡ Some columns → IsOwn rows id cells columns
+own rows id cells columns keys of stored =
+    let at = keys cells columns stored in
+    let begins : is_of id (timing_key at.0 at.1) ≡ true = ap (is_of id) (sym at.2) ∙ of in
+    let numbers : number (pos id) ≡ number (pos at.0) = cell_exact _ _ (tied _ begins) in
+    let same : id ≡ at.0 = cc in
+    let here : cells ≡ timing_key id at.1 = at.2 ∙ ap (λ n. timing_key n at.1) (sym same) in
+    record { key = at.1; is = here; there = sym stored ∙ ap (get rows) here }
 
 pub no_damaged_timing : (tables : Content) (id : ℕ) → HasDamagedTiming tables id → (office : Office) → StandForSound tables office → ⊥
 no_damaged_timing tables id damaged office stands =
-    let keyed = stands.stand.timing_keys damaged.key damaged.columns damaged.stored in
-    let here : damaged.key ≡ timing_key id keyed.1 = own_key id keyed.0 keyed.1 damaged.key damaged.of keyed.2 in
-    go keyed.1 here (get (side_at office id).committed keyed.1)
-    (sym damaged.stored ∙ ap (get tables.timing) here ∙ stands.stand.timing id keyed.1) (records_at office id stands.sound keyed.1)
+    let at = own tables.timing id _ _ stands.stand.timing_keys damaged.of damaged.stored in
+    go at.key at.is (get (side_at office id).committed at.key) (at.there ∙ stands.stand.timing id at.key) (records_at office id stands.sound at.key)
   where
     go : (key : Key) → damaged.key ≡ timing_key id key → (row : Option Row) → Some damaged.columns ≡ option_map timing_columns row
         → IfSome row (λ row. IsRowWithin current_limits row × (key_of row ≡ key)) → ⊥
@@ -105,11 +99,9 @@ no_damaged_timing tables id damaged office stands =
 
 no_damaged_draft : (tables : Content) (id : ℕ) → HasDamagedDraft tables id → (office : Office) → StandForSound tables office → ⊥
 no_damaged_draft tables id damaged office stands =
-    let keyed = stands.stand.draft_keys damaged.key damaged.columns damaged.stored in
-    let here : damaged.key ≡ timing_key id keyed.1 = own_key id keyed.0 keyed.1 damaged.key damaged.of keyed.2 in
-    let held = stands.stand.draft id keyed.1 in
-    go keyed.1 here held.said (sym damaged.stored ∙ ap (get tables.draft) here
-    ∙ held.stored) held.within
+    let at = own tables.draft id _ _ stands.stand.draft_keys damaged.of damaged.stored in
+    let held = stands.stand.draft id at.key in
+    go at.key at.is held.said (at.there ∙ held.stored) held.within
   where
     go : (key : Key) → damaged.key ≡ timing_key id key → (said : Said)
         → Some damaged.columns ≡ said_columns said → IsSaid key said → ⊥
@@ -136,28 +128,20 @@ no_damage reach tables id (inr (there, plan)) = no_damaged_plan reach tables id 
 
 -- ---- another timing side of an intersection
 
-tied_numbers : (q id : ℕ) → eq_by_cmp nat_cmp q id ≡ true → q ≡ id
-tied_numbers q id h = nat_cmp-IsAntisymmetric q id (tied _ h)
-
 apart : (q id : ℕ) → eq_by_cmp nat_cmp q id ≡ false → q ≡ id → ⊥
 apart q id h e = grind (arith, nat_tests)
 
--- whether two numbers are one
-pub data Compared (q id : ℕ) : Type 0 where
-  one : q ≡ id → eq_by_cmp nat_cmp q id ≡ true → Compared q id
-  two : (q ≡ id → ⊥) → eq_by_cmp nat_cmp q id ≡ false → Compared q id
+-- where an intersection is put, a timing side is the one of that, or what it was
+pub data SideAfter (office : Office) (id : ℕ) (i : Intersection) (q : ℕ) : Type 0 where
+  same_id : q ≡ id → side_at (with_intersection office id i) q ≡ i.timing → SideAfter office id i q
+  other_id : (q ≡ id → ⊥) → side_at (with_intersection office id i) q ≡ side_at office q → SideAfter office id i q
 
-pub compared : (q id : ℕ) → Compared q id
-compared q id = elim (eq_by_cmp nat_cmp q id) as (λ b. eq_by_cmp nat_cmp q id ≡ b → Compared q id) [
-  | true ↦ λ h. one (tied_numbers q id h) h
-  | false ↦ λ h. two (apart q id h) h
-] refl
-
-pub side_here : (office : Office) (id q : ℕ) (i : Intersection) → eq_by_cmp nat_cmp q id ≡ true → side_at (with_intersection office id i) q ≡ i.timing
-side_here office id q i b = ap side_of (get-insert nat_cmp_total office.intersections id i q ∙ ap (λ b. cond b (Some i) (get office.intersections q)) b)
-
-pub side_elsewhere : (office : Office) (id q : ℕ) (i : Intersection) → eq_by_cmp nat_cmp q id ≡ false → side_at (with_intersection office id i) q ≡ side_at office q
-side_elsewhere office id q i b = ap side_of (get-insert nat_cmp_total office.intersections id i q ∙ ap (λ b. cond b (Some i) (get office.intersections q)) b)
+pub side_after : (office : Office) (id : ℕ) (i : Intersection) (q : ℕ) → SideAfter office id i q
+side_after office id i q =
+    elim (eq_by_cmp nat_cmp q id) as (λ b. eq_by_cmp nat_cmp q id ≡ b → side_at (with_intersection office id i) q ≡ side_of (cond b (Some i) (get office.intersections q)) → SideAfter office id i q) [
+      | true ↦ λ hit is. same_id (nat_cmp-IsAntisymmetric q id (tied _ hit)) is
+      | false ↦ λ miss is. other_id (apart q id miss) is
+    ] refl (ap side_of (get-insert nat_cmp_total office.intersections id i q))
 
 -- the draft row at a key, of a timing side
 pub record RowOf (tables : Content) (side : TimingSide) (id : ℕ) (key : Key) : Type 0 where
@@ -188,20 +172,20 @@ pub record DiffersAt (old new : Content) (id : ℕ) (i : Intersection) : Type 0 
 
 timing_at : (old new : Content) (office : Office) (id : ℕ) (i : Intersection) → StandFor old office → DiffersAt old new id i
     → (q : ℕ) (key : Key) → get new.timing (timing_key q key) ≡ option_map timing_columns (get (side_at (with_intersection office id i) q).committed key)
-timing_at old new office id i stand new_rows q key = elim (compared q id) [
-  | one e b ↦ ap (λ n. get new.timing (timing_key n key)) e ∙ new_rows.timing_here key ∙ ap (λ (s : TimingSide). option_map timing_columns (get s.committed key)) (sym (side_here office id q i b))
-  | two e b ↦ new_rows.timing_elsewhere q e key ∙ stand.timing q key ∙ ap (λ (s : TimingSide). option_map timing_columns (get s.committed key)) (sym (side_elsewhere office id q i b))
+timing_at old new office id i stand new_rows q key = elim (side_after office id i q) [
+  | same_id e is ↦ ap (λ n. get new.timing (timing_key n key)) e ∙ new_rows.timing_here key ∙ ap (λ (s : TimingSide). option_map timing_columns (get s.committed key)) (sym is)
+  | other_id ne is ↦ new_rows.timing_elsewhere q ne key ∙ stand.timing q key ∙ ap (λ (s : TimingSide). option_map timing_columns (get s.committed key)) (sym is)
 ]
 
 draft_at : (old new : Content) (office : Office) (id : ℕ) (i : Intersection) → StandFor old office → DiffersAt old new id i
     → (q : ℕ) (key : Key) → DraftRowStands new (with_intersection office id i) q key
-draft_at old new office id i stand new_rows q key = elim (compared q id) [
-  | one e b ↦ row_at_side new (with_intersection office id i) q key i.timing (side_here office id q i b) (subst (λ n. RowOf new i.timing n key) (sym e) (new_rows.draft_here key))
-  | two e b ↦
+draft_at old new office id i stand new_rows q key = elim (side_after office id i q) [
+  | same_id e is ↦ row_at_side new (with_intersection office id i) q key i.timing is (subst (λ n. RowOf new i.timing n key) (sym e) (new_rows.draft_here key))
+  | other_id ne is ↦
       let held = stand.draft q key in
-      row_at_side new (with_intersection office id i) q key (side_at office q) (side_elsewhere office id q i b) (record {
+      row_at_side new (with_intersection office id i) q key (side_at office q) is (record {
         said = held.said;
-        stored = new_rows.draft_elsewhere q e key ∙ held.stored;
+        stored = new_rows.draft_elsewhere q ne key ∙ held.stored;
         stands = held.stands;
         within = held.within;
       })
@@ -222,17 +206,7 @@ stand_after old new office id i stand new_rows = record {
 
 pub sound_with : (office : Office) (id : ℕ) (i : Intersection) → IsInRange 1 9999 id → IsSound office → IsSoundIntersection i → IsSound (with_intersection office id i)
 sound_with office id i range sound here = record {
-  numbers = λ q. subst (λ o. IfSome o (λ _. IsInRange 1 9999 q)) (sym (get-insert nat_cmp_total office.intersections id i q)) (numbered q);
-  intersections = λ q. subst (λ o. IfSome o IsSoundIntersection) (sym (get-insert nat_cmp_total office.intersections id i q)) (go q (eq_by_cmp nat_cmp q id));
+  numbers = all_put nat_cmp_total nat_cmp-IsAntisymmetric (λ q _. IsInRange 1 9999 q) office.intersections id i sound.numbers range;
+  intersections = all_put nat_cmp_total nat_cmp-IsAntisymmetric (λ _. IsSoundIntersection) office.intersections id i sound.intersections here;
   register = sound.register;
 }
-  where
-    go : (q : ℕ) (b : _) → IfSome (cond b (Some i) (get office.intersections q)) IsSoundIntersection
-    go q true = here
-    go q false = sound.intersections q
-
-    numbered : (q : ℕ) → IfSome (cond (eq_by_cmp nat_cmp q id) (Some i) (get office.intersections q)) (λ _. IsInRange 1 9999 q)
-    numbered q = elim (compared q id) [
-      | one e b ↦ subst (λ c. IfSome (cond c (Some i) (get office.intersections q)) (λ _. IsInRange 1 9999 q)) (sym b) (subst (IsInRange 1 9999) (sym e) range)
-      | two e b ↦ subst (λ c. IfSome (cond c (Some i) (get office.intersections q)) (λ _. IsInRange 1 9999 q)) (sym b) (sound.numbers q)
-    ]

@@ -5,18 +5,12 @@ use Rattle.std.specs.FinMap as finite
 use Rattle.std.specs.FinMap.{get, len, entries, entries_sorted, get-entries, len-entries}
 use Rattle.std.specs.FinMap.Entries.{is_sorted-where_key, find-where_key, same_entries}
 use Rattle.std.specs.declared.cmp.Ordering.TheVariants.{Equal}
-use Rattle.signal_records.specs.Key.{kind_of, first_of, second_of}
-use Rattle.signal_records.specs.TimingSet.{Rows}
+use Rattle.signal_records.specs.{Key.kind_of, Key.first_of, Key.second_of, TimingSet.Rows, KeyOrder.key_total}
 use Rattle.signal_records.specs.declared.key.Key.{Key}
 use Rattle.office_tables_shelf.specs.Cells.{Cell, Rows as CellRows, number, cells_cmp, tree_rows}
-use Rattle.office_tables_shelf.proofs.KeyLemmas.{of_itself}
-use Rattle.office_tables_shelf.proofs.StoredMaps.{get_stored, stored_entries, stored_found}
-use Rattle.signal_records.specs.KeyOrder.{key_total}
-use Rattle.office_tables_shelf.specs.Content.{Content}
-use Rattle.office_tables_shelf.specs.Rows.{timing_key, timing_columns}
-use Rattle.office_tables_shelf.specs.Shelf.{is_of, rows_of}
-use Rattle.office_tables_shelf.proofs.CellLemmas.{cells_total, cells_exact}
-use Rattle.office_tables_shelf.proofs.TreeLemmas.{timing_order}
+use Rattle.office_tables_shelf.specs.{Content.Content, Rows.timing_key, Rows.timing_columns, Shelf.is_of, Shelf.rows_of}
+use Rattle.office_tables_shelf.proofs.{KeyLemmas.of_itself, StoredMaps.get_stored, StoredMaps.stored_entries, StoredMaps.stored_found}
+use Rattle.office_tables_shelf.proofs.{CellLemmas.cells_total, CellLemmas.cells_exact, TreeLemmas.timing_order}
 use Rattle.office_desk_cabinet.proofs.Undamaged.{of_tells}
 use Rattle.office_machine.specs.Office.{Office, side_at}
 use Rattle.office_desk.specs.StandFor.{StandForSound}

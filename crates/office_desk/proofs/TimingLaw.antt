@@ -1,24 +1,20 @@
 -- Over a run of commands, a committed set is the draft just before its last accepted commit, or what it was at the start.
 use Rattle.std.proofs.Common.{◌≡◌, ℕ, Bool, true, false, List, [], ◌∷◌, Option, Some, None, Result, Ok, Err, cond, refl, ap, sym, subst, ◌∙◌, eq-eqb, ne_eqb}
-use Rattle.std.specs.Prelude.{◌&&◌}
-use Rattle.std.specs.FinMap.{get}
+use Rattle.std.specs.{Prelude.◌&&◌, FinMap.get}
 use Rattle.signal_records.specs.TimingSet.{Rows}
 use Rattle.draft_core.specs.Transaction.{TimingSide, Draft, holder_of, owned, with_draft, begun_from, committed, abandoned_from}
-use Rattle.draft_core.specs.declared.refusal.DraftRefusal.{DraftRefusal}
+use Rattle.draft_core.specs.declared.{refusal.DraftRefusal.DraftRefusal, state.Stage.Stage}
 use Rattle.draft_core.specs.declared.refusal.DraftRefusal.TheVariants.{NotNormal, NotTransaction}
-use Rattle.draft_core.specs.declared.state.Stage.{Stage}
 use Rattle.draft_core.proofs.Sound.{owned_inverts, committed_inverts}
 use Rattle.office_machine.specs.Office.{Office, Intersection, side_of, side_at}
 use Rattle.office_machine.specs.Step.{Step, Run, moved_to, with_intersection, new_intersection}
 use Rattle.office_machine.specs.Timing.{is_commit_of, is_moved, set_of_draft, running}
-use Rattle.office_machine.specs.declared.command.Command.{Command}
+use Rattle.office_machine.specs.declared.{command.Command.Command, reply.Reply.Reply}
 use Rattle.office_machine.specs.declared.command.Command.TheVariants as command
-use Rattle.office_desk.proofs.Stands.{compared, one, two, side_here, side_elsewhere}
-use Rattle.office_desk.proofs.Walks.{HoldsOfEach, records_so, step_so}
+use Rattle.office_desk.proofs.{Stands.same_id, Stands.other_id, Stands.side_after, Walks.HoldsOfEach, Walks.records_so, Walks.step_so}
 use Rattle.office_desk.specs.Transacting.{command_of, line_of}
 use Rattle.office_desk.specs.declared.transacting.Ask.{Ask}
 use Rattle.office_desk.specs.declared.transacting.Ask.TheVariants.{Begin, Commit, Abandon}
-use Rattle.office_machine.specs.declared.reply.Reply.{Reply}
 
 -- ---- the lines of the table
 
@@ -80,24 +76,22 @@ After q office command reply next = (side_at next q).committed ≡ cond (is_comm
 put_keeps : (q id : ℕ) (office : Office) (i : Intersection)
     → i.timing.committed ≡ (side_at office id).committed
     → (side_at (with_intersection office id i) q).committed ≡ (side_at office q).committed
-put_keeps q id office i same = elim (compared q id) [
-  | one e b ↦ ap (λ (s : TimingSide). s.committed) (side_here office id q i b) ∙ same
-      ∙ ap (λ n. (side_at office n).committed) (sym e)
-  | two e b ↦ ap (λ (s : TimingSide). s.committed) (side_elsewhere office id q i b)
+put_keeps q id office i same = elim (side_after office id i q) [
+  | same_id e is ↦ ap (λ (s : TimingSide). s.committed) is ∙ same ∙ ap (λ n. (side_at office n).committed) (sym e)
+  | other_id ne is ↦ ap (λ (s : TimingSide). s.committed) is
 ]
 
 commit_after : (q id : ℕ) (clerk : List ℕ) (office : Office) (i : Intersection) (next : TimingSide)
     → get office.intersections id ≡ Some i → committed i.timing clerk ≡ Ok next
     → After q office (command.Commit id clerk) (moved_to next)
     (with_intersection office id (record i { timing = next }))
-commit_after q id clerk office i next there took = elim (compared q id) [
-  | one e b ↦ subst Wanted (sym (eq-eqb q id e)) (
-      ap (λ (s : TimingSide). s.committed) (side_here office id q after b)
+commit_after q id clerk office i next there took = elim (side_after office id after q) [
+  | same_id e is ↦ subst Wanted (sym (eq-eqb q id e)) (
+      ap (λ (s : TimingSide). s.committed) is
       ∙ ask_keeps Commit clerk i.timing next took
       ∙ sym (ap (λ (o : Option Intersection). set_of_draft (side_of o).draft (side_of o).committed)
       (ap (λ n. get office.intersections n) e ∙ there)))
-  | two e b ↦ subst Wanted (sym (ne_eqb q id e))
-      (ap (λ (s : TimingSide). s.committed) (side_elsewhere office id q after b))
+  | other_id ne is ↦ subst Wanted (sym (ne_eqb q id ne)) (ap (λ (s : TimingSide). s.committed) is)
 ]
   where
     after : Intersection

@@ -1,66 +1,41 @@
 -- What a command of the transaction answers, on what was found, is a step of the office.
 use Rattle.std.proofs.Common.{◌≡◌, ◌≢◌, ◌+◌, ◌≤◌, ℕ, Bool, true, false, List, [], ◌∷◌, length, Option, Some, None, Result, Ok, Err, refl, ap, sym, subst, ◌∙◌, inl, inr, arith}
-use Rattle.std.specs.Prelude.{IfSome, IfOk, OnErr, if◌then◌else◌, not}
-use Rattle.std.specs.FinMap.{get}
-use Rattle.std.specs.Int.{IsInRange}
-use Rattle.std.specs.Result.{result_err}
-use Rattle.std.specs.Str.{bytes_eq}
 use Rattle.std.proofs.lemmas.List.{length-map}
+use Rattle.std.specs.Prelude.{IfSome, IfOk, OnErr, if◌then◌else◌, not}
+use Rattle.std.specs.{FinMap.get, Int.IsInRange, Result.result_err, Str.bytes_eq}
 use Rattle.signal_records.specs.Words.{AreWords}
-use Rattle.signal_records.specs.declared.record.Change.{Change}
-use Rattle.signal_records.specs.declared.record.Change.TheVariants.{Put}
-use Rattle.draft_core.specs.Moves.{Follows, FollowsSoundLine, IsUnsettled, Makes, RefusesFirst}
-use Rattle.draft_core.specs.Moves.{drafted_in, timing_writes, draft_writes}
-use Rattle.draft_core.specs.News.{AddsOnlyNew}
-use Rattle.draft_core.specs.Transaction.{TimingSide, is_stage, refused_by}
-use Rattle.draft_core.specs.Within.{AreChangesWithin}
-use Rattle.draft_core.specs.declared.refusal.DraftRefusal.{DraftRefusal}
-use Rattle.draft_core.specs.declared.refusal.DraftRefusal.TheVariants as draft
-use Rattle.draft_core.specs.declared.state.Holder.{Holder}
-use Rattle.draft_core.specs.declared.state.Stage.{Stage}
-use Rattle.draft_core.specs.declared.state.Stage.TheVariants as stages
-use Rattle.draft_core.specs.declared.timing.Move.{Move}
+use Rattle.signal_records.specs.declared.{record.Change.Change, record.Change.TheVariants.Put}
+use Rattle.draft_core.specs.Moves.{Follows, FollowsSoundLine, IsUnsettled, Makes, RefusesFirst, drafted_in, timing_writes, draft_writes}
+use Rattle.draft_core.specs.{News.AddsOnlyNew, Transaction.TimingSide, Transaction.is_stage, Transaction.refused_by, Within.AreChangesWithin}
+use Rattle.draft_core.specs.declared.{refusal.DraftRefusal.DraftRefusal, state.Holder.Holder, state.Stage.Stage, timing.Move.Move}
 use Rattle.draft_core.specs.declared.timing.TimingChange.{TimingChange}
-use Rattle.draft_core.specs.declared.timing.TimingChange.TheVariants.{CommittedNew, Committed}
-use Rattle.office_tables_shelf.specs.Change.{AddNew, changed_by}
-use Rattle.office_tables_shelf.specs.Content.{Content}
-use Rattle.office_tables_shelf.specs.Shelf.{ListsDraft, rows_of}
-use Rattle.office_tables_shelf.specs.declared.rows.RowChange.{RowChange}
-use Rattle.office_tables_shelf.specs.declared.rows.RowChange.TheVariants.{PutIntersection}
-use Rattle.office_tables_shelf.specs.declared.rows.Table.{Table}
+use Rattle.draft_core.specs.declared.timing.TimingChange.TheVariants.{Committed}
+use Rattle.draft_core.specs.declared.refusal.DraftRefusal.TheVariants as draft
+use Rattle.office_tables_shelf.specs.{Change.changed_by, Content.Content, Shelf.ListsDraft, Shelf.rows_of, Counts.is_same_table, Counts.writes_in}
+use Rattle.office_tables_shelf.specs.declared.{rows.RowChange.RowChange, rows.RowChange.TheVariants.PutIntersection, rows.Table.Table}
+use Rattle.office_tables_shelf.specs.declared.{shelf.ShelfFault.ShelfFault, shelf.ShelfFault.TheVariants.NoMemory}
 use Rattle.office_tables_shelf.specs.declared.rows.Table.TheVariants as table
-use Rattle.office_tables_shelf.specs.declared.shelf.ShelfFault.{ShelfFault}
-use Rattle.office_tables_shelf.specs.declared.shelf.ShelfFault.TheVariants.{NoMemory}
 use Rattle.office_desk_cabinet.specs.Registers.{IsOneOf}
-use Rattle.office_desk.specs.Answers.{Answers, AnswersAny}
-use Rattle.office_desk.specs.Changes.{IsQuery, IsRefused, most_intersection_writes, most_writes}
-use Rattle.office_tables_shelf.specs.Counts.{is_same_table, writes_in}
-use Rattle.office_desk.specs.Damage.{HasDamageIn, MeetsDamage}
-use Rattle.office_desk.specs.Deciding.{Decides, IsDecision}
-use Rattle.office_desk.specs.Moving.{WritesMove, WritesDecision, moved_row, row_changes_of}
-use Rattle.office_desk.specs.Named.{RefusesBy, number_of, numbers_of}
-use Rattle.office_machine.specs.Office.{Office, Intersection, IsSoundIntersection}
 use Rattle.office_desk.specs.Reading.{FoundStands, FindsAny, ListsFound, drafts_at}
-use Rattle.office_desk.specs.StandFor.{StandForSound}
+use Rattle.office_desk.specs.Transacting.{command_of, first_refusal, line_of, reach_of, IsAskWithin, IsBounded, IsLater, most_committed, most_drafted}
+use Rattle.office_desk.specs.{Answers.Answers, Changes.IsQuery, Changes.most_intersection_writes, Changes.most_writes, Named.number_of, Named.numbers_of}
+use Rattle.office_desk.specs.{Damage.HasDamageIn, Damage.MeetsDamage, Deciding.Decides, Deciding.IsDecision, StandFor.StandForSound}
+use Rattle.office_desk.specs.Moving.{WritesDecision, moved_row, row_changes_of}
 use Rattle.office_machine.specs.Step.{answered, transacted, moved, moved_to, refusal_of_draft, with_intersection}
-use Rattle.office_desk.specs.Transacting.{command_of, first_refusal, line_of, reach_of}
-use Rattle.office_desk.specs.Transacting.{IsAskWithin, IsBounded, IsLater, most_committed}
-use Rattle.office_desk.specs.Transacting.{most_drafted}
-use Rattle.office_desk.specs.declared.decided.Decided.{Decided}
-use Rattle.office_desk.specs.declared.reading.Found.{Found}
+use Rattle.office_machine.specs.Office.{Office, Intersection, IsSoundIntersection}
+use Rattle.office_desk.specs.declared.transacting.Ask.TheVariants.{Begin, Edit, Check, Commit, Abandon}
+use Rattle.office_desk.specs.declared.{decided.Decided.Decided, reading.Found.Found, transacting.Ask.Ask}
 use Rattle.office_machine.specs.declared.refusal.Refusal.TheVariants as refusal
-use Rattle.office_machine.specs.declared.reply.Reply.{Reply}
 use Rattle.office_machine.specs.declared.reply.Reply.TheVariants.{Moved, Refused}
-use Rattle.office_desk.specs.declared.transacting.Ask.{Ask}
-use Rattle.office_desk.specs.declared.transacting.Ask.TheVariants.{Begin, Edit, Verify, Check, Commit, Reopen, Abandon}
-use Rattle.office_desk.proofs.AddedRows.{move_news}
-use Rattle.office_desk.proofs.Decisions.{query_answers, refuses_so, unknown_decides}
-use Rattle.office_desk.proofs.Keeps.{line_keeps, side_sound, sound_intersection}
-use Rattle.office_desk.proofs.Moved.{move_stands, with_timing_side}
-use Rattle.office_desk.proofs.Shown.{found_none, found_there, sound_there}
-use Rattle.office_desk.proofs.Stands.{sound_with}
+use Rattle.office_desk.proofs.Decisions.{accepted_decides, refuses_so, told_decides, unknown_decides}
+use Rattle.office_desk.proofs.{AddedRows.move_news, Keeps.line_keeps, Keeps.side_sound, Keeps.sound_intersection, Stands.sound_with}
+use Rattle.office_desk.proofs.{Moved.move_stands, Moved.with_timing_side, Shown.found_none, Shown.found_there, Shown.sound_there}
 
 -- ---- the step
+
+-- the rows of a move: the intersection's own, and those of its changes
+abbrev rows_of_move : ℕ → List ℕ → Found → Move → List RowChange
+rows_of_move id clerk found move = PutIntersection id (moved_row found clerk move) ∷ row_changes_of id move.changes
 
 by_line : (ask : Ask) (office : Office) (id : ℕ) (clerk : List ℕ) → answered office (command_of id clerk ask) ≡ transacted office id (line_of ask clerk) (get office.intersections id)
 by_line Begin office id clerk = refl
@@ -75,76 +50,37 @@ module _ (tables : Content) (office : Office) (id : ℕ) (clerk : List ℕ) (ask
     (found : Found) (stands : StandForSound tables office) (there : get office.intersections id ≡ Some i)
     (sound : IsSoundIntersection i) (here : FoundStands (reach_of ask) (drafts_at stands.stand id) i found)
     (words : AreWords 40 clerk) (within : IsAskWithin ask) where
-  accepted : (move : Move) (next : TimingSide) (reply : Reply) (changes : List RowChange)
-      → AreChangesWithin (drafted_in move.changes) → line_of ask clerk i.timing ≡ Ok next
+  accepted : (move : Move) (next : TimingSide) → AreChangesWithin (drafted_in move.changes) → line_of ask clerk i.timing ≡ Ok next
       → Makes (drafts_at stands.stand id) i.timing clerk move next
-      → WritesMove id clerk found move reply changes
-      → Answers office (command_of id clerk ask) reply (changed_by tables changes)
-  accepted move next reply changes drafts line makes writes =
-      let told : reply ≡ moved_to next = writes.told ∙ (λ k. Moved (makes.same_revision k) (makes.same_state k) (makes.same_verdict k)) in
+      → Answers office (command_of id clerk ask) (Moved move.revision move.state move.verdict) (changed_by tables (rows_of_move id clerk found move))
+  accepted move next drafts line makes =
+      let told : Moved move.revision move.state move.verdict ≡ moved_to next = λ k. Moved (makes.same_revision k) (makes.same_state k) (makes.same_verdict k) in
       let after = with_intersection office id (with_timing_side i next) in
       record {
         next = after;
         step = inr (answered_at ask office id clerk i (Ok next) there line ∙ (λ k. (sym told k, after)));
-        stand = subst (λ list. StandForSound (changed_by tables list) after) (sym writes.rows) (record {
-          stand = move_stands tables office id i found clerk move next stands.stand there here drafts
-              makes;
+        stand = record {
+          stand = move_stands tables office id i found clerk move next stands.stand there here drafts makes;
           sound = sound_with office id (with_timing_side i next) (subst (λ o. IfSome o (λ _. IsInRange 1 9999 id)) there (stands.sound.numbers id)) stands.sound (sound_intersection i next sound (line_keeps ask clerk i.timing next words within (side_sound i sound) line));
-        });
+        };
       }
 
-  settled : (decision : Result Move DraftRefusal) (l : Result TimingSide DraftRefusal) (reply : Reply) (changes : List RowChange)
-      → IfOk decision (λ move. AreChangesWithin (drafted_in move.changes))
-      → line_of ask clerk i.timing ≡ l → Follows (drafts_at stands.stand id) i.timing clerk decision l
-      → WritesDecision id clerk found decision reply changes
-      → Answers office (command_of id clerk ask) reply (changed_by tables changes)
-  settled (Ok move) (Ok next) reply changes drafts line follows writes =
-      accepted move next reply changes drafts line follows writes
-  settled (Ok move) (Err why) reply changes drafts line follows writes = absurd follows
-  settled (Err why) l reply changes drafts line (inl memory) writes = absurd (writes.0 memory)
-  settled (Err why) l reply changes drafts line (inr same) writes =
-      query_answers tables office (command_of id clerk ask) _ reply changes stands
-      (answered_at ask office id clerk i (Err why) there (line ∙ same)) writes.1 writes.2
+  moves : (move : Move) (l : Result TimingSide DraftRefusal) → AreChangesWithin (drafted_in move.changes) → line_of ask clerk i.timing ≡ l
+      → Follows (drafts_at stands.stand id) i.timing clerk (Ok move) l
+      → Answers office (command_of id clerk ask) (Moved move.revision move.state move.verdict) (changed_by tables (rows_of_move id clerk found move))
+  moves move (Ok next) drafts line makes = accepted move next drafts line makes
+  moves move (Err why) drafts line never = absurd never
 
-move_answers : (tables : Content) (id : ℕ) (clerk : List ℕ) (ask : Ask) (found : Found) (decision : Result Move DraftRefusal) (reply : Reply) (changes : List RowChange)
-    → AreWords 40 clerk → IsAskWithin ask → IfOk decision (λ move. AreChangesWithin (drafted_in move.changes))
-    → FindsAny (reach_of ask) tables id (Some found)
-    → FollowsSoundLine (reach_of ask) found.timing clerk decision (λ side. line_of ask clerk side)
-    → WritesDecision id clerk found decision reply changes → AnswersAny tables (command_of id clerk ask) reply (changed_by tables changes)
-move_answers tables id clerk ask found decision reply changes words within drafts finds follows
-    writes office stands =
-    let at = found_there (reach_of ask) tables office id found stands finds in
-    let sound = sound_there tables office id at.0 stands at.1 in
-    settled tables office id clerk ask at.0 found stands at.1 sound at.2 words within decision
-    (line_of ask clerk at.0.timing) reply changes drafts refl
-    (follows (drafts_at stands.stand id) at.0.timing at.2.timing_stands sound.no_violations) writes
+  refuses : (why : DraftRefusal) → why ≢ draft.NoMemory → Follows (drafts_at stands.stand id) i.timing clerk (Err why) (line_of ask clerk i.timing)
+      → answered office (command_of id clerk ask) ≡ (Refused (refusal_of_draft why), office)
+  refuses why ne (inl memory) = absurd (ne memory)
+  refuses why ne (inr same) = answered_at ask office id clerk i (Err why) there same
 
 -- ---- replies
 
 not_damaged : (why : DraftRefusal) → Refused (refusal_of_draft why) ≢ Refused refusal.Damaged
 not_damaged draft.NoMemory e = cc
 not_damaged why e = cc
-
-reply_undamaged : (id : ℕ) (clerk : List ℕ) (found : Found) (decision : Result Move DraftRefusal) (reply : Reply) (changes : List RowChange) → WritesDecision id clerk found decision reply changes → reply ≢ Refused refusal.Damaged
-reply_undamaged id clerk found (Ok move) reply changes writes e = absurd (let f : Moved move.revision move.state move.verdict ≡ Refused refusal.Damaged = sym writes.told ∙ e in cc)
-reply_undamaged id clerk found (Err why) reply changes writes e = not_damaged why (sym writes.1 ∙ e)
-
-refused_unchanged : (id : ℕ) (clerk : List ℕ) (found : Found) (decision : Result Move DraftRefusal) (reply : Reply) (changes : List RowChange) → WritesDecision id clerk found decision reply changes → IsRefused reply → changes ≡ []
-refused_unchanged id clerk found (Ok move) reply changes writes refused = absurd (subst IsRefused writes.told refused)
-refused_unchanged id clerk found (Err why) reply changes writes refused = writes.2
-
--- ---- rows that are added
-
-decision_news : (tables : Content) (id : ℕ) (clerk : List ℕ) (ask : Ask) (found : Found)
-    (decision : Result Move DraftRefusal) (reply : Reply) (changes : List RowChange)
-    → ListsFound (reach_of ask) tables id found
-    → IfOk decision (λ move. AddsOnlyNew (reach_of ask) found.timing move.changes)
-    → WritesDecision id clerk found decision reply changes → AddNew tables changes
-decision_news tables id clerk ask found (Ok move) reply changes lists news writes =
-    subst (AddNew tables) (sym writes.rows)
-    (move_news (reach_of ask) tables id found (moved_row found clerk move) move.changes lists news)
-decision_news tables id clerk ask found (Err why) reply changes lists news writes =
-    subst (AddNew tables) (sym writes.2) tt
 
 -- ---- how many rows are written
 
@@ -165,14 +101,10 @@ draft_written id (_ ∷ changes) =
 -- other tables are not written
 none_written : (other : Table) → is_same_table table.Timing other ≡ false → is_same_table table.Draft other ≡ false → (id : ℕ) (changes : List TimingChange) → writes_in other (row_changes_of id changes) ≡ 0
 none_written other t d id [] = refl
-none_written other t d id (CommittedNew row ∷ changes) =
-    let later = none_written other t d id changes in rw t (omega (arith, later))
 none_written other t d id (Committed (Put row) ∷ changes) =
-    let later = none_written other t d id changes in rw t (omega (arith, later))
-none_written other t d id (Committed _ ∷ changes) =
-    let later = none_written other t d id changes in rw t (omega (arith, later))
+    let later = none_written other t d id changes in simp (t, d) (omega (arith, later))
 none_written other t d id (_ ∷ changes) =
-    let later = none_written other t d id changes in rw d (omega (arith, later))
+    let later = none_written other t d id changes in simp (t, d) (omega (arith, later))
 
 -- the bounds, of the draft rows that were read
 listed_many : (tables : Content) (id : ℕ) (changes : List Change) → ListsDraft tables id changes
@@ -221,18 +153,6 @@ move_writes tables id clerk ask row found changes table.Draft lists bounds =
 move_writes tables id clerk ask row found changes other lists bounds =
     no_more _ 0 _ (none_written other refl refl id changes) (omega arith)
 
-transact_writes : (tables : Content) (id : ℕ) (clerk : List ℕ) (ask : Ask) (found : Found) (decision : Result Move DraftRefusal) (reply : Reply) (changes : List RowChange)
-    → WritesDecision id clerk found decision reply changes
-    → IfOk decision (λ move. IsBounded ask (length found.timing.delta) move.changes)
-    → ListsFound (reach_of ask) tables id found
-    → (other : Table) → writes_in other changes ≤ most_writes tables (command_of id clerk ask) other
-transact_writes tables id clerk ask found (Ok move) reply changes writes bounds lists other =
-    subst (λ list. writes_in other list ≤ most_writes tables (command_of id clerk ask) other) (sym writes.rows)
-    (move_writes tables id clerk ask (moved_row found clerk move) found move.changes other lists
-    bounds)
-transact_writes tables id clerk ask found (Err why) reply changes writes bounds lists other =
-    subst (λ list. writes_in other list ≤ most_writes tables (command_of id clerk ask) other) (sym writes.2) (omega arith)
-
 -- ---- refusals
 
 -- the test of the owner refuses by the state, or by the owner
@@ -254,13 +174,9 @@ Names id clerk ask why = IsOneOf (numbers_of (command_of id clerk ask)) (number_
 first_named : (ask : Ask) (id : ℕ) (clerk : List ℕ) (holder : Option Holder) (first : DraftRefusal) → first_refusal ask holder clerk ≡ Some first → Names id clerk ask first
 first_named Begin id clerk None first e = absurd (let f : None ≡ Some first = e in cc)
 first_named Begin id clerk (Some holder) first e = subst (Names id clerk Begin) (let f : Some draft.NotNormal ≡ Some first = e in let g : draft.NotNormal ≡ first = cc in g) (inr (inl refl))
-first_named (Edit changes) id clerk holder first e = state_or_owner holder stages.Transaction draft.NotTransaction clerk first (Names id clerk (Edit changes)) e (inr (inl refl)) (inr (inr (inl refl)))
-first_named Verify id clerk holder first e = state_or_owner holder stages.Transaction draft.NotTransaction clerk first (Names id clerk Verify) e (inr (inl refl)) (inr (inr (inl refl)))
-first_named Check id clerk holder first e = state_or_owner holder stages.Verify draft.NotVerify clerk first (Names id clerk Check) e (inr (inl refl)) (inr (inr (inl refl)))
-first_named Commit id clerk holder first e = state_or_owner holder stages.Done draft.NotDone clerk first (Names id clerk Commit) e (inr (inl refl)) (inr (inr (inl refl)))
-first_named Reopen id clerk holder first e = state_or_owner holder stages.Done draft.NotDone clerk first (Names id clerk Reopen) e (inr (inl refl)) (inr (inr (inl refl)))
 first_named Abandon id clerk None first e = subst (Names id clerk Abandon) (let f : Some draft.NotTransaction ≡ Some first = e in let g : draft.NotTransaction ≡ first = cc in g) (inr (inl refl))
 first_named Abandon id clerk (Some holder) first e = absurd (let f : None ≡ Some first = e in cc)
+first_named ask id clerk holder first e = state_or_owner holder _ _ clerk first (Names id clerk ask) e (inr (inl refl)) (inr (inr (inl refl)))
 
 unsettled_named : (id : ℕ) (clerk : List ℕ) (why : DraftRefusal) → why ≢ draft.NoMemory → IsUnsettled why → Names id clerk Commit why
 unsettled_named id clerk (draft.VerifyFailed count) ne is = inr (inr (inr (inl refl)))
@@ -282,12 +198,6 @@ refusal_named ask id clerk holder why refuses ne = go (first_refusal ask holder 
     go : (o : Option DraftRefusal) → first_refusal ask holder clerk ≡ o → RefusesFirst o (IsLater ask) (Err why) → Names id clerk ask why
     go None is later = later_named ask id clerk why ne later
     go (Some first) is e = subst (Names id clerk ask) (let same : Err why ≡ Err first = e in let here : first ≡ why = cc in here) (first_named ask id clerk holder first is)
-
-reply_named : (ask : Ask) (id : ℕ) (clerk : List ℕ) (found : Found) (decision : Result Move DraftRefusal) (reply : Reply) (changes : List RowChange)
-    → RefusesFirst (first_refusal ask found.timing.holder clerk) (IsLater ask) decision → WritesDecision id clerk found decision reply changes → RefusesBy (numbers_of (command_of id clerk ask)) reply
-reply_named ask id clerk found (Ok move) reply changes refuses writes = λ why e. absurd (let f : Moved move.revision move.state move.verdict ≡ Refused why = sym writes.told ∙ e in cc)
-reply_named ask id clerk found (Err why) reply changes refuses writes = λ told e.
-    refuses_so (numbers_of (command_of id clerk ask)) (refusal_of_draft why) (refusal_named ask id clerk found.timing.holder why refuses writes.0) told (sym writes.1 ∙ e)
 
 -- ---- the decision
 
@@ -317,26 +227,30 @@ pub transact_decides : (is_honest : Type 0) (tables : Content) (id : ℕ) (clerk
     → (is_honest → ¬ HasDamageIn (reach_of ask) tables id)
     → IfOk result (λ decided. WritesDecision id clerk found decision decided.reply decided.changes.items) → OnErr result (result ≡ Err NoMemory)
     → Decides is_honest tables (command_of id clerk ask) result
+transact_decides is_honest tables id clerk ask found (Ok move)
+    (Ok decided) words within drafts finds lists follows bounds news refuses_first whole writes fault =
+    accepted_decides is_honest tables (command_of id clerk ask) (Moved move.revision move.state move.verdict) (rows_of_move id clerk found move) decided
+    writes.told writes.rows (λ refused. refused) (never_query id clerk ask)
+    (λ honest office stands.
+    let at = found_there (reach_of ask) tables office id found stands (finds honest) in
+    let sound = sound_there tables office id at.0 stands at.1 in
+    moves tables office id clerk ask at.0 found stands at.1 sound at.2 words within move (line_of ask clerk at.0.timing) drafts refl
+    (follows (drafts_at stands.stand id) at.0.timing at.2.timing_stands sound.no_violations))
+    (λ honest other. move_writes tables id clerk ask (moved_row found clerk move) found move.changes other (lists honest) bounds)
+    (λ honest. move_news (reach_of ask) tables id found (moved_row found clerk move) move.changes (lists honest) news)
+    (λ honest damaged. whole honest (names_row tables id clerk ask damaged))
+transact_decides is_honest tables id clerk ask found (Err why)
+    (Ok decided) words within drafts finds lists follows bounds news refuses_first whole writes fault =
+    told_decides is_honest tables (command_of id clerk ask) (Refused (refusal_of_draft why)) decided writes.1 (not_damaged why)
+    (refuses_so (numbers_of (command_of id clerk ask)) (refusal_of_draft why) (refusal_named ask id clerk found.timing.holder why refuses_first writes.0))
+    writes.2 (λ honest damaged. whole honest (names_row tables id clerk ask damaged))
+    (λ honest office stands.
+    let at = found_there (reach_of ask) tables office id found stands (finds honest) in
+    let sound = sound_there tables office id at.0 stands at.1 in
+    refuses tables office id clerk ask at.0 found stands at.1 sound at.2 words within why writes.0
+    (follows (drafts_at stands.stand id) at.0.timing at.2.timing_stands sound.no_violations))
 transact_decides is_honest tables id clerk ask found decision
-    (Ok decided) words within drafts finds lists follows bounds news refuses whole writes fault =
-    record {
-      step = λ honest. move_answers tables id clerk ask found decision decided.reply
-          decided.changes.items words within drafts (finds honest) follows writes;
-      writes = λ honest. transact_writes tables id clerk ask found decision decided.reply
-          decided.changes.items writes bounds (lists honest);
-      news = λ honest. decision_news tables id clerk ask found decision decided.reply
-          decided.changes.items (lists honest) news writes;
-      refused = refused_unchanged id clerk found decision decided.reply decided.changes.items
-          writes;
-      query = λ query. absurd (never_query id clerk ask query);
-      named = reply_named ask id clerk found decision decided.reply decided.changes.items refuses
-          writes;
-      undamaged = reply_undamaged id clerk found decision decided.reply decided.changes.items
-          writes;
-      whole = λ honest damaged. absurd (whole honest (names_row tables id clerk ask damaged));
-    }
-transact_decides is_honest tables id clerk ask found decision
-    (Err other) words within drafts finds lists follows bounds news refuses whole writes fault =
+    (Err other) words within drafts finds lists follows bounds news refuses_first whole writes fault =
     λ damaged. absurd (let f : Err other ≡ Err NoMemory = fault in cc)
 
 -- on an intersection that is not there

@@ -1,28 +1,22 @@
 -- What one command may make of an office, and one import of its register: what each keeps, a run
 -- keeps.
-use Rattle.std.proofs.Common.{◌≡◌, ℕ, ◌+◌, Bool, true, false, ◌==◌, ◌&&◌, cond, if◌then◌else◌, List, [], ◌∷◌}
-use Rattle.std.proofs.Common.{Option, Some, None, Result, Ok, Err, inl, inr, refl, sym, subst, subst₂}
-use Rattle.std.specs.FinMap.{get}
-use Rattle.std.specs.Str.{bytes_eq}
+use Rattle.std.proofs.Common.{◌≡◌, ℕ, ◌+◌, Bool, true, false, ◌==◌, ◌&&◌, cond, if◌then◌else◌, List, [], ◌∷◌, Option, Some, None, Result, Ok, Err, inl, inr, refl, sym, subst, subst₂}
+use Rattle.std.specs.{FinMap.get, Str.bytes_eq}
 use Rattle.cabinet_core.specs.Cabinet.{Line, added as added_line, same as same_line, refused as refused_line}
-use Rattle.cabinet_core.specs.Step.{line_at, with_record, after_line}
+use Rattle.cabinet_core.specs.{Step.line_at, Step.with_record, Step.after_line, Orders.open_at}
 use Rattle.cabinet_core.specs.declared.command.RecordCommand.{RecordCommand}
 use Rattle.draft_core.specs.Transaction.{Draft, TimingSide}
 use Rattle.draft_core.specs.declared.refusal.DraftRefusal.{DraftRefusal}
-use Rattle.office_machine.specs.Office.{Office, Intersection}
-use Rattle.office_machine.specs.RegisterRuns.{accepted_of, is_accepted, records_asked}
 use Rattle.office_machine.specs.Step.{Step, answered, added, new_intersection, with_intersection, transacted, moved, moved_to, shown, state_shown, timing_shown, draft_shown, told, recorded, recorded_at, known, cabinet_of, is_known, with_recorded, import_by, import_from, imported, cabinet_shown}
+use Rattle.office_machine.specs.{Office.Office, Office.Intersection, RegisterRuns.accepted_of, RegisterRuns.is_accepted, RegisterRuns.records_asked}
 use Rattle.office_machine.specs.Timing.{is_moved}
-use Rattle.office_machine.specs.declared.command.Command.{Command}
+use Rattle.office_machine.specs.declared.{command.Command.Command, refusal.Refusal.Refusal, reply.Reply.Reply}
 use Rattle.office_machine.specs.declared.command.Command.TheVariants as command
-use Rattle.office_machine.specs.declared.refusal.Refusal.{Refusal}
 use Rattle.office_machine.specs.declared.refusal.Refusal.TheVariants as refusal
-use Rattle.office_machine.specs.declared.reply.Reply.{Reply}
 use Rattle.office_machine.specs.declared.reply.Reply.TheVariants as reply
-use Rattle.cabinet_core.specs.Orders.{open_at}
 use Rattle.office_desk.specs.Transacting.{command_of, edit_of, line_of}
-use Rattle.office_desk.specs.declared.transacting.Ask.{Ask}
 use Rattle.office_desk.specs.declared.transacting.Ask.TheVariants.{Begin, Verify, Check, Commit, Reopen, Abandon}
+use Rattle.office_desk.specs.declared.transacting.Ask.{Ask}
 
 -- ---- one command
 

@@ -1,19 +1,14 @@
 -- Rows that were read, or none, are no damaged ones.
-use Rattle.std.proofs.Common.{◌≡◌, ◌≢◌, ◌⊎◌, inl, inr, ℕ, true, false, List, Option, Some, None}
-use Rattle.std.proofs.Common.{is_some, refl, ap, sym, subst, ◌∙◌, IsSome}
-use Rattle.signal_records.specs.Row.{key_of}
-use Rattle.signal_records.specs.Within.{IsChangeWithin, IsRowWithin, current_limits}
-use Rattle.signal_records.specs.declared.record.Change.{Change}
-use Rattle.signal_records.specs.declared.record.Row.{Row}
+use Rattle.std.proofs.Common.{◌≡◌, ◌≢◌, ◌⊎◌, inl, inr, ℕ, true, false, List, Option, Some, None, is_some, refl, ap, sym, subst, ◌∙◌, IsSome}
+use Rattle.signal_records.specs.{Row.key_of, Within.IsChangeWithin, Within.IsRowWithin, Within.current_limits}
+use Rattle.signal_records.specs.declared.{record.Change.Change, record.Row.Row}
 use Rattle.draft_core.specs.Within.{AreChangesWithin}
 use Rattle.draft_core.specs.declared.timing.Reach.{Reach}
 use Rattle.draft_core.specs.declared.timing.Reach.TheVariants as reach
-use Rattle.office_tables_shelf.specs.Cells.{Cell}
-use Rattle.office_tables_shelf.specs.Content.{Content}
-use Rattle.office_tables_shelf.specs.Damage.{HasDamagedDraft, HasDamagedIntersection, HasDamagedTiming}
 use Rattle.office_tables_shelf.specs.Rows.{IsIntersectionRow, draft_columns, draft_key, timing_columns, timing_key}
-use Rattle.office_tables_shelf.proofs.ListedRows.{listed_row}
 use Rattle.office_tables_shelf.specs.Shelf.{IsThere, ListsDraft, ListsTiming, ReadsIntersection}
+use Rattle.office_tables_shelf.specs.{Cells.Cell, Content.Content, Damage.HasDamagedDraft, Damage.HasDamagedIntersection, Damage.HasDamagedTiming}
+use Rattle.office_tables_shelf.proofs.ListedRows.{listed_row}
 use Rattle.office_tables_shelf.specs.declared.rows.IntersectionRow.{IntersectionRow}
 use Rattle.office_desk.specs.Damage.{HasDamage, HasDamagedPlan, HasJudgedDamage, IsDone, MeetsAfter}
 use Rattle.office_desk.specs.Reading.{AreWithin, ListsPlan}

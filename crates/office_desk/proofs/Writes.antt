@@ -3,16 +3,12 @@ use Rattle.std.proofs.Common.{◌≡◌, ℕ, ◌+◌, ◌≤◌, List, [], ◌�
 use Rattle.std.proofs.lemmas.Bool.Decides.{nat_tests}
 use Rattle.cabinet_core.specs.declared.command.RecordCommand.{RecordCommand}
 use Rattle.cabinet_core.specs.declared.command.RecordCommand.TheVariants as register
-use Rattle.office_tables_shelf.specs.Change.{table_of}
-use Rattle.office_tables_shelf.specs.Content.{Content}
-use Rattle.office_tables_shelf.specs.Counts.{count_of, count_at, counted, counts_after}
-use Rattle.office_tables_shelf.specs.declared.counts.WriteCounts.{WriteCounts}
-use Rattle.office_tables_shelf.specs.declared.rows.RowChange.{RowChange}
-use Rattle.office_tables_shelf.specs.declared.rows.Table.{Table}
+use Rattle.office_tables_shelf.specs.Counts.{count_of, count_at, counted, counts_after, is_same_table, writes_in}
+use Rattle.office_tables_shelf.specs.{Change.table_of, Content.Content}
+use Rattle.office_tables_shelf.specs.declared.{counts.WriteCounts.WriteCounts, rows.RowChange.RowChange, rows.Table.Table}
 use Rattle.office_tables_shelf.specs.declared.rows.Table.TheVariants as table
 use Rattle.office_desk_cabinet.specs.Registers.{most_record_writes}
 use Rattle.office_desk.specs.Changes.{RiseAtMost, most_import_writes, most_writes}
-use Rattle.office_tables_shelf.specs.Counts.{is_same_table, writes_in}
 use Rattle.office_machine.specs.declared.command.Command.{Command}
 use Rattle.office_machine.specs.declared.command.Command.TheVariants as command
 

@@ -1,36 +1,30 @@
 -- Tables that stand for a register stand, once a decision's rows are written, for the register that its changes make.
 use Rattle.std.proofs.Common.{◌≡◌, ℕ, List, [], ◌∷◌, cond, Option, Some, None, nat_cmp, refl, sym, ap, subst, ◌∙◌}
 use Rattle.std.proofs.lemmas.Cmp.{nat_list_cmp_total}
-use Rattle.std.specs.Cmp.Lexicographic.{slice_cmp}
 use Rattle.std.specs.FinMap.{FinMap, entries, get, get-insert, insert, same_map, nat_cmp-IsAntisymmetric, slice_cmp-IsAntisymmetric}
+use Rattle.std.specs.Cmp.Lexicographic.{slice_cmp}
 use Rattle.cabinet_core.specs.Changes.{ChangesMake, hand_after, with_change, with_changes}
-use Rattle.cabinet_core.specs.Register.{Register}
-use Rattle.cabinet_core.specs.Stock.{hand_of, stock_by_code}
-use Rattle.cabinet_core.specs.declared.decide.CabinetChange.{CabinetChange}
+use Rattle.cabinet_core.specs.{Register.Register, Stock.hand_of, Stock.stock_by_code}
+use Rattle.cabinet_core.specs.declared.{decide.CabinetChange.CabinetChange, record.Closing.Closing, record.Order.Order}
 use Rattle.cabinet_core.specs.declared.decide.CabinetChange.TheVariants as change
-use Rattle.cabinet_core.specs.declared.record.Closing.{Closing}
-use Rattle.cabinet_core.specs.declared.record.Order.{Order}
 use Rattle.cabinet_core.proofs.KeyOrders.{record_total, line_total, delivery_total, codes_tie}
 use Rattle.cabinet_core.proofs.StockList.{stock_has}
-use Rattle.office_tables_shelf.specs.Cells.{Rows, tree_rows}
 use Rattle.office_tables_shelf.specs.CabinetRows.{inspection_key, inspection_columns, order_key, order_columns, used_key, used_columns, delivery_key, delivery_columns, part_key, part_columns}
-use Rattle.office_tables_shelf.specs.Change.{changed, changed_by}
-use Rattle.office_tables_shelf.specs.Content.{Content}
+use Rattle.office_tables_shelf.specs.{Cells.Rows, Cells.tree_rows, Change.changed, Change.changed_by, Content.Content}
 use Rattle.office_tables_shelf.specs.declared.rows.RowChange.TheVariants.{PutOrder}
-use Rattle.office_tables_shelf.proofs.CabinetLemmas.{part_order}
-use Rattle.office_tables_shelf.proofs.KeyCells.{record_order, line_order, delivery_order}
+use Rattle.office_tables_shelf.proofs.{CabinetLemmas.part_order, KeyCells.record_order, KeyCells.line_order, KeyCells.delivery_order}
 use Rattle.office_tables_shelf.proofs.StoredMaps.{insert_stored}
 use Rattle.office_desk_cabinet.specs.RegisterStands.{inspection_cells, order_cells, line_cells, delivery_cells, RegisterStands}
 use Rattle.office_desk_cabinet.specs.Telling.{order_row_of, row_change_of, row_changes_of}
 
 -- ---- records
 
--- what the tables of the records are
-record HoldRecords (tables : Content) (r : Register) : Type 0 where
-  inspection : tables.inspection ≡ tree_rows inspection_cells inspection_columns (entries r.inspections)
-  work_order : tables.work_order ≡ tree_rows order_cells order_columns (entries r.orders)
-  used_part : tables.used_part ≡ tree_rows line_cells used_columns (entries r.lines)
-  delivery : tables.delivery ≡ tree_rows delivery_cells delivery_columns (entries r.deliveries)
+-- what the tables of the records are: of inspections, orders, used parts and deliveries
+abbrev HoldRecords : Content → Register → Type 0
+HoldRecords tables r = (tables.inspection ≡ tree_rows inspection_cells inspection_columns (entries r.inspections))
+    × (tables.work_order ≡ tree_rows order_cells order_columns (entries r.orders))
+    × (tables.used_part ≡ tree_rows line_cells used_columns (entries r.lines))
+    × (tables.delivery ≡ tree_rows delivery_cells delivery_columns (entries r.deliveries))
 
 -- an order is put, whether it is new or not
 order_changed : (tables : Content) (id : ℕ) (order : Order) (closing : Option Closing)
@@ -39,33 +33,32 @@ order_changed tables id order None = refl
 order_changed tables id order (Some closing) = refl
 
 one_change : (tables : Content) (r : Register) (id : ℕ) (c : CabinetChange) → HoldRecords tables r → HoldRecords (changed tables (row_change_of id c)) (with_change id r c)
-one_change tables r id (change.PutInspection x) hold = record {
-  inspection = ap (λ (rows : Rows). insert rows (inspection_key id x.number) (inspection_columns x)) hold.inspection ∙ sym (insert_stored record_total inspection_cells inspection_columns record_order r.inspections (id, x.number) x);
-  work_order = hold.work_order;
-  used_part = hold.used_part;
-  delivery = hold.delivery;
-}
+one_change tables r id (change.PutInspection x) hold = (
+  ap (λ (rows : Rows). insert rows (inspection_key id x.number) (inspection_columns x)) hold.0 ∙ sym (insert_stored record_total inspection_cells inspection_columns record_order r.inspections (id, x.number) x),
+  hold.1,
+  hold.2,
+  hold.3,
+)
 one_change tables r id (change.PutOrder x) hold =
-    let put : HoldRecords (changed tables (PutOrder id x)) (with_change id r (change.PutOrder x)) = record {
-      inspection = hold.inspection;
-      work_order = ap (λ (rows : Rows). insert rows (order_key id x.number) (order_columns x)) hold.work_order ∙ sym (insert_stored record_total order_cells order_columns record_order r.orders (id, x.number) x);
-      used_part = hold.used_part;
-      delivery = hold.delivery;
-    } in
-    subst (λ t. HoldRecords t (with_change id r (change.PutOrder x))) (sym (order_changed tables id x x.closing)) put
-one_change tables r id (change.PutLine x) hold = record {
-  inspection = hold.inspection;
-  work_order = hold.work_order;
-  used_part = ap (λ (rows : Rows). insert rows (used_key id x.order x.line) (used_columns x)) hold.used_part ∙ sym (insert_stored line_total line_cells used_columns line_order r.lines (id, (x.order, x.line)) x);
-  delivery = hold.delivery;
-}
-one_change tables r id (change.PutDelivery x) hold = record {
-  inspection = hold.inspection;
-  work_order = hold.work_order;
-  used_part = hold.used_part;
-  delivery = ap (λ (rows : Rows). insert rows (delivery_key x.part x.number) (delivery_columns x)) hold.delivery ∙ sym (insert_stored delivery_total delivery_cells delivery_columns delivery_order r.deliveries (x.part, x.number) x);
-}
-one_change tables r id (change.PutPart code hand) hold = record { inspection = hold.inspection; work_order = hold.work_order; used_part = hold.used_part; delivery = hold.delivery }
+    subst (λ t. HoldRecords t (with_change id r (change.PutOrder x))) (sym (order_changed tables id x x.closing)) (
+      hold.0,
+      ap (λ (rows : Rows). insert rows (order_key id x.number) (order_columns x)) hold.1 ∙ sym (insert_stored record_total order_cells order_columns record_order r.orders (id, x.number) x),
+      hold.2,
+      hold.3,
+    )
+one_change tables r id (change.PutLine x) hold = (
+  hold.0,
+  hold.1,
+  ap (λ (rows : Rows). insert rows (used_key id x.order x.line) (used_columns x)) hold.2 ∙ sym (insert_stored line_total line_cells used_columns line_order r.lines (id, (x.order, x.line)) x),
+  hold.3,
+)
+one_change tables r id (change.PutDelivery x) hold = (
+  hold.0,
+  hold.1,
+  hold.2,
+  ap (λ (rows : Rows). insert rows (delivery_key x.part x.number) (delivery_columns x)) hold.3 ∙ sym (insert_stored delivery_total delivery_cells delivery_columns delivery_order r.deliveries (x.part, x.number) x),
+)
+one_change tables r id (change.PutPart code hand) hold = hold
 
 all_changes : (tables : Content) (r : Register) (id : ℕ) (cs : List CabinetChange) → HoldRecords tables r → HoldRecords (changed_by tables (row_changes_of id cs)) (with_changes id r cs)
 all_changes tables r id [] hold = hold
@@ -113,11 +106,11 @@ told_stock r next cs hands = same_map nat_list_cmp_total (slice_cmp-IsAntisymmet
 
 pub stand_changed : (tables : Content) (r next : Register) (id : ℕ) (cs : List CabinetChange) → RegisterStands tables r → ChangesMake id r cs next → RegisterStands (changed_by tables (row_changes_of id cs)) next
 stand_changed tables r next id cs stand makes =
-    let hold = all_changes tables r id cs (record { inspection = stand.inspection; work_order = stand.work_order; used_part = stand.used_part; delivery = stand.delivery }) in
+    let hold = all_changes tables r id cs (stand.inspection, stand.work_order, stand.used_part, stand.delivery) in
     record {
-      inspection = hold.inspection ∙ ap (λ (n : Register). tree_rows inspection_cells inspection_columns (entries n.inspections)) makes.records;
-      work_order = hold.work_order ∙ ap (λ (n : Register). tree_rows order_cells order_columns (entries n.orders)) makes.records;
-      used_part = hold.used_part ∙ ap (λ (n : Register). tree_rows line_cells used_columns (entries n.lines)) makes.records;
-      delivery = hold.delivery ∙ ap (λ (n : Register). tree_rows delivery_cells delivery_columns (entries n.deliveries)) makes.records;
+      inspection = hold.0 ∙ ap (λ (n : Register). tree_rows inspection_cells inspection_columns (entries n.inspections)) makes.records;
+      work_order = hold.1 ∙ ap (λ (n : Register). tree_rows order_cells order_columns (entries n.orders)) makes.records;
+      used_part = hold.2 ∙ ap (λ (n : Register). tree_rows line_cells used_columns (entries n.lines)) makes.records;
+      delivery = hold.3 ∙ ap (λ (n : Register). tree_rows delivery_cells delivery_columns (entries n.deliveries)) makes.records;
       part = told_rows tables (stock_by_code r) id cs stand.part ∙ ap (λ (stock : Stock). tree_rows part_key part_columns (entries stock)) (told_stock r next cs makes.hands);
     }

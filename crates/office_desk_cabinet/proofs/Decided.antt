@@ -1,39 +1,23 @@
 -- What is promised of a decision, from what was read under its command's keys.
-use Rattle.std.proofs.Common.{◌≡◌, ◌≤◌, ℕ, ◌+◌, Bool, true, false, List, Option, Some, None}
-use Rattle.std.proofs.Common.{Result, Ok, Err, is_some, inl, inr, refl, sym, subst, subst₂, arith}
+use Rattle.std.proofs.Common.{◌≡◌, ◌≤◌, ℕ, ◌+◌, Bool, true, false, List, Option, Some, None, Result, Ok, Err, is_some, inl, inr, refl, sym, subst, subst₂, arith}
 use Rattle.std.specs.Prelude.{IfOk, OnErr, if◌then◌else◌, nat_lt}
-use Rattle.cabinet_core.specs.Cabinet.{Line, added, same, refused, Records, on_hand, is_opened_so}
-use Rattle.cabinet_core.specs.Cabinet.{is_same_inspection, is_same_line, is_same_closing}
-use Rattle.cabinet_core.specs.Cabinet.{is_same_delivery, close_order_line}
-use Rattle.cabinet_core.specs.Changes.{Makes}
-use Rattle.cabinet_core.specs.Step.{Standing, line_on}
-use Rattle.cabinet_core.specs.declared.command.RecordCommand.{RecordCommand}
+use Rattle.cabinet_core.specs.Cabinet.{Line, added, same, refused, Records, on_hand, is_opened_so, is_same_inspection, is_same_line, is_same_closing, is_same_delivery, close_order_line}
+use Rattle.cabinet_core.specs.{Changes.Makes, Step.Standing, Step.line_on}
+use Rattle.cabinet_core.specs.declared.{command.RecordCommand.RecordCommand, decide.Recorded.Recorded, part.TheConstants.MOST_ON_HAND, record.Order.Order}
+use Rattle.cabinet_core.specs.declared.{record.Closing.Closing, refusal.CabinetRefusal.CabinetRefusal}
 use Rattle.cabinet_core.specs.declared.command.RecordCommand.TheVariants as asks
-use Rattle.cabinet_core.specs.declared.decide.Recorded.{Recorded}
-use Rattle.cabinet_core.specs.declared.part.TheConstants.{MOST_ON_HAND}
-use Rattle.cabinet_core.specs.declared.record.Closing.{Closing}
-use Rattle.cabinet_core.specs.declared.record.Order.{Order}
-use Rattle.cabinet_core.specs.declared.refusal.CabinetRefusal.{CabinetRefusal}
 use Rattle.cabinet_core.specs.declared.refusal.CabinetRefusal.TheVariants as refusal
 use Rattle.cabinet_core.proofs.Made.{changes_on, place_or}
-use Rattle.office_tables_shelf.specs.Change.{AddNew, changed_by}
-use Rattle.office_tables_shelf.specs.Content.{Content}
-use Rattle.office_tables_shelf.specs.Counts.{writes_in}
-use Rattle.office_tables_shelf.specs.declared.rows.RowChange.{RowChange}
-use Rattle.office_tables_shelf.specs.declared.rows.Table.{Table}
-use Rattle.office_tables_shelf.specs.declared.rows.Table.TheVariants as table
-use Rattle.office_tables_shelf.specs.declared.shelf.ShelfFault.{ShelfFault}
+use Rattle.office_tables_shelf.specs.{Change.AddNew, Change.changed_by, Content.Content, Counts.writes_in}
+use Rattle.office_tables_shelf.specs.declared.{rows.RowChange.RowChange, rows.Table.Table, shelf.ShelfFault.ShelfFault}
 use Rattle.office_tables_shelf.specs.declared.shelf.ShelfFault.TheVariants.{NoMemory}
-use Rattle.office_desk_cabinet.specs.Decides.{DecidesRecord}
-use Rattle.office_desk_cabinet.specs.Lines.{TellsLine, rows_for}
-use Rattle.office_desk_cabinet.specs.RegisterDamage.{KeepsDamage, MeetsRecordDamage}
+use Rattle.office_tables_shelf.specs.declared.rows.Table.TheVariants as table
 use Rattle.office_desk_cabinet.specs.Registers.{IsNamed, IsOneOf, most_record_writes, refusals_of}
+use Rattle.office_desk_cabinet.specs.{Decides.DecidesRecord, Lines.TellsLine, Lines.rows_for, RegisterDamage.KeepsDamage, RegisterDamage.MeetsRecordDamage}
 use Rattle.office_desk_cabinet.specs.Telling.{Tells}
 use Rattle.office_desk_cabinet.specs.declared.registered.Registered.{Registered}
-use Rattle.office_desk_cabinet.proofs.Found.{ReadsKeys, keys_stand}
-use Rattle.office_desk_cabinet.proofs.KeptDamage.{command_kept, rows_kept, rows_on}
-use Rattle.office_desk_cabinet.proofs.News.{adds_new}
 use Rattle.office_desk_cabinet.proofs.Told.{registers_from, rows_few, tells_leaves, told_by}
+use Rattle.office_desk_cabinet.proofs.{Found.ReadsKeys, Found.keys_stand, KeptDamage.command_kept, KeptDamage.rows_kept, KeptDamage.rows_on, News.adds_new}
 
 -- ---- the refusals of a command's line
 
@@ -159,15 +143,6 @@ decided any honest stored pending command there decision (Ok told) read says mak
           (line_tells any tables command there (read h).reads);
     }
 decided any honest stored pending command there decision (Err NoMemory) read says makes tells is =
-    record {
-      step = λ h. tt;
-      whole = tt;
-      spares = tt;
-      news = tt;
-      leaves = tt;
-      writes = tt;
-      named = tt;
-      line = tt;
-    }
+    record { step = λ h. tt; whole = tt; spares = tt; news = tt; leaves = tt; writes = tt; named = tt; line = tt }
 decided any honest stored pending command there decision (Err why) read says makes tells fault =
     absurd cc

@@ -4,8 +4,7 @@ use Rattle.std.specs.Cmp.Lexicographic.{slice_cmp}
 use Rattle.cabinet_core.specs.Register.{no_register, record_cmp, line_cmp, delivery_cmp}
 use Rattle.cabinet_core.proofs.EmptyRegister.{nothing_sound, no_stock}
 use Rattle.office_tables_shelf.specs.CabinetRows.{inspection_columns, order_columns, used_columns, delivery_columns, part_key, part_columns}
-use Rattle.office_tables_shelf.specs.Cells.{tree_rows}
-use Rattle.office_tables_shelf.specs.Content.{Content, no_content}
+use Rattle.office_tables_shelf.specs.{Cells.tree_rows, Content.Content, Content.no_content}
 use Rattle.office_tables_shelf.proofs.StoredMaps.{no_rows}
 use Rattle.office_desk_cabinet.specs.RegisterStands.{inspection_cells, order_cells, line_cells, delivery_cells, RegisterStandsSound}
 

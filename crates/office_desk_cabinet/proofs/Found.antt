@@ -2,21 +2,15 @@
 use Rattle.std.proofs.Common.{◌≡◌, Option, option_map, ap, ◌∙◌}
 use Rattle.std.proofs.lemmas.Cmp.{nat_list_cmp_total}
 use Rattle.std.specs.FinMap.{get}
-use Rattle.cabinet_core.specs.Register.{Register}
 use Rattle.cabinet_core.specs.Sound.{IsInspectionAt, IsOrderAt, IsLineAt, IsDeliveryAt}
-use Rattle.cabinet_core.specs.Step.{Standing, standing_in}
-use Rattle.cabinet_core.specs.Stock.{hand_of, stock_by_code}
-use Rattle.cabinet_core.specs.declared.command.RecordCommand.{RecordCommand}
+use Rattle.cabinet_core.specs.{Register.Register, Step.Standing, Step.standing_in, Stock.hand_of, Stock.stock_by_code}
 use Rattle.cabinet_core.specs.declared.command.RecordCommand.TheVariants.{Inspect, OpenOrder, UsePart, CloseOrder, Receive}
-use Rattle.cabinet_core.proofs.KeyOrders.{record_total, line_total, delivery_total}
-use Rattle.cabinet_core.proofs.Puts.{if_more}
-use Rattle.cabinet_core.proofs.StockList.{stock_has}
-use Rattle.office_tables_shelf.specs.Cells.{Rows}
+use Rattle.cabinet_core.specs.declared.command.RecordCommand.{RecordCommand}
+use Rattle.cabinet_core.proofs.{KeyOrders.record_total, KeyOrders.line_total, KeyOrders.delivery_total, Puts.if_more, StockList.stock_has}
 use Rattle.office_tables_shelf.specs.CabinetReads.{ReadsInspection, ReadsOrder, ReadsUsed, ReadsDelivery, ReadsHand}
 use Rattle.office_tables_shelf.specs.CabinetRows.{inspection_key, inspection_columns, order_key, order_columns, used_key, used_columns, delivery_key, delivery_columns, part_key, part_columns}
-use Rattle.office_tables_shelf.specs.Content.{Content}
-use Rattle.office_tables_shelf.proofs.CabinetLemmas.{part_order}
-use Rattle.office_tables_shelf.proofs.KeyCells.{record_order, line_order, delivery_order}
+use Rattle.office_tables_shelf.specs.{Cells.Rows, Content.Content}
+use Rattle.office_tables_shelf.proofs.{CabinetLemmas.part_order, KeyCells.record_order, KeyCells.line_order, KeyCells.delivery_order}
 use Rattle.office_tables_shelf.proofs.StoredMaps.{get_stored}
 use Rattle.office_desk_cabinet.specs.RegisterStands.{inspection_cells, order_cells, line_cells, delivery_cells, RegisterStands, RegisterStandsSound}
 use Rattle.office_desk_cabinet.proofs.Places.{Place, Inspection, Order, Line, Part, Delivery, RecordAt, ReadsAt, cells_at, columns_at, reads_tell}

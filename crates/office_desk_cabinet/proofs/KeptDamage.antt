@@ -1,24 +1,17 @@
 -- Rows of the register that are put under keys where no damaged row stands leave those that are damaged.
-use Rattle.std.proofs.Common.{◌≡◌, inl, inr, ℕ, Bool, true, false, cond, List, [], None, Some, refl}
-use Rattle.std.proofs.Common.{sym, subst, ◌∙◌, ◌==◌, ◌&&◌, bytes_eq}
+use Rattle.std.proofs.Common.{◌≡◌, inl, inr, ℕ, Bool, true, false, cond, List, [], None, Some, refl, sym, subst, ◌∙◌, ◌==◌, ◌&&◌, bytes_eq}
 use Rattle.std.proofs.lemmas.Bool.{and_parts, eqb-true, false≢true}
-use Rattle.cabinet_core.proofs.StockLemmas.{same_bytes}
+use Rattle.cabinet_core.proofs.{StockLemmas.same_bytes, Made.changes_on, Made.place_or}
 use Rattle.cabinet_core.specs.Cabinet.{Line as TableLine, added, record_of, with_closing}
 use Rattle.cabinet_core.specs.Step.{Standing}
-use Rattle.cabinet_core.specs.declared.command.RecordCommand.{RecordCommand}
 use Rattle.cabinet_core.specs.declared.command.RecordCommand.TheVariants.{Inspect, OpenOrder, UsePart, CloseOrder, Receive}
-use Rattle.cabinet_core.proofs.Made.{changes_on, place_or}
-use Rattle.office_tables_shelf.specs.CabinetReads.{HasDamagedOrderAt}
-use Rattle.office_tables_shelf.specs.Change.{changed, changed_by}
-use Rattle.office_tables_shelf.specs.Content.{Content}
-use Rattle.office_tables_shelf.specs.declared.rows.RowChange.{RowChange}
+use Rattle.cabinet_core.specs.declared.command.RecordCommand.{RecordCommand}
+use Rattle.office_tables_shelf.specs.{CabinetReads.HasDamagedOrderAt, Change.changed, Change.changed_by, Content.Content}
 use Rattle.office_tables_shelf.specs.declared.rows.RowChange.TheVariants.{AddDelivery, AddInspection, AddLine, AddOrder, PutOrder, PutPart}
-use Rattle.office_desk_cabinet.specs.RegisterDamage.{KeepsDamage, MeetsRecordDamage}
-use Rattle.office_desk_cabinet.specs.Lines.{rows_for}
-use Rattle.office_desk_cabinet.specs.Telling.{row_changes_of}
-use Rattle.office_desk_cabinet.proofs.Found.{ReadsKeys}
-use Rattle.office_desk_cabinet.proofs.PendingLemmas.{cells_changed, cells_put, is_put}
-use Rattle.office_desk_cabinet.proofs.Places.{DamagedAt, Place, Inspection, Order, Line, Part, Delivery, cells_at, kept_at, kept_everywhere}
+use Rattle.office_tables_shelf.specs.declared.rows.RowChange.{RowChange}
+use Rattle.office_desk_cabinet.specs.{RegisterDamage.KeepsDamage, RegisterDamage.MeetsRecordDamage, Lines.rows_for, Telling.row_changes_of}
+use Rattle.office_desk_cabinet.proofs.Places.{DamagedAt, Place, Inspection, Order, Line, Part, Delivery, cells_at, kept_at, kept_everywhere, met_at}
+use Rattle.office_desk_cabinet.proofs.{Found.ReadsKeys, PendingLemmas.cells_changed, PendingLemmas.cells_put, PendingLemmas.is_put}
 
 -- ---- one row
 
@@ -70,27 +63,23 @@ row_kept tables change whole = kept_everywhere tables (changed tables change) (�
 -- ---- rows in turn
 
 pub nothing_kept : (tables : Content) → KeepsDamage tables tables
-nothing_kept tables = record { inspections = λ id n d. d; orders = λ id n d. d; lines = λ id order line d. d; deliveries = λ code n d. d; hands = λ code d. d }
+nothing_kept tables = kept_everywhere tables tables (λ place d. d)
+
+-- so it is at each place
+kept_there : (tables after : Content) → KeepsDamage tables after → (place : Place) → DamagedAt tables place → DamagedAt after place
+kept_there tables after kept (Inspection id n) = kept.inspections id n
+kept_there tables after kept (Order id n) = kept.orders id n
+kept_there tables after kept (Line id order line) = kept.lines id order line
+kept_there tables after kept (Part code) = kept.hands code
+kept_there tables after kept (Delivery code n) = kept.deliveries code n
 
 pub kept_after : (tables mid after : Content) → KeepsDamage tables mid → KeepsDamage mid after → KeepsDamage tables after
-kept_after tables mid after first then = record {
-  inspections = λ id n d. then.inspections id n (first.inspections id n d);
-  orders = λ id n d. then.orders id n (first.orders id n d);
-  lines = λ id order line d. then.lines id order line (first.lines id order line d);
-  deliveries = λ code n d. then.deliveries code n (first.deliveries code n d);
-  hands = λ code d. then.hands code (first.hands code d);
-}
+kept_after tables mid after first then =
+    kept_everywhere tables after (λ place d. kept_there mid after then place (kept_there tables mid first place d))
 
 -- a record meets what it met before
 pub meets_still : (tables after : Content) (command : RecordCommand) → KeepsDamage tables after → MeetsRecordDamage tables command → MeetsRecordDamage after command
-meets_still tables after (Inspect id inspection) kept d = kept.inspections id inspection.number d
-meets_still tables after (OpenOrder id opening) kept d = kept.orders id opening.number d
-meets_still tables after (UsePart id line) kept (inl d) = inl (kept.lines id line.order line.line d)
-meets_still tables after (UsePart id line) kept (inr (inl d)) = inr (inl (kept.orders id line.order d))
-meets_still tables after (UsePart id line) kept (inr (inr d)) = inr (inr (kept.hands line.part d))
-meets_still tables after (CloseOrder id order closing) kept d = kept.orders id order d
-meets_still tables after (Receive delivery) kept (inl d) = inl (kept.deliveries delivery.part delivery.number d)
-meets_still tables after (Receive delivery) kept (inr d) = inr (kept.hands delivery.part d)
+meets_still tables after command kept met = let it = met_at tables command met in it.meets after (kept_there tables after kept it.place it.damaged)
 
 -- ---- the rows of a decision
 

@@ -2,8 +2,7 @@
 use Rattle.std.proofs.Common.{◌≡◌, ℕ, ◌&&◌, ◌==◌, List, ap, ◌∙◌, bytes_eq}
 use Rattle.std.specs.Ordering.{is_eq, eq_by_cmp}
 use Rattle.cabinet_core.proofs.KeyOrders.{record_ties, line_ties, codes_tie, delivery_ties as part_number_ties}
-use Rattle.office_tables_shelf.proofs.CabinetLemmas.{part_order}
-use Rattle.office_tables_shelf.proofs.KeyCells.{record_order, line_order, delivery_order}
+use Rattle.office_tables_shelf.proofs.{CabinetLemmas.part_order, KeyCells.record_order, KeyCells.line_order, KeyCells.delivery_order}
 use Rattle.office_tables_shelf.specs.CabinetRows.{part_key, order_key, used_key, delivery_key}
 use Rattle.office_tables_shelf.specs.Cells.{cells_cmp}
 

@@ -1,26 +1,16 @@
 -- A list that was read from tables that stand for a sound register is that of the register.
 use Rattle.std.proofs.Common.{◌≡◌, ℕ, pos, true, false, ◌==◌, List, [], ◌∷◌, map, cond, Ordering, refl, sym, ap, ◌∙◌, map-id}
 use Rattle.std.proofs.lemmas.Cmp.{nat_list_cmp_total}
-use Rattle.std.specs.Cmp.{IsTotalOrder}
-use Rattle.std.specs.FinMap.{FinMap, entries, get}
-use Rattle.std.specs.FinMap.Entries.{where_key}
-use Rattle.std.specs.List.{AllByRecursion}
-use Rattle.std.specs.Prelude.{IfSome}
-use Rattle.cabinet_core.specs.Register.{Register, records_at}
-use Rattle.cabinet_core.specs.Sound.{IsInspectionAt, IsOrderAt, IsLineAt}
+use Rattle.std.specs.{Cmp.IsTotalOrder, FinMap.FinMap, FinMap.entries, FinMap.get, FinMap.Entries.where_key, List.AllByRecursion, Prelude.IfSome}
+use Rattle.cabinet_core.specs.{Register.Register, Register.records_at, Sound.IsInspectionAt, Sound.IsOrderAt, Sound.IsLineAt}
 use Rattle.cabinet_core.specs.Stock.{stock_by_code, stock_of}
-use Rattle.cabinet_core.specs.declared.record.Inspection.{Inspection}
-use Rattle.cabinet_core.specs.declared.record.Order.{Order}
-use Rattle.cabinet_core.specs.declared.record.UsedLine.{UsedLine}
-use Rattle.cabinet_core.proofs.EntryLemmas.{entries_stand, kept}
-use Rattle.cabinet_core.proofs.KeyOrders.{record_total, line_total}
+use Rattle.cabinet_core.specs.declared.{record.Inspection.Inspection, record.Order.Order, record.UsedLine.UsedLine}
+use Rattle.cabinet_core.proofs.{EntryLemmas.entries_stand, EntryLemmas.kept, KeyOrders.record_total, KeyOrders.line_total}
 use Rattle.office_tables_shelf.specs.CabinetReads.{ListsInspections, ListsOrders, ListsUsed, ListsParts}
 use Rattle.office_tables_shelf.specs.CabinetRows.{inspection_key, inspection_columns, order_key, order_columns, used_key, used_columns, part_key, part_columns}
 use Rattle.office_tables_shelf.specs.Cells.{Cell, Rows, number, cells_cmp, tree_rows}
-use Rattle.office_tables_shelf.specs.Content.{Content}
-use Rattle.office_tables_shelf.specs.Shelf.{is_of, rows_of}
-use Rattle.office_tables_shelf.proofs.CabinetLemmas.{of_number, part_order}
-use Rattle.office_tables_shelf.proofs.KeyCells.{record_order, line_order}
+use Rattle.office_tables_shelf.specs.{Content.Content, Shelf.is_of, Shelf.rows_of}
+use Rattle.office_tables_shelf.proofs.{CabinetLemmas.of_number, CabinetLemmas.part_order, KeyCells.record_order, KeyCells.line_order}
 use Rattle.office_tables_shelf.proofs.StoredMaps.{stored_entries}
 use Rattle.office_desk_cabinet.specs.RegisterStands.{inspection_cells, order_cells, line_cells, RegisterStands, RegisterStandsSound}
 use Rattle.office_desk_cabinet.proofs.Tells.{inspections_tell, orders_tell, lines_tell}

@@ -1,19 +1,15 @@
 -- What a command of the register adds is new, on what was read under its keys.
 use Rattle.std.proofs.Common.{◌≡◌, ℕ, Bool, true, false, List, [], ◌∷◌, ◌++◌, Some, None, sym, subst}
 use Rattle.std.specs.Prelude.{if◌then◌else◌}
-use Rattle.cabinet_core.specs.Cabinet.{Line, added, same, refused, is_opened_so}
-use Rattle.cabinet_core.specs.Cabinet.{is_same_inspection, is_same_line, is_same_delivery}
+use Rattle.cabinet_core.specs.Cabinet.{Line, added, same, refused, is_opened_so, is_same_inspection, is_same_line, is_same_delivery}
 use Rattle.cabinet_core.specs.Step.{Standing, line_on}
-use Rattle.cabinet_core.specs.declared.command.RecordCommand.{RecordCommand}
+use Rattle.cabinet_core.specs.declared.{command.RecordCommand.RecordCommand, refusal.CabinetRefusal.CabinetRefusal}
 use Rattle.cabinet_core.specs.declared.command.RecordCommand.TheVariants as asks
-use Rattle.cabinet_core.specs.declared.refusal.CabinetRefusal.{CabinetRefusal}
 use Rattle.cabinet_core.specs.declared.refusal.CabinetRefusal.TheVariants as refusal
-use Rattle.office_tables_shelf.specs.Change.{AddNew, changed, changed_by}
-use Rattle.office_tables_shelf.specs.Content.{Content}
+use Rattle.office_tables_shelf.specs.{Change.AddNew, Change.changed, Change.changed_by, Content.Content}
 use Rattle.office_tables_shelf.specs.declared.rows.RowChange.{RowChange}
 use Rattle.office_desk_cabinet.specs.Lines.{TellsLine, rows_for}
-use Rattle.office_desk_cabinet.proofs.Found.{ReadsKeys}
-use Rattle.office_desk_cabinet.proofs.KeptDamage.{rows_on}
+use Rattle.office_desk_cabinet.proofs.{Found.ReadsKeys, KeptDamage.rows_on}
 
 -- what a line writes is new, where the rows are
 line_news : (tables : Content) (line : Line) (rows : List RowChange) → AddNew tables rows

@@ -1,16 +1,12 @@
 -- What stands under a key of the register after rows are written: what they put there over tables without a row, or what stood there before.
-use Rattle.std.proofs.Common.{◌≡◌, Bool, true, false, ◌&&◌, List, [], ◌∷◌, ◌++◌, ◌≢◌, cond, Option}
-use Rattle.std.proofs.Common.{Some, None, refl, sym, ap, subst, ◌∙◌, ◌==◌, bytes_eq}
+use Rattle.std.proofs.Common.{◌≡◌, Bool, true, false, ◌&&◌, List, [], ◌∷◌, ◌++◌, ◌≢◌, cond, Option, Some, None, refl, sym, ap, subst, ◌∙◌, ◌==◌, bytes_eq}
 use Rattle.std.specs.FinMap.{get, insert, get-empty, get-insert}
-use Rattle.std.specs.Option.{option_or}
-use Rattle.std.specs.Ordering.{eq_by_cmp}
+use Rattle.std.specs.{Option.option_or, Ordering.eq_by_cmp}
 use Rattle.office_tables_shelf.proofs.CellLemmas.{cells_total}
 use Rattle.office_tables_shelf.specs.CabinetRows.{inspection_key, inspection_columns, order_key, order_columns, used_key, used_columns, part_key, part_columns, delivery_key, delivery_columns}
-use Rattle.office_tables_shelf.specs.Cells.{Cell, Rows, cells_cmp}
-use Rattle.office_tables_shelf.specs.Change.{changed, changed_by}
-use Rattle.office_tables_shelf.specs.Content.{Content, no_content}
-use Rattle.office_tables_shelf.specs.declared.rows.RowChange.{RowChange}
+use Rattle.office_tables_shelf.specs.{Cells.Cell, Cells.Rows, Cells.cells_cmp, Change.changed, Change.changed_by, Content.Content, Content.no_content}
 use Rattle.office_tables_shelf.specs.declared.rows.RowChange.TheVariants.{AddInspection, AddOrder, PutOrder, AddLine, PutPart, AddDelivery}
+use Rattle.office_tables_shelf.specs.declared.rows.RowChange.{RowChange}
 use Rattle.office_desk_cabinet.specs.Puts.{Puts}
 use Rattle.office_desk_cabinet.proofs.Places.{Place, Inspection, Order, Line, Part, Delivery, RecordAt, ReadsAt, cells_at, columns_at, reads_so, stored_at}
 use Rattle.office_desk_cabinet.proofs.KeyTies.{numbered_ties, used_ties, delivery_ties, part_ties}

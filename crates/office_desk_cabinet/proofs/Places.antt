@@ -1,17 +1,14 @@
 -- The places where a row of the register stands, and what is read there, of whichever kind it is.
-use Rattle.std.proofs.Common.{◌≡◌, ◌≢◌, ℕ, List, Option, None, Some, IfSome, option_map, refl, sym, ap, ◌∙◌}
+use Rattle.std.proofs.Common.{◌≡◌, ◌≢◌, ℕ, List, Option, None, Some, IfSome, option_map, inl, inr, refl, sym, ap, ◌∙◌}
 use Rattle.std.specs.FinMap.{get}
 use Rattle.cabinet_core.specs.Within.{IsInspectionWithin, IsOrderWithin, IsUsedLineWithin, IsDeliveryWithin}
-use Rattle.cabinet_core.specs.declared.record.Delivery.{Delivery as DeliveryRecord}
-use Rattle.cabinet_core.specs.declared.record.Inspection.{Inspection as InspectionRecord}
-use Rattle.cabinet_core.specs.declared.record.Order.{Order as OrderRecord}
-use Rattle.cabinet_core.specs.declared.record.UsedLine.{UsedLine}
-use Rattle.office_tables_shelf.specs.CabinetReads.{HasDamagedDelivery, HasDamagedHand, HasDamagedInspectionAt, HasDamagedOrderAt, HasDamagedUsedAt}
-use Rattle.office_tables_shelf.specs.CabinetReads.{IsHand, ReadsDelivery, ReadsHand, ReadsInspection, ReadsOrder, ReadsUsed}
+use Rattle.cabinet_core.specs.declared.command.RecordCommand.TheVariants.{Inspect, OpenOrder, UsePart, CloseOrder, Receive}
+use Rattle.cabinet_core.specs.declared.{command.RecordCommand.RecordCommand, record.Delivery.Delivery as DeliveryRecord, record.Order.Order as OrderRecord}
+use Rattle.cabinet_core.specs.declared.{record.Inspection.Inspection as InspectionRecord, record.UsedLine.UsedLine}
+use Rattle.office_tables_shelf.specs.CabinetReads.{HasDamagedDelivery, HasDamagedHand, HasDamagedInspectionAt, HasDamagedOrderAt, HasDamagedUsedAt, IsHand, ReadsDelivery, ReadsHand, ReadsInspection, ReadsOrder, ReadsUsed}
 use Rattle.office_tables_shelf.specs.CabinetRows.{inspection_key, inspection_columns, order_key, order_columns, used_key, used_columns, part_key, part_columns, delivery_key, delivery_columns}
-use Rattle.office_tables_shelf.specs.Cells.{Cell}
-use Rattle.office_tables_shelf.specs.Content.{Content}
-use Rattle.office_desk_cabinet.specs.RegisterDamage.{KeepsDamage}
+use Rattle.office_tables_shelf.specs.{Cells.Cell, Content.Content}
+use Rattle.office_desk_cabinet.specs.RegisterDamage.{KeepsDamage, MeetsRecordDamage}
 use Rattle.office_desk_cabinet.proofs.Tells.{inspections_tell, orders_tell, lines_tell, deliveries_tell}
 
 -- ---- places
@@ -125,21 +122,12 @@ pub record NoRecord (tables : Content) (place : Place) : Type 0 where
 damage_of : (tables : Content) (place : Place) → DamagedAt tables place → NoRecord tables place
 damage_of tables (Part code) d =
     record { cells = d.columns; stored = d.stored; no_row = λ x within reads. d.no_row x within }
-damage_of tables (Line id order line) d = record {
-  cells = d.columns;
-  stored = d.stored;
-  no_row = λ x within reads. d.no_row x within reads.of reads.number;
-}
-damage_of tables (Delivery code n) d = record {
-  cells = d.columns;
-  stored = d.stored;
-  no_row = λ x within reads. d.no_row x within reads.part reads.number;
-}
-damage_of tables _ d = record {
-  cells = d.columns;
-  stored = d.stored;
-  no_row = λ x within reads. d.no_row x within reads.number;
-}
+damage_of tables (Line id order line) d =
+    record { cells = d.columns; stored = d.stored; no_row = λ x within reads. d.no_row x within reads.of reads.number }
+damage_of tables (Delivery code n) d =
+    record { cells = d.columns; stored = d.stored; no_row = λ x within reads. d.no_row x within reads.part reads.number }
+damage_of tables _ d =
+    record { cells = d.columns; stored = d.stored; no_row = λ x within reads. d.no_row x within reads.number }
 
 -- a record that was read, or none, is no damaged one
 pub whole_at : (tables : Content) (place : Place) (there : Option (RecordAt place))
@@ -171,3 +159,19 @@ kept_everywhere tables after keeps = record {
   deliveries = λ code n. keeps (Delivery code n);
   hands = λ code. keeps (Part code);
 }
+
+-- a row that a command meets, at its place: the command meets whatever stands there
+pub record MetAt (tables : Content) (command : RecordCommand) : Type 0 where
+  pub place : Place
+  pub damaged : DamagedAt tables place
+  pub meets : (after : Content) → DamagedAt after place → MeetsRecordDamage after command
+
+pub met_at : (tables : Content) (command : RecordCommand) → MeetsRecordDamage tables command → MetAt tables command
+met_at tables (Inspect id asked) d = record { place = Inspection id asked.number; damaged = d; meets = λ after it. it }
+met_at tables (OpenOrder id asked) d = record { place = Order id asked.number; damaged = d; meets = λ after it. it }
+met_at tables (UsePart id asked) (inl d) = record { place = Line id asked.order asked.line; damaged = d; meets = λ after it. inl it }
+met_at tables (UsePart id asked) (inr (inl d)) = record { place = Order id asked.order; damaged = d; meets = λ after it. inr (inl it) }
+met_at tables (UsePart id asked) (inr (inr d)) = record { place = Part asked.part; damaged = d; meets = λ after it. inr (inr it) }
+met_at tables (CloseOrder id number asked) d = record { place = Order id number; damaged = d; meets = λ after it. it }
+met_at tables (Receive asked) (inl d) = record { place = Delivery asked.part asked.number; damaged = d; meets = λ after it. inl it }
+met_at tables (Receive asked) (inr d) = record { place = Part asked.part; damaged = d; meets = λ after it. inr it }

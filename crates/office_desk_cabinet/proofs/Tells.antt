@@ -1,9 +1,6 @@
 -- A record is told by its key and its other cells.
 use Rattle.std.proofs.Common.{◌≡◌, Option, None, Some, refl, ap}
-use Rattle.cabinet_core.specs.declared.record.Closing.{Closing}
-use Rattle.cabinet_core.specs.declared.record.Delivery.{Delivery}
-use Rattle.cabinet_core.specs.declared.record.Inspection.{Inspection}
-use Rattle.cabinet_core.specs.declared.record.Order.{Order}
+use Rattle.cabinet_core.specs.declared.{record.Closing.Closing, record.Delivery.Delivery, record.Inspection.Inspection, record.Order.Order}
 use Rattle.cabinet_core.specs.declared.record.UsedLine.{UsedLine}
 use Rattle.office_tables_shelf.specs.CabinetRows.{inspection_columns, order_columns, closed_cell, closer_cell, used_columns, delivery_columns}
 

@@ -1,6 +1,6 @@
 -- What is told of a decision, from the line that it takes: the step of the register, the rows that stay, how many are written, and which refusal.
 use Rattle.std.proofs.Common.{◌≡◌, ◌≤◌, ℕ, List, [], ◌∷◌, Option, Some, None, Result, Ok, Err, refl, sym, ap, subst, subst₂, ◌∙◌, arith}
-use Rattle.cabinet_core.specs.Cabinet.{Line, added, refused, Records}
+use Rattle.cabinet_core.specs.Cabinet.{Line, added, same, Records}
 use Rattle.cabinet_core.specs.Changes.{MakesIn}
 use Rattle.cabinet_core.specs.Register.{Register}
 use Rattle.cabinet_core.specs.Step.{line_at, with_record, after_line}
@@ -24,55 +24,43 @@ pub use Rattle.office_desk_cabinet.specs.Lines.{rows_for}
 use Rattle.office_desk_cabinet.specs.Telling.{order_row_of, row_change_of, row_changes_of, Tells}
 use Rattle.office_desk_cabinet.specs.declared.registered.Registered.{Registered}
 use Rattle.office_desk_cabinet.proofs.Changed.{stand_changed}
-use Rattle.office_desk_cabinet.specs.declared.registered.Registered.TheVariants.{Refused}
 
 -- what is told is the line, with the rows of its changes
 pub record IsTold (id : ℕ) (line : Line) (list : List CabinetChange) (told : Registered) : Type 0 where
   pub same_line : line_told told ≡ line
   pub same_rows : rows_told told ≡ rows_for line (row_changes_of id list)
 
--- a refusal
-turned_down : (id : ℕ) (line : Line) (list : List CabinetChange) (why : CabinetRefusal) (told : Registered) → line ≡ refused why → told ≡ Refused why → IsTold id line list told
-turned_down id line list why told is tells = record {
-  same_line = ap line_told tells ∙ sym is;
-  same_rows = ap rows_told tells ∙ sym (ap (λ (l : Line). rows_for l (row_changes_of id list)) is);
+told_as : (id : ℕ) (line now : Line) (list : List CabinetChange) (told : Registered) → line ≡ now → line_told told ≡ now → rows_told told ≡ rows_for now (row_changes_of id list) → IsTold id line list told
+told_as id line now list told is says rows = record {
+  same_line = says ∙ sym is;
+  same_rows = rows ∙ sym (ap (λ (l : Line). rows_for l (row_changes_of id list)) is);
 }
 
 pub told_by : (id : ℕ) (line : Line) (list : List CabinetChange) (decision : Result Recorded CabinetRefusal) (told : Registered) → Records decision line list → Tells id decision told → IsTold id line list told
-told_by id line list (Ok (recorded.Added changes)) told is tells = record {
-  same_line = tells.0 ∙ sym is.0;
-  same_rows = tells.1 ∙ ap (row_changes_of id) is.1 ∙ sym (ap (λ (l : Line). rows_for l (row_changes_of id list)) is.0);
-}
-told_by id line list (Ok recorded.Same) told is tells = record {
-  same_line = ap line_told tells ∙ sym is;
-  same_rows = ap rows_told tells ∙ sym (ap (λ (l : Line). rows_for l (row_changes_of id list)) is);
-}
+told_by id line list (Ok (recorded.Added changes)) told is tells = told_as id line added list told is.0 tells.0 (tells.1 ∙ ap (row_changes_of id) is.1)
+told_by id line list (Ok recorded.Same) told is tells = told_as id line same list told is (ap line_told tells) (ap rows_told tells)
 told_by id line list (Err refusal.NoMemory) told is tells = absurd (tells.0 refl)
-told_by id line list (Err why) told is tells = turned_down id line list _ told is tells.1
+told_by id line list (Err why) told is tells = told_as id line _ list told is (ap line_told tells.1) (ap rows_told tells.1)
 
 -- ---- the step
 
--- a refusal leaves the register and the tables
-refused_from : (tables : Content) (r : Register) (command : RecordCommand) (why : CabinetRefusal) (told : Registered) → line_at r command ≡ refused why → told ≡ Refused why → RegisterStandsSound tables r → RegistersFrom tables command told r
-refused_from tables r command why told is tells stands = record {
-  line = ap line_told tells ∙ sym is;
-  stand = subst₂ (λ (rows : List RowChange) (l : Line). RegisterStandsSound (changed_by tables rows) (after_line l (with_record r command) r)) (sym (ap rows_told tells)) (sym is) stands;
+-- a line that is the command's, with rows that make the tables stand for the register after it
+registers_as : (tables : Content) (r : Register) (command : RecordCommand) (now : Line) (rows : List RowChange) (told : Registered) → line_at r command ≡ now → line_told told ≡ now → rows_told told ≡ rows
+    → RegisterStandsSound (changed_by tables rows) (after_line now (with_record r command) r) → RegistersFrom tables command told r
+registers_as tables r command now rows told is says rows_are stands = record {
+  line = says ∙ sym is;
+  stand = subst₂ (λ (rows : List RowChange) (l : Line). RegisterStandsSound (changed_by tables rows) (after_line l (with_record r command) r)) (sym rows_are) (sym is) stands;
 }
 
 -- the rows of a decision make the tables stand for the register that the decision makes
 pub registers_from : (tables : Content) (r : Register) (command : RecordCommand) (id : ℕ) (decision : Result Recorded CabinetRefusal) (told : Registered)
     → RegisterStandsSound tables r → MakesIn id r command decision → Tells id decision told → RegistersFrom tables command told r
-registers_from tables r command id (Ok (recorded.Added changes)) told stands makes tells = record {
-  line = tells.0 ∙ sym makes.0;
-  stand = subst₂ (λ (rows : List RowChange) (l : Line). RegisterStandsSound (changed_by tables rows) (after_line l (with_record r command) r)) (sym tells.1) (sym makes.0)
-      (record { stand = stand_changed tables r (with_record r command) id changes.items stands.stand makes.1; sound = makes.1.sound });
-}
-registers_from tables r command id (Ok recorded.Same) told stands is tells = record {
-  line = ap line_told tells ∙ sym is;
-  stand = subst₂ (λ (rows : List RowChange) (l : Line). RegisterStandsSound (changed_by tables rows) (after_line l (with_record r command) r)) (sym (ap rows_told tells)) (sym is) stands;
-}
+registers_from tables r command id (Ok (recorded.Added changes)) told stands makes tells =
+    registers_as tables r command added _ told makes.0 tells.0 tells.1
+    (record { stand = stand_changed tables r (with_record r command) id changes.items stands.stand makes.1; sound = makes.1.sound })
+registers_from tables r command id (Ok recorded.Same) told stands is tells = registers_as tables r command same [] told is (ap line_told tells) (ap rows_told tells) stands
 registers_from tables r command id (Err refusal.NoMemory) told stands is tells = absurd (tells.0 refl)
-registers_from tables r command id (Err why) told stands is tells = refused_from tables r command _ told is tells.1 stands
+registers_from tables r command id (Err why) told stands is tells = registers_as tables r command _ [] told is (ap line_told tells.1) (ap rows_told tells.1) stands
 
 -- ---- rows that stay
 

@@ -1,33 +1,23 @@
 -- In tables that stand for a sound register every row is a record.
-use Rattle.std.proofs.Common.{◌≡◌, inl, inr, ℕ, Bool, true, false, cond, List, [], ◌∷◌, Option, None, Some, pos, sym, ap, subst, ◌∙◌, arith}
+use Rattle.std.proofs.Common.{◌≡◌, ℕ, Bool, true, false, cond, List, [], ◌∷◌, Option, None, Some, pos, sym, ap, subst, ◌∙◌, arith}
 use Rattle.std.proofs.lemmas.Cmp.{nat_list_cmp_total}
-use Rattle.std.specs.FinMap.{get}
-use Rattle.std.specs.Option.{IfSome}
-use Rattle.cabinet_core.specs.Register.{Register}
+use Rattle.std.specs.{FinMap.get, Option.IfSome}
 use Rattle.cabinet_core.specs.Sound.{IsSoundRegister, IsInspectionAt, IsOrderAt, IsLineAt, IsDeliveryAt}
 use Rattle.cabinet_core.specs.Stock.{was_delivered, pieces, hand_of, stock_by_code}
-use Rattle.cabinet_core.specs.declared.command.RecordCommand.{RecordCommand}
-use Rattle.cabinet_core.specs.declared.command.RecordCommand.TheVariants.{Inspect, OpenOrder, UsePart, CloseOrder, Receive}
-use Rattle.cabinet_core.specs.declared.record.Inspection.{Inspection as InspectionRecord}
+use Rattle.cabinet_core.specs.Within.{IsInspectionWithin, IsOrderWithin, IsUsedLineWithin, IsDeliveryWithin}
+use Rattle.cabinet_core.specs.Register.{Register}
+use Rattle.cabinet_core.specs.declared.{command.RecordCommand.RecordCommand, record.Inspection.Inspection as InspectionRecord, record.UsedLine.UsedLine}
 use Rattle.cabinet_core.specs.declared.record.Order.{Order as OrderRecord}
-use Rattle.cabinet_core.specs.declared.record.UsedLine.{UsedLine}
-use Rattle.cabinet_core.proofs.KeyOrders.{record_total, line_total}
-use Rattle.cabinet_core.proofs.StockList.{code_on_hand, stock_has}
-use Rattle.office_tables_shelf.proofs.CabinetLemmas.{part_order}
-use Rattle.office_tables_shelf.proofs.CellLemmas.{cell_exact, tied}
-use Rattle.office_tables_shelf.proofs.KeyCells.{record_order, line_order}
+use Rattle.cabinet_core.proofs.{KeyOrders.record_total, KeyOrders.line_total, StockList.code_on_hand, StockList.stock_has, Puts.if_more}
+use Rattle.office_tables_shelf.proofs.{CabinetLemmas.part_order, CellLemmas.cell_exact, CellLemmas.tied, KeyCells.record_order, KeyCells.line_order}
 use Rattle.office_tables_shelf.proofs.StoredMaps.{stored_found}
 use Rattle.office_tables_shelf.specs.CabinetReads.{HasDamagedInspection, HasDamagedOrder, HasDamagedUsed, HasDamagedPart, IsHand}
 use Rattle.office_tables_shelf.specs.CabinetRows.{inspection_key, inspection_columns, order_key, order_columns, used_key, used_columns, part_key, part_columns}
-use Rattle.office_tables_shelf.specs.Cells.{Cell, Rows, number}
-use Rattle.office_tables_shelf.specs.Content.{Content}
-use Rattle.office_tables_shelf.specs.Shelf.{is_of}
-use Rattle.office_desk_cabinet.specs.RegisterDamage.{MeetsRecordDamage}
+use Rattle.office_tables_shelf.specs.{Cells.Cell, Cells.Rows, Cells.number, Content.Content, Shelf.is_of}
 use Rattle.office_desk_cabinet.specs.RegisterStands.{inspection_cells, order_cells, line_cells, RegisterStandsSound}
-use Rattle.cabinet_core.proofs.Puts.{if_more}
-use Rattle.cabinet_core.specs.Within.{IsInspectionWithin, IsOrderWithin, IsUsedLineWithin, IsDeliveryWithin}
+use Rattle.office_desk_cabinet.specs.RegisterDamage.{MeetsRecordDamage}
+use Rattle.office_desk_cabinet.proofs.Places.{DamagedAt, Place, Inspection, Order, Line, Part, Delivery, WithinAt, met_at, whole_at}
 use Rattle.office_desk_cabinet.proofs.Found.{register_reads, standing_at}
-use Rattle.office_desk_cabinet.proofs.Places.{DamagedAt, Place, Inspection, Order, Line, Part, Delivery, WithinAt, whole_at}
 
 -- the first cell of a key tells the intersection
 pub of_tells : (id other : ℕ) (cells : List Cell) → is_of id (number (pos other) ∷ cells) ≡ true → id ≡ other
@@ -93,19 +83,4 @@ no_damaged_at tables r stands place = whole_at tables place (standing_at r place
 
 -- no row that a command reads keeps it from being answered
 pub undamaged_record : (tables : Content) (r : Register) (command : RecordCommand) → RegisterStandsSound tables r → MeetsRecordDamage tables command → ⊥
-undamaged_record tables r (Inspect id inspection) stands damaged =
-    no_damaged_at tables r stands (Inspection id inspection.number) damaged
-undamaged_record tables r (OpenOrder id opening) stands damaged =
-    no_damaged_at tables r stands (Order id opening.number) damaged
-undamaged_record tables r (UsePart id line) stands (inl damaged) =
-    no_damaged_at tables r stands (Line id line.order line.line) damaged
-undamaged_record tables r (UsePart id line) stands (inr (inl damaged)) =
-    no_damaged_at tables r stands (Order id line.order) damaged
-undamaged_record tables r (UsePart id line) stands (inr (inr damaged)) =
-    no_damaged_at tables r stands (Part line.part) damaged
-undamaged_record tables r (CloseOrder id order closing) stands damaged =
-    no_damaged_at tables r stands (Order id order) damaged
-undamaged_record tables r (Receive delivery) stands (inl damaged) =
-    no_damaged_at tables r stands (Delivery delivery.part delivery.number) damaged
-undamaged_record tables r (Receive delivery) stands (inr damaged) =
-    no_damaged_at tables r stands (Part delivery.part) damaged
+undamaged_record tables r command stands met = let it = met_at tables command met in no_damaged_at tables r stands it.place it.damaged

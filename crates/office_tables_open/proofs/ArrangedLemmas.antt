@@ -1,24 +1,14 @@
 -- Each tree holds what its place in the list of objects says: in a store, and in files that were just opened.
 use Rattle.std.proofs.Common.{◌≡◌, inl, inr, ℕ, ◌<◌, List, [], sym, subst, arith}
-use Rattle.std.proofs.Math.Logic.{∥∥₁_elim}
-use Rattle.std.proofs.lemmas.Bool.{ne_eqb}
+use Rattle.std.proofs.{Math.Logic.∥∥₁_elim, lemmas.Bool.ne_eqb}
 use Rattle.std.specs.List.{AllByRecursion}
-use Rattle.sqlite.specs.Recovery.{Image}
-use Rattle.sqlite.specs.Files.{AreFoundIn}
-use Rattle.sqlite.specs.Order.{Row}
-use Rattle.sqlite.specs.Schema.{Schema}
-use Rattle.sqlite.specs.Tree.{Trees}
-use Rattle.sqlite.specs.View.{IsShaped}
-use Rattle.sqlite_trees.specs.declared.store.Shape.{Shape}
-use Rattle.sqlite_trees.specs.declared.store.Shape.TheVariants.{Absent, Table}
-use Rattle.sqlite_trees.specs.Objects.{catalog_tree, version_tree, IsListed}
-use Rattle.sqlite_trees.specs.View.{View, IsOrdered}
-use Rattle.sqlite_trees.specs.Props.{IsOrdered-prop}
+use Rattle.sqlite.specs.{Recovery.Image, Files.AreFoundIn, Order.Row, Schema.Schema, Tree.Trees, View.IsShaped}
+use Rattle.sqlite_trees.specs.declared.{store.Shape.Shape, store.Shape.TheVariants.Absent, store.Shape.TheVariants.Table}
+use Rattle.sqlite_trees.specs.{Objects.catalog_tree, Objects.version_tree, Objects.IsListed, View.View, View.IsOrdered, Props.IsOrdered-prop}
 use Rattle.sqlite_catalog.specs.Listing.{AreListed}
 use Rattle.sqlite_catalog.proofs.LayoutLemmas.{objects_rise, table_shape}
 use Rattle.sqlite_rules.proofs.ListLemmas.{all_from}
-use Rattle.sqlite_store.specs.Listed.{is_listed, catalog_rows}
-use Rattle.sqlite_store.specs.Listing.{all_shapes, all_reals, file_trees}
+use Rattle.sqlite_store.specs.{Listed.is_listed, Listed.catalog_rows, Listing.all_shapes, Listing.all_reals, Listing.file_trees}
 use Rattle.sqlite_store.proofs.ListingLemmas.{all_ordered}
 use Rattle.sqlite_pool.specs.File.{version_in, in_use}
 use Rattle.office_tables_open.specs.Arranged.{IsArranged}

@@ -1,50 +1,35 @@
 -- What is found in tables whose layout is not the office's; and a database that lists nothing has no rows.
-use Rattle.std.proofs.Common.{◌≡◌, ◌≢◌, inl, inr, ℕ, Bool, true, false, true≢false, not, IsTrue, List, [], ◌∷◌, length, eqb, eq-eqb, filter, find, option_map, Option, None, Some, ℤ, pos, refl, sym, ap, ◌∙◌, ◌&&◌, ◌⊎◌, ◌<◌, nat_lt, subst, arith}
-use Rattle.std.proofs.lemmas.Bool.{cases_Bool, ltb-true}
-use Rattle.std.specs.FinMap.{get, get-empty}
-use Rattle.std.specs.Ordering.{is_eq}
-use Rattle.sqlite.specs.Collation.TheVariants.{Binary}
-use Rattle.sqlite.specs.Ops.{binary, is_true, from_truth}
-use Rattle.sqlite.specs.Order.{Row, column}
-use Rattle.sqlite.specs.Tree.{Trees}
+use Rattle.std.proofs.Common.{◌≡◌, ◌≢◌, inl, inr, ℕ, Bool, true, false, true≢false, not, IsTrue, List, [], ◌∷◌, length, eqb, eq-eqb, filter, find, map, option_map, Option, None, Some, ℤ, pos, refl, sym, ap, ◌∙◌, ◌&&◌, ◌⊎◌, ◌<◌, nat_lt, subst, arith}
+use Rattle.std.proofs.{lemmas.Bool.and_parts, lemmas.Bool.cases_Bool, lemmas.Bool.ltb-true, lemmas.List.length-map, lemmas.List.Sorted.length_permutation}
+use Rattle.std.specs.{FinMap.get, FinMap.get-empty, Ordering.is_eq, List.AllZip, List.AllByRecursion, List.list_all}
+use Rattle.sqlite.specs.{Collation.TheVariants.Binary, Ops.binary, Ops.is_true, Ops.from_truth, Order.Row, Order.column, Tree.Trees}
 use Rattle.sqlite.specs.View.{View, IsShaped}
+use Rattle.sqlite.specs.declared.types.Value.TheVariants.{Int}
 use Rattle.sqlite.specs.declared.types.Value.{Value}
-use Rattle.sqlite.specs.declared.types.Value.TheVariants.{Null, Int, Real, Text, Blob}
 use Rattle.sqlite_rules.proofs.ListLemmas.{all_has, all_from, test_has}
 use Rattle.sqlite_rules.specs.Lists.{Has}
 use Rattle.sqlite_schema.specs.Rules.{equal}
-use Rattle.sqlite_store.proofs.RowLemmas.{from_key-none}
-use Rattle.sqlite_schema.specs.declared.schema.Table.{Table}
-use Rattle.sqlite_trees.specs.Tree.{sought, from_key, has_rowid}
+use Rattle.sqlite_store.proofs.{RowLemmas.from_key-none, AlikeLemmas.no_code}
+use Rattle.sqlite_schema.specs.declared.{schema.Table.Table, schema.Index.Index, schema.Schema.Schema, schema.View.View as Stored}
 use Rattle.sqlite_trees.specs.View.{with_cursor, Advances, Finds, is_int}
+use Rattle.sqlite_trees.specs.Objects.{catalog_tree, shape_code, number_in, row_for}
+use Rattle.sqlite_trees.specs.Tree.{sought, from_key, has_rowid}
 use Rattle.sqlite_trees.specs.declared.store.Direction.TheVariants.{Forward}
 use Rattle.sqlite_trees.specs.declared.store.Shape.TheVariants as shape
-use Rattle.sqlite_value.specs.Keys.{first_key}
-use Rattle.sqlite_value.specs.Order.{value_cmp}
+use Rattle.sqlite_value.specs.{Keys.first_key, Order.value_cmp}
 use Rattle.sqlite_value.specs.declared.keys.Order.{Order}
 use Rattle.office_tables_shelf.specs.Cells.{number, cells_cmp}
 use Rattle.office_tables_sql.specs.Layout as layout
-use Rattle.office_tables_sql.specs.Layout.{has_key, values_at}
-use Rattle.office_tables_sql.specs.Stored.{cell_of, cells, rows_in}
+use Rattle.office_tables_schema.specs.Schema.{no_schema}
+use Rattle.office_tables_sql.specs.{Layout.has_key, Layout.values_at, Stored.cell_of, Stored.cells, Stored.rows_in}
 use Rattle.office_tables_sql.proofs.StoredLemmas.{get_columns, sound_rowids}
-use Rattle.office_tables_open.specs.Found.{IsOneOfEight, KeepsVersion, StoresAt, StoreNone, HaveNoRow, IsFoundAt, IsFound, HasOtherVersion, HasRowsAlone, IsUnclaimed}
-use Rattle.office_tables_open.specs.Version.{version_at, AreEmpty, stored_trees}
-use Rattle.office_tables_open.specs.declared.found.Found.{Found}
-use Rattle.office_tables_open.specs.declared.found.Found.TheVariants.{Nothing, RowsAlone, OtherVersion, Today, Unknown}
-use Rattle.office_tables_open.specs.declared.found.TheConstants.{KEEPER}
-use Rattle.std.proofs.lemmas.List.{length-map}
-use Rattle.std.proofs.lemmas.List.Sorted.{length_permutation}
-use Rattle.std.specs.List.{AllZip, AllByRecursion}
-use Rattle.sqlite_trees.specs.Objects.{catalog_tree, shape_code, number_in, row_for}
+use Rattle.office_tables_open.specs.Found.{IsOneOf, IsOneOfEight, KeepsVersion, StoresAt, StoreNone, HaveNoRow, IsFoundAt, IsFound, HasOtherVersion, HasRowsAlone, IsUnclaimed}
+use Rattle.office_tables_open.specs.{Version.version_at, Version.AreEmpty, Version.stored_trees, Arranged.IsArranged}
+use Rattle.office_tables_open.specs.declared.found.Found.TheVariants.{Nothing, RowsAlone, Unknown}
+use Rattle.office_tables_open.specs.declared.{found.Found.Found, found.TheConstants.EIGHT, found.TheConstants.KEEPER}
 use Rattle.sqlite_catalog.specs.Listing.{AreListed, IsSound, IsTableRow, is_table_row, is_index_row, is_view_row}
 use Rattle.sqlite_catalog.proofs.LayoutLemmas.{row_kind, index_row, index_owner, named_tree}
-use Rattle.sqlite_schema.specs.declared.schema.Index.{Index}
-use Rattle.sqlite_schema.specs.declared.schema.Schema.{Schema}
-use Rattle.sqlite_schema.specs.declared.schema.View.{View as Stored}
 use Rattle.sqlite_sql.specs.Catalog.{IsIndexOf, entry_of}
-use Rattle.sqlite_store.proofs.AlikeLemmas.{no_code}
-use Rattle.office_tables_schema.specs.Schema.{no_schema}
-use Rattle.office_tables_open.specs.Arranged.{IsArranged}
 use Rattle.office_tables_open.proofs.VersionLemmas.{none_left}
 
 -- ---- the first row of a tree
@@ -70,10 +55,7 @@ told false = refl
 key_of_int : (v : Value) → is_int v ≡ true → equal Binary v (Int (pos 1)) && true ≡ is_eq (value_cmp v (Int (pos 1)))
 unfolding binary
 key_of_int (Int n) h = told _
-key_of_int Null h = absurd (cc)
-key_of_int (Real x) h = absurd (cc)
-key_of_int (Text t) h = absurd (cc)
-key_of_int (Blob b) h = absurd (cc)
+key_of_int _ h = absurd (cc)
 
 rowid_key : (r : Row) → is_int (column r 0) ≡ true → has_key layout.office_version (Int (pos 1) ∷ []) r ≡ has_rowid (pos 1) r
 unfolding first_key
@@ -98,19 +80,15 @@ module _ (table : Table) (trees : Trees) (row : Row) (shaped : IsShaped shape.Ta
 
 -- ---- several tables
 
-pub differ : (a b : List ℕ) → a ≡ b → eqb (length a) (length b) ≡ false → ⊥
-differ a b same other = true≢false (sym (eq-eqb (length a) (length b) (ap length same)) ∙ other)
+-- a name as long as none of some is none of them
+apart_from : (other : List ℕ) (names : List (List ℕ)) (name : List ℕ) → list_all (λ (n : List ℕ). not (eqb (length n) (length other))) names ≡ true → IsOneOf name names → name ≡ other → ⊥
+apart_from other [] name longs none same = none
+apart_from other (n ∷ names) name longs (inl is) same =
+    true≢false (sym (and_parts _ _ longs).0 ∙ ap not (eq-eqb (length n) (length other) (ap length (sym is ∙ same))))
+apart_from other (n ∷ names) name longs (inr more) same = apart_from other names name (and_parts _ _ longs).1 more same
 
 pub apart : (name : List ℕ) → IsOneOfEight name → name ≡ KEEPER.now → ⊥
-apart name (inl e) k = differ _ _ (sym e ∙ k) refl
-apart name (inr (inl e)) k = differ _ _ (sym e ∙ k) refl
-apart name (inr (inr (inl e))) k = differ _ _ (sym e ∙ k) refl
-apart name (inr (inr (inr (inl e)))) k = differ _ _ (sym e ∙ k) refl
-apart name (inr (inr (inr (inr (inl e))))) k = differ _ _ (sym e ∙ k) refl
-apart name (inr (inr (inr (inr (inr (inl e)))))) k = differ _ _ (sym e ∙ k) refl
-apart name (inr (inr (inr (inr (inr (inr (inl e))))))) k = differ _ _ (sym e ∙ k) refl
-apart name (inr (inr (inr (inr (inr (inr (inr (inl e)))))))) k = differ _ _ (sym e ∙ k) refl
-apart name (inr (inr (inr (inr (inr (inr (inr (inr none)))))))) k = none
+apart name = apart_from KEEPER.now (map (λ text. text.now) EIGHT) name refl
 
 module _ (trees : Trees) where
   abbrev IsEmptyTable : Table → Type 0
@@ -129,9 +107,8 @@ module _ (trees : Trees) where
   pub empty_before : (t : Table) (ts : List Table) (more : Found) → trees t.tree ≡ [] → IsFound more ts trees → IsFound more (t ∷ ts) trees
   empty_before t ts Nothing empty h = (empty, h)
   empty_before t ts RowsAlone empty h = ((λ named. none_here t.tree empty, h.0), λ all. h.1 all.1)
-  empty_before t ts OtherVersion empty h = (h.0, inr h.1, h.2)
-  empty_before t ts Today empty h = (h.0, inr h.1, h.2)
   empty_before t ts Unknown empty h = tt
+  empty_before t ts _ empty h = (h.0, inr h.1, h.2)
 
   -- a table with a row before others that store no version
   pub rows_before : (t : Table) (ts : List Table) → IsFoundAt RowsAlone t trees → StoreNone ts trees → IsFound RowsAlone (t ∷ ts) trees

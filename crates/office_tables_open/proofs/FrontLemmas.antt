@@ -1,41 +1,28 @@
 -- Tables that are missing behind the first ones: what is known of each number of them, and what making the others comes to.
 use Rattle.std.proofs.Common.{◌≡◌, ℕ, zero, suc, ◌<◌, ◌≤◌, ◌-◌, ◌==◌, nat_lt, Bool, true, false, not, cond, if◌then◌else◌, List, [], ◌∷◌, ◌++◌, codes, map, take, drop, Option, None, Some, slice_get, Result, Ok, Err, refl, sym, ap, subst, ◌∙◌, arith}
-use Rattle.std.specs.Prelude.{OnOk, ⊤}
-use Rattle.std.specs.List.{AllByRecursion, list_all}
-use Rattle.std.proofs.lemmas.Bool.{eq-eqb, ltb-true, ne_eqb}
-use Rattle.std.proofs.lemmas.List.{take-append-drop}
-use Rattle.sqlite.specs.Command.TheVariants.{DropTable}
+use Rattle.std.proofs.{lemmas.Bool.eq-eqb, lemmas.Bool.ltb-true, lemmas.Bool.ne_eqb, lemmas.List.take-append-drop}
+use Rattle.std.specs.{Prelude.OnOk, Prelude.⊤, List.AllByRecursion, List.list_all}
 use Rattle.sqlite.specs.Does.{AtPlace, Drops as DoesDrop, Empties, HoldWithout, Leaves, Redefines, Tally, Tested, Uncounts, UncountsIn, is_acted_on, no_rows}
-use Rattle.sqlite.specs.Effect.{Database, IsDatabase}
-use Rattle.sqlite.specs.Given.{IsPlain}
-use Rattle.sqlite.specs.Held.{Held, state}
-use Rattle.sqlite.specs.Listing.{understood}
 use Rattle.sqlite.specs.Rows.{Gives, Outcome, Part, Task, Then, sequence}
-use Rattle.sqlite.specs.State.{State, ExecutesInside, mode_of}
+use Rattle.sqlite.specs.{Command.TheVariants.DropTable, Effect.Database, Effect.IsDatabase, Given.IsPlain, Held.Held, Held.state, Listing.understood}
+use Rattle.sqlite.specs.{State.State, State.ExecutesInside, State.mode_of, Tree.Trees, View.IsShaped}
 use Rattle.sqlite.specs.declared.run.Mode.{Mode}
-use Rattle.sqlite.specs.Tree.{Trees}
-use Rattle.sqlite.specs.View.{IsShaped}
 use Rattle.sqlite.proofs.Callers.{runs_as, through}
 use Rattle.sqlite_catalog.specs.Change.{without_table, KeepsRows}
 use Rattle.sqlite_catalog.proofs.ListFacts.{filter_all, filter_left}
 use Rattle.sqlite_rules.proofs.ListLemmas.{all_from, all_has, has_left, test_has}
-use Rattle.sqlite_schema.specs.declared.schema.Keys.TheVariants.{Enforced}
-use Rattle.sqlite_schema.specs.declared.schema.Index.{Index}
-use Rattle.sqlite_schema.specs.declared.schema.Schema.{Schema}
-use Rattle.sqlite_schema.specs.declared.schema.Table.{Table}
+use Rattle.sqlite_schema.specs.declared.{schema.Keys.TheVariants.Enforced, schema.Index.Index, schema.Schema.Schema, schema.Table.Table}
 use Rattle.sqlite_tied.specs.Compute.{everything}
 use Rattle.sqlite_trees.specs.declared.store.Shape.TheVariants as shape
 use Rattle.sqlite_trees.specs.declared.store.Store.{Ghosts}
 use Rattle.sqlite_trees.proofs.ListLemmas.{all-append, all_both}
-use Rattle.office_tables_sql.specs.Calls.{IsReady, command_of, statement_of}
 use Rattle.office_tables_schema.specs.Schema.{front_schema, numbered, office_schema, place_after, version_table}
-use Rattle.office_tables_sql.specs.Stored.{content_now, content_of}
+use Rattle.office_tables_sql.specs.{Calls.IsReady, Calls.command_of, Calls.statement_of, Stored.content_now, Stored.content_of}
 use Rattle.office_tables_schema.specs.declared.TheConstants.{CREATES}
 use Rattle.office_tables_open.specs.Lacking.{IsGrown, IsSpread, SeesFront, content_before, emptied_from}
-use Rattle.office_tables_open.specs.Opening.{AreRun}
-use Rattle.office_tables_open.specs.Version.{version_in, current_version}
-use Rattle.office_tables_open.proofs.VersionLemmas.{same_eight}
+use Rattle.office_tables_open.specs.{Opening.AreRun, Version.version_in, Version.current_version}
 use Rattle.office_tables_open.proofs.MadeLemmas.{AreFree, AreMaking, Ends, kept_rows, made_of, office_making, over_run, second_of, untreed}
+use Rattle.office_tables_open.proofs.VersionLemmas.{same_eight}
 
 -- each number below eight
 pub below_8 : (P : ℕ → Type 0) → P 0 → P 1 → P 2 → P 3 → P 4 → P 5 → P 6 → P 7 → (n : ℕ) → n < 8 → P n
@@ -87,7 +74,7 @@ drop_step old new count schema sql table drops is ran =
     let uncounted : two.0 ≡ one.0 = (let e : Ok two.0 ≡ Ok one.0 = subst (λ (b : Bool). UncountsIn task one.0 (if b then sequence schema else None) (Ok two.0)) drops.uncounted two.1 in cc) in
     let three = through (Tested mode (HoldWithout task two.0)) (Leaving task mode two.0) (did.tally, new.now) two.2 in
     let four = through (Leaves (without_table schema table.tree) two.0 (λ _. ⊥)) (λ (after : Database). Gives (no_rows three.0, after)) (did.tally, new.now) three.2 in
-    let last : four.0 ≡ new.now = sym (ap (second_of new.now) four.2) in (
+    let last : four.0 ≡ new.now = sym (ap (second_of new.now) {y = Ok (no_rows three.0, four.0)} four.2) in (
       ap (λ (d : Database). d.schema) (sym last) ∙ four.1.0,
       subst (λ (d : Database). KeepsRows (without_table schema table.tree).tables db d.trees) last
           (subst (λ (t : Trees). KeepsRows (without_table schema table.tree).tables t four.0.trees) (uncounted ∙ emptied) four.1.1),

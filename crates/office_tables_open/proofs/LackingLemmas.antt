@@ -1,37 +1,28 @@
 -- Databases that lack tables: when one does, and what its tables hold.
 use Rattle.std.proofs.Common.{◌≡◌, ◌≢◌, inl, inr, ℕ, suc, ◌<◌, ◌≤◌, ◌+◌, nat_lt, cond, Bool, true, false, true≢false, not, List, [], ◌∷◌, ◌++◌, filter, length, None, Some, refl, sym, ap, subst, ◌∙◌, arith}
-use Rattle.std.specs.List.{list_all}
-use Rattle.std.proofs.lemmas.Bool.{cases_Bool, ltb-false, ltb-true}
-use Rattle.std.proofs.lemmas.Bool.Decides.{eqb_tells}
-use Rattle.std.proofs.lemmas.List.{length-append}
+use Rattle.std.proofs.{lemmas.Bool.cases_Bool, lemmas.Bool.ltb-false, lemmas.Bool.ltb-true, lemmas.Bool.Decides.eqb_tells, lemmas.List.length-append}
 use Rattle.std.proofs.lemmas.Slice.Zip.{AllZip-long}
-use Rattle.sqlite.specs.Effect.{Database}
-use Rattle.sqlite.specs.State.{State}
-use Rattle.sqlite.specs.Tree.{Trees}
+use Rattle.std.specs.List.{list_all}
+use Rattle.sqlite.specs.{Effect.Database, State.State, Tree.Trees}
 use Rattle.sqlite_catalog.specs.Listing.{AreListed, IsTableRow, is_table_row}
 use Rattle.sqlite_catalog.proofs.LayoutLemmas.{named_tree, zipped_left, zipped_right}
 use Rattle.sqlite_trees.proofs.ListLemmas.{all_weaker}
 use Rattle.sqlite_rules.proofs.ListLemmas.{all_from, all_has, has_either, has_right, test_has}
 use Rattle.sqlite_rules.specs.Lists.{Has}
 use Rattle.sqlite_schema.specs.Names.{same_name}
-use Rattle.sqlite_schema.specs.declared.schema.Index.{Index}
-use Rattle.sqlite_schema.specs.declared.schema.Schema.{Schema}
-use Rattle.sqlite_schema.specs.declared.schema.Table.{Table}
+use Rattle.sqlite_schema.specs.declared.{schema.Index.Index, schema.Schema.Schema, schema.Table.Table}
 use Rattle.sqlite_tied.specs.Compute.{everything}
 use Rattle.sqlite_trees.specs.Objects.{catalog_tree, number_in}
 use Rattle.sqlite_value.specs.Order.{bytes}
 use Rattle.office_tables_shelf.specs.Content.{Content, no_content}
-use Rattle.office_tables_sql.specs.Calls.{IsHonest, IsOffice}
 use Rattle.office_tables_schema.specs.Schema.{IsFront, front_schema, no_schema, office_schema, place_after}
-use Rattle.office_tables_sql.specs.Stored.{content_of}
-use Rattle.office_tables_open.specs.Arranged.{IsArranged}
-use Rattle.office_tables_open.specs.Found.{IsFoundIn, IsUnclaimed}
+use Rattle.office_tables_sql.specs.{Calls.IsHonest, Calls.IsOffice, Stored.content_of}
 use Rattle.office_tables_open.specs.Lacking.{Hold, IsLacking, Lacks, content_before, emptied_from}
 use Rattle.office_tables_open.specs.Version.{AreEmpty, stored_trees, version_at, version_in, current_version}
-use Rattle.office_tables_open.specs.declared.found.Found.TheVariants.{Today}
-use Rattle.office_tables_open.specs.declared.found.TheConstants.{KEEPER}
-use Rattle.office_tables_open.proofs.FoundLemmas.{empty_if_absent, low_trees, none_here}
+use Rattle.office_tables_open.specs.{Arranged.IsArranged, Found.IsFoundIn, Found.IsUnclaimed}
+use Rattle.office_tables_open.specs.declared.{found.Found.TheVariants.Today, found.TheConstants.KEEPER}
 use Rattle.office_tables_open.proofs.FrontLemmas.{are_low, below_8, first_indexes, first_tables, last_table}
+use Rattle.office_tables_open.proofs.FoundLemmas.{empty_if_absent, low_trees, none_here}
 use Rattle.office_tables_open.proofs.VersionLemmas.{empty_content, same_eight}
 
 -- ---- the first tables alone, and then that of the version

@@ -1,20 +1,19 @@
 -- What is left of a database whose tables were refused.
 use Rattle.std.proofs.Common.{◌≡◌, ◌≢◌, ◌⊎◌, inl, inr, ℕ, false, Result, Ok, IsTrue, refl, sym, ap, subst, ◌∙◌, arith}
 use Rattle.std.proofs.lemmas.Result.{IfOk-weaker}
-use Rattle.sqlite.specs.Effect.{Database}
-use Rattle.sqlite.specs.Held.{Held, state}
-use Rattle.sqlite.specs.State.{State, HasCleanDisk, Survives}
-use Rattle.sqlite.specs.Tree.{Trees}
-use Rattle.sqlite.specs.View.{IsClean}
+use Rattle.sqlite.specs.{Effect.Database, Held.Held, Held.state, State.State, State.HasCleanDisk, State.Survives, Tree.Trees, View.IsClean}
 use Rattle.sqlite_trees.specs.View.{IsQuiet, IsRolledBack}
 use Rattle.sqlite_trees.specs.declared.store.Store.{Ghosts}
 use Rattle.office_tables_sql.specs.Calls.{IsHonest}
-use Rattle.office_tables_open.specs.Arranged.{IsCheckedAgain}
-use Rattle.office_tables_open.specs.Found.{HasOtherVersion, HasRowsAlone, IsUnclaimed}
-use Rattle.office_tables_open.specs.Lacking.{Completes, Lacks}
 use Rattle.office_tables_open.specs.Opening.{AreGone, Claims, IsAsFound, IsIdleOrSame, IsLeft, IsNewOffice, IsRefused, IsSettled, MayBeNew, OnlyReads, TellsOfTables, WereDropped, store_left}
+use Rattle.office_tables_open.specs.{Arranged.IsCheckedAgain, Found.HasOtherVersion, Found.HasRowsAlone, Found.IsUnclaimed}
+use Rattle.office_tables_open.specs.Lacking.{Completes, Lacks}
 use Rattle.office_tables_open.specs.declared.open.OpenFault.{OpenFault}
 use Rattle.office_tables_open.specs.declared.open.OpenFault.TheVariants as fault
+
+-- what was committed, once a database was checked again
+pub same_committed : (old new : State) → IsCheckedAgain old new → HasCleanDisk new → new.committed.trees ≡ old.committed.trees
+same_committed old new it h = sym (ap (λ (d : Database). d.trees) (it.opens h).0.clean) ∙ it.kept h
 
 module _ {S : Type 0} (g : Ghosts S) (conn : Held S) where
   abbrev old : State
@@ -74,7 +73,7 @@ module _ {S : Type 0} (g : Ghosts S) (conn : Held S) where
   again_found c it = record {
     clean = it.clean;
     was_open = λ h. it.was_open h.0;
-    committed = λ h. inl (sym (ap (λ (d : Database). d.trees) (it.opens h.0).0.clean) ∙ it.kept h.0);
+    committed = λ h. inl (same_committed old (state g c) it h.0);
     crash = λ h trees may. inl (it.crash h trees may);
   }
 
@@ -160,7 +159,7 @@ module _ {S : Type 0} (g : Ghosts S) (conn found : Held S) (it : IsCheckedAgain 
   seen h = ap (λ (d : Database). d.trees) (it.opens h).0.clean
 
   same_then : HasCleanDisk (state g found) → (state g found).committed.trees ≡ (state g conn).committed.trees
-  same_then h = sym (seen h) ∙ it.kept h
+  same_then = same_committed (state g conn) (state g found) it
 
   pub left_before : (C M : Trees → Trees → Type 0) (left : S) → IsLeft g found (C (state g found).committed.trees) (M (state g found).committed.trees) left
       → IsLeft g conn (C (state g conn).committed.trees) (M (state g conn).committed.trees) left

@@ -1,22 +1,14 @@
 -- What the texts that make the tables make of a database that has none.
 use Rattle.std.proofs.Common.{◌≡◌, ◌≤◌, ℕ, true, false, List, [], ◌∷◌, map, Some, Result, Ok, Err, refl, sym, ap, subst, ◌∙◌, arith}
-use Rattle.std.specs.List.{AllByRecursion}
-use Rattle.std.specs.Prelude.{OnOk, ⊤}
-use Rattle.sqlite.specs.Command.TheVariants.{CreateTable}
+use Rattle.std.specs.{List.AllByRecursion, Prelude.OnOk, Prelude.⊤}
 use Rattle.sqlite.specs.Does.{MakesTable, MakesSequence, lacks_sequence, no_rows}
-use Rattle.sqlite.specs.Effect.{Database, IsDatabase}
-use Rattle.sqlite.specs.Given.{IsPlain}
-use Rattle.sqlite.specs.Held.{Held, state}
-use Rattle.sqlite.specs.Listing.{understood}
-use Rattle.sqlite.specs.Rows.{Then, Gives}
 use Rattle.sqlite.specs.State.{State, ExecutesInside, HasCleanDisk, Shows}
-use Rattle.sqlite.specs.Tree.{Trees}
-use Rattle.sqlite.specs.View.{IsShaped}
+use Rattle.sqlite.specs.{Command.TheVariants.CreateTable, Effect.Database, Effect.IsDatabase, Given.IsPlain, Held.Held, Held.state, Listing.understood}
+use Rattle.sqlite.specs.{Rows.Then, Rows.Gives, Tree.Trees, View.IsShaped}
 use Rattle.sqlite.proofs.Callers.{runs_as, through}
 use Rattle.sqlite_catalog.specs.Change.{created, next_tree, KeepsRows}
 use Rattle.sqlite_resolve.specs.Compile.{table_defined_by}
-use Rattle.sqlite_schema.specs.declared.schema.Schema.{Schema}
-use Rattle.sqlite_schema.specs.declared.schema.Table.{Table}
+use Rattle.sqlite_schema.specs.declared.{schema.Schema.Schema, schema.Table.Table}
 use Rattle.sqlite_tied.specs.Compute.{everything}
 use Rattle.sqlite_trees.specs.declared.store.Shape.TheVariants as shape
 use Rattle.sqlite_trees.specs.declared.store.Store.{Ghosts}
@@ -26,10 +18,9 @@ use Rattle.office_tables_shelf.proofs.ListLemmas.{all_more}
 use Rattle.office_tables_shelf.specs.Content.{no_content}
 use Rattle.office_tables_sql.specs.Calls.{AreOrdered, IsOffice, IsReady, command_of, statement_of}
 use Rattle.office_tables_schema.specs.Schema.{no_schema, office_schema}
-use Rattle.office_tables_schema.specs.declared.TheConstants.{CREATES}
-use Rattle.office_tables_open.specs.Opening.{AreRun, IsNew}
 use Rattle.office_tables_sql.specs.Stored.{content_now}
-use Rattle.office_tables_open.specs.Version.{AreEmpty, version_in, current_version}
+use Rattle.office_tables_schema.specs.declared.TheConstants.{CREATES}
+use Rattle.office_tables_open.specs.{Opening.AreRun, Opening.IsNew, Version.AreEmpty, Version.version_in, Version.current_version}
 
 -- in a transaction over tables that have these rows
 pub record IsOver (rows : Trees) (s : State) (schema : Schema) : Type 0 where
@@ -62,7 +53,7 @@ over_step rows old new count schema sql table makes free bare ran =
     let same_table : made.1.table ≡ table = (let e : Ok made.1.table ≡ Ok table = sym made.1.defined ∙ makes.defined in cc) in
     let schema_then : made.0.schema ≡ created schema table = made.1.is ∙ (λ i. created (bare.schema_is i) (same_table i)) in
     let after_is : made.0 ≡ gave.0 = (let e : Ok gave.0 ≡ Ok made.0 = rw (ap lacks_sequence schema_then ∙ makes.uncounted) at made.2 in cc) in
-    let now_is : gave.0 ≡ new.now = sym (ap (second_of new.now) gave.2) in
+    let now_is : gave.0 ≡ new.now = sym (ap (second_of new.now) {y = Ok (no_rows false, gave.0)} gave.2) in
     let whole : made.0 ≡ new.now = after_is ∙ now_is in
     let others = subst (λ (d : Database). KeepsRows schema.tables old.now.trees d.trees) whole (subst (λ (s : Schema). KeepsRows s.tables old.now.trees made.0.trees) bare.schema_is made.1.others) in
     let empty = subst (λ (d : Database). d.trees (next_tree schema) ≡ []) whole (subst (λ (s : Schema). made.0.trees (next_tree s) ≡ []) bare.schema_is made.1.empty) in (
@@ -104,13 +95,12 @@ module _ {S : Type 0} (g : Ghosts S) (rows : Trees) where
       → (texts ≡ [] → Ends old schema) → Ends new (made_of schema tables)
   over_run [] [] schema making free old new run over none =
       subst (λ (h : Held S). Ends h schema) (sym run) (none refl)
-  over_run [] (t ∷ ts) schema making free old new run over none = absurd making
-  over_run (sql ∷ more) [] schema making free old new run over none = absurd making
   over_run (sql ∷ more) (t ∷ ts) schema making free old new run over none =
       let it = over_step rows (state g old) (state g run.0) run.1 schema sql t making.0 free.0 over
       run.2 in
       over_run more ts (created schema t) making.1 free.1 run.0 new run.3 it.0
       (λ _. (it.0, it.1, run.2.1.mode))
+  over_run _ _ schema making free old new run over none = absurd making
 
 -- ---- the tables of the office
 

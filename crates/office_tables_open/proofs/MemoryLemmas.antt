@@ -1,7 +1,6 @@
 -- No disk fails under a database in memory.
 use Rattle.std.proofs.Common.{refl}
-use Rattle.sqlite.specs.Held.{Held}
-use Rattle.sqlite.specs.Steps.{over_memory}
+use Rattle.sqlite.specs.{Held.Held, Steps.over_memory}
 use Rattle.sqlite.proofs.Callers.{memory_is_clean}
 use Rattle.sqlite_trees.specs.declared.store.Store.{Ghosts}
 use Rattle.office_tables_sql.specs.Calls.{IsAlwaysHonest}

@@ -1,32 +1,23 @@
 -- What the steps of an opening come to.
 use Rattle.std.proofs.Common.{◌≡◌, ◌≤◌, inl, inr, [], Option, Some, option_map, IsTrue, false, refl, sym, ap, subst, ◌∙◌, arith}
-use Rattle.sqlite.specs.Effect.{Database, IsDatabase}
-use Rattle.sqlite.specs.Held.{Held, state}
 use Rattle.sqlite.specs.State.{State, HasCleanDisk, Opens, IsLive}
-use Rattle.sqlite.specs.Steps.{IsFresh}
-use Rattle.sqlite.specs.Order.{Row}
-use Rattle.sqlite.specs.Tree.{Trees}
-use Rattle.sqlite.specs.View.{View, IsClean}
-use Rattle.sqlite_trees.specs.View.{doubt}
+use Rattle.sqlite.specs.{Effect.Database, Effect.IsDatabase, Held.Held, Held.state, Steps.IsFresh, Order.Row, Tree.Trees, View.View, View.IsClean}
+use Rattle.sqlite_trees.specs.{View.doubt, Objects.catalog_tree}
 use Rattle.sqlite_trees.specs.declared.store.Store.{Ghosts}
-use Rattle.sqlite_trees.specs.Objects.{catalog_tree}
 use Rattle.sqlite_catalog.specs.Listing.{AreListed}
 use Rattle.office_tables_shelf.specs.Counts.{no_writes}
-use Rattle.office_tables_sql.specs.Calls.{IsHonest, IsOffice}
 use Rattle.office_tables_schema.specs.Schema.{office_schema, no_schema, version_table}
+use Rattle.office_tables_sql.specs.{Calls.IsHonest, Calls.IsOffice}
 use Rattle.office_tables_sql.specs.Stored.{cells, content_now, content_of}
 use Rattle.office_tables_open.specs.Arranged.{IsArranged, IsUnchanged, IsTaken, IsCheckedAgain}
 use Rattle.office_tables_open.specs.Found.{HasOtherVersion, HasRowsAlone, IsFound, IsFoundIn, IsUnclaimed}
 use Rattle.office_tables_open.specs.Opening.{AreMade, IsMadeNew, IsOpened, IsSettled, MayBeTaken, IsOpenIfClean}
-use Rattle.office_tables_open.specs.Lacking.{Hold, IsLacking, Rise}
-use Rattle.office_tables_open.specs.SqlShelf.{SqlView}
 use Rattle.office_tables_open.specs.Version.{AreEmpty, TellsOther, version_in, current_version}
+use Rattle.office_tables_open.specs.{Lacking.Hold, Lacking.IsLacking, Lacking.Rise, SqlShelf.SqlView}
 use Rattle.office_tables_open.specs.declared.found.Found.{Found}
 use Rattle.office_tables_open.specs.declared.found.Found.TheVariants.{Nothing, RowsAlone, OtherVersion}
-use Rattle.office_tables_open.proofs.ArrangedLemmas.{tables_rise}
-use Rattle.office_tables_open.proofs.FoundLemmas.{found_empty, store_none, have_no_row}
-use Rattle.office_tables_open.proofs.LackingLemmas.{hold_none, unclaimed_whole}
-use Rattle.office_tables_open.proofs.VersionLemmas.{empty_content}
+use Rattle.office_tables_open.proofs.{ArrangedLemmas.tables_rise, FoundLemmas.found_empty, FoundLemmas.store_none, FoundLemmas.have_no_row}
+use Rattle.office_tables_open.proofs.{LackingLemmas.hold_none, LackingLemmas.unclaimed_whole, VersionLemmas.empty_content}
 
 -- the tables of the office in a database that holds what it lists
 pub arranged_office : (s : State) → s.in_transaction ≡ false → s.now.schema ≡ office_schema → (IsHonest s → s.now ≡ s.committed)
@@ -124,9 +115,6 @@ again old new view it autocommit clean opens trees settled = record {
 
     same : HasCleanDisk new → new.committed.trees ≡ old.committed.trees
     same h = sym (ap (λ (d : Database). d.trees) (opens h).0.clean) ∙ kept h
-
-pub same_committed : (old new : State) → IsCheckedAgain old new → HasCleanDisk new → new.committed.trees ≡ old.committed.trees
-same_committed old new it h = sym (ap (λ (d : Database). d.trees) (it.opens h).0.clean) ∙ it.kept h
 
 -- the rows of its tables rise
 pub again_rises : (old new : State) → IsCheckedAgain old new → IsHonest new → Rise new

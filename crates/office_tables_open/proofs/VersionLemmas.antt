@@ -1,46 +1,27 @@
 -- The stored version and its statements, and the queries of all rows of a table.
 use Rattle.std.proofs.Common.{◌≡◌, Bor, ℕ, List, [], ◌∷◌, filter, length, codes, refl, sym, ap, subst, ◌∙◌, arith, ◌≢◌, cond, Option, Some, IfSome, option_map, pos}
-use Rattle.std.specs.List.{AllByRecursion}
-use Rattle.std.proofs.lemmas.List.Sorted.{length_permutation}
-use Rattle.std.proofs.lemmas.List.{length-map}
-use Rattle.sqlite.specs.Command.{Command}
-use Rattle.sqlite.specs.Command.TheVariants.{Select, Insert, Delete}
-use Rattle.sqlite.specs.Query.{Join, inner}
+use Rattle.std.proofs.{lemmas.List.Sorted.length_permutation, lemmas.List.length-map}
+use Rattle.std.specs.{List.AllByRecursion, Option.option_to_list, FinMap.get, FinMap.insert, FinMap.get-insert}
+use Rattle.sqlite.specs.{Command.Command, Command.TheVariants.Select, Command.TheVariants.Insert, Command.TheVariants.Delete, Query.Join, Query.inner}
+use Rattle.sqlite.specs.{Effect.Database, Listing.understood, Order.Row, Program.overlay, Tree.Trees, Cast.cast_row, Source.Source, State.State}
+use Rattle.sqlite.specs.{Source.TheVariants.Values, Term.lit, Term.col, View.IsShaped}
 use Rattle.sqlite.specs.Effect as effect
-use Rattle.sqlite.specs.Effect.{Database}
-use Rattle.sqlite.specs.Listing.{understood}
-use Rattle.sqlite.specs.Order.{Row}
-use Rattle.sqlite.specs.Program.{overlay}
 use Rattle.sqlite.specs.declared.types.Value.TheVariants.{Null, Int}
 use Rattle.sqlite_tied.specs.Compute.{everything}
 use Rattle.office_tables_sql.specs.Layout as layout
-use Rattle.office_tables_shelf.specs.Content.{no_content}
+use Rattle.office_tables_shelf.specs.{Content.no_content, Cells.number}
 use Rattle.office_tables_sql.specs.Stored.{rows_in, content_of, cells, rows_of, content_now}
-use Rattle.sqlite.specs.Tree.{Trees}
-use Rattle.office_tables_open.specs.Version.{AreEmpty, IsListing, ListsRows, stored_trees, version_in, current_version}
 use Rattle.office_tables_sql.specs.Calls.{IsQuery, Reads, IsReady, Ran}
-use Rattle.office_tables_sql.proofs.QueryLemmas.{answers, IsRead, IsWrite, AreShaped, found_by_key, has_width}
-use Rattle.std.specs.Option.{option_to_list}
-use Rattle.std.specs.FinMap.{get, insert, get-insert}
-use Rattle.sqlite.specs.Cast.{cast_row}
-use Rattle.sqlite.specs.Source.{Source}
-use Rattle.sqlite.specs.Source.TheVariants.{Values}
-use Rattle.sqlite.specs.State.{State}
-use Rattle.sqlite.specs.Term.{lit, col}
-use Rattle.sqlite.specs.View.{IsShaped}
-use Rattle.sqlite_trees.specs.declared.store.Shape.TheVariants as shape
-use Rattle.office_tables_shelf.specs.Cells.{number}
-use Rattle.office_tables_shelf.proofs.CellLemmas.{cells_total}
 use Rattle.office_tables_schema.specs.Schema.{office_schema, version_table}
-use Rattle.office_tables_shelf.specs.declared.rows.Table.{Table}
-use Rattle.office_tables_sql.specs.Tables.{schema_at, found_by}
-use Rattle.office_tables_sql.specs.Layout.{office_version}
-use Rattle.office_tables_sql.proofs.StoredLemmas.{get_columns, sound_rowids}
-use Rattle.office_tables_sql.proofs.Casts.{cast_int, cast_null}
-use Rattle.office_tables_sql.proofs.ContentLemmas.{tie_self, put_at, free_rowid}
+use Rattle.office_tables_sql.specs.{Tables.schema_at, Tables.found_by, Layout.office_version}
+use Rattle.office_tables_open.specs.Version.{AreEmpty, IsListing, ListsRows, stored_trees, version_in, current_version}
+use Rattle.office_tables_sql.proofs.QueryLemmas.{answers, IsRead, IsWrite, AreShaped, found_by_key, has_width}
 use Rattle.office_tables_sql.proofs.WriteLemmas.{Added, adds, IsIdle, wrote}
-use Rattle.office_tables_sql.proofs.RemoveLemmas.{remove_keyed}
-use Rattle.office_tables_sql.proofs.TableLemmas.{each, none_in}
+use Rattle.office_tables_sql.proofs.{StoredLemmas.get_columns, StoredLemmas.sound_rowids, Casts.cast_int, Casts.cast_null, RemoveLemmas.remove_keyed}
+use Rattle.office_tables_sql.proofs.{ContentLemmas.tie_self, ContentLemmas.put_at, ContentLemmas.free_rowid, TableLemmas.each, TableLemmas.none_in}
+use Rattle.sqlite_trees.specs.declared.store.Shape.TheVariants as shape
+use Rattle.office_tables_shelf.proofs.CellLemmas.{cells_total}
+use Rattle.office_tables_shelf.specs.declared.rows.Table.{Table}
 use Rattle.office_tables_open.specs.declared.version.TheConstants.{FIND as FIND_VERSION, DROP as DROP_VERSION, PUT as PUT_VERSION}
 
 -- the text shows all rows of that table, and only reads
@@ -51,37 +32,24 @@ pub record Lists (sql : List ℕ) (tree : ℕ) : Type 0 where
 pub is_listing : {sql : List ℕ} {tree : ℕ} → Lists sql tree → IsListing sql
 is_listing {sql} {tree} it = record { tree = tree; lists = it.rows; query = it.query }
 
-pub lists_intersection : Lists (codes "SELECT id FROM intersection") 0
-unfolding understood everything
-lists_intersection = record { rows = record { shown = 0; names = codes "id" ∷ []; is = refl; low = λ trees. refl }; query = record { plain = (refl, refl); unlisted = refl } }
+-- each of the eight tables has such a text
+abbrev pub ListEight : Type 0
+ListEight = Lists (codes "SELECT id FROM intersection") 0 × Lists (codes "SELECT inter FROM timing") 1 × Lists (codes "SELECT inter FROM draft") 3
+    × Lists (codes "SELECT inter FROM inspection") 5 × Lists (codes "SELECT inter FROM work_order") 7 × Lists (codes "SELECT hand FROM part") 9
+    × Lists (codes "SELECT day FROM delivery") 11 × Lists (codes "SELECT inter FROM used_part") 13
 
-pub lists_timing : Lists (codes "SELECT inter FROM timing") 1
+pub lists_eight : ListEight
 unfolding understood everything
-lists_timing = record { rows = record { shown = 1; names = codes "inter" ∷ []; is = refl; low = λ trees. refl }; query = record { plain = (refl, refl); unlisted = refl } }
-
-pub lists_draft : Lists (codes "SELECT inter FROM draft") 3
-unfolding understood everything
-lists_draft = record { rows = record { shown = 1; names = codes "inter" ∷ []; is = refl; low = λ trees. refl }; query = record { plain = (refl, refl); unlisted = refl } }
-
-pub lists_inspection : Lists (codes "SELECT inter FROM inspection") 5
-unfolding understood everything
-lists_inspection = record { rows = record { shown = 1; names = codes "inter" ∷ []; is = refl; low = λ trees. refl }; query = record { plain = (refl, refl); unlisted = refl } }
-
-pub lists_work_order : Lists (codes "SELECT inter FROM work_order") 7
-unfolding understood everything
-lists_work_order = record { rows = record { shown = 1; names = codes "inter" ∷ []; is = refl; low = λ trees. refl }; query = record { plain = (refl, refl); unlisted = refl } }
-
-pub lists_part : Lists (codes "SELECT hand FROM part") 9
-unfolding understood everything
-lists_part = record { rows = record { shown = 2; names = codes "hand" ∷ []; is = refl; low = λ trees. refl }; query = record { plain = (refl, refl); unlisted = refl } }
-
-pub lists_delivery : Lists (codes "SELECT day FROM delivery") 11
-unfolding understood everything
-lists_delivery = record { rows = record { shown = 3; names = codes "day" ∷ []; is = refl; low = λ trees. refl }; query = record { plain = (refl, refl); unlisted = refl } }
-
-pub lists_used_part : Lists (codes "SELECT inter FROM used_part") 13
-unfolding understood everything
-lists_used_part = record { rows = record { shown = 1; names = codes "inter" ∷ []; is = refl; low = λ trees. refl }; query = record { plain = (refl, refl); unlisted = refl } }
+lists_eight = (
+  record { rows = record { shown = 0; names = codes "id" ∷ []; is = refl; low = λ trees. refl }; query = record { plain = (refl, refl); unlisted = refl } },
+  record { rows = record { shown = 1; names = codes "inter" ∷ []; is = refl; low = λ trees. refl }; query = record { plain = (refl, refl); unlisted = refl } },
+  record { rows = record { shown = 1; names = codes "inter" ∷ []; is = refl; low = λ trees. refl }; query = record { plain = (refl, refl); unlisted = refl } },
+  record { rows = record { shown = 1; names = codes "inter" ∷ []; is = refl; low = λ trees. refl }; query = record { plain = (refl, refl); unlisted = refl } },
+  record { rows = record { shown = 1; names = codes "inter" ∷ []; is = refl; low = λ trees. refl }; query = record { plain = (refl, refl); unlisted = refl } },
+  record { rows = record { shown = 2; names = codes "hand" ∷ []; is = refl; low = λ trees. refl }; query = record { plain = (refl, refl); unlisted = refl } },
+  record { rows = record { shown = 3; names = codes "day" ∷ []; is = refl; low = λ trees. refl }; query = record { plain = (refl, refl); unlisted = refl } },
+  record { rows = record { shown = 1; names = codes "inter" ∷ []; is = refl; low = λ trees. refl }; query = record { plain = (refl, refl); unlisted = refl } },
+)
 
 module _ (sql : List ℕ) (tree : ℕ) (it : ListsRows sql tree) where
   abbrev whole : layout.Layout

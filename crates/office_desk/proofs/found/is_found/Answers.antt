@@ -1,24 +1,22 @@
-use Rattle.std.proofs.Common.{◌≡◌, ◌∙◌, Bool, true, false, Ok, ap, refl, subst, arith}
+use Rattle.std.proofs.Common.{◌∙◌, Bool, Ok, ap, refl}
 use Rattle.office_tables_shelf.specs.Shelf.{IsTold}
-use Rattle.office_desk.specs.Recording.{IsKnownIn, TellsAbout}
 use Rattle.office_desk_cabinet.proofs.Opened.{handed_told, unread_stays}
 use Rattle.office_desk.proofs.FoundAgain.{among_found}
 use Rattle.office_desk.proofs.found.is_found.Goals as goal
 
+-- ---- it was found before
+
 pub returns-then-is_among-clause-known : goal.returns-then-is_among-clause-known
 returns-then-is_among-clause-known g c = λ honest.
-    (among_found (g.S.Shelf.content c.args.shelf.now) c.args.found.now c.args.about
-    (c.requires honest) (c.is_among.ensures c.if-is_among.true)).known
+    (among_found _ c.args.found.now c.args.about (c.requires honest) (c.is_among.ensures c.if-is_among.true)).known
 
 pub returns-then-is_among-clause-tells : goal.returns-then-is_among-clause-tells
 returns-then-is_among-clause-tells g c = λ honest.
-    (among_found (g.S.Shelf.content c.args.shelf.now) c.args.found.now c.args.about
-    (c.requires honest) (c.is_among.ensures c.if-is_among.true)).told
+    (among_found _ c.args.found.now c.args.about (c.requires honest) (c.is_among.ensures c.if-is_among.true)).told
 
 pub returns-then-is_among-clause-whole : goal.returns-then-is_among-clause-whole
 returns-then-is_among-clause-whole g c = λ honest.
-    (among_found (g.S.Shelf.content c.args.shelf.now) c.args.found.now c.args.about
-    (c.requires honest) (c.is_among.ensures c.if-is_among.true)).whole
+    (among_found _ c.args.found.now c.args.about (c.requires honest) (c.is_among.ensures c.if-is_among.true)).whole
 
 pub returns-then-is_among-clause-open : goal.returns-then-is_among-clause-open
 returns-then-is_among-clause-open g c =
@@ -45,29 +43,19 @@ returns-then-not-branch-clause-found g c = λ honest.
 
 pub returns-then-not-branch-clause-known : goal.returns-then-not-branch-clause-known
 returns-then-not-branch-clause-known g c = λ honest.
-    let test = c.if-not-branch.true in
-    let gone : c.in_ok-is_known.field-0 ≡ false = first_of (cc, grind arith) in
-    subst (IsKnownIn (g.S.Shelf.content c.args.shelf.now) c.args.about) gone
-    (c.in_ok-is_known.ensures.known honest)
+    rw c.if-not-branch.true at (c.in_ok-is_known.ensures.known honest)
 
 pub returns-then-not-branch-clause-tells : goal.returns-then-not-branch-clause-tells
 returns-then-not-branch-clause-tells g c = λ honest.
-    let test = c.if-not-branch.true in
-    let gone : c.in_ok-is_known.field-0 ≡ false = first_of (cc, grind arith) in
-    subst (TellsAbout (g.S.Shelf.content c.args.shelf.now) c.args.about) gone
-    (c.in_ok-is_known.ensures.tells honest)
+    rw c.if-not-branch.true at (c.in_ok-is_known.ensures.tells honest)
 
 pub returns-then-not-branch-clause-asked : goal.returns-then-not-branch-clause-asked
 returns-then-not-branch-clause-asked g c = λ is.
-    let test = c.if-not-branch.true in
-    let gone : c.in_ok-is_known.field-0 ≡ false = first_of (cc, grind arith) in
-    c.is_known.ensures.asked (c.in_ok-is_known.was ∙ ap (λ (b : Bool). Ok b) gone)
+    c.is_known.ensures.asked (c.in_ok-is_known.was ∙ ap (λ (b : Bool). Ok b) c.if-not-branch.true)
 
 pub returns-then-not-branch-clause-open : goal.returns-then-not-branch-clause-open
 returns-then-not-branch-clause-open g c =
-    let test = c.if-not-branch.true in
-    let gone : c.in_ok-is_known.field-0 ≡ false = first_of (cc, grind arith) in
-    let asked = c.is_known.ensures.asked (c.in_ok-is_known.was ∙ ap (λ (b : Bool). Ok b) gone) in
+    let asked = c.is_known.ensures.asked (c.in_ok-is_known.was ∙ ap (λ (b : Bool). Ok b) c.if-not-branch.true) in
     record {
       clean_before = c.in_ok-is_known.ensures.open.clean_before;
       stays = λ clean told honest. c.in_ok-is_known.ensures.open.read asked clean tt;
@@ -76,32 +64,20 @@ returns-then-not-branch-clause-open g c =
 
 -- ---- it is there
 
-pub returns-clause-found : goal.returns-clause-found
-returns-clause-found g c = λ honest.
-    let stored = g.S.Shelf.content c.args.shelf.now in
-    let test = c.if-not-branch.false in
-    let there : c.in_ok-is_known.field-0 ≡ true = first_of (cc, grind arith) in
-    let before = c.requires (c.is_known.ensures.kept.honest_before honest) in
-    c.in_ok-keep.ensures.kept stored before
-    (record {
-      known = subst (IsKnownIn stored c.args.about) there (c.in_ok-is_known.ensures.known honest);
-      told = subst (TellsAbout stored c.args.about) there (c.in_ok-is_known.ensures.tells honest);
-      whole = c.in_ok-is_known.ensures.whole honest;
-    })
-
 pub returns-clause-known : goal.returns-clause-known
-returns-clause-known g c = λ honest.
-    let test = c.if-not-branch.false in
-    let there : c.in_ok-is_known.field-0 ≡ true = first_of (cc, grind arith) in
-    subst (IsKnownIn (g.S.Shelf.content c.args.shelf.now) c.args.about) there
-    (c.in_ok-is_known.ensures.known honest)
+returns-clause-known g c = λ honest. rw c.if-not-branch.false at (c.in_ok-is_known.ensures.known honest)
 
 pub returns-clause-tells : goal.returns-clause-tells
-returns-clause-tells g c = λ honest.
-    let test = c.if-not-branch.false in
-    let there : c.in_ok-is_known.field-0 ≡ true = first_of (cc, grind arith) in
-    subst (TellsAbout (g.S.Shelf.content c.args.shelf.now) c.args.about) there
-    (c.in_ok-is_known.ensures.tells honest)
+returns-clause-tells g c = λ honest. rw c.if-not-branch.false at (c.in_ok-is_known.ensures.tells honest)
+
+pub returns-clause-found : goal.returns-clause-found
+returns-clause-found g c = λ honest.
+    c.in_ok-keep.ensures.kept _ (c.requires (c.is_known.ensures.kept.honest_before honest))
+    (record {
+      known = returns-clause-known g c honest;
+      told = returns-clause-tells g c honest;
+      whole = c.in_ok-is_known.ensures.whole honest;
+    })
 
 pub returns-clause-open : goal.returns-clause-open
 returns-clause-open g c = record {

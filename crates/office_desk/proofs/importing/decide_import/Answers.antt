@@ -1,42 +1,28 @@
-use Rattle.std.proofs.Common.{◌≡◌, ◌+◌, ◌≤◌, ◌<◌, ◌∙◌, List, [], length, drop, take, get_or, inl, inr, ap, sym, refl, subst, arith}
-use Rattle.std.proofs.lemmas.List.{drop_all, take_all}
+use Rattle.std.proofs.Common.{◌≡◌, ◌+◌, ◌≤◌, ◌∙◌, List, [], length, inl, inr, ap, sym, refl, subst, arith}
 use Rattle.cabinet_core.specs.declared.command.RecordCommand.{RecordCommand}
-use Rattle.office_tables_shelf.specs.Change.{changed_by}
-use Rattle.office_tables_shelf.specs.declared.rows.RowChange.{RowChange}
-use Rattle.office_desk_cabinet.specs.RegisterDamage.{KeepsDamage}
 use Rattle.office_tables_shelf.specs.Shelf.{IsTold}
-use Rattle.office_desk_cabinet.proofs.KeptDamage.{kept_after, nothing_kept}
 use Rattle.office_desk_cabinet.proofs.Opened.{handed_told}
-use Rattle.office_desk.specs.Damage.{MeetsCabinetDamage, MeetsImportDamage}
+use Rattle.office_desk.specs.{Damage.MeetsCabinetDamage, Recording.AreFound, Importing.IsNamedTaken, Importing.LeavesAnyTiming}
 use Rattle.office_machine.specs.Step.{cabinet_of}
-use Rattle.office_desk.specs.Blaming.{AreTaken}
-use Rattle.office_desk.specs.Recording.{AreFound}
-use Rattle.office_desk.proofs.FoundAgain.{none_found}
-use Rattle.office_desk.specs.Importing.{ImportsAny, IsNamedTaken, LeavesAnyTiming, TakesLine, TakesRecord}
-use Rattle.office_desk.specs.declared.importing.Taken.{Taken}
-use Rattle.office_desk.specs.declared.importing.Taken.TheVariants.{Refused}
+use Rattle.office_desk.proofs.Imports.{SoFar, counted_on, damage_of_record, first_refused, import_decides, is_next, none_next, nothing_leaves, nothing_written, nothing_yet, one_more, refused_all, refused_decides, some_read, taken_open, takes_so, writes_left, writes_whole}
+use Rattle.office_desk.proofs.{FoundAgain.none_found, Decisions.fault_decides, Blames.WentOn, Blames.blames_next, Blames.taken_blames}
+use Rattle.office_desk.proofs.importing.decide_import.Goals.{in-Added, in-Same}
 use Rattle.office_machine.specs.declared.reply.Reply.TheVariants.{Imported}
-use Rattle.office_desk.proofs.Decisions.{fault_decides}
-use Rattle.office_desk.proofs.Blames.{WentOn, blames_next, taken_blames, none_met, one_further, taken_next}
-use Rattle.office_desk.proofs.Imports.{counted_on, damage_of_record, import_decides, imports_on, imports_start, never_met, next_left, none_next, some_read, taken_new, taken_open, whole_stored, nothing_leaves, nothing_written, refused_decides, same_stored, writes_left, writes_whole}
 use Rattle.office_tables_shelf.proofs.KeptLemmas.{kept_on}
 use Rattle.office_desk.proofs.importing.decide_import.Goals as goal
-use Rattle.office_desk.proofs.importing.decide_import.Goals.{in-Added, in-Same}
 
 pub loop-index-init : goal.loop-index-init
 loop-index-init g c =
+    let stored = g.S.Shelf.content c.args.shelf.now in
     let none = c.new-pending.ensures in
     record {
       counted = refl;
-      imports = λ honest. subst (ImportsAny (g.S.Shelf.content c.args.shelf.now) c.args.records.now c.args.records.now 1 0 0) (sym none) (imports_start (g.S.Shelf.content c.args.shelf.now) c.args.records.now);
-      spares = λ honest. subst (λ (list : List RowChange). KeepsDamage (g.S.Shelf.content c.args.shelf.now) (changed_by (g.S.Shelf.content c.args.shelf.now) list)) (sym none) (nothing_kept (g.S.Shelf.content c.args.shelf.now));
-      whole = λ honest damaged. damaged;
-      found = λ honest. none_found (g.S.Shelf.content c.args.shelf.now) c.new-found.result c.new-found.ensures.empty;
+      so_far = λ honest. subst (SoFar stored c.args.records.now 0 0 0) (sym none) (nothing_yet stored c.args.records.now);
+      found = λ honest. none_found stored c.new-found.result c.new-found.ensures.empty;
       fresh = λ start. none;
       clean = λ clean. clean;
       stays = λ clean honest. honest;
       read = λ clean later. absurd (later refl);
-      taken = λ honest. none;
       leaves = subst LeavesAnyTiming (sym none) nothing_leaves;
       writes = λ table. nothing_written table c.new-pending.result c.args.records.now none;
       kept = record { honest_before = λ honest. honest; same_content = λ honest. refl; same_counts = refl; same_outcomes = λ tables left. left };
@@ -49,12 +35,10 @@ take_record-requires g c = λ honest.
 
 pub returns-in_err-taken-clause-decides : goal.returns-in_err-taken-clause-decides
 returns-in_err-taken-clause-decides g c =
-    let index = c.loop-index.index in
     let item = c.command-item.result in
-    let low = subst (λ (list : List RecordCommand). index < length list) c.as_slice-command-items.ensures c.loop-index-test.true in
-    let at = subst (λ (list : List RecordCommand). item ≡ get_or list index item) c.as_slice-command-items.ensures c.command-item.is in
+    let next = is_next c.loop-index.index item c.as_slice-command-items.ensures c.loop-index-test.true c.command-item.is in
     fault_decides _ _ _ _ _ _ c.in_err-taken.was c.from_residual.ensures.1
-    (λ damaged honest. damage_of_record _ c.args.records.now index item low at
+    (λ damaged honest. damage_of_record _ c.args.records.now c.loop-index.index item next
     (subst (λ tables. MeetsCabinetDamage tables item (cabinet_of item)) (c.loop-index.invariant.kept.same_content (c.take_record.ensures.kept.honest_before honest))
     (c.take_record.ensures.damaged damaged honest)))
 
@@ -71,92 +55,62 @@ overflow_add-added g c =
 
 pub returns-in-Refused-clause-decides : goal.returns-in-Refused-clause-decides
 returns-in-Refused-clause-decides g c =
-    let stored = g.S.Shelf.content c.args.shelf.now in
     let all = c.args.records.now in
-    let index = c.loop-index.index in
     let item = c.command-item.result in
-    let before = c.loop-index.pending in
-    let after = c.in_ok-taken.next in
-    let low = subst (λ (list : List RecordCommand). index < length list) c.as_slice-command-items.ensures c.loop-index-test.true in
-    let at = subst (λ (list : List RecordCommand). item ≡ get_or list index item) c.as_slice-command-items.ensures c.command-item.is in
-    refused_decides _ stored all (drop index all) item (drop (index + 1) all) (index + 1) c.loop-index.added c.loop-index.same _ before after c.in-Refused.refusal _
-    (next_left all index item low at) (λ honest. c.loop-index.invariant.imports (c.take_record.ensures.kept.honest_before honest))
-    (λ honest. subst (λ t. TakesRecord stored before item t after) c.in-Refused.is
-    (same_stored before item _ after (c.loop-index.invariant.kept.same_content (c.take_record.ensures.kept.honest_before honest)) (c.in_ok-taken.ensures.step honest)))
-    c.number-cause.ensures c.refused.ensures.reply c.refused.ensures.no_changes
+    let next = is_next c.loop-index.index item c.as_slice-command-items.ensures c.loop-index-test.true c.command-item.is in
+    let told = c.in_ok-taken.ensures in
+    refused_decides _ _ all (c.loop-index.index + 1) _ _
+    (λ honest office stands.
+    let first = c.take_record.ensures.kept.honest_before honest in
+    refused_all _ all c.loop-index.index c.loop-index.added c.loop-index.same c.loop-index.pending c.in_ok-taken.next item c.in_ok-taken.taken
+    (c.loop-index.invariant.so_far first) next (takes_so (c.loop-index.invariant.kept.same_content first) (told.step honest) (told.whole honest) (told.line honest))
+    c.in-Refused.refusal _ office c.in-Refused.is c.number-cause.ensures stands)
+    c.refused.ensures.reply c.refused.ensures.no_changes
 
 pub returns-in-Refused-clause-blames : goal.returns-in-Refused-clause-blames
 returns-in-Refused-clause-blames g c =
-    let stored = g.S.Shelf.content c.args.shelf.now in
     let all = c.args.records.now in
-    let index = c.loop-index.index in
     let item = c.command-item.result in
-    let before = c.loop-index.pending in
-    let after = c.in_ok-taken.next in
-    let low = subst (λ (list : List RecordCommand). index < length list) c.as_slice-command-items.ensures c.loop-index-test.true in
-    let at = subst (λ (list : List RecordCommand). item ≡ get_or list index item) c.as_slice-command-items.ensures c.command-item.is in
-    blames_next _ stored all index _ _ item c.in-Refused.refusal _ (next_left all index item low at) refl c.number-cause.ensures c.refused.ensures.reply
-    (subst (IsNamedTaken item) c.in-Refused.is c.in_ok-taken.ensures.named)
+    let next = is_next c.loop-index.index item c.as_slice-command-items.ensures c.loop-index-test.true c.command-item.is in
+    let told = c.in_ok-taken.ensures in
+    blames_next _ _ all c.loop-index.index _ _ item c.in-Refused.refusal _ next.left refl c.number-cause.ensures c.refused.ensures.reply
+    (subst (IsNamedTaken item) c.in-Refused.is told.named)
     (λ honest.
     let first = c.take_record.ensures.kept.honest_before honest in
-    let same = c.loop-index.invariant.kept.same_content first in
-    let now = whole_stored before item after same (c.in_ok-taken.ensures.whole honest) in
-    record {
-      pending = before;
-      taken = c.loop-index.invariant.taken first;
-      refused = subst (λ s. TakesLine s before item (Refused c.in-Refused.refusal) after) same
-          (subst (λ (t : Taken). TakesLine (g.S.Shelf.content c.loop-index.shelf) before item t after) c.in-Refused.is (c.in_ok-taken.ensures.line honest));
-      whole = none_met stored (take index all) item (c.loop-index.invariant.whole first) (never_met stored before item after (c.loop-index.invariant.spares first) now);
-    })
+    first_refused _ all c.loop-index.index c.loop-index.added c.loop-index.same c.loop-index.pending c.in_ok-taken.next item c.in_ok-taken.taken
+    (c.loop-index.invariant.so_far first) next (takes_so (c.loop-index.invariant.kept.same_content first) (told.step honest) (told.whole honest) (told.line honest))
+    c.in-Refused.refusal c.in-Refused.is)
 
 pub loop-index-preserved : goal.loop-index-preserved
 loop-index-preserved g c =
     let shelf = g.S.Shelf in
-    let stored = shelf.content c.args.shelf.now in
     let all = c.args.records.now in
     let index = c.loop-index.index in
     let item = c.command-item.result in
     let before = c.loop-index.pending in
-    let after = c.in_ok-taken.next in
     let t = c.in_ok-taken.taken in
-    let low = subst (λ (list : List RecordCommand). index < length list) c.as_slice-command-items.ensures c.loop-index-test.true in
-    let at = subst (λ (list : List RecordCommand). item ≡ get_or list index item) c.as_slice-command-items.ensures c.command-item.is in
+    let told = c.in_ok-taken.ensures in
+    let next = is_next index item c.as_slice-command-items.ensures c.loop-index-test.true c.command-item.is in
     let now_open = λ (clean : shelf.is_clean c.take_record.new.shelf).
-    taken_open shelf.is_clean shelf.is_honest before index _ c.loop-index.shelf c.take_record.new.shelf c.loop-index.invariant.fresh c.loop-index.invariant.read c.in_ok-taken.ensures.open clean tt in
+    taken_open shelf.is_clean shelf.is_honest before index _ c.loop-index.shelf c.take_record.new.shelf c.loop-index.invariant.fresh c.loop-index.invariant.read told.open clean tt in
     let came : WentOn t c.loop-index.added c.loop-index.same c.match-taken.added c.match-taken.same =
     elim c.match-taken.branch [ in-Added w ↦ inl (w.in-Added.is, w.added-is, w.same-is) | in-Same w ↦ inr (w.in-Same.is, w.added-is, w.same-is) ] in
     record {
       counted = counted_on c.loop-index.added c.loop-index.same index _ _ t c.loop-index.invariant.counted came;
-      imports = λ honest.
+      so_far = λ honest.
           let first = c.take_record.ensures.kept.honest_before honest in
-          imports_on stored all (drop index all) item (drop (index + 1) all) (index + 1) c.loop-index.added c.loop-index.same before after t _ _
-          (next_left all index item low at) came (c.loop-index.invariant.imports first)
-          (same_stored before item t after (c.loop-index.invariant.kept.same_content first) (c.in_ok-taken.ensures.step honest));
-      spares = λ honest.
-          let first = c.take_record.ensures.kept.honest_before honest in
-          let now = whole_stored before item after (c.loop-index.invariant.kept.same_content first) (c.in_ok-taken.ensures.whole honest) in
-          kept_after stored (changed_by stored before) (changed_by stored after) (c.loop-index.invariant.spares first) now.spares;
-      whole = λ honest.
-          let first = c.take_record.ensures.kept.honest_before honest in
-          let now = whole_stored before item after (c.loop-index.invariant.kept.same_content first) (c.in_ok-taken.ensures.whole honest) in
-          subst (λ (list : List RecordCommand). ¬ MeetsImportDamage stored list) (sym (one_further all index item low at))
-          (none_met stored (take index all) item (c.loop-index.invariant.whole first) (never_met stored before item after (c.loop-index.invariant.spares first) now));
+          one_more _ all index c.loop-index.added c.loop-index.same before c.in_ok-taken.next item t (c.loop-index.invariant.so_far first) next
+          (takes_so (c.loop-index.invariant.kept.same_content first) (told.step honest) (told.whole honest) (told.line honest)) _ _ came;
       found = λ honest.
           let first = c.take_record.ensures.kept.honest_before honest in
           subst (λ tables. AreFound tables c.take_record.new.found) (c.loop-index.invariant.kept.same_content first)
-          (c.in_ok-taken.ensures.found honest);
-      taken = λ honest.
-          let first = c.take_record.ensures.kept.honest_before honest in
-          subst (λ (list : List RecordCommand). AreTaken stored [] list after) (sym (one_further all index item low at))
-          (taken_next stored before item t after (take index all) _ _ _ _ came
-          (subst (λ s. TakesLine s before item t after) (c.loop-index.invariant.kept.same_content first) (c.in_ok-taken.ensures.line honest))
-          (c.loop-index.invariant.taken first));
+          (told.found honest);
       fresh = λ start. absurd (let e : index + 1 ≡ 0 = start in let never : ⊥ = omega (arith, e) in never);
-      clean = λ clean. c.loop-index.invariant.clean (c.in_ok-taken.ensures.open.clean_before clean);
+      clean = λ clean. c.loop-index.invariant.clean (told.open.clean_before clean);
       stays = λ clean honest. now_open clean;
       read = λ clean later. now_open clean;
-      leaves = c.in_ok-taken.ensures.leaves c.loop-index.invariant.leaves;
-      writes = λ table. writes_left table all index item _ _ _ low at (c.loop-index.invariant.writes table) (c.in_ok-taken.ensures.writes table);
+      leaves = told.leaves c.loop-index.invariant.leaves;
+      writes = λ table. writes_left table all index item _ _ _ next (c.loop-index.invariant.writes table) (told.writes table);
       kept = kept_on shelf.is_honest shelf.content shelf.written shelf.may_leave c.args.shelf.now c.loop-index.shelf c.take_record.new.shelf c.loop-index.invariant.kept c.take_record.ensures.kept;
     }
 
@@ -168,11 +122,8 @@ returns-clause-decides g c =
     let all = c.args.records.now in
     let index = c.loop-index.index in
     let high = subst (λ (list : List RecordCommand). length list ≤ index) c.as_slice-command-items.ensures c.loop-index-test.false in
-    import_decides _ (g.S.Shelf.content c.args.shelf.now) all (drop index all) (index + 1) c.loop-index.added c.loop-index.same c.loop-index.pending _
-    (drop_all index all high) c.loop-index.invariant.imports
-    (λ honest. subst (λ (list : List RecordCommand). ¬ MeetsImportDamage (g.S.Shelf.content c.args.shelf.now) list) (take_all index all high) (c.loop-index.invariant.whole honest)) c.loop-index.invariant.leaves
-    (λ table. writes_whole table all index _ _ high (c.loop-index.invariant.writes table))
-    (λ honest. taken_new (g.S.Shelf.content c.args.shelf.now) [] (take index all) _ (c.loop-index.invariant.taken honest) tt) refl c.into_changes.ensures
+    import_decides _ _ all index c.loop-index.added c.loop-index.same c.loop-index.pending _ high c.loop-index.invariant.so_far c.loop-index.invariant.leaves
+    (λ table. writes_whole table all index _ _ high (c.loop-index.invariant.writes table)) refl c.into_changes.ensures
 
 -- ---- on a clean disk
 
@@ -209,11 +160,11 @@ returns-clause-open g c = record {
 
 pub returns-in_err-taken-clause-nothing : goal.returns-in_err-taken-clause-nothing
 returns-in_err-taken-clause-nothing g c = λ none.
-    absurd (none_next c.args.records.now c.loop-index.index (subst (λ (list : List RecordCommand). c.loop-index.index < length list) c.as_slice-command-items.ensures c.loop-index-test.true) none)
+    absurd (none_next _ c.loop-index.index c.command-item.result (is_next _ _ c.as_slice-command-items.ensures c.loop-index-test.true c.command-item.is) none)
 
 pub returns-in-Refused-clause-nothing : goal.returns-in-Refused-clause-nothing
 returns-in-Refused-clause-nothing g c = λ none.
-    absurd (none_next c.args.records.now c.loop-index.index (subst (λ (list : List RecordCommand). c.loop-index.index < length list) c.as_slice-command-items.ensures c.loop-index-test.true) none)
+    absurd (none_next _ c.loop-index.index c.command-item.result (is_next _ _ c.as_slice-command-items.ensures c.loop-index-test.true c.command-item.is) none)
 
 pub returns-clause-nothing : goal.returns-clause-nothing
 returns-clause-nothing g c = λ none.

@@ -1,12 +1,9 @@
 use Rattle.std.proofs.Common.{◌≡◌, ◌∙◌, Err, ap, arith, length, map, refl, subst, sym}
-use Rattle.std.proofs.lemmas.List.{take_all}
-use Rattle.std.proofs.lemmas.Result.{err_from_is_err_and}
+use Rattle.std.proofs.{lemmas.List.take_all, lemmas.Result.err_from_is_err_and}
 use Rattle.std.specs.List.{AllByRecursion}
-use Rattle.office_tables_shelf.specs.Shelf.{CountsTiming, IsIntersectionWithin, ListsIntersections}
-use Rattle.office_tables_shelf.specs.Shelf.{rows_of}
+use Rattle.office_tables_shelf.specs.Shelf.{CountsTiming, IsIntersectionWithin, ListsIntersections, rows_of}
 use Rattle.office_tables_shelf.specs.declared.shelf.ShelfFault.TheVariants.{Damaged}
-use Rattle.office_tables_shelf.proofs.KeptLemmas.{hands_on, kept_on}
-use Rattle.office_tables_shelf.proofs.ListedRows.{intersections_whole}
+use Rattle.office_tables_shelf.proofs.{KeptLemmas.hands_on, KeptLemmas.kept_on, ListedRows.intersections_whole}
 use Rattle.office_desk.specs.Listing.{listed_in, row_listed}
 use Rattle.office_desk.proofs.ListedIntersections.{listed_more}
 use Rattle.office_desk.proofs.listing.list_intersections.Goals as goal

@@ -1,8 +1,7 @@
 use Rattle.std.proofs.Common.{subst, refl, inl, inr}
 use Rattle.draft_core.specs.declared.timing.Reach.TheVariants.{Plan}
 use Rattle.office_desk.specs.Reading.{FindsAny}
-use Rattle.office_desk.proofs.Decisions.{told_decides, unknown_decides}
-use Rattle.office_desk.proofs.Shown.{draft_answers, found_none}
+use Rattle.office_desk.proofs.{Decisions.told_decides, Decisions.unknown_decides, Shown.draft_answers, Shown.found_none}
 use Rattle.office_desk.proofs.showing.decide_draft.Goals as goal
 
 pub returns-in_default-clause-decides : goal.returns-in_default-clause-decides

@@ -2,8 +2,7 @@ use Rattle.std.proofs.Common.{◌∙◌, ◌∷◌, [], ap, inl, refl}
 use Rattle.signal_records.specs.TimingSet.{after_changes}
 use Rattle.draft_core.specs.declared.refusal.DraftRefusal.TheVariants.{NotTransaction}
 use Rattle.office_machine.specs.declared.refusal.Refusal.TheVariants.{Draft}
-use Rattle.office_desk.proofs.Decisions.{refuses_so}
-use Rattle.office_desk.proofs.Shown.{draft_shows, no_draft_shows}
+use Rattle.office_desk.proofs.{Decisions.refuses_so, Shown.draft_shows, Shown.no_draft_shows}
 use Rattle.office_desk.proofs.showing.draft_of.Goals as goal
 
 pub returns-in_default-clause-shows : goal.returns-in_default-clause-shows

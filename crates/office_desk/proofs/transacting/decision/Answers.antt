@@ -1,8 +1,7 @@
 use Rattle.std.proofs.Common.{sym, subst}
 use Rattle.draft_core.specs.Within.{AreChangesWithin}
 use Rattle.office_desk.specs.Transacting.{reach_of}
-use Rattle.draft_core.proofs.News.{none_new}
-use Rattle.draft_core.proofs.OnlyChanges.{moved_within}
+use Rattle.draft_core.proofs.{News.none_new, OnlyChanges.moved_within}
 use Rattle.office_desk.proofs.transacting.decision.Goals as goal
 
 pub returns-in-Edit-clause-drafts : goal.returns-in-Edit-clause-drafts

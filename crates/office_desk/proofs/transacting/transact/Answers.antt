@@ -1,11 +1,9 @@
 use Rattle.std.proofs.Common.{Option, Some, None, subst}
 use Rattle.std.specs.Prelude.{IfSome}
 use Rattle.draft_core.specs.declared.timing.Reach.{Reach}
-use Rattle.office_desk.specs.Damage.{HasDamageIn}
-use Rattle.office_desk.specs.Reading.{FindsAny, ListsFound}
+use Rattle.office_desk.specs.{Damage.HasDamageIn, Reading.FindsAny, Reading.ListsFound}
 use Rattle.office_desk.specs.declared.reading.Found.{Found}
-use Rattle.office_desk.proofs.Decisions.{fault_decides}
-use Rattle.office_desk.proofs.Transactions.{absent_decides, meets, transact_decides}
+use Rattle.office_desk.proofs.{Decisions.fault_decides, Transactions.absent_decides, Transactions.meets, Transactions.transact_decides}
 use Rattle.office_desk.proofs.transacting.transact.Goals as goal
 
 pub returns-in_err-found-clause-decides : goal.returns-in_err-found-clause-decides

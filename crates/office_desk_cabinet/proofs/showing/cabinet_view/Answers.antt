@@ -1,8 +1,6 @@
 use Rattle.std.proofs.Common.{◌∙◌, ⊎_elim, subst}
-use Rattle.office_tables_shelf.specs.CabinetReads.{HasDamagedOrder, HasDamagedUsed, ListsOrders}
-use Rattle.office_tables_shelf.specs.CabinetReads.{ListsUsed}
-use Rattle.office_desk_cabinet.proofs.ListedRecords.{inspections_listed, orders_listed}
-use Rattle.office_desk_cabinet.proofs.ListedRecords.{lines_listed}
+use Rattle.office_tables_shelf.specs.CabinetReads.{HasDamagedOrder, HasDamagedUsed, ListsOrders, ListsUsed}
+use Rattle.office_desk_cabinet.proofs.ListedRecords.{inspections_listed, orders_listed, lines_listed}
 use Rattle.office_desk_cabinet.proofs.showing.cabinet_view.Goals as goal
 
 pub returns-clause-shows : goal.returns-clause-shows

@@ -1,6 +1,5 @@
 use Rattle.std.proofs.Common.{◌∙◌, ap}
-use Rattle.office_desk_cabinet.proofs.ListedRecords.{orders_listed}
-use Rattle.office_desk_cabinet.proofs.ShowingLemmas.{open_among}
+use Rattle.office_desk_cabinet.proofs.{ListedRecords.orders_listed, ShowingLemmas.open_among}
 use Rattle.office_desk_cabinet.proofs.showing.open_orders.Goals as goal
 
 pub returns-clause-shows : goal.returns-clause-shows

@@ -1,7 +1,5 @@
 use Rattle.std.proofs.Common.{Some}
-use Rattle.office_desk_cabinet.proofs.Opened.{unread_stays}
-use Rattle.office_desk_cabinet.proofs.PendingLemmas.{nothing_put}
-use Rattle.office_desk_cabinet.proofs.Places.{Part, whole_at}
+use Rattle.office_desk_cabinet.proofs.{Opened.unread_stays, PendingLemmas.nothing_put, Places.Part, Places.whole_at}
 use Rattle.office_desk_cabinet.proofs.standing.hand_at.Goals as goal
 
 pub returns-in-Some-clause-row : goal.returns-in-Some-clause-row

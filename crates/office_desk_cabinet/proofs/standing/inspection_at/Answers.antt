@@ -1,6 +1,4 @@
-use Rattle.office_desk_cabinet.proofs.Opened.{unread_stays}
-use Rattle.office_desk_cabinet.proofs.PendingLemmas.{nothing_put}
-use Rattle.office_desk_cabinet.proofs.Places.{Inspection, whole_at}
+use Rattle.office_desk_cabinet.proofs.{Opened.unread_stays, PendingLemmas.nothing_put, Places.Inspection, Places.whole_at}
 use Rattle.office_desk_cabinet.proofs.standing.inspection_at.Goals as goal
 
 pub returns-in-Some-clause-row : goal.returns-in-Some-clause-row

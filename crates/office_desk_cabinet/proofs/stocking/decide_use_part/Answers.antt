@@ -1,7 +1,6 @@
 use Rattle.std.proofs.Common.{⊎_elim, subst, ◌∙◌}
 use Rattle.cabinet_core.specs.declared.command.RecordCommand.TheVariants.{UsePart}
-use Rattle.office_tables_shelf.specs.CabinetReads.{ReadsUsed, ReadsOrder}
-use Rattle.office_tables_shelf.specs.CabinetReads.{HasDamagedOrderAt, HasDamagedUsedAt}
+use Rattle.office_tables_shelf.specs.CabinetReads.{ReadsUsed, ReadsOrder, HasDamagedOrderAt, HasDamagedUsedAt}
 use Rattle.office_tables_shelf.specs.Change.{changed_by}
 use Rattle.office_desk_cabinet.proofs.Decided.{decided}
 use Rattle.office_desk_cabinet.proofs.stocking.decide_use_part.Goals as goal

@@ -1,6 +1,5 @@
 use Rattle.sqlite.specs.Held.{state}
-use Rattle.office_tables_open.proofs.LeftLemmas.{still_found}
-use Rattle.office_tables_open.proofs.OpenLemmas.{again}
+use Rattle.office_tables_open.proofs.{LeftLemmas.still_found, OpenLemmas.again}
 use Rattle.office_tables_open.proofs.found.checked.Goals as goal
 
 pub returns-in-Ok-over-clause-again : goal.returns-in-Ok-over-clause-again

@@ -1,7 +1,6 @@
 use Rattle.std.proofs.Common.{arith}
 use Rattle.sqlite.specs.Held.{state}
-use Rattle.office_tables_open.proofs.LeftLemmas.{still_found}
-use Rattle.office_tables_open.proofs.OpenLemmas.{again, taken_still}
+use Rattle.office_tables_open.proofs.{LeftLemmas.still_found, OpenLemmas.again, OpenLemmas.taken_still}
 use Rattle.office_tables_open.proofs.found.looked.Goals as goal
 
 pub returns-in-Ok-over-clause-again : goal.returns-in-Ok-over-clause-again

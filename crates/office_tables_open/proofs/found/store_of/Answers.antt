@@ -2,8 +2,7 @@ use Rattle.std.proofs.Common.{◌≡◌, IsTrue, false, sym, ◌∙◌, subst}
 use Rattle.std.proofs.lemmas.Bool.{true_from_ne_false, both_ways}
 use Rattle.sqlite.specs.View.{IsClean}
 use Rattle.office_tables_open.specs.Arranged.{IsArranged}
-use Rattle.office_tables_open.proofs.ArrangedLemmas.{stored_arranged}
-use Rattle.office_tables_open.proofs.LeftLemmas.{given_up}
+use Rattle.office_tables_open.proofs.{ArrangedLemmas.stored_arranged, LeftLemmas.given_up}
 use Rattle.office_tables_open.proofs.found.store_of.Goals as goal
 
 pub returns-clause-taken : goal.returns-clause-taken

@@ -1,6 +1,5 @@
 use Rattle.std.proofs.Common.{arith}
-use Rattle.sqlite.specs.Held.{state}
-use Rattle.sqlite.specs.State.{HasCleanDisk}
+use Rattle.sqlite.specs.{Held.state, State.HasCleanDisk}
 use Rattle.office_tables_open.proofs.FrontLemmas.{grown_if}
 use Rattle.office_tables_open.proofs.missing.grow.Goals as goal
 

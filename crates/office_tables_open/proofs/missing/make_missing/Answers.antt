@@ -1,14 +1,11 @@
 use Rattle.std.proofs.Common.{◌≡◌, true, refl, sym, subst, rules}
-use Rattle.sqlite.specs.Held.{state}
-use Rattle.sqlite.specs.State.{HasCleanDisk, Survives}
-use Rattle.sqlite.specs.Tree.{Trees}
+use Rattle.sqlite.specs.{Held.state, State.HasCleanDisk, State.Survives, Tree.Trees}
 use Rattle.office_tables_sql.proofs.CallLemmas.{ended_survives}
 use Rattle.office_tables_sql.specs.Calls.{IsHonest, IsOffice}
 use Rattle.office_tables_open.specs.Lacking.{Completes, IsGrown}
-use Rattle.office_tables_open.proofs.MadeLemmas.{committed_office, committed_rows}
-use Rattle.office_tables_open.proofs.missing.make_missing.Given.{Over}
-use Rattle.office_tables_open.proofs.missing.make_missing.Goals as goal
+use Rattle.office_tables_open.proofs.{MadeLemmas.committed_office, MadeLemmas.committed_rows, missing.make_missing.Given.Over}
 use Rattle.office_tables_open.proofs.missing.make_missing.Goals.{After-commit}
+use Rattle.office_tables_open.proofs.missing.make_missing.Goals as goal
 
 -- the tables as they stand before the commit
 made : (g : Over) (c : After-commit g) → HasCleanDisk (state g.S.Store c.grow.new.tx.conn.now)

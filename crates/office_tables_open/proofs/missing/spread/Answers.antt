@@ -1,7 +1,6 @@
 use Rattle.std.proofs.Common.{◌≡◌, ℕ, List, true, sym, subst, arith}
 use Rattle.std.specs.Prelude.{OnOk}
-use Rattle.sqlite.specs.Held.{state}
-use Rattle.sqlite.specs.State.{HasCleanDisk}
+use Rattle.sqlite.specs.{Held.state, State.HasCleanDisk}
 use Rattle.office_tables_open.specs.Opening.{AreRun}
 use Rattle.office_tables_open.proofs.FrontLemmas.{spread_if}
 use Rattle.office_tables_open.proofs.missing.spread.Goals as goal

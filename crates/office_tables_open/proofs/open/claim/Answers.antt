@@ -1,7 +1,6 @@
 use Rattle.std.proofs.Common.{◌≡◌, true≢false, length, Option, sym, subst, ◌∙◌}
 use Rattle.std.specs.Prelude.{IfSome}
-use Rattle.sqlite.specs.Held.{state}
-use Rattle.sqlite.specs.Order.{Row}
+use Rattle.sqlite.specs.{Held.state, Order.Row}
 use Rattle.office_tables_open.proofs.OpenLemmas.{office_told}
 use Rattle.office_tables_open.proofs.open.claim.Goals as goal
 

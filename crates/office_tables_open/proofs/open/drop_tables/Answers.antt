@@ -1,13 +1,10 @@
 use Rattle.std.proofs.Common.{◌≡◌, refl, sym, ap, subst, rules, arith}
-use Rattle.sqlite.specs.Effect.{Database}
-use Rattle.sqlite.specs.Held.{state}
-use Rattle.sqlite.specs.State.{HasCleanDisk, Survives}
+use Rattle.sqlite.specs.{Effect.Database, Held.state, State.HasCleanDisk, State.Survives}
 use Rattle.office_tables_sql.proofs.CallLemmas.{ended_survives}
 use Rattle.office_tables_sql.specs.Calls.{IsHonest}
 use Rattle.office_tables_open.specs.Opening.{WereDropped}
-use Rattle.office_tables_open.proofs.open.drop_tables.Given.{Over}
+use Rattle.office_tables_open.proofs.{open.drop_tables.Given.Over, open.drop_tables.Goals.After-commit}
 use Rattle.office_tables_open.proofs.open.drop_tables.Goals as goal
-use Rattle.office_tables_open.proofs.open.drop_tables.Goals.{After-commit}
 
 -- what a crash leaves
 crash : (g : Over) (c : After-commit g) (h : _) → c.commit.new.self.0 ≡ h → Survives (state g.S.Store c.args.conn.now) (state g.S.Store h) (WereDropped g.S.Store (state g.S.Store c.args.conn.now).now.trees)

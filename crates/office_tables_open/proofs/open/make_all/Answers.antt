@@ -1,8 +1,6 @@
 use Rattle.std.proofs.Common.{arith}
-use Rattle.sqlite.specs.Held.{state}
-use Rattle.sqlite.specs.State.{HasCleanDisk}
-use Rattle.office_tables_open.proofs.MadeLemmas.{office_ready, office_empty, new_if}
-use Rattle.office_tables_open.proofs.VersionLemmas.{empty_content}
+use Rattle.sqlite.specs.{Held.state, State.HasCleanDisk}
+use Rattle.office_tables_open.proofs.{MadeLemmas.office_ready, MadeLemmas.office_empty, MadeLemmas.new_if, VersionLemmas.empty_content}
 use Rattle.office_tables_open.proofs.open.make_all.Goals as goal
 
 pub returns-clause-made : goal.returns-clause-made

@@ -1,14 +1,11 @@
 use Rattle.std.proofs.Common.{◌≡◌, refl, sym, subst, rules}
-use Rattle.sqlite.specs.Held.{state}
-use Rattle.sqlite.specs.State.{HasCleanDisk, Survives}
-use Rattle.sqlite.specs.Tree.{Trees}
+use Rattle.sqlite.specs.{Held.state, State.HasCleanDisk, State.Survives, Tree.Trees}
 use Rattle.office_tables_sql.proofs.CallLemmas.{ended_survives}
 use Rattle.office_tables_sql.specs.Calls.{IsHonest, IsOffice}
 use Rattle.office_tables_open.specs.Opening.{IsNew, IsNewOffice}
-use Rattle.office_tables_open.proofs.MadeLemmas.{committed_office, committed_rows}
-use Rattle.office_tables_open.proofs.open.make_tables.Given.{Over}
-use Rattle.office_tables_open.proofs.open.make_tables.Goals as goal
+use Rattle.office_tables_open.proofs.{MadeLemmas.committed_office, MadeLemmas.committed_rows, open.make_tables.Given.Over}
 use Rattle.office_tables_open.proofs.open.make_tables.Goals.{After-commit}
+use Rattle.office_tables_open.proofs.open.make_tables.Goals as goal
 
 -- the tables as they stand before the commit
 made : (g : Over) (c : After-commit g) → HasCleanDisk (state g.S.Store c.make_all.new.tx.conn.now) → IsNew (state g.S.Store c.make_all.new.tx.conn.now)

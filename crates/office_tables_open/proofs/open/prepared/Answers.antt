@@ -1,14 +1,12 @@
 use Rattle.std.proofs.Common.{◌≡◌, inl, IsTrue, sym, subst, ◌∙◌}
-use Rattle.sqlite.specs.Effect.{Database}
-use Rattle.sqlite.specs.Held.{state}
+use Rattle.std.proofs.lemmas.Bool.{not-true}
+use Rattle.sqlite.specs.{Effect.Database, Held.state}
 use Rattle.sqlite_trees.specs.Objects.{catalog_tree}
 use Rattle.sqlite_catalog.specs.Listing.{AreListed}
 use Rattle.office_tables_schema.specs.Schema.{no_schema}
-use Rattle.office_tables_open.proofs.FoundLemmas.{blank_rows, blank_unclaimed}
+use Rattle.office_tables_open.proofs.{FoundLemmas.blank_rows, FoundLemmas.blank_unclaimed, OpenLemmas.arranged_office}
 use Rattle.office_tables_open.proofs.LeftLemmas.{made_left, refused_given, refused_left}
-use Rattle.office_tables_open.proofs.OpenLemmas.{arranged_office}
 use Rattle.office_tables_open.proofs.open.prepared.Goals as goal
-use Rattle.std.proofs.lemmas.Bool.{not-true}
 
 pub returns-in-Ok-clause-made : goal.returns-in-Ok-clause-made
 returns-in-Ok-clause-made g c made honest =

@@ -1,9 +1,7 @@
 use Rattle.std.proofs.Common.{◌≡◌, true, drop, map}
-use Rattle.sqlite.specs.Held.{state}
-use Rattle.sqlite.specs.State.{HasCleanDisk}
+use Rattle.sqlite.specs.{Held.state, State.HasCleanDisk}
 use Rattle.office_tables_sql.specs.Calls.{StandsOn}
-use Rattle.office_tables_open.specs.Opening.{AreRun}
-use Rattle.office_tables_open.specs.Promises.{LeavesNoMore}
+use Rattle.office_tables_open.specs.{Opening.AreRun, Promises.LeavesNoMore}
 use Rattle.office_tables_open.proofs.open.run_all.Given as goal
 
 -- the statements that are left lead to the end

@@ -1,8 +1,7 @@
 use Rattle.std.proofs.Common.{ℕ, List, Bor, sym, subst, true≢false, ◌∙◌}
 use Rattle.std.proofs.lemmas.Result.{IfOk-weaker}
 use Rattle.std.specs.List.{AllByRecursion}
-use Rattle.sqlite.specs.Effect.{Database}
-use Rattle.sqlite.specs.Held.{state}
+use Rattle.sqlite.specs.{Effect.Database, Held.state}
 use Rattle.office_tables_open.specs.Version.{IsListing}
 use Rattle.office_tables_open.proofs.VersionLemmas.{ShowNone}
 use Rattle.office_tables_open.proofs.version.+show_none.Goals as goal

@@ -1,6 +1,5 @@
-use Rattle.std.proofs.Common.{pos, [], ◌∷◌}
+use Rattle.std.proofs.{Common.pos, Common.[], Common.◌∷◌, lemmas.Result.IfOk-weaker}
 use Rattle.std.specs.Option.{option_to_list}
-use Rattle.std.proofs.lemmas.Result.{IfOk-weaker}
 use Rattle.sqlite.specs.declared.types.Value.TheVariants.{Int}
 use Rattle.sqlite.specs.Held.{state}
 use Rattle.office_tables_sql.specs.Calls.{Reads}

@@ -1,7 +1,6 @@
-use Rattle.std.proofs.Common.{◌≡◌, [], ap, inl, length, refl, sym, true≢false, ◌∙◌}
+use Rattle.std.proofs.Common.{ap, inl, length, refl, sym, true≢false, ◌∙◌}
 use Rattle.std.specs.Prelude.{◌==◌}
-use Rattle.office_tables_shelf.specs.Change.{changed_by}
-use Rattle.office_tables_shelf.specs.Counts.{counts_after}
+use Rattle.office_tables_shelf.specs.{Change.changed_by, Counts.counts_after}
 use Rattle.office_desk.proofs.Runs.{no_items}
 use Rattle.office_desk.proofs.office.Office.apply.Goals as goal
 

@@ -1,7 +1,6 @@
 use Rattle.std.proofs.Common.{Err, ap, inl}
 use Rattle.office_machine.specs.declared.refusal.Refusal.{Refusal}
-use Rattle.office_desk.proofs.OverdueRows.{first_overdue}
-use Rattle.office_desk.proofs.Runs.{refusal_shut}
+use Rattle.office_desk.proofs.{OverdueRows.first_overdue, Runs.refusal_shut}
 use Rattle.office_desk.proofs.office.Office.overdue_first.Goals as goal
 
 pub returns-in-Ok-clause-rows : goal.returns-in-Ok-clause-rows

@@ -1,6 +1,5 @@
 use Rattle.std.proofs.Common.{◌≡◌, rules}
-use Rattle.office_desk_cabinet.proofs.PendingLemmas.{put_seen}
-use Rattle.office_desk_cabinet.proofs.Places.{Line}
+use Rattle.office_desk_cabinet.proofs.{PendingLemmas.put_seen, Places.Line}
 use Rattle.office_desk_cabinet.proofs.pending.Pending.line.Goals as goal
 
 pub returns : goal.returns

@@ -1,6 +1,5 @@
 use Rattle.std.proofs.Common.{◌≡◌, rules}
-use Rattle.office_desk_cabinet.proofs.PendingLemmas.{put_seen}
-use Rattle.office_desk_cabinet.proofs.Places.{Order}
+use Rattle.office_desk_cabinet.proofs.{PendingLemmas.put_seen, Places.Order}
 use Rattle.office_desk_cabinet.proofs.pending.Pending.order.Goals as goal
 
 pub returns : goal.returns

@@ -1,7 +1,6 @@
 use Rattle.std.proofs.Common.{◌≡◌, ◌∙◌, ◌++◌, [], drop, ap, sym}
 use Rattle.std.proofs.lemmas.List.{drop_all}
-use Rattle.office_tables_shelf.specs.Change.{changed_by}
-use Rattle.office_tables_shelf.specs.Content.{no_content}
+use Rattle.office_tables_shelf.specs.{Change.changed_by, Content.no_content}
 use Rattle.office_desk_cabinet.proofs.PendingLemmas.{changed_append}
 use Rattle.office_desk_cabinet.proofs.pending.Pending.with.Goals as goal
 
