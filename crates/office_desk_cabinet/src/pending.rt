@@ -4,7 +4,7 @@ ghost use Rattle.office_tables_shelf.specs.CabinetReads.{ReadsInspection, ReadsO
 ghost use Rattle.office_desk_cabinet.specs.Puts.{Puts};
 
 use cabinet_core::{Delivery, Hand, Inspection, Order, PartCode, UsedLine};
-use office_tables_shelf::map_shelf::MapShelf;
+use office_tables_maps::map_shelf::MapShelf;
 use office_tables_shelf::rows::RowChange;
 use signal_records::{InterId, LineNo, NoMemory, RecordNo};
 use std::alloc::Global;

@@ -4,7 +4,7 @@ ghost use Rattle.std.specs.Prelude.{◌≡◌, OnErr};
 
 use cabinet_core::{Delivery, Hand, Inspection, Order, PartCode, UsedLine};
 use office_desk::office::Office;
-use office_tables_shelf::map_shelf::MapShelf;
+use office_tables_maps::map_shelf::MapShelf;
 use office_tables_shelf::rows::{IntersectionRow, RowChange, Table};
 use office_tables_shelf::shelf::{Shelf, ShelfFault};
 use office_test_scripts::script::{Line, commands};

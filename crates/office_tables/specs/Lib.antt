@@ -10,7 +10,7 @@ pub use Rattle.office_tables_schema.specs.Schema
 pub use Rattle.office_tables_sql.specs.Layout
 pub use Rattle.office_tables_sql.specs.Stored
 pub use Rattle.office_tables_sql.specs.Calls
-pub use Rattle.office_tables_shelf.specs.MapShelf
+pub use Rattle.office_tables_maps.specs.MapShelf
 pub use Rattle.office_tables_open.specs.Version
 pub use Rattle.office_tables_open.specs.SqlShelf
 pub use Rattle.office_tables_open.specs.Arranged

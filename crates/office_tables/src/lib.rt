@@ -5,6 +5,7 @@ mod change;
 mod migrate;
 pub mod sql_shelf;
 
+pub use office_tables_maps::map_shelf;
 pub use office_tables_migration::puts::Migrated;
 pub use office_tables_open::open;
-pub use office_tables_shelf::{counts, map_shelf, rows, shelf};
+pub use office_tables_shelf::{counts, rows, shelf};

@@ -4,7 +4,7 @@ ghost use Rattle.office_tables_shelf.specs.Content.{no_content};
 ghost use Rattle.office_tables_shelf.specs.Counts.{no_writes};
 
 use cabinet_core::{Day, Delivery, Hand, Inspection, Order, OverdueRow, PartCode, UsedLine};
-use office_tables_shelf::map_shelf::MapShelf;
+use office_tables_maps::map_shelf::MapShelf;
 use office_tables_shelf::rows::{IntersectionRow, RowChange, Table};
 use office_tables_shelf::shelf::{Shelf, ShelfFault};
 use signal_records::{Change, InterId, LineNo, NoMemory, RecordNo, Row};
@@ -23,7 +23,7 @@ pub struct MemoryShelf {
 
 impl Model for MemoryShelf {
     ghost use Rattle.std.specs.Prelude.{◌≡◌, IfSome};
-    ghost use Rattle.office_tables_shelf.specs.MapShelf.{ShelfView, view_code};
+    ghost use Rattle.office_tables_maps.specs.MapShelf.{ShelfView, view_code};
 
     ghost Value = { ShelfView };
 

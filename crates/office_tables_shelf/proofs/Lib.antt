@@ -1,8 +1,6 @@
 pub mod CellLemmas
 pub mod TreeLemmas
 pub mod ListLemmas
-pub mod PlaceLemmas
-pub mod RangeLemmas
 pub mod CabinetLemmas
 pub mod KeyLemmas
 pub mod RowLemmas

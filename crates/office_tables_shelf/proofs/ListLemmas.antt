@@ -2,18 +2,16 @@
 use Rattle.std.proofs.Common.{◌≡◌, ◌⊎◌, inl, inr, ℕ, ◌+◌, suc, Bool, true, false, ◌&&◌, List, [], ◌∷◌, map, filter, find, cond, Option, None, Some, option_map, Ordering, Less, Equal, Greater, T, refl, sym, ap, subst, subst₂, ◌∙◌, arith, true≢false, slice_index_or}
 use Rattle.std.proofs.Common.{◌++◌, ◌<◌, zero, length, get_or}
 use Rattle.std.proofs.lemmas.Bool.{cases_Bool}
-use Rattle.std.proofs.lemmas.List.{append-nil}
 use Rattle.std.proofs.lemmas.List.Elements.{All-head, All-tail, All-from_recursion}
 use Rattle.std.proofs.lemmas.List.Sorted.{IsPermutation-sym, All-permutation}
 use Rattle.std.specs.Cmp.{alike_right, eq_by_cmp_equiv, tied_itself}
 use Rattle.std.specs.FinMap as finite
-use Rattle.std.specs.FinMap.{get, entries, entries_sorted, get-entries, retain_keys, get-retain_keys, from_entries, from_sorted, entries-from_sorted, get-from_sorted, get-from_entries, same_map}
+use Rattle.std.specs.FinMap.{get, entries, entries_sorted, get-entries, from_entries, from_sorted, entries-from_sorted, get-from_sorted, get-from_entries, same_map}
 use Rattle.std.specs.FinMap.Entries.{is_sorted, below_all, where_key, is_sorted-where_key, find-where_key, same_entries}
 use Rattle.std.specs.List.{All, AllByRecursion, IsDistinct}
-use Rattle.std.specs.List.Sorted.{IsPermutation, IsSorted, IsStrictlySortedBy}
-use Rattle.std.specs.Map.{keys_of}
+use Rattle.std.specs.List.Sorted.{IsPermutation, IsSorted}
 use Rattle.std.specs.Ordering.{is_eq, is_lt, is_gt, ordering_reverse, eq_by_cmp}
-use Rattle.office_tables_shelf.specs.Cells.{Cell, Rows, rows_by, tree_rows, cells_cmp}
+use Rattle.office_tables_shelf.specs.Cells.{Cell, Rows, rows_by, cells_cmp}
 use Rattle.office_tables_shelf.proofs.CellLemmas.{cells_total, cells_exact, is_under, find_entry, get_by, tied}
 
 -- ---- elements of a list
@@ -48,12 +46,6 @@ pub in_index : {X : Type 0} (xs : List X) (k : ℕ) (d : X) → k < length xs �
 in_index [] k d h = absurd (omega arith)
 in_index (x ∷ xs) zero d h = inl refl
 in_index (x ∷ xs) (suc k) d h = inr (in_index xs k d (omega arith))
-
--- what was taken of the entries so far is that of all of them, where none is left
-pub all_taken : {E Y : Type 0} (f : List E → List Y) (found : List Y) (left es : List E)
-    → f [] ≡ [] → left ≡ [] → found ++ f left ≡ f es → found ≡ f es
-all_taken f found left es none ended so_far =
-    sym (append-nil found) ∙ ap (λ ys. found ++ ys) (sym (ap f ended ∙ none)) ∙ so_far
 
 -- ---- a list in key order
 
@@ -133,21 +125,6 @@ module _ {X : Type 0} (key columns : X → List Cell) where
       go (Some x) is =
           let found = found_has (is_under key columns q) zs x is in
           sorted_found ys x q sorted (permuted ys zs (IsPermutation-sym zs ys same) x found.0) found.1 ∙ sym is
-
-  -- the map of the rows that pass a test of their keys
-  pub rows_kept : (test : List Cell → Bool) (xs : List X)
-      → rows_by key columns (filter (λ x. test (key x)) xs)
-      ≡ retain_keys (rows_by key columns xs) test
-  rows_kept test xs = same_map cells_total cells_exact _ _ (λ q.
-      let kept = filter (λ x. test (key x)) xs in
-      let alike : (k : List Cell) → cells_cmp q k ≡ Equal → test k ≡ test q = λ k tie.
-      ap test (sym (cells_exact q k tie)) in
-      get_by key columns kept q
-      ∙ sym (find_entry key columns kept q)
-      ∙ ap (finite.find cells_cmp q) (sym (entries_filter test xs))
-      ∙ find-where_key cells_cmp test q alike (map entry xs)
-      ∙ ap (λ o. cond (test q) o None) (find_entry key columns xs q ∙ sym (get_by key columns xs q))
-      ∙ sym (get-retain_keys (rows_by key columns xs) test q alike))
 
   -- what is in a list of the entries that pass a test stands in the map, under its key
   pub stands : (test : List Cell → Bool) (rows : Rows) (xs : List X)
@@ -233,20 +210,6 @@ entries_in_order es sorted =
     let same : from_entries {R = cells_cmp} es ≡ from_sorted es = same_map cells_total cells_exact _ _ (λ q. get-from_entries cells_total es q ∙ sym (get-from_sorted cells_cmp es q sorted)) in
     ap entries same ∙ entries-from_sorted cells_cmp es sorted
 
-module _ {K X : Type 0} (R : K → K → Ordering) (key : K → List Cell) (columns : X → List Cell) (order : (a b : K) → cells_cmp (key a) (key b) ≡ R a b) where
-  -- the cells of an entry of a tree
-  abbrev pub cells_of : K × X → List Cell × List Cell
-  cells_of e = (key e.0, columns e.1)
-
-  below_keys : (k : K) (es : List (K × X)) → AllByRecursion (λ j. R k j ≡ Less) (keys_of es) → T (below_all cells_cmp (key k) (map cells_of es))
-  below_keys k [] h = tt
-  below_keys k (e ∷ es) h = both _ _ (subst (λ o. T (is_lt o)) (sym (order k e.0 ∙ h.0)) tt) (below_keys k es h.1)
-
-  rising : (es : List (K × X)) → IsStrictlySortedBy R (keys_of es) → T (is_sorted cells_cmp (map cells_of es))
-  unfolding IsStrictlySortedBy
-  rising [] h = tt
-  rising (e ∷ es) h = both _ _ (below_keys e.0 es h.0) (rising es h.1)
-
-  -- the entries of the map that a tree stands for are its own, in its order
-  pub tree_entries : (es : List (K × X)) → IsStrictlySortedBy R (keys_of es) → entries (tree_rows key columns es) ≡ map cells_of es
-  tree_entries es h = entries_in_order (map cells_of es) (rising es h)
+-- the cells of an entry of a tree
+abbrev pub cells_of : {K X : Type 0} → (K → List Cell) → (X → List Cell) → K × X → List Cell × List Cell
+cells_of key columns e = (key e.0, columns e.1)

@@ -7,7 +7,7 @@ use Rattle.std.specs.List.{AllByRecursion, cons_option}
 use Rattle.std.specs.Option.{IsSome}
 use Rattle.std.proofs.lemmas.List.{take_more, take_all, take-append-drop, length-map}
 use Rattle.std.proofs.lemmas.List.Elements.{filter_map-append}
-use Rattle.cabinet_core.specs.Overdue.{Listed, greater, latest_day, listed, lateness, overdue_list}
+use Rattle.cabinet_core.specs.Overdue.{Listed, latest_day, listed, lateness, overdue_list}
 use Rattle.cabinet_core.specs.declared.overdue_inspections.OverdueRow.{OverdueRow}
 use Rattle.cabinet_core.specs.declared.overdue_inspections.Seen.{Seen}
 use Rattle.office_tables_shelf.specs.CabinetReads.{HasDamagedInspection, ListsInspections}
@@ -18,17 +18,6 @@ use Rattle.office_tables_shelf.specs.Shelf.{IsIntersectionWithin, ListsIntersect
 use Rattle.office_tables_shelf.specs.declared.rows.IntersectionRow.{IntersectionRow}
 use Rattle.office_tables_shelf.proofs.ListLemmas.{all_more}
 use Rattle.office_tables_shelf.proofs.ListedRows.{inspections_whole, intersections_whole, table_row}
-
--- ---- the latest day
-
--- the latest day of inspections, and another day
-abbrev pub latest_with : Option ℕ → Option ℕ → Option ℕ
-latest_with None last = last
-latest_with (Some day) last = Some (greater day last)
-
-pub latest_with_none : (last : Option ℕ) → latest_with last None ≡ last
-latest_with_none None = refl
-latest_with_none (Some day) = refl
 
 -- ---- what is seen, row by row
 

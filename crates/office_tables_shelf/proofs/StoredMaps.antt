@@ -44,17 +44,17 @@ module _ {K X : Type 0} {R : K → K → Ordering} (total : IsTotalOrder R) (key
       go (inl found) = held found.0 (get m found.0) refl found.1 (sym at ∙ ap (get (tree_rows key columns (entries m))) found.1 ∙ get_stored m found.0)
       go (inr none) = absurd (let f : Some cells ≡ None = sym at ∙ get_by (key_in R key columns) (columns_in R key columns) (entries m) q ∙ none in cc)
 
-  below_cells : (k : K) (es : List (K × X)) → T (below_all R k es) → T (below_all cells_cmp (key k) (map (cells_of R key columns order) es))
+  below_cells : (k : K) (es : List (K × X)) → T (below_all R k es) → T (below_all cells_cmp (key k) (map (cells_of key columns) es))
   below_cells k [] h = tt
   below_cells k (e ∷ es) h = let hs = parts _ _ h in both _ _ (subst (λ o. T (is_lt o)) (sym (order k e.0)) hs.0) (below_cells k es hs.1)
 
-  cells_sorted : (es : List (K × X)) → T (is_sorted R es) → T (is_sorted cells_cmp (map (cells_of R key columns order) es))
+  cells_sorted : (es : List (K × X)) → T (is_sorted R es) → T (is_sorted cells_cmp (map (cells_of key columns) es))
   cells_sorted [] h = tt
   cells_sorted (e ∷ es) h = let hs = parts _ _ h in both _ _ (below_cells e.0 es hs.0) (cells_sorted es hs.1)
 
   -- the entries of the table are those of the map, in its order
   pub stored_entries : (m : FinMap R X) → entries (tree_rows key columns (entries m)) ≡ map (λ e. (key e.0, columns e.1)) (entries m)
-  stored_entries m = entries_in_order (map (cells_of R key columns order) (entries m)) (cells_sorted (entries m) (entries_sorted m))
+  stored_entries m = entries_in_order (map (cells_of key columns) (entries m)) (cells_sorted (entries m) (entries_sorted m))
 
 -- a map without entries is a table without rows
 pub no_rows : {K X : Type 0} (R : K → K → Ordering) (key : K → List Cell) (columns : X → List Cell) → tree_rows key columns (entries (finite.empty {X = X} {R = R})) ≡ finite.empty

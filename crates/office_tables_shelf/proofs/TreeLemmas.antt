@@ -9,9 +9,7 @@ use Rattle.std.specs.Map.{lookup}
 use Rattle.std.specs.Ordering.{is_eq, eq_by_cmp, int_cmp, ordering_then}
 use Rattle.signal_records.specs.Key.{kind_of, first_of, second_of, key_cmp}
 use Rattle.signal_records.specs.declared.key.Key.{Key}
-use Rattle.office_tables_shelf.specs.MapShelf.{place_key}
 use Rattle.office_tables_shelf.specs.Rows.{timing_key}
-use Rattle.office_tables_shelf.specs.declared.place.Place.{Place}
 use Rattle.office_tables_shelf.specs.Cells.{Cell, number, tree_rows, cell_cmp, cells_cmp}
 use Rattle.office_tables_shelf.proofs.CellLemmas.{cells_total, cells_exact, is_under, first_under, get_by, mapped, tied}
 use Rattle.std.specs.declared.cmp.Ordering.TheVariants.{Less, Equal, Greater}
@@ -80,11 +78,6 @@ module _ {K X : Type 0} (R : K → K → Ordering) (key : K → List Cell) (colu
         get_by key_in columns_in fs q ∙ follows es fs k None updates q
         ∙ sym (get-remove cells_total (tree_rows key columns es) (key k) q ∙ ap (cond (is_eq (cells_cmp q (key k))) None) (get_by key_in columns_in es q)))
 
--- a key that is one number
-pub number_ties : (a b : ℕ) → is_eq (cells_cmp (number (pos a) ∷ []) (number (pos b) ∷ [])) ≡ is_eq (nat_cmp a b)
-unfolding cell_cmp
-number_ties a b = grind (arith, nat_tests)
-
 -- ---- numbers of a range, which compare by their one number
 
 -- how such numbers compare
@@ -95,10 +88,6 @@ pub then_last : (o : Ordering) → ordering_then o Equal ≡ o
 then_last Less = refl
 then_last Equal = refl
 then_last Greater = refl
-
--- a key that is one number of a range
-pub ranged_ties : (a b : ℕ) → is_eq (cells_cmp (number (pos a) ∷ []) (number (pos b) ∷ [])) ≡ is_eq (ranged_cmp a b)
-ranged_ties a b = number_ties a b ∙ ap is_eq (sym (then_last (nat_cmp a b)))
 
 -- ---- keys of timing and draft rows
 
@@ -123,22 +112,3 @@ timing_order id a b =
 
 pub timing_ties : (id : ℕ) (a b : Key) → is_eq (cells_cmp (timing_key id a) (timing_key id b)) ≡ eq_by_cmp key_cmp a b
 timing_ties id a b = ap is_eq (timing_order id a b)
-
--- how places compare
-abbrev pub place_cmp : Place → Place → Ordering
-place_cmp a b = ordering_then (ranged_cmp a.inter b.inter) (key_cmp a.key b.key)
-
--- the cells of places have their order
-pub place_order : (a b : Place) → cells_cmp (place_key a) (place_key b) ≡ place_cmp a b
-place_order a b =
-    (λ i. ordering_then ((number_order a.inter b.inter ∙ sym (then_last (nat_cmp a.inter b.inter))) i)
-    (ordering_then (number_order (kind_of a.key) (kind_of b.key) i)
-    (ordering_then (number_order (first_of a.key) (first_of b.key) i)
-    (alone _ _ (number_order (second_of a.key) (second_of b.key)) i))))
-
-pub place_ties : (a b : Place) → is_eq (cells_cmp (place_key a) (place_key b)) ≡ is_eq (place_cmp a b)
-place_ties a b = ap is_eq (place_order a b)
-
--- the numbers of intersections have their order in cells
-pub number_cells_order : (a b : ℕ) → cells_cmp (number (pos a) ∷ []) (number (pos b) ∷ []) ≡ ranged_cmp a b
-number_cells_order a b = λ i. ordering_then (number_order a b i) Equal

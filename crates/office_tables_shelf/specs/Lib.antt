@@ -6,9 +6,6 @@ pub mod Change
 pub mod Counts
 pub mod Shelf
 pub mod Damage
-pub mod MapCabinet
-pub mod MapShelf
-pub mod Places
 pub mod CabinetReads
 pub mod Overdue
 pub mod RegisterStands

@@ -9,7 +9,7 @@ use cabinet_core::{Day, OverdueRow, Seen, overdue_row};
 use signal_records::{InterId, NoMemory};
 
 /// Adds the row of an intersection that was last inspected on this day, if it is overdue on a day.
-pub(crate) fn add_overdue(
+pub fn add_overdue(
     found: &mut Vec<OverdueRow>,
     day: Day,
     id: InterId,

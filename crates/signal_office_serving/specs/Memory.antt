@@ -10,7 +10,7 @@ use Rattle.office_http_framing.specs.Front.{PlainRequest}
 use Rattle.office_http_framing.specs.Stops.{Storage}
 use Rattle.office_tables_shelf.specs.Content.{Content}
 use Rattle.office_tables_shelf.specs.Counts.{no_writes}
-use Rattle.office_tables_shelf.specs.MapShelf.{ShelfView}
+use Rattle.office_tables_maps.specs.MapShelf.{ShelfView}
 
 -- an office without intersections, in which nothing was recorded
 abbrev pub new_office : Office

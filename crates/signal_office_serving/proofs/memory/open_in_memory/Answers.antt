@@ -1,5 +1,5 @@
 use Rattle.std.proofs.Common.{◌∙◌, ap}
-use Rattle.office_tables_shelf.specs.MapShelf.{ShelfView}
+use Rattle.office_tables_maps.specs.MapShelf.{ShelfView}
 use Rattle.signal_office_serving.proofs.MemoryLemmas.{nothing_stands}
 use Rattle.signal_office_serving.proofs.memory.open_in_memory.Goals as goal
 

@@ -1,0 +1,167 @@
+-- Trees of the cabinet's records: each stays under its own key, and those of an intersection are listed in order.
+use Rattle.std.proofs.Common.{◌≡◌, ℕ, List, [], map, Option, Some, None, option_map, Ordering, refl, ap, ◌∙◌}
+use Rattle.std.specs.BTreeMap.{is_at}
+use Rattle.std.specs.FinMap.{get}
+use Rattle.std.specs.List.{AllByRecursion}
+use Rattle.std.specs.List.Sorted.{IsStrictlySortedBy}
+use Rattle.std.specs.Map.{keys_of, lookup}
+use Rattle.std.specs.Ordering.{is_eq, ordering_then}
+use Rattle.std.specs.Prelude.{IfSome}
+use Rattle.std.specs.declared.cmp.Ordering.TheVariants.{Equal}
+use Rattle.cabinet_core.specs.Overdue.{greater}
+use Rattle.cabinet_core.specs.Within.{IsInspectionWithin, IsOrderWithin, IsUsedLineWithin}
+use Rattle.cabinet_core.specs.declared.record.Inspection.{Inspection}
+use Rattle.cabinet_core.specs.declared.record.Order.{Order}
+use Rattle.cabinet_core.specs.declared.record.UsedLine.{UsedLine}
+use Rattle.cabinet_core.specs.declared.record.Delivery.{Delivery}
+use Rattle.office_tables_shelf.specs.Cells.{Cell, cells_cmp, tree_rows}
+use Rattle.office_tables_shelf.specs.CabinetRows.{inspection_key, inspection_columns, order_key, order_columns, used_key, used_columns, delivery_columns}
+use Rattle.office_tables_shelf.specs.CabinetReads.{ReadsInspection, ReadsOrder, ReadsUsed, ReadsDelivery}
+use Rattle.office_tables_shelf.specs.Content.{no_content}
+use Rattle.office_tables_maps.specs.MapCabinet.{inspection_place_key, order_place_key, line_place_key, delivery_place_key, inspection_rows, order_rows, used_rows, delivery_rows, IsInspectionAt, IsOrderAt, IsUsedAt, IsDeliveryAt, AreInspectionsPlaced, AreOrdersPlaced, AreUsedPlaced, AreDeliveriesPlaced}
+use Rattle.office_tables_shelf.specs.Shelf.{rows_of}
+use Rattle.office_tables_maps.specs.declared.place.RecordPlace.{RecordPlace}
+use Rattle.office_tables_maps.specs.declared.place.LinePlace.{LinePlace}
+use Rattle.office_tables_maps.specs.declared.place.DeliveryPlace.{DeliveryPlace}
+use Rattle.office_tables_shelf.proofs.CellLemmas.{cells_exact}
+use Rattle.office_tables_shelf.proofs.CabinetLemmas.{of_number, part_cmp, text_order}
+use Rattle.office_tables_maps.proofs.PlaceLemmas.{under_by, under_listed}
+use Rattle.office_tables_shelf.proofs.TreeLemmas.{ranged_cmp, entry_at, get_tree}
+use Rattle.office_tables_maps.proofs.TreeRows.{ranged_order, last_order, standing_found}
+
+-- ---- how places compare, as their cells do
+
+abbrev pub record_cmp : RecordPlace → RecordPlace → Ordering
+record_cmp a b = ordering_then (ranged_cmp a.inter b.inter) (ranged_cmp a.number b.number)
+
+pub inspection_order : (a b : RecordPlace) → cells_cmp (inspection_place_key a) (inspection_place_key b) ≡ record_cmp a b
+inspection_order a b = λ i. ordering_then (ranged_order a.inter b.inter i) (last_order a.number b.number i)
+
+pub order_order : (a b : RecordPlace) → cells_cmp (order_place_key a) (order_place_key b) ≡ record_cmp a b
+order_order = inspection_order
+
+abbrev pub line_cmp : LinePlace → LinePlace → Ordering
+line_cmp a b = ordering_then (ranged_cmp a.inter b.inter) (ordering_then (ranged_cmp a.order b.order) (ranged_cmp a.line b.line))
+
+pub line_order : (a b : LinePlace) → cells_cmp (line_place_key a) (line_place_key b) ≡ line_cmp a b
+line_order a b = λ i. ordering_then (ranged_order a.inter b.inter i) (ordering_then (ranged_order a.order b.order i) (last_order a.line b.line i))
+
+abbrev pub delivery_cmp : DeliveryPlace → DeliveryPlace → Ordering
+delivery_cmp a b = ordering_then (part_cmp a.part b.part) (ranged_cmp a.number b.number)
+
+pub delivery_order : (a b : DeliveryPlace) → cells_cmp (delivery_place_key a) (delivery_place_key b) ≡ delivery_cmp a b
+delivery_order a b = λ i. ordering_then (text_order a.part b.part i) (last_order a.number b.number i)
+
+-- ---- keys that compare equal are one
+
+pub record_exact : (a b : RecordPlace) → record_cmp a b ≡ Equal → a ≡ b
+record_exact a b tie =
+    let same = cells_exact (inspection_place_key a) (inspection_place_key b) (inspection_order a b ∙ tie) in
+    let inter : a.inter ≡ b.inter = cc in
+    let n : a.number ≡ b.number = cc in
+    λ i. record { inter = inter i; number = n i }
+
+pub line_exact : (a b : LinePlace) → line_cmp a b ≡ Equal → a ≡ b
+line_exact a b tie =
+    let same = cells_exact (line_place_key a) (line_place_key b) (line_order a b ∙ tie) in
+    let inter : a.inter ≡ b.inter = cc in
+    let order : a.order ≡ b.order = cc in
+    let line : a.line ≡ b.line = cc in
+    λ i. record { inter = inter i; order = order i; line = line i }
+
+pub delivery_exact : (a b : DeliveryPlace) → delivery_cmp a b ≡ Equal → a ≡ b
+delivery_exact a b tie =
+    let same = cells_exact (delivery_place_key a) (delivery_place_key b) (delivery_order a b ∙ tie) in
+    let part : a.part ≡ b.part = cc in
+    let n : a.number ≡ b.number = cc in
+    λ i. record { part = part i; number = n i }
+
+-- ---- what stands at a place
+
+module _ {K X : Type 0} (R : K → K → Ordering) (exact : (a b : K) → R a b ≡ Equal → a ≡ b) (Stands : K → X → Type 0) (key : K → List Cell) (columns : X → List Cell) (order : (a b : K) → cells_cmp (key a) (key b) ≡ R a b) where
+  -- what a tree of such records has at a place are the cells of the place's own record
+  pub stands_under : (es : List (K × X)) (place : K) (found : Option X) → AllByRecursion (λ e. Stands e.0 e.1) es → entry_at R key columns es place ≡ found
+      → (get (tree_rows key columns es) (key place) ≡ option_map columns found) × IfSome found (Stands place)
+  stands_under es place found placed here =
+      (get_tree R key columns (λ a b. ap is_eq (order a b)) es place ∙ ap (option_map columns) here, own found here)
+    where
+      own : (o : Option X) → lookup (is_at (R place)) es ≡ o → IfSome o (Stands place)
+      own None there = tt
+      own (Some x) there = standing_found R exact Stands es place x placed there
+
+-- both of two facts on what is there
+both_of : {X : Type 0} (P Q : X → Type 0) (found : Option X) → IfSome found (λ x. P x × Q x) → IfSome found P × IfSome found Q
+both_of P Q None h = (tt, tt)
+both_of P Q (Some x) h = h
+
+-- what a tree of inspections has under an intersection and a number
+pub reads_inspection : (es : List (RecordPlace × Inspection)) (place : RecordPlace) (found : Option Inspection) → AreInspectionsPlaced es → entry_at record_cmp inspection_place_key inspection_columns es place ≡ found
+    → ReadsInspection (record no_content { inspection = inspection_rows es }) place.inter place.number found
+reads_inspection es place found placed here =
+    let stands = stands_under record_cmp record_exact IsInspectionAt inspection_place_key inspection_columns inspection_order es place found placed here in
+    let named = both_of (λ i. i.number ≡ place.number) IsInspectionWithin found stands.1 in
+    record { stored = stands.0; number = named.0 }
+
+-- an order
+pub reads_order : (es : List (RecordPlace × Order)) (place : RecordPlace) (found : Option Order) → AreOrdersPlaced es → entry_at record_cmp order_place_key order_columns es place ≡ found
+    → ReadsOrder (record no_content { work_order = order_rows es }) place.inter place.number found
+reads_order es place found placed here =
+    let stands = stands_under record_cmp record_exact IsOrderAt order_place_key order_columns order_order es place found placed here in
+    let named = both_of (λ o. o.number ≡ place.number) IsOrderWithin found stands.1 in
+    record { stored = stands.0; number = named.0 }
+
+-- a used part, under an intersection, an order and a line
+pub reads_used : (es : List (LinePlace × UsedLine)) (place : LinePlace) (found : Option UsedLine) → AreUsedPlaced es → entry_at line_cmp line_place_key used_columns es place ≡ found
+    → ReadsUsed (record no_content { used_part = used_rows es }) place.inter place.order place.line found
+reads_used es place found placed here =
+    let stands = stands_under line_cmp line_exact IsUsedAt line_place_key used_columns line_order es place found placed here in
+    let named = both_of (λ u. u.order ≡ place.order)
+    (λ u. (u.line ≡ place.line) × IsUsedLineWithin u) found stands.1 in
+    let numbered = both_of (λ u. u.line ≡ place.line) IsUsedLineWithin found named.1 in
+    record { stored = stands.0; of = named.0; number = numbered.0 }
+
+-- a delivery, under a part and a number
+pub reads_delivery : (es : List (DeliveryPlace × Delivery)) (place : DeliveryPlace) (found : Option Delivery) → AreDeliveriesPlaced es → entry_at delivery_cmp delivery_place_key delivery_columns es place ≡ found
+    → ReadsDelivery (record no_content { delivery = delivery_rows es }) place.part place.number found
+reads_delivery es place found placed here =
+    let stands = stands_under delivery_cmp delivery_exact IsDeliveryAt delivery_place_key delivery_columns delivery_order es place found placed here in
+    let named = both_of (λ d. d.part ≡ place.part) (λ d. d.number ≡ place.number) found stands.1 in
+    record { stored = stands.0; part = named.0; number = named.1 }
+
+-- ---- the records of an intersection
+
+-- the records of the entries of an intersection, in their order
+abbrev pub records_under : {K X : Type 0} → (K → ℕ) → ℕ → List (K × X) → List X
+records_under inter = under_by inter (λ e. e.1)
+
+abbrev pub record_inter : RecordPlace → ℕ
+record_inter place = place.inter
+
+abbrev pub line_inter : LinePlace → ℕ
+line_inter place = place.inter
+
+pub inspections_listed : (id : ℕ) (es : List (RecordPlace × Inspection)) → IsStrictlySortedBy record_cmp (keys_of es) → AreInspectionsPlaced es
+    → map (λ inspection. (inspection_key id inspection.number, inspection_columns inspection)) (records_under record_inter id es) ≡ rows_of id (inspection_rows es)
+inspections_listed = under_listed record_inter (λ e. e.1) record_cmp IsInspectionAt inspection_place_key inspection_columns (λ id inspection. (inspection_key id inspection.number, inspection_columns inspection))
+    inspection_order (λ id place. of_number id place.inter []) (λ e here i. (inspection_key e.0.inter (here.0 i), inspection_columns e.1))
+
+pub orders_listed : (id : ℕ) (es : List (RecordPlace × Order)) → IsStrictlySortedBy record_cmp (keys_of es) → AreOrdersPlaced es
+    → map (λ order. (order_key id order.number, order_columns order)) (records_under record_inter id es) ≡ rows_of id (order_rows es)
+orders_listed = under_listed record_inter (λ e. e.1) record_cmp IsOrderAt order_place_key order_columns (λ id order. (order_key id order.number, order_columns order))
+    order_order (λ id place. of_number id place.inter []) (λ e here i. (order_key e.0.inter (here.0 i), order_columns e.1))
+
+pub used_listed : (id : ℕ) (es : List (LinePlace × UsedLine)) → IsStrictlySortedBy line_cmp (keys_of es) → AreUsedPlaced es
+    → map (λ used. (used_key id used.order used.line, used_columns used)) (records_under line_inter id es) ≡ rows_of id (used_rows es)
+used_listed = under_listed line_inter (λ e. e.1) line_cmp IsUsedAt line_place_key used_columns (λ id used. (used_key id used.order used.line, used_columns used))
+    line_order (λ id place. of_number id place.inter []) (λ e here i. (used_key e.0.inter (here.0 i) (here.1.0 i), used_columns e.1))
+
+-- ---- the latest day
+
+-- the latest day of inspections, and another day
+abbrev pub latest_with : Option ℕ → Option ℕ → Option ℕ
+latest_with None last = last
+latest_with (Some day) last = Some (greater day last)
+
+pub latest_with_none : (last : Option ℕ) → latest_with last None ≡ last
+latest_with_none None = refl
+latest_with_none (Some day) = refl

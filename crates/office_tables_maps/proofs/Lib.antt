@@ -1,0 +1,4 @@
+mod TreeRows
+mod PlaceLemmas
+mod CabinetTrees
+mod RangeLemmas

@@ -1,0 +1,93 @@
+-- Trees of records: how the numbers of their keys compare, the rows in their order, those that pass a test, and each under its own key.
+use Rattle.std.proofs.Common.{◌≡◌, inl, inr, ℕ, pos, Bool, List, [], ◌∷◌, map, filter, cond, Some, None, Ordering, T, nat_cmp, refl, sym, ap, subst, subst₂, ◌∙◌}
+use Rattle.std.proofs.lemmas.Bool.{cases_Bool}
+use Rattle.std.proofs.lemmas.Map.Entries.{entries_from_clone}
+use Rattle.std.specs.BTreeMap.{insert_entry, is_at}
+use Rattle.std.specs.FinMap as finite
+use Rattle.std.specs.FinMap.{entries, retain_keys, get-retain_keys, same_map}
+use Rattle.std.specs.FinMap.Entries.{is_sorted, below_all, find-where_key}
+use Rattle.std.specs.List.{AllByRecursion, AllZip}
+use Rattle.std.specs.List.Sorted.{IsStrictlySortedBy}
+use Rattle.std.specs.Map.{keys_of, lookup}
+use Rattle.std.specs.Ordering.{is_eq, is_lt, match_ordering, ordering_then}
+use Rattle.std.specs.declared.cmp.Ordering.TheVariants.{Less, Equal, Greater}
+use Rattle.office_tables_shelf.specs.Cells.{Cell, number, rows_by, tree_rows, cell_cmp, cells_cmp}
+use Rattle.office_tables_shelf.proofs.CellLemmas.{cells_total, cells_exact, find_entry, get_by, tied}
+use Rattle.office_tables_shelf.proofs.ListLemmas.{both, cells_of, entry, entries_filter, entries_in_order}
+use Rattle.office_tables_shelf.proofs.TreeLemmas.{number_order, ranged_cmp, then_last}
+
+-- ---- how the numbers of keys compare
+
+pub ranged_order : (a b : ℕ) → cell_cmp (number (pos a)) (number (pos b)) ≡ ranged_cmp a b
+ranged_order a b = number_order a b ∙ sym (then_last (nat_cmp a b))
+
+-- one that is the last or the only one of its key
+pub last_order : (a b : ℕ) → cells_cmp (number (pos a) ∷ []) (number (pos b) ∷ []) ≡ ranged_cmp a b
+last_order a b = λ i. ordering_then (number_order a b i) Equal
+
+pub last_ties : (a b : ℕ) → is_eq (cells_cmp (number (pos a) ∷ []) (number (pos b) ∷ [])) ≡ is_eq (ranged_cmp a b)
+last_ties a b = ap is_eq (last_order a b)
+
+-- ---- the entries of a tree, in its order
+
+module _ {K X : Type 0} (R : K → K → Ordering) (key : K → List Cell) (columns : X → List Cell) (order : (a b : K) → cells_cmp (key a) (key b) ≡ R a b) where
+  below_keys : (k : K) (es : List (K × X)) → AllByRecursion (λ j. R k j ≡ Less) (keys_of es) → T (below_all cells_cmp (key k) (map (cells_of key columns) es))
+  below_keys k [] h = tt
+  below_keys k (e ∷ es) h = both _ _ (subst (λ o. T (is_lt o)) (sym (order k e.0 ∙ h.0)) tt) (below_keys k es h.1)
+
+  rising : (es : List (K × X)) → IsStrictlySortedBy R (keys_of es) → T (is_sorted cells_cmp (map (cells_of key columns) es))
+  unfolding IsStrictlySortedBy
+  rising [] h = tt
+  rising (e ∷ es) h = both _ _ (below_keys e.0 es h.0) (rising es h.1)
+
+  -- the entries of the map that a tree stands for are its own, in its order
+  pub tree_entries : (es : List (K × X)) → IsStrictlySortedBy R (keys_of es) → entries (tree_rows key columns es) ≡ map (cells_of key columns) es
+  tree_entries es h = entries_in_order (map (cells_of key columns) es) (rising es h)
+
+-- clones that are equal to their sources are the sources
+pub same_clones : {K X : Type 0} (es copies : List (K × X)) → AllZip (λ e f. (f.0 ≡ e.0) × (f.1 ≡ e.1)) es copies → copies ≡ es
+same_clones = entries_from_clone (λ x y. y ≡ x) (λ x y. y ≡ x) (λ x y h. h) (λ x y h. h)
+
+-- ---- records under their own keys
+
+module _ {K X : Type 0} (R : K → K → Ordering) (exact : (a b : K) → R a b ≡ Equal → a ≡ b) (Stands : K → X → Type 0) where
+  abbrev pub AreStanding : List (K × X) → Type 0
+  AreStanding = AllByRecursion (λ e. Stands e.0 e.1)
+
+  pub standing_put : (es : List (K × X)) (k : K) (x : X) → Stands k x → AreStanding es → AreStanding (insert_entry R es k x)
+  standing_put [] k x here h = (here, tt)
+  standing_put (e ∷ es) k x here h =
+      elim (R k e.0) as (λ o. R k e.0 ≡ o → AreStanding (match_ordering o ((k, x) ∷ e ∷ es) ((e.0, x) ∷ es) (e ∷ insert_entry R es k x))) [
+        | Less ↦ λ is. (here, h)
+        | Equal ↦ λ is. (subst (λ j. Stands j x) (exact k e.0 is) here, h.1)
+        | Greater ↦ λ is. (h.0, standing_put es k x here h.1)
+      ] refl
+
+  -- what stands at a key in a tree of such records is that of the key
+  pub standing_found : (es : List (K × X)) (k : K) (x : X) → AreStanding es → lookup (is_at (R k)) es ≡ Some x → Stands k x
+  standing_found [] k x h found = absurd cc
+  standing_found (e ∷ es) k x h found = elim (cases_Bool (is_eq (R k e.0))) [
+    | inl hit ↦
+        let is : Some e.1 ≡ Some x = rw hit at found in
+        let same : e.1 ≡ x = cc in
+        subst₂ Stands (sym (exact k e.0 (tied _ hit))) same h.0
+    | inr miss ↦ standing_found es k x h.1 (rw miss at found)
+  ]
+
+-- ---- the rows that pass a test
+
+module _ {X : Type 0} (key columns : X → List Cell) where
+  -- the map of the rows that pass a test of their keys
+  pub rows_kept : (test : List Cell → Bool) (xs : List X)
+      → rows_by key columns (filter (λ x. test (key x)) xs)
+      ≡ retain_keys (rows_by key columns xs) test
+  rows_kept test xs = same_map cells_total cells_exact _ _ (λ q.
+      let kept = filter (λ x. test (key x)) xs in
+      let alike : (k : List Cell) → cells_cmp q k ≡ Equal → test k ≡ test q = λ k tie.
+      ap test (sym (cells_exact q k tie)) in
+      get_by key columns kept q
+      ∙ sym (find_entry key columns kept q)
+      ∙ ap (finite.find cells_cmp q) (sym (entries_filter key columns test xs))
+      ∙ find-where_key cells_cmp test q alike (map (entry key columns) xs)
+      ∙ ap (λ o. cond (test q) o None) (find_entry key columns xs q ∙ sym (get_by key columns xs q))
+      ∙ sym (get-retain_keys (rows_by key columns xs) test q alike))

@@ -1,0 +1,17 @@
+use Rattle.std.proofs.Common.{refl, ap}
+use Rattle.std.specs.Ordering.{is_eq}
+use Rattle.office_tables_shelf.specs.CabinetRows.{inspection_columns}
+use Rattle.office_tables_maps.specs.MapCabinet.{inspection_place_key, IsInspectionAt}
+use Rattle.office_tables_maps.proofs.CabinetTrees.{record_cmp, inspection_order, record_exact}
+use Rattle.office_tables_shelf.proofs.TreeLemmas.{insert_tree}
+use Rattle.office_tables_maps.proofs.TreeRows.{standing_put}
+use Rattle.office_tables_maps.proofs.map_cabinet.put_inspection.Goals as goal
+
+pub returns-clause-rows : goal.returns-clause-rows
+returns-clause-rows c =
+    insert_tree record_cmp inspection_place_key inspection_columns (λ a b. ap is_eq (inspection_order a b)) c.args.rows.now.entries c.insert.new.self.entries (record { inter = c.args.inter; number = c.args.inspection.number }) c.args.inspection c.in_ok-insert.ensures.updates.0
+
+pub returns-clause-placed : goal.returns-clause-placed
+returns-clause-placed c = λ placed.
+    rw c.in_ok-insert.ensures.entries
+    (standing_put record_cmp record_exact IsInspectionAt c.args.rows.now.entries (record { inter = c.args.inter; number = c.args.inspection.number }) c.args.inspection (refl, c.inspection_is_within.ensures) placed)

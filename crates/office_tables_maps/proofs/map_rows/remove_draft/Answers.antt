@@ -1,0 +1,13 @@
+use Rattle.office_tables_maps.specs.MapShelf.{place_key, IsLeftAt}
+use Rattle.office_tables_shelf.specs.Rows.{left_columns}
+use Rattle.office_tables_maps.proofs.PlaceLemmas.{standing_removed}
+use Rattle.office_tables_maps.proofs.PlaceLemmas.{place_cmp, place_ties}
+use Rattle.office_tables_shelf.proofs.TreeLemmas.{remove_tree}
+use Rattle.office_tables_maps.proofs.map_rows.remove_draft.Goals as goal
+
+pub returns-clause-rows : goal.returns-clause-rows
+returns-clause-rows c =
+    remove_tree place_cmp place_key left_columns place_ties c.args.rows.now.entries c.remove.new.self.entries (record { inter = c.args.inter; key = c.args.key }) c.remove.ensures.updates.0
+
+pub returns-clause-placed : goal.returns-clause-placed
+returns-clause-placed c = λ placed. rw c.remove.ensures.entries (standing_removed IsLeftAt c.args.rows.now.entries _ placed)

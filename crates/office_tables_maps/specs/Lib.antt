@@ -1,0 +1,3 @@
+pub mod MapShelf
+pub mod MapCabinet
+pub mod Places

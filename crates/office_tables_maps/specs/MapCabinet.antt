@@ -1,0 +1,98 @@
+-- The cabinet's tables that records in memory stand for.
+use Rattle.std.specs.Prelude.{◌≡◌, ℕ, List}
+use Rattle.std.specs.List.{AllByRecursion}
+use Rattle.cabinet_core.specs.Within.{IsInspectionWithin, IsOrderWithin, IsUsedLineWithin}
+use Rattle.cabinet_core.specs.declared.record.Inspection.{Inspection}
+use Rattle.cabinet_core.specs.declared.record.Order.{Order}
+use Rattle.cabinet_core.specs.declared.record.UsedLine.{UsedLine}
+use Rattle.cabinet_core.specs.declared.record.Delivery.{Delivery}
+use Rattle.office_tables_shelf.specs.Cells.{Cell, Rows, tree_rows}
+use Rattle.office_tables_shelf.specs.Content.{Content, no_content}
+use Rattle.office_tables_maps.specs.MapShelf.{intersection_rows}
+use Rattle.office_tables_shelf.specs.declared.rows.IntersectionRow.{IntersectionRow}
+use Rattle.office_tables_shelf.specs.CabinetRows.{inspection_key, inspection_columns, order_key, order_columns, used_key, used_columns, part_key, part_columns, delivery_key, delivery_columns}
+use Rattle.office_tables_maps.specs.declared.place.RecordPlace.{RecordPlace}
+use Rattle.office_tables_maps.specs.declared.place.LinePlace.{LinePlace}
+use Rattle.office_tables_maps.specs.declared.place.DeliveryPlace.{DeliveryPlace}
+
+-- ---- the cells of places
+
+abbrev pub inspection_place_key : RecordPlace → List Cell
+inspection_place_key place = inspection_key place.inter place.number
+
+abbrev pub order_place_key : RecordPlace → List Cell
+order_place_key place = order_key place.inter place.number
+
+abbrev pub line_place_key : LinePlace → List Cell
+line_place_key place = used_key place.inter place.order place.line
+
+abbrev pub delivery_place_key : DeliveryPlace → List Cell
+delivery_place_key place = delivery_key place.part place.number
+
+-- ---- the tables
+
+abbrev pub inspection_rows : List (RecordPlace × Inspection) → Rows
+inspection_rows = tree_rows inspection_place_key inspection_columns
+
+abbrev pub order_rows : List (RecordPlace × Order) → Rows
+order_rows = tree_rows order_place_key order_columns
+
+abbrev pub used_rows : List (LinePlace × UsedLine) → Rows
+used_rows = tree_rows line_place_key used_columns
+
+abbrev pub part_rows : List (List ℕ × ℕ) → Rows
+part_rows = tree_rows part_key part_columns
+
+abbrev pub delivery_rows : List (DeliveryPlace × Delivery) → Rows
+delivery_rows = tree_rows delivery_place_key delivery_columns
+
+-- tables that have these rows, and no others
+abbrev pub with_inspections : List (RecordPlace × Inspection) → Content
+with_inspections es = record no_content { inspection = inspection_rows es }
+
+abbrev pub with_orders : List (RecordPlace × Order) → Content
+with_orders es = record no_content { work_order = order_rows es }
+
+abbrev pub with_used : List (LinePlace × UsedLine) → Content
+with_used es = record no_content { used_part = used_rows es }
+
+abbrev pub with_parts : List (List ℕ × ℕ) → Content
+with_parts es = record no_content { part = part_rows es }
+
+abbrev pub with_deliveries : List (DeliveryPlace × Delivery) → Content
+with_deliveries es = record no_content { delivery = delivery_rows es }
+
+-- it holds of all tables that have these intersections and inspections, and any others
+abbrev pub OfTables : List (ℕ × IntersectionRow) → List (RecordPlace × Inspection)
+    → (Content → Type 0) → Type 0
+OfTables rows inspections Holds =
+    (tables : Content) → tables.intersection ≡ intersection_rows rows
+    → tables.inspection ≡ inspection_rows inspections → Holds tables
+
+-- ---- each record stands under its own key, within its limits
+
+abbrev pub IsInspectionAt : RecordPlace → Inspection → Type 0
+IsInspectionAt place inspection =
+    (inspection.number ≡ place.number) × IsInspectionWithin inspection
+
+abbrev pub IsOrderAt : RecordPlace → Order → Type 0
+IsOrderAt place order = (order.number ≡ place.number) × IsOrderWithin order
+
+abbrev pub IsUsedAt : LinePlace → UsedLine → Type 0
+IsUsedAt place used =
+    (used.order ≡ place.order) × ((used.line ≡ place.line) × IsUsedLineWithin used)
+
+abbrev pub IsDeliveryAt : DeliveryPlace → Delivery → Type 0
+IsDeliveryAt place delivery = (delivery.part ≡ place.part) × (delivery.number ≡ place.number)
+
+abbrev pub AreInspectionsPlaced : List (RecordPlace × Inspection) → Type 0
+AreInspectionsPlaced = AllByRecursion (λ e. IsInspectionAt e.0 e.1)
+
+abbrev pub AreOrdersPlaced : List (RecordPlace × Order) → Type 0
+AreOrdersPlaced = AllByRecursion (λ e. IsOrderAt e.0 e.1)
+
+abbrev pub AreUsedPlaced : List (LinePlace × UsedLine) → Type 0
+AreUsedPlaced = AllByRecursion (λ e. IsUsedAt e.0 e.1)
+
+abbrev pub AreDeliveriesPlaced : List (DeliveryPlace × Delivery) → Type 0
+AreDeliveriesPlaced = AllByRecursion (λ e. IsDeliveryAt e.0 e.1)

@@ -1,0 +1,38 @@
+-- The places that an intersection's rows may have in memory: from the first to the last.
+use Rattle.std.specs.Prelude.{ℕ}
+use Rattle.std.specs.declared.ops.Bound.{Bound}
+use Rattle.std.specs.declared.ops.Bound.TheVariants.{Included}
+use Rattle.signal_records.specs.declared.key.Key.TheVariants.{Phase, Pattern}
+use Rattle.office_tables_maps.specs.declared.place.LinePlace.{LinePlace}
+use Rattle.office_tables_maps.specs.declared.place.Place.{Place}
+use Rattle.office_tables_maps.specs.declared.place.RecordPlace.{RecordPlace}
+
+-- of timing and draft rows
+abbrev pub first_place : ℕ → Place
+first_place id = record { inter = id; key = Phase 1 }
+
+abbrev pub last_place : ℕ → Place
+last_place id = record { inter = id; key = Pattern 48 }
+
+abbrev pub all_places : ℕ → Bound Place × Bound Place
+all_places id = (Included (first_place id), Included (last_place id))
+
+-- of inspections, and of orders
+abbrev pub first_record : ℕ → RecordPlace
+first_record id = record { inter = id; number = 1 }
+
+abbrev pub last_record : ℕ → RecordPlace
+last_record id = record { inter = id; number = 999_999 }
+
+abbrev pub all_records : ℕ → Bound RecordPlace × Bound RecordPlace
+all_records id = (Included (first_record id), Included (last_record id))
+
+-- of used parts
+abbrev pub first_line : ℕ → LinePlace
+first_line id = record { inter = id; order = 1; line = 1 }
+
+abbrev pub last_line : ℕ → LinePlace
+last_line id = record { inter = id; order = 999_999; line = 99 }
+
+abbrev pub all_lines : ℕ → Bound LinePlace × Bound LinePlace
+all_lines id = (Included (first_line id), Included (last_line id))

@@ -1,0 +1,8 @@
+//! The tables of the office in memory, as maps of records.
+#![tactic(auto)]
+
+mod map_cabinet;
+mod map_overdue;
+mod map_rows;
+pub mod map_shelf;
+mod place;

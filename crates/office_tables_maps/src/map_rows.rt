@@ -1,0 +1,219 @@
+//! The tables in memory as trees of records: a row put, removed, found, and the rows listed.
+ghost use Rattle.std.specs.Prelude.{◌≡◌, OnOk, IfOk};
+ghost use Rattle.std.specs.FinMap as finite;
+ghost use Rattle.std.specs.List.{AllByRecursion};
+ghost use Rattle.std.specs.Option.{option_map};
+ghost use Rattle.signal_records.specs.Row.{key_of};
+ghost use Rattle.draft_core.specs.DraftRows.{changed_key, left_by};
+ghost use Rattle.office_tables_shelf.specs.Content.{rows_but};
+ghost use Rattle.office_tables_shelf.specs.Rows.{intersection_key, intersection_columns};
+ghost use Rattle.office_tables_shelf.specs.Rows.{timing_key, timing_columns, draft_key};
+ghost use Rattle.office_tables_shelf.specs.Rows.{draft_columns};
+ghost use Rattle.office_tables_shelf.specs.Shelf.{ListsIntersections, ListsTiming, ListsDraft};
+ghost use Rattle.office_tables_shelf.specs.Shelf.{CountsTiming, IsIntersectionWithin};
+ghost use Rattle.office_tables_maps.specs.MapShelf.{intersection_rows, timing_rows, draft_rows};
+ghost use Rattle.office_tables_maps.specs.MapShelf.{change_at as left_at, AreRowsPlaced};
+ghost use Rattle.office_tables_maps.specs.MapShelf.{AreLeftPlaced, with_intersections};
+ghost use Rattle.office_tables_maps.specs.MapShelf.{with_timing, with_drafts};
+
+use crate::place::Place;
+use office_tables_shelf::bounds::intersection_is_within;
+use office_tables_shelf::rows::IntersectionRow;
+use signal_records::{Change, InterId, Key, NoMemory, Row, key_is_within};
+use std::alloc::Global;
+use std::collections::BTreeMap;
+
+/// Puts the row of an intersection.
+pub(crate) fn put_intersection(
+    rows: &mut BTreeMap<InterId, IntersectionRow>,
+    id: InterId,
+    row: IntersectionRow,
+) -> Result<(), NoMemory>
+    ensures { OnOk result (intersection_rows rows.new.entries ≡ finite.insert (intersection_rows rows.old.entries) (intersection_key id) (intersection_columns row)) }
+{
+    rows.insert(id, row)?;
+    Ok(())
+}
+
+/// The row of an intersection, if there is one.
+pub(crate) fn intersection_at(
+    rows: &BTreeMap<InterId, IntersectionRow>,
+    id: InterId,
+) -> Result<Option<IntersectionRow>, NoMemory>
+    ensures { IfOk result (λ row. finite.get (intersection_rows rows.now.entries) (intersection_key id) ≡ option_map intersection_columns row) }
+{
+    match rows.get(&id) {
+        Some(row) => Ok(Some(row.clone()?)),
+        None => Ok(None),
+    }
+}
+
+/// The rows of all intersections, by their numbers.
+pub(crate) fn all_intersections(
+    alloc: Global,
+    rows: &BTreeMap<InterId, IntersectionRow>,
+) -> Result<Vec<(InterId, IntersectionRow)>, NoMemory>
+    ensures rows { IfOk result (λ list.
+        ListsIntersections (with_intersections rows.now.entries) list.items) }
+    ensures within { IfOk result (λ list. AllByRecursion IsIntersectionWithin list.items) }
+{
+    let mut list = Vec::new(alloc);
+    for (id, row) in rows {
+        intersection_is_within(*id, row);
+        list.push((*id, row.clone()?))?;
+    }
+    Ok(list)
+}
+
+/// A copy of the rows of intersections.
+pub(crate) fn copied_intersections(
+    rows: &BTreeMap<InterId, IntersectionRow>,
+) -> Result<BTreeMap<InterId, IntersectionRow>, NoMemory>
+    ensures { IfOk result (λ copy. copy.entries ≡ rows.now.entries) }
+{
+    rows.clone()
+}
+
+/// Puts a committed row under its own key.
+pub(crate) fn put_timing(
+    rows: &mut BTreeMap<Place, Row>,
+    inter: InterId,
+    row: Row,
+) -> Result<(), NoMemory>
+    ensures rows { OnOk result (timing_rows rows.new.entries ≡ finite.insert (timing_rows rows.old.entries) (timing_key inter (key_of row)) (timing_columns row)) }
+    ensures placed { AreRowsPlaced rows.old.entries → AreRowsPlaced rows.new.entries }
+{
+    key_is_within(row.key());
+    let key = row.key();
+    rows.insert(Place { inter, key }, row)?;
+    Ok(())
+}
+
+/// Removes the committed row under a key, if there is one.
+pub(crate) fn remove_timing(rows: &mut BTreeMap<Place, Row>, inter: InterId, key: Key)
+    ensures rows { timing_rows rows.new.entries ≡ finite.remove (timing_rows rows.old.entries) (timing_key inter key) }
+    ensures placed { AreRowsPlaced rows.old.entries → AreRowsPlaced rows.new.entries }
+{
+    rows.remove(&Place { inter, key });
+}
+
+/// The committed rows of an intersection, in the order of their keys.
+pub(crate) fn timing_of(
+    alloc: Global,
+    rows: &BTreeMap<Place, Row>,
+    inter: InterId,
+) -> Result<Vec<Row>, NoMemory>
+    ensures { IfOk result (λ list. AreRowsPlaced rows.now.entries →
+        ListsTiming (with_timing rows.now.entries) inter list.items) }
+{
+    let mut list = Vec::new(alloc);
+    for (place, row) in rows.range(Place::all_of(inter)) {
+        if place.inter == inter {
+            list.push(row.clone()?)?;
+        }
+    }
+    Ok(list)
+}
+
+/// How many committed rows an intersection has.
+pub(crate) fn count_of(rows: &BTreeMap<Place, Row>, inter: InterId) -> usize
+    ensures { AreRowsPlaced rows.now.entries →
+        CountsTiming (with_timing rows.now.entries) inter result }
+{
+    let mut count = 0;
+    for (place, _) in rows.range(Place::all_of(inter)) {
+        if place.inter == inter {
+            count += 1;
+        }
+    }
+    count
+}
+
+/// The key that a change names.
+fn key_of_change(change: &Change) -> Key
+    ensures { result ≡ changed_key change.now }
+{
+    match change {
+        Change::Put(row) => row.key(),
+        Change::Remove(key) => *key,
+    }
+}
+
+/// The row that a change leaves at its key.
+fn left_by_change(change: &Change) -> Result<Option<Row>, NoMemory>
+    ensures { IfOk result (λ left. left ≡ left_by change.now) }
+{
+    match change {
+        Change::Put(row) => Ok(Some(row.clone()?)),
+        Change::Remove(_) => Ok(None),
+    }
+}
+
+/// Puts a draft row that keeps the change: what it leaves at its key.
+pub(crate) fn put_draft(
+    rows: &mut BTreeMap<Place, Option<Row>>,
+    inter: InterId,
+    change: &Change,
+) -> Result<(), NoMemory>
+    ensures rows { OnOk result (draft_rows rows.new.entries ≡ finite.insert (draft_rows rows.old.entries) (draft_key inter change.now) (draft_columns change.now)) }
+    ensures placed { AreLeftPlaced rows.old.entries → AreLeftPlaced rows.new.entries }
+{
+    key_is_within(key_of_change(change));
+    let key = key_of_change(change);
+    let left = left_by_change(change)?;
+    rows.insert(Place { inter, key }, left)?;
+    Ok(())
+}
+
+/// Removes the draft row under a key, if there is one.
+pub(crate) fn remove_draft(rows: &mut BTreeMap<Place, Option<Row>>, inter: InterId, key: Key)
+    ensures rows { draft_rows rows.new.entries ≡ finite.remove (draft_rows rows.old.entries) (timing_key inter key) }
+    ensures placed { AreLeftPlaced rows.old.entries → AreLeftPlaced rows.new.entries }
+{
+    rows.remove(&Place { inter, key });
+}
+
+/// Removes the draft rows of an intersection.
+pub(crate) fn drop_drafts(rows: &mut BTreeMap<Place, Option<Row>>, inter: InterId)
+    ensures rows { draft_rows rows.new.entries ≡ rows_but inter (draft_rows rows.old.entries) }
+    ensures placed { AreLeftPlaced rows.old.entries → AreLeftPlaced rows.new.entries }
+{
+    rows.retain(|place, _| place.inter != inter);
+}
+
+/// The change that leaves this at a key.
+fn change_at(key: Key, left: &Option<Row>) -> Result<Change, NoMemory>
+    ensures { IfOk result (λ change. change ≡ left_at key left.now) }
+{
+    match left {
+        Some(row) => Ok(Change::Put(row.clone()?)),
+        None => Ok(Change::Remove(key)),
+    }
+}
+
+/// A copy of what draft rows leave.
+pub(crate) fn copied_drafts(
+    rows: &BTreeMap<Place, Option<Row>>,
+) -> Result<BTreeMap<Place, Option<Row>>, NoMemory>
+    ensures { IfOk result (λ copy. copy.entries ≡ rows.now.entries) }
+{
+    rows.clone()
+}
+
+/// The draft rows of an intersection, in the order of their keys.
+pub(crate) fn draft_of(
+    alloc: Global,
+    rows: &BTreeMap<Place, Option<Row>>,
+    inter: InterId,
+) -> Result<Vec<Change>, NoMemory>
+    ensures { IfOk result (λ list. AreLeftPlaced rows.now.entries →
+        ListsDraft (with_drafts rows.now.entries) inter list.items) }
+{
+    let mut list = Vec::new(alloc);
+    for (place, left) in rows.range(Place::all_of(inter)) {
+        if place.inter == inter {
+            list.push(change_at(place.key, left)?)?;
+        }
+    }
+    Ok(list)
+}

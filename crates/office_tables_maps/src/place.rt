@@ -1,0 +1,98 @@
+//! Where rows stand in memory.
+
+ghost use Rattle.std.specs.Prelude.{◌≡◌};
+ghost use Rattle.office_tables_maps.specs.Places.{all_places, all_records, all_lines};
+
+use cabinet_core::PartCode;
+use signal_records::{InterId, Key, LineNo, PatternNo, PhaseNo, RecordNo};
+use std::alloc::AllocError;
+use std::ops::Bound;
+
+/// The place of a timing or draft row: its intersection, and its key there.
+#[derive(Clone, Copy, PartialEq, Eq, PartialOrd, Ord)]
+pub struct Place {
+    pub inter: InterId,
+    pub key: Key,
+}
+
+impl Place {
+    /// All places of an intersection: from the first to the last.
+    pub(crate) fn all_of(inter: InterId) -> (Bound<Place>, Bound<Place>)
+        ensures { result ≡ all_places inter }
+    {
+        let first = Key::Phase(PhaseNo::new(1).unwrap());
+        let last = Key::Pattern(PatternNo::new(48).unwrap());
+        (
+            Bound::Included(Place { inter, key: first }),
+            Bound::Included(Place { inter, key: last }),
+        )
+    }
+}
+
+/// The place of an inspection or an order: its intersection, and its number there.
+#[derive(Clone, Copy, PartialEq, Eq, PartialOrd, Ord)]
+pub struct RecordPlace {
+    pub inter: InterId,
+    pub number: RecordNo,
+}
+
+impl RecordPlace {
+    /// All places of an intersection: from the first to the last.
+    pub(crate) fn all_of(inter: InterId) -> (Bound<RecordPlace>, Bound<RecordPlace>)
+        ensures { result ≡ all_records inter }
+    {
+        let first = RecordNo::new(1).unwrap();
+        let last = RecordNo::new(999_999).unwrap();
+        (
+            Bound::Included(RecordPlace {
+                inter,
+                number: first,
+            }),
+            Bound::Included(RecordPlace {
+                inter,
+                number: last,
+            }),
+        )
+    }
+}
+
+/// The place of a used part: its intersection, the order, and the line of the order.
+#[derive(Clone, Copy, PartialEq, Eq, PartialOrd, Ord)]
+pub struct LinePlace {
+    pub inter: InterId,
+    pub order: RecordNo,
+    pub line: LineNo,
+}
+
+impl LinePlace {
+    /// All places of an intersection: from the first to the last.
+    pub(crate) fn all_of(inter: InterId) -> (Bound<LinePlace>, Bound<LinePlace>)
+        ensures { result ≡ all_lines inter }
+    {
+        let (order, line) = (RecordNo::new(1).unwrap(), LineNo::new(1).unwrap());
+        let first = LinePlace { inter, order, line };
+        let (order, line) = (RecordNo::new(999_999).unwrap(), LineNo::new(99).unwrap());
+        let last = LinePlace { inter, order, line };
+        (Bound::Included(first), Bound::Included(last))
+    }
+}
+
+/// The place of a delivery: the part, and the number of the delivery.
+#[derive(Drop, PartialEq, Eq, PartialOrd, Ord)]
+pub struct DeliveryPlace {
+    pub part: PartCode,
+    pub number: RecordNo,
+}
+
+impl Clone for DeliveryPlace {
+    ghost use Rattle.std.specs.Prelude.{◌≡◌};
+
+    ghost is_clone = { λ place copy. copy ≡ place };
+
+    fn clone(&self) -> Result<DeliveryPlace, AllocError> {
+        Ok(DeliveryPlace {
+            part: self.part.clone()?,
+            number: self.number,
+        })
+    }
+}
