@@ -1,10 +1,14 @@
 -- How what a parse reads of a command grows with its arguments and subcommands.
-use Rattle.std.proofs.Common.{◌≡◌, Bool, false, ◌||◌, ap, ap₂, ◌∙◌}
+use Rattle.std.proofs.Common.{◌≡◌, ℕ, ◌+◌, ◌<◌, Bool, false, ◌||◌, List, [], ◌∷◌, ◌++◌, map, take}
+use Rattle.std.proofs.Common.{get_or, length, refl, sym, ap, ap₂, subst, ◌∙◌}
+use Rattle.std.proofs.lemmas.List.{map-append, take_more}
 use Rattle.clap.specs.declared.builder.command.Command.{Command}
 use Rattle.clap.specs.declared.builder.arg.Arg.{Arg}
 use Rattle.clap.specs.Walk.{Rule, rule_of}
 use Rattle.clap.specs.Simple.{App, with_rule, with_subcommand}
-use Rattle.signal_office_line.specs.CommandLine.{Reads}
+use Rattle.signal_office_line.specs.Arguments.{rule_for}
+use Rattle.signal_office_line.specs.CommandLine.{Reads, with_rules}
+use Rattle.signal_office_line.specs.declared.arguments.Argument.{Argument}
 use Rattle.clap.specs.Built.{AddsArg, AddsSubcommand}
 
 neither : (x y z : Bool) → x ≡ (y || z) → y ≡ false → z ≡ false → x ≡ false
@@ -23,3 +27,20 @@ Reads-subcommand old sub new app inner r s adds = record {
   app_is = adds.shape s.local ∙ ap₂ with_subcommand r.app_is (ap (λ (a : App). a.top) s.app_is);
   local = neither _ _ _ adds.globals r.local s.local;
 }
+
+with_rules-more : (app : App) (rules : List Rule) (rule : Rule)
+    → with_rules app (rules ++ rule ∷ []) ≡ with_rule (with_rules app rules) rule
+with_rules-more app [] rule = refl
+with_rules-more app (first ∷ rules) rule = with_rules-more (with_rule app first) rules rule
+
+-- the next of some arguments
+pub Reads-more : (c : Command) (app : App) (arguments : List Argument) (i : ℕ) (none : Argument)
+    → i < length arguments
+    → Reads c (with_rule (with_rules app (map rule_for (take i arguments))) (rule_for (get_or arguments i none)))
+    → Reads c (with_rules app (map rule_for (take (i + 1) arguments)))
+Reads-more c app arguments i none low reads =
+    let next = get_or arguments i none in
+    subst (Reads c)
+    (sym (ap (λ (xs : List Argument). with_rules app (map rule_for xs)) (take_more arguments i none low)
+    ∙ ap (with_rules app) (map-append rule_for (take i arguments) (next ∷ []))
+    ∙ with_rules-more app (map rule_for (take i arguments)) (rule_for next))) reads

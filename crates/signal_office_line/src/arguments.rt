@@ -1,17 +1,22 @@
-//! The arguments that commands take.
+//! The arguments that commands take, and how `clap` is told of them.
 
-ghost use Rattle.std.specs.Prelude.{◌≡◌, codes, false};
+ghost use Rattle.std.specs.Prelude.{◌≡◌, IfOk, false, map};
+ghost use Rattle.clap.specs.Simple.{App, new_app, with_subcommand};
 ghost use Rattle.clap.specs.Walk.{rule_of};
-ghost use Rattle.signal_office_line.specs.CommandLine.{db_rule, required_db_rule, positional_rule};
-ghost use Rattle.signal_office_line.specs.CommandLine.{number_rule, option_rule, flag_rule};
-ghost use Rattle.signal_office_line.specs.CommandLine.{second_rule};
+ghost use Rattle.signal_office_line.specs.CommandLine.{Reads, with_rules};
+ghost use Rattle.signal_office_line.specs.Arguments.{rule_for};
 
-use clap::{Arg, ArgAction};
-use std::alloc::Global;
+use clap::{Arg, ArgAction, Command};
+use std::alloc::{AllocError, Global};
 
 /// What the help says of `--db FILE` where the file is made.
 pub(crate) const MADE_FILE: &str =
     "The SQLite file that keeps the tables; made where there is none";
+
+/// What it says where tables in memory will do.
+pub(crate) const FILE_OR_MEMORY: &str =
+    "The SQLite file that keeps the tables; made where there is none. Without it they are in \
+     memory and are gone at the end";
 
 /// What it says where none is made.
 pub(crate) const FOUND_FILE: &str = "The SQLite file that keeps the tables; it has to be there";
@@ -19,95 +24,66 @@ pub(crate) const FOUND_FILE: &str = "The SQLite file that keeps the tables; it h
 /// What it says of the number of an intersection.
 pub(crate) const ID: &str = "The intersection's number, 1 to 9999";
 
-/// `--db FILE`.
-pub(crate) fn db_option<'a>(alloc: Global) -> Arg<'a>
-    ensures rule { rule_of result ≡ db_rule }
-    ensures local { result.global ≡ false }
-{
-    Arg::new(alloc, "db").long("db").value_name("FILE").help(
-        "The SQLite file that keeps the tables; made where there is none. Without it they are in \
-         memory and are gone at the end",
-    )
+/// How an argument is given.
+#[derive(Clone, Copy)]
+pub(crate) enum Form<'a> {
+    /// A word that has to be given.
+    Word,
+    /// A word that may be left out.
+    SecondWord,
+    /// `--NAME`, without a value.
+    Flag,
+    /// `--NAME VALUE`, which has to be given, with what the help calls its value.
+    Needed(&'a str),
+    /// The same, which may be left out.
+    Choice(&'a str),
 }
 
-/// `--db FILE`, which has to be given.
-pub(crate) fn required_db_option<'a>(alloc: Global, help: &'a str) -> Arg<'a>
-    ensures rule { rule_of result ≡ required_db_rule }
+/// An argument of a command: its name, how it is given, and what the help says of it.
+#[derive(Clone, Copy)]
+pub(crate) struct Argument<'a>(pub &'a str, pub Form<'a>, pub &'a str);
+
+/// An argument as `clap` takes it.
+fn arg_of<'a>(alloc: Global, argument: &Argument<'a>) -> Arg<'a>
+    ensures rule { rule_of result ≡ rule_for argument.now }
     ensures local { result.global ≡ false }
 {
-    Arg::new(alloc, "db")
-        .long("db")
-        .value_name("FILE")
-        .required(true)
-        .help(help)
+    let Argument(name, form, help) = *argument;
+    let arg = Arg::new(alloc, name).help(help);
+    match form {
+        Form::Word => arg.required(true),
+        Form::SecondWord => arg,
+        Form::Flag => arg.long(name).action(ArgAction::SetTrue),
+        Form::Needed(value) => arg.long(name).value_name(value).required(true),
+        Form::Choice(value) => arg.long(name).value_name(value),
+    }
 }
 
-/// `--NAME N`, which has to be given.
-pub(crate) fn number_option<'a>(alloc: Global, name: &'a str, help: &'a str) -> Arg<'a>
-    ensures rule { rule_of result ≡ number_rule name.entry.now }
-    ensures local { result.global ≡ false }
+/// The command of a name, with what its help says of it, and its arguments in their order.
+pub(crate) fn command_of<'a>(
+    alloc: Global,
+    name: &'a str,
+    about: &'a str,
+    arguments: &[Argument<'a>],
+) -> Result<Command<'a>, AllocError>
+    ensures { IfOk result (λ c. Reads c
+        (with_rules (new_app name.entry.now) (map rule_for arguments.now))) }
 {
-    Arg::new(alloc, name)
-        .long(name)
-        .value_name("N")
-        .required(true)
-        .help(help)
+    let mut command = Command::new(alloc, name).about(about);
+    for argument in arguments {
+        command = command.arg(arg_of(alloc, argument))?;
+    }
+    Ok(command)
 }
 
-/// `--NAME N`, which may be left out.
-pub(crate) fn choice_option<'a>(alloc: Global, name: &'a str, help: &'a str) -> Arg<'a>
-    ensures rule { rule_of result ≡ option_rule name.entry.now }
-    ensures local { result.global ≡ false }
+/// The program with one command more. It alone lets commands go, where memory runs out.
+pub(crate) fn with_command<'a>(
+    program: Result<Command<'a>, AllocError>,
+    command: Result<Command<'a>, AllocError>,
+) -> Result<Command<'a>, AllocError>
+    ensures { (app inner : App) → IfOk program.entry (λ c. Reads c app) →
+        IfOk command.entry (λ c. Reads c inner) →
+        IfOk result (λ c. Reads c (with_subcommand app inner.top)) }
 {
-    Arg::new(alloc, name).long(name).value_name("N").help(help)
-}
-
-/// A word that has to be given.
-pub(crate) fn word<'a>(alloc: Global, name: &'a str, help: &'a str) -> Arg<'a>
-    ensures rule { rule_of result ≡ positional_rule name.entry.now }
-    ensures local { result.global ≡ false }
-{
-    Arg::new(alloc, name).required(true).help(help)
-}
-
-/// `--clerk NAME`, which has to be given.
-pub(crate) fn clerk_option<'a>(alloc: Global, help: &'a str) -> Arg<'a>
-    ensures rule { rule_of result ≡ number_rule (codes "clerk") }
-    ensures local { result.global ≡ false }
-{
-    Arg::new(alloc, "clerk")
-        .long("clerk")
-        .value_name("NAME")
-        .required(true)
-        .help(help)
-}
-
-/// A word that may be left out.
-pub(crate) fn second_word<'a>(alloc: Global, name: &'a str, help: &'a str) -> Arg<'a>
-    ensures rule { rule_of result ≡ second_rule name.entry.now }
-    ensures local { result.global ≡ false }
-{
-    Arg::new(alloc, name).help(help)
-}
-
-/// `--NAME FILE`, which may be left out.
-pub(crate) fn file_option<'a>(alloc: Global, name: &'a str, help: &'a str) -> Arg<'a>
-    ensures rule { rule_of result ≡ option_rule name.entry.now }
-    ensures local { result.global ≡ false }
-{
-    Arg::new(alloc, name)
-        .long(name)
-        .value_name("FILE")
-        .help(help)
-}
-
-/// `--NAME`, without a value.
-pub(crate) fn flag<'a>(alloc: Global, name: &'a str, help: &'a str) -> Arg<'a>
-    ensures rule { rule_of result ≡ flag_rule name.entry.now }
-    ensures local { result.global ≡ false }
-{
-    Arg::new(alloc, name)
-        .long(name)
-        .action(ArgAction::SetTrue)
-        .help(help)
+    program?.subcommand(command?)
 }

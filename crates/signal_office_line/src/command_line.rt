@@ -11,8 +11,7 @@ ghost use Rattle.signal_office_line.specs.CommandLine.{with_subcommands};
 ghost use Rattle.clap.specs.Simple.{App};
 
 use crate::arguments::{
-    FOUND_FILE, ID, MADE_FILE, choice_option, clerk_option, db_option, file_option, flag,
-    number_option, required_db_option, second_word, word,
+    Argument, FILE_OR_MEMORY, FOUND_FILE, Form, ID, MADE_FILE, command_of, with_command,
 };
 use crate::keeping::with_keeping;
 use clap::Command;
@@ -22,242 +21,287 @@ use std::alloc::{AllocError, Global};
 fn batch_command<'a>(alloc: Global) -> Result<Command<'a>, AllocError>
     ensures { IfOk result (λ c. Reads c batch_app) }
 {
-    Command::new(alloc, "batch")
-        .about("Answers the HTTP requests on standard input, at most 1,000,000, on standard output")
-        .arg(db_option(alloc))
+    command_of(
+        alloc,
+        "batch",
+        "Answers the HTTP requests on standard input, at most 1,000,000, on standard output",
+        &[Argument("db", Form::Choice("FILE"), FILE_OR_MEMORY)],
+    )
 }
 
 /// `serve`.
 fn serve_command<'a>(alloc: Global) -> Result<Command<'a>, AllocError>
     ensures { IfOk result (λ c. Reads c serve_app) }
 {
-    Command::new(alloc, "serve")
-        .about("Listens on 127.0.0.1 and answers HTTP requests, one connection after the other")
-        .arg(number_option(alloc, "port", "The TCP port, 1 to 65535"))?
-        .arg(choice_option(
-            alloc,
-            "count",
-            "The connections that are served before the program ends, 1 to 1000000, which is \
-             what it serves without it; each has at most 10,000 requests",
-        ))?
-        .arg(db_option(alloc))
+    command_of(
+        alloc,
+        "serve",
+        "Listens on 127.0.0.1 and answers HTTP requests, one connection after the other",
+        &[
+            Argument("port", Form::Needed("N"), "The TCP port, 1 to 65535"),
+            Argument(
+                "count",
+                Form::Choice("N"),
+                "The connections that are served before the program ends, 1 to 1000000, which is \
+                 what it serves without it; each has at most 10,000 requests",
+            ),
+            Argument("db", Form::Choice("FILE"), FILE_OR_MEMORY),
+        ],
+    )
 }
 
 /// `sheet`.
 fn sheet_command<'a>(alloc: Global) -> Result<Command<'a>, AllocError>
     ensures { IfOk result (λ c. Reads c sheet_app) }
 {
-    Command::new(alloc, "sheet")
-        .about(
-            "Prints the timing sheet of an intersection: the committed plan, times in seconds, \
-             distances in feet",
-        )
-        .arg(required_db_option(alloc, FOUND_FILE))?
-        .arg(word(alloc, "ID", ID))
+    command_of(
+        alloc,
+        "sheet",
+        "Prints the timing sheet of an intersection: the committed plan, times in seconds, \
+         distances in feet",
+        &[
+            Argument("db", Form::Needed("FILE"), FOUND_FILE),
+            Argument("ID", Form::Word, ID),
+        ],
+    )
 }
 
 /// `overdue`.
 fn overdue_command<'a>(alloc: Global) -> Result<Command<'a>, AllocError>
     ensures { IfOk result (λ c. Reads c overdue_app) }
 {
-    Command::new(alloc, "overdue")
-        .about(
-            "Prints the intersections that were never inspected or whose inspection fell due \
-             before a day, and how many are listed",
-        )
-        .arg(required_db_option(alloc, FOUND_FILE))?
-        .arg(choice_option(
-            alloc,
-            "first",
-            "The most intersections that are listed, 1 to 9999, those with the lowest numbers; \
-             without it all are",
-        ))?
-        .arg(word(
-            alloc,
-            "DAY",
-            "The day, as YYYY-MM-DD, from 1970-01-01 to 2199-12-31",
-        ))
+    command_of(
+        alloc,
+        "overdue",
+        "Prints the intersections that were never inspected or whose inspection fell due \
+         before a day, and how many are listed",
+        &[
+            Argument("db", Form::Needed("FILE"), FOUND_FILE),
+            Argument(
+                "first",
+                Form::Choice("N"),
+                "The most intersections that are listed, 1 to 9999, those with the lowest numbers; \
+                 without it all are",
+            ),
+            Argument(
+                "DAY",
+                Form::Word,
+                "The day, as YYYY-MM-DD, from 1970-01-01 to 2199-12-31",
+            ),
+        ],
+    )
 }
 
 /// `verify-file`.
 fn verify_file_command<'a>(alloc: Global) -> Result<Command<'a>, AllocError>
     ensures { IfOk result (λ c. Reads c verify_file_app) }
 {
-    Command::new(alloc, "verify-file")
-        .about(
-            "Checks the timing plan in a CSV file against the fourteen rules; ends with status 3 \
-             where one is broken",
-        )
-        .arg(word(
-            alloc,
+    command_of(
+        alloc,
+        "verify-file",
+        "Checks the timing plan in a CSV file against the fourteen rules; ends with status 3 \
+         where one is broken",
+        &[Argument(
             "CSV",
+            Form::Word,
             "The file; one record for each phase, sequence, split and pattern",
-        ))
+        )],
+    )
 }
 
 /// `migrate`.
 fn migrate_command<'a>(alloc: Global) -> Result<Command<'a>, AllocError>
     ensures { IfOk result (λ c. Reads c migrate_app) }
 {
-    Command::new(alloc, "migrate")
-        .about("Brings a file of an older version to today's; says how many rows were written anew")
-        .arg(required_db_option(alloc, FOUND_FILE))
+    command_of(
+        alloc,
+        "migrate",
+        "Brings a file of an older version to today's; says how many rows were written anew",
+        &[Argument("db", Form::Needed("FILE"), FOUND_FILE)],
+    )
 }
 
 /// `import`.
 fn import_command<'a>(alloc: Global) -> Result<Command<'a>, AllocError>
     ensures { IfOk result (λ c. Reads c import_app) }
 {
-    Command::new(alloc, "import")
-        .about(
-            "Takes the cabinet records of a CSV file in turn, all of them or none; says how many \
-             were new",
-        )
-        .arg(required_db_option(alloc, MADE_FILE))?
-        .arg(word(
-            alloc,
-            "CSV",
-            "The file; one record for each inspection, order, used part, closing and delivery",
-        ))
+    command_of(
+        alloc,
+        "import",
+        "Takes the cabinet records of a CSV file in turn, all of them or none; says how many \
+         were new",
+        &[
+            Argument("db", Form::Needed("FILE"), MADE_FILE),
+            Argument(
+                "CSV",
+                Form::Word,
+                "The file; one record for each inspection, order, used part, closing and delivery",
+            ),
+        ],
+    )
 }
 
 /// `export`.
 fn export_command<'a>(alloc: Global) -> Result<Command<'a>, AllocError>
     ensures { IfOk result (λ c. Reads c export_app) }
 {
-    Command::new(alloc, "export")
-        .about(
-            "Prints the committed timing plan of an intersection as CSV, or its draft, or its \
-             cabinet",
-        )
-        .arg(required_db_option(alloc, FOUND_FILE))?
-        .arg(flag(alloc, "draft", "Print the draft"))?
-        .arg(flag(alloc, "cabinet", "Print the cabinet"))?
-        .arg(word(alloc, "ID", ID))
+    command_of(
+        alloc,
+        "export",
+        "Prints the committed timing plan of an intersection as CSV, or its draft, or its \
+         cabinet",
+        &[
+            Argument("db", Form::Needed("FILE"), FOUND_FILE),
+            Argument("draft", Form::Flag, "Print the draft"),
+            Argument("cabinet", Form::Flag, "Print the cabinet"),
+            Argument("ID", Form::Word, ID),
+        ],
+    )
 }
 
 /// `edit`.
 fn edit_command<'a>(alloc: Global) -> Result<Command<'a>, AllocError>
     ensures { IfOk result (λ c. Reads c edit_app) }
 {
-    Command::new(alloc, "edit")
-        .about(
-            "Changes a timing plan by a CSV file, in a transaction that stays open; prints the \
-             rules that the draft breaks",
-        )
-        .arg(required_db_option(alloc, FOUND_FILE))?
-        .arg(clerk_option(
-            alloc,
-            "Who edits, 1 to 40 bytes; a transaction of another clerk is not touched",
-        ))?
-        .arg(flag(
-            alloc,
-            "commit",
-            "Commit the draft where it breaks no rule; ends with status 3 where it breaks one",
-        ))?
-        .arg(word(alloc, "ID", ID))?
-        .arg(word(
-            alloc,
-            "CSV",
-            "The file; one record for each row that is put or removed",
-        ))
+    command_of(
+        alloc,
+        "edit",
+        "Changes a timing plan by a CSV file, in a transaction that stays open; prints the \
+         rules that the draft breaks",
+        &[
+            Argument("db", Form::Needed("FILE"), FOUND_FILE),
+            Argument(
+                "clerk",
+                Form::Needed("NAME"),
+                "Who edits, 1 to 40 bytes; a transaction of another clerk is not touched",
+            ),
+            Argument(
+                "commit",
+                Form::Flag,
+                "Commit the draft where it breaks no rule; ends with status 3 where it breaks one",
+            ),
+            Argument("ID", Form::Word, ID),
+            Argument(
+                "CSV",
+                Form::Word,
+                "The file; one record for each row that is put or removed",
+            ),
+        ],
+    )
 }
 
 /// `abandon`.
 fn abandon_command<'a>(alloc: Global) -> Result<Command<'a>, AllocError>
     ensures { IfOk result (λ c. Reads c abandon_app) }
 {
-    Command::new(alloc, "abandon")
-        .about("Drops the draft of an intersection, whoever holds it, and ends its transaction")
-        .arg(required_db_option(alloc, FOUND_FILE))?
-        .arg(clerk_option(alloc, "Who drops it, 1 to 40 bytes"))?
-        .arg(word(alloc, "ID", ID))
+    command_of(
+        alloc,
+        "abandon",
+        "Drops the draft of an intersection, whoever holds it, and ends its transaction",
+        &[
+            Argument("db", Form::Needed("FILE"), FOUND_FILE),
+            Argument("clerk", Form::Needed("NAME"), "Who drops it, 1 to 40 bytes"),
+            Argument("ID", Form::Word, ID),
+        ],
+    )
 }
 
 /// `compare`.
 fn compare_command<'a>(alloc: Global) -> Result<Command<'a>, AllocError>
     ensures { IfOk result (λ c. Reads c compare_app) }
 {
-    Command::new(alloc, "compare")
-        .about(
-            "Prints what two timing plans differ in, or what a draft changes; ends with status 4 \
-             where they differ",
-        )
-        .arg(file_option(
-            alloc,
-            "db",
-            "The SQLite file that keeps the tables: compares the committed plan of an \
-             intersection with its draft",
-        ))?
-        .arg(flag(
-            alloc,
-            "csv",
-            "Print the changes as CSV, as `edit` takes them",
-        ))?
-        .arg(word(
-            alloc,
-            "PLAN",
-            "The CSV file of a plan; with --db the intersection's number, 1 to 9999",
-        ))?
-        .arg(second_word(
-            alloc,
-            "OTHER",
-            "The CSV file of the other plan; not with --db",
-        ))
+    command_of(
+        alloc,
+        "compare",
+        "Prints what two timing plans differ in, or what a draft changes; ends with status 4 \
+         where they differ",
+        &[
+            Argument(
+                "db",
+                Form::Choice("FILE"),
+                "The SQLite file that keeps the tables: compares the committed plan of an \
+                 intersection with its draft",
+            ),
+            Argument(
+                "csv",
+                Form::Flag,
+                "Print the changes as CSV, as `edit` takes them",
+            ),
+            Argument(
+                "PLAN",
+                Form::Word,
+                "The CSV file of a plan; with --db the intersection's number, 1 to 9999",
+            ),
+            Argument(
+                "OTHER",
+                Form::SecondWord,
+                "The CSV file of the other plan; not with --db",
+            ),
+        ],
+    )
 }
 
 /// `diagram`.
 fn diagram_command<'a>(alloc: Global) -> Result<Command<'a>, AllocError>
     ensures { IfOk result (λ c. Reads c diagram_app) }
 {
-    Command::new(alloc, "diagram")
-        .about("Draws a pattern as SVG: the phases of each ring over the seconds of the cycle")
-        .arg(file_option(
-            alloc,
-            "db",
-            "The SQLite file that keeps the tables: draws a committed plan, with ID and PATTERN",
-        ))?
-        .arg(file_option(
-            alloc,
-            "file",
-            "The CSV file of a plan, with the pattern's number alone",
-        ))?
-        .arg(word(
-            alloc,
-            "ID",
-            "The intersection's number, 1 to 9999; with --file the pattern's",
-        ))?
-        .arg(second_word(
-            alloc,
-            "PATTERN",
-            "The pattern's number, 1 to 48; not with --file",
-        ))
+    command_of(
+        alloc,
+        "diagram",
+        "Draws a pattern as SVG: the phases of each ring over the seconds of the cycle",
+        &[
+            Argument(
+                "db",
+                Form::Choice("FILE"),
+                "The SQLite file that keeps the tables: draws a committed plan, with ID and \
+                 PATTERN",
+            ),
+            Argument(
+                "file",
+                Form::Choice("FILE"),
+                "The CSV file of a plan, with the pattern's number alone",
+            ),
+            Argument(
+                "ID",
+                Form::Word,
+                "The intersection's number, 1 to 9999; with --file the pattern's",
+            ),
+            Argument(
+                "PATTERN",
+                Form::SecondWord,
+                "The pattern's number, 1 to 48; not with --file",
+            ),
+        ],
+    )
 }
 
 /// `page`.
 fn page_command<'a>(alloc: Global) -> Result<Command<'a>, AllocError>
     ensures { IfOk result (λ c. Reads c page_app) }
 {
-    Command::new(alloc, "page")
-        .about(
-            "Prints an intersection as one HTML page: its plan with the pictures of all patterns, \
-             its draft, its cabinet; or the plan of a file",
-        )
-        .arg(file_option(
-            alloc,
-            "db",
-            "The SQLite file that keeps the tables: shows an intersection, with ID",
-        ))?
-        .arg(file_option(
-            alloc,
-            "file",
-            "The CSV file of a plan, which is shown alone",
-        ))?
-        .arg(second_word(
-            alloc,
-            "ID",
-            "The intersection's number, 1 to 9999; not with --file",
-        ))
+    command_of(
+        alloc,
+        "page",
+        "Prints an intersection as one HTML page: its plan with the pictures of all patterns, \
+         its draft, its cabinet; or the plan of a file",
+        &[
+            Argument(
+                "db",
+                Form::Choice("FILE"),
+                "The SQLite file that keeps the tables: shows an intersection, with ID",
+            ),
+            Argument(
+                "file",
+                Form::Choice("FILE"),
+                "The CSV file of a plan, which is shown alone",
+            ),
+            Argument(
+                "ID",
+                Form::SecondWord,
+                "The intersection's number, 1 to 9999; not with --file",
+            ),
+        ],
+    )
 }
 
 /// The program with the commands that answer requests and report.
@@ -265,11 +309,10 @@ fn with_answers<'a>(alloc: Global, program: Command<'a>) -> Result<Command<'a>, 
     ensures { (app : App) → Reads program.entry app →
         IfOk result (λ c. Reads c (with_subcommands app answering)) }
 {
-    program
-        .subcommand(batch_command(alloc)?)?
-        .subcommand(serve_command(alloc)?)?
-        .subcommand(sheet_command(alloc)?)?
-        .subcommand(overdue_command(alloc)?)
+    let program = with_command(Ok(program), batch_command(alloc));
+    let program = with_command(program, serve_command(alloc));
+    let program = with_command(program, sheet_command(alloc));
+    with_command(program, overdue_command(alloc))
 }
 
 /// The program with the commands that take whole files and give them.
@@ -277,11 +320,10 @@ fn with_files<'a>(alloc: Global, program: Command<'a>) -> Result<Command<'a>, Al
     ensures { (app : App) → Reads program.entry app →
         IfOk result (λ c. Reads c (with_subcommands app exchanging)) }
 {
-    program
-        .subcommand(verify_file_command(alloc)?)?
-        .subcommand(migrate_command(alloc)?)?
-        .subcommand(import_command(alloc)?)?
-        .subcommand(export_command(alloc)?)
+    let program = with_command(Ok(program), verify_file_command(alloc));
+    let program = with_command(program, migrate_command(alloc));
+    let program = with_command(program, import_command(alloc));
+    with_command(program, export_command(alloc))
 }
 
 /// The program with the commands that change plans and show them.
@@ -289,12 +331,11 @@ fn with_plans<'a>(alloc: Global, program: Command<'a>) -> Result<Command<'a>, Al
     ensures { (app : App) → Reads program.entry app →
         IfOk result (λ c. Reads c (with_subcommands app planning)) }
 {
-    program
-        .subcommand(edit_command(alloc)?)?
-        .subcommand(abandon_command(alloc)?)?
-        .subcommand(compare_command(alloc)?)?
-        .subcommand(diagram_command(alloc)?)?
-        .subcommand(page_command(alloc)?)
+    let program = with_command(Ok(program), edit_command(alloc));
+    let program = with_command(program, abandon_command(alloc));
+    let program = with_command(program, compare_command(alloc));
+    let program = with_command(program, diagram_command(alloc));
+    with_command(program, page_command(alloc))
 }
 
 /// The command line of the program.

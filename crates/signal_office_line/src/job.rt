@@ -9,8 +9,8 @@ ghost use Rattle.signal_office_line.specs.Refusals.{IsRefusedBy, clap_refusals, 
 
 use crate::command_line::command_line;
 use crate::jobs::job_at;
-use clap::Error;
 use clap::error::ErrorKind;
+use clap::{Command, Error};
 use signal_records::{InterId, Interval, PatternNo};
 use std::alloc::{AllocError, Global};
 
@@ -188,15 +188,22 @@ const NO_JOB: &str =
     1 to 9999, INTERVAL 1 to 3650, PATTERN 1 to 48; or words are too few, too many, or not to be \
     given together";
 
+/// The refusal of a value, as the command line tells it.
+fn refused_value(command: &mut Command<'_>) -> JobFault
+    ensures { IsRefusedBy (ErrorKind.ValueValidation ∷ []) result }
+{
+    match command.error(ErrorKind::ValueValidation, NO_JOB) {
+        Ok(error) => JobFault::Refused(error),
+        Err(_) => JobFault::NoMemory,
+    }
+}
+
 /// The words are refused, since a number is out of its range, or they don't go together.
 fn no_job(alloc: Global) -> JobFault
     ensures { IsRefusedBy (ErrorKind.ValueValidation ∷ []) result }
 {
-    let Ok(mut command) = command_line(alloc) else {
-        return JobFault::NoMemory;
-    };
-    match command.error(ErrorKind::ValueValidation, NO_JOB) {
-        Ok(error) => JobFault::Refused(error),
+    match command_line(alloc) {
+        Ok(mut command) => refused_value(&mut command),
         Err(_) => JobFault::NoMemory,
     }
 }

@@ -6,7 +6,7 @@ ghost use Rattle.signal_office_line.specs.CommandLine.{orders_app, cabinet_app, 
 ghost use Rattle.signal_office_line.specs.CommandLine.{with_subcommands};
 ghost use Rattle.clap.specs.Simple.{App};
 
-use crate::arguments::{FOUND_FILE, ID, MADE_FILE, flag, required_db_option, second_word, word};
+use crate::arguments::{Argument, FOUND_FILE, Form, ID, MADE_FILE, command_of, with_command};
 use clap::Command;
 use std::alloc::{AllocError, Global};
 
@@ -14,70 +14,99 @@ use std::alloc::{AllocError, Global};
 fn add_command<'a>(alloc: Global) -> Result<Command<'a>, AllocError>
     ensures { IfOk result (λ c. Reads c add_app) }
 {
-    Command::new(alloc, "add")
-        .about("Adds an intersection; says whether it was new, or is there with the same values")
-        .arg(required_db_option(alloc, MADE_FILE))?
-        .arg(word(alloc, "ID", ID))?
-        .arg(word(
-            alloc,
-            "INTERVAL",
-            "The days from one inspection of its cabinet to the next, 1 to 3650",
-        ))?
-        .arg(word(
-            alloc,
-            "NAME",
-            "Its name, 1 to 120 bytes without control characters",
-        ))
+    command_of(
+        alloc,
+        "add",
+        "Adds an intersection; says whether it was new, or is there with the same values",
+        &[
+            Argument("db", Form::Needed("FILE"), MADE_FILE),
+            Argument("ID", Form::Word, ID),
+            Argument(
+                "INTERVAL",
+                Form::Word,
+                "The days from one inspection of its cabinet to the next, 1 to 3650",
+            ),
+            Argument(
+                "NAME",
+                Form::Word,
+                "Its name, 1 to 120 bytes without control characters",
+            ),
+        ],
+    )
 }
 
 /// `list`.
 fn list_command<'a>(alloc: Global) -> Result<Command<'a>, AllocError>
     ensures { IfOk result (λ c. Reads c list_app) }
 {
-    Command::new(alloc, "list")
-        .about(
-            "Prints all intersections with their revision, the state and owner of their \
-             transaction, and how many rows are committed",
-        )
-        .arg(required_db_option(alloc, FOUND_FILE))?
-        .arg(flag(alloc, "csv", "Print them as CSV, without heading or count"))
+    command_of(
+        alloc,
+        "list",
+        "Prints all intersections with their revision, the state and owner of their \
+         transaction, and how many rows are committed",
+        &[
+            Argument("db", Form::Needed("FILE"), FOUND_FILE),
+            Argument(
+                "csv",
+                Form::Flag,
+                "Print them as CSV, without heading or count",
+            ),
+        ],
+    )
 }
 
 /// `stock`.
 fn stock_command<'a>(alloc: Global) -> Result<Command<'a>, AllocError>
     ensures { IfOk result (λ c. Reads c stock_app) }
 {
-    Command::new(alloc, "stock")
-        .about("Prints what is on hand of each part that was ever delivered")
-        .arg(required_db_option(alloc, FOUND_FILE))?
-        .arg(flag(alloc, "csv", "Print it as CSV, without heading or count"))
+    command_of(
+        alloc,
+        "stock",
+        "Prints what is on hand of each part that was ever delivered",
+        &[
+            Argument("db", Form::Needed("FILE"), FOUND_FILE),
+            Argument(
+                "csv",
+                Form::Flag,
+                "Print it as CSV, without heading or count",
+            ),
+        ],
+    )
 }
 
 /// `orders`.
 fn orders_command<'a>(alloc: Global) -> Result<Command<'a>, AllocError>
     ensures { IfOk result (λ c. Reads c orders_app) }
 {
-    Command::new(alloc, "orders")
-        .about("Prints the open work orders of an intersection, or of all")
-        .arg(required_db_option(alloc, FOUND_FILE))?
-        .arg(second_word(
-            alloc,
-            "ID",
-            "The intersection's number, 1 to 9999; without it those of all are printed",
-        ))
+    command_of(
+        alloc,
+        "orders",
+        "Prints the open work orders of an intersection, or of all",
+        &[
+            Argument("db", Form::Needed("FILE"), FOUND_FILE),
+            Argument(
+                "ID",
+                Form::SecondWord,
+                "The intersection's number, 1 to 9999; without it those of all are printed",
+            ),
+        ],
+    )
 }
 
 /// `cabinet`.
 fn cabinet_command<'a>(alloc: Global) -> Result<Command<'a>, AllocError>
     ensures { IfOk result (λ c. Reads c cabinet_app) }
 {
-    Command::new(alloc, "cabinet")
-        .about(
-            "Prints the register of an intersection's cabinet: when its next inspection is due, \
-             its inspections, its orders with their used parts and closings",
-        )
-        .arg(required_db_option(alloc, FOUND_FILE))?
-        .arg(word(alloc, "ID", ID))
+    command_of(
+        alloc,
+        "cabinet",
+        "Prints the register of an intersection's cabinet: when its next inspection is due, \
+         its inspections, its orders with their used parts and closings",
+        &[
+            Argument("db", Form::Needed("FILE"), FOUND_FILE),
+            Argument("ID", Form::Word, ID),
+        ],
+    )
 }
 
 /// The program with the commands that keep the city's intersections and show what is kept.
@@ -88,10 +117,9 @@ pub(crate) fn with_keeping<'a>(
     ensures { (app : App) → Reads program.entry app →
         IfOk result (λ c. Reads c (with_subcommands app keeping)) }
 {
-    program
-        .subcommand(add_command(alloc)?)?
-        .subcommand(list_command(alloc)?)?
-        .subcommand(stock_command(alloc)?)?
-        .subcommand(orders_command(alloc)?)?
-        .subcommand(cabinet_command(alloc)?)
+    let program = with_command(Ok(program), add_command(alloc));
+    let program = with_command(program, list_command(alloc));
+    let program = with_command(program, stock_command(alloc));
+    let program = with_command(program, orders_command(alloc));
+    with_command(program, cabinet_command(alloc))
 }

@@ -1,0 +1,30 @@
+use Rattle.std.proofs.Common.{List, map, ap, subst, ◌∙◌}
+use Rattle.std.proofs.lemmas.List.{take_all}
+use Rattle.clap.specs.declared.builder.command.Command.{Command}
+use Rattle.clap.specs.declared.builder.command.Command.TheOpen.{Command-F}
+use Rattle.clap.specs.Simple.{app_of_fields, new_app}
+use Rattle.signal_office_line.specs.Arguments.{rule_for}
+use Rattle.signal_office_line.specs.CommandLine.{Reads, with_rules}
+use Rattle.signal_office_line.specs.declared.arguments.Argument.{Argument}
+use Rattle.signal_office_line.proofs.CommandLemmas.{Reads-arg, Reads-more}
+use Rattle.signal_office_line.proofs.arguments.command_of.Goals as goal
+
+pub loop-argument-init : goal.loop-argument-init
+loop-argument-init c = record {
+  app_is = ap app_of_fields c.about-command.ensures ∙ c.new.ensures.app;
+  local = ap (λ (x : Command-F Command). x.has_globals) c.about-command.ensures ∙ c.new.ensures.local;
+}
+
+pub loop-argument-preserved : goal.loop-argument-preserved
+loop-argument-preserved c =
+    let added = Reads-arg _ _ _ _ _ c.loop-argument.invariant c.arg_of.ensures.rule
+    c.arg_of.ensures.local c.in_ok-command.ensures in
+    Reads-more _ _ c.args.arguments.now c.loop-argument.argument-index _
+    c.loop-argument-test.true added
+
+pub returns : goal.returns
+returns c =
+    subst (λ (xs : List Argument). Reads c.loop-argument.command
+    (with_rules (new_app c.args.name.now) (map rule_for xs)))
+    (take_all c.loop-argument.argument-index c.args.arguments.now c.loop-argument-test.false)
+    c.loop-argument.invariant
