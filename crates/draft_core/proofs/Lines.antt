@@ -4,9 +4,9 @@ use Rattle.std.specs.Option.{option_map}
 use Rattle.std.specs.Result.{IsErrAnd, result_err}
 use Rattle.std.specs.Str.{bytes_eq}
 use Rattle.signal_rules.specs.declared.violation.Violation.{Violation}
-use Rattle.draft_core.specs.declared.revision.TheConstants.{LAST_REVISION}
-use Rattle.draft_core.specs.declared.state.Stage.{Stage}
-use Rattle.draft_core.specs.declared.state.Holder.{Holder}
+use Rattle.draft_state.specs.declared.revision.TheConstants.{LAST_REVISION}
+use Rattle.draft_state.specs.declared.state.Stage.{Stage}
+use Rattle.draft_state.specs.declared.state.Holder.{Holder}
 use Rattle.draft_core.specs.declared.timing.Timing.{Timing}
 use Rattle.draft_core.specs.declared.timing.Reach.{Reach}
 use Rattle.draft_core.specs.declared.timing.Move.{Move}

@@ -5,11 +5,11 @@ use Rattle.std.specs.FinMap.{get}
 use Rattle.signal_records.specs.declared.key.Key.{Key}
 use Rattle.signal_records.specs.declared.record.Change.{Change}
 use Rattle.signal_records.specs.TimingSet.{after_changes}
-use Rattle.draft_core.specs.declared.state.Stage.{Stage}
-use Rattle.draft_core.specs.declared.state.Stage.TheVariants.{Transaction}
-use Rattle.draft_core.specs.declared.state.Verdict.{Verdict}
-use Rattle.draft_core.specs.declared.state.Verdict.TheVariants.{NotDone as NotJudged}
-use Rattle.draft_core.specs.declared.state.Holding.TheVariants.{Begun, Kept, Dropped}
+use Rattle.draft_state.specs.declared.state.Stage.{Stage}
+use Rattle.draft_state.specs.declared.state.Stage.TheVariants.{Transaction}
+use Rattle.draft_state.specs.declared.state.Verdict.{Verdict}
+use Rattle.draft_state.specs.declared.state.Verdict.TheVariants.{NotDone as NotJudged}
+use Rattle.draft_state.specs.declared.state.Holding.TheVariants.{Begun, Kept, Dropped}
 use Rattle.draft_core.specs.declared.timing.Timing.{Timing}
 use Rattle.draft_core.specs.declared.timing.Reach.{Reach}
 use Rattle.draft_core.specs.declared.timing.Move.{Move}

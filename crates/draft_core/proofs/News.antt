@@ -1,5 +1,5 @@
 -- That the rows which a commit adds are new.
-use Rattle.std.proofs.Common.{◌≡◌, ◌⊎◌, Bool, true, false, cond, List, [], ◌∷◌, map, Option, Result}
+use Rattle.std.proofs.Common.{◌≡◌, ◌⊎◌, true, false, cond, List, [], ◌∷◌, map, Option, Result}
 use Rattle.std.proofs.Common.{Ok, Err, refl, ap, sym, subst, ◌∙◌, inl, inr}
 use Rattle.std.proofs.lemmas.Bool.{cases_Bool}
 use Rattle.std.specs.Prelude.{IfOk}
@@ -21,12 +21,12 @@ use Rattle.draft_core.specs.declared.timing.Move.{Move}
 use Rattle.draft_core.specs.declared.timing.Reach.{Reach}
 use Rattle.draft_core.specs.declared.timing.Reach.TheVariants as reach
 use Rattle.draft_core.specs.declared.timing.Timing.{Timing}
-use Rattle.draft_core.specs.declared.timing.TimingChange.{TimingChange}
-use Rattle.draft_core.specs.DraftRows.{Said, silent, leaves, removes, changed_key, said_by}
-use Rattle.draft_core.specs.DraftRows.{said_at, later_of, overlaid, row_at}
+use Rattle.draft_core.specs.DraftRows.{Said, silent, leaves, removes, said_by}
+use Rattle.draft_state.specs.ChangedRows.{changed_key}
+use Rattle.draft_core.specs.DraftRows.{later_of, overlaid, row_at}
 use Rattle.draft_core.specs.Drafting.{is_said}
 use Rattle.draft_core.specs.Moves.{committed_by, said_after}
-use Rattle.draft_core.specs.News.{AddsOnlyNew, AddsNone, AreInOrder, AreNewAt, IsNewAt}
+use Rattle.draft_core.specs.News.{AddsOnlyNew, AreInOrder, AreNewAt, IsNewAt}
 use Rattle.draft_core.specs.Writes.{settled_by, settling}
 use Rattle.draft_core.proofs.OnlyChanges.{same_key}
 use Rattle.draft_core.proofs.Pushed.{later_of-silent}

@@ -1,5 +1,5 @@
 -- What an edit writes, one change after the other, and what that makes of the draft rows.
-use Rattle.std.proofs.Common.{◌≡◌, ◌⊎◌, ◌+◌, Bool, true, false, not, cond, List, [], ◌∷◌, ◌++◌}
+use Rattle.std.proofs.Common.{◌≡◌, ◌⊎◌, Bool, true, false, not, cond, List, [], ◌∷◌, ◌++◌}
 use Rattle.std.proofs.Common.{Option, Result, Ok, Err}
 use Rattle.std.proofs.Common.{refl, ap, sym, subst, ◌∙◌, inl, inr, arith}
 use Rattle.std.specs.Prelude.{IfOk}
@@ -27,7 +27,8 @@ use Rattle.draft_core.specs.declared.timing.TimingChange.TheVariants.{CommittedN
 use Rattle.draft_core.specs.declared.timing.TimingChange.TheVariants.{DraftedNew, Drafted}
 use Rattle.draft_core.specs.declared.timing.TimingChange.TheVariants.{DraftGone, DraftDropped}
 use Rattle.draft_core.specs.declared.refusal.DraftRefusal.{DraftRefusal}
-use Rattle.draft_core.specs.DraftRows.{Said, silent, leaves, removes, changed_key, left_by}
+use Rattle.draft_core.specs.DraftRows.{Said, silent, leaves, removes}
+use Rattle.draft_state.specs.ChangedRows.{changed_key, left_by}
 use Rattle.draft_core.specs.DraftRows.{said_by, said_at, later_of, overlaid, row_at, SaysOtherwise}
 use Rattle.draft_core.specs.Drafting.{AreAmong, DraftsChanges, KeepsOnlyChange, SaysCommitted}
 use Rattle.draft_core.specs.Drafting.{drafted_as, is_said}

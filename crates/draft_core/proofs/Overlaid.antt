@@ -20,7 +20,8 @@ use Rattle.draft_core.specs.declared.timing.Reach.{Reach}
 use Rattle.draft_core.specs.declared.timing.Reach.TheVariants as reach
 use Rattle.draft_core.specs.Transaction.{TimingSide, Draft}
 use Rattle.draft_core.specs.DraftRows.{Said, silent, leaves, removes, RowsByKey, RowStands, Stands}
-use Rattle.draft_core.specs.DraftRows.{changed_key, said_by, said_at, later_of, row_at, overlaid}
+use Rattle.draft_core.specs.DraftRows.{said_by, said_at, later_of, row_at, overlaid}
+use Rattle.draft_state.specs.ChangedRows.{changed_key}
 
 over : (b : Bool) (said : Said) (committed : Option Row) → cond b
     (overlaid committed said) committed ≡ overlaid committed (cond b said silent)

@@ -8,7 +8,8 @@ use Rattle.draft_core.specs.declared.timing.TimingChange.{TimingChange}
 use Rattle.draft_core.specs.declared.timing.TimingChange.TheVariants.{CommittedNew, Committed}
 use Rattle.draft_core.specs.declared.timing.TimingChange.TheVariants.{DraftedNew, Drafted}
 use Rattle.draft_core.specs.declared.timing.TimingChange.TheVariants.{DraftGone, DraftDropped}
-use Rattle.draft_core.specs.DraftRows.{Said, silent, leaves, removes, changed_key, later_of}
+use Rattle.draft_core.specs.DraftRows.{Said, silent, leaves, removes, later_of}
+use Rattle.draft_state.specs.ChangedRows.{changed_key}
 use Rattle.draft_core.specs.DraftRows.{row_at, said_at}
 use Rattle.draft_core.specs.Drafting.{drafted_as}
 use Rattle.draft_core.specs.Moves.{committed_after, committed_by, drafted_in, draft_write}

@@ -3,9 +3,9 @@ use Rattle.std.proofs.Common.{◌≡◌, ℕ, ◌+◌, ◌==◌, Bool, cond, not
 use Rattle.std.specs.Str.{bytes_eq}
 use Rattle.signal_rules.specs.Violations.{violations_of}
 use Rattle.signal_rules.specs.declared.violation.Violation.{Violation}
-use Rattle.draft_core.specs.declared.revision.TheConstants.{LAST_REVISION}
-use Rattle.draft_core.specs.declared.state.Stage.{Stage}
-use Rattle.draft_core.specs.declared.state.Stage.TheVariants.{Done}
+use Rattle.draft_state.specs.declared.revision.TheConstants.{LAST_REVISION}
+use Rattle.draft_state.specs.declared.state.Stage.{Stage}
+use Rattle.draft_state.specs.declared.state.Stage.TheVariants.{Done}
 use Rattle.draft_core.specs.declared.refusal.DraftRefusal.{DraftRefusal}
 use Rattle.draft_core.specs.declared.refusal.DraftRefusal.TheVariants.{NotDone, NotOwner, RevisionFull, VerifyFailed}
 use Rattle.draft_core.specs.Transaction.{TimingSide, Draft, holder_of, is_stage, owned, committed, committed_with}

@@ -4,26 +4,16 @@ use Rattle.std.specs.Option.{option_map}
 use Rattle.std.specs.FinMap.{get}
 use Rattle.std.specs.Ordering.{eq_by_cmp}
 use Rattle.signal_records.specs.Key.{key_cmp}
-use Rattle.signal_records.specs.Row.{key_of}
 use Rattle.signal_records.specs.TimingSet.{Rows}
 use Rattle.signal_records.specs.declared.key.Key.{Key}
 use Rattle.signal_records.specs.declared.record.Row.{Row}
 use Rattle.signal_records.specs.declared.record.Change.{Change}
 use Rattle.signal_records.specs.declared.record.Change.TheVariants.{Put, Remove}
+use Rattle.draft_state.specs.ChangedRows.{changed_key}
 use Rattle.draft_core.specs.Transaction.{Draft, TimingSide, holder_of}
 use Rattle.draft_core.specs.declared.timing.Timing.{Timing}
 use Rattle.draft_core.specs.declared.timing.Reach.{Reach}
 use Rattle.draft_core.specs.declared.timing.Reach.TheVariants as reach
-
--- the key that a change names
-abbrev pub changed_key : Change → Key
-changed_key (Put row) = key_of row
-changed_key (Remove key) = key
-
--- the row that a change leaves at its key
-abbrev pub left_by : Change → Option Row
-left_by (Put row) = Some row
-left_by (Remove key) = None
 
 -- what draft rows say of a key: nothing, that a row stands there, or that none does
 pub data Said : Type 0 where

@@ -9,13 +9,13 @@ use Rattle.signal_records.specs.declared.record.Row.{Row}
 use Rattle.signal_records.specs.declared.record.Change.{Change}
 use Rattle.signal_records.specs.declared.record.Change.TheVariants.{Put}
 use Rattle.signal_rules.specs.Violations.{violations_of}
-use Rattle.draft_core.specs.declared.state.DbState.{DbState}
-use Rattle.draft_core.specs.declared.state.DbState.TheVariants.{Normal, Transaction as InTransaction}
-use Rattle.draft_core.specs.declared.state.Stage.TheVariants.{Transaction}
-use Rattle.draft_core.specs.declared.state.Verdict.{Verdict}
-use Rattle.draft_core.specs.declared.state.Holder.{Holder}
-use Rattle.draft_core.specs.declared.state.Holding.{Holding}
-use Rattle.draft_core.specs.declared.state.Holding.TheVariants.{Begun, Kept, Dropped}
+use Rattle.draft_state.specs.declared.state.DbState.{DbState}
+use Rattle.draft_state.specs.declared.state.DbState.TheVariants.{Normal, Transaction as InTransaction}
+use Rattle.draft_state.specs.declared.state.Stage.TheVariants.{Transaction}
+use Rattle.draft_state.specs.declared.state.Verdict.{Verdict}
+use Rattle.draft_state.specs.declared.state.Holder.{Holder}
+use Rattle.draft_state.specs.declared.state.Holding.{Holding}
+use Rattle.draft_state.specs.declared.state.Holding.TheVariants.{Begun, Kept, Dropped}
 use Rattle.draft_core.specs.declared.timing.Timing.{Timing}
 use Rattle.draft_core.specs.declared.timing.Reach.{Reach}
 use Rattle.draft_core.specs.declared.timing.Move.{Move}

@@ -16,7 +16,8 @@ use Rattle.draft_core.specs.declared.timing.TimingChange.{TimingChange}
 use Rattle.draft_core.specs.declared.timing.TimingChange.TheVariants.{CommittedNew, Committed}
 use Rattle.draft_core.specs.declared.timing.TimingChange.TheVariants.{DraftedNew, Drafted}
 use Rattle.draft_core.specs.declared.timing.TimingChange.TheVariants.{DraftGone, DraftDropped}
-use Rattle.draft_core.specs.DraftRows.{Said, silent, changed_key, row_at}
+use Rattle.draft_core.specs.DraftRows.{Said, silent, row_at}
+use Rattle.draft_state.specs.ChangedRows.{changed_key}
 use Rattle.draft_core.specs.Moves.{committed_by, said_after}
 
 -- draft rows in the order of their keys, of which each has one at most

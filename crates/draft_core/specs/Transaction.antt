@@ -6,14 +6,14 @@ use Rattle.signal_records.specs.TimingSet.{Rows, after_changes}
 use Rattle.signal_records.specs.declared.record.Change.{Change}
 use Rattle.signal_rules.specs.Violations.{violations_of}
 use Rattle.signal_rules.specs.declared.violation.Violation.{Violation}
-use Rattle.draft_core.specs.declared.revision.TheConstants.{LAST_REVISION}
-use Rattle.draft_core.specs.declared.state.Stage.{Stage}
-use Rattle.draft_core.specs.declared.state.Stage.TheVariants.{Transaction, Verify, Done}
-use Rattle.draft_core.specs.declared.state.DbState.{DbState}
-use Rattle.draft_core.specs.declared.state.DbState.TheVariants.{Normal, Transaction as InTransaction, Verify as InVerify, Done as InDone}
-use Rattle.draft_core.specs.declared.state.Verdict.{Verdict}
-use Rattle.draft_core.specs.declared.state.Verdict.TheVariants.{NotDone as NotJudged, DoneWithError, DoneWithNoError}
-use Rattle.draft_core.specs.declared.state.Holder.{Holder}
+use Rattle.draft_state.specs.declared.revision.TheConstants.{LAST_REVISION}
+use Rattle.draft_state.specs.declared.state.Stage.{Stage}
+use Rattle.draft_state.specs.declared.state.Stage.TheVariants.{Transaction, Verify, Done}
+use Rattle.draft_state.specs.declared.state.DbState.{DbState}
+use Rattle.draft_state.specs.declared.state.DbState.TheVariants.{Normal, Transaction as InTransaction, Verify as InVerify, Done as InDone}
+use Rattle.draft_state.specs.declared.state.Verdict.{Verdict}
+use Rattle.draft_state.specs.declared.state.Verdict.TheVariants.{NotDone as NotJudged, DoneWithError, DoneWithNoError}
+use Rattle.draft_state.specs.declared.state.Holder.{Holder}
 use Rattle.draft_core.specs.declared.refusal.DraftRefusal.{DraftRefusal}
 use Rattle.draft_core.specs.declared.refusal.DraftRefusal.TheVariants.{NotNormal, NotTransaction, NotOwner, NotVerify, NotDone, VerifyFailed, RevisionFull}
 

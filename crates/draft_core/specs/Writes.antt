@@ -13,7 +13,7 @@ use Rattle.draft_core.specs.declared.timing.TimingChange.TheVariants.{CommittedN
 use Rattle.draft_core.specs.declared.timing.TimingChange.TheVariants.{DraftDropped}
 use Rattle.draft_core.specs.declared.refusal.DraftRefusal.{DraftRefusal}
 use Rattle.draft_core.specs.declared.refusal.DraftRefusal.TheVariants.{RevisionFull, VerifyFailed}
-use Rattle.draft_core.specs.declared.revision.TheConstants.{LAST_REVISION}
+use Rattle.draft_state.specs.declared.revision.TheConstants.{LAST_REVISION}
 
 -- the draft rows go, where there are any
 abbrev pub dropping : List Change → List TimingChange

@@ -6,7 +6,7 @@ ghost use Rattle.draft_core.specs.Transaction as table;
 ghost use Rattle.draft_core.specs.Transaction.{TimingSide};
 ghost use Rattle.draft_core.specs.DraftRows.{RowsByKey, Stands};
 ghost use Rattle.draft_core.specs.Writes as writes;
-ghost use Rattle.draft_core.specs.declared.state.Stage.TheVariants as stage;
+ghost use Rattle.draft_state.specs.declared.state.Stage.TheVariants as stage;
 
 use crate::overlaying::violations_after;
 use crate::refusal::DraftRefusal;

@@ -3,7 +3,7 @@
 ghost use Rattle.std.specs.Prelude.{◌≡◌, [], map, IfOk};
 ghost use Rattle.signal_records.specs.TimingSet.{after_changes};
 ghost use Rattle.signal_rules.specs.Violations.{violations_of};
-ghost use Rattle.draft_core.specs.DraftRows as rows;
+ghost use Rattle.draft_state.specs.ChangedRows as rows;
 
 use signal_records::{Change, Key, NoMemory, TimingSet};
 use signal_rules::{Tally, Violation, violations_touched};

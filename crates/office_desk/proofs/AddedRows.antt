@@ -5,13 +5,16 @@ use Rattle.signal_records.specs.Row.{key_of}
 use Rattle.signal_records.specs.TimingSet as set
 use Rattle.signal_records.specs.declared.{key.Key.Key, record.Row.Row, record.Change.TheVariants.Put}
 use Rattle.draft_core.specs.News.{AddsNone, AddsOnlyNew, AreNew, AreNewAt}
-use Rattle.draft_core.specs.{DraftRows.Said, DraftRows.changed_key, DraftRows.row_at, Moves.committed_by, Moves.said_after}
+use Rattle.draft_core.specs.{DraftRows.Said, DraftRows.row_at, Moves.committed_by, Moves.said_after}
+use Rattle.draft_state.specs.ChangedRows.{changed_key}
 use Rattle.draft_core.specs.declared.{timing.Reach.Reach, timing.TimingChange.TimingChange}
 use Rattle.draft_core.specs.declared.timing.TimingChange.TheVariants.{CommittedNew, Committed, DraftedNew}
 use Rattle.draft_core.specs.declared.timing.Reach.TheVariants as reach
-use Rattle.office_tables_shelf.specs.{Change.AddNew, Change.AddsNew, Change.changed, Content.Content, Rows.timing_columns, StandFor.said_columns}
+use Rattle.office_tables_shelf.specs.{Change.AddNew, Change.AddsNew, Change.changed, Content.Content, Rows.timing_columns}
+use Rattle.office_tables_standing.specs.StandFor.{said_columns}
 use Rattle.office_tables_shelf.specs.declared.{rows.IntersectionRow.IntersectionRow, rows.RowChange.TheVariants.PutIntersection}
-use Rattle.office_tables_shelf.proofs.KeyLemmas.{draft_keys_rise, get_listed_draft, get_timing}
+use Rattle.office_tables_shelf.proofs.KeyLemmas.{draft_keys_rise, get_timing}
+use Rattle.office_tables_standing.proofs.DraftLemmas.{get_listed_draft}
 use Rattle.office_desk.specs.{Moving.row_change_of, Moving.row_changes_of, Reading.ListsFound}
 use Rattle.office_desk.specs.declared.reading.Found.{Found}
 use Rattle.office_desk.proofs.Moved.{HoldsAt, holds_then}

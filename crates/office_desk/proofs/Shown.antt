@@ -8,7 +8,8 @@ use Rattle.signal_rules.specs.declared.violation.Violation.{Violation}
 use Rattle.draft_core.specs.Transaction.{Draft, state_of, state_of_holder, TimingSide, holder_of, verdict_of}
 use Rattle.draft_core.specs.DraftRows.{RowsByKey, Stands}
 use Rattle.draft_core.proofs.Overlaid.{draft_is}
-use Rattle.draft_core.specs.declared.{state.Holder.Holder, timing.Timing.Timing, timing.Reach.Reach, state.Verdict.Verdict}
+use Rattle.draft_core.specs.declared.{timing.Timing.Timing, timing.Reach.Reach}
+use Rattle.draft_state.specs.declared.{state.Holder.Holder, state.Verdict.Verdict}
 use Rattle.draft_core.specs.declared.timing.Reach.TheVariants as reach
 use Rattle.office_tables_shelf.specs.{Content.Content, Shelf.ReadsIntersection, Shelf.ListsTiming, Shelf.CountsTiming}
 use Rattle.office_tables_shelf.specs.declared.rows.IntersectionRow.{IntersectionRow}

@@ -3,7 +3,8 @@ use Rattle.std.proofs.Common.{◌≡◌, ℕ, Bool, true, false, List, [], ◌�
 use Rattle.std.specs.{Prelude.◌&&◌, FinMap.get}
 use Rattle.signal_records.specs.TimingSet.{Rows}
 use Rattle.draft_core.specs.Transaction.{TimingSide, Draft, holder_of, owned, with_draft, begun_from, committed, abandoned_from}
-use Rattle.draft_core.specs.declared.{refusal.DraftRefusal.DraftRefusal, state.Stage.Stage}
+use Rattle.draft_core.specs.declared.refusal.DraftRefusal.{DraftRefusal}
+use Rattle.draft_state.specs.declared.state.Stage.{Stage}
 use Rattle.draft_core.specs.declared.refusal.DraftRefusal.TheVariants.{NotNormal, NotTransaction}
 use Rattle.draft_core.proofs.Sound.{owned_inverts, committed_inverts}
 use Rattle.office_machine.specs.Office.{Office, Intersection, side_of, side_at}

@@ -7,7 +7,8 @@ use Rattle.signal_records.specs.Words.{AreWords}
 use Rattle.signal_records.specs.declared.{record.Change.Change, record.Change.TheVariants.Put}
 use Rattle.draft_core.specs.Moves.{Follows, FollowsSoundLine, IsUnsettled, Makes, RefusesFirst, drafted_in, timing_writes, draft_writes}
 use Rattle.draft_core.specs.{News.AddsOnlyNew, Transaction.TimingSide, Transaction.is_stage, Transaction.refused_by, Within.AreChangesWithin}
-use Rattle.draft_core.specs.declared.{refusal.DraftRefusal.DraftRefusal, state.Holder.Holder, state.Stage.Stage, timing.Move.Move}
+use Rattle.draft_core.specs.declared.{refusal.DraftRefusal.DraftRefusal, timing.Move.Move}
+use Rattle.draft_state.specs.declared.{state.Holder.Holder, state.Stage.Stage}
 use Rattle.draft_core.specs.declared.timing.TimingChange.{TimingChange}
 use Rattle.draft_core.specs.declared.timing.TimingChange.TheVariants.{Committed}
 use Rattle.draft_core.specs.declared.refusal.DraftRefusal.TheVariants as draft

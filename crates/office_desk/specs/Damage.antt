@@ -1,10 +1,10 @@
 -- When a stored row keeps a command from being answered.
 use Rattle.std.specs.Prelude.{◌≡◌, ◌⊎◌, ℕ, List, [], ◌∷◌, Option, Some, None}
 use Rattle.std.specs.Option.{option_map}
-use Rattle.draft_core.specs.declared.state.Holder.{Holder}
+use Rattle.draft_state.specs.declared.state.Holder.{Holder}
 use Rattle.draft_core.specs.declared.timing.Reach.{Reach}
 use Rattle.draft_core.specs.declared.timing.Reach.TheVariants as reach
-use Rattle.draft_core.specs.declared.state.Stage.TheVariants.{Done}
+use Rattle.draft_state.specs.declared.state.Stage.TheVariants.{Done}
 use Rattle.office_tables_shelf.specs.Content.{Content}
 use Rattle.office_tables_shelf.specs.Overdue.{HasOverdueDamage}
 use Rattle.office_tables_shelf.specs.Shelf.{IsThere, ReadsIntersection}

@@ -1,4 +1,4 @@
-pub use Rattle.office_tables_shelf.specs.StandFor
+pub use Rattle.office_tables_standing.specs.StandFor
 pub mod Answers
 pub mod Changes
 pub mod Recording

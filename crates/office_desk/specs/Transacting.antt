@@ -6,8 +6,8 @@ use Rattle.draft_core.specs.Transaction.{TimingSide, begun, edited, verified, ch
 use Rattle.draft_core.specs.Within.{AreChangesWithin}
 use Rattle.draft_core.specs.declared.refusal.DraftRefusal.{DraftRefusal}
 use Rattle.draft_core.specs.declared.refusal.DraftRefusal.TheVariants.{NotTransaction, NotVerify, NotDone}
-use Rattle.draft_core.specs.declared.state.Holder.{Holder}
-use Rattle.draft_core.specs.declared.state.Stage.TheVariants as stage
+use Rattle.draft_state.specs.declared.state.Holder.{Holder}
+use Rattle.draft_state.specs.declared.state.Stage.TheVariants as stage
 use Rattle.draft_core.specs.declared.timing.Reach.{Reach}
 use Rattle.draft_core.specs.declared.timing.Reach.TheVariants as reach
 use Rattle.draft_core.specs.declared.timing.TimingChange.{TimingChange}

@@ -3,10 +3,10 @@ use Rattle.std.specs.Prelude.{ℕ, List, [], ◌∷◌, codes}
 use Rattle.std.specs.FinMap.{values}
 use Rattle.serde_json.specs.Data.{Data}
 use Rattle.draft_core.specs.declared.refusal.DraftRefusal.TheVariants.{VerifyFailed}
-use Rattle.draft_core.specs.declared.state.DbState.{DbState}
-use Rattle.draft_core.specs.declared.state.DbState.TheVariants.{Normal, Transaction, Verify, Done}
-use Rattle.draft_core.specs.declared.state.Verdict.{Verdict}
-use Rattle.draft_core.specs.declared.state.Verdict.TheVariants.{NotDone, DoneWithError, DoneWithNoError}
+use Rattle.draft_state.specs.declared.state.DbState.{DbState}
+use Rattle.draft_state.specs.declared.state.DbState.TheVariants.{Normal, Transaction, Verify, Done}
+use Rattle.draft_state.specs.declared.state.Verdict.{Verdict}
+use Rattle.draft_state.specs.declared.state.Verdict.TheVariants.{NotDone, DoneWithError, DoneWithNoError}
 use Rattle.office_machine.specs.Refusal.{Line, line_of}
 use Rattle.office_machine.specs.declared.refusal.Refusal.{Refusal}
 use Rattle.office_machine.specs.declared.refusal.Refusal.TheVariants as refusal

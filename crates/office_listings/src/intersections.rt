@@ -9,7 +9,7 @@ ghost use Rattle.office_listings.specs.Intersections.{intersection_fields, inter
 
 use crate::columns::{push_count, push_long_number, push_number, push_word};
 use csv::ByteRecord;
-use draft_core::state::{Holder, Stage};
+use draft_state::state::{Holder, Stage};
 use office_files::csv_file;
 use office_machine::intersections::ListedIntersection;
 use signal_records::NoMemory;

@@ -7,7 +7,7 @@ use Rattle.sqlite.specs.Tree.{Trees}
 use Rattle.signal_records.specs.Within.{version_1_limits}
 use Rattle.signal_records.specs.declared.record.Change.{Change}
 use Rattle.signal_records.specs.declared.record.Change.TheVariants.{Put, Remove}
-use Rattle.draft_core.specs.DraftRows.{left_by}
+use Rattle.draft_state.specs.ChangedRows.{left_by}
 use Rattle.office_tables_shelf.specs.Cells.{Rows, null}
 use Rattle.office_tables_shelf.specs.Rows.{left_columns_in}
 use Rattle.office_tables_sql.specs.Calls.{IsHonest, Keeps}
@@ -22,7 +22,7 @@ use Rattle.office_tables_sql.proofs.CallLemmas.{survives_on}
 use Rattle.office_tables_shelf.specs.Change.{changed_by, changed}
 use Rattle.office_tables_shelf.specs.Content.{Content}
 use Rattle.office_machine.specs.Office.{Office, version_1}
-use Rattle.office_tables_shelf.specs.StandFor.{StandForSoundIn}
+use Rattle.office_tables_standing.specs.StandFor.{StandForSoundIn}
 use Rattle.office_tables_shelf.specs.declared.rows.RowChange.{RowChange}
 use Rattle.office_tables_sql.specs.Stored.{content_of, content_now}
 use Rattle.office_tables_migration.specs.Migration.{IsMigrated, StandAnew, kept_key}

@@ -14,7 +14,7 @@ use Rattle.signal_records.specs.declared.key.Key.{Key}
 use Rattle.signal_records.specs.declared.record.Row.{Row}
 use Rattle.signal_records.specs.declared.record.Change.{Change}
 use Rattle.signal_records.specs.declared.record.Change.TheVariants.{Put, Remove}
-use Rattle.draft_core.specs.DraftRows.{changed_key, left_by}
+use Rattle.draft_state.specs.ChangedRows.{changed_key, left_by}
 use Rattle.office_tables_shelf.specs.Cells.{Cell, cells_cmp, tree_rows}
 use Rattle.office_tables_shelf.specs.Content.{rows_but}
 use Rattle.office_tables_maps.specs.MapShelf.{place_key, change_at, timing_rows, draft_rows, IsRowAt, IsLeftAt, AreRowsPlaced, AreLeftPlaced}

@@ -4,7 +4,7 @@ ghost use Rattle.std.specs.FinMap as finite;
 ghost use Rattle.std.specs.List.{AllByRecursion};
 ghost use Rattle.std.specs.Option.{option_map};
 ghost use Rattle.signal_records.specs.Row.{key_of};
-ghost use Rattle.draft_core.specs.DraftRows.{changed_key, left_by};
+ghost use Rattle.draft_state.specs.ChangedRows.{changed_key, left_by};
 ghost use Rattle.office_tables_shelf.specs.Content.{rows_but};
 ghost use Rattle.office_tables_shelf.specs.Rows.{intersection_key, intersection_columns};
 ghost use Rattle.office_tables_shelf.specs.Rows.{timing_key, timing_columns, draft_key};

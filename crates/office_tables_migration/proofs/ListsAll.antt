@@ -28,7 +28,7 @@ use Rattle.signal_records.specs.declared.record.Change.{Change}
 use Rattle.signal_records.specs.declared.record.Change.TheVariants.{Put, Remove}
 use Rattle.signal_records.specs.declared.record.Row.{Row}
 use Rattle.signal_records.proofs.RowLaws.{are_version_1}
-use Rattle.draft_core.specs.DraftRows.{left_by}
+use Rattle.draft_state.specs.ChangedRows.{left_by}
 use Rattle.office_tables_shelf.specs.Rows.{body_in, timing_key, draft_key, left_columns_in}
 use Rattle.office_tables_shelf.proofs.RowLemmas.{same_row}
 

@@ -29,13 +29,14 @@ use Rattle.signal_rules.specs.BeforeLead.{HasNoLead, violations_before_lead}
 use Rattle.signal_rules.specs.Lookup.{the_phase}
 use Rattle.signal_rules.specs.Violations.{violations_of}
 use Rattle.signal_rules.proofs.BeforeLead.{same_violations}
-use Rattle.draft_core.specs.DraftRows.{Said, silent, leaves, removes, left_by, changed_key}
+use Rattle.draft_core.specs.DraftRows.{Said, silent, leaves, removes}
+use Rattle.draft_state.specs.ChangedRows.{left_by, changed_key}
 use Rattle.office_tables_shelf.specs.Cells.{Cell, text, Rows, cells_cmp, rows_by}
 use Rattle.office_tables_shelf.specs.Change.{changed_by}
 use Rattle.office_tables_shelf.specs.Content.{Content}
 use Rattle.office_machine.specs.Office.{Office, Intersection, side_at, side_of, AreRecordsIn, IsSoundIntersectionIn, IsSoundDraftIn, today, version_1}
 use Rattle.office_tables_shelf.specs.Rows.{timing_key, timing_columns_in, left_columns_in, body_in}
-use Rattle.office_tables_shelf.specs.StandFor.{IsTimingKey, HasTimingKeys, IsSaidIn, said_columns_in, StandForSoundIn}
+use Rattle.office_tables_standing.specs.StandFor.{IsTimingKey, HasTimingKeys, IsSaidIn, said_columns_in, StandForSoundIn}
 use Rattle.office_tables_shelf.specs.RegisterStands.{RegisterStands}
 use Rattle.office_tables_shelf.proofs.CellLemmas.{cells_total, cells_exact, is_under, find_entry, get_by, tied}
 use Rattle.office_tables_shelf.proofs.ListLemmas.{less, parts}

@@ -12,7 +12,7 @@ use Rattle.signal_records.specs.declared.record.Row.{Row}
 use Rattle.signal_records.specs.declared.record.Row.TheVariants as row
 use Rattle.signal_records.specs.declared.record.Change.{Change}
 use Rattle.signal_records.specs.declared.record.Change.TheVariants.{Put, Remove}
-use Rattle.draft_core.specs.DraftRows.{left_by}
+use Rattle.draft_state.specs.ChangedRows.{left_by}
 use Rattle.office_tables_shelf.specs.Cells.{Cell, Rows, text}
 use Rattle.office_tables_shelf.specs.Rows.{body_in, timing_key, timing_columns_in, draft_key, left_columns_in}
 use Rattle.office_tables_shelf.specs.declared.rows.RowChange.{RowChange}

@@ -9,7 +9,7 @@ use Rattle.office_tables_shelf.specs.Cells.{Cell, Rows, rows_by}
 use Rattle.office_tables_shelf.specs.Content.{Content}
 use Rattle.office_machine.specs.Office.{Office, side_at}
 use Rattle.office_tables_shelf.specs.Rows.{draft_key, draft_columns}
-use Rattle.office_tables_shelf.specs.StandFor.{StandForSound}
+use Rattle.office_tables_standing.specs.StandFor.{StandForSound}
 use Rattle.office_tables_migration.specs.declared.puts.Migrated.{Migrated}
 use Rattle.office_tables_migration.specs.Former.{AreKept, is_row, has_ped}
 

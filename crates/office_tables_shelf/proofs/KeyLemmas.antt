@@ -18,11 +18,10 @@ use Rattle.signal_records.specs.declared.key.Key.{Key}
 use Rattle.signal_records.specs.declared.record.Row.{Row}
 use Rattle.signal_records.specs.declared.record.Change.{Change}
 use Rattle.signal_records.specs.declared.record.Change.TheVariants.{Put, Remove}
-use Rattle.draft_core.specs.DraftRows.{Said, silent, leaves, removes, changed_key, said_by, later_of, row_at}
+use Rattle.draft_state.specs.ChangedRows.{changed_key}
 use Rattle.office_tables_shelf.specs.Cells.{Cell, Rows, number, cells_cmp}
 use Rattle.office_tables_shelf.specs.Content.{Content}
 use Rattle.office_tables_shelf.specs.Rows.{timing_key, timing_columns, draft_columns}
-use Rattle.office_tables_shelf.specs.StandFor.{said_columns}
 use Rattle.office_tables_shelf.specs.Shelf.{is_of, rows_of, ListsTiming, ListsDraft}
 use Rattle.office_tables_shelf.proofs.CellLemmas.{cells_exact, cell_total, is_under, first_under, find_entry, mapped, tied}
 use Rattle.office_tables_shelf.proofs.ListLemmas.{parts, less}
@@ -80,7 +79,7 @@ module _ {X : Type 0} (key : X → Key) (columns : X → List Cell) (id : ℕ) w
   listed_rise rows xs lists = rising_all xs (subst (λ es. T (is_sorted cells_cmp es)) (sym lists) (is_sorted-where_key cells_cmp (is_of id) (entries rows) (entries_sorted rows)))
 
   -- no other of a list with rising keys has the key
-  none_above : (x : X) (xs : List X) (q : Key) → AllByRecursion (λ k. key_cmp (key x) k ≡ Less) (map key xs) → key_cmp q (key x) ≡ Equal → first_at key xs q ≡ None
+  pub none_above : (x : X) (xs : List X) (q : Key) → AllByRecursion (λ k. key_cmp (key x) k ≡ Less) (map key xs) → key_cmp q (key x) ≡ Equal → first_at key xs q ≡ None
   none_above x [] q above tie = refl
   none_above x (y ∷ xs) q above tie =
       let apart : eq_by_cmp key_cmp q (key y) ≡ false = ap is_eq (ap (λ k. key_cmp k (key y)) (key_exact q (key x) tie) ∙ above.0) in
@@ -132,42 +131,6 @@ get_timing tables id rows lists key =
 
 pub draft_keys_rise : (tables : Content) (id : ℕ) (changes : List Change) → ListsDraft tables id changes → IsStrictlySortedBy key_cmp (map changed_key changes)
 draft_keys_rise tables id changes lists = listed_rise changed_key draft_columns id tables.draft changes lists
-
--- what a change says of its key, where there is one
-abbrev any_said : Option Change → Said
-any_said None = silent
-any_said (Some change) = said_by change
-
-alone : (said : Said) → later_of said silent ≡ said
-alone silent = refl
-alone (leaves row) = refl
-alone removes = refl
-
--- where each key is named once, the last change that names it is the first
-pub row_at_first : (changes : List Change) → IsStrictlySortedBy key_cmp (map changed_key changes)
-    → (key : Key) → row_at changes key ≡ any_said (first_at changed_key changes key)
-unfolding IsStrictlySortedBy
-row_at_first [] rise key = refl
-row_at_first (change ∷ changes) rise key =
-    let later = row_at_first changes rise.1 key in
-    elim (cases_Bool (eq_by_cmp key_cmp key (changed_key change))) [
-      | inl hit ↦ rw (later, hit, none_above changed_key draft_columns 0 change changes key rise.0 (tied _ hit))
-      | inr miss ↦ rw (miss, later) (alone (any_said (first_at changed_key changes key)))
-    ]
-
-stored_said : (o : Option Change) → option_map draft_columns o ≡ said_columns (any_said o)
-stored_said None = refl
-stored_said (Some (Put row)) = refl
-stored_said (Some (Remove k)) = refl
-
--- the table of draft rows has at a key what the changes of the list say of it
-pub get_listed_draft : (tables : Content) (id : ℕ) (changes : List Change)
-    → ListsDraft tables id changes → (key : Key) → get tables.draft
-    (timing_key id key) ≡ said_columns (row_at changes key)
-get_listed_draft tables id changes lists key =
-    get_listed changed_key draft_columns id tables.draft changes lists key
-    ∙ stored_said (first_at changed_key changes key)
-    ∙ ap said_columns (sym (row_at_first changes (draft_keys_rise tables id changes lists) key))
 
 -- ---- keys
 

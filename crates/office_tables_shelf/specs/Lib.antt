@@ -9,4 +9,3 @@ pub mod Damage
 pub mod CabinetReads
 pub mod Overdue
 pub mod RegisterStands
-pub mod StandFor

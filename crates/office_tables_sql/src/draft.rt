@@ -5,7 +5,7 @@ ghost use Rattle.sqlite.specs.Held.{state};
 ghost use Rattle.sqlite.specs.State.{HasCleanDisk, Survives};
 ghost use Rattle.sqlite.specs.Values.{bound_value};
 ghost use Rattle.sqlite_value.specs.Value.{owned};
-ghost use Rattle.draft_core.specs.DraftRows.{changed_key};
+ghost use Rattle.draft_state.specs.ChangedRows.{changed_key};
 ghost use Rattle.office_tables_shelf.specs.Rows.{draft_columns};
 ghost use Rattle.office_tables_sql.specs.Calls.{IsHonest, IsReady, StandsOn};
 ghost use Rattle.office_tables_sql.specs.Stored.{content_now};

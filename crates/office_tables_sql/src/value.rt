@@ -8,10 +8,10 @@ ghost use Rattle.cabinet_core.specs.Day.{IsDay};
 ghost use Rattle.cabinet_core.specs.Part.{IsPartCode};
 ghost use Rattle.office_tables_shelf.specs.Cells.{null, number, text};
 ghost use Rattle.office_tables_sql.specs.Stored.{cell_of, text_or_null};
-ghost use Rattle.draft_core.specs.declared.revision.TheConstants.{LAST_REVISION};
+ghost use Rattle.draft_state.specs.declared.revision.TheConstants.{LAST_REVISION};
 
 use cabinet_core::{Day, PartCode};
-use draft_core::revision::Revision;
+use draft_state::revision::Revision;
 use office_tables_shelf::shelf::ShelfFault;
 use signal_records::{Number, Words};
 use sqlite::types::{FromSql, ValueRef};

@@ -1,7 +1,7 @@
 -- What the queries of the office show of an intersection for its page.
 use Rattle.std.specs.Prelude.{◌≡◌, ◌⊎◌, ℕ, Option, Some, None, Result, Ok, Err}
-use Rattle.draft_core.specs.declared.state.DbState.{DbState}
-use Rattle.draft_core.specs.declared.state.DbState.TheVariants.{Normal}
+use Rattle.draft_state.specs.declared.state.DbState.{DbState}
+use Rattle.draft_state.specs.declared.state.DbState.TheVariants.{Normal}
 use Rattle.office_tables_shelf.specs.Content.{Content}
 use Rattle.signal_records.specs.TimingSet.{Rows}
 use Rattle.signal_office_asking.specs.declared.fault.Fault.{Fault}

@@ -16,7 +16,7 @@ use Rattle.sqlite_disk.specs.declared.Files.{Files}
 use Rattle.sqlite_trees.specs.Props.{Trees-set}
 use Rattle.office_machine.specs.Office.{Office, version_1}
 use Rattle.office_tables_shelf.specs.Content.{Content}
-use Rattle.office_tables_shelf.specs.StandFor.{StandForSound, StandForSoundIn}
+use Rattle.office_tables_standing.specs.StandFor.{StandForSound, StandForSoundIn}
 use Rattle.office_tables.specs.Calls.{IsHonest}
 use Rattle.office_tables.specs.Stored.{content_now, content_of}
 use Rattle.office_tables.specs.Migrate.{IsBrought, MayBecome}

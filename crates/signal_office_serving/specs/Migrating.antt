@@ -13,7 +13,7 @@ use Rattle.sqlite_disk.specs.declared.Files.{Files}
 use Rattle.sqlite.specs.WalFiles.{outcomes}
 use Rattle.sqlite.specs.WalReads.{AreClean}
 use Rattle.office_machine.specs.Office.{Office, version_1}
-use Rattle.office_tables_shelf.specs.StandFor.{StandForSoundIn}
+use Rattle.office_tables_standing.specs.StandFor.{StandForSoundIn}
 use Rattle.office_tables.specs.Calls.{IsHonest}
 use Rattle.office_tables.specs.Stored.{content_of}
 use Rattle.office_tables_migration.specs.Migration.{StandAnew}

@@ -4,11 +4,11 @@ use Rattle.std.specs.Prelude.{None}
 use Rattle.cabinet_core.specs.Day.{day_text}
 use Rattle.cabinet_core.specs.Orders.{is_open}
 use Rattle.cabinet_core.specs.declared.record.Order.{Order}
-use Rattle.draft_core.specs.declared.state.DbState.{DbState}
-use Rattle.draft_core.specs.declared.state.DbState.TheVariants.{Normal, Transaction, Verify, Done}
-use Rattle.draft_core.specs.declared.state.Verdict.{Verdict}
-use Rattle.draft_core.specs.declared.state.Verdict.TheVariants.{NotDone, DoneWithError}
-use Rattle.draft_core.specs.declared.state.Verdict.TheVariants.{DoneWithNoError}
+use Rattle.draft_state.specs.declared.state.DbState.{DbState}
+use Rattle.draft_state.specs.declared.state.DbState.TheVariants.{Normal, Transaction, Verify, Done}
+use Rattle.draft_state.specs.declared.state.Verdict.{Verdict}
+use Rattle.draft_state.specs.declared.state.Verdict.TheVariants.{NotDone, DoneWithError}
+use Rattle.draft_state.specs.declared.state.Verdict.TheVariants.{DoneWithNoError}
 use Rattle.office_machine.specs.declared.reply.IntersectionState.{IntersectionState}
 use Rattle.signal_page.specs.Words.{isolated}
 

@@ -6,8 +6,8 @@ use Rattle.draft_core.specs.News.{AddsNone}
 use Rattle.draft_core.specs.Transaction.{abandoned_from}
 use Rattle.draft_core.specs.Writes.{dropping}
 use Rattle.draft_core.specs.declared.timing.Move.{Move}
-use Rattle.draft_core.specs.declared.state.Holding.TheVariants.{Dropped}
-use Rattle.draft_core.specs.declared.state.Verdict.TheVariants.{NotDone}
+use Rattle.draft_state.specs.declared.state.Holding.TheVariants.{Dropped}
+use Rattle.draft_state.specs.declared.state.Verdict.TheVariants.{NotDone}
 use Rattle.draft_core.proofs.Lines.{held}
 use Rattle.draft_core.proofs.Makes.{abandon_makes}
 use Rattle.draft_core.proofs.Written.{drafted_in-dropping, dropping_adds, dropping_writes}

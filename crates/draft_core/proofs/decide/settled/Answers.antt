@@ -1,8 +1,8 @@
 use Rattle.std.proofs.Common.{◌≡◌, ap, sym, subst, ◌∙◌}
 use Rattle.std.specs.FinMap.{get}
 use Rattle.signal_rules.specs.Violations.{violations_of}
-use Rattle.draft_core.specs.declared.state.Holding.TheVariants.{Dropped}
-use Rattle.draft_core.specs.declared.state.Verdict.TheVariants.{NotDone}
+use Rattle.draft_state.specs.declared.state.Holding.TheVariants.{Dropped}
+use Rattle.draft_state.specs.declared.state.Verdict.TheVariants.{NotDone}
 use Rattle.draft_core.specs.declared.timing.Move.{Move}
 use Rattle.draft_core.specs.DraftRows.{row_at}
 use Rattle.draft_core.specs.Moves.{drafted_in, move_to}
