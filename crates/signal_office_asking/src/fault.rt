@@ -6,9 +6,7 @@ use office_files::CsvFault;
 use office_http_framing::ends::WriteFailed;
 use office_http_framing::engine::ServeFault;
 use office_machine::refusal::Refusal;
-use office_tables_open::open::OpenFault;
 use signal_records::NoMemory;
-use sqlite::{Error, ErrorCode};
 use std::fmt;
 
 /// Why the program ends with a fault, or refuses its words.
@@ -127,37 +125,6 @@ impl From<ServeFault> for Fault {
             ServeFault::Read { .. } => Fault::Read,
             ServeFault::Write { .. } => Fault::Write,
             ServeFault::NoMemory => Fault::Memory,
-        }
-    }
-}
-
-impl From<Error> for Fault {
-    ghost use Rattle.std.specs.Prelude.{◌≢◌};
-    ghost use Rattle.signal_office_asking.specs.declared.fault.Fault.TheVariants as told;
-
-    ghost from_gives = { λ _ fault. (fault ≢ told.Version) × (fault ≢ told.Damaged) };
-
-    fn from(error: Error) -> Fault {
-        match error {
-            Error::SqliteFailure(ErrorCode::OutOfMemory) => Fault::Memory,
-            _ => Fault::Store,
-        }
-    }
-}
-
-impl From<OpenFault> for Fault {
-    ghost use Rattle.std.specs.Prelude.{◌≡◌, ◌↔◌};
-    ghost use Rattle.office_tables_open.specs.declared.open.OpenFault.TheVariants as opened;
-    ghost use Rattle.signal_office_asking.specs.declared.fault.Fault.TheVariants as told;
-
-    ghost from_gives = { λ cause fault. ((fault ≡ told.Version) ↔ (cause ≡ opened.Version)) × ((fault ≡ told.Damaged) ↔ (cause ≡ opened.Damaged)) };
-
-    fn from(fault: OpenFault) -> Fault {
-        match fault {
-            OpenFault::Version => Fault::Version,
-            OpenFault::Damaged => Fault::Damaged,
-            OpenFault::Store => Fault::Store,
-            OpenFault::NoMemory => Fault::Memory,
         }
     }
 }

@@ -11,7 +11,9 @@ use signal_office_line::{Edit, Job, JobFault, Plan, Plans, job_of};
 use signal_office_page::page_in;
 use signal_office_plan_views::{compare_files, diagram_in};
 use signal_office_printing::violations_in;
-use signal_office_serving::{migrate_file, open_in_memory, serve_new_office, serve_port};
+use signal_office_serving::{
+    fault_of_opening, migrate_file, open_in_memory, serve_new_office, serve_port,
+};
 use signal_records::{InterId, Interval, PatternNo, Words};
 use sqlite::Wary;
 use std::alloc::Global;
@@ -152,7 +154,10 @@ fn add<W: Sink>(
 /// Brings the tables of a file to today's version, and prints how many rows were written anew.
 fn migrate<W: Sink>(rt: &HostRuntime, alloc: Global, path: &str, out: &mut W) -> Result<u8, Fault> {
     let (_, outcome) = migrate_file(rt, alloc, path, Wary)?;
-    let migrated = outcome?;
+    let migrated = match outcome {
+        Ok(migrated) => migrated,
+        Err(fault) => return Err(fault_of_opening(fault)),
+    };
     let rows = migrated.timing as u128 + migrated.draft as u128;
     let line = format!(in alloc; "migrated {rows} rows\n")?;
     write_all(out, line.as_bytes())?;

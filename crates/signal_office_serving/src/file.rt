@@ -20,6 +20,7 @@ ghost use Rattle.office_tables_shelf.specs.Content.{Content};
 ghost use Rattle.signal_office_serving.specs.File.{AreOpenedFor, ServesFiles, StandInFiles};
 ghost use Rattle.signal_office_serving.specs.File.{IsTurnedAway, IsTurnedAwayFrom};
 
+use crate::fault::{fault_of_database, fault_of_opening};
 use office_desk::office::Office;
 use office_http::{ServeFault, Served, Sink, Source, serve};
 use office_tables::open::{Left, OpenFault};
@@ -66,7 +67,7 @@ fn office_over<S: Alter + Drop>(
 {
     match open_tables(alloc, conn) {
         Ok(office) => Ok(office),
-        Err((fault, left)) => Err((Fault::from(fault), Some(left))),
+        Err((fault, left)) => Err((fault_of_opening(fault), Some(left))),
     }
 }
 
@@ -75,7 +76,7 @@ pub(crate) fn unopened<L: Drop>(refused: (Error, L)) -> Fault
     ensures { (result ≢ Fault.Version) × (result ≢ Fault.Damaged) }
 {
     let (error, _) = refused;
-    Fault::from(error)
+    fault_of_database(error)
 }
 
 /// Whether a file has no byte.
@@ -223,8 +224,10 @@ where
 {
     let closed = close_files(conn);
     let done = outcome?;
-    let files = closed?;
-    Ok((files, done))
+    match closed {
+        Ok(files) => Ok((files, done)),
+        Err(error) => Err(fault_of_database(error)),
+    }
 }
 
 /// Closes the file of an office, so that its log is copied into it, and gives what was made of it.

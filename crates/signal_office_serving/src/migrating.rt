@@ -12,6 +12,7 @@ ghost use Rattle.signal_office_serving.specs.Migrating.{LeavesEitherOfFiles, Mig
 ghost use Rattle.signal_office_serving.specs.Migrating.{HoldMigrated, StandTodayInBoth};
 ghost use Rattle.signal_office_serving.specs.Migrating.{TellsOfFiles};
 
+use crate::fault::{fault_of_database, fault_of_opening};
 use crate::file::{close_files, is_missing, unopened};
 use office_tables::Migrated;
 use office_tables::open::OpenFault;
@@ -114,7 +115,7 @@ pub fn migrate_file<S: Start>(
 /// Why a migrated file was not closed. A fault from before comes first.
 fn unclosed(error: Error, outcome: Result<Migrated, OpenFault>) -> Fault {
     match outcome {
-        Ok(_) => Fault::from(error),
-        Err(fault) => Fault::from(fault),
+        Ok(_) => fault_of_database(error),
+        Err(fault) => fault_of_opening(fault),
     }
 }
