@@ -3,9 +3,7 @@
 use office_files::{changes_csv, violation_text};
 use office_http::{Sink, write_all};
 use signal_compare::{Difference, changes, comparison_text};
-use signal_office_asking::Fault;
-use signal_office_csv::Imported;
-use signal_office_editing::{Edited, Entered};
+use signal_office_commands::{Edited, Entered, Fault, Imported};
 use signal_rules::Violation;
 use std::alloc::Global;
 

@@ -6,8 +6,7 @@ mod program;
 mod task;
 
 pub use program::run_words;
-pub use signal_office_asking::{Fault, report};
-pub use signal_office_printing::{overdue_of, sheet_of, violations_in};
+pub use signal_office_commands::{Fault, overdue_of, report, sheet_of, violations_in};
 pub use signal_office_serving::{
     FileConnection, FileOffice, migrate_file, open_and_migrate, serve_file, serve_new_office,
     serve_port,

@@ -6,11 +6,8 @@ use cabinet_core::read_day;
 use office_desk::office::Office;
 use office_http::{Sink, Source, write_all};
 use office_tables_shelf::shelf::Shelf;
-use signal_office_asking::{Fault, report};
+use signal_office_commands::{Fault, compare_files, diagram_in, page_in, report, violations_in};
 use signal_office_line::{Edit, Job, JobFault, Plan, Plans, job_of};
-use signal_office_page::page_in;
-use signal_office_plan_views::{compare_files, diagram_in};
-use signal_office_printing::violations_in;
 use signal_office_serving::{
     fault_of_opening, migrate_file, open_in_memory, serve_new_office, serve_port,
 };

@@ -6,13 +6,12 @@ use office_desk::office::Office;
 use office_http::{Served, Sink, Source};
 use office_tables::sql_shelf::SqlShelf;
 use office_tables_shelf::shelf::Shelf;
-use signal_office_asking::Fault;
-use signal_office_csv::{cabinet_csv_of, draft_csv_of, import_csv, timing_csv_of};
-use signal_office_editing::{abandon_draft, add_intersection, edit_plan};
+use signal_office_commands::{
+    Fault, abandon_draft, add_intersection, cabinet_csv_of, cabinet_of, diagram_of, draft_csv_of,
+    draft_differences, edit_plan, import_csv, list_of, orders_of, overdue_of, page_of, sheet_of,
+    stock_of, timing_csv_of,
+};
 use signal_office_line::View;
-use signal_office_page::page_of;
-use signal_office_plan_views::{diagram_of, draft_differences};
-use signal_office_printing::{cabinet_of, list_of, orders_of, overdue_of, sheet_of, stock_of};
 use signal_office_serving::{close_office, is_missing, opened_file, serve_file, serve_port};
 use signal_records::{InterId, Interval, PatternNo, Words};
 use sqlite::{FileStore, Wary};

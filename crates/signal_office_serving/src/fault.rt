@@ -3,7 +3,7 @@
 ghost use Rattle.std.specs.Prelude.{◌≡◌, ◌≢◌, ◌↔◌};
 
 use office_tables::open::OpenFault;
-use signal_office_asking::Fault;
+use signal_office_commands::Fault;
 use sqlite::{Error, ErrorCode};
 
 /// The fault that is told of an error of the database.

@@ -26,7 +26,7 @@ use office_http::{ServeFault, Served, Sink, Source, serve};
 use office_tables::open::{Left, OpenFault};
 use office_tables::sql_shelf::SqlShelf;
 use office_tables_shelf::shelf::Shelf;
-use signal_office_asking::Fault;
+use signal_office_commands::Fault;
 use sqlite::{Alter, Connection, Error, FileFrom, FileStore, Start};
 use sqlite_disk::{Disk, Files};
 use std::alloc::{AllocError, Global};

@@ -17,7 +17,7 @@ use crate::file::{close_files, is_missing, unopened};
 use office_tables::Migrated;
 use office_tables::open::OpenFault;
 use office_tables::sql_shelf::SqlShelf;
-use signal_office_asking::Fault;
+use signal_office_commands::Fault;
 use sqlite::{Alter, Connection, Error, FileFrom, FileStore, Start};
 use sqlite_disk::{Disk, Files};
 use std::alloc::Global;

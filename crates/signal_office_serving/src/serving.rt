@@ -11,7 +11,7 @@ ghost use Rattle.signal_office_serving.specs.Serving.{ServedAll};
 use office_desk::office::Office;
 use office_http::{ServeStop, Sink, serve_on, write_all};
 use office_tables_shelf::shelf::Shelf;
-use signal_office_asking::Fault;
+use signal_office_commands::Fault;
 use std::alloc::Global;
 use std::net::{Ipv4Addr, SocketAddr, TcpListener};
 
