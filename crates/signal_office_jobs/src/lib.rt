@@ -18,4 +18,4 @@ pub use office_in_file::OfficeInFile;
 pub use program::run_words_over;
 pub use serving::serve_port;
 pub use streaming::serve_by;
-pub use task::{Shown, Task, done_by};
+pub use task::{Shown, Task, done_with};

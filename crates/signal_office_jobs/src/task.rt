@@ -127,7 +127,7 @@ fn shown_of<S: Shelf>(
 }
 
 /// Does a task, and gives what is to be printed once the file is closed, with the status.
-pub fn done_by<S: Shelf, W: Sink>(
+fn done_by<S: Shelf, W: Sink>(
     rt: &HostRuntime,
     alloc: Global,
     office: &mut Office<S>,
@@ -161,4 +161,16 @@ pub fn done_by<S: Shelf, W: Sink>(
             Done::comparing(alloc, &draft_differences(alloc, office, id)?, csv)
         }
     }
+}
+
+/// Does a task by an office, which is given back with what is to be printed.
+pub fn done_with<S: Shelf, W: Sink>(
+    rt: &HostRuntime,
+    alloc: Global,
+    mut office: Office<S>,
+    task: &Task<'_>,
+    out: &mut W,
+) -> (Office<S>, Result<Done, Fault>) {
+    let outcome = done_by(rt, alloc, &mut office, task, out);
+    (office, outcome)
 }

@@ -3,29 +3,14 @@
 use crate::fault::fault_of_opening;
 use crate::file::{close_office, opened_file, serve_file};
 use crate::migrating::migrate_file;
-use office_desk::office::Office;
 use office_http::{Served, Sink, Source};
-use office_tables::sql_shelf::SqlShelf;
 use signal_office_commands::Fault;
-use signal_office_jobs::{Done, OfficeInFile, Task, done_by, run_words_over};
-use sqlite::{FileStore, Wary};
-use sqlite_disk::Disk;
+use signal_office_jobs::{Done, OfficeInFile, Task, done_with, run_words_over};
+use sqlite::Wary;
 use std::alloc::Global;
 
 /// The tables of a database in a file.
 pub(crate) struct TablesInFile;
-
-/// Does a task over the tables of a file that was opened, and closes it.
-fn do_and_close<D: Disk + Drop, W: Sink>(
-    rt: &HostRuntime,
-    alloc: Global,
-    mut office: Office<SqlShelf<FileStore<D>>>,
-    task: &Task<'_>,
-    out: &mut W,
-) -> Result<Done, Fault> {
-    let outcome = done_by(rt, alloc, &mut office, task, out);
-    close_office(office, outcome)
-}
 
 impl OfficeInFile for TablesInFile {
     fn do_task<W: Sink>(
@@ -36,7 +21,10 @@ impl OfficeInFile for TablesInFile {
         out: &mut W,
     ) -> Result<Done, Fault> {
         match opened_file(rt, alloc, path, Wary) {
-            Ok(office) => do_and_close(rt, alloc, office, task, out),
+            Ok(office) => {
+                let (office, outcome) = done_with(rt, alloc, office, task, out);
+                close_office(office, outcome)
+            }
             Err(fault) => Err(fault),
         }
     }
