@@ -1,14 +1,14 @@
-//! What the program's words ask for, from a source of bytes to its two outputs.
+//! The program over files: the office over the tables of a file, files of an older version brought to
+//! today's, and what the program's words ask for.
 #![tactic(auto)]
 
-mod done;
-mod program;
-mod task;
+mod fault;
+mod file;
+mod in_file;
+mod migrating;
 
-pub use program::run_words;
-pub use signal_office_asking::{Fault, report};
-pub use signal_office_printing::{overdue_of, sheet_of, violations_in};
-pub use signal_office_serving::{
-    FileConnection, FileOffice, migrate_file, open_and_migrate, serve_file, serve_new_office,
-    serve_port,
-};
+pub use file::{FileOffice, close_office, opened_file, serve_file};
+pub use in_file::run_words;
+pub use migrating::{FileConnection, migrate_file, open_and_migrate};
+pub use signal_office_commands::{Fault, overdue_of, report, sheet_of, violations_in};
+pub use signal_office_jobs::{serve_new_office, serve_port};

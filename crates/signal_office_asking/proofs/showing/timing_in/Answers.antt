@@ -1,9 +1,0 @@
-use Rattle.signal_office_asking.proofs.showing.timing_in.Goals as goal
-
-pub returns-clause-shown : goal.returns-clause-shown
-returns-clause-shown g c = λ honest.
-    record {
-      reply = c.ask.result;
-      step = c.ask.ensures.step honest;
-      made_is = c.timing_shown.ensures;
-    }

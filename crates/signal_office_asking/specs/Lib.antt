@@ -1,4 +1,0 @@
-pub mod Asking
-pub mod Fault
-pub mod Refused
-pub mod Showing

@@ -1,0 +1,9 @@
+pub mod AskingLemmas
+mod EditLemmas
+pub mod FaultLemmas
+pub mod OrderLemmas
+pub mod QueryLemmas
+pub mod RefusedLemmas
+pub mod SheetLemmas
+pub mod ShownLemmas
+pub mod UnknownLemmas

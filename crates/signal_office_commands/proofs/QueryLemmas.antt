@@ -1,0 +1,70 @@
+-- What the queries State, Cabinet and Stock show.
+use Rattle.std.proofs.Common.{◌≡◌, ℕ, List, Option, Some, None, Result, Ok, Err, refl, sym, ap, subst, ◌∙◌}
+use Rattle.std.specs.FinMap.{get}
+use Rattle.std.specs.Option.{IsSome}
+use Rattle.std.specs.Result.{IsErrAnd}
+use Rattle.cabinet_core.specs.Stock.{stock_of}
+use Rattle.office_tables_shelf.specs.Content.{Content}
+use Rattle.office_desk.specs.Answers.{Answers}
+use Rattle.office_machine.specs.Office.{Office, Intersection}
+use Rattle.office_machine.specs.Step.{cabinet_shown, shown, state_shown}
+use Rattle.office_machine.specs.declared.command.Command.TheVariants as command
+use Rattle.office_machine.specs.declared.reply.CabinetShown.{CabinetShown}
+use Rattle.office_machine.specs.declared.reply.IntersectionState.{IntersectionState}
+use Rattle.office_machine.specs.declared.reply.Reply.{Reply}
+use Rattle.office_machine.specs.declared.reply.Reply.TheVariants as reply
+use Rattle.office_listings.specs.Cabinet.{cabinet_register}
+use Rattle.signal_office_commands.proofs.AskingLemmas.{step_taken}
+use Rattle.signal_office_commands.specs.declared.fault.Fault.{Fault}
+use Rattle.signal_office_commands.specs.Cabinet.{IsCabinetOf, IsRegisterOf, IsStateOf}
+
+shown_state : (id : ℕ) (found : Option Intersection) (state : IntersectionState)
+    → shown found (λ i. reply.State (state_shown id i)) ≡ reply.State state
+    → (i : Intersection) × (found ≡ Some i) × (state ≡ state_shown id i)
+shown_state id None state e = cc
+shown_state id (Some i) state e =
+    let same : state ≡ state_shown id i = cc in
+    (i, refl, same)
+
+-- the query State shows the intersection
+pub stated : (tables : Content) (office : Office) (id : ℕ) (state : IntersectionState)
+    → Answers office (command.State id) (reply.State state) tables → IsStateOf office id state
+stated tables office id state answers =
+    let taken = step_taken office answers.next (command.State id) (reply.State state) answers.step (λ e. cc) in
+    shown_state id (get office.intersections id) state (ap (λ (p : Reply × Office). p.0) taken)
+
+shown_cabinet : (found : Option Intersection) (made cabinet : CabinetShown)
+    → shown found (λ i. reply.Cabinet made) ≡ reply.Cabinet cabinet
+    → IsSome found × (cabinet ≡ made)
+shown_cabinet None made cabinet e = cc
+shown_cabinet (Some i) made cabinet e =
+    let same : cabinet ≡ made = cc in
+    (refl, same)
+
+-- the query Cabinet shows what the register holds of it
+pub filed : (tables : Content) (office : Office) (id : ℕ) (cabinet : CabinetShown)
+    → Answers office (command.Cabinet id) (reply.Cabinet cabinet) tables → IsCabinetOf office id cabinet
+filed tables office id cabinet answers =
+    let taken = step_taken office answers.next (command.Cabinet id) (reply.Cabinet cabinet) answers.step (λ e. cc) in
+    shown_cabinet (get office.intersections id) (cabinet_shown office.register id) cabinet (ap (λ (p : Reply × Office). p.0) taken)
+
+-- the query Stock shows the stock
+pub stocked : (tables : Content) (office : Office) (parts : List (List ℕ × ℕ))
+    → Answers office command.Stock (reply.Stock parts) tables → parts ≡ stock_of office.register
+stocked tables office parts answers =
+    let taken = step_taken office answers.next command.Stock (reply.Stock parts) answers.step (λ e. cc) in
+    let told : reply.Stock (stock_of office.register) ≡ reply.Stock parts = ap (λ (p : Reply × Office). p.0) taken in
+    let same : parts ≡ stock_of office.register = cc in
+    same
+
+-- what both show makes the register
+pub register_is : (office : Office) (id : ℕ) (text : List ℕ) (state : IntersectionState) (cabinet : CabinetShown)
+    → IsStateOf office id state → IsCabinetOf office id cabinet
+    → text ≡ cabinet_register cabinet.id state.name state.interval cabinet.view → IsRegisterOf office id text
+register_is office id text state cabinet (i, there, shows) (known, is) printed =
+    (i, there, printed ∙ (λ k. cabinet_register (is k).id (shows k).name (shows k).interval (is k).view))
+
+-- a fault that is handed on is that which was told
+pub handed : {A : Type 0} (result : Result A Fault) (fault told : Fault) → IsErrAnd result (λ why. why ≡ fault) → result ≡ Err told → fault ≡ told
+handed (Ok x) fault told is e = absurd is
+handed (Err why) fault told is e = let same : why ≡ told = cc in sym is ∙ same

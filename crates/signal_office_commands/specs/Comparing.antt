@@ -1,0 +1,36 @@
+-- The plans that are compared and drawn.
+use Rattle.std.specs.Prelude.{◌≡◌, ◌⊎◌, ℕ, List, Ok, Err}
+use Rattle.signal_records.specs.TimingSet.{Rows}
+use Rattle.signal_compare.specs.declared.difference.Difference.{Difference}
+use Rattle.signal_compare.specs.Difference.{AreTold}
+use Rattle.office_files.specs.Changes.{changes_of}
+use Rattle.office_files.specs.Plan.{IsPlan}
+use Rattle.office_files.specs.declared.fault.CsvFault.{CsvFault}
+use Rattle.office_tables_shelf.specs.Content.{Content}
+use Rattle.signal_office_commands.specs.declared.fault.Fault.{Fault}
+use Rattle.signal_office_commands.specs.Showing.{ShowsTiming, ShowsDraft}
+
+-- they are those of the plans of two files
+pub record ComparesFiles (first second : List ℕ) (found : List Difference) : Type 0 where
+  pub before : Rows
+  pub after : Rows
+  pub first_is : IsPlan first before
+  pub second_is : IsPlan second after
+  pub told : AreTold before after found
+
+-- the first bad record of the first file, or that of the second
+abbrev pub IsFirstBad : List ℕ → List ℕ → CsvFault → Type 0
+IsFirstBad first second why = (changes_of first ≡ Err why) ⊎ (changes_of second ≡ Err why)
+
+-- they are those of a committed timing set and its draft
+pub record ComparesDraft (tables : Content) (id : ℕ) (found : List Difference) : Type 0 where
+  pub committed : Rows
+  pub draft : Rows
+  pub timing_is : ShowsTiming tables id (Ok committed)
+  pub draft_is : ShowsDraft tables id (Ok draft)
+  pub told : AreTold committed draft found
+
+-- the fault is that of a query that is refused
+abbrev pub IsRefusedQuery : Content → ℕ → Fault → Type 0
+IsRefusedQuery tables id why =
+    ShowsTiming tables id (Err why) ⊎ ShowsDraft tables id (Err why)

@@ -1,0 +1,17 @@
+pub mod Asking
+pub mod Cabinet
+pub mod Commands
+pub mod Comparing
+pub mod Drawing
+pub mod Editing
+pub mod Exporting
+pub mod Fault
+pub mod Importing
+pub mod Intersection
+pub mod Listing
+pub mod Overdue
+pub mod Paging
+pub mod Plan
+pub mod Refused
+pub mod Sheet
+pub mod Showing

@@ -1,0 +1,36 @@
+-- How the program tells what the office refused.
+use Rattle.std.specs.Prelude.{ℕ, ◌==◌, List, [], ◌∷◌, Option, Some, None, find, map}
+use Rattle.cabinet_core.specs.declared.refusal.CabinetRefusal.TheVariants as cabinet
+use Rattle.office_machine.specs.Refusal.{line_of}
+use Rattle.office_machine.specs.declared.refusal.Refusal.{Refusal}
+use Rattle.office_machine.specs.declared.refusal.Refusal.TheVariants as refusal
+use Rattle.signal_office_commands.specs.declared.fault.Fault.{Fault}
+use Rattle.signal_office_commands.specs.declared.fault.Fault.TheVariants as told
+
+-- what a record of the register may be refused for
+abbrev pub of_records : List Refusal
+of_records =
+    refusal.UnknownIntersection ∷ map (λ why. refusal.Cabinet why) (
+    cabinet.InspectionDiffers ∷ cabinet.OrderDiffers ∷ cabinet.UnknownOrder
+    ∷ cabinet.OrderClosed ∷ cabinet.DayBeforeOpening ∷ cabinet.NoStock ∷ cabinet.StockFull
+    ∷ cabinet.DeliveryDiffers ∷ cabinet.LineDiffers ∷ cabinet.CloseDiffers ∷ [])
+
+-- the first with a number
+abbrev pub with_number : ℕ → List Refusal → Option Refusal
+with_number number = find (λ r. (line_of r).number == number)
+
+abbrev pub record_refusal : ℕ → Option Refusal
+record_refusal number = with_number number of_records
+
+-- a refused import tells its first refused record
+abbrev pub fault_of_record : ℕ → ℕ → Option Refusal → Fault
+fault_of_record at cause None = told.Refused (refusal.ImportRow at cause)
+fault_of_record at cause (Some why) = told.Record at why
+
+-- the fault that is told
+abbrev pub fault_of : Refusal → Fault
+fault_of refusal.UnknownIntersection = told.UnknownIntersection
+fault_of refusal.Damaged = told.Damaged
+fault_of refusal.Unavailable = told.Store
+fault_of (refusal.ImportRow at cause) = fault_of_record at cause (record_refusal cause)
+fault_of other = told.Refused other

@@ -1,0 +1,52 @@
+//! An intersection that is added.
+
+ghost use Rattle.std.specs.Prelude.{◌≡◌};
+ghost use Rattle.signal_office_commands.specs.Commands.{Adds, entered_told};
+
+use crate::fault::Fault;
+use crate::refused::fault_of;
+use office_desk::office::Office;
+use office_machine::command::Command;
+use office_machine::reply::Reply;
+use office_tables_shelf::shelf::Shelf;
+use signal_records::{InterId, Interval, Words};
+use std::alloc::Global;
+
+/// What became of an intersection that was to be added.
+#[derive(Clone, Copy, Debug, PartialEq, Eq)]
+pub enum Entered {
+    /// It was not there, and is now.
+    Added,
+    /// An equal one was there.
+    Same,
+}
+
+/// What is told of the reply.
+fn entered_told(reply: Reply) -> Result<Entered, Fault>
+    ensures { result ≡ entered_told reply }
+{
+    match reply {
+        Reply::Added => Ok(Entered::Added),
+        Reply::Same => Ok(Entered::Same),
+        Reply::Refused(refusal) => Err(fault_of(refusal)),
+        _ => Err(Fault::Store),
+    }
+}
+
+/// Adds an intersection. One that is there stays, and is told as the same where name and interval
+/// are; else it is refused.
+pub fn add_intersection<S: Shelf>(
+    alloc: Global,
+    office: &mut Office<S>,
+    id: InterId,
+    interval: Interval,
+    name: &Words<120>,
+) -> Result<Entered, Fault>
+    ensures honest { S.is_honest office.new → S.is_honest office.old }
+    ensures adds { S.is_honest office.new →
+        Adds id interval name.now (S.content office.old) (S.content office.new) result }
+{
+    let name = name.clone()?;
+    let reply = office.run(alloc, &Command::AddIntersection { id, interval, name });
+    entered_told(reply)
+}

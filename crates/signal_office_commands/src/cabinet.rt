@@ -1,0 +1,41 @@
+//! The register of a cabinet, by two queries of the office.
+
+ghost use Rattle.std.specs.Prelude.{◌≡◌, Err, IfOk, IfErr};
+ghost use Rattle.office_tables_shelf.specs.Shelf.{IsKept};
+ghost use Rattle.office_machine.specs.Office.{Office as OfficeState};
+ghost use Rattle.office_desk.specs.StandFor.{StandForSound};
+ghost use Rattle.signal_office_commands.specs.Fault.{IsFaultOfQuery, TellsUnknown};
+ghost use Rattle.signal_office_commands.specs.Cabinet.{IsRegisterOf, MeetsRegisterDamage};
+
+use crate::fault::Fault;
+use crate::querying::{cabinet_asked, state_asked};
+use office_desk::office::Office;
+use office_listings::cabinet_text;
+use office_tables_shelf::shelf::Shelf;
+use signal_records::InterId;
+use std::alloc::Global;
+
+/// The register of an intersection's cabinet, with the day on which its next inspection is due. The
+/// office is as it was.
+pub fn cabinet_of<S: Shelf>(
+    alloc: Global,
+    office: &mut Office<S>,
+    id: InterId,
+) -> Result<Vec<u8>, Fault>
+    // It changes nothing.
+    ensures kept { IsKept S.is_honest S.content S.written S.may_leave office.old office.new }
+    ensures register { IfOk result (λ text. S.is_honest office.new → (before : OfficeState) →
+        StandForSound (S.content office.old) before → IsRegisterOf before id text.items) }
+    // Where it fails, the intersection is unknown, memory or the database refused, or a row that
+    // is read is no record.
+    ensures refused { IfErr result IsFaultOfQuery }
+    ensures damaged { result ≡ Err Fault.Damaged → S.is_honest office.new →
+        MeetsRegisterDamage (S.content office.old) id }
+    // An unknown intersection is told where the office has none, and only there.
+    ensures fault { IfErr result (λ fault. S.is_honest office.new → (before : OfficeState) →
+        StandForSound (S.content office.old) before → TellsUnknown before id fault) }
+{
+    let state = state_asked(alloc, office, id)?;
+    let cabinet = cabinet_asked(alloc, office, id)?;
+    Ok(cabinet_text(alloc, &state.name, state.interval, &cabinet)?)
+}

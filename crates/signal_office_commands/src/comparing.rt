@@ -1,0 +1,48 @@
+//! What two plans differ in.
+
+ghost use Rattle.std.specs.Prelude.{◌≢◌, IfOk, IfErr};
+ghost use Rattle.office_tables_shelf.specs.Shelf.{IsKept};
+ghost use Rattle.signal_office_commands.specs.Comparing.{ComparesDraft, ComparesFiles, IsFirstBad};
+ghost use Rattle.signal_office_commands.specs.Comparing.{IsRefusedQuery};
+
+use crate::fault::Fault;
+use crate::showing::{draft_in, timing_in};
+use office_desk::office::Office;
+use office_files::{CsvFault, read_plan_csv};
+use office_tables_shelf::shelf::Shelf;
+use signal_compare::{Difference, compare};
+use signal_records::InterId;
+use std::alloc::Global;
+
+/// What the plans in two CSV files differ in, in the order of their keys, or the first bad record.
+pub fn compare_files(
+    alloc: Global,
+    first: &[u8],
+    second: &[u8],
+) -> Result<Vec<Difference>, CsvFault>
+    ensures found { IfOk result (λ found. ComparesFiles first.now second.now found.items) }
+    ensures fault { IfErr result (λ why. why ≢ CsvFault.NoMemory →
+        IsFirstBad first.now second.now why) }
+{
+    let before = read_plan_csv(alloc, first)?;
+    let after = read_plan_csv(alloc, second)?;
+    Ok(compare(alloc, &before, &after)?)
+}
+
+/// What the draft of an intersection's timing set changes of the committed one, in the order of
+/// their keys. The office is as it was.
+pub fn draft_differences<S: Shelf>(
+    alloc: Global,
+    office: &mut Office<S>,
+    id: InterId,
+) -> Result<Vec<Difference>, Fault>
+    ensures kept { IsKept S.is_honest S.content S.written S.may_leave office.old office.new }
+    ensures found { IfOk result (λ found. S.is_honest office.new →
+        ComparesDraft (S.content office.old) id found.items) }
+    ensures fault { IfErr result (λ why. why ≢ Fault.Memory → S.is_honest office.new →
+        IsRefusedQuery (S.content office.old) id why) }
+{
+    let committed = timing_in(alloc, office, id)?;
+    let draft = draft_in(alloc, office, id)?;
+    Ok(compare(alloc, &committed, &draft)?)
+}

@@ -1,0 +1,130 @@
+//! Why the program ends with a fault.
+
+ghost use Rattle.std.specs.Prelude.{◌≤◌};
+
+use office_files::CsvFault;
+use office_http_framing::ends::WriteFailed;
+use office_http_framing::engine::ServeFault;
+use office_machine::refusal::Refusal;
+use signal_records::NoMemory;
+use std::fmt;
+
+/// Why the program ends with a fault, or refuses its words.
+#[derive(Clone, Copy)]
+pub enum Fault {
+    /// The source failed.
+    Read,
+    /// An output failed, or took no byte.
+    Write,
+    /// A growth was refused.
+    Memory,
+    /// The database refused.
+    Store,
+    /// The tables have another version.
+    Version,
+    /// No version is stored and a table has a row, or a stored row is no record.
+    Damaged,
+    /// The port can't be listened on, or no connection could be accepted.
+    Bind,
+    /// The CSV file can't be read, or the file of an office is not there and is not to be made.
+    File,
+    /// The office has no such intersection.
+    UnknownIntersection,
+    /// The plan has no such pattern.
+    UnknownPattern,
+    /// The word spells no day from 1970-01-01 to 2199-12-31.
+    Day,
+    /// The word is no clerk's name: 1 to 40 bytes without control characters.
+    Clerk,
+    /// The word is no intersection's name: 1 to 120 bytes without control characters.
+    Name,
+    /// The office refused a command.
+    Refused(Refusal),
+    /// The office refused a record of the CSV file, counted from 1.
+    Record { at: usize, refusal: Refusal },
+    /// A record of the CSV file spells nothing.
+    Csv(CsvFault),
+    /// The words are not UTF-8.
+    Words,
+}
+
+impl Fault {
+    /// The status with which the program ends: 2 where the words were refused, else 1.
+    pub fn status(self) -> u8
+        ensures { 1 ≤ result }
+    {
+        match self {
+            Fault::Words => 2,
+            _ => 1,
+        }
+    }
+}
+
+/// Writes the line that says it on standard error, without the line's end.
+impl fmt::Display for Fault {
+    fn fmt<W: fmt::Write>(&self, f: &mut fmt::Formatter<W>) -> fmt::Result {
+        match self {
+            Fault::Read => f.write_str("fault: read"),
+            Fault::Write => f.write_str("fault: write"),
+            Fault::Memory => f.write_str("fault: memory"),
+            Fault::Store => f.write_str("fault: store"),
+            Fault::Version => f.write_str("fault: version"),
+            Fault::Damaged => f.write_str("fault: damaged"),
+            Fault::Bind => f.write_str("fault: bind"),
+            Fault::File => f.write_str("fault: file"),
+            Fault::UnknownIntersection => f.write_str("fault: unknown intersection"),
+            Fault::UnknownPattern => f.write_str("fault: unknown pattern"),
+            Fault::Day => f.write_str("fault: day"),
+            Fault::Clerk => f.write_str("fault: clerk"),
+            Fault::Name => f.write_str("fault: name"),
+            Fault::Refused(refusal) => {
+                let name = refusal.name();
+                write!(f, "fault: {name}")
+            }
+            Fault::Record { at, refusal } => {
+                let name = refusal.name();
+                write!(f, "fault: record {at}: {name}")
+            }
+            Fault::Csv(fault) => write!(f, "fault: {fault}"),
+            Fault::Words => f.write_str("the command line is not UTF-8"),
+        }
+    }
+}
+
+impl From<NoMemory> for Fault {
+    ghost use Rattle.std.specs.Prelude.{◌≡◌};
+    ghost use Rattle.signal_office_commands.specs.declared.fault.Fault.TheVariants as told;
+
+    ghost from_gives = { λ _ fault. fault ≡ told.Memory };
+
+    fn from(_: NoMemory) -> Fault {
+        Fault::Memory
+    }
+}
+
+impl From<WriteFailed> for Fault {
+    fn from(_: WriteFailed) -> Fault {
+        Fault::Write
+    }
+}
+
+impl From<CsvFault> for Fault {
+    ghost use Rattle.std.specs.Prelude.{◌≡◌};
+    ghost use Rattle.signal_office_commands.specs.declared.fault.Fault.TheVariants as told;
+
+    ghost from_gives = { λ cause fault. fault ≡ told.Csv cause };
+
+    fn from(fault: CsvFault) -> Fault {
+        Fault::Csv(fault)
+    }
+}
+
+impl From<ServeFault> for Fault {
+    fn from(fault: ServeFault) -> Fault {
+        match fault {
+            ServeFault::Read { .. } => Fault::Read,
+            ServeFault::Write { .. } => Fault::Write,
+            ServeFault::NoMemory => Fault::Memory,
+        }
+    }
+}

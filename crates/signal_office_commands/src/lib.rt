@@ -1,0 +1,48 @@
+//! The commands of the program, over any office: what is asked and printed of it, what is brought in
+//! and exported, plans that are edited, compared and drawn, pages; and why the program ends with a
+//! fault.
+#![tactic(auto)]
+
+mod abandoning;
+mod adding;
+mod asking;
+mod cabinet;
+mod comparing;
+mod drawing;
+mod editing;
+mod exporting;
+mod fault;
+mod importing;
+mod intersection;
+mod list;
+mod orders;
+mod overdue;
+mod paging;
+mod plan;
+mod querying;
+mod refused;
+mod sheet;
+mod showing;
+mod stock;
+mod telling;
+
+pub use abandoning::abandon_draft;
+pub use adding::{Entered, add_intersection};
+pub use asking::ask;
+pub use cabinet::cabinet_of;
+pub use comparing::{compare_files, draft_differences};
+pub use drawing::{diagram_in, diagram_of};
+pub use editing::{Edited, edit_plan};
+pub use exporting::{cabinet_csv_of, draft_csv_of, timing_csv_of};
+pub use fault::Fault;
+pub use importing::{Imported, import_csv};
+pub use list::list_of;
+pub use orders::orders_of;
+pub use overdue::overdue_of;
+pub use paging::{page_in, page_of};
+pub use plan::violations_in;
+pub use refused::fault_of;
+pub use sheet::sheet_of;
+pub use showing::{cabinet_in, draft_in, state_in, timing_in};
+pub use stock::stock_of;
+pub use telling::report;

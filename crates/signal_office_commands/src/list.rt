@@ -1,0 +1,48 @@
+//! The list of the intersections.
+
+ghost use Rattle.std.specs.Prelude.{◌≡◌, ◌⊎◌, Err, IfOk, IfErr};
+ghost use Rattle.office_tables_shelf.specs.Damage.{HasAnyDamagedIntersection};
+ghost use Rattle.office_tables_shelf.specs.Shelf.{IsKept};
+ghost use Rattle.office_machine.specs.Listed.{intersections_of};
+ghost use Rattle.office_machine.specs.Office.{Office as OfficeState};
+ghost use Rattle.office_desk.specs.StandFor.{StandForSound};
+ghost use Rattle.signal_office_commands.specs.Listing.{list_written};
+
+use crate::fault::Fault;
+use crate::querying::intersections_asked;
+use office_desk::office::Office;
+use office_listings::{intersections_csv, intersections_text};
+use office_machine::intersections::ListedIntersection;
+use office_tables_shelf::shelf::Shelf;
+use signal_records::NoMemory;
+use std::alloc::Global;
+
+fn list_written(alloc: Global, csv: bool, list: &[ListedIntersection]) -> Result<Vec<u8>, NoMemory>
+    ensures { IfOk result (λ text. text.items ≡ list_written csv list.now) }
+{
+    if csv {
+        intersections_csv(alloc, list)
+    } else {
+        intersections_text(alloc, list)
+    }
+}
+
+/// The list of all intersections, by their numbers, as a text or as CSV. The office is as it was.
+pub fn list_of<S: Shelf>(alloc: Global, office: &mut Office<S>, csv: bool) -> Result<Vec<u8>, Fault>
+    // It changes nothing.
+    ensures kept { IsKept S.is_honest S.content S.written S.may_leave office.old office.new }
+    ensures list { IfOk result (λ text. S.is_honest office.new → (before : OfficeState) →
+        StandForSound (S.content office.old) before →
+        text.items ≡ list_written csv (intersections_of before)) }
+    // No row of an intersection that is no record is passed over.
+    ensures whole { IfOk result (λ _. S.is_honest office.new →
+        ¬ HasAnyDamagedIntersection (S.content office.old)) }
+    // Where it fails, memory or the database refused, or the row of an intersection is no record.
+    ensures fault { IfErr result (λ why.
+        (why ≡ Fault.Memory) ⊎ ((why ≡ Fault.Store) ⊎ (why ≡ Fault.Damaged))) }
+    ensures damaged { result ≡ Err Fault.Damaged → S.is_honest office.new →
+        HasAnyDamagedIntersection (S.content office.old) }
+{
+    let list = intersections_asked(alloc, office)?;
+    Ok(list_written(alloc, csv, list.as_slice())?)
+}

@@ -1,0 +1,110 @@
+//! The open orders of an intersection, or of all.
+
+ghost use Rattle.std.specs.Prelude.{◌≡◌, ◌++◌, Err, None, IfOk, IfErr, OnOk};
+ghost use Rattle.office_tables_shelf.specs.Shelf.{IsKept};
+ghost use Rattle.office_desk.specs.Damage.{MeetsDamage};
+ghost use Rattle.office_machine.specs.Office.{Office as OfficeState};
+ghost use Rattle.office_desk.specs.StandFor.{StandForSound};
+ghost use Rattle.office_machine.specs.declared.command.Command.TheVariants as command;
+ghost use Rattle.office_listings.specs.Orders.{orders_listing};
+ghost use Rattle.signal_office_commands.specs.Fault.{IsFaultOfQuery, TellsUnknown};
+ghost use Rattle.signal_office_commands.specs.Cabinet.{IsThere};
+ghost use Rattle.signal_office_commands.specs.Listing.{open_on, AreOpen, TellsOrders};
+ghost use Rattle.signal_office_commands.specs.Listing.{MeetsOrdersDamage, IsOrdersListOf};
+
+use crate::fault::Fault;
+use crate::querying::{cabinet_asked, intersections_asked};
+use office_desk::office::Office;
+use office_listings::{OpenOrder, add_open_orders, orders_text};
+use office_tables_shelf::shelf::Shelf;
+use signal_records::InterId;
+use std::alloc::Global;
+
+/// Appends the open orders of an intersection.
+fn add_orders_on<S: Shelf>(
+    alloc: Global,
+    office: &mut Office<S>,
+    found: &mut Vec<OpenOrder>,
+    id: InterId,
+) -> Result<(), Fault>
+    ensures kept { IsKept S.is_honest S.content S.written S.may_leave office.old office.new }
+    ensures added { OnOk result (S.is_honest office.new → (before : OfficeState) →
+        StandForSound (S.content office.old) before →
+        IsThere before id × (found.new.items ≡ found.old.items ++ open_on before id)) }
+    ensures refused { IfErr result IsFaultOfQuery }
+    ensures damaged { result ≡ Err Fault.Damaged → S.is_honest office.new →
+        MeetsDamage (S.content office.old) (command.Cabinet id) }
+    ensures fault { IfErr result (λ fault. S.is_honest office.new → (before : OfficeState) →
+        StandForSound (S.content office.old) before → TellsUnknown before id fault) }
+{
+    let cabinet = cabinet_asked(alloc, office, id)?;
+    add_open_orders(found, &cabinet)?;
+    Ok(())
+}
+
+/// The open orders of all intersections, by the numbers of these.
+fn all_orders<S: Shelf>(alloc: Global, office: &mut Office<S>) -> Result<Vec<OpenOrder>, Fault>
+    ensures kept { IsKept S.is_honest S.content S.written S.may_leave office.old office.new }
+    ensures open { IfOk result (λ found. S.is_honest office.new → (before : OfficeState) →
+        StandForSound (S.content office.old) before → AreOpen before None found.items) }
+    ensures refused { IfErr result IsFaultOfQuery }
+    ensures damaged { result ≡ Err Fault.Damaged → S.is_honest office.new →
+        MeetsOrdersDamage (S.content office.old) None }
+    ensures fault { IfErr result (λ fault. S.is_honest office.new → (before : OfficeState) →
+        StandForSound (S.content office.old) before → TellsOrders before None fault) }
+{
+    let list = intersections_asked(alloc, office)?;
+    let mut found = Vec::new(alloc);
+    for listed in list.as_slice() {
+        add_orders_on(alloc, office, &mut found, listed.id)?;
+    }
+    Ok(found)
+}
+
+/// The open orders that are asked for: of an intersection, or of all.
+fn orders_asked<S: Shelf>(
+    alloc: Global,
+    office: &mut Office<S>,
+    id: Option<InterId>,
+) -> Result<Vec<OpenOrder>, Fault>
+    ensures kept { IsKept S.is_honest S.content S.written S.may_leave office.old office.new }
+    ensures open { IfOk result (λ found. S.is_honest office.new → (before : OfficeState) →
+        StandForSound (S.content office.old) before → AreOpen before id found.items) }
+    ensures refused { IfErr result IsFaultOfQuery }
+    ensures damaged { result ≡ Err Fault.Damaged → S.is_honest office.new →
+        MeetsOrdersDamage (S.content office.old) id }
+    ensures fault { IfErr result (λ fault. S.is_honest office.new → (before : OfficeState) →
+        StandForSound (S.content office.old) before → TellsOrders before id fault) }
+{
+    let Some(id) = id else {
+        return all_orders(alloc, office);
+    };
+    let mut found = Vec::new(alloc);
+    add_orders_on(alloc, office, &mut found, id)?;
+    Ok(found)
+}
+
+/// The list of the open orders of an intersection, or of all in the order of their numbers. The
+/// office is as it was.
+pub fn orders_of<S: Shelf>(
+    alloc: Global,
+    office: &mut Office<S>,
+    id: Option<InterId>,
+) -> Result<Vec<u8>, Fault>
+    // It changes nothing.
+    ensures kept { IsKept S.is_honest S.content S.written S.may_leave office.old office.new }
+    ensures orders { IfOk result (λ text. S.is_honest office.new → (before : OfficeState) →
+        StandForSound (S.content office.old) before → IsOrdersListOf before id text.items) }
+    // Where it fails, the intersection is unknown, memory or the database refused, or a row that
+    // is read is no record.
+    ensures refused { IfErr result IsFaultOfQuery }
+    ensures damaged { result ≡ Err Fault.Damaged → S.is_honest office.new →
+        MeetsOrdersDamage (S.content office.old) id }
+    // An unknown intersection is told where one was asked for that the office does not have, and
+    // only there.
+    ensures fault { IfErr result (λ fault. S.is_honest office.new → (before : OfficeState) →
+        StandForSound (S.content office.old) before → TellsOrders before id fault) }
+{
+    let found = orders_asked(alloc, office, id)?;
+    Ok(orders_text(alloc, found.as_slice())?)
+}

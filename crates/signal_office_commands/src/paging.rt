@@ -1,0 +1,52 @@
+//! The page of an intersection of an office, and that of the plan in a file.
+
+ghost use Rattle.std.specs.Prelude.{◌≡◌, ◌≢◌, Err, IfErr, IfOk};
+ghost use Rattle.office_files.specs.Changes.{changes_of};
+ghost use Rattle.office_machine.specs.Office.{Office as OfficeState};
+ghost use Rattle.office_desk.specs.StandFor.{StandForSound};
+ghost use Rattle.office_tables_shelf.specs.Shelf.{IsKept};
+ghost use Rattle.signal_office_commands.specs.Fault.{TellsUnknown};
+ghost use Rattle.signal_office_commands.specs.Intersection.{IsRefusedShowing};
+ghost use Rattle.signal_office_commands.specs.Paging.{IsPageOf, IsPageOfFile};
+
+use crate::fault::Fault;
+use crate::intersection::intersection_in;
+use office_desk::office::Office;
+use office_files::{CsvFault, read_plan_csv};
+use office_tables_shelf::shelf::Shelf;
+use signal_page::{intersection_page, plan_page};
+use signal_records::InterId;
+use std::alloc::Global;
+
+/// The page of an intersection. The office is as it was.
+pub fn page_of<S: Shelf>(
+    alloc: Global,
+    office: &mut Office<S>,
+    id: InterId,
+) -> Result<Vec<u8>, Fault>
+    // It changes nothing.
+    ensures kept { IsKept S.is_honest S.content S.written S.may_leave office.old office.new }
+    // The page shows the plan that runs as that, the draft as the draft, and the register.
+    ensures page { IfOk result (λ text. S.is_honest office.new → (before : OfficeState) →
+        StandForSound (S.content office.old) before → IsPageOf before id text.items) }
+    // Where it fails, memory was refused, or one of the queries.
+    ensures fault { IfErr result (λ why. why ≢ Fault.Memory → S.is_honest office.new →
+        IsRefusedShowing (S.content office.old) id why) }
+    // An unknown intersection is told where the office has none, and only there.
+    ensures unknown { IfErr result (λ why. S.is_honest office.new → (before : OfficeState) →
+        StandForSound (S.content office.old) before → TellsUnknown before id why) }
+{
+    let shown = intersection_in(alloc, office, id)?;
+    Ok(intersection_page(alloc, &shown)?)
+}
+
+/// The page of the plan that the records of a CSV file make of the empty set, or the first bad
+/// record.
+pub fn page_in(alloc: Global, bytes: &[u8]) -> Result<Vec<u8>, CsvFault>
+    ensures page { IfOk result (λ text. IsPageOfFile bytes.now text.items) }
+    ensures fault { IfErr result (λ why. why ≢ CsvFault.NoMemory → changes_of bytes.now ≡ Err why) }
+{
+    let plan = read_plan_csv(alloc, bytes)?;
+    let text = plan_page(alloc, &plan)?;
+    Ok(text)
+}

@@ -1,0 +1,66 @@
+//! The timing sheet of an intersection, by one query of the office.
+
+ghost use Rattle.std.specs.Prelude.{◌≡◌, Err, IfOk, IfErr};
+ghost use Rattle.office_tables_shelf.specs.Shelf.{IsKept};
+ghost use Rattle.office_desk.specs.Damage.{MeetsDamage};
+ghost use Rattle.office_machine.specs.Office.{Office as OfficeState};
+ghost use Rattle.office_desk.specs.StandFor.{StandForSound};
+ghost use Rattle.office_machine.specs.declared.command.Command.TheVariants as command;
+ghost use Rattle.signal_office_commands.specs.Fault.{IsFaultOfQuery, TellsUnknown};
+ghost use Rattle.signal_office_commands.specs.Sheet.{IsSheetOf, IsTimingOf};
+
+use crate::asking::ask;
+use crate::fault::Fault;
+use crate::refused::fault_of;
+use office_desk::office::Office;
+use office_files::timing_sheet;
+use office_machine::command::Command;
+use office_machine::reply::{Reply, RunningTiming};
+use office_tables_shelf::shelf::Shelf;
+use signal_records::InterId;
+use std::alloc::Global;
+
+/// The committed timing set of an intersection with its name, and how often it was committed.
+fn timing_in<S: Shelf>(
+    alloc: Global,
+    office: &mut Office<S>,
+    id: InterId,
+) -> Result<RunningTiming, Fault>
+    ensures kept { IsKept S.is_honest S.content S.written S.may_leave office.old office.new }
+    ensures timing { IfOk result (λ timing. S.is_honest office.new → (before : OfficeState) →
+        StandForSound (S.content office.old) before → IsTimingOf before id timing) }
+    ensures refused { IfErr result IsFaultOfQuery }
+    ensures damaged { result ≡ Err Fault.Damaged → S.is_honest office.new →
+        MeetsDamage (S.content office.old) (command.Timing id) }
+    ensures fault { IfErr result (λ fault. S.is_honest office.new → (before : OfficeState) →
+        StandForSound (S.content office.old) before → TellsUnknown before id fault) }
+{
+    match ask(alloc, office, Command::Timing { id }) {
+        Reply::Timing(timing) => Ok(timing),
+        Reply::Refused(refusal) => Err(fault_of(refusal)),
+        _ => Err(Fault::Store),
+    }
+}
+
+/// The timing sheet of an intersection: its name, and its committed timing set. The office is as it was.
+pub fn sheet_of<S: Shelf>(
+    alloc: Global,
+    office: &mut Office<S>,
+    id: InterId,
+) -> Result<Vec<u8>, Fault>
+    // It changes nothing.
+    ensures kept { IsKept S.is_honest S.content S.written S.may_leave office.old office.new }
+    // The sheet is that of the set that the office runs, whatever is being drafted.
+    ensures sheet { IfOk result (λ text. S.is_honest office.new → (before : OfficeState) → StandForSound (S.content office.old) before →
+        IsSheetOf before id text.items) }
+    // Where it fails, the intersection is unknown, memory or the database refused, or a row of it is no record.
+    ensures refused { IfErr result IsFaultOfQuery }
+    ensures damaged { result ≡ Err Fault.Damaged → S.is_honest office.new →
+        MeetsDamage (S.content office.old) (command.Timing id) }
+    // An unknown intersection is told where the office has none, and only there.
+    ensures fault { IfErr result (λ fault. S.is_honest office.new → (before : OfficeState) → StandForSound (S.content office.old) before →
+        TellsUnknown before id fault) }
+{
+    let timing = timing_in(alloc, office, id)?;
+    Ok(timing_sheet(alloc, id, &timing.name, timing.revision, &timing.rows)?)
+}

@@ -1,0 +1,96 @@
+//! What a command prints, and the status with which it ends.
+
+use office_files::{changes_csv, violation_text};
+use office_http::{Sink, write_all};
+use signal_compare::{Difference, changes, comparison_text};
+use signal_office_commands::{Edited, Entered, Fault, Imported};
+use signal_rules::Violation;
+use std::alloc::Global;
+
+/// The status where a plan that is checked, or is to be committed, breaks a rule.
+const HAS_VIOLATIONS: u8 = 3;
+
+/// The status of `compare` where the plans differ.
+const DIFFERS: u8 = 4;
+
+/// What is told of a commit that was asked for and not made.
+const NOT_COMMITTED: &[u8] =
+    b"not committed: the draft stays open; go on with edit, or drop it with abandon\n";
+
+/// What a command prints on standard output, and its status.
+#[derive(Drop)]
+pub struct Done {
+    text: Vec<u8>,
+    status: u8,
+}
+
+impl Done {
+    /// This text, and nothing to tell by the status.
+    pub(crate) fn with(text: Vec<u8>) -> Done {
+        Done { text, status: 0 }
+    }
+
+    /// A fixed line.
+    pub(crate) fn telling(alloc: Global, line: &[u8]) -> Result<Done, Fault> {
+        let mut text = Vec::new(alloc);
+        text.extend_from_slice(line)?;
+        Ok(Done::with(text))
+    }
+
+    /// Whether an intersection was new, or there.
+    pub(crate) fn adding(alloc: Global, entered: Entered) -> Result<Done, Fault> {
+        match entered {
+            Entered::Added => Done::telling(alloc, b"added\n"),
+            Entered::Same => Done::telling(alloc, b"same\n"),
+        }
+    }
+
+    /// The violations of a plan that was checked.
+    pub(crate) fn checking(alloc: Global, found: &[Violation]) -> Result<Done, Fault> {
+        let text = violation_text(alloc, found)?;
+        let status = if found.is_empty() { 0 } else { HAS_VIOLATIONS };
+        Ok(Done { text, status })
+    }
+
+    /// How many records of an import were new, and how many were there.
+    pub(crate) fn importing(alloc: Global, imported: Imported) -> Result<Done, Fault> {
+        let Imported { added, same } = imported;
+        let line = format!(in alloc; "added {added}, same {same}\n")?;
+        Ok(Done::with(line.into_bytes()))
+    }
+
+    /// The rules that an edited draft breaks, and whether it was committed. A commit that was asked
+    /// for and not made is told, and by the status.
+    pub(crate) fn editing(alloc: Global, edited: &Edited, commit: bool) -> Result<Done, Fault> {
+        let mut done = Done::checking(alloc, edited.violations.as_slice())?;
+        if edited.committed {
+            done.text.extend_from_slice(b"committed\n")?;
+        } else if commit {
+            done.text.extend_from_slice(NOT_COMMITTED)?;
+        } else {
+            done.status = 0;
+        }
+        Ok(done)
+    }
+
+    /// What two plans differ in, or that as CSV.
+    pub(crate) fn comparing(
+        alloc: Global,
+        differences: &[Difference],
+        csv: bool,
+    ) -> Result<Done, Fault> {
+        let text = if csv {
+            changes_csv(alloc, &changes(alloc, differences)?)?
+        } else {
+            comparison_text(alloc, differences)?
+        };
+        let status = if differences.is_empty() { 0 } else { DIFFERS };
+        Ok(Done { text, status })
+    }
+
+    /// Prints it, and gives the status.
+    pub(crate) fn print<W: Sink>(&self, out: &mut W) -> Result<u8, Fault> {
+        write_all(out, &self.text)?;
+        Ok(self.status)
+    }
+}

@@ -1,0 +1,33 @@
+//! Files of the system: the bytes of one, and whether it is there.
+
+use signal_office_commands::Fault;
+use std::alloc::{AllocError, Global};
+use std::fs;
+use std::io::ErrorKind;
+
+/// The bytes of a file.
+pub(crate) fn read_file(rt: &HostRuntime, path: &str) -> Result<Vec<u8>, Fault> {
+    match fs::read(rt, path) {
+        Ok(bytes) => Ok(bytes),
+        Err(error) if error.kind() == ErrorKind::OutOfMemory => Err(Fault::Memory),
+        Err(_) => Err(Fault::File),
+    }
+}
+
+/// Whether a file has no byte.
+fn is_empty(rt: &HostRuntime, path: &str) -> bool {
+    match fs::metadata(rt, path) {
+        Ok(found) => found.is_file() && found.len() == 0,
+        Err(_) => false,
+    }
+}
+
+/// Whether there is no such file, or an empty one without a log beside it, which has no tables.
+/// Where the system does not tell, opening it does.
+pub fn is_missing(rt: &HostRuntime, alloc: Global, path: &str) -> Result<bool, AllocError> {
+    if matches!(fs::exists(rt, path), Ok(false)) {
+        return Ok(true);
+    }
+    let log = format!(in alloc; "{path}-wal")?;
+    Ok(is_empty(rt, path) && !matches!(fs::exists(rt, log.as_str()), Ok(true)))
+}

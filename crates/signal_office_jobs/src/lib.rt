@@ -1,0 +1,21 @@
+//! The jobs that the program's words ask for, over any office: in memory, or in a file that others
+//! open; from a source of bytes to its two outputs.
+#![tactic(auto)]
+
+mod done;
+mod files;
+mod memory;
+mod office_in_file;
+mod program;
+mod serving;
+mod streaming;
+mod task;
+
+pub use done::Done;
+pub use files::is_missing;
+pub use memory::{open_in_memory, serve_new_office};
+pub use office_in_file::OfficeInFile;
+pub use program::run_words_over;
+pub use serving::serve_port;
+pub use streaming::serve_by;
+pub use task::{Shown, Task, done_with};

@@ -1,3 +1,0 @@
-pub mod FaultLemmas
-pub mod ShownLemmas
-pub mod UnknownLemmas

@@ -1,3 +1,0 @@
-pub mod QueryLemmas
-pub mod OrderLemmas
-pub mod SheetLemmas

@@ -1,5 +1,0 @@
-pub mod Cabinet
-pub mod Listing
-pub mod Overdue
-pub mod Plan
-pub mod Sheet

@@ -1,0 +1,2 @@
+pub mod MigratingLemmas
+mod FileLemmas

@@ -1,0 +1,27 @@
+use Rattle.std.proofs.Common.{refl}
+use Rattle.sqlite.specs.Files.{file_state}
+use Rattle.office_http.specs.Protocol.{office_protocol}
+use Rattle.office_http_framing.proofs.ServeLemmas.{Did-weaker}
+use Rattle.office_tables.specs.Stored.{content_now}
+use Rattle.signal_office_jobs.proofs.ServedLemmas.{from_opened}
+use Rattle.office_tables_shelf.specs.Counts.{no_writes}
+use Rattle.signal_office_run.specs.File.{sql_storage}
+use Rattle.signal_office_run.proofs.file.serve_file.Goals as goal
+
+-- what was opened is what the tables in the files stood for, and so is what a crash may leave of it
+pub returns-in-Ok-clause-did : goal.returns-in-Ok-clause-did
+returns-in-Ok-clause-did g c clean before stand =
+    let it = c.serve_by.ensures in
+    let office = c.in-Ok.office in
+    let opened = c.in-Ok.ensures.opened (it.clean clean) before stand in
+    let served = it.did clean before (content_now (file_state office.conn)) (record { stands = opened.stand; held = λ _. refl }) in (
+      served.0,
+      Did-weaker office_protocol _ _ c.args.max_requests _ _ c.serve_by.result.1
+          (λ requests answers serves. record {
+            held = content_now (file_state office.conn);
+            stands = opened.stand;
+            kept = served.1;
+            serves = from_opened (sql_storage file_state) _ _ (content_now (file_state office.conn)) _ no_writes
+                opened.unwritten opened.crash before _ served.1 served.0 requests answers serves;
+          }) served.2,
+    )

@@ -1,0 +1,30 @@
+//! How a file that the database or its tables refused is told.
+
+ghost use Rattle.std.specs.Prelude.{◌≡◌, ◌≢◌, ◌↔◌};
+
+use office_tables::open::OpenFault;
+use signal_office_commands::Fault;
+use sqlite::{Error, ErrorCode};
+
+/// The fault that is told of an error of the database.
+pub(crate) fn fault_of_database(error: Error) -> Fault
+    ensures { (result ≢ Fault.Version) × (result ≢ Fault.Damaged) }
+{
+    match error {
+        Error::SqliteFailure(ErrorCode::OutOfMemory) => Fault::Memory,
+        _ => Fault::Store,
+    }
+}
+
+/// The fault that is told of tables that were refused.
+pub(crate) fn fault_of_opening(fault: OpenFault) -> Fault
+    ensures { ((result ≡ Fault.Version) ↔ (fault ≡ OpenFault.Version))
+        × ((result ≡ Fault.Damaged) ↔ (fault ≡ OpenFault.Damaged)) }
+{
+    match fault {
+        OpenFault::Version => Fault::Version,
+        OpenFault::Damaged => Fault::Damaged,
+        OpenFault::Store => Fault::Store,
+        OpenFault::NoMemory => Fault::Memory,
+    }
+}

@@ -1,4 +1,0 @@
-pub mod MemoryLemmas
-pub mod MigratingLemmas
-mod FileLemmas
-mod ServedLemmas

@@ -1,4 +1,0 @@
-pub mod File
-pub mod Memory
-pub mod Migrating
-pub mod Serving
