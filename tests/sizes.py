@@ -13,9 +13,7 @@ import sys
 import measured
 
 TOP = pathlib.Path(__file__).resolve().parent.parent
-TESTS = {
-    "signal_core_tests", "office_test_scripts", "office_hostile_tests", "office_crash_tests",
-}
+TESTS = {"signal_core_tests", "office_row_files", "office_trials", "office_file_trials"}
 KINDS = ["Code", "Tests", "Specs", "Proofs", "Edits of the gate", "Other edits"]
 
 

@@ -1,7 +1,8 @@
 #!/usr/bin/env bash
 # Tries the wrong bodies that the gate passes over: those in the folders wrong-bodies, each an edit
-# in the form of those in must-fail. Each has to be refused by the prover. It takes some half a
-# minute for each, over kept work, and works on a copy. It prints a line for each, and ends with
+# in the form of those in must-fail. Each has to be refused by the prover. It works on a copy, and
+# takes a proof of each crate, some four minutes of a processor, and three quarters of a minute for
+# each edit: it tells beforehand what that comes to. It prints a line for each edit, and ends with
 # status 1 where one is not refused. Needs the kit of Rattle on the path.
 #
 #     tests/wrong_bodies.sh [CRATE..]      all crates that have some, where none is named
@@ -26,6 +27,16 @@ if [ ${#names[@]} -eq 0 ]; then
     names+=("$(basename "$(dirname "$folder")")")
   done
 fi
+
+edits=0
+for name in "${names[@]}"; do
+  for edit in "$top/crates/$name/wrong-bodies"/*.edit; do
+    edits=$((edits + 1))
+  done
+done
+minutes=$((${#names[@]} * 4 + edits * 3 / 4))
+echo "wrong_bodies.sh: $edits edits of ${#names[@]} crates: some $minutes minutes of a processor" \
+  "($(nproc) are here), and before them the proofs of those below that were not proved here" >&2
 
 cp "$top/crates.txt" "$top/HANDLES" "$copy"
 mkdir "$copy/crates"

@@ -5,43 +5,42 @@
 //! or `tables` it tries what is meant for runs in which an allocation is refused from outside.
 #![tactic(auto)]
 
-mod commands;
-mod ends;
-mod fault;
-mod folder;
 mod playing;
-mod reading;
-mod row;
-mod tables;
-mod way;
-mod wording;
 
-use crate::commands::play_commands;
-use crate::ends::Cut;
-use crate::fault::Fault;
-use crate::folder::{names, remove_others, row_name};
-use crate::playing::{play, play_want_of_memory};
-use crate::reading::read_row;
-use crate::row::Row;
-use crate::way::Way;
-use office_crash_tests::stops::try_stops;
-use office_hostile_tests::calls::try_calls;
-use office_hostile_tests::hostile::try_hostile;
-use office_hostile_tests::memory::try_memory;
-use office_test_scripts::trouble::Trouble;
+use crate::playing::{play_runs, play_want_of_memory};
+use office_file_trials::calls::{try_below, try_memory};
+use office_file_trials::commands::play_commands;
+use office_file_trials::playing::play_over;
+use office_file_trials::stops::try_stops;
+use office_row_files::folder::{names, remove_others, row_name};
+use office_row_files::reading::read_row;
+use office_row_files::row::Row;
+use office_row_files::trouble::Trouble;
+use office_row_files::way::Way;
+use office_trials::calls::try_calls;
 use std::process::ExitCode;
 use std::{env, fs, io};
 
-/// Plays a row in one way, and removes what it left in the working folder.
-fn play_way(rt: &HostRuntime, row: &Row<'_>, way: Way, kept: &[String]) -> Result<(), Fault> {
-    let played = play(rt, row, way);
-    remove_others(rt, kept)?;
-    played
+/// Plays a row in one way. What runs of the program left in the working folder is removed.
+fn play_way(rt: &HostRuntime, row: &Row<'_>, way: Way, kept: &[String]) -> Result<(), Trouble> {
+    match way {
+        Way::Over(kind, cut) => play_over(rt.alloc(), row, kind, cut),
+        Way::ByTheProgram(cut) => {
+            let played = play_runs(rt, row, cut);
+            remove_others(rt, kept)?;
+            played
+        }
+    }
 }
 
 /// Plays a row in all its ways, and a drawn one command by command too, says where it is not as
 /// told, and tells whether it was in each.
-fn play_ways(rt: &HostRuntime, name: &str, row: &Row<'_>, kept: &[String]) -> Result<bool, Fault> {
+fn play_ways(
+    rt: &HostRuntime,
+    name: &str,
+    row: &Row<'_>,
+    kept: &[String],
+) -> Result<bool, Trouble> {
     let mut is_told = true;
     if let Err(fault) = play_commands(rt.alloc(), name, row) {
         println!(rt; "{name} command by command, {fault}")?;
@@ -57,7 +56,7 @@ fn play_ways(rt: &HostRuntime, name: &str, row: &Row<'_>, kept: &[String]) -> Re
 }
 
 /// Plays a row, and says that it is as told if it is.
-fn play_row(rt: &HostRuntime, name: &str, row: &Row<'_>, kept: &[String]) -> Result<bool, Fault> {
+fn play_row(rt: &HostRuntime, name: &str, row: &Row<'_>, kept: &[String]) -> Result<bool, Trouble> {
     if !play_ways(rt, name, row, kept)? {
         return Ok(false);
     }
@@ -72,7 +71,7 @@ fn play_row(rt: &HostRuntime, name: &str, row: &Row<'_>, kept: &[String]) -> Res
 }
 
 /// Plays the row of a file, and tells whether all was as told.
-fn play_file(rt: &HostRuntime, file: &str, name: &str, kept: &[String]) -> Result<bool, Fault> {
+fn play_file(rt: &HostRuntime, file: &str, name: &str, kept: &[String]) -> Result<bool, Trouble> {
     let text = fs::read_to_string(rt, file)?;
     match read_row(rt.alloc(), text.as_str()) {
         Ok(row) => play_row(rt, name, &row, kept),
@@ -84,7 +83,7 @@ fn play_file(rt: &HostRuntime, file: &str, name: &str, kept: &[String]) -> Resul
 }
 
 /// Plays all rows of the working folder, and tells whether all was as told.
-fn play_all(rt: &HostRuntime) -> Result<bool, Fault> {
+fn play_all(rt: &HostRuntime) -> Result<bool, Trouble> {
     play_want_of_memory(rt.alloc())?;
     let kept = names(rt)?;
     let mut is_told = true;
@@ -117,8 +116,8 @@ fn is_as_told(rt: &HostRuntime) -> Result<bool, Trouble> {
         return Ok(true);
     }
     let is_told = play_or_say(rt)?;
+    try_below(rt)?;
     try_calls(rt)?;
-    try_hostile(rt)?;
     try_stops(rt)?;
     Ok(is_told)
 }

@@ -1,273 +1,303 @@
-use crate::spelling::words;
+//! Commands of the register by themselves, as records of its file; and days.
+
 use cabinet_core::*;
-use signal_records::{Amount, LineNo, RecordNo};
+use office_files::{read_records_csv, records_csv};
+use signal_records::InterId;
 use std::alloc::Global;
 use std::test::Fail;
 
-fn day(text: &str) -> Result<Day, Fail> {
-    Ok(read_day(text.as_bytes()).ok_or("a day")?)
+/// What stands of a cabinet and of the stock.
+#[derive(Drop)]
+struct Standing {
+    inspections: Vec<Inspection>,
+    orders: Vec<Order>,
+    lines: Vec<UsedLine>,
+    deliveries: Vec<Delivery>,
 }
 
-fn number(n: u32) -> Result<RecordNo, Fail> {
-    Ok(RecordNo::new(n).ok_or("a number")?)
+const INSPECTION: &str = "inspection,12,1,2026-05-01,Ana,Checked";
+
+const ORDER: &str = "order,12,4,2026-05-01,Ana,Repair";
+
+/// The order, which another clerk closed on the day on which it was opened.
+const CLOSED: &str = "order,12,4,2026-05-01,Ana,Repair\nclose,12,4,2026-05-01,Bo";
+
+const CLOSE: &str = "close,12,4,2026-05-01,Bo";
+
+const LINE: &str = "use,12,4,1,RELAY,2";
+
+const DELIVERY: &str = "delivery,RELAY,1,2026-05-01,1";
+
+/// What is on hand of the part, the records that stand, one that is asked for, and the rows that are
+/// put, or why none is.
+const CASES: [(u32, &str, &str, &str); 22] = [
+    (0, "", INSPECTION, "inspection;"),
+    (0, INSPECTION, INSPECTION, "same"),
+    (
+        0,
+        INSPECTION,
+        "inspection,12,1,2026-05-02,Ana,Checked",
+        "InspectionDiffers",
+    ),
+    (0, "", ORDER, "order;"),
+    (0, ORDER, ORDER, "same"),
+    (0, CLOSED, ORDER, "same"),
+    (
+        0,
+        ORDER,
+        "order,12,4,2026-05-01,Ana,Replace",
+        "OrderDiffers",
+    ),
+    (10, ORDER, LINE, "line;8 on hand;"),
+    (10, LINE, LINE, "same"),
+    (
+        10,
+        "order,12,4,2026-05-01,Ana,Repair\nuse,12,4,1,RELAY,2",
+        "use,12,4,1,RELAY,3",
+        "LineDiffers",
+    ),
+    (10, "", LINE, "UnknownOrder"),
+    (10, CLOSED, LINE, "OrderClosed"),
+    (10, ORDER, "use,12,4,1,RELAY,11", "NoStock"),
+    (0, ORDER, CLOSE, "order;"),
+    (0, CLOSED, CLOSE, "same"),
+    (0, "", CLOSE, "UnknownOrder"),
+    (0, CLOSED, "close,12,4,2026-05-01,Ana", "CloseDiffers"),
+    (0, ORDER, "close,12,4,2026-04-30,Bo", "DayBeforeOpening"),
+    (
+        MOST_ON_HAND - 1,
+        "",
+        DELIVERY,
+        "999999999 on hand;delivery;",
+    ),
+    (MOST_ON_HAND, DELIVERY, DELIVERY, "same"),
+    (
+        1,
+        DELIVERY,
+        "delivery,RELAY,1,2026-05-01,5",
+        "DeliveryDiffers",
+    ),
+    (MOST_ON_HAND, "", DELIVERY, "StockFull"),
+];
+
+/// Records of a cabinet, each kind from its last to its first.
+const BACKWARDS: &str = "\
+inspection,12,10,2026-04-01,Bo,Lamp out
+inspection,12,9,2026-03-01,Ana,Fan cleaned
+order,12,7,2026-05-02,Bo,Door
+close,12,7,2026-05-02,Bo
+order,12,4,2026-05-01,Ana,Lamp
+close,12,4,2026-05-01,Ana
+use,12,7,1,HINGE,1
+use,12,4,10,RELAY,2
+use,12,4,9,LAMP,3
+";
+
+/// Their file.
+const IN_ORDER: &str = "\
+inspection,12,9,2026-03-01,Ana,Fan cleaned
+inspection,12,10,2026-04-01,Bo,Lamp out
+order,12,4,2026-05-01,Ana,Lamp
+use,12,4,9,LAMP,3
+use,12,4,10,RELAY,2
+close,12,4,2026-05-01,Ana
+order,12,7,2026-05-02,Bo,Door
+use,12,7,1,HINGE,1
+close,12,7,2026-05-02,Bo
+";
+
+impl Standing {
+    /// A record stands; a closing closes the order before it.
+    fn take(&mut self, record: RecordCommand) -> Result<(), Fail> {
+        match record {
+            RecordCommand::Inspect { inspection, .. } => self.inspections.push(inspection)?,
+            RecordCommand::OpenOrder { opening, .. } => self.orders.push(Order {
+                number: opening.number,
+                opened: opening.day,
+                clerk: opening.clerk,
+                text: opening.text,
+                closing: None,
+            })?,
+            RecordCommand::UsePart { line, .. } => self.lines.push(line)?,
+            RecordCommand::CloseOrder { closing, .. } => {
+                if let Some(order) = self.orders.last_mut() {
+                    order.closing = Some(closing);
+                }
+            }
+            RecordCommand::Receive { delivery } => self.deliveries.push(delivery)?,
+        }
+        Ok(())
+    }
 }
 
-fn relay(alloc: Global) -> Result<PartCode, Fail> {
-    Ok(PartCode::new(alloc, b"RELAY")?.ok_or("a part")?)
+/// What stands after these records.
+fn standing(alloc: Global, text: &str) -> Result<Standing, Fail> {
+    let mut standing = Standing {
+        inspections: Vec::new(alloc),
+        orders: Vec::new(alloc),
+        lines: Vec::new(alloc),
+        deliveries: Vec::new(alloc),
+    };
+    for record in read_records_csv(alloc, text.as_bytes())? {
+        standing.take(record)?;
+    }
+    Ok(standing)
 }
 
-/// What a decision of the register answers.
-type Outcome = Result<Recorded, CabinetRefusal>;
-
-/// Whether nothing is to be changed, since it is there already.
-fn is_same(outcome: Outcome) -> bool {
-    matches!(&outcome, Ok(Recorded::Same))
+/// What is answered to a record that is asked for.
+fn decided(
+    alloc: Global,
+    hand: u32,
+    standing: &mut Standing,
+    asked: &RecordCommand,
+) -> Result<Recorded, CabinetRefusal> {
+    let hand = Hand::new(hand);
+    let order = standing.orders.pop();
+    match asked {
+        RecordCommand::Inspect { inspection, .. } => {
+            inspect(alloc, &standing.inspections.pop(), inspection)
+        }
+        RecordCommand::OpenOrder { opening, .. } => open_order(alloc, &order, opening),
+        RecordCommand::UsePart { line, .. } => {
+            use_part(alloc, &standing.lines.pop(), &order, hand, line)
+        }
+        RecordCommand::CloseOrder { closing, .. } => close_order(alloc, &order, closing),
+        RecordCommand::Receive { delivery } => {
+            receive(alloc, &standing.deliveries.pop(), hand, delivery)
+        }
+    }
 }
 
-/// The rows that an accepted command puts.
-fn added(outcome: Outcome) -> Result<Vec<CabinetChange>, Fail> {
+/// Whether a row is put as it was asked for.
+fn is_as_asked(row: &CabinetChange, asked: &RecordCommand) -> bool {
+    match (row, asked) {
+        (CabinetChange::PutInspection(put), RecordCommand::Inspect { inspection, .. }) => {
+            put == inspection
+        }
+        (CabinetChange::PutOrder(put), RecordCommand::OpenOrder { opening, .. }) => {
+            (put.number, put.opened) == (opening.number, opening.day)
+                && (&put.clerk, &put.text) == (&opening.clerk, &opening.text)
+                && put.closing.is_none()
+        }
+        (CabinetChange::PutOrder(put), RecordCommand::CloseOrder { order, closing, .. }) => {
+            put.number == *order && put.closing.as_ref() == Some(closing)
+        }
+        (CabinetChange::PutLine(put), RecordCommand::UsePart { line, .. }) => put == line,
+        (CabinetChange::PutPart(part, _), RecordCommand::UsePart { line, .. }) => {
+            *part == line.part
+        }
+        (CabinetChange::PutPart(part, _), RecordCommand::Receive { delivery }) => {
+            *part == delivery.part
+        }
+        (CabinetChange::PutDelivery(put), RecordCommand::Receive { delivery }) => put == delivery,
+        _ => false,
+    }
+}
+
+/// A row by its kind, and what is on hand.
+fn write_row(text: &mut String, row: &CabinetChange) -> Result<(), Fail> {
+    match row {
+        CabinetChange::PutInspection(_) => text.push_str("inspection;")?,
+        CabinetChange::PutOrder(_) => text.push_str("order;")?,
+        CabinetChange::PutLine(_) => text.push_str("line;")?,
+        CabinetChange::PutPart(_, hand) => {
+            let hand = hand.get();
+            write!(text, "{hand} on hand;")?;
+        }
+        CabinetChange::PutDelivery(_) => text.push_str("delivery;")?,
+    }
+    Ok(())
+}
+
+/// The rows that are put, each as it was asked for, or why none is.
+fn told(
+    alloc: Global,
+    outcome: &Result<Recorded, CabinetRefusal>,
+    asked: &RecordCommand,
+) -> Result<String, Fail> {
+    let mut text = String::new(alloc);
     match outcome {
-        Ok(Recorded::Added(rows)) => Ok(rows),
-        _ => Err(Fail::from("not added")),
+        Ok(Recorded::Added(rows)) => {
+            for row in rows {
+                if !is_as_asked(row, asked) {
+                    text.push_str("another ")?;
+                }
+                write_row(&mut text, row)?;
+            }
+        }
+        Ok(Recorded::Same) => text.push_str("same")?,
+        Err(refusal) => write!(text, "{refusal:?}")?,
     }
+    Ok(text)
 }
 
-fn inspection(alloc: Global, on: &str) -> Result<Inspection, Fail> {
-    Ok(Inspection {
-        number: number(1)?,
-        day: day(on)?,
-        clerk: words(alloc, "Ana")?,
-        text: words(alloc, "Checked")?,
-    })
+#[test]
+fn records_are_decided(rt: HostRuntime) -> Result<(), Fail> {
+    let alloc = rt.alloc();
+    for (number, (hand, there, record, wanted)) in CASES.iter().enumerate() {
+        let mut standing = standing(alloc, there)?;
+        for asked in &read_records_csv(alloc, record.as_bytes())? {
+            let outcome = decided(alloc, *hand, &mut standing, asked);
+            assert_eq!(rt;
+                told(alloc, &outcome, asked)?.as_str(),
+                *wanted,
+                "case {number}"
+            );
+        }
+    }
+    Ok(())
 }
 
-/// An inspection on a day, where one stands under its number already, or none.
-fn inspected(alloc: Global, there: Option<&str>, on: &str) -> Result<Outcome, Fail> {
-    let there = match there {
-        Some(on) => Some(inspection(alloc, on)?),
-        None => None,
+/// The file of a cabinet is in order, though its records were given in none.
+#[test]
+fn the_file_of_a_cabinet_is_in_order(rt: HostRuntime) -> Result<(), Fail> {
+    let alloc = rt.alloc();
+    let Standing {
+        inspections,
+        orders,
+        lines,
+        ..
+    } = standing(alloc, BACKWARDS)?;
+    let view = CabinetView {
+        inspections: Ordered::new(inspections),
+        orders: Ordered::new(orders),
+        lines: Ordered::new(lines),
     };
-    Ok(inspect(alloc, &there, &inspection(alloc, on)?))
-}
-
-/// What stands under the number of an order.
-#[derive(Clone, Copy)]
-enum Stands {
-    Nothing,
-    /// Order 4, which Ana opened on 2026-05-01.
-    Open,
-    /// The same, which Bo closed on that day.
-    Closed,
-}
-
-fn closing(alloc: Global, on: &str, closer: &str) -> Result<Closing, Fail> {
-    Ok(Closing {
-        day: day(on)?,
-        closer: words(alloc, closer)?,
-    })
-}
-
-fn order(alloc: Global, closing: Option<Closing>) -> Result<Option<Order>, Fail> {
-    Ok(Some(Order {
-        number: number(4)?,
-        opened: day("2026-05-01")?,
-        clerk: words(alloc, "Ana")?,
-        text: words(alloc, "Repair")?,
-        closing,
-    }))
-}
-
-fn order_at(alloc: Global, stands: Stands) -> Result<Option<Order>, Fail> {
-    match stands {
-        Stands::Nothing => Ok(None),
-        Stands::Open => order(alloc, None),
-        Stands::Closed => order(alloc, Some(closing(alloc, "2026-05-01", "Bo")?)),
-    }
-}
-
-fn opening(alloc: Global, text: &str) -> Result<Opening, Fail> {
-    Ok(Opening {
-        number: number(4)?,
-        day: day("2026-05-01")?,
-        clerk: words(alloc, "Ana")?,
-        text: words(alloc, text)?,
-    })
-}
-
-fn opened(alloc: Global, stands: Stands, text: &str) -> Result<Outcome, Fail> {
-    let there = order_at(alloc, stands)?;
-    Ok(open_order(alloc, &there, &opening(alloc, text)?))
-}
-
-fn closed(alloc: Global, stands: Stands, on: &str, closer: &str) -> Result<Outcome, Fail> {
-    let there = order_at(alloc, stands)?;
-    Ok(close_order(alloc, &there, &closing(alloc, on, closer)?))
-}
-
-fn line(alloc: Global, count: u32) -> Result<UsedLine, Fail> {
-    Ok(UsedLine {
-        order: number(4)?,
-        line: LineNo::new(1).ok_or("a line")?,
-        part: relay(alloc)?,
-        count: Amount::new(count).ok_or("a count")?,
-    })
-}
-
-/// So many pieces used of ten on hand, where a line stands already with so many, or none.
-fn used(alloc: Global, there: Option<u32>, at: Stands, count: u32) -> Result<Outcome, Fail> {
-    let there = match there {
-        Some(count) => Some(line(alloc, count)?),
-        None => None,
-    };
-    let order = order_at(alloc, at)?;
-    Ok(use_part(alloc, &there, &order, Hand::new(10), &line(alloc, count)?))
-}
-
-fn delivery(alloc: Global, count: u32) -> Result<Delivery, Fail> {
-    Ok(Delivery {
-        part: relay(alloc)?,
-        number: number(1)?,
-        day: day("2026-05-01")?,
-        count: Amount::new(count).ok_or("a count")?,
-    })
-}
-
-/// So many pieces received beside those on hand, where a delivery of so many stands already.
-fn received(alloc: Global, there: Option<u32>, hand: u32, count: u32) -> Result<Outcome, Fail> {
-    let there = match there {
-        Some(count) => Some(delivery(alloc, count)?),
-        None => None,
-    };
-    Ok(receive(alloc, &there, Hand::new(hand), &delivery(alloc, count)?))
-}
-
-#[test]
-fn an_inspection_is_recorded(rt: HostRuntime) -> Result<(), Fail> {
-    let alloc = rt.alloc();
-    let rows = added(inspected(alloc, None, "2026-05-01")?)?;
-    let first = inspection(alloc, "2026-05-01")?;
-    assert!(rt; matches!(rows.as_slice(), [CabinetChange::PutInspection(put)] if *put == first));
-    assert!(rt; is_same(inspected(alloc, Some("2026-05-01"), "2026-05-01")?));
-    let other = inspected(alloc, Some("2026-05-01"), "2026-05-02")?;
-    assert_eq!(rt; other.err(), Some(CabinetRefusal::InspectionDiffers));
+    let file = records_csv(alloc, InterId::new(12).ok_or("an intersection")?, &view)?;
+    assert_eq!(rt; file.as_slice(), IN_ORDER.as_bytes());
     Ok(())
 }
 
-#[test]
-fn an_order_is_opened(rt: HostRuntime) -> Result<(), Fail> {
-    let alloc = rt.alloc();
-    let rows = added(opened(alloc, Stands::Nothing, "Repair")?)?;
-    let made = order_at(alloc, Stands::Open)?;
-    assert!(rt;
-        matches!(rows.as_slice(), [CabinetChange::PutOrder(put)] if made.as_ref() == Some(put))
-    );
-    assert!(rt; is_same(opened(alloc, Stands::Open, "Repair")?));
-    assert!(rt; is_same(opened(alloc, Stands::Closed, "Repair")?));
-    let other = opened(alloc, Stands::Open, "Replace")?;
-    assert_eq!(rt; other.err(), Some(CabinetRefusal::OrderDiffers));
-    Ok(())
-}
+/// Days and their numbers, which are known from elsewhere.
+const DAYS: [(&str, u32); 4] = [
+    ("1970-01-01", 0),
+    ("2000-02-29", 11_016),
+    ("2026-05-01", 20_574),
+    ("2199-12-31", 84_005),
+];
 
-#[test]
-fn a_part_is_used(rt: HostRuntime) -> Result<(), Fail> {
-    let alloc = rt.alloc();
-    let rows = added(used(alloc, None, Stands::Open, 2)?)?;
-    let asked = line(alloc, 2)?;
-    assert!(rt;
-        matches!(rows.as_slice(), [CabinetChange::PutLine(line), CabinetChange::PutPart(part, hand)]
-            if *line == asked && *part == asked.part && hand.get() == 8)
-    );
-    Ok(())
-}
+/// Texts that are no days.
+const NO_DAYS: [&str; 5] = [
+    "2026-02-29",
+    "1969-12-31",
+    "2200-01-01",
+    "2026-5-01",
+    "2026-05-0a",
+];
 
-#[test]
-fn a_use_is_refused(rt: HostRuntime) -> Result<(), Fail> {
-    let alloc = rt.alloc();
-    assert!(rt; is_same(used(alloc, Some(2), Stands::Nothing, 2)?));
-    for (there, at, count, told) in [
-        (Some(2), Stands::Open, 3, CabinetRefusal::LineDiffers),
-        (None, Stands::Nothing, 2, CabinetRefusal::UnknownOrder),
-        (None, Stands::Closed, 2, CabinetRefusal::OrderClosed),
-        (None, Stands::Open, 11, CabinetRefusal::NoStock),
-    ] {
-        assert_eq!(rt; used(alloc, there, at, count)?.err(), Some(told));
-    }
-    Ok(())
-}
-
-/// On the day on which it was opened, by another clerk than the one who opened it.
-#[test]
-fn an_order_is_closed(rt: HostRuntime) -> Result<(), Fail> {
-    let alloc = rt.alloc();
-    let rows = added(closed(alloc, Stands::Open, "2026-05-01", "Bo")?)?;
-    let made = order_at(alloc, Stands::Closed)?;
-    assert!(rt;
-        matches!(rows.as_slice(), [CabinetChange::PutOrder(put)] if made.as_ref() == Some(put))
-    );
-    assert!(rt; is_same(closed(alloc, Stands::Closed, "2026-05-01", "Bo")?));
-    for (stands, on, closer, told) in [
-        (
-            Stands::Nothing,
-            "2026-05-01",
-            "Bo",
-            CabinetRefusal::UnknownOrder,
-        ),
-        (
-            Stands::Closed,
-            "2026-05-01",
-            "Ana",
-            CabinetRefusal::CloseDiffers,
-        ),
-        (
-            Stands::Open,
-            "2026-04-30",
-            "Bo",
-            CabinetRefusal::DayBeforeOpening,
-        ),
-    ] {
-        assert_eq!(rt; closed(alloc, stands, on, closer)?.err(), Some(told));
-    }
-    Ok(())
-}
-
-#[test]
-fn a_delivery_is_received(rt: HostRuntime) -> Result<(), Fail> {
-    let alloc = rt.alloc();
-    let rows = added(received(alloc, None, MOST_ON_HAND - 1, 1)?)?;
-    let asked = delivery(alloc, 1)?;
-    assert!(rt;
-        matches!(rows.as_slice(), [CabinetChange::PutPart(part, hand), CabinetChange::PutDelivery(put)]
-            if *put == asked && *part == asked.part && hand.get() == MOST_ON_HAND)
-    );
-    assert!(rt; is_same(received(alloc, Some(1), MOST_ON_HAND, 1)?));
-    let other = received(alloc, Some(1), 1, 5)?;
-    assert_eq!(rt; other.err(), Some(CabinetRefusal::DeliveryDiffers));
-    let full = received(alloc, None, MOST_ON_HAND, 1)?;
-    assert_eq!(rt; full.err(), Some(CabinetRefusal::StockFull));
-    Ok(())
-}
-
-/// `write_day` and `read_day` agree with the calendar, whose numbers are known from elsewhere.
+/// `write_day` and `read_day` agree with the calendar.
 #[test]
 fn days_are_read_and_written(rt: HostRuntime) -> Result<(), Fail> {
     let alloc = rt.alloc();
-    for (text, number) in [
-        ("1970-01-01", 0),
-        ("2000-02-29", 11_016),
-        ("2026-05-01", 20_574),
-        ("2199-12-31", 84_005),
-    ] {
-        assert!(rt; Day::new(number) == Some(day(text)?));
-        assert_eq!(rt; day(text)?.number(), number);
-        assert_eq!(rt; write_day(alloc, day(text)?)?.as_str(), text);
+    for (text, number) in DAYS {
+        let day = read_day(text.as_bytes()).ok_or("a day")?;
+        assert!(rt;
+            Day::new(number) == Some(day) && day.number() == number,
+            "{text}"
+        );
+        assert_eq!(rt; write_day(alloc, day)?.as_str(), text);
     }
-    for text in [
-        "2026-02-29",
-        "1969-12-31",
-        "2200-01-01",
-        "2026-5-01",
-        "2026-05-0a",
-    ] {
+    for text in NO_DAYS {
         assert!(rt; read_day(text.as_bytes()).is_none(), "{text}");
     }
     assert!(rt; Day::new(84_006).is_none());

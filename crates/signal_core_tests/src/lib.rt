@@ -10,8 +10,6 @@ mod draft_tests;
 #[cfg(test)]
 mod files_tests;
 #[cfg(test)]
-mod order_tests;
-#[cfg(test)]
 mod rules_tests;
 #[cfg(test)]
 mod spelling;

@@ -18,10 +18,10 @@ fn change(alloc: Global, record: &str) -> Result<Change, Fail> {
     Ok(read_change(alloc, &fields).ok().ok_or("a change")?)
 }
 
-/// The changes of a text, which stand between semicolons.
+/// The changes of a text, which stand between semicolons; the empty text has none.
 pub(crate) fn changes(alloc: Global, text: &str) -> Result<Vec<Change>, Fail> {
     let mut changes = Vec::new(alloc);
-    for record in text.split(';') {
+    for record in text.split(';').filter(|record| !record.is_empty()) {
         changes.push(change(alloc, record)?)?;
     }
     Ok(changes)

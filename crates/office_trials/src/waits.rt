@@ -1,0 +1,77 @@
+//! The office at ends that wait for one another or never stop, and on two connections.
+
+use crate::script::{ANSWERS, STREAM};
+use office_desk::office::Office;
+use office_http::{Served, Sink, ToWrite, WaitsOnce, serve, serve_on};
+use office_row_files::trouble::{Trouble, compare, holds};
+use office_row_files::waiting::{Endless, Patient, Telling};
+use office_tables_memory::memory_shelf::MemoryShelf;
+use std::alloc::Global;
+use std::cell::Cell;
+use std::io;
+use std::io::Write;
+use std::net::{Ipv4Addr, Shutdown, SocketAddr, TcpListener, TcpStream};
+
+/// An answer is written before the next request is asked for.
+pub(crate) fn serve_in_turn(alloc: Global) -> Result<(), Trouble> {
+    let (taken, stream) = (Cell::new(0), STREAM.as_slice());
+    let mut reader = Patient::new(&stream[..93], &stream[93..127], 89, &taken);
+    let mut writer = Telling::new(&taken);
+    let mut office = Office::new(MemoryShelf::new(alloc));
+    let served = serve(alloc, &mut office, &mut reader, &mut writer, 9);
+    let is_served = served == Ok(Served { requests: 2 }) && taken.get() == 273;
+    holds(is_served, "a reader that waits for an answer")
+}
+
+/// A stream without end is served to the limit.
+pub(crate) fn serve_without_end(alloc: Global) -> Result<(), Trouble> {
+    let stream = STREAM.as_slice();
+    let mut reader = Endless::new(&stream[93..127]);
+    let mut writer = ToWrite::new(Vec::new(alloc));
+    let mut office = Office::new(MemoryShelf::new(alloc));
+    let served = serve(alloc, &mut office, &mut reader, &mut writer, 3);
+    let is_served = served == Ok(Served { requests: 3 }) && writer.writer.len() == 3 * 121;
+    holds(is_served, "a stream without end")
+}
+
+/// Once a connection took a part, it is not waited for again.
+pub(crate) fn wait_once() -> Result<(), Trouble> {
+    let mut room = [0u8; 4];
+    let mut writer = WaitsOnce::new(room.as_mut_slice());
+    let is_taken = matches!(writer.write(b"abc"), Ok(3)) && matches!(writer.write(b"de"), Ok(1));
+    holds(
+        is_taken && writer.write(b"e").is_err(),
+        "a connection that took a part",
+    )
+}
+
+/// The first answer where the intersection is there already.
+const SAME: &[u8] =
+    b"HTTP/1.1 200 OK\r\nContent-Type: application/json\r\nContent-Length: 17\r\n\r\n\
+    {\"result\":\"same\"}";
+
+/// Sends the first two requests of the stream to the listener, and closes the sending side.
+fn send(rt: &HostRuntime, listener: &TcpListener) -> io::Result<TcpStream> {
+    let mut wire = TcpStream::connect(rt, listener.local_addr()?)?;
+    wire.write_all(&STREAM[..127])?;
+    wire.shutdown(Shutdown::Write)?;
+    Ok(wire)
+}
+
+/// Two connections wait, and each gets its own two answers: the first adds the intersection, and
+/// the second finds it there.
+pub(crate) fn serve_two_connections(rt: &HostRuntime) -> Result<(), Trouble> {
+    let (alloc, answers) = (rt.alloc(), ANSWERS.as_slice());
+    let listener = TcpListener::bind(rt, SocketAddr::from((Ipv4Addr::LOCALHOST, 0)))?;
+    let first = send(rt, &listener)?;
+    let second = send(rt, &listener)?;
+    let mut office = Office::new(MemoryShelf::new(alloc));
+    let is_served = serve_on(alloc, &listener, 2, &mut office).is_ok();
+    holds(is_served, "two connections")?;
+    let text = io::read_to_string(alloc, first)?;
+    let told = &answers[..273];
+    compare(alloc, "the first connection", told, text.as_bytes())?;
+    let text = io::read_to_string(alloc, second)?;
+    let rest = text.as_bytes().strip_prefix(SAME).unwrap_or(b"");
+    compare(alloc, "the second connection", &answers[89..273], rest)
+}
