@@ -1,28 +1,20 @@
 -- A command that was accepted is the same when it comes again, and stays so whatever is accepted after it.
 use Rattle.std.proofs.Common.{◌≡◌, ℕ, Bool, true, false, ◌==◌, cond, Option, None, Some, Ordering, refl, sym, ap, ◌∙◌, arith}
 use Rattle.std.proofs.lemmas.Bool.Decides.{nat_tests}
-use Rattle.std.specs.Prelude.{nat_lt, is_some}
-use Rattle.std.specs.Cmp.{IsTotalOrder, tied_itself}
+use Rattle.std.specs.{Prelude.nat_lt, Prelude.is_some, Cmp.IsTotalOrder, Cmp.tied_itself}
 use Rattle.std.specs.FinMap.{FinMap, IsAntisymmetric, get, insert}
 use Rattle.std.specs.Ordering.{is_eq, eq_by_cmp}
 use Rattle.cabinet_core.specs.Cabinet.{Line, added, same, refused, on_hand, is_same_inspection, is_same_closing, is_same_line, is_same_delivery, is_opened_so, inspect_line, open_line, use_line, close_order_line, close_line, receive_line, record_of, with_closing}
-use Rattle.cabinet_core.specs.declared.command.RecordCommand.{RecordCommand}
+use Rattle.cabinet_core.specs.declared.{command.RecordCommand.RecordCommand, record.Closing.Closing}
 use Rattle.cabinet_core.specs.declared.command.RecordCommand.TheVariants.{Inspect, OpenOrder, UsePart, CloseOrder, Receive}
-use Rattle.cabinet_core.specs.declared.record.Closing.{Closing}
-use Rattle.cabinet_core.specs.declared.record.Delivery.{Delivery}
-use Rattle.cabinet_core.specs.declared.record.Inspection.{Inspection}
-use Rattle.cabinet_core.specs.declared.record.Opening.{Opening}
-use Rattle.cabinet_core.specs.declared.record.Order.{Order}
-use Rattle.cabinet_core.specs.declared.record.UsedLine.{UsedLine}
-use Rattle.cabinet_core.specs.declared.refusal.CabinetRefusal.{CabinetRefusal}
+use Rattle.cabinet_core.specs.declared.record.{Delivery.Delivery, Inspection.Inspection}
+use Rattle.cabinet_core.specs.declared.record.{Opening.Opening, Order.Order, UsedLine.UsedLine}
+use Rattle.cabinet_core.specs.{declared.refusal.CabinetRefusal.CabinetRefusal, Stock.hand_of}
 use Rattle.cabinet_core.specs.declared.refusal.CabinetRefusal.TheVariants.{InspectionDiffers, OrderDiffers, UnknownOrder, OrderClosed, DayBeforeOpening, NoStock, StockFull, DeliveryDiffers, LineDiffers, CloseDiffers}
 use Rattle.cabinet_core.specs.Register.{Register, RecordKey, LineKey, DeliveryKey, record_cmp, line_cmp, delivery_cmp}
 use Rattle.cabinet_core.specs.Step.{line_at, with_closed, with_record}
-use Rattle.cabinet_core.specs.Stock.{hand_of}
-use Rattle.cabinet_core.proofs.EntryLemmas.{tied}
+use Rattle.cabinet_core.proofs.{EntryLemmas.tied, Puts.get_put, Sound.held_adds}
 use Rattle.cabinet_core.proofs.KeyOrders.{record_total, record_exact, line_total, line_exact, delivery_total, delivery_exact}
-use Rattle.cabinet_core.proofs.Puts.{get_put}
-use Rattle.cabinet_core.proofs.Sound.{held_adds}
 use Rattle.cabinet_core.proofs.StockLemmas.{bytes_alike}
 
 -- ---- a record is equal to itself

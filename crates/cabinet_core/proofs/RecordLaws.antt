@@ -2,19 +2,16 @@
 use Rattle.std.proofs.Common.{◌≡◌, ℕ, ◌+◌, ◌-◌, ◌≤◌, Bool, true, false, ◌&&◌, ◌==◌, cond, List, [], ◌∷◌, Option, None, Some, refl, ap, ◌∙◌, arith}
 use Rattle.std.specs.FinMap.{get, insert, get-insert}
 use Rattle.cabinet_core.specs.Cabinet.{added, close_line, record_of, with_closing}
-use Rattle.cabinet_core.specs.declared.command.RecordCommand.{RecordCommand}
+use Rattle.cabinet_core.specs.declared.{command.RecordCommand.RecordCommand, record.Closing.Closing}
 use Rattle.cabinet_core.specs.declared.command.RecordCommand.TheVariants.{OpenOrder, UsePart, CloseOrder, Receive}
-use Rattle.cabinet_core.specs.declared.record.Closing.{Closing}
-use Rattle.cabinet_core.specs.declared.record.Order.{Order}
-use Rattle.cabinet_core.specs.Orders.{is_open_order, is_open_at}
+use Rattle.cabinet_core.specs.{declared.record.Order.Order, Orders.is_open_order, Orders.is_open_at}
 use Rattle.cabinet_core.specs.Register.{Register, LineKey, DeliveryKey, line_cmp, delivery_cmp}
 use Rattle.cabinet_core.specs.Runs.{AreAccepted, open_with, open_by, received, spent, received_by, spent_by}
 use Rattle.cabinet_core.specs.Sound.{IsSoundRegister}
 use Rattle.cabinet_core.specs.Step.{line_at, with_closed, with_record}
 use Rattle.cabinet_core.specs.Stock.{brought, taken, delivered, used, pieces, hand_of}
-use Rattle.cabinet_core.proofs.EntrySums.{sum_insert}
+use Rattle.cabinet_core.proofs.{EntrySums.sum_insert, Sound.usable, Sound.receivable}
 use Rattle.cabinet_core.proofs.KeyOrders.{record_total, line_total, delivery_total, record_ties}
-use Rattle.cabinet_core.proofs.Sound.{usable, receivable}
 
 -- ---- orders
 

@@ -1,5 +1,4 @@
-use Rattle.std.proofs.Common.{rules, arith}
-use Rattle.std.proofs.lemmas.Option.{IfSome_then}
+use Rattle.std.proofs.{Common.rules, Common.arith, lemmas.Option.IfSome_then}
 use Rattle.cabinet_core.proofs.DayLemmas.{civil_day_is_short, spelt_digits, civil_from_reads, spelt_from_reads, day_picked, epoch_day_counted}
 use Rattle.cabinet_core.proofs.day.read_day.Goals as goal
 
