@@ -1,15 +1,12 @@
 -- A register in which nothing was recorded is sound.
 use Rattle.std.proofs.Common.{◌≡◌, ℕ, List, [], ◌∷◌, length, map, Option, nat_cmp, refl, sym, ap, subst, ◌∙◌, arith}
-use Rattle.std.specs.Prelude.{IfSome, sum_by}
-use Rattle.std.specs.Cmp.Lexicographic.{slice_cmp}
+use Rattle.std.specs.{Prelude.IfSome, Prelude.sum_by, Cmp.Lexicographic.slice_cmp}
 use Rattle.std.specs.FinMap.{empty, entries, from_entries, get-empty, len-empty, len-entries}
 use Rattle.cabinet_core.specs.Register.{DeliveryKey, no_register, record_cmp, line_cmp, delivery_cmp}
 use Rattle.cabinet_core.specs.Sound.{IsInspectionAt, IsOrderAt, IsLineAt, IsDeliveryAt, IsSoundRegister}
 use Rattle.cabinet_core.specs.Stock.{brought, taken, delivered, used, pieces, stock_of}
-use Rattle.cabinet_core.specs.declared.record.Inspection.{Inspection}
-use Rattle.cabinet_core.specs.declared.record.Order.{Order}
-use Rattle.cabinet_core.specs.declared.record.UsedLine.{UsedLine}
-use Rattle.cabinet_core.specs.declared.record.Delivery.{Delivery}
+use Rattle.cabinet_core.specs.declared.record.{Inspection.Inspection, Order.Order}
+use Rattle.cabinet_core.specs.declared.record.{UsedLine.UsedLine, Delivery.Delivery}
 
 no_items : {X : Type 0} (xs : List X) → length xs ≡ 0 → xs ≡ []
 no_items [] e = refl

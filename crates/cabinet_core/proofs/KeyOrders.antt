@@ -2,13 +2,10 @@
 use Rattle.std.proofs.Common.{◌≡◌, ℕ, ◌&&◌, ◌==◌, List, Ordering, nat_cmp, sym, ◌∙◌}
 use Rattle.std.proofs.lemmas.Bool.Decides.{same_from_decides, Decides-like}
 use Rattle.std.proofs.lemmas.Cmp.{on_total, then_total, nat_cmp_total, nat_list_cmp_total}
-use Rattle.std.proofs.lemmas.Map.Lookups.{exact_pairs}
-use Rattle.std.proofs.lemmas.Map.Text.{is_eq-slice_cmp}
+use Rattle.std.proofs.lemmas.Map.{Lookups.exact_pairs, Text.is_eq-slice_cmp}
 use Rattle.std.proofs.lemmas.Slice.Eq.{bytes_eq-Decides}
-use Rattle.std.specs.Cmp.{IsTotalOrder}
-use Rattle.std.specs.Cmp.Lexicographic.{slice_cmp}
+use Rattle.std.specs.{Cmp.IsTotalOrder, Cmp.Lexicographic.slice_cmp, Ordering.eq_by_cmp}
 use Rattle.std.specs.FinMap.{IsAntisymmetric, nat_cmp-IsAntisymmetric, slice_cmp-IsAntisymmetric}
-use Rattle.std.specs.Ordering.{eq_by_cmp}
 use Rattle.std.specs.Str.{bytes_eq}
 use Rattle.cabinet_core.specs.Register.{pair_cmp, record_cmp, line_cmp, delivery_cmp}
 pub use Rattle.signal_records.proofs.Sets.{numbers_tie, then_ties}

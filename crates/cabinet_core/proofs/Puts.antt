@@ -1,9 +1,7 @@
 -- A record put under its key: what stands under the keys then, and what stays so.
 use Rattle.std.proofs.Common.{◌≡◌, Bool, true, false, cond, Option, None, Some, Ordering, refl, sym, subst}
-use Rattle.std.specs.Prelude.{IfSome, IsSome}
-use Rattle.std.specs.Cmp.{IsTotalOrder}
+use Rattle.std.specs.{Prelude.IfSome, Prelude.IsSome, Cmp.IsTotalOrder, Ordering.eq_by_cmp}
 use Rattle.std.specs.FinMap.{FinMap, IsAntisymmetric, get, insert, get-insert}
-use Rattle.std.specs.Ordering.{eq_by_cmp}
 use Rattle.cabinet_core.proofs.EntryLemmas.{tied}
 
 module _ {K X : Type 0} {R : K → K → Ordering} (total : IsTotalOrder R) (exact : IsAntisymmetric R) where

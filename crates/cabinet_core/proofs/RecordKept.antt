@@ -1,49 +1,29 @@
 -- A command that was accepted is the same when it comes again, and stays so whatever is accepted after it.
 use Rattle.std.proofs.Common.{◌≡◌, ℕ, Bool, true, false, ◌==◌, cond, Option, None, Some, Ordering, refl, sym, ap, ◌∙◌, arith}
 use Rattle.std.proofs.lemmas.Bool.Decides.{nat_tests}
-use Rattle.std.specs.Prelude.{nat_lt, is_some}
-use Rattle.std.specs.Cmp.{IsTotalOrder, tied_itself}
+use Rattle.std.specs.{Prelude.nat_lt, Prelude.is_some, Cmp.IsTotalOrder, Cmp.tied_itself}
 use Rattle.std.specs.FinMap.{FinMap, IsAntisymmetric, get, insert}
 use Rattle.std.specs.Ordering.{is_eq, eq_by_cmp}
 use Rattle.cabinet_core.specs.Cabinet.{Line, added, same, refused, on_hand, is_same_inspection, is_same_closing, is_same_line, is_same_delivery, is_opened_so, inspect_line, open_line, use_line, close_order_line, close_line, receive_line, record_of, with_closing}
-use Rattle.cabinet_core.specs.declared.command.RecordCommand.{RecordCommand}
+use Rattle.cabinet_core.specs.declared.{command.RecordCommand.RecordCommand, record.Closing.Closing}
 use Rattle.cabinet_core.specs.declared.command.RecordCommand.TheVariants.{Inspect, OpenOrder, UsePart, CloseOrder, Receive}
-use Rattle.cabinet_core.specs.declared.record.Closing.{Closing}
-use Rattle.cabinet_core.specs.declared.record.Delivery.{Delivery}
-use Rattle.cabinet_core.specs.declared.record.Inspection.{Inspection}
-use Rattle.cabinet_core.specs.declared.record.Opening.{Opening}
-use Rattle.cabinet_core.specs.declared.record.Order.{Order}
-use Rattle.cabinet_core.specs.declared.record.UsedLine.{UsedLine}
-use Rattle.cabinet_core.specs.declared.refusal.CabinetRefusal.{CabinetRefusal}
+use Rattle.cabinet_core.specs.declared.record.{Delivery.Delivery, Inspection.Inspection}
+use Rattle.cabinet_core.specs.declared.record.{Opening.Opening, Order.Order, UsedLine.UsedLine}
+use Rattle.cabinet_core.specs.{declared.refusal.CabinetRefusal.CabinetRefusal, Stock.hand_of}
 use Rattle.cabinet_core.specs.declared.refusal.CabinetRefusal.TheVariants.{InspectionDiffers, OrderDiffers, UnknownOrder, OrderClosed, DayBeforeOpening, NoStock, StockFull, DeliveryDiffers, LineDiffers, CloseDiffers}
 use Rattle.cabinet_core.specs.Register.{Register, RecordKey, LineKey, DeliveryKey, record_cmp, line_cmp, delivery_cmp}
 use Rattle.cabinet_core.specs.Step.{line_at, with_closed, with_record}
-use Rattle.cabinet_core.specs.Stock.{hand_of}
-use Rattle.cabinet_core.proofs.EntryLemmas.{tied}
+use Rattle.cabinet_core.proofs.{EntryLemmas.tied, Puts.get_put, Sound.held_adds}
 use Rattle.cabinet_core.proofs.KeyOrders.{record_total, record_exact, line_total, line_exact, delivery_total, delivery_exact}
-use Rattle.cabinet_core.proofs.Puts.{get_put}
-use Rattle.cabinet_core.proofs.Sound.{held_adds}
 use Rattle.cabinet_core.proofs.StockLemmas.{bytes_alike}
 
--- ---- a record is equal to itself
+-- ---- a record that is equal to itself
 
 alike : (n : ℕ) → (n == n) ≡ true
 alike n = grind (arith, nat_tests)
 
-inspection_itself : (x : Inspection) → is_same_inspection x x ≡ true
-inspection_itself x = rw (alike x.number, alike x.day, bytes_alike x.clerk, bytes_alike x.text) refl
-
-opened_itself : (x : Opening) → is_opened_so (record_of x) x ≡ true
-opened_itself x = rw (alike x.number, alike x.day, bytes_alike x.clerk, bytes_alike x.text) refl
-
-line_itself : (x : UsedLine) → is_same_line x x ≡ true
-line_itself x = rw (alike x.order, alike x.line, bytes_alike x.part, alike x.count) refl
-
-closing_itself : (x : Closing) → is_same_closing x x ≡ true
-closing_itself x = rw (alike x.day, bytes_alike x.closer) refl
-
-delivery_itself : (x : Delivery) → is_same_delivery x x ≡ true
-delivery_itself x = rw (bytes_alike x.part, alike x.number, alike x.day, alike x.count) refl
+line_same : (b : Bool) (why : CabinetRefusal) → b ≡ true → cond b same (refused why) ≡ same
+line_same b why is = ap (λ t. cond t same (refused why)) is
 
 -- ---- lines
 
@@ -112,7 +92,7 @@ module _ {K X : Type 0} {R : K → K → Ordering} (total : IsTotalOrder R) (exa
 -- ---- orders that are closed
 
 -- closing an order leaves all but the orders
-closed_leaves : {A : Type 0} (part : Register → A) (r : Register) → ((orders : FinMap record_cmp Order) → part (record r { orders = orders }) ≡ part r)
+pub closed_leaves : {A : Type 0} (part : Register → A) (r : Register) → ((orders : FinMap record_cmp Order) → part (record r { orders = orders }) ≡ part r)
     → (id order : ℕ) (closing : Closing) (there : Option Order) → part (with_closed r id order closing there) ≡ part r
 closed_leaves part r still id order closing None = refl
 closed_leaves part r still id order closing (Some found) = still (insert r.orders (id, order) (with_closing found closing))
@@ -129,7 +109,7 @@ closed_again : (id order : ℕ) (closing : Closing) (r : Register) (there : Opti
 closed_again id order closing r None adds = absurd (let f : refused UnknownOrder ≡ added = adds in cc)
 closed_again id order closing r (Some found) adds =
     ap (λ o. close_line o closing) (put_stands record_total record_exact r.orders (id, order) (with_closing found closing))
-    ∙ ap (λ b. cond b same (refused CloseDiffers)) (closing_itself closing)
+    ∙ line_same (is_same_closing closing closing) CloseDiffers (rw (alike closing.day, bytes_alike closing.closer) refl)
 
 -- ---- commands
 
@@ -137,19 +117,19 @@ closed_again id order closing r (Some found) adds =
 pub same_after : (r : Register) (c : RecordCommand) → line_at r c ≡ added → line_at (with_record r c) c ≡ same
 same_after r (Inspect id inspection) adds =
     ap (λ o. inspect_line o inspection) (put_stands record_total record_exact r.inspections (id, inspection.number) inspection)
-    ∙ ap (λ b. cond b same (refused InspectionDiffers)) (inspection_itself inspection)
+    ∙ line_same (is_same_inspection inspection inspection) InspectionDiffers (rw (alike inspection.number, alike inspection.day, bytes_alike inspection.clerk, bytes_alike inspection.text) refl)
 same_after r (OpenOrder id opening) adds =
     ap (λ o. open_line o opening) (put_stands record_total record_exact r.orders (id, opening.number) (record_of opening))
-    ∙ ap (λ b. cond b same (refused OrderDiffers)) (opened_itself opening)
+    ∙ line_same (is_opened_so (record_of opening) opening) OrderDiffers (rw (alike opening.number, alike opening.day, bytes_alike opening.clerk, bytes_alike opening.text) refl)
 same_after r (UsePart id line) adds =
     let next = with_record r (UsePart id line) in
     ap (λ o. use_line o (get r.orders (id, line.order)) (hand_of next line.part) line) (put_stands line_total line_exact r.lines (id, (line.order, line.line)) line)
-    ∙ ap (λ b. cond b same (refused LineDiffers)) (line_itself line)
+    ∙ line_same (is_same_line line line) LineDiffers (rw (alike line.order, alike line.line, bytes_alike line.part, alike line.count) refl)
 same_after r (CloseOrder id order closing) adds = closed_again id order closing r (get r.orders (id, order)) adds
 same_after r (Receive delivery) adds =
     let next = with_record r (Receive delivery) in
     ap (λ o. receive_line o (hand_of next delivery.part) delivery) (put_stands delivery_total delivery_exact r.deliveries (delivery.part, delivery.number) delivery)
-    ∙ ap (λ b. cond b same (refused DeliveryDiffers)) (delivery_itself delivery)
+    ∙ line_same (is_same_delivery delivery delivery) DeliveryDiffers (rw (bytes_alike delivery.part, alike delivery.number, alike delivery.day, alike delivery.count) refl)
 
 -- ---- commands that were the same, after another that was accepted
 

@@ -1,20 +1,17 @@
 -- Over commands that were accepted in turn: which orders are open, and what is in stock.
-use Rattle.std.proofs.Common.{◌≡◌, ℕ, ◌+◌, ◌-◌, ◌≤◌, Bool, true, false, ◌&&◌, ◌==◌, cond, List, [], ◌∷◌, Option, None, Some, refl, ap, ◌∙◌, arith}
-use Rattle.std.specs.FinMap.{get, insert, get-insert}
+use Rattle.std.proofs.Common.{◌≡◌, ℕ, ◌+◌, Bool, true, false, ◌&&◌, ◌==◌, cond, List, [], ◌∷◌, Option, None, Some, refl, ap, ◌∙◌, arith}
+use Rattle.std.specs.FinMap.{FinMap, get, insert, get-insert}
 use Rattle.cabinet_core.specs.Cabinet.{added, close_line, record_of, with_closing}
-use Rattle.cabinet_core.specs.declared.command.RecordCommand.{RecordCommand}
+use Rattle.cabinet_core.specs.declared.{command.RecordCommand.RecordCommand, record.Closing.Closing}
 use Rattle.cabinet_core.specs.declared.command.RecordCommand.TheVariants.{OpenOrder, UsePart, CloseOrder, Receive}
-use Rattle.cabinet_core.specs.declared.record.Closing.{Closing}
-use Rattle.cabinet_core.specs.declared.record.Order.{Order}
-use Rattle.cabinet_core.specs.Orders.{is_open_order, is_open_at}
-use Rattle.cabinet_core.specs.Register.{Register, LineKey, DeliveryKey, line_cmp, delivery_cmp}
+use Rattle.cabinet_core.specs.{declared.record.Order.Order, Orders.is_open_order, Orders.is_open_at}
+use Rattle.cabinet_core.specs.Register.{Register, LineKey, DeliveryKey, record_cmp, line_cmp, delivery_cmp}
 use Rattle.cabinet_core.specs.Runs.{AreAccepted, open_with, open_by, received, spent, received_by, spent_by}
 use Rattle.cabinet_core.specs.Sound.{IsSoundRegister}
 use Rattle.cabinet_core.specs.Step.{line_at, with_closed, with_record}
 use Rattle.cabinet_core.specs.Stock.{brought, taken, delivered, used, pieces, hand_of}
-use Rattle.cabinet_core.proofs.EntrySums.{sum_insert}
+use Rattle.cabinet_core.proofs.{EntrySums.sum_insert, RecordKept.closed_leaves, Sound.usable, Sound.receivable}
 use Rattle.cabinet_core.proofs.KeyOrders.{record_total, line_total, delivery_total, record_ties}
-use Rattle.cabinet_core.proofs.Sound.{usable, receivable}
 
 -- ---- orders
 
@@ -48,17 +45,13 @@ open_law id n (command ∷ commands) r last run =
 nothing_more : (n : ℕ) → n ≡ n + 0
 nothing_more n = omega arith
 
--- closing an order leaves the stock
-closed_delivered : (r : Register) (id order : ℕ) (closing : Closing) (there : Option Order) (code : List ℕ) → delivered (with_closed r id order closing there) code ≡ delivered r code + 0
-closed_delivered r id order closing None code = nothing_more (delivered r code)
-closed_delivered r id order closing (Some found) code = nothing_more (delivered r code)
-
-closed_used : (r : Register) (id order : ℕ) (closing : Closing) (there : Option Order) (code : List ℕ) → used (with_closed r id order closing there) code ≡ used r code + 0
-closed_used r id order closing None code = nothing_more (used r code)
-closed_used r id order closing (Some found) code = nothing_more (used r code)
+-- closing an order leaves what is counted of the other records
+closed_still : (count : Register → ℕ) (r : Register) → ((orders : FinMap record_cmp Order) → count (record r { orders = orders }) ≡ count r)
+    → (id order : ℕ) (closing : Closing) → count (with_record r (CloseOrder id order closing)) ≡ count r + 0
+closed_still count r still id order closing = closed_leaves count r still id order closing (get r.orders (id, order)) ∙ nothing_more (count r)
 
 delivered_step : (r : Register) (code : List ℕ) (command : RecordCommand) → line_at r command ≡ added → delivered (with_record r command) code ≡ delivered r code + received code command
-delivered_step r code (CloseOrder id order closing) line = closed_delivered r id order closing (get r.orders (id, order)) code
+delivered_step r code (CloseOrder id order closing) line = closed_still (λ x. delivered x code) r (λ _. refl) id order closing
 delivered_step r code (Receive delivery) line =
     let key : DeliveryKey = (delivery.part, delivery.number) in
     sum_insert delivery_cmp delivery_total r.deliveries key delivery (receivable (get r.deliveries key) (hand_of r delivery.part) delivery line).new (brought code)
@@ -68,31 +61,21 @@ used_step : (r : Register) (code : List ℕ) (command : RecordCommand) → line_
 used_step r code (UsePart id used_line) line =
     let key : LineKey = (id, (used_line.order, used_line.line)) in
     sum_insert line_cmp line_total r.lines key used_line (usable (get r.lines key) (get r.orders (id, used_line.order)) (hand_of r used_line.part) used_line line).new (taken code)
-used_step r code (CloseOrder id order closing) line = closed_used r id order closing (get r.orders (id, order)) code
+used_step r code (CloseOrder id order closing) line = closed_still (λ x. used x code) r (λ _. refl) id order closing
 used_step r code _ line = nothing_more (used r code)
 
-in_turn : (last mid first one more : ℕ) → last ≡ mid + more → mid ≡ first + one → last ≡ first + (one + more)
-in_turn last mid first one more rest now = omega arith
-
--- the deliveries grow by what was received
-pub delivered_law : (code : List ℕ) (commands : List RecordCommand) (r last : Register) → AreAccepted r commands last → delivered last code ≡ delivered r code + received_by code commands
-delivered_law code [] r last run = ap (λ (x : Register). delivered x code) run ∙ nothing_more (delivered r code)
-delivered_law code (command ∷ commands) r last run =
-    in_turn (delivered last code) (delivered (with_record r command) code) (delivered r code) (received code command) (received_by code commands)
-    (delivered_law code commands (with_record r command) last run.1) (delivered_step r code command run.0)
-
--- the used lines grow by what was taken
-pub used_law : (code : List ℕ) (commands : List RecordCommand) (r last : Register) → AreAccepted r commands last → used last code ≡ used r code + spent_by code commands
-used_law code [] r last run = ap (λ (x : Register). used x code) run ∙ nothing_more (used r code)
-used_law code (command ∷ commands) r last run =
-    in_turn (used last code) (used (with_record r command) code) (used r code) (spent code command) (spent_by code commands)
-    (used_law code commands (with_record r command) last run.1) (used_step r code command run.0)
-
-balance : (old_in old_out new_in new_out came went : ℕ) → new_in ≡ old_in + came → new_out ≡ old_out + went → old_out ≤ old_in → new_out ≤ new_in → (new_in - new_out) + went ≡ (old_in - old_out) + came
-balance old_in old_out new_in new_out came went ins outs old new = omega arith
+-- what each command that was accepted adds to a count, all of them add
+counted_law : (count : Register → ℕ) (one : RecordCommand → ℕ) (all : List RecordCommand → ℕ) → 0 ≡ all []
+    → ((c : RecordCommand) (cs : List RecordCommand) → one c + all cs ≡ all (c ∷ cs))
+    → ((r : Register) (c : RecordCommand) → line_at r c ≡ added → count (with_record r c) ≡ count r + one c)
+    → (commands : List RecordCommand) (r last : Register) → AreAccepted r commands last → count last ≡ count r + all commands
+counted_law count one all none more step [] r last run = omega (arith, ap count run, none)
+counted_law count one all none more step (c ∷ cs) r last run =
+    omega (arith, counted_law count one all none more step cs (with_record r c) last run.1, step r c run.0, more c cs)
 
 -- what is on hand and what was taken is what was on hand and what was received
 pub stock_law : (code : List ℕ) (commands : List RecordCommand) (r last : Register) → AreAccepted r commands last → IsSoundRegister r → IsSoundRegister last → pieces last code + spent_by code commands ≡ pieces r code + received_by code commands
 stock_law code commands r last run first_sound last_sound =
-    balance (delivered r code) (used r code) (delivered last code) (used last code) (received_by code commands) (spent_by code commands)
-    (delivered_law code commands r last run) (used_law code commands r last run) (first_sound.stock code).covered (last_sound.stock code).covered
+    let came = counted_law (λ x. delivered x code) (received code) (received_by code) refl (λ c cs. refl) (λ x c. delivered_step x code c) commands r last run in
+    let went = counted_law (λ x. used x code) (spent code) (spent_by code) refl (λ c cs. refl) (λ x c. used_step x code c) commands r last run in
+    omega (arith, came, went, (first_sound.stock code).covered, (last_sound.stock code).covered)

@@ -6,15 +6,11 @@ use Rattle.std.specs.FinMap.{get, insert}
 use Rattle.cabinet_core.specs.Cabinet.{added, same, refused, on_hand, is_same_closing, is_same_line, is_same_delivery, use_line, close_order_line, close_line, receive_line, with_closing}
 use Rattle.cabinet_core.specs.Register.{Register, RecordKey, LineKey}
 use Rattle.cabinet_core.specs.Sound.{IsInspectionAt, IsOrderAt, IsLineAt, IsDeliveryAt, IsSoundRegister}
-use Rattle.cabinet_core.specs.Step.{with_record}
-use Rattle.cabinet_core.specs.Stock.{hand_of}
+use Rattle.cabinet_core.specs.{Step.with_record, Stock.hand_of, declared.record.Closing.Closing}
 use Rattle.cabinet_core.specs.Within.{IsInspectionWithin, IsClosingWithin, IsUsedLineWithin, IsDeliveryWithin}
 use Rattle.cabinet_core.specs.declared.command.RecordCommand.TheVariants.{Inspect, UsePart, Receive}
-use Rattle.cabinet_core.specs.declared.part.TheConstants.{MOST_ON_HAND}
-use Rattle.cabinet_core.specs.declared.record.Closing.{Closing}
-use Rattle.cabinet_core.specs.declared.record.Delivery.{Delivery}
-use Rattle.cabinet_core.specs.declared.record.Inspection.{Inspection}
-use Rattle.cabinet_core.specs.declared.record.Order.{Order}
+use Rattle.cabinet_core.specs.declared.{part.TheConstants.MOST_ON_HAND, record.Delivery.Delivery}
+use Rattle.cabinet_core.specs.declared.record.{Inspection.Inspection, Order.Order}
 use Rattle.cabinet_core.specs.declared.record.UsedLine.{UsedLine}
 use Rattle.cabinet_core.specs.declared.refusal.CabinetRefusal.{CabinetRefusal}
 use Rattle.cabinet_core.specs.declared.refusal.CabinetRefusal.TheVariants.{OrderClosed, DayBeforeOpening, NoStock, StockFull, DeliveryDiffers, LineDiffers, CloseDiffers}

@@ -1,12 +1,9 @@
 -- The stock of a register after one more line or delivery.
 use Rattle.std.proofs.Common.{◌≡◌, ℕ, ◌+◌, ◌-◌, ◌≤◌, Bool, true, false, ◌||◌, List, cond, Some, None, refl, ap, subst, ◌∙◌, arith}
 use Rattle.std.proofs.lemmas.Slice.Eq.{bytes_eq-Decides}
-use Rattle.std.specs.Str.{bytes_eq}
-use Rattle.std.specs.FinMap.{get, insert, entries}
-use Rattle.cabinet_core.specs.Cabinet.{on_hand}
-use Rattle.cabinet_core.specs.declared.part.TheConstants.{MOST_ON_HAND}
-use Rattle.cabinet_core.specs.declared.record.UsedLine.{UsedLine}
-use Rattle.cabinet_core.specs.declared.record.Delivery.{Delivery}
+use Rattle.std.specs.{Str.bytes_eq, FinMap.get, FinMap.insert, FinMap.entries}
+use Rattle.cabinet_core.specs.{Cabinet.on_hand, declared.part.TheConstants.MOST_ON_HAND}
+use Rattle.cabinet_core.specs.declared.record.{UsedLine.UsedLine, Delivery.Delivery}
 use Rattle.cabinet_core.specs.Register.{Register, LineKey, DeliveryKey, line_cmp, delivery_cmp}
 use Rattle.cabinet_core.specs.Stock.{IsStocked, brought, taken, delivered, used, was_delivered, pieces, hand_of}
 use Rattle.cabinet_core.proofs.EntrySums.{sum_insert, any_insert, no_sum}

@@ -1,15 +1,10 @@
 -- The stock of a register by the codes of the parts.
 use Rattle.std.proofs.Common.{◌≡◌, ◌⊎◌, inl, inr, ℕ, Bool, true, false, ◌||◌, List, [], ◌∷◌, map, cond, Some, None, nat_cmp, refl, sym, ap, subst, ◌∙◌}
-use Rattle.std.proofs.lemmas.Bool.{cases_Bool}
-use Rattle.std.proofs.lemmas.Cmp.{nat_list_cmp_total}
-use Rattle.std.proofs.lemmas.Slice.Eq.{bytes_eq-Decides}
-use Rattle.std.specs.Cmp.Lexicographic.{slice_cmp}
+use Rattle.std.proofs.lemmas.{Bool.cases_Bool, Cmp.nat_list_cmp_total, Slice.Eq.bytes_eq-Decides}
+use Rattle.std.specs.{Cmp.Lexicographic.slice_cmp, List.list_any, Str.bytes_eq}
 use Rattle.std.specs.FinMap as finite
 use Rattle.std.specs.FinMap.{get, entries, get-from_entries}
-use Rattle.std.specs.List.{list_any}
-use Rattle.std.specs.Str.{bytes_eq}
-use Rattle.cabinet_core.specs.Part.{IsPartCode}
-use Rattle.cabinet_core.specs.Register.{Register, DeliveryKey}
+use Rattle.cabinet_core.specs.{Part.IsPartCode, Register.Register, Register.DeliveryKey}
 use Rattle.cabinet_core.specs.Sound.{IsDeliveryAt, IsSoundRegister}
 use Rattle.cabinet_core.specs.Stock.{was_delivered, pieces, hand_of, stock_by_code}
 use Rattle.cabinet_core.specs.declared.record.Delivery.{Delivery}

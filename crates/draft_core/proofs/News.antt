@@ -2,34 +2,23 @@
 use Rattle.std.proofs.Common.{◌≡◌, ◌⊎◌, true, false, cond, List, [], ◌∷◌, map, Option, Result}
 use Rattle.std.proofs.Common.{Ok, Err, refl, ap, sym, subst, ◌∙◌, inl, inr}
 use Rattle.std.proofs.lemmas.Bool.{cases_Bool}
-use Rattle.std.specs.Prelude.{IfOk}
-use Rattle.std.specs.Cmp.{tied_itself}
-use Rattle.std.specs.FinMap.{get}
-use Rattle.std.specs.List.{AllByRecursion}
-use Rattle.std.specs.List.Sorted.{IsStrictlySortedBy}
-use Rattle.std.specs.Ordering.{eq_by_cmp, is_eq}
+use Rattle.std.specs.{Prelude.IfOk, Cmp.tied_itself, FinMap.get, List.AllByRecursion}
+use Rattle.std.specs.{List.Sorted.IsStrictlySortedBy, Ordering.eq_by_cmp, Ordering.is_eq}
 use Rattle.std.specs.declared.cmp.Ordering.TheVariants.{Less}
-use Rattle.signal_records.specs.Key.{key_cmp}
-use Rattle.signal_records.specs.KeyOrder.{key_total}
-use Rattle.signal_records.specs.TimingSet.{Rows}
-use Rattle.signal_records.specs.declared.key.Key.{Key}
-use Rattle.signal_records.specs.declared.record.Row.{Row}
-use Rattle.signal_records.specs.declared.record.Change.{Change}
-use Rattle.signal_records.specs.declared.record.Change.TheVariants.{Put, Remove}
-use Rattle.draft_core.specs.declared.refusal.DraftRefusal.{DraftRefusal}
-use Rattle.draft_core.specs.declared.timing.Move.{Move}
-use Rattle.draft_core.specs.declared.timing.Reach.{Reach}
+use Rattle.signal_records.specs.{Key.key_cmp, KeyOrder.key_total, TimingSet.Rows}
+use Rattle.signal_records.specs.declared.{key.Key.Key, record.Row.Row, record.Change.Change}
+use Rattle.signal_records.specs.declared.record.Change.TheVariants.{Put}
+use Rattle.draft_core.specs.declared.{refusal.DraftRefusal.DraftRefusal, timing.Move.Move}
+use Rattle.draft_core.specs.declared.timing.{Reach.Reach, Timing.Timing}
 use Rattle.draft_core.specs.declared.timing.Reach.TheVariants as reach
-use Rattle.draft_core.specs.declared.timing.Timing.{Timing}
-use Rattle.draft_core.specs.DraftRows.{Said, silent, leaves, removes, said_by}
+use Rattle.draft_core.specs.DraftRows.{Said, silent, said_by}
 use Rattle.draft_state.specs.ChangedRows.{changed_key}
 use Rattle.draft_core.specs.DraftRows.{later_of, overlaid, row_at}
 use Rattle.draft_core.specs.Drafting.{is_said}
 use Rattle.draft_core.specs.Moves.{committed_by, said_after}
 use Rattle.draft_core.specs.News.{AddsOnlyNew, AreInOrder, AreNewAt, IsNewAt}
 use Rattle.draft_core.specs.Writes.{settled_by, settling}
-use Rattle.draft_core.proofs.OnlyChanges.{same_key}
-use Rattle.draft_core.proofs.Pushed.{later_of-silent}
+use Rattle.draft_core.proofs.{OnlyChanges.same_key, Pushed.later_of-silent}
 use Rattle.draft_core.proofs.Written.{committing, settled_commits, settled_either}
 
 -- ---- of which keys changes say something
@@ -46,9 +35,7 @@ unsaid key (change ∷ changes) above =
 
 later_said : (later : Said) (change : Change) → is_said (later_of later (said_by change)) ≡ true
 later_said silent (Put row) = refl
-later_said silent (Remove key) = refl
-later_said (leaves row) change = refl
-later_said removes change = refl
+later_said _ change = refl
 
 -- of each that they name
 said_of : (change : Change) (changes : List Change)

@@ -1,22 +1,15 @@
 -- What changes leave of a set, key by key, and the draft as the committed set with its rows over it.
 use Rattle.std.proofs.Common.{◌≡◌, ◌+◌, Bool, true, false, cond, List, [], ◌∷◌, map, Option, Some, refl, ap, sym, subst, ◌∙◌, arith, add-one}
 use Rattle.std.specs.declared.cmp.Ordering.TheVariants.{Less, Equal, Greater}
-use Rattle.std.specs.List.{Contains}
+use Rattle.std.specs.{List.Contains, Ordering.is_eq}
 use Rattle.std.specs.FinMap.{get, get-insert, get-remove, same_map}
-use Rattle.std.specs.Ordering.{is_eq}
-use Rattle.signal_records.specs.declared.key.Key.{Key}
-use Rattle.signal_records.specs.declared.record.Row.{Row}
-use Rattle.signal_records.specs.declared.record.Change.{Change}
+use Rattle.signal_records.specs.declared.{key.Key.Key, record.Row.Row, record.Change.Change}
 use Rattle.signal_records.specs.declared.record.Change.TheVariants.{Put, Remove}
-use Rattle.signal_records.specs.Key.{key_cmp}
-use Rattle.signal_records.specs.KeyOrder.{key_total, key_exact}
-use Rattle.signal_records.specs.Row.{key_of}
+use Rattle.signal_records.specs.{Key.key_cmp, KeyOrder.key_total, KeyOrder.key_exact, Row.key_of}
 use Rattle.signal_records.specs.TimingSet.{Rows, after_change, after_changes}
-use Rattle.signal_rules.specs.declared.violation.Violation.{Violation}
-use Rattle.signal_rules.specs.Difference.{DiffersAtMost}
+use Rattle.signal_rules.specs.{declared.violation.Violation.Violation, Difference.DiffersAtMost}
 use Rattle.signal_rules.specs.Violations.{violations_of}
-use Rattle.draft_core.specs.declared.timing.Timing.{Timing}
-use Rattle.draft_core.specs.declared.timing.Reach.{Reach}
+use Rattle.draft_core.specs.declared.timing.{Timing.Timing, Reach.Reach}
 use Rattle.draft_core.specs.declared.timing.Reach.TheVariants as reach
 use Rattle.draft_core.specs.Transaction.{TimingSide, Draft}
 use Rattle.draft_core.specs.DraftRows.{Said, silent, leaves, removes, RowsByKey, RowStands, Stands}
@@ -37,8 +30,7 @@ get-after_change set (Remove k) key = get-remove key_total set k key
 pub overlaid-overlaid : (committed : Option Row) (late early : Said)
     → overlaid (overlaid committed early) late ≡ overlaid committed (later_of late early)
 overlaid-overlaid committed silent early = refl
-overlaid-overlaid committed (leaves row) early = refl
-overlaid-overlaid committed removes early = refl
+overlaid-overlaid committed _ early = refl
 
 -- what changes leave of a set, key by key
 pub get-after_changes : (changes : List Change) (set : Rows) (key : Key) → get (after_changes set changes) key ≡ overlaid (get set key) (row_at changes key)

@@ -1,33 +1,26 @@
 -- What a list says, writes and adds with one more at its end.
 use Rattle.std.proofs.Common.{◌≡◌, ◌+◌, Bool, true, false, List, [], ◌∷◌, ◌++◌, Option}
 use Rattle.std.proofs.Common.{refl, ap, sym, ◌∙◌, arith}
-use Rattle.signal_records.specs.declared.key.Key.{Key}
-use Rattle.signal_records.specs.declared.record.Row.{Row}
-use Rattle.signal_records.specs.declared.record.Change.{Change}
-use Rattle.draft_core.specs.declared.timing.TimingChange.{TimingChange}
-use Rattle.draft_core.specs.declared.timing.TimingChange.TheVariants.{CommittedNew, Committed}
+use Rattle.signal_records.specs.declared.{key.Key.Key, record.Row.Row, record.Change.Change}
+use Rattle.draft_core.specs.{declared.timing.TimingChange.TimingChange, Moves.timing_writes}
 use Rattle.draft_core.specs.declared.timing.TimingChange.TheVariants.{DraftedNew, Drafted}
-use Rattle.draft_core.specs.declared.timing.TimingChange.TheVariants.{DraftGone, DraftDropped}
-use Rattle.draft_core.specs.DraftRows.{Said, silent, leaves, removes, later_of}
+use Rattle.draft_core.specs.DraftRows.{Said, silent, later_of}
 use Rattle.draft_state.specs.ChangedRows.{changed_key}
 use Rattle.draft_core.specs.DraftRows.{row_at, said_at}
 use Rattle.draft_core.specs.Drafting.{drafted_as}
 use Rattle.draft_core.specs.Moves.{committed_after, committed_by, drafted_in, draft_write}
 use Rattle.draft_core.specs.Moves.{draft_writes, row_after, said_after, timing_write}
-use Rattle.draft_core.specs.Moves.{timing_writes}
 use Rattle.draft_core.specs.News.{AreNewAt, IsNewAt}
 
 -- ---- what is said of a key
 
 pub later_of-silent : (said : Said) → later_of said silent ≡ said
 later_of-silent silent = refl
-later_of-silent (leaves row) = refl
-later_of-silent removes = refl
+later_of-silent _ = refl
 
 later_of-later_of : (a b c : Said) → later_of (later_of a b) c ≡ later_of a (later_of b c)
 later_of-later_of silent b c = refl
-later_of-later_of (leaves row) b c = refl
-later_of-later_of removes b c = refl
+later_of-later_of _ b c = refl
 
 -- what changes say with one more after them
 pub row_at-push : (changes : List Change) (change : Change) (key : Key)
@@ -58,14 +51,11 @@ draft_writes-push (change ∷ written) one =
 pub drafted_in-push : (written : List TimingChange) (one : TimingChange)
     → drafted_in (written ++ one ∷ []) ≡ drafted_in written ++ drafted_in (one ∷ [])
 drafted_in-push [] one = refl
-drafted_in-push (CommittedNew row ∷ written) one = drafted_in-push written one
-drafted_in-push (Committed c ∷ written) one = drafted_in-push written one
 drafted_in-push (DraftedNew c ∷ written) one =
     ap (λ list. c ∷ list) (drafted_in-push written one)
 drafted_in-push (Drafted c ∷ written) one =
     ap (λ list. c ∷ list) (drafted_in-push written one)
-drafted_in-push (DraftGone k ∷ written) one = drafted_in-push written one
-drafted_in-push (DraftDropped ∷ written) one = drafted_in-push written one
+drafted_in-push (_ ∷ written) one = drafted_in-push written one
 
 pub AreNewAt-push : (written : List TimingChange) (one : TimingChange) (key : Key)
     (committed : Option Row) (said : Said) → AreNewAt written key committed said

@@ -1,32 +1,31 @@
-use Rattle.std.proofs.Common.{rules, arith}
-use Rattle.std.proofs.lemmas.Option.{IfSome_then}
+use Rattle.std.proofs.{Common.rules, Common.arith, lemmas.Option.IfSome_then}
 use Rattle.cabinet_core.proofs.DayLemmas.{civil_day_is_short, spelt_digits, civil_from_reads, spelt_from_reads, day_picked, epoch_day_counted}
 use Rattle.cabinet_core.proofs.day.read_day.Goals as goal
 
 pub returns-then-bytes-ne10-clause-accepted : goal.returns-then-bytes-ne10-clause-accepted
 returns-then-bytes-ne10-clause-accepted c = λ n s.
     let d = spelt_digits c.args.bytes.now n s in
-    grind (arith, d)
+    grind (arith, d.dashes)
 
 pub returns-in_err-century-clause-accepted : goal.returns-in_err-century-clause-accepted
 returns-in_err-century-clause-accepted c = λ n s.
     let d = spelt_digits c.args.bytes.now n s in
-    absurd (c.in_err-century.ensures.none _ (civil_day_is_short n s.day).century d.century_tens d.century_ones)
+    absurd (c.in_err-century.ensures.none _ (civil_day_is_short n s.day).century d.century.0 d.century.1)
 
 pub returns-in_err-year-clause-accepted : goal.returns-in_err-year-clause-accepted
 returns-in_err-year-clause-accepted c = λ n s.
     let d = spelt_digits c.args.bytes.now n s in
-    absurd (c.in_err-year.ensures.none _ (civil_day_is_short n s.day).year d.year_tens d.year_ones)
+    absurd (c.in_err-year.ensures.none _ (civil_day_is_short n s.day).year d.year.0 d.year.1)
 
 pub returns-in_err-month-clause-accepted : goal.returns-in_err-month-clause-accepted
 returns-in_err-month-clause-accepted c = λ n s.
     let d = spelt_digits c.args.bytes.now n s in
-    absurd (c.in_err-month.ensures.none _ (civil_day_is_short n s.day).month d.month_tens d.month_ones)
+    absurd (c.in_err-month.ensures.none _ (civil_day_is_short n s.day).month d.month.0 d.month.1)
 
 pub returns-in_err-day-clause-accepted : goal.returns-in_err-day-clause-accepted
 returns-in_err-day-clause-accepted c = λ n s.
     let d = spelt_digits c.args.bytes.now n s in
-    absurd (c.in_err-day.ensures.none _ (civil_day_is_short n s.day).day d.day_tens d.day_ones)
+    absurd (c.in_err-day.ensures.none _ (civil_day_is_short n s.day).day d.day.0 d.day.1)
 
 pub returns-in_err-date_of-clause-accepted : goal.returns-in_err-date_of-clause-accepted
 returns-in_err-date_of-clause-accepted c = λ n s.

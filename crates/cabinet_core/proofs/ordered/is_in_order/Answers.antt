@@ -1,6 +1,5 @@
 use Rattle.std.proofs.Common.{◌≡◌, ◌-◌, true, false, ap, arith, refl, ◌∙◌}
-use Rattle.std.proofs.lemmas.List.{get_or_default}
-use Rattle.std.proofs.lemmas.List.Sorted.{IsNonDecreasingBy-from_all_adjacent}
+use Rattle.std.proofs.lemmas.List.{get_or_default, Sorted.IsNonDecreasingBy-from_all_adjacent}
 use Rattle.cabinet_core.proofs.ordered.is_in_order.Goals as goal
 
 pub returns-then-place : goal.returns-then-place

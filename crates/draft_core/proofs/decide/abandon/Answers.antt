@@ -1,10 +1,7 @@
 use Rattle.std.proofs.Common.{◌≡◌, not, ap, sym, subst, ◌∙◌}
-use Rattle.std.specs.List.{AllByRecursion}
-use Rattle.std.specs.Prelude.{Ok}
-use Rattle.draft_core.specs.Moves.{Follows, drafted_in, move_to}
-use Rattle.draft_core.specs.News.{AddsNone}
-use Rattle.draft_core.specs.Transaction.{abandoned_from}
-use Rattle.draft_core.specs.Writes.{dropping}
+use Rattle.std.specs.{List.AllByRecursion, Prelude.Ok}
+use Rattle.draft_core.specs.{Moves.Follows, Moves.drafted_in, Moves.move_to, News.AddsNone}
+use Rattle.draft_core.specs.{Transaction.abandoned_from, Writes.dropping}
 use Rattle.draft_core.specs.declared.timing.Move.{Move}
 use Rattle.draft_state.specs.declared.state.Holding.TheVariants.{Dropped}
 use Rattle.draft_state.specs.declared.state.Verdict.TheVariants.{NotDone}

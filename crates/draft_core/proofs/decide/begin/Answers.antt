@@ -1,9 +1,7 @@
 use Rattle.std.proofs.Common.{◌≡◌, sym, ◌∙◌, None}
 use Rattle.std.specs.Prelude.{Ok}
-use Rattle.draft_core.specs.Transaction.{begun_from}
-use Rattle.draft_core.specs.Moves.{Follows}
-use Rattle.draft_core.proofs.Lines.{nobody, free_of}
-use Rattle.draft_core.proofs.Makes.{begin_makes}
+use Rattle.draft_core.specs.{Transaction.begun_from, Moves.Follows}
+use Rattle.draft_core.proofs.{Lines.nobody, Lines.free_of, Makes.begin_makes}
 use Rattle.draft_core.proofs.decide.begin.Goals as goal
 
 pub returns-clause-line : goal.returns-clause-line

@@ -1,11 +1,9 @@
 use Rattle.std.proofs.Common.{◌≡◌, ◌≤◌, length, sym, subst}
-use Rattle.draft_core.specs.Drafting.{AreAmong, KeepsOnlyChanges}
+use Rattle.draft_core.specs.{Drafting.AreAmong, Drafting.KeepsOnlyChanges, News.AddsOnlyNew}
 use Rattle.draft_core.specs.Moves.{drafted_in, draft_writes, timing_writes}
-use Rattle.draft_core.specs.News.{AddsOnlyNew}
 use Rattle.draft_core.specs.declared.timing.Move.{Move}
 use Rattle.draft_core.specs.declared.timing.Reach.TheVariants as reach
-use Rattle.draft_core.proofs.Lines.{owned_moves}
-use Rattle.draft_core.proofs.Makes.{edit_makes}
+use Rattle.draft_core.proofs.{Lines.owned_moves, Makes.edit_makes}
 use Rattle.draft_core.proofs.decide.edit.Goals as goal
 
 pub returns-clause-line : goal.returns-clause-line

@@ -6,12 +6,9 @@ use Rattle.draft_state.specs.declared.state.Verdict.TheVariants.{NotDone}
 use Rattle.draft_core.specs.declared.timing.Move.{Move}
 use Rattle.draft_core.specs.DraftRows.{row_at}
 use Rattle.draft_core.specs.Moves.{drafted_in, move_to}
-use Rattle.draft_core.specs.News.{AreNewAt}
-use Rattle.draft_core.specs.Writes.{next_revision, settling}
+use Rattle.draft_core.specs.{News.AreNewAt, Writes.next_revision, Writes.settling}
 use Rattle.draft_core.proofs.Lines.{commit_follows, commit_refuses, refusal_follows}
-use Rattle.draft_core.proofs.Makes.{commit_makes}
-use Rattle.draft_core.proofs.News.{settling_new}
-use Rattle.draft_core.proofs.Overlaid.{draft_violations}
+use Rattle.draft_core.proofs.{Makes.commit_makes, News.settling_new, Overlaid.draft_violations}
 use Rattle.draft_core.proofs.Written.{drafted_in-settling, settling_writes}
 use Rattle.draft_core.proofs.decide.settled.Goals as goal
 

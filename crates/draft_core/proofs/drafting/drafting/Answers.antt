@@ -1,11 +1,7 @@
-use Rattle.std.proofs.Common.{◌≡◌, ◌+◌, ◌++◌, ◌∷◌, [], List, false, true, take, sym, ap}
-use Rattle.std.proofs.Common.{subst, ◌∙◌}
+use Rattle.std.proofs.Common.{◌≡◌, ◌+◌, ◌++◌, ◌∷◌, [], List, false, true, take, sym, ap, subst, ◌∙◌}
 use Rattle.std.proofs.lemmas.List.{take_all, take_more}
-use Rattle.std.specs.BTreeSet.{BTreeSet, contains}
-use Rattle.std.specs.Global.{Vec}
-use Rattle.signal_records.specs.Key.{key_cmp}
-use Rattle.signal_records.specs.declared.key.Key.{Key}
-use Rattle.signal_records.specs.declared.record.Change.{Change}
+use Rattle.std.specs.{BTreeSet.BTreeSet, BTreeSet.contains, Global.Vec}
+use Rattle.signal_records.specs.{Key.key_cmp, declared.key.Key.Key, declared.record.Change.Change}
 use Rattle.draft_core.specs.declared.timing.TimingChange.{TimingChange}
 use Rattle.draft_core.specs.declared.timing.TimingChange.TheVariants.{DraftGone}
 use Rattle.draft_core.specs.DraftRows.{row_at}

@@ -1,13 +1,11 @@
 use Rattle.std.proofs.Common.{◌≡◌, ◌+◌, ◌++◌, ◌∷◌, [], List, take, sym, ap, subst, ◌∙◌}
 use Rattle.std.proofs.lemmas.List.{take_all, take_more}
-use Rattle.std.specs.BTreeMap.{is_at}
-use Rattle.std.specs.List.{list_any}
+use Rattle.std.specs.{BTreeMap.is_at, List.list_any}
 use Rattle.signal_records.specs.Key.{key_cmp}
 use Rattle.signal_records.specs.declared.key.Key.{Key}
 use Rattle.draft_core.specs.DraftRows.{row_at}
 use Rattle.draft_core.specs.Drafting.{AreNamed, is_said}
-use Rattle.draft_core.proofs.OnlyChanges.{named_more}
-use Rattle.draft_core.proofs.Pushed.{row_at-push}
+use Rattle.draft_core.proofs.{OnlyChanges.named_more, Pushed.row_at-push}
 use Rattle.draft_core.proofs.drafting.named_keys.Goals as goal
 
 pub loop-change-init : goal.loop-change-init
@@ -24,8 +22,8 @@ loop-change-preserved c =
     take_more all index change c.loop-change-test.true
     ∙ ap (λ one. take index all ++ one ∷ []) (sym c.change-item.is) in
     subst (λ done. AreNamed done c.insert.new.self) (sym next) (λ key.
-    named_more c.loop-change.keys c.insert.new.self change (row_at (take index all)) updates
-    c.loop-change.invariant key
+    named_more c.loop-change.keys c.insert.new.self (row_at (take index all))
+    c.loop-change.invariant change updates key
     ∙ ap is_said (sym (row_at-push (take index all) change key)))
 
 pub returns : goal.returns

@@ -3,8 +3,7 @@ use Rattle.signal_rules.specs.Violations.{violations_of}
 use Rattle.draft_state.specs.declared.state.Holder.{Holder}
 use Rattle.draft_state.specs.declared.state.Stage.TheVariants.{Done}
 use Rattle.draft_core.specs.Transaction.{verdict_on, verdict_of}
-use Rattle.draft_core.proofs.Lines.{held_by}
-use Rattle.draft_core.proofs.Overlaid.{draft_violations}
+use Rattle.draft_core.proofs.{Lines.held_by, Overlaid.draft_violations}
 use Rattle.draft_core.proofs.judging.verdict.Goals as goal
 
 pub returns-in-Done : goal.returns-in-Done
