@@ -16,7 +16,7 @@ const STREAM_LIMIT: u32 = 10_000;
 
 /// A database, open as an office or not.
 #[derive(Drop)]
-enum Base<S: Alter> {
+pub(crate) enum Base<S: Alter> {
     Closed(Connection<S>),
     Open(Office<SqlShelf<S>>),
     /// It was refused, and did not come back.
