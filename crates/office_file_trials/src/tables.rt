@@ -1,13 +1,14 @@
 //! The tables that a row is played over.
 
+use crate::files::connect;
 use office_desk::office::Office;
 use office_http::{ServeFault, Served, Sink, Source, serve};
 use office_row_files::way::Kind;
 use office_tables::open::OpenFault;
 use office_tables::sql_shelf::SqlShelf;
 use office_tables_memory::memory_shelf::MemoryShelf;
-use sqlite::{Alter, Connection, FileStore, MemStore, Options};
-use sqlite_disk::{Files, Fuse, Memory};
+use sqlite::{Alter, Connection, FileStore, MemStore};
+use sqlite_disk::{Disk, Files, Fuse, Memory};
 use std::alloc::Global;
 use std::mem;
 
@@ -16,7 +17,7 @@ const STREAM_LIMIT: u32 = 10_000;
 
 /// A database, open as an office or not.
 #[derive(Drop)]
-enum Base<S: Alter> {
+pub(crate) enum Base<S: Alter> {
     Closed(Connection<S>),
     Open(Office<SqlShelf<S>>),
     /// It was refused, and did not come back.
@@ -88,27 +89,30 @@ impl<S: Alter + Drop> Base<S> {
 /// are one type, which the compilers build once.
 type InFiles = FileStore<Fuse<Memory>>;
 
-/// A database of two files, where neither lost a write.
-fn open_files(alloc: Global, files: Files<Fuse<Memory>>) -> Base<InFiles> {
-    if !files.may_be_used() {
-        return Base::Lost;
-    }
-    match Connection::open_files(alloc, files, Options::new(1)) {
-        Ok(conn) => Base::Closed(conn),
-        Err(_) => Base::Lost,
-    }
-}
-
-/// A database that is left, and found again in its files.
-fn found_again(alloc: Global, conn: Connection<InFiles>) -> Base<InFiles> {
-    match conn.close_files().ok() {
-        Some(files) => open_files(alloc, files),
+/// A database that is there, or none.
+fn based<S: Alter>(conn: Option<Connection<S>>) -> Base<S> {
+    match conn {
+        Some(conn) => Base::Closed(conn),
         None => Base::Lost,
     }
 }
 
+/// A database that is left, and found again in its files.
+fn found_again<D: Disk + Drop>(
+    alloc: Global,
+    conn: Connection<FileStore<D>>,
+) -> Base<FileStore<D>> {
+    match conn.close_files() {
+        Ok(files) => based(connect(alloc, files)),
+        Err(_) => Base::Lost,
+    }
+}
+
 /// Opens a database in files as an office. Where it is one already, it is left and found again.
-fn open_again(alloc: Global, base: &mut Base<InFiles>) -> Result<(), OpenFault> {
+fn open_again<D: Disk + Drop>(
+    alloc: Global,
+    base: &mut Base<FileStore<D>>,
+) -> Result<(), OpenFault> {
     if matches!(&*base, Base::Open(_)) {
         let Some(conn) = base.take() else {
             return Err(OpenFault::Store);
@@ -131,10 +135,7 @@ pub(crate) enum Tables {
 
 /// A new database in memory.
 fn in_memory(alloc: Global) -> Base<MemStore> {
-    match Connection::open_in_memory(alloc) {
-        Ok(conn) => Base::Closed(conn),
-        Err(_) => Base::Lost,
-    }
+    based(Connection::open_in_memory(alloc).ok())
 }
 
 /// A new database in files.
@@ -143,7 +144,7 @@ fn in_files(alloc: Global) -> Base<InFiles> {
         log: Fuse::new(Memory::new(alloc), u64::MAX),
         db: Fuse::new(Memory::new(alloc), u64::MAX),
     };
-    open_files(alloc, files)
+    based(connect(alloc, files))
 }
 
 impl Tables {

@@ -4,238 +4,199 @@ use crate::row::{Act, Row, Talk};
 use crate::trouble::Trouble;
 use crate::wording::{answer, request, unescaped, whole_line};
 use std::alloc::Global;
-use std::mem;
 use std::str::FromStr;
 
-/// What the next lines of a row may add to.
-#[derive(Drop)]
-enum Open<'a> {
-    Nothing,
-    Talk(Talk<'a>),
-    File { name: &'a str, text: String },
-}
-
-/// Reads the lines of a row, one after the other.
-#[derive(Drop)]
-struct Reader<'a> {
+/// A line of a row file, by its number, its first word and the rest.
+#[derive(Clone, Copy)]
+struct Line<'a> {
     alloc: Global,
-    row: Row<'a>,
-    open: Open<'a>,
-    /// The line where what is open began.
-    begun: usize,
+    number: usize,
+    word: &'a str,
+    rest: &'a str,
 }
 
-/// A line that says nothing a row can say.
-fn unread(alloc: Global, line: usize, text: &str) -> Trouble {
-    Trouble::differs(alloc, line, b"a line of a row", text.as_bytes())
-}
-
-impl<'a> Reader<'a> {
-    /// What is open ends.
-    fn close(&mut self) -> Result<(), Trouble> {
-        let line = self.begun;
-        let act = match mem::replace(&mut self.open, Open::Nothing) {
-            Open::Nothing => return Ok(()),
-            Open::Talk(talk) => Act::Talk(talk),
-            Open::File { name, text } => Act::File { name, text },
-        };
-        self.row.push(line, act)?;
-        Ok(())
+impl<'a> Line<'a> {
+    /// It says nothing that a row can say.
+    fn unread(self) -> Trouble {
+        Trouble::differs(
+            self.alloc,
+            self.number,
+            b"a line of a row",
+            self.rest.as_bytes(),
+        )
     }
 
-    /// What is open ends, and this begins.
-    fn begin(&mut self, line: usize, open: Open<'a>) -> Result<(), Trouble> {
-        self.close()?;
-        self.open = open;
-        self.begun = line;
-        Ok(())
-    }
-
-    /// An act of one line.
-    fn push(&mut self, line: usize, act: Act<'a>) -> Result<(), Trouble> {
-        self.close()?;
-        self.row.push(line, act)?;
-        Ok(())
-    }
-
-    /// The talk that is open, or a stream that begins.
-    fn talk(&mut self, line: usize) -> Result<&mut Talk<'a>, Trouble> {
-        if !matches!(&self.open, Open::Talk(_)) {
-            self.begin(line, Open::Talk(Talk::new(self.alloc, None)))?;
+    /// The number that stands there, of the type that is wanted.
+    fn number_in<N: FromStr + Drop>(self, text: &str) -> Result<N, Trouble>
+    where
+        N::Err: Drop,
+    {
+        match text.parse::<N>() {
+            Ok(number) => Ok(number),
+            Err(_) => Err(self.unread()),
         }
-        match &mut self.open {
-            Open::Talk(talk) => Ok(talk),
-            _ => Err(unread(self.alloc, line, "")),
+    }
+
+    /// The bytes of the rest, which has escapes.
+    fn unescaped(self) -> Result<Vec<u8>, Trouble> {
+        match unescaped(self.alloc, self.rest)? {
+            Some(bytes) => Ok(bytes),
+            None => Err(self.unread()),
         }
+    }
+
+    /// The talk that the line adds to.
+    fn talk<'r>(self, row: &'r mut Row<'a>) -> Result<&'r mut Talk<'a>, Trouble> {
+        row.talk(self.alloc, self.number)
     }
 
     /// Bytes are sent, with so many requests.
-    fn send(&mut self, line: usize, bytes: &[u8], requests: u32) -> Result<(), Trouble> {
-        let talk = self.talk(line)?;
+    fn send(self, row: &mut Row<'a>, bytes: &[u8], requests: u32) -> Result<(), Trouble> {
+        let talk = self.talk(row)?;
         talk.sent.extend_from_slice(bytes)?;
         talk.requests = talk.requests.saturating_add(requests);
         Ok(())
     }
 
     /// Bytes must come.
-    fn come(&mut self, line: usize, bytes: Vec<u8>) -> Result<(), Trouble> {
-        self.talk(line)?.out.push(line, bytes)?;
+    fn come(self, row: &mut Row<'a>, bytes: Vec<u8>) -> Result<(), Trouble> {
+        self.talk(row)?.out.push(self.number, bytes)?;
         Ok(())
     }
 
-    /// Bytes must be printed on standard error.
-    fn complain(&mut self, line: usize, bytes: Vec<u8>) -> Result<(), Trouble> {
-        self.talk(line)?.err.push(line, bytes)?;
-        Ok(())
+    /// What is sent, and what must come.
+    fn take_said(self, row: &mut Row<'a>) -> Result<bool, Trouble> {
+        match self.word {
+            ">" => self.send(row, &request(self.alloc, self.rest)?, 1)?,
+            ">>" => self.send(row, &self.unescaped()?, 0)?,
+            "<" => self.come(row, answer(self.alloc, self.rest)?)?,
+            "<<" => self.come(row, self.unescaped()?)?,
+            "out" if self.rest != "*" => self.come(row, whole_line(self.alloc, self.rest)?)?,
+            "err" if self.rest != "*" => {
+                let bytes = whole_line(self.alloc, self.rest)?;
+                self.talk(row)?.err.push(self.number, bytes)?;
+            }
+            _ => return Ok(false),
+        }
+        Ok(true)
+    }
+
+    /// What is said of the ends of a talk, or of the program.
+    fn take_end(self, row: &mut Row<'a>) -> Result<bool, Trouble> {
+        match self.word {
+            "out" => self.talk(row)?.out.is_any = true,
+            "err" => self.talk(row)?.err.is_any = true,
+            "breaks" => self.talk(row)?.breaks = true,
+            "room" => {
+                let room = self.number_in(self.rest)?;
+                self.talk(row)?.room = Some(room);
+            }
+            "taken" => {
+                let port = self.number_in(self.rest)?;
+                self.talk(row)?.taken = Some(port);
+            }
+            "status" => {
+                let status = self.number_in(self.rest)?;
+                self.talk(row)?.status = status;
+            }
+            _ => return Ok(false),
+        }
+        Ok(true)
     }
 
     /// The stream ends, or one of its ends fails, and so many of its requests were dealt with.
-    fn end(&mut self, line: usize, failed: Option<&'a str>, requests: u32) -> Result<(), Trouble> {
-        let talk = self.talk(line)?;
+    fn end(
+        self,
+        row: &mut Row<'a>,
+        failed: Option<&'a str>,
+        requests: &str,
+    ) -> Result<(), Trouble> {
+        let requests = self.number_in(requests)?;
+        let talk = self.talk(row)?;
         talk.failed = failed;
         talk.requests = requests;
-        self.close()
+        talk.is_over = true;
+        Ok(())
     }
 
     /// A line of a file.
-    fn write_line(&mut self, line: usize, of_file: &str) -> Result<(), Trouble> {
-        let Open::File { text, .. } = &mut self.open else {
-            return Err(unread(self.alloc, line, of_file));
+    fn write(self, row: &mut Row<'a>) -> Result<(), Trouble> {
+        let Some(Act::File { text, .. }) = row.last_act() else {
+            return Err(self.unread());
         };
-        text.push_str(of_file)?;
+        text.push_str(self.rest)?;
         text.push('\n')?;
         Ok(())
     }
 
-    /// A file begins, without a line yet.
-    fn begin_file(&mut self, line: usize, name: &'a str) -> Result<(), Trouble> {
-        let text = String::new(self.alloc);
-        self.begin(line, Open::File { name, text })
-    }
-
-    /// Bytes with escapes that are sent, or must come.
-    fn unescaped(&self, line: usize, text: &str) -> Result<Vec<u8>, Trouble> {
-        match unescaped(self.alloc, text)? {
-            Some(bytes) => Ok(bytes),
-            None => Err(unread(self.alloc, line, text)),
-        }
-    }
-
-    /// A number of the type that is wanted.
-    fn number<N: FromStr>(&self, line: usize, text: &str) -> Result<N, Trouble>
-    where
-        N: Drop,
-        N::Err: Drop,
-    {
-        match text.parse::<N>() {
-            Ok(number) => Ok(number),
-            Err(_) => Err(unread(self.alloc, line, text)),
-        }
-    }
-
-    /// A line of what is sent, and of what must come.
-    fn take_said(&mut self, line: usize, word: &str, rest: &'a str) -> Result<bool, Trouble> {
-        let alloc = self.alloc;
-        match word {
-            ">" => self.send(line, &request(alloc, rest)?, 1)?,
-            ">>" => self.send(line, &self.unescaped(line, rest)?, 0)?,
-            "<" => self.come(line, answer(alloc, rest)?)?,
-            "<<" => self.come(line, self.unescaped(line, rest)?)?,
-            "out" if rest != "*" => self.come(line, whole_line(alloc, rest)?)?,
-            "err" if rest != "*" => self.complain(line, whole_line(alloc, rest)?)?,
-            _ => return Ok(false),
-        }
-        Ok(true)
-    }
-
-    /// A line on the ends of a talk, or on the program.
-    fn take_end(&mut self, line: usize, word: &str, rest: &'a str) -> Result<bool, Trouble> {
-        match word {
-            "out" => self.talk(line)?.out.is_any = true,
-            "err" => self.talk(line)?.err.is_any = true,
-            "breaks" => self.talk(line)?.breaks = true,
-            "room" => {
-                let room = self.number(line, rest)?;
-                self.talk(line)?.room = Some(room);
-            }
-            "taken" => {
-                let port = self.number(line, rest)?;
-                self.talk(line)?.taken = Some(port);
-            }
-            "status" => {
-                let status = self.number(line, rest)?;
-                self.talk(line)?.status = status;
-            }
-            _ => return Ok(false),
-        }
-        Ok(true)
-    }
-
-    /// A line with which a run begins, or a stream ends.
-    fn take_turn(&mut self, line: usize, word: &str, rest: &'a str) -> Result<bool, Trouble> {
-        match word {
-            "run" => self.begin(line, Open::Talk(Talk::new(self.alloc, Some(rest))))?,
-            "served" => self.end(line, None, self.number(line, rest)?)?,
-            "fails" => match rest.split_once(' ') {
-                Some((end, requests)) => self.end(line, Some(end), self.number(line, requests)?)?,
-                None => return Ok(false),
+    /// An act that begins, and is whole by itself or goes on in the next lines.
+    fn act(self) -> Option<Act<'a>> {
+        let rest = self.rest;
+        Some(match self.word {
+            "run" => Act::Talk(Talk::new(self.alloc, Some(rest))),
+            "sql" => Act::Sql(rest),
+            "opens" => Act::Opens,
+            "refuses" => Act::Refuses(rest),
+            "file" => Act::File {
+                name: rest,
+                text: String::new(self.alloc),
             },
-            _ => return Ok(false),
-        }
-        Ok(true)
+            "folder" => Act::Folder(rest),
+            "lacks" => Act::Lacks(rest),
+            "alter" => {
+                let (name, sql) = rest.split_once(" sql ")?;
+                Act::Alter { name, sql }
+            }
+            _ => return None,
+        })
     }
 
-    /// A line on tables or files.
-    fn take_act(&mut self, line: usize, word: &str, rest: &'a str) -> Result<bool, Trouble> {
-        match word {
-            "bare" => self.row.is_bare = true,
-            "sql" => self.push(line, Act::Sql(rest))?,
-            "opens" => self.push(line, Act::Opens)?,
-            "refuses" => self.push(line, Act::Refuses(rest))?,
-            "file" => self.begin_file(line, rest)?,
-            "|" => self.write_line(line, rest)?,
-            "folder" => self.push(line, Act::Folder(rest))?,
-            "lacks" => self.push(line, Act::Lacks(rest))?,
-            "alter" => match rest.split_once(" sql ") {
-                Some((name, sql)) => self.push(line, Act::Alter { name, sql })?,
-                None => return Ok(false),
+    /// What ends or goes on, or how the row begins.
+    fn take_rest(self, row: &mut Row<'a>) -> Result<(), Trouble> {
+        match self.word {
+            "served" => self.end(row, None, self.rest),
+            "fails" => match self.rest.split_once(' ') {
+                Some((end, requests)) => self.end(row, Some(end), requests),
+                None => Err(self.unread()),
             },
-            _ => return Ok(false),
+            "|" => self.write(row),
+            "bare" => {
+                row.is_bare = true;
+                Ok(())
+            }
+            _ => Err(self.unread()),
         }
-        Ok(true)
     }
 
-    /// One more line.
-    fn take(&mut self, line: usize, text: &'a str) -> Result<(), Trouble> {
-        if text.is_empty() || text.starts_with('#') {
+    /// The row with this line too.
+    fn take(self, row: &mut Row<'a>) -> Result<(), Trouble> {
+        if self.take_said(row)? || self.take_end(row)? {
             return Ok(());
         }
-        let (word, rest) = text.split_once(' ').unwrap_or((text, ""));
-        if self.take_said(line, word, rest)?
-            || self.take_act(line, word, rest)?
-            || self.take_end(line, word, rest)?
-            || self.take_turn(line, word, rest)?
-        {
-            return Ok(());
+        match self.act() {
+            Some(act) => Ok(row.push(self.number, act)?),
+            None => self.take_rest(row),
         }
-        Err(unread(self.alloc, line, text))
     }
 }
 
 /// Reads the text of a row file.
 pub fn read_row(alloc: Global, text: &str) -> Result<Row<'_>, Trouble> {
-    let mut reader = Reader {
-        alloc,
-        row: Row::new(alloc),
-        open: Open::Nothing,
-        begun: 1,
-    };
-    let mut line = 0usize;
+    let mut row = Row::new(alloc);
+    let mut number = 0usize;
     for of_row in text.lines() {
-        line = line.saturating_add(1);
-        reader.take(line, of_row)?;
+        number = number.saturating_add(1);
+        if of_row.is_empty() || of_row.starts_with('#') {
+            continue;
+        }
+        let (word, rest) = of_row.split_once(' ').unwrap_or((of_row, ""));
+        let line = Line {
+            alloc,
+            number,
+            word,
+            rest,
+        };
+        line.take(&mut row)?;
     }
-    reader.close()?;
-    let Reader { row, .. } = reader;
     Ok(row)
 }

@@ -1,5 +1,6 @@
 //! What a row says: what is done with an office, one act after the other, and what must come of it.
 
+use crate::trouble::Trouble;
 use crate::way::{BY_THE_PROGRAM, OVER_SQL, OVER_TABLES, Way};
 use std::alloc::{AllocError, Global};
 
@@ -53,6 +54,8 @@ pub struct Talk<'a> {
     /// What is printed on standard error.
     pub err: Told,
     pub status: u8,
+    /// No more lines of the row add to it.
+    pub is_over: bool,
 }
 
 impl<'a> Talk<'a> {
@@ -69,6 +72,7 @@ impl<'a> Talk<'a> {
             out: Told::nothing(alloc),
             err: Told::nothing(alloc),
             status: 0,
+            is_over: false,
         }
     }
 }
@@ -145,6 +149,29 @@ impl<'a> Row<'a> {
     pub fn push(&mut self, line: usize, act: Act<'a>) -> Result<(), AllocError> {
         self.steps.push(Step { line, act })?;
         Ok(())
+    }
+
+    /// The talk that the last act is and that is not over, or a stream that begins.
+    pub fn talk(&mut self, alloc: Global, line: usize) -> Result<&mut Talk<'a>, Trouble> {
+        let is_open = matches!(
+            self.steps.last(),
+            Some(Step { act: Act::Talk(talk), .. }) if !talk.is_over
+        );
+        if !is_open {
+            self.push(line, Act::Talk(Talk::new(alloc, None)))?;
+        }
+        match self.last_act() {
+            Some(Act::Talk(talk)) => Ok(talk),
+            _ => Err(Trouble::Untrue("a talk that goes on")),
+        }
+    }
+
+    /// The last act, if there is one.
+    pub fn last_act(&mut self) -> Option<&mut Act<'a>> {
+        match self.steps.last_mut() {
+            Some(step) => Some(&mut step.act),
+            None => None,
+        }
     }
 
     /// How often the program is run.

@@ -131,7 +131,7 @@ impl Standing {
 }
 
 /// What stands after these records.
-fn standing(alloc: Global, text: &str) -> Result<Standing, Fail> {
+fn what_stands(alloc: Global, text: &str) -> Result<Standing, Fail> {
     let mut standing = Standing {
         inspections: Vec::new(alloc),
         orders: Vec::new(alloc),
@@ -235,7 +235,7 @@ fn told(
 fn records_are_decided(rt: HostRuntime) -> Result<(), Fail> {
     let alloc = rt.alloc();
     for (number, (hand, there, record, wanted)) in CASES.iter().enumerate() {
-        let mut standing = standing(alloc, there)?;
+        let mut standing = what_stands(alloc, there)?;
         for asked in &read_records_csv(alloc, record.as_bytes())? {
             let outcome = decided(alloc, *hand, &mut standing, asked);
             assert_eq!(rt;
@@ -257,7 +257,7 @@ fn the_file_of_a_cabinet_is_in_order(rt: HostRuntime) -> Result<(), Fail> {
         orders,
         lines,
         ..
-    } = standing(alloc, BACKWARDS)?;
+    } = what_stands(alloc, BACKWARDS)?;
     let view = CabinetView {
         inspections: Ordered::new(inspections),
         orders: Ordered::new(orders),
