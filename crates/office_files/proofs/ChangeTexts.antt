@@ -1,5 +1,5 @@
 -- The file of changes is text, and is read as these changes.
-use Rattle.std.proofs.Common.{◌≡◌, ℕ, List, All, Result, Ok, Err, refl, ap, ◌∙◌, arith}
+use Rattle.std.proofs.Common.{◌≡◌, ℕ, List, Result, Ok, Err, refl, ap, ◌∙◌, arith}
 use Rattle.std.specs.Prelude.{IfOk, OnOk, codes}
 use Rattle.signal_records.specs.declared.{key.Key.Key, record.Change.Change}
 use Rattle.signal_records.specs.declared.key.Key.TheVariants as key
