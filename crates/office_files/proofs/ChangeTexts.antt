@@ -1,32 +1,24 @@
 -- The file of changes is text, and is read as these changes.
-use Rattle.std.proofs.Common.{◌≡◌, ℕ, List, All, Result, Ok, Err, refl, ap, ◌∙◌, arith}
+use Rattle.std.proofs.Common.{◌≡◌, ℕ, List, Result, Ok, Err, refl, ap, ◌∙◌, arith}
 use Rattle.std.specs.Prelude.{IfOk, OnOk, codes}
-use Rattle.signal_records.specs.declared.key.Key.{Key}
+use Rattle.signal_records.specs.declared.{key.Key.Key, record.Change.Change}
 use Rattle.signal_records.specs.declared.key.Key.TheVariants as key
-use Rattle.signal_records.specs.declared.record.Change.{Change}
 use Rattle.signal_records.specs.declared.record.Change.TheVariants.{Put, Remove}
-use Rattle.signal_records.specs.Reading.{change_at}
-use Rattle.signal_records.specs.Spelling.{change_spelling, key_spelling}
+use Rattle.signal_records.specs.{Reading.change_at, Spelling.change_spelling, Spelling.key_spelling}
 use Rattle.signal_records.specs.Within.{current_limits, IsChangeWithin}
 use Rattle.office_files.specs.Changes.{changes_of, AreWithin, spellings}
 use Rattle.office_files.specs.Csv.{csv_text}
-use Rattle.office_files.proofs.ChangesLemmas.{change_laws}
-use Rattle.office_files.proofs.FileLaws.{file_only}
-use Rattle.office_files.proofs.SpelledTexts.{row_texts}
-use Rattle.office_files.proofs.TimingLemmas.{begins_with_kind}
+use Rattle.office_files.proofs.{ChangesLemmas.change_laws, FileLaws.file_only}
+use Rattle.office_files.proofs.{SpelledTexts.row_texts, TimingLemmas.begins_with_kind}
 use Rattle.office_files.proofs.Utf8Lemmas.{AreTexts, IsUtf8-low, IsUtf8-decimal}
 use Rattle.office_files.proofs.WritingLemmas.{BeginsWithLetter, csv_records-spellings}
 
 key_texts : (k : Key) → AreTexts (key_spelling k)
 key_texts (key.Phase p) = (IsUtf8-low (codes "phase") refl, (IsUtf8-decimal p, tt))
-key_texts (key.Seq n ring) = (
-  IsUtf8-low (codes "seq") refl,
-  (IsUtf8-decimal n, (IsUtf8-decimal ring, tt)),
-)
-key_texts (key.Split n p) = (
-  IsUtf8-low (codes "split") refl,
-  (IsUtf8-decimal n, (IsUtf8-decimal p, tt)),
-)
+key_texts (key.Seq n ring) =
+    (IsUtf8-low (codes "seq") refl, (IsUtf8-decimal n, (IsUtf8-decimal ring, tt)))
+key_texts (key.Split n p) =
+    (IsUtf8-low (codes "split") refl, (IsUtf8-decimal n, (IsUtf8-decimal p, tt)))
 key_texts (key.Pattern n) = (IsUtf8-low (codes "pattern") refl, (IsUtf8-decimal n, tt))
 
 pub change_texts : (change : Change) → IsChangeWithin current_limits change

@@ -1,6 +1,5 @@
 -- The laws of the rows of a file of changes.
-use Rattle.signal_records.specs.Reading.{change_at}
-use Rattle.signal_records.specs.Spelling.{change_spelling}
+use Rattle.signal_records.specs.{Reading.change_at, Spelling.change_spelling}
 use Rattle.signal_records.specs.Within.{current_limits, IsChangeWithin}
 use Rattle.signal_records.proofs.RowLaws.{are_current}
 use Rattle.signal_records.proofs.ChangeLaws.{change_found, change_only}

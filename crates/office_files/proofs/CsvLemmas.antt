@@ -1,16 +1,13 @@
 -- What a reader gives is every record of the text.
 use Rattle.std.proofs.Common.{◌≡◌, ℕ, zero, suc, ◌+◌, ◌<◌, ◌≤◌, ◌==◌, Bool, true, false, List, [], ◌∷◌, ◌++◌, length, cond, inl, inr, take, Option, Some, None, refl, ap, arith}
-use Rattle.csv.specs.declared.parser.Config.{Config}
-use Rattle.csv.specs.declared.parser.State.{State}
+use Rattle.csv.specs.declared.parser.{Config.Config, State.State, Action.Action}
 use Rattle.csv.specs.declared.parser.State.TheVariants as st
-use Rattle.csv.specs.declared.parser.Action.{Action}
 use Rattle.csv.specs.declared.parser.Action.TheVariants as act
-use Rattle.csv.specs.declared.parser.Terminator.{Terminator}
+use Rattle.csv.specs.{declared.parser.Terminator.Terminator, Records.field_at}
 use Rattle.csv.specs.declared.parser.Terminator.TheVariants as term
 use Rattle.csv.specs.Machine.{Read, next_record, ends_at_end, step, is_end, in_field, start_field, start_record, after_end}
 use Rattle.std.proofs.lemmas.Bool.{cases_Bool}
 use Rattle.csv.specs.Reading.{records, records_from, Reached, AreRecords}
-use Rattle.csv.specs.Records.{field_at}
 
 -- a field that is there is the next of the front of the list
 pub take-field_at : (fs : List (List ℕ)) (i : ℕ) (f : List ℕ) → Some f ≡ field_at fs i → take (i + 1) fs ≡ take i fs ++ f ∷ []
@@ -42,14 +39,8 @@ EndsBetween-cond true x y f g = f
 EndsBetween-cond false x y f g = g
 
 -- a byte that ends no record
-on_copy : (s : State) → EndsBetween (s, act.Copy)
-on_copy s = record { between = λ e. cc }
-
-on_skip : (s : State) → EndsBetween (s, act.Skip)
-on_skip s = record { between = λ e. cc }
-
-on_field : (s : State) → EndsBetween (s, act.EndField)
-on_field s = record { between = λ e. cc }
+on_inside : (s : State) (a : Action) → is_end a ≡ false → EndsBetween (s, a)
+on_inside s a inside = record { between = λ e. cc }
 
 after_end_is_between : (t : Terminator) (c : ℕ) → IsBetween (after_end t c)
 after_end_is_between term.CRLF c = elim (cases_Bool (c == 13)) [ inl cr ↦ rw cr refl | inr other ↦ rw other refl ]
@@ -58,7 +49,7 @@ after_end_is_between (term.Any t) c = refl
 on_end : (t : Terminator) (c : ℕ) → EndsBetween (after_end t c, act.EndRecord)
 on_end t c = record { between = λ e. after_end_is_between t c }
 
-ruleset ending = (EndsBetween-cond, on_copy, on_skip, on_field, on_end)
+ruleset ending = (EndsBetween-cond, on_inside, on_end, refl)
 
 in_field_ends : (cfg : Config) (c : ℕ) → EndsBetween (in_field cfg c)
 in_field_ends cfg c = search ending

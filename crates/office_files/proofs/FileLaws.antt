@@ -2,10 +2,8 @@
 use Rattle.std.proofs.Common.{◌≡◌, ◌≢◌, ℕ, List, map, All, Result, Ok, Err, refl, ap, ◌∙◌}
 use Rattle.std.specs.Prelude.{IfOk, IfErr, MatchResult}
 use Rattle.signal_records.specs.declared.fault.RowFault.{RowFault}
-use Rattle.office_files.specs.declared.fault.CsvFault.{CsvFault}
+use Rattle.office_files.specs.{declared.fault.CsvFault.CsvFault, Csv.csv_records, CsvRow.rows_of}
 use Rattle.office_files.specs.declared.fault.CsvFault.TheVariants as file
-use Rattle.office_files.specs.Csv.{csv_records}
-use Rattle.office_files.specs.CsvRow.{rows_of}
 use Rattle.office_files.proofs.SpellingLemmas.{rows_from-found, rows_from-only}
 
 -- each value has one spelling, which is read as it

@@ -1,11 +1,10 @@
 -- How far a file has been read, and why its reading may stop.
 use Rattle.std.proofs.Common.{◌≡◌, ◌<◌, ℕ, true, false, List, Some, Option, Bor, refl}
 use Rattle.csv.specs.Reading.{Reached, Ready, ExplainsRead, default_config, source_of, stops_reader, strip_bom}
-use Rattle.csv.specs.declared.error.ErrorKind.{ErrorKind}
+use Rattle.csv.specs.declared.{error.ErrorKind.ErrorKind, reader.Reader.Reader}
 use Rattle.csv.specs.declared.error.ErrorKind.TheVariants as kind
 use Rattle.csv.specs.declared.iter.ByteRecordsIntoIter.{ByteRecordsIntoIter}
 use Rattle.csv.specs.declared.parser.State.TheVariants as st
-use Rattle.csv.specs.declared.reader.Reader.{Reader}
 use Rattle.csv.specs.declared.reader.Trim.TheVariants as trim
 
 -- these rows are the first of the file's, and the iterator gives the others

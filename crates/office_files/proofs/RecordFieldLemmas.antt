@@ -1,16 +1,12 @@
 -- Fields of a record row and what they spell: days, words and codes of parts.
 use Rattle.std.proofs.Common.{◌≡◌, ◌≢◌, ℕ, zero, suc, ◌<◌, ◌≤◌, Bool, true, false, inl, inr, nat_le, ◌==◌, ◌↔◌, List, Option, Some, None, IsSome, IfSome, Result, Ok, Err, IfOk, refl, sym, ap, arith}
-use Rattle.std.specs.Bool.{Decides}
-use Rattle.std.specs.List.{All, list_all}
-use Rattle.std.specs.Option.{ok_or}
+use Rattle.std.specs.{Bool.Decides, List.All, List.list_all, Option.ok_or, Str.bytes_eq}
 use Rattle.std.specs.Prelude.{IsTrue, if◌then◌else◌}
-use Rattle.std.specs.Str.{bytes_eq}
 use Rattle.std.proofs.lemmas.Bool.{leb-true, le-leb, cases_Bool, cases_lt}
 use Rattle.std.proofs.lemmas.Bool.Decides.{Decides-and, Decides-not, Decides-eqb, Decides-like, Decides-by_and}
 use Rattle.std.proofs.lemmas.Slice.Eq.{bytes_eq-Decides}
 use Rattle.std.proofs.lemmas.Str.{is_utf8-from_IsUtf8, IsUtf8-from_is_utf8}
-use Rattle.signal_records.specs.Words.{AreWords}
-use Rattle.signal_records.specs.declared.fault.RowFault.{RowFault}
+use Rattle.signal_records.specs.{Words.AreWords, declared.fault.RowFault.RowFault}
 use Rattle.signal_records.proofs.RowLaws.{same_bytes}
 use Rattle.cabinet_core.specs.Day.{civil_day, day_text, IsDay, SpellsDay}
 use Rattle.cabinet_core.specs.Part.{IsPartCode, is_code_byte}
@@ -100,10 +96,10 @@ day_text_injective m n first second same =
     let b = spelt_digits (day_text m) n (record { day = second; spelt = same }) in
     let c = civil_day_is_short m first in
     let d = civil_day_is_short n second in
-    let century = digits_same _ _ _ _ c.century d.century a.century_tens a.century_ones b.century_tens b.century_ones in
-    let rest = digits_same _ _ _ _ c.year d.year a.year_tens a.year_ones b.year_tens b.year_ones in
-    let month = digits_same _ _ _ _ c.month d.month a.month_tens a.month_ones b.month_tens b.month_ones in
-    let day = digits_same _ _ _ _ c.day d.day a.day_tens a.day_ones b.day_tens b.day_ones in
+    let century = digits_same _ _ _ _ c.century d.century a.century.0 a.century.1 b.century.0 b.century.1 in
+    let rest = digits_same _ _ _ _ c.year d.year a.year.0 a.year.1 b.year.0 b.year.1 in
+    let month = digits_same _ _ _ _ c.month d.month a.month.0 a.month.1 b.month.0 b.month.1 in
+    let day = digits_same _ _ _ _ c.day d.day a.day.0 a.day.1 b.day.0 b.day.1 in
     let year : (civil_day m).year ≡ (civil_day n).year = omega arith in
     let number = (civil_day_is_dated m).number in
     let other = (civil_day_is_dated n).number in

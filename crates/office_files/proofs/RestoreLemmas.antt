@@ -1,18 +1,12 @@
 -- The rows of a set, put one after the other, make the set of the empty one.
 use Rattle.std.proofs.Common.{◌≡◌, cond, T, List, [], ◌∷◌, Option, Some, None, Result, Ok, Err, map, refl, sym, ap, ◌∙◌}
-use Rattle.std.specs.declared.cmp.Ordering.{Ordering}
-use Rattle.std.specs.declared.cmp.Ordering.TheVariants.{Equal}
-use Rattle.std.specs.Ordering.{is_eq, eq_by_cmp}
+use Rattle.std.specs.declared.cmp.Ordering.{Ordering, TheVariants.Equal}
+use Rattle.std.specs.{Ordering.is_eq, Ordering.eq_by_cmp, Prelude.OnOk}
 use Rattle.std.specs.FinMap.{get, insert, find, entries, empty, entries_sorted, get-entries, get-insert, get-empty, same_map}
 use Rattle.std.specs.FinMap.Entries.{below_all, is_sorted}
-use Rattle.std.specs.Prelude.{OnOk}
-use Rattle.signal_records.specs.declared.key.Key.{Key}
-use Rattle.signal_records.specs.declared.record.Row.{Row}
-use Rattle.signal_records.specs.declared.record.Change.{Change}
-use Rattle.signal_records.specs.declared.record.Change.TheVariants.{Put}
-use Rattle.signal_records.specs.Key.{key_cmp}
+use Rattle.signal_records.specs.declared.{key.Key.Key, record.Row.Row, record.Change.Change}
+use Rattle.signal_records.specs.{declared.record.Change.TheVariants.Put, Key.key_cmp, Row.key_of}
 use Rattle.signal_records.specs.KeyOrder.{key_total, key_exact}
-use Rattle.signal_records.specs.Row.{key_of}
 use Rattle.signal_records.specs.TimingSet.{Rows, AreKeyed, after_changes}
 use Rattle.signal_records.proofs.Sets.{not_found, parts}
 use Rattle.office_files.specs.Timing.{puts_of}

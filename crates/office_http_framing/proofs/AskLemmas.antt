@@ -1,8 +1,7 @@
 -- How the source is asked while a stream is served.
 use Rattle.std.proofs.Common.{◌≡◌, ℕ, suc, ◌<◌, List, [], ◌∷◌, ◌++◌, drop, refl, subst, sym}
 use Rattle.std.specs.Io.KnownBytes.{Consumes}
-use Rattle.office_http_framing.specs.Asks.{Asks, OnlyAsks}
-use Rattle.office_http_framing.specs.Ends.{Told, raised}
+use Rattle.office_http_framing.specs.{Asks.Asks, Asks.OnlyAsks, Ends.Told, Ends.raised}
 use Rattle.office_http_framing.specs.Front.{PlainRequest, BeginsWithRequest, IsIncomplete}
 use Rattle.office_http_framing.specs.Stream.{left_after, BeginsWith}
 use Rattle.office_http_framing.proofs.StreamLemmas.{BeginsWith-append, BeginsWith-next}

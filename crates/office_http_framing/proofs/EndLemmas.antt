@@ -1,8 +1,7 @@
 -- Counts that grow from call to call.
 use Rattle.std.proofs.Common.{◌≡◌, ℕ, ◌≤◌, cond, inl, inr, arith}
 use Rattle.std.specs.Prelude.{◌==◌}
-use Rattle.std.proofs.lemmas.Bool.{cases_lt}
-use Rattle.std.proofs.lemmas.Bool.Decides.{nat_tests}
+use Rattle.std.proofs.lemmas.Bool.{cases_lt, Decides.nat_tests}
 use Rattle.office_http_framing.specs.declared.ends.Counts.{Counts}
 use Rattle.office_http_framing.specs.Ends.{count_limit, raised, Rose, Grows}
 

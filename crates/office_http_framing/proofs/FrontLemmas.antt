@@ -1,15 +1,12 @@
 -- What the offsets that `httparse` answers make of the bytes at the front.
 use Rattle.std.proofs.Common.{◌≡◌, ℕ, ◌+◌, ◌-◌, ◌≤◌, min, Bool, true, false, cond, List, [], ◌∷◌, map, length, take, drop, refl, sym, ap, subst, ◌∙◌, arith}
 use Rattle.std.specs.Prelude.{Result, Ok, Err, slice_range, codes, nat_le}
-use Rattle.std.specs.List.{list_any}
-use Rattle.std.specs.Str.Parse.{digits_value}
+use Rattle.std.specs.{List.list_any, Str.Parse.digits_value}
 use Rattle.std.proofs.lemmas.List.{length-map, length-take, drop-take, take_min, take-take}
 use Rattle.std.proofs.lemmas.Bool.Decides.{nat_tests}
-use Rattle.httparse.specs.Grammar.{RequestHead, ReadsRequest}
+use Rattle.httparse.specs.{Grammar.RequestHead, Grammar.ReadsRequest, declared.spans.Span.Span}
 use Rattle.httparse.specs.Spans.{span_bytes, IsWithin, header_bytes, name_and_value, IsRequestAt}
-use Rattle.httparse.specs.declared.spans.Span.{Span}
-use Rattle.httparse.specs.declared.spans.HeaderSpan.{HeaderSpan}
-use Rattle.httparse.specs.declared.spans.RequestSpans.{RequestSpans}
+use Rattle.httparse.specs.declared.spans.{HeaderSpan.HeaderSpan, RequestSpans.RequestSpans}
 use Rattle.office_http_framing.specs.declared.front.Fault.{Fault}
 use Rattle.office_http_framing.specs.Fields.{Field, is_named, values_named, is_digits, length_of, length_among, body_length}
 use Rattle.office_http_framing.specs.Front.{window, fields_of, HasHead, IsFramed, HasFaultyFields, IsFaulty}

@@ -4,9 +4,8 @@ use Rattle.std.specs.Prelude.{Result, Ok, Err, slice_range}
 use Rattle.std.proofs.lemmas.List.{append-nil}
 use Rattle.httparse.specs.Grammar.{RequestHead, ReadsRequest}
 use Rattle.httparse.proofs.GrammarLemmas.{request_unique}
-use Rattle.office_http_framing.specs.declared.front.Fault.{Fault}
+use Rattle.office_http_framing.specs.{declared.front.Fault.Fault, Fields.body_length}
 use Rattle.office_http_framing.specs.declared.front.Fault.TheVariants as fault
-use Rattle.office_http_framing.specs.Fields.{body_length}
 use Rattle.office_http_framing.specs.Front.{PlainRequest, window, head_length, fields_of, request_of, HasHead, IsFramed, BeginsWithRequest, IsHopeless, IsUnfinished, IsIncomplete, HasFaultyFields, IsFaulty}
 use Rattle.office_http_framing.specs.Stream.{left_after, BeginsWith, Ending, closed, unfinished, faulty, EndsAt}
 use Rattle.office_http_framing.specs.Laws.{IsLeftOpen, HasOneFront, HasOneList}

@@ -1,18 +1,14 @@
 -- How far a stream has been served, and what each step adds.
 use Rattle.std.proofs.Common.{◌≡◌, inl, ℕ, ◌+◌, ◌<◌, List, [], ◌∷◌, ◌++◌, length, drop, refl, sym, ap, subst, ◌∙◌, arith, append_assoc}
 use Rattle.std.specs.Prelude.{Option, Some, None, Result, Ok, Err, MatchResult, true, false}
-use Rattle.std.specs.Result.{is_err}
-use Rattle.std.specs.List.{concat}
+use Rattle.std.specs.{Result.is_err, List.concat}
 use Rattle.std.specs.Io.KnownBytes.{Appends, Consumes, Keeps}
 use Rattle.std.proofs.KnownBytes.{Consumes-nil, Consumes-trans, Appends-nil, Appends-trans}
 use Rattle.std.proofs.lemmas.List.{append-nil, length-append}
-use Rattle.office_http_framing.specs.declared.engine.Served.{Served}
-use Rattle.office_http_framing.specs.declared.engine.ServeFault.{ServeFault}
+use Rattle.office_http_framing.specs.declared.engine.{Served.Served, ServeFault.ServeFault}
 use Rattle.office_http_framing.specs.declared.engine.ServeFault.TheVariants as stop
-use Rattle.office_http_framing.specs.Ends.{AppendsPart}
-use Rattle.office_http_framing.specs.Front.{PlainRequest, BeginsWithRequest}
-use Rattle.office_http_framing.specs.Protocol.{Protocol}
-use Rattle.office_http_framing.specs.Stream.{left_after, BeginsWith}
+use Rattle.office_http_framing.specs.{Ends.AppendsPart, Front.PlainRequest, Front.BeginsWithRequest}
+use Rattle.office_http_framing.specs.{Protocol.Protocol, Stream.left_after, Stream.BeginsWith}
 use Rattle.office_http_framing.specs.Serve.{BreaksOff, Did, Ends, EndsBy, Runs, Writes}
 use Rattle.office_http_framing.proofs.StreamLemmas.{BeginsWith-append, BeginsWith-next}
 

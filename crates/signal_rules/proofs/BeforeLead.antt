@@ -2,16 +2,11 @@
 use Rattle.std.proofs.Common.{◌≡◌, ℕ, ◌+◌, ◌*◌, Bool, true, false, not, [], ◌∷◌, ◌++◌, filter, map, Option, Some, None, refl, ap, ◌∙◌, arith}
 use Rattle.std.specs.List.{flat_map}
 use Rattle.std.specs.Prelude.{IfSome, ◌==◌, ◌&&◌, ◌||◌, nat_le}
-use Rattle.signal_records.specs.declared.record.Ped.{Ped}
-use Rattle.signal_records.specs.declared.record.Phase.{Phase}
-use Rattle.signal_records.specs.declared.record.Split.{Split}
-use Rattle.signal_records.specs.declared.record.SplitMode.{SplitMode}
+use Rattle.signal_records.specs.declared.record.{Ped.Ped, Phase.Phase, Split.Split}
+use Rattle.signal_records.specs.{declared.record.SplitMode.SplitMode, Need.need_of, TimingSet.Rows}
 use Rattle.signal_records.specs.declared.record.SplitMode.TheVariants.{PedestrianRecall, MaximumVehicleAndPedestrianRecall}
-use Rattle.signal_records.specs.Need.{need_of}
-use Rattle.signal_records.specs.TimingSet.{Rows}
-use Rattle.signal_rules.specs.declared.violation.Rule.{Rule}
+use Rattle.signal_rules.specs.declared.violation.{Rule.Rule, Subject.Subject}
 use Rattle.signal_rules.specs.declared.violation.Rule.TheVariants as rule
-use Rattle.signal_rules.specs.declared.violation.Subject.{Subject}
 use Rattle.signal_rules.specs.declared.violation.Subject.TheVariants as subject
 use Rattle.signal_rules.specs.Lookup.{phase_at, split_at}
 use Rattle.signal_rules.specs.PhaseRules.{where_walked, lead_is_right}

@@ -1,15 +1,11 @@
 -- Findings that are reported one after the other.
 use Rattle.std.proofs.Common.{◌≡◌, ℕ, Bool, true, false, List, [], ◌∷◌, ◌++◌, map, filter, Option, Some, None, refl, sym, ap, ◌∙◌, append_assoc}
-use Rattle.std.proofs.lemmas.List.{append-nil, map-append}
-use Rattle.std.proofs.lemmas.List.Elements.{filter-append}
+use Rattle.std.proofs.lemmas.List.{append-nil, map-append, Elements.filter-append}
 use Rattle.std.specs.Prelude.{not}
-use Rattle.signal_records.specs.declared.record.Pattern.{Pattern}
-use Rattle.signal_records.specs.declared.record.Ped.{Ped}
-use Rattle.signal_records.specs.declared.record.Phase.{Phase}
+use Rattle.signal_records.specs.declared.record.{Pattern.Pattern, Ped.Ped, Phase.Phase}
 use Rattle.signal_records.specs.TimingSet.{Rows}
 use Rattle.signal_rules.specs.declared.violation.Rule.TheVariants as rule
-use Rattle.signal_rules.specs.declared.violation.Subject.{Subject}
-use Rattle.signal_rules.specs.declared.violation.Violation.{Violation}
+use Rattle.signal_rules.specs.declared.violation.{Subject.Subject, Violation.Violation}
 use Rattle.signal_rules.specs.PatternRules.{used_rings, lanes_fill_cycle, lanes_agree}
 use Rattle.signal_rules.specs.Starts.{rings_fill, agree_at_starts}
 use Rattle.signal_rules.specs.PhaseRules.{yellow_is_right, red_is_right, walk_is_long, clears_crossing, clears_setback, lead_is_right, where_walked, mates_agree}

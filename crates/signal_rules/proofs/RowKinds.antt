@@ -1,23 +1,18 @@
 -- The rows of each kind: their numbers rise, a key is found where its number is among them, and they are the subjects.
 use Rattle.std.proofs.Common.{◌≡◌, ℕ, ◌+◌, ◌<◌, ◌≤◌, Bool, true, false, cond, eqb, leb, ◌&&◌, List, [], ◌∷◌, map, Option, Some, None, is_some, inl, inr, refl, ap, ◌∙◌, arith}
 use Rattle.std.proofs.lemmas.Bool.{and_parts, leb-true, eqb-true, eq-eqb}
-use Rattle.std.specs.Prelude.{◌||◌}
+use Rattle.std.specs.{Prelude.◌||◌, FinMap.find, Option.unwrap_or}
 use Rattle.std.specs.declared.cmp.Ordering.TheVariants.{Less, Equal}
-use Rattle.std.specs.FinMap.{find}
 use Rattle.std.specs.List.{list_any, list_all, filter_map, flat_map, cons_option}
-use Rattle.std.specs.Option.{unwrap_or}
 use Rattle.std.specs.Ordering.{nat_cmp, eq_by_cmp}
 use Rattle.signal_records.specs.declared.key.Key.TheVariants as key
 use Rattle.signal_records.specs.declared.number.TheConstants.{PHASES, RINGS}
-use Rattle.signal_records.specs.declared.record.Row.{Row}
+use Rattle.signal_records.specs.{declared.record.Row.Row, Key.key_cmp, Row.key_of}
 use Rattle.signal_records.specs.declared.record.Row.TheVariants as row
-use Rattle.signal_records.specs.Key.{key_cmp}
-use Rattle.signal_records.specs.Row.{key_of}
 use Rattle.signal_rules.specs.declared.violation.Subject.TheVariants as subject
 use Rattle.signal_rules.specs.Lookup.{the_phase, the_list, the_split, the_pattern, last_sequence, last_split, last_pattern, ring_numbers, is_in}
 use Rattle.signal_rules.specs.RowWalk.{keyed, of_kind, sequence_of, sequences_after, is_from_to, is_within}
-use Rattle.signal_rules.proofs.Among.{any_at, in_numbers}
-use Rattle.signal_rules.proofs.InOrder.{firsts, second_at}
+use Rattle.signal_rules.proofs.{Among.any_at, Among.in_numbers, InOrder.firsts, InOrder.second_at}
 use Rattle.signal_records.proofs.Sets.{numbers_tie}
 use Rattle.signal_rules.proofs.KeyOrder.{number_less, pair_less, pair_tied, tied_alone}
 use Rattle.signal_rules.proofs.RowNumbers.{within_bounds, found_or}

@@ -1,17 +1,12 @@
 -- The rows of a set in the order of their keys, and the numbers of the rows of a kind.
 use Rattle.std.proofs.Common.{◌≡◌, ℕ, ◌+◌, ◌<◌, ◌≤◌, Bool, true, false, cond, leb, T, List, [], ◌∷◌, Option, Some, None, is_some, refl, sym, ap, subst, ◌∙◌, arith}
 use Rattle.std.proofs.lemmas.Bool.{and_parts, leb-true}
-use Rattle.std.specs.Prelude.{◌||◌}
-use Rattle.std.specs.declared.cmp.Ordering.TheVariants.{Less}
+use Rattle.std.specs.{Prelude.◌||◌, declared.cmp.Ordering.TheVariants.Less, Ordering.is_lt}
 use Rattle.std.specs.FinMap.{find, get, entries, entries_sorted, values, get-entries}
 use Rattle.std.specs.FinMap.Entries.{below_all, is_sorted}
 use Rattle.std.specs.List.{AllByRecursion, list_all, filter_map, cons_option}
-use Rattle.std.specs.Ordering.{is_lt}
-use Rattle.signal_records.specs.declared.key.Key.{Key}
-use Rattle.signal_records.specs.declared.record.Row.{Row}
-use Rattle.signal_records.specs.Key.{key_cmp}
-use Rattle.signal_records.specs.Row.{key_of}
-use Rattle.signal_records.specs.TimingSet.{Rows, AreKeyed}
+use Rattle.signal_records.specs.{declared.key.Key.Key, declared.record.Row.Row, Key.key_cmp}
+use Rattle.signal_records.specs.{Row.key_of, TimingSet.Rows, TimingSet.AreKeyed}
 use Rattle.signal_rules.specs.RowWalk.{keyed, is_from_to, is_within}
 use Rattle.signal_rules.proofs.InOrder.{Rising}
 use Rattle.signal_records.proofs.Sets.{is_less, keyed_values, parts}

@@ -1,13 +1,10 @@
 -- A walk over the rows of a set, in the order of their keys, finds the subjects of the set.
 use Rattle.std.proofs.Common.{◌≡◌, ℕ, List, [], ◌++◌, map, filter, is_some, sym, ap, subst, ◌∙◌, append_assoc, arith}
 use Rattle.std.proofs.lemmas.Bool.{ne_eqb}
-use Rattle.std.specs.FinMap.{find}
-use Rattle.std.specs.List.{filter_map, flat_map}
+use Rattle.std.specs.{FinMap.find, List.filter_map, List.flat_map}
 use Rattle.signal_records.specs.declared.key.Key.TheVariants as key
-use Rattle.signal_records.specs.declared.number.TheConstants.{PHASES}
-use Rattle.signal_records.specs.declared.record.Row.{Row}
-use Rattle.signal_records.specs.Key.{key_cmp}
-use Rattle.signal_records.specs.TimingSet.{Rows}
+use Rattle.signal_records.specs.declared.{number.TheConstants.PHASES, record.Row.Row}
+use Rattle.signal_records.specs.{Key.key_cmp, TimingSet.Rows}
 use Rattle.signal_rules.specs.declared.violation.Subject.{Subject}
 use Rattle.signal_rules.specs.declared.violation.Subject.TheVariants as subject
 use Rattle.signal_rules.specs.Lookup.{the_phase, the_list, the_split, the_pattern, phase_at, sequence_at, split_at, pattern_at, last_sequence, last_split, last_pattern, phases, ring_numbers, sequence_numbers, split_numbers, pattern_numbers, has_sequence}

@@ -1,21 +1,17 @@
 -- The slots of rings answer as the rows that they were looked up from.
 use Rattle.std.proofs.Common.{◌≡◌, ℕ, zero, suc, ◌+◌, ◌-◌, ◌<◌, ◌≤◌, Bool, true, false, ltb, ◌&&◌, List, [], ◌∷◌, ◌++◌, map, filter, length, refl, sym, ap, ◌∙◌, arith}
 use Rattle.std.proofs.lemmas.Bool.{ltb-true, ltb-false, le-leb, lt-leb, lt-ltb, le-ltb}
-use Rattle.std.proofs.lemmas.List.{length-append, map-append}
-use Rattle.std.proofs.lemmas.List.Elements.{filter-append}
+use Rattle.std.proofs.lemmas.List.{length-append, map-append, Elements.filter-append}
 use Rattle.std.proofs.lemmas.List.Folds.{list_all-append, list_all-map}
-use Rattle.std.specs.Prelude.{cond}
-use Rattle.std.specs.List.{list_all}
-use Rattle.signal_records.specs.declared.record.Pattern.{Pattern}
-use Rattle.signal_records.specs.TimingSet.{Rows}
+use Rattle.std.specs.{Prelude.cond, List.list_all}
+use Rattle.signal_records.specs.{declared.record.Pattern.Pattern, TimingSet.Rows}
 use Rattle.signal_rules.specs.SequenceRule.{ring_row}
 use Rattle.signal_rules.specs.PatternRules.{used_rings, all_list_each_other}
 use Rattle.signal_rules.specs.CutPoints.{start_of, starts, phase_in, listed, phases_in}
 use Rattle.signal_rules.specs.Starts.{times, agree_at, agree_at_starts}
 use Rattle.signal_rules.specs.Counts.{RisesAtMost, entries_of, sequence_entries}
 use Rattle.signal_rules.specs.Slots.{Span, listing_at, spans_at, spans_from, spans_of, has_second, are_mates, all_are_mates, listings_in, agree_where_begun}
-use Rattle.signal_rules.proofs.Starts.{used_rises}
-use Rattle.signal_rules.proofs.Steps.{rises_within}
+use Rattle.signal_rules.proofs.{Starts.used_rises, Steps.rises_within}
 
 -- listings list each other as their phases do
 mates_of_phases : (set : Rows) (ps : List ℕ) → all_are_mates (map (listing_at set) ps) ≡ all_list_each_other set ps

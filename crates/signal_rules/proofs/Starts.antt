@@ -1,18 +1,14 @@
 -- The rings of a pattern, compared at their starts, answer as its lanes do.
 use Rattle.std.proofs.Common.{◌≡◌, ℕ, ◌+◌, ◌≤◌, Bool, true, false, eqb, List, [], ◌∷◌, map, filter, length, refl, sym, ap, ◌∙◌, arith}
 use Rattle.std.proofs.lemmas.List.Folds.{list_all-map}
-use Rattle.std.specs.Prelude.{cond}
-use Rattle.std.specs.List.{list_all}
-use Rattle.signal_records.specs.declared.record.Pattern.{Pattern}
-use Rattle.signal_records.specs.TimingSet.{Rows}
-use Rattle.signal_rules.specs.SequenceRule.{ring_row}
-use Rattle.signal_rules.specs.Lookup.{ring_numbers}
+use Rattle.std.specs.{Prelude.cond, List.list_all}
+use Rattle.signal_records.specs.{declared.record.Pattern.Pattern, TimingSet.Rows}
+use Rattle.signal_rules.specs.{SequenceRule.ring_row, Lookup.ring_numbers}
 use Rattle.signal_rules.specs.PatternRules.{lane, is_used, used_rings, lanes_fill_cycle, lanes_agree, agree_throughout, all_list_each_other}
 use Rattle.signal_rules.specs.CutPoints.{timed, starts}
 use Rattle.signal_rules.specs.Starts.{times, agree_at, agree_at_starts, rings_fill}
 use Rattle.signal_rules.specs.Counts.{RisesAtMost, entries_of, sequence_entries}
-use Rattle.signal_rules.proofs.CutPoints.{cut_points, phases_in_lanes}
-use Rattle.signal_rules.proofs.Steps.{rises_within}
+use Rattle.signal_rules.proofs.{CutPoints.cut_points, CutPoints.phases_in_lanes, Steps.rises_within}
 
 -- the lanes of the rings' rows
 pub lanes_of_rows : (set : Rows) (seq split : ℕ) (rings : List ℕ) → map (timed (times set split)) (map (ring_row set seq) rings) ≡ map (lane set seq split) rings

@@ -3,26 +3,19 @@ use Rattle.std.proofs.Common.{◌≡◌, ℕ, Bool, true, false, ◌&&◌, eqb, 
 use Rattle.std.proofs.lemmas.List.Folds.{list_any_at}
 use Rattle.std.proofs.lemmas.Bool.{or_left, or_right, and_from, true≢false}
 use Rattle.std.specs.Prelude.{Contains, count_by, if◌then◌else◌, replicate, length}
-use Rattle.std.specs.FinMap.{get}
-use Rattle.std.specs.List.{list_all, list_any, flat_map}
-use Rattle.signal_records.specs.declared.key.Key.{Key}
+use Rattle.std.specs.{FinMap.get, List.list_all, List.list_any, List.flat_map}
+use Rattle.signal_records.specs.declared.{key.Key.Key, record.Phase.Phase, record.Split.Split}
 use Rattle.signal_records.specs.declared.key.Key.TheVariants as key
-use Rattle.signal_records.specs.declared.record.Phase.{Phase}
-use Rattle.signal_records.specs.declared.record.Split.{Split}
-use Rattle.signal_records.specs.TimingSet.{Rows}
-use Rattle.signal_rules.specs.declared.violation.Subject.{Subject}
+use Rattle.signal_records.specs.{TimingSet.Rows, declared.record.Pattern.Pattern, Numbers.numbers}
+use Rattle.signal_rules.specs.{declared.violation.Subject.Subject, Difference.DiffersAtMost}
 use Rattle.signal_rules.specs.declared.violation.Subject.TheVariants as subject
 use Rattle.signal_rules.specs.declared.violation.Rule.TheVariants as rule
-use Rattle.signal_rules.specs.Difference.{DiffersAtMost}
 use Rattle.signal_rules.specs.Touched.{reaches, reaches_any, uses_sequence, uses_split}
 use Rattle.signal_rules.specs.Lookup.{phase_at, sequence_at, split_at, the_phase, the_list, the_split, the_pattern, pattern_at, the_mates, lists, is_in, has_sequence, ring_numbers, phase_numbers}
-use Rattle.signal_rules.specs.PhaseRules.{mates_agree, is_mate}
+use Rattle.signal_rules.specs.{PhaseRules.mates_agree, PhaseRules.is_mate, SplitRule.split_is_right}
 use Rattle.signal_rules.specs.SequenceRule.{rows_are_right, or_empty, in_ring}
-use Rattle.signal_rules.specs.SplitRule.{split_is_right}
-use Rattle.signal_rules.specs.PatternRules.{has_rows, offset_is_right, is_coordinated, has_coordinated, time_of, lane, lanes, all_list_each_other, phases_at, lanes_agree}
+use Rattle.signal_rules.specs.PatternRules.{has_rows, offset_is_right, is_coordinated, has_coordinated, time_of, lanes, all_list_each_other, phases_at, lanes_agree}
 use Rattle.signal_rules.specs.Violations.{Findings, broken, violations_at, for_phase, for_sequence, for_split, for_pattern, pattern_findings}
-use Rattle.signal_records.specs.declared.record.Pattern.{Pattern}
-use Rattle.signal_records.specs.Numbers.{numbers}
 
 -- a key among the keys reaches what it reaches
 pub reached_by : (R : Key → Bool) (k : Key) (keys : List Key) → Contains keys k → R k ≡ true → list_any R keys ≡ true

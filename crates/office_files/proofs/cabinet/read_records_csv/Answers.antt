@@ -1,5 +1,4 @@
-use Rattle.office_files.specs.RecordReading.{record_at}
-use Rattle.office_files.specs.RecordSpelling.{record_spelling}
+use Rattle.office_files.specs.{RecordReading.record_at, RecordSpelling.record_spelling}
 use Rattle.cabinet_core.specs.Within.{IsRecordWithin}
 use Rattle.office_files.proofs.RecordLaws.{record_laws}
 use Rattle.office_files.proofs.FileLaws.{given_found, given_within, given_only}

@@ -1,5 +1,4 @@
-use Rattle.signal_records.specs.Reading.{change_at}
-use Rattle.signal_records.specs.Spelling.{change_spelling}
+use Rattle.signal_records.specs.{Reading.change_at, Spelling.change_spelling}
 use Rattle.signal_records.specs.Within.{current_limits, IsChangeWithin}
 use Rattle.office_files.proofs.ChangesLemmas.{change_laws}
 use Rattle.office_files.proofs.FileLaws.{given_found, given_within, given_only}

@@ -4,8 +4,7 @@ use Rattle.csv.specs.Reading.{Reached, default_config, strip_bom, builder_trim, 
 use Rattle.csv.specs.Records.{fields_of}
 use Rattle.csv.specs.declared.parser.State.TheVariants as st
 use Rattle.csv.proofs.ReadFacts.{rows-end, rows-more}
-use Rattle.office_files.proofs.CsvLemmas.{records-all}
-use Rattle.office_files.proofs.ReadingLemmas.{stops_reader-flexible}
+use Rattle.office_files.proofs.{CsvLemmas.records-all, ReadingLemmas.stops_reader-flexible}
 use Rattle.office_files.proofs.records.read_records.Goals as goal
 
 pub loop-record-init : goal.loop-record-init

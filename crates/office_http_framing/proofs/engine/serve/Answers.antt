@@ -1,6 +1,5 @@
 use Rattle.std.proofs.Common.{◌≡◌, ℕ, List, [], ◌∷◌, ◌+◌, ◌-◌, ◌<◌, ◌≤◌, length, drop, refl, sym, ap, subst, ◌∙◌, inr, arith}
-use Rattle.std.proofs.KnownBytes.{Consumes-nil}
-use Rattle.std.proofs.lemmas.Bool.Decides.{nat_tests}
+use Rattle.std.proofs.{KnownBytes.Consumes-nil, lemmas.Bool.Decides.nat_tests}
 use Rattle.std.proofs.lemmas.List.{length-drop, length-append}
 use Rattle.office_http_framing.specs.Front.{plain, BeginsWithRequest, IsIncomplete, IsFaulty}
 use Rattle.office_http_framing.specs.Stream.{closed, unfinished, faulty}

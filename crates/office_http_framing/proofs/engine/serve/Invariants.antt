@@ -1,8 +1,6 @@
 use Rattle.std.proofs.Common.{◌+◌, ◌-◌, ◌*◌, ◌≤◌, length}
-use Rattle.office_http_framing.specs.Ends.{Grows}
-use Rattle.office_http_framing.proofs.ServeLemmas.{Progress}
-use Rattle.office_http_framing.specs.Stops.{Keeps, Ran}
-use Rattle.office_http_framing.proofs.AskLemmas.{AsksSoFar}
+use Rattle.office_http_framing.specs.{Ends.Grows, Stops.Keeps, Stops.Ran}
+use Rattle.office_http_framing.proofs.{ServeLemmas.Progress, AskLemmas.AsksSoFar}
 use Rattle.office_http_framing.proofs.engine.serve.Given as goal
 
 abbrev pub invariant-loop-left : goal.invariant-loop-left

@@ -1,6 +1,5 @@
 use Rattle.std.proofs.Common.{◌≡◌, map, drop}
-use Rattle.std.specs.Prelude.{codes}
-use Rattle.std.specs.List.{list_any}
+use Rattle.std.specs.{Prelude.codes, List.list_any}
 use Rattle.httparse.specs.Spans.{header_bytes}
 use Rattle.office_http_framing.specs.Fields.{is_named}
 use Rattle.office_http_framing.proofs.fields.has_transfer_encoding.Given as goal

@@ -1,7 +1,5 @@
 use Rattle.std.proofs.Common.{◌≡◌, ◌+◌, min, true, take}
-use Rattle.std.specs.List.{list_all}
-use Rattle.std.specs.Char.{is_ascii_digit}
-use Rattle.std.specs.Str.Parse.{digits_value}
+use Rattle.std.specs.{List.list_all, Char.is_ascii_digit, Str.Parse.digits_value}
 use Rattle.office_http_framing.specs.declared.fields.TheConstants.{LARGEST_BODY}
 use Rattle.office_http_framing.proofs.fields.length_of.Given as goal
 

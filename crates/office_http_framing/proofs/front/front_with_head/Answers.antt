@@ -1,8 +1,7 @@
 use Rattle.std.proofs.Common.{◌≡◌, ◌≢◌, ℕ, ◌+◌, Bool, ◌||◌, sym, ap, ◌∙◌, inr, arith}
 use Rattle.std.specs.Prelude.{Ok, Err, ◌==◌, slice_range}
 use Rattle.std.proofs.lemmas.Bool.Decides.{nat_tests}
-use Rattle.office_http_framing.specs.Front.{is_last, path_of}
-use Rattle.office_http_framing.specs.Fields.{closes}
+use Rattle.office_http_framing.specs.{Front.is_last, Front.path_of, Fields.closes}
 use Rattle.office_http_framing.proofs.FrontLemmas.{part_of_window, faulty_fields, framed_head, body_length-bound}
 use Rattle.office_http_framing.proofs.front.front_with_head.Goals as goal
 use Rattle.office_http_framing.proofs.front.front_with_head.Goals.{then-head-eq0, else-head-eq0}

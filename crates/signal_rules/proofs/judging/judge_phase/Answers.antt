@@ -1,6 +1,5 @@
-use Rattle.std.proofs.Common.{ap, ◌∙◌}
+use Rattle.std.proofs.{Common.ap, Common.◌∙◌, lemmas.Result.on_ok_weaker}
 use Rattle.std.specs.Global.{Vec}
-use Rattle.std.proofs.lemmas.Result.{on_ok_weaker}
 use Rattle.signal_rules.specs.declared.violation.Subject.TheVariants as subject
 use Rattle.signal_rules.specs.declared.violation.Violation.{Violation}
 use Rattle.signal_rules.proofs.Reports.{IsCrossed, crossed, uncrossed, phase_reported}

@@ -1,6 +1,5 @@
 use Rattle.std.proofs.Common.{◌≡◌, ◌+◌, ◌≤◌, drop}
-use Rattle.signal_rules.specs.Slots.{agree_where_begun}
-use Rattle.signal_rules.specs.Counts.{greatest}
+use Rattle.signal_rules.specs.{Slots.agree_where_begun, Counts.greatest}
 use Rattle.signal_rules.proofs.lanes.rings_agree.Given as goal
 
 abbrev pub invariant-loop-slot : goal.invariant-loop-slot

@@ -1,6 +1,5 @@
 use Rattle.std.proofs.Common.{◌≡◌, ◌++◌, drop}
-use Rattle.signal_rules.specs.Starts.{rings_fill}
-use Rattle.signal_rules.specs.Slots.{spans_of}
+use Rattle.signal_rules.specs.{Starts.rings_fill, Slots.spans_of}
 use Rattle.signal_rules.proofs.lanes.rings_fill.Given as goal
 
 abbrev pub invariant-loop-ring : goal.invariant-loop-ring

@@ -1,7 +1,5 @@
 use Rattle.std.proofs.Common.{◌≡◌, ◌+◌, ◌≤◌, ◌++◌, length, drop}
-use Rattle.signal_rules.specs.CutPoints.{timed}
-use Rattle.signal_rules.specs.Starts.{times}
-use Rattle.signal_rules.specs.Slots.{spans_from}
+use Rattle.signal_rules.specs.{CutPoints.timed, Starts.times, Slots.spans_from}
 use Rattle.signal_rules.proofs.lanes.row_fills.Given as goal
 
 abbrev pub invariant-loop-p : goal.invariant-loop-p

@@ -1,8 +1,6 @@
-use Rattle.std.proofs.Common.{sym, ap, ◌∙◌}
-use Rattle.std.proofs.lemmas.List.{drop_all}
+use Rattle.std.proofs.{Common.sym, Common.ap, Common.◌∙◌, lemmas.List.drop_all}
 use Rattle.std.specs.List.{list_all}
-use Rattle.signal_rules.specs.Lookup.{phase_at}
-use Rattle.signal_rules.specs.OnePass.{stands_in_ring}
+use Rattle.signal_rules.specs.{Lookup.phase_at, OnePass.stands_in_ring}
 use Rattle.signal_rules.proofs.OnePass.{all_stand}
 use Rattle.signal_rules.proofs.sequence.each_stands_once.Goals as goal
 

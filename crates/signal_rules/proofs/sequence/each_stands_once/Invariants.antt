@@ -1,7 +1,6 @@
 use Rattle.std.proofs.Common.{◌≡◌, drop}
 use Rattle.std.specs.List.{list_all}
-use Rattle.signal_rules.specs.Lookup.{phase_at}
-use Rattle.signal_rules.specs.OnePass.{stands_in_ring}
+use Rattle.signal_rules.specs.{Lookup.phase_at, OnePass.stands_in_ring}
 use Rattle.signal_rules.proofs.sequence.each_stands_once.Given as goal
 
 abbrev pub invariant-loop-p : goal.invariant-loop-p
