@@ -16,8 +16,8 @@ use Rattle.office_desk.proofs.Writes.{no_rise}
 use Rattle.office_http_responses.specs.Answers.{answer_bytes}
 use Rattle.office_http_responses.specs.Faults.{ask_fault_text}
 use Rattle.office_http_requests.specs.declared.asked.Asked.{Asked}
-use Rattle.office_http_requests.specs.declared.fault.AskFault.{AskFault}
-use Rattle.office_http_requests.specs.declared.fault.AskFault.TheVariants.{NoMemory}
+use Rattle.office_http_faults.specs.declared.fault.AskFault.{AskFault}
+use Rattle.office_http_faults.specs.declared.fault.AskFault.TheVariants.{NoMemory}
 use Rattle.office_http_framing.specs.Front.{PlainRequest}
 use Rattle.office_http_framing.specs.Protocol.{bytes_of}
 use Rattle.office_http_framing.specs.Stops.{DealsBy, IsAfterStep}

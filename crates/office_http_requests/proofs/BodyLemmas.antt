@@ -12,8 +12,8 @@ use Rattle.serde_json.specs.View.{view}
 use Rattle.serde_json.specs.declared.error.Error.{Error}
 use Rattle.serde_json.specs.declared.value.Value.{Value}
 use Rattle.serde_json.specs.Find.{as_object}
-use Rattle.office_http_requests.specs.declared.fault.AskFault.{AskFault}
-use Rattle.office_http_requests.specs.declared.fault.AskFault.TheVariants.{Json}
+use Rattle.office_http_faults.specs.declared.fault.AskFault.{AskFault}
+use Rattle.office_http_faults.specs.declared.fault.AskFault.TheVariants.{Json}
 use Rattle.office_http_requests.specs.Asks.{or_fault, Gives, WantsMemoryOnlyIf}
 use Rattle.office_http_requests.specs.Bodies.{object_in, body_of, data_of, opens_object, IsTold, MayBeObject}
 use Rattle.office_http_requests.proofs.OpeningLemmas.{read-no_object}

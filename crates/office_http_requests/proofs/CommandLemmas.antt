@@ -10,8 +10,8 @@ use Rattle.office_http_requests.specs.Paths.{id_at, order_at}
 use Rattle.office_http_requests.specs.Recording.{received_in, recorded_at}
 use Rattle.office_http_requests.specs.Routes.{endpoint_of, method_of}
 use Rattle.office_http_requests.specs.declared.asked.Asked.{Asked}
-use Rattle.office_http_requests.specs.declared.fault.AskFault.{AskFault}
-use Rattle.office_http_requests.specs.declared.fault.AskFault.TheVariants.{NoMemory}
+use Rattle.office_http_faults.specs.declared.fault.AskFault.{AskFault}
+use Rattle.office_http_faults.specs.declared.fault.AskFault.TheVariants.{NoMemory}
 use Rattle.office_http_requests.specs.declared.kind.RecordKind.{RecordKind}
 use Rattle.office_http_requests.specs.declared.kind.RecordKind.TheVariants.{UsePart, CloseOrder, Receive}
 use Rattle.office_http_requests.specs.declared.route.Endpoint.{Endpoint}

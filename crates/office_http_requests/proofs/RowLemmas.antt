@@ -12,14 +12,14 @@ use Rattle.signal_records.specs.Within.{current_limits}
 use Rattle.signal_records.specs.declared.fault.RowFault.{RowFault}
 use Rattle.signal_records.specs.declared.fault.RowFault.TheVariants as row
 use Rattle.signal_records.specs.declared.record.Change.{Change}
-use Rattle.office_http_requests.specs.declared.fault.AskFault.{AskFault}
-use Rattle.office_http_requests.specs.declared.fault.AskFault.TheVariants.{BadRow, NoMemory}
-use Rattle.office_http_requests.specs.declared.field.Field.TheVariants.{Rows as FieldRows}
+use Rattle.office_http_faults.specs.declared.fault.AskFault.{AskFault}
+use Rattle.office_http_faults.specs.declared.fault.AskFault.TheVariants.{BadRow, NoMemory}
+use Rattle.office_http_faults.specs.declared.field.Field.TheVariants.{Rows as FieldRows}
 use Rattle.office_files.specs.CsvFault.{bad_row as bad_record}
 use Rattle.office_files.specs.CsvRow.{rows_of}
 use Rattle.office_files.specs.declared.fault.CsvFault.{CsvFault}
 use Rattle.office_files.specs.declared.fault.CsvFault.TheVariants as file
-use Rattle.office_http_requests.specs.Fields.{field_name}
+use Rattle.office_http_faults.specs.Fields.{field_name}
 use Rattle.office_http_requests.specs.Asks.{◌>>=◌, or_bad_row, or_field, MayWant, WantsMemoryOnlyIf}
 use Rattle.office_http_requests.specs.Rows.{list_of, list_in, each, texts_in, rows_in}
 use Rattle.office_http_requests.specs.Rows.{changes_of, changes_in, IsRowFault}

@@ -2,7 +2,6 @@ pub mod Asks
 pub mod Bodies
 pub mod Commands
 pub mod CsvBodies
-pub mod Fields
 pub mod Paths
 pub mod Recording
 pub mod Routes

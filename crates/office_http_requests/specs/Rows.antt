@@ -11,11 +11,12 @@ use Rattle.signal_records.specs.declared.fault.RowFault.{RowFault}
 use Rattle.signal_records.specs.declared.record.Change.{Change}
 use Rattle.office_files.specs.CsvFault.{fault_at}
 use Rattle.office_files.specs.CsvRow.{rows_of}
-use Rattle.office_http_requests.specs.declared.fault.AskFault.{AskFault}
-use Rattle.office_http_requests.specs.declared.fault.AskFault.TheVariants.{NoMemory}
-use Rattle.office_http_requests.specs.declared.field.Field.TheVariants.{Rows}
-use Rattle.office_http_requests.specs.Asks.{◌>>=◌, ask_fault, or_bad_row, or_field}
-use Rattle.office_http_requests.specs.Fields.{field_name}
+use Rattle.office_http_faults.specs.declared.fault.AskFault.{AskFault}
+use Rattle.office_http_faults.specs.declared.fault.AskFault.TheVariants.{NoMemory}
+use Rattle.office_http_faults.specs.declared.field.Field.TheVariants.{Rows}
+use Rattle.office_http_faults.specs.AskFault.{ask_fault}
+use Rattle.office_http_requests.specs.Asks.{◌>>=◌, or_bad_row, or_field}
+use Rattle.office_http_faults.specs.Fields.{field_name}
 
 -- the items of an array, as a list
 abbrev pub list_of : Items → List Data

@@ -6,10 +6,9 @@ ghost use Rattle.office_http_requests.specs.CsvBodies.{csv_in, csv_changes_in, c
 ghost use Rattle.office_http_requests.specs.CsvBodies.{GivesList};
 
 use crate::body;
-use crate::fault::AskFault;
-use crate::field::Field;
 use cabinet_core::RecordCommand;
 use office_files::{read_records_csv, read_timing_csv};
+use office_http_faults::{AskFault, Field};
 use serde_json::Value;
 use signal_records::Change;
 use std::alloc::Global;

@@ -17,7 +17,7 @@ use Rattle.signal_records.specs.TimingSet as set
 use Rattle.signal_records.specs.declared.key.Key.{Key}
 use Rattle.signal_records.specs.declared.record.Row.{Row}
 use Rattle.signal_records.specs.declared.record.Change.{Change}
-use Rattle.signal_records.specs.declared.record.Change.TheVariants.{Put, Remove}
+use Rattle.signal_records.specs.declared.record.Change.TheVariants.{Put}
 use Rattle.draft_state.specs.ChangedRows.{changed_key}
 use Rattle.office_tables_shelf.specs.Cells.{Cell, Rows, number, cells_cmp}
 use Rattle.office_tables_shelf.specs.Content.{Content}

@@ -1,0 +1,2 @@
+pub mod AskFault
+pub mod Fields
