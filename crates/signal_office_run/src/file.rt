@@ -7,7 +7,7 @@ ghost use Rattle.sqlite.specs.Held.{state};
 ghost use Rattle.sqlite.specs.State.{HasCleanDisk};
 ghost use Rattle.sqlite.specs.WalFiles.{image_at};
 ghost use Rattle.sqlite.specs.WalReads.{AreClean};
-ghost use Rattle.office_tables_open.specs.Opening.{IsOpened, IsRefused};
+ghost use Rattle.office_tables_open.specs.Opening.{IsOpened};
 ghost use Rattle.office_tables_open.specs.Promises.{IsArrangedIfClean};
 ghost use Rattle.office_machine.specs.Office.{Office as OfficeState};
 ghost use Rattle.office_http_framing.specs.Asks.{OnlyAsks};
@@ -20,7 +20,7 @@ ghost use Rattle.signal_office_run.specs.File.{IsTurnedAway, IsTurnedAwayFrom};
 use crate::fault::{fault_of_database, fault_of_opening};
 use office_desk::office::Office;
 use office_http::{ServeFault, Served, Sink, Source};
-use office_tables::open::{Left, OpenFault};
+use office_tables::open::Left;
 use office_tables::sql_shelf::SqlShelf;
 use signal_office_commands::Fault;
 use signal_office_jobs::serve_by;
@@ -34,24 +34,9 @@ pub(crate) type FileLeft<S> = Left<FileStore<FileFrom<S>>>;
 /// An office over tables in files, of which `S` says what they held.
 pub type FileOffice<S> = Office<SqlShelf<FileStore<FileFrom<S>>>>;
 
-/// The office over the tables of a database whose rows are known to be in order. They are made
-/// where there are none. Where they are refused, what is left comes back with the fault.
-fn open_tables<S: Alter + Drop>(
-    alloc: Global,
-    conn: Connection<S>,
-) -> Result<Office<SqlShelf<S>>, (OpenFault, Left<S>)>
-    requires { IsArrangedIfClean (state S.Store conn) }
-    ensures opened { IfOk result (λ office. IsOpened S.Store conn office) }
-    ensures refused { IfErr result (λ e. IsRefused S.Store conn e.0 e.1) }
-{
-    match SqlShelf::open_arranged(alloc, conn) {
-        Ok(shelf) => Ok(Office::new(shelf)),
-        Err(refused) => Err(refused),
-    }
-}
-
-/// As `open_tables`, over a database that was just opened, with what is told of the trees that it
-/// found.
+/// The office over the tables of a database that was just opened, whose rows are known to be in
+/// order. They are made where there are none. Where they are refused, what is left comes back with
+/// the fault, which tells of the trees that the database found.
 fn office_over<S: Alter + Drop>(
     alloc: Global,
     conn: Connection<S>,
@@ -61,8 +46,8 @@ fn office_over<S: Alter + Drop>(
     ensures refused { IfErr result (λ e. IfSome e.1 (IsTurnedAway S.Store conn e.0)) }
     ensures back { IfErr result (λ e. e.1 ≢ None) }
 {
-    match open_tables(alloc, conn) {
-        Ok(office) => Ok(office),
+    match SqlShelf::open_arranged(alloc, conn) {
+        Ok(shelf) => Ok(Office::new(shelf)),
         Err((fault, left)) => Err((fault_of_opening(fault), Some(left))),
     }
 }
