@@ -1,52 +1,40 @@
-use Rattle.std.proofs.Common.{◌≡◌, ap, sym, subst, ◌∙◌}
+use Rattle.std.proofs.Common.{◌≡◌, ap, sym, subst, ◌∙◌, rules}
 use Rattle.std.specs.FinMap.{get}
 use Rattle.signal_rules.specs.Violations.{violations_of}
 use Rattle.draft_state.specs.declared.state.Holding.TheVariants.{Dropped}
 use Rattle.draft_state.specs.declared.state.Verdict.TheVariants.{NotDone}
 use Rattle.draft_core.specs.declared.timing.Move.{Move}
 use Rattle.draft_core.specs.DraftRows.{row_at}
-use Rattle.draft_core.specs.Moves.{drafted_in, move_to}
-use Rattle.draft_core.specs.{News.AreNewAt, Writes.next_revision, Writes.settling}
+use Rattle.draft_core.specs.{Moves.move_to, News.AreNewAt, Writes.next_revision, Writes.settling}
 use Rattle.draft_core.proofs.Lines.{commit_follows, commit_refuses, refusal_follows}
 use Rattle.draft_core.proofs.{Makes.commit_makes, News.settling_new, Overlaid.draft_violations}
 use Rattle.draft_core.proofs.Written.{drafted_in-settling, settling_writes}
 use Rattle.draft_core.proofs.decide.settled.Goals as goal
 
-pub returns-clause-line : goal.returns-clause-line
-returns-clause-line c = λ rows side draft clerk stands held sound.
-    commit_follows rows side draft clerk _ c.in_ok-revision.revision (violations_of draft.set)
-    (c.in_ok-revision.ensures
-    ∙ ap (next_revision c.args.timing.now.revision) (c.as_slice-2.ensures.value
-    ∙ draft_violations stands draft held _ _ sound c.as_slice.ensures.list
-    c.in_ok-found.ensures)
-    ∙ ap (λ n. next_revision n (violations_of draft.set)) stands.same_revision)
-    (commit_makes stands stands.read.0 draft clerk _ _ held (c.moves_to.ensures
-    ∙ ap (move_to c.in_ok-revision.revision Dropped NotDone)
-    (c.in_ok-changes.ensures
-    ∙ ap (settling c.args.timing.now.committed) c.as_slice-3.ensures.list)))
-
-pub returns-clause-drafts : goal.returns-clause-drafts
-returns-clause-drafts c = ap (λ (m : Move). drafted_in m.changes) c.moves_to.ensures
-    ∙ ap drafted_in c.in_ok-changes.ensures
-    ∙ drafted_in-settling c.args.timing.now.committed c.as_slice-3.result.now
-
-pub returns-clause-bounds : goal.returns-clause-bounds
-returns-clause-bounds c =
+pub returns : goal.returns
+returns c =
     let timing = c.args.timing.now in
+    let listed = c.in_ok-changes.ensures ∙ ap (settling timing.committed) c.as_slice-3.ensures.list in
     let made : c.moves_to.result.changes ≡ settling timing.committed timing.delta =
-    ap (λ (m : Move). m.changes) c.moves_to.ensures ∙ c.in_ok-changes.ensures
-    ∙ ap (settling timing.committed) c.as_slice-3.ensures.list in
-    rw made (settling_writes timing.committed timing.delta)
-
-pub returns-clause-news : goal.returns-clause-news
-returns-clause-news c = λ order key.
-    let timing = c.args.timing.now in
-    let made : c.moves_to.result.changes ≡ settling timing.committed timing.delta =
-    ap (λ (m : Move). m.changes) c.moves_to.ensures ∙ c.in_ok-changes.ensures
-    ∙ ap (settling timing.committed) c.as_slice-3.ensures.list in
-    let said = row_at timing.delta key in
-    subst (λ list. AreNewAt list key (get timing.committed key) said) (sym made)
-    (settling_new timing.committed timing.delta order key said)
+    ap (λ (m : Move). m.changes) c.moves_to.ensures ∙ listed in
+    record {
+      line = λ rows side draft clerk stands held sound.
+          commit_follows rows side draft clerk _ c.in_ok-revision.revision (violations_of draft.set)
+          (c.in_ok-revision.ensures
+          ∙ ap (next_revision timing.revision) (c.as_slice-2.ensures.value
+          ∙ draft_violations stands draft held _ _ sound c.as_slice.ensures.list
+          c.in_ok-found.ensures)
+          ∙ ap (λ n. next_revision n (violations_of draft.set)) stands.same_revision)
+          (commit_makes stands stands.read.0 draft clerk _ _ held (c.moves_to.ensures
+          ∙ ap (move_to c.in_ok-revision.revision Dropped NotDone) listed));
+      refuses = search rules;
+      news = λ order key.
+          let said = row_at timing.delta key in
+          subst (λ list. AreNewAt list key (get timing.committed key) said) (sym made)
+          (settling_new timing.committed timing.delta order key said);
+      drafts = rw made (drafted_in-settling timing.committed timing.delta);
+      bounds = rw made (settling_writes timing.committed timing.delta);
+    }
 
 pub returns-in_err-revision-clause-line : goal.returns-in_err-revision-clause-line
 returns-in_err-revision-clause-line c = λ rows side draft clerk stands held sound.
