@@ -13,8 +13,9 @@ mod writes;
 
 pub use changes::Changes;
 pub use decide::{abandon, begin, check, commit, edit, reopen, verify};
-pub use draft_state::{DbState, Holder, Holding, LAST_REVISION, Revision, Stage, Verdict};
-pub use draft_state::{revision, state};
+pub use draft_state::{
+    DbState, Holder, Holding, LAST_REVISION, Revision, Stage, Verdict, revision, state,
+};
 pub use holding::next_holder;
 pub use judging::verdict;
 pub use overlaying::{changed_key, copy_change, overlay};
