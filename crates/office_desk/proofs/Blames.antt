@@ -7,12 +7,11 @@ use Rattle.office_tables_shelf.specs.declared.{shelf.ShelfFault.ShelfFault, shel
 use Rattle.office_desk_cabinet.specs.Registers.{IsOneOf}
 use Rattle.office_desk.specs.Blaming.{AreTaken, BlamesRightly, IsFirstRefused, IsTakenAfter}
 use Rattle.office_desk.specs.{Damage.MeetsCabinetDamage, Damage.MeetsImportDamage, Decisions.refusal_of, Importing.IsNamedTaken, Importing.TakesLine}
-use Rattle.office_desk.specs.Named.{number_of, numbers_of}
+use Rattle.office_desk.specs.{Named.number_of, Named.numbers_of, declared.importing.Taken.Taken}
 use Rattle.office_machine.specs.{Refusal.line_of, Step.cabinet_of}
 use Rattle.office_machine.specs.declared.{command.Command.Command, refusal.Refusal.Refusal, refusal.Refusal.TheVariants.ImportRow, reply.Reply.Reply}
 use Rattle.office_machine.specs.declared.reply.Reply.TheVariants.{Refused}
 use Rattle.office_machine.specs.declared.command.Command.TheVariants as command
-use Rattle.office_desk.specs.declared.importing.Taken.{Taken}
 use Rattle.office_desk.specs.declared.importing.Taken.TheVariants as taken
 use Rattle.office_machine.specs.declared.refusal.Refusal.TheVariants as refusal
 

@@ -4,8 +4,7 @@ use Rattle.std.proofs.lemmas.List.Elements.{All-contains, All-nil}
 use Rattle.std.proofs.lemmas.Map.Lookups.{CmpEqualImpliesEq, exact_unsigned}
 use Rattle.std.proofs.lemmas.Map.Views.{All-insert_key, Contains-from_any, tells_apart}
 use Rattle.std.specs.{BTreeSet.BTreeSet, BTreeSet.insert_key, List.All, List.Contains, List.list_any, Ordering.eq_by_cmp}
-use Rattle.office_tables_shelf.specs.Content.{Content}
-use Rattle.office_tables_shelf.specs.declared.shelf.ShelfFault.{ShelfFault}
+use Rattle.office_tables_shelf.specs.{Content.Content, declared.shelf.ShelfFault.ShelfFault}
 use Rattle.office_tables_shelf.proofs.TreeLemmas.{ranged_cmp, then_last}
 use Rattle.office_desk.specs.Recording.{AreFound, IsAmong, IsFound}
 

@@ -1,4 +1,4 @@
-use Rattle.std.proofs.Common.{◌∙◌, Bool, Ok, ap, refl}
+use Rattle.std.proofs.Common.{◌∙◌, Bool, Ok, ap, refl, rules}
 use Rattle.office_tables_shelf.specs.Shelf.{IsTold}
 use Rattle.office_desk_cabinet.proofs.Opened.{handed_told, unread_stays}
 use Rattle.office_desk.proofs.FoundAgain.{among_found}
@@ -37,29 +37,24 @@ returns-in_err-is_known-clause-open g c =
 
 -- ---- it is not there
 
-pub returns-then-not-branch-clause-found : goal.returns-then-not-branch-clause-found
-returns-then-not-branch-clause-found g c = λ honest.
-    c.requires (c.is_known.ensures.kept.honest_before honest)
-
-pub returns-then-not-branch-clause-known : goal.returns-then-not-branch-clause-known
-returns-then-not-branch-clause-known g c = λ honest.
-    rw c.if-not-branch.true at (c.in_ok-is_known.ensures.known honest)
-
-pub returns-then-not-branch-clause-tells : goal.returns-then-not-branch-clause-tells
-returns-then-not-branch-clause-tells g c = λ honest.
-    rw c.if-not-branch.true at (c.in_ok-is_known.ensures.tells honest)
-
-pub returns-then-not-branch-clause-asked : goal.returns-then-not-branch-clause-asked
-returns-then-not-branch-clause-asked g c = λ is.
-    c.is_known.ensures.asked (c.in_ok-is_known.was ∙ ap (λ (b : Bool). Ok b) c.if-not-branch.true)
-
-pub returns-then-not-branch-clause-open : goal.returns-then-not-branch-clause-open
-returns-then-not-branch-clause-open g c =
+pub returns-then-not-branch : goal.returns-then-not-branch
+returns-then-not-branch g c =
+    let it = c.in_ok-is_known.ensures in
     let asked = c.is_known.ensures.asked (c.in_ok-is_known.was ∙ ap (λ (b : Bool). Ok b) c.if-not-branch.true) in
     record {
-      clean_before = c.in_ok-is_known.ensures.open.clean_before;
-      stays = λ clean told honest. c.in_ok-is_known.ensures.open.read asked clean tt;
-      read = λ reading clean told. c.in_ok-is_known.ensures.open.read asked clean tt;
+      found = λ honest. c.requires (c.is_known.ensures.kept.honest_before honest);
+      known = λ honest. rw c.if-not-branch.true at (it.known honest);
+      tells = λ honest. rw c.if-not-branch.true at (it.tells honest);
+      asked = λ is. asked;
+      fault = search rules;
+      whole = search rules;
+      damaged = search rules;
+      kept = search rules;
+      «open» = record {
+        clean_before = it.open.clean_before;
+        stays = λ clean told honest. it.open.read asked clean tt;
+        read = λ reading clean told. it.open.read asked clean tt;
+      };
     }
 
 -- ---- it is there

@@ -1,13 +1,12 @@
-use Rattle.std.proofs.Common.{◌≡◌, ◌+◌, ◌≤◌, ◌∙◌, List, [], length, inl, inr, ap, sym, refl, subst, arith}
+use Rattle.std.proofs.Common.{◌≡◌, ◌+◌, ◌≤◌, ◌∙◌, List, length, inl, inr, ap, sym, refl, subst, arith, rules}
 use Rattle.cabinet_core.specs.declared.command.RecordCommand.{RecordCommand}
 use Rattle.office_tables_shelf.specs.Shelf.{IsTold}
 use Rattle.office_desk_cabinet.proofs.Opened.{handed_told}
 use Rattle.office_desk.specs.{Damage.MeetsCabinetDamage, Recording.AreFound, Importing.IsNamedTaken, Importing.LeavesAnyTiming}
-use Rattle.office_machine.specs.Step.{cabinet_of}
+use Rattle.office_machine.specs.{Step.cabinet_of, declared.reply.Reply.TheVariants.Imported}
 use Rattle.office_desk.proofs.Imports.{SoFar, counted_on, damage_of_record, first_refused, import_decides, is_next, none_next, nothing_leaves, nothing_written, nothing_yet, one_more, refused_all, refused_decides, some_read, taken_open, takes_so, writes_left, writes_whole}
 use Rattle.office_desk.proofs.{FoundAgain.none_found, Decisions.fault_decides, Blames.WentOn, Blames.blames_next, Blames.taken_blames}
 use Rattle.office_desk.proofs.importing.decide_import.Goals.{in-Added, in-Same}
-use Rattle.office_machine.specs.declared.reply.Reply.TheVariants.{Imported}
 use Rattle.office_tables_shelf.proofs.KeptLemmas.{kept_on}
 use Rattle.office_desk.proofs.importing.decide_import.Goals as goal
 
@@ -33,53 +32,11 @@ take_record-requires g c = λ honest.
     let kept = c.loop-index.invariant.kept in
     subst (λ tables. AreFound tables c.loop-index.found) (sym (kept.same_content honest)) (c.loop-index.invariant.found honest)
 
-pub returns-in_err-taken-clause-decides : goal.returns-in_err-taken-clause-decides
-returns-in_err-taken-clause-decides g c =
-    let item = c.command-item.result in
-    let next = is_next c.loop-index.index item c.as_slice-command-items.ensures c.loop-index-test.true c.command-item.is in
-    fault_decides _ _ _ _ _ _ c.in_err-taken.was c.from_residual.ensures.1
-    (λ damaged honest. damage_of_record _ c.args.records.now c.loop-index.index item next
-    (subst (λ tables. MeetsCabinetDamage tables item (cabinet_of item)) (c.loop-index.invariant.kept.same_content (c.take_record.ensures.kept.honest_before honest))
-    (c.take_record.ensures.damaged damaged honest)))
-
-pub returns-in_err-taken-clause-kept : goal.returns-in_err-taken-clause-kept
-returns-in_err-taken-clause-kept g c =
-    let shelf = g.S.Shelf in
-    kept_on shelf.is_honest shelf.content shelf.written shelf.may_leave c.args.shelf.now c.loop-index.shelf c.take_record.new.shelf c.loop-index.invariant.kept c.take_record.ensures.kept
-
 pub overflow_add-added : goal.overflow_add-added
 overflow_add-added g c =
     let counted = c.loop-index.invariant.counted in
     let test = c.loop-index-test.true in
     omega (arith, counted, test, c.loop-index.auto.index-end)
-
-pub returns-in-Refused-clause-decides : goal.returns-in-Refused-clause-decides
-returns-in-Refused-clause-decides g c =
-    let all = c.args.records.now in
-    let item = c.command-item.result in
-    let next = is_next c.loop-index.index item c.as_slice-command-items.ensures c.loop-index-test.true c.command-item.is in
-    let told = c.in_ok-taken.ensures in
-    refused_decides _ _ all (c.loop-index.index + 1) _ _
-    (λ honest office stands.
-    let first = c.take_record.ensures.kept.honest_before honest in
-    refused_all _ all c.loop-index.index c.loop-index.added c.loop-index.same c.loop-index.pending c.in_ok-taken.next item c.in_ok-taken.taken
-    (c.loop-index.invariant.so_far first) next (takes_so (c.loop-index.invariant.kept.same_content first) (told.step honest) (told.whole honest) (told.line honest))
-    c.in-Refused.refusal _ office c.in-Refused.is c.number-cause.ensures stands)
-    c.refused.ensures.reply c.refused.ensures.no_changes
-
-pub returns-in-Refused-clause-blames : goal.returns-in-Refused-clause-blames
-returns-in-Refused-clause-blames g c =
-    let all = c.args.records.now in
-    let item = c.command-item.result in
-    let next = is_next c.loop-index.index item c.as_slice-command-items.ensures c.loop-index-test.true c.command-item.is in
-    let told = c.in_ok-taken.ensures in
-    blames_next _ _ all c.loop-index.index _ _ item c.in-Refused.refusal _ next.left refl c.number-cause.ensures c.refused.ensures.reply
-    (subst (IsNamedTaken item) c.in-Refused.is told.named)
-    (λ honest.
-    let first = c.take_record.ensures.kept.honest_before honest in
-    first_refused _ all c.loop-index.index c.loop-index.added c.loop-index.same c.loop-index.pending c.in_ok-taken.next item c.in_ok-taken.taken
-    (c.loop-index.invariant.so_far first) next (takes_so (c.loop-index.invariant.kept.same_content first) (told.step honest) (told.whole honest) (told.line honest))
-    c.in-Refused.refusal c.in-Refused.is)
 
 pub loop-index-preserved : goal.loop-index-preserved
 loop-index-preserved g c =
@@ -114,66 +71,81 @@ loop-index-preserved g c =
       kept = kept_on shelf.is_honest shelf.content shelf.written shelf.may_leave c.args.shelf.now c.loop-index.shelf c.take_record.new.shelf c.loop-index.invariant.kept c.take_record.ensures.kept;
     }
 
-pub returns-clause-blames : goal.returns-clause-blames
-returns-clause-blames g c = taken_blames _ _ _ _ (Imported c.loop-index.added c.loop-index.same) refl (λ why e. cc)
-
-pub returns-clause-decides : goal.returns-clause-decides
-returns-clause-decides g c =
-    let all = c.args.records.now in
-    let index = c.loop-index.index in
-    let high = subst (λ (list : List RecordCommand). length list ≤ index) c.as_slice-command-items.ensures c.loop-index-test.false in
-    import_decides _ _ all index c.loop-index.added c.loop-index.same c.loop-index.pending _ high c.loop-index.invariant.so_far c.loop-index.invariant.leaves
-    (λ table. writes_whole table all index _ _ high (c.loop-index.invariant.writes table)) refl c.into_changes.ensures
-
--- ---- on a clean disk
-
-pub returns-in_err-taken-clause-open : goal.returns-in_err-taken-clause-open
-returns-in_err-taken-clause-open g c =
+pub returns-in_err-taken : goal.returns-in_err-taken
+returns-in_err-taken g c =
     let shelf = g.S.Shelf in
+    let item = c.command-item.result in
+    let inv = c.loop-index.invariant in
+    let took = c.take_record.ensures in
+    let next = is_next c.loop-index.index item c.as_slice-command-items.ensures c.loop-index-test.true c.command-item.is in
     let now_open = λ (clean : shelf.is_clean c.take_record.new.shelf) (told : IsTold c.from_residual.result).
-    taken_open shelf.is_clean shelf.is_honest c.loop-index.pending c.loop-index.index _ c.loop-index.shelf c.take_record.new.shelf c.loop-index.invariant.fresh c.loop-index.invariant.read c.take_record.ensures.open clean
+    taken_open shelf.is_clean shelf.is_honest c.loop-index.pending c.loop-index.index _ c.loop-index.shelf c.take_record.new.shelf inv.fresh inv.read took.open clean
     (handed_told _ _ c.in_err-taken.field-0.0 c.in_err-taken.was c.from_residual.ensures.1 told) in
     record {
-      clean_before = λ clean. c.loop-index.invariant.clean (c.take_record.ensures.open.clean_before clean);
-      stays = λ clean told honest. now_open clean told;
-      read = λ some clean told. now_open clean told;
+      decides = fault_decides _ _ _ _ _ _ c.in_err-taken.was c.from_residual.ensures.1
+          (λ damaged honest. damage_of_record _ c.args.records.now c.loop-index.index item next
+          (subst (λ tables. MeetsCabinetDamage tables item (cabinet_of item)) (inv.kept.same_content (took.kept.honest_before honest)) (took.damaged damaged honest)));
+      blames = search rules;
+      kept = kept_on _ _ _ _ _ _ _ inv.kept took.kept;
+      «open» = record {
+        clean_before = λ clean. inv.clean (took.open.clean_before clean);
+        stays = λ clean told honest. now_open clean told;
+        read = λ some clean told. now_open clean told;
+      };
+      nothing = λ none. absurd (none_next _ c.loop-index.index item next none);
     }
 
-pub returns-in-Refused-clause-open : goal.returns-in-Refused-clause-open
-returns-in-Refused-clause-open g c =
+pub returns-in-Refused : goal.returns-in-Refused
+returns-in-Refused g c =
     let shelf = g.S.Shelf in
+    let all = c.args.records.now in
+    let item = c.command-item.result in
+    let inv = c.loop-index.invariant in
+    let next = is_next c.loop-index.index item c.as_slice-command-items.ensures c.loop-index-test.true c.command-item.is in
+    let told = c.in_ok-taken.ensures in
+    let first = c.take_record.ensures.kept.honest_before in
+    let takes = λ (honest : shelf.is_honest c.take_record.new.shelf).
+    takes_so (inv.kept.same_content (first honest)) (told.step honest) (told.whole honest) (told.line honest) in
     let now_open = λ (clean : shelf.is_clean c.take_record.new.shelf).
-    taken_open shelf.is_clean shelf.is_honest c.loop-index.pending c.loop-index.index _ c.loop-index.shelf c.take_record.new.shelf c.loop-index.invariant.fresh c.loop-index.invariant.read c.in_ok-taken.ensures.open clean tt in
+    taken_open shelf.is_clean shelf.is_honest c.loop-index.pending c.loop-index.index _ c.loop-index.shelf c.take_record.new.shelf inv.fresh inv.read told.open clean tt in
     record {
-      clean_before = λ clean. c.loop-index.invariant.clean (c.in_ok-taken.ensures.open.clean_before clean);
-      stays = λ clean told honest. now_open clean;
-      read = λ some clean told. now_open clean;
+      decides = refused_decides _ _ all (c.loop-index.index + 1) _ _
+          (λ honest office stands. refused_all _ all c.loop-index.index c.loop-index.added c.loop-index.same c.loop-index.pending c.in_ok-taken.next item c.in_ok-taken.taken
+          (inv.so_far (first honest)) next (takes honest) c.in-Refused.refusal _ office c.in-Refused.is c.number-cause.ensures stands)
+          c.refused.ensures.reply c.refused.ensures.no_changes;
+      blames = blames_next _ _ all c.loop-index.index _ _ item c.in-Refused.refusal _ next.left refl c.number-cause.ensures c.refused.ensures.reply
+          (subst (IsNamedTaken item) c.in-Refused.is told.named)
+          (λ honest. first_refused _ all c.loop-index.index c.loop-index.added c.loop-index.same c.loop-index.pending c.in_ok-taken.next item c.in_ok-taken.taken
+          (inv.so_far (first honest)) next (takes honest) c.in-Refused.refusal c.in-Refused.is);
+      kept = kept_on _ _ _ _ _ _ _ inv.kept c.take_record.ensures.kept;
+      «open» = record {
+        clean_before = λ clean. inv.clean (told.open.clean_before clean);
+        stays = λ clean told honest. now_open clean;
+        read = λ some clean told. now_open clean;
+      };
+      nothing = λ none. absurd (none_next _ c.loop-index.index item next none);
     }
 
-pub returns-clause-open : goal.returns-clause-open
-returns-clause-open g c = record {
-  clean_before = c.loop-index.invariant.clean;
-  stays = λ clean told honest. c.loop-index.invariant.stays clean honest;
-  read = λ some clean told. c.loop-index.invariant.read clean
-      (some_read c.args.records.now c.loop-index.index (subst (λ (list : List RecordCommand). length list ≤ c.loop-index.index) c.as_slice-command-items.ensures c.loop-index-test.false) some);
-}
-
-pub returns-in_err-taken-clause-nothing : goal.returns-in_err-taken-clause-nothing
-returns-in_err-taken-clause-nothing g c = λ none.
-    absurd (none_next _ c.loop-index.index c.command-item.result (is_next _ _ c.as_slice-command-items.ensures c.loop-index-test.true c.command-item.is) none)
-
-pub returns-in-Refused-clause-nothing : goal.returns-in-Refused-clause-nothing
-returns-in-Refused-clause-nothing g c = λ none.
-    absurd (none_next _ c.loop-index.index c.command-item.result (is_next _ _ c.as_slice-command-items.ensures c.loop-index-test.true c.command-item.is) none)
-
-pub returns-clause-nothing : goal.returns-clause-nothing
-returns-clause-nothing g c = λ none.
+pub returns : goal.returns
+returns g c =
+    let all = c.args.records.now in
     let index = c.loop-index.index in
-    let listed : c.as_slice-command-items.result.now ≡ [] = c.as_slice-command-items.ensures ∙ none in
-    let size : length c.as_slice-command-items.result.now ≡ 0 = ap (λ (list : List RecordCommand). length list) listed in
-    let most : index ≤ 0 = omega (arith, size, c.loop-index.auto.index-end) in
-    let counted = c.loop-index.invariant.counted in
-    let start : index ≡ 0 = omega (arith, most) in
-    let none_added : c.loop-index.added ≡ 0 = omega (arith, counted, start) in
-    let none_same : c.loop-index.same ≡ 0 = omega (arith, counted, start) in
-    ((λ k. Imported (none_added k) (none_same k)), c.into_changes.ensures ∙ c.loop-index.invariant.fresh start)
+    let inv = c.loop-index.invariant in
+    let high = subst (λ (list : List RecordCommand). length list ≤ index) c.as_slice-command-items.ensures c.loop-index-test.false in
+    record {
+      decides = import_decides _ _ all index c.loop-index.added c.loop-index.same c.loop-index.pending _ high inv.so_far inv.leaves
+          (λ table. writes_whole table all index _ _ high (inv.writes table)) refl c.into_changes.ensures;
+      blames = taken_blames _ _ _ _ (Imported c.loop-index.added c.loop-index.same) refl (λ why e. cc);
+      kept = inv.kept;
+      «open» = record {
+        clean_before = inv.clean;
+        stays = λ clean told honest. inv.stays clean honest;
+        read = λ some clean told. inv.read clean (some_read all index high some);
+      };
+      nothing = λ none.
+          let size : length all ≡ 0 = ap (λ (list : List RecordCommand). length list) none in
+          let start : index ≡ 0 = omega (arith, size, c.loop-index.auto.index-end, ap (λ (list : List RecordCommand). length list) c.as_slice-command-items.ensures) in
+          let none_added : c.loop-index.added ≡ 0 = omega (arith, inv.counted, start) in
+          let none_same : c.loop-index.same ≡ 0 = omega (arith, inv.counted, start) in
+          ((λ k. Imported (none_added k) (none_same k)), c.into_changes.ensures ∙ inv.fresh start);
+    }

@@ -1,4 +1,4 @@
-use Rattle.std.proofs.Common.{◌≡◌, ◌∙◌, Err, ap, arith, length, map, refl, subst, sym}
+use Rattle.std.proofs.Common.{◌≡◌, ◌∙◌, Err, ap, arith, length, map, refl, rules, subst, sym}
 use Rattle.std.proofs.{lemmas.List.take_all, lemmas.Result.err_from_is_err_and}
 use Rattle.std.specs.List.{AllByRecursion}
 use Rattle.office_tables_shelf.specs.Shelf.{CountsTiming, IsIntersectionWithin, ListsIntersections, rows_of}
@@ -44,24 +44,22 @@ loop-id-preserved g c =
       kept = kept_on shelf.is_honest shelf.content shelf.written shelf.may_leave c.args.shelf.now c.loop-id.shelf c.committed_count.new.self c.loop-id.invariant.kept c.committed_count.ensures.kept;
     }
 
-pub returns-in_err-count-clause-damaged : goal.returns-in_err-count-clause-damaged
-returns-in_err-count-clause-damaged g c = λ is honest.
+pub returns-in_err-count : goal.returns-in_err-count
+returns-in_err-count g c =
+    let shelf = g.S.Shelf in
     let answer = c.from_residual-in_err-count in
-    let told = err_from_is_err_and answer.result answer.ensures.1 in
-    let fault : told.0 ≡ c.in_err-count.field-0.0 = told.2 in
-    let damaged : c.in_err-count.field-0.0 ≡ Damaged = cc in
-    absurd (c.in_err-count.ensures.undamaged (ap Err damaged))
-
-pub returns-in_err-count-clause-kept : goal.returns-in_err-count-clause-kept
-returns-in_err-count-clause-kept g c =
-    let shelf = g.S.Shelf in
-    kept_on shelf.is_honest shelf.content shelf.written shelf.may_leave c.args.shelf.now c.loop-id.shelf c.committed_count.new.self c.loop-id.invariant.kept c.committed_count.ensures.kept
-
-pub returns-in_err-count-clause-open : goal.returns-in_err-count-clause-open
-returns-in_err-count-clause-open g c =
-    let shelf = g.S.Shelf in
-    hands_on shelf.is_clean shelf.is_honest _ (Err c.in_err-count.field-0.0)
-    c.in_err-count.field-0.0 c.args.shelf.now c.loop-id.shelf c.committed_count.new.self c.loop-id.invariant.clean refl c.from_residual-in_err-count.ensures.1 c.in_err-count.ensures.open
+    record {
+      lists = search rules;
+      whole = search rules;
+      damaged = λ is honest.
+          let told = err_from_is_err_and answer.result answer.ensures.1 in
+          let fault : told.0 ≡ c.in_err-count.field-0.0 = told.2 in
+          let damaged : c.in_err-count.field-0.0 ≡ Damaged = cc in
+          absurd (c.in_err-count.ensures.undamaged (ap Err damaged));
+      kept = kept_on _ _ _ _ _ _ _ c.loop-id.invariant.kept c.committed_count.ensures.kept;
+      «open» = hands_on shelf.is_clean shelf.is_honest _ (Err c.in_err-count.field-0.0)
+          c.in_err-count.field-0.0 c.args.shelf.now c.loop-id.shelf c.committed_count.new.self c.loop-id.invariant.clean refl answer.ensures.1 c.in_err-count.ensures.open;
+    }
 
 pub returns-in_err-add_listed-clause-open : goal.returns-in_err-add_listed-clause-open
 returns-in_err-add_listed-clause-open g c = record {
@@ -70,32 +68,21 @@ returns-in_err-add_listed-clause-open g c = record {
 }
 
 pub returns-in_err-add_listed-clause-kept : goal.returns-in_err-add_listed-clause-kept
-returns-in_err-add_listed-clause-kept g c =
-    let shelf = g.S.Shelf in
-    kept_on shelf.is_honest shelf.content shelf.written shelf.may_leave c.args.shelf.now c.loop-id.shelf c.committed_count.new.self c.loop-id.invariant.kept c.committed_count.ensures.kept
+returns-in_err-add_listed-clause-kept g c = kept_on _ _ _ _ _ _ _ c.loop-id.invariant.kept c.committed_count.ensures.kept
 
-pub returns-clause-lists : goal.returns-clause-lists
-returns-clause-lists g c = λ honest.
+pub returns : goal.returns
+returns g c =
     let tables = g.S.Shelf.content c.args.shelf.now in
     let rows = c.as_slice-id-items.result.now in
+    let inv = c.loop-id.invariant in
     record {
-      rows = rows;
-      lists = c.loop-id.invariant.read honest;
-      found_is =
-          c.loop-id.invariant.listed honest
-          ∙ ap (λ list. map (listed_in tables) list) (take_all c.loop-id.id-index rows (omega arith));
+      lists = λ honest. record {
+        rows = rows;
+        lists = inv.read honest;
+        found_is = inv.listed honest ∙ ap (λ list. map (listed_in tables) list) (take_all c.loop-id.id-index rows (omega arith));
+      };
+      whole = λ honest. intersections_whole tables rows (inv.read honest) (inv.within honest);
+      damaged = search rules;
+      kept = inv.kept;
+      «open» = record { clean_before = inv.clean; told = λ clean told. inv.opened clean };
     }
-
-pub returns-clause-whole : goal.returns-clause-whole
-returns-clause-whole g c = λ honest.
-    intersections_whole (g.S.Shelf.content c.args.shelf.now) c.as_slice-id-items.result.now
-    (c.loop-id.invariant.read honest) (c.loop-id.invariant.within honest)
-
-pub returns-clause-open : goal.returns-clause-open
-returns-clause-open g c = record {
-  clean_before = c.loop-id.invariant.clean;
-  told = λ clean told. c.loop-id.invariant.opened clean;
-}
-
-pub returns-clause-kept : goal.returns-clause-kept
-returns-clause-kept g c = c.loop-id.invariant.kept
