@@ -77,44 +77,71 @@ fn text_of<T: Display>(alloc: Global, found: &[T]) -> Result<String, Fail> {
     Ok(text)
 }
 
-/// The touched subjects, and the violations of each as a tally judges it by itself.
-fn judged(alloc: Global, set: &TimingSet, keys: &[Key]) -> Result<(String, String), Fail> {
+/// Tells the violations of the set.
+fn tell_whole(text: &mut String, alloc: Global, set: &TimingSet) -> Result<(), Fail> {
+    let found = text_of(alloc, &violations(alloc, set)?)?;
+    write!(text, "{found} whole, ")?;
+    Ok(())
+}
+
+/// Tells the touched subjects, and the violations of each as a tally judges it by itself.
+fn tell_alone(text: &mut String, alloc: Global, set: &TimingSet, keys: &[Key]) -> Result<(), Fail> {
     let mut tally = Tally::new();
-    let mut text = String::new(alloc);
     let subjects = touched(alloc, set, keys)?;
+    for subject in &subjects {
+        write!(text, "{subject};")?;
+    }
+    text.push_str(" touched, ")?;
     for subject in &subjects {
         for violation in &tally.judge(alloc, set, *subject)? {
             write!(text, "{violation};")?;
         }
     }
-    Ok((text_of(alloc, &subjects)?, text))
+    text.push_str(" alone, ")?;
+    Ok(())
 }
 
-/// The violations of the touched subjects after changes of the plan, how many subjects were judged
-/// for them, and the seconds that were compared.
-fn counted(alloc: Global, set: &TimingSet, keys: &[Key]) -> Result<(String, u64, u64), Fail> {
+/// Tells the violations of the touched subjects after changes of the plan, how many subjects were
+/// judged for them, and the seconds that were compared.
+fn tell_touched(
+    text: &mut String,
+    alloc: Global,
+    set: &TimingSet,
+    keys: &[Key],
+) -> Result<(), Fail> {
     let mut tally = Tally::new();
-    let found = violations_touched(alloc, &plan(alloc, &[])?, set, keys, &mut tally)?;
-    Ok((text_of(alloc, &found)?, tally.count(), tally.seconds()))
+    let base = plan(alloc, &[])?;
+    let found = text_of(
+        alloc,
+        &violations_touched(alloc, &base, set, keys, &mut tally)?,
+    )?;
+    let (count, seconds) = (tally.count(), tally.seconds());
+    write!(text, "{found} by {count} in {seconds}")?;
+    Ok(())
 }
 
+/// All that is told after changes of the plan.
+fn report(alloc: Global, changed: &[Change]) -> Result<String, Fail> {
+    let set = plan(alloc, changed)?;
+    let keys = keys(alloc, changed)?;
+    let mut text = String::new(alloc);
+    tell_whole(&mut text, alloc, &set)?;
+    tell_alone(&mut text, alloc, &set, &keys)?;
+    tell_touched(&mut text, alloc, &set, &keys)?;
+    Ok(text)
+}
+
+/// Three ways give the same violations.
 #[test]
 fn touched_subjects_give_all_violations(rt: HostRuntime) -> Result<(), Fail> {
     let alloc = rt.alloc();
     for (text, subjects, told, seconds) in CASES {
-        let changed = changes(alloc, text)?;
-        let (set, keys) = (plan(alloc, &changed)?, keys(alloc, &changed)?);
-        let whole = text_of(alloc, &violations(alloc, &set)?)?;
-        assert_eq!(rt; whole.as_str(), told, "{text}");
-        let (touched, alone) = judged(alloc, &set, &keys)?;
-        assert_eq!(rt;
-            (touched.as_str(), alone.as_str()),
-            (subjects, told),
-            "{text}"
-        );
-        let (found, count, taken) = counted(alloc, &set, &keys)?;
-        assert_eq!(rt; (found.as_str(), taken), (told, seconds), "{text}");
-        assert_eq!(rt; count, subjects.matches(';').count() as u64, "{text}");
+        let count = subjects.matches(';').count();
+        let wanted = format!(in alloc;
+            "{told} whole, {subjects} touched, {told} alone, {told} by {count} in {seconds}"
+        )?;
+        let came = report(alloc, &changes(alloc, text)?)?;
+        assert_eq!(rt; came.as_str(), wanted.as_str(), "{text}");
     }
     Ok(())
 }

@@ -21,8 +21,10 @@ fn change(alloc: Global, record: &str) -> Result<Change, Fail> {
 /// The changes of a text, which stand between semicolons; the empty text has none.
 pub(crate) fn changes(alloc: Global, text: &str) -> Result<Vec<Change>, Fail> {
     let mut changes = Vec::new(alloc);
-    for record in text.split(';').filter(|record| !record.is_empty()) {
-        changes.push(change(alloc, record)?)?;
+    for record in text.split(';') {
+        if !record.is_empty() {
+            changes.push(change(alloc, record)?)?;
+        }
     }
     Ok(changes)
 }
