@@ -3,8 +3,7 @@ use Rattle.std.proofs.Common.{◌≡◌, ℕ, pos, ◌==◌, Bool, true, false, 
 use Rattle.std.proofs.lemmas.Bool.{false_from_ne_true}
 use Rattle.std.specs.FinMap.{get, insert, remove, get-insert, get-remove, get-retain_keys}
 use Rattle.std.specs.{Option.option_map, Ordering.eq_by_cmp}
-use Rattle.signal_records.specs.Key.{key_cmp, kind_of, first_of, second_of}
-use Rattle.signal_records.specs.Row.{key_of}
+use Rattle.signal_records.specs.{Key.key_cmp, Key.kind_of, Key.first_of, Key.second_of, Row.key_of}
 use Rattle.signal_records.specs.declared.{key.Key.Key, record.Row.Row, record.Change.Change}
 use Rattle.signal_records.specs.declared.record.Change.TheVariants.{Put, Remove}
 use Rattle.draft_core.specs.DraftRows.{RowsByKey, Said, silent, leaves, removes, later_of, overlaid, said_at, said_by}

@@ -3,9 +3,8 @@ use Rattle.std.proofs.Common.{◌≡◌, ◌≢◌, ℕ, ◌≤◌, Bool, true, 
 use Rattle.std.specs.FinMap.{get}
 use Rattle.draft_core.specs.{DraftRows.RowStands, Transaction.TimingSide}
 use Rattle.office_tables_shelf.specs.{Change.changed, Content.Content, Counts.writes_in, Damage.HasDamagedIntersection, Rows.timing_columns}
-use Rattle.office_tables_shelf.specs.Shelf.{ReadsIntersection}
+use Rattle.office_tables_shelf.specs.{Shelf.ReadsIntersection, declared.rows.Table.Table}
 use Rattle.office_tables_shelf.specs.declared.{rows.IntersectionRow.IntersectionRow, rows.RowChange.TheVariants.AddIntersection as AddRow}
-use Rattle.office_tables_shelf.specs.declared.rows.Table.{Table}
 use Rattle.office_tables_shelf.specs.declared.rows.Table.TheVariants as table
 use Rattle.office_desk.specs.{Adding.AddsRow, Adding.AreLimited, Answers.Answers, Changes.most_writes, Deciding.IsDecision, Named.RefusesBy}
 use Rattle.office_desk.specs.StandFor.{StandFor, StandForSound, row_of}

@@ -1,10 +1,8 @@
 -- What the queries answer, on the rows that were read, is a step of the office.
 use Rattle.std.proofs.Common.{◌≡◌, ℕ, List, [], Option, Some, None, refl, ap, sym, subst, ◌∙◌, option_map, IfSome}
 use Rattle.std.specs.FinMap.{get, len}
-use Rattle.signal_records.specs.TimingSet.{Rows, after_changes}
-use Rattle.signal_records.specs.declared.record.Row.{Row}
-use Rattle.signal_rules.specs.Violations.{violations_of}
-use Rattle.signal_rules.specs.declared.violation.Violation.{Violation}
+use Rattle.signal_records.specs.{TimingSet.Rows, TimingSet.after_changes, declared.record.Row.Row}
+use Rattle.signal_rules.specs.{Violations.violations_of, declared.violation.Violation.Violation}
 use Rattle.draft_core.specs.Transaction.{Draft, state_of, state_of_holder, TimingSide, holder_of, verdict_of}
 use Rattle.draft_core.specs.DraftRows.{RowsByKey, Stands}
 use Rattle.draft_core.proofs.Overlaid.{draft_is}

@@ -1,9 +1,8 @@
 -- Rows that were read, or none, are no damaged ones.
 use Rattle.std.proofs.Common.{◌≡◌, ◌≢◌, ◌⊎◌, inl, inr, ℕ, true, false, List, Option, Some, None, is_some, refl, ap, sym, subst, ◌∙◌, IsSome}
 use Rattle.signal_records.specs.{Row.key_of, Within.IsChangeWithin, Within.IsRowWithin, Within.current_limits}
-use Rattle.signal_records.specs.declared.{record.Change.Change, record.Row.Row}
-use Rattle.draft_core.specs.Within.{AreChangesWithin}
-use Rattle.draft_core.specs.declared.timing.Reach.{Reach}
+use Rattle.signal_records.specs.declared.record.{Change.Change, Row.Row}
+use Rattle.draft_core.specs.{Within.AreChangesWithin, declared.timing.Reach.Reach}
 use Rattle.draft_core.specs.declared.timing.Reach.TheVariants as reach
 use Rattle.office_tables_shelf.specs.Rows.{IsIntersectionRow, draft_columns, draft_key, timing_columns, timing_key}
 use Rattle.office_tables_shelf.specs.Shelf.{IsThere, ListsDraft, ListsTiming, ReadsIntersection}

@@ -14,8 +14,7 @@ use Rattle.office_tables_shelf.specs.declared.shelf.ShelfFault.TheVariants.{NoMe
 use Rattle.office_tables_shelf.specs.declared.rows.Table.TheVariants as table
 use Rattle.office_desk_cabinet.specs.Registers.{IsNamed, IsOneOf, most_record_writes, refusals_of}
 use Rattle.office_desk_cabinet.specs.{Decides.DecidesRecord, Lines.TellsLine, Lines.rows_for, RegisterDamage.KeepsDamage, RegisterDamage.MeetsRecordDamage}
-use Rattle.office_desk_cabinet.specs.Telling.{Tells}
-use Rattle.office_desk_cabinet.specs.declared.registered.Registered.{Registered}
+use Rattle.office_desk_cabinet.specs.{Telling.Tells, declared.registered.Registered.Registered}
 use Rattle.office_desk_cabinet.proofs.Told.{registers_from, rows_few, tells_leaves, told_by}
 use Rattle.office_desk_cabinet.proofs.{Found.ReadsKeys, Found.keys_stand, KeptDamage.command_kept, KeptDamage.rows_kept, KeptDamage.rows_on, News.adds_new}
 

@@ -3,9 +3,8 @@ use Rattle.std.proofs.Common.{◌≡◌, inl, inr, ℕ, Bool, true, false, cond,
 use Rattle.std.proofs.lemmas.Bool.{and_parts, eqb-true, false≢true}
 use Rattle.cabinet_core.proofs.{StockLemmas.same_bytes, Made.changes_on, Made.place_or}
 use Rattle.cabinet_core.specs.Cabinet.{Line as TableLine, added, record_of, with_closing}
-use Rattle.cabinet_core.specs.Step.{Standing}
+use Rattle.cabinet_core.specs.{Step.Standing, declared.command.RecordCommand.RecordCommand}
 use Rattle.cabinet_core.specs.declared.command.RecordCommand.TheVariants.{Inspect, OpenOrder, UsePart, CloseOrder, Receive}
-use Rattle.cabinet_core.specs.declared.command.RecordCommand.{RecordCommand}
 use Rattle.office_tables_shelf.specs.{CabinetReads.HasDamagedOrderAt, Change.changed, Change.changed_by, Content.Content}
 use Rattle.office_tables_shelf.specs.declared.rows.RowChange.TheVariants.{AddDelivery, AddInspection, AddLine, AddOrder, PutOrder, PutPart}
 use Rattle.office_tables_shelf.specs.declared.rows.RowChange.{RowChange}

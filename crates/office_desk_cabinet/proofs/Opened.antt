@@ -1,7 +1,6 @@
 -- Calls on a clean disk that answer from an open database, or without reading.
 use Rattle.std.proofs.Common.{◌≡◌, Result, Ok, Err, IsErrAnd, subst, sym, ◌∙◌}
-use Rattle.office_tables_shelf.specs.Shelf.{IsTold}
-use Rattle.office_tables_shelf.specs.declared.shelf.ShelfFault.{ShelfFault}
+use Rattle.office_tables_shelf.specs.{Shelf.IsTold, declared.shelf.ShelfFault.ShelfFault}
 use Rattle.office_desk_cabinet.specs.Open.{StaysOpen}
 
 -- a fault that is handed on is told as it was

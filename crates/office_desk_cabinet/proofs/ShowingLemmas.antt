@@ -1,7 +1,6 @@
 -- The open ones of a list of orders.
 use Rattle.std.proofs.Common.{ℕ, List, map, filter}
-use Rattle.cabinet_core.specs.Orders.{is_open}
-use Rattle.cabinet_core.specs.declared.record.Order.{Order}
+use Rattle.cabinet_core.specs.{Orders.is_open, declared.record.Order.Order}
 
 -- the numbers of the open ones of some orders
 abbrev pub open_among : List Order → List ℕ

@@ -5,9 +5,8 @@ use Rattle.std.specs.{FinMap.get, Option.IfSome}
 use Rattle.cabinet_core.specs.Sound.{IsSoundRegister, IsInspectionAt, IsOrderAt, IsLineAt, IsDeliveryAt}
 use Rattle.cabinet_core.specs.Stock.{was_delivered, pieces, hand_of, stock_by_code}
 use Rattle.cabinet_core.specs.Within.{IsInspectionWithin, IsOrderWithin, IsUsedLineWithin, IsDeliveryWithin}
-use Rattle.cabinet_core.specs.Register.{Register}
+use Rattle.cabinet_core.specs.{Register.Register, declared.record.Order.Order as OrderRecord}
 use Rattle.cabinet_core.specs.declared.{command.RecordCommand.RecordCommand, record.Inspection.Inspection as InspectionRecord, record.UsedLine.UsedLine}
-use Rattle.cabinet_core.specs.declared.record.Order.{Order as OrderRecord}
 use Rattle.cabinet_core.proofs.{KeyOrders.record_total, KeyOrders.line_total, StockList.code_on_hand, StockList.stock_has, Puts.if_more}
 use Rattle.office_tables_shelf.proofs.{CabinetLemmas.part_order, CellLemmas.cell_exact, CellLemmas.tied, KeyCells.record_order, KeyCells.line_order}
 use Rattle.office_tables_shelf.proofs.StoredMaps.{stored_found}

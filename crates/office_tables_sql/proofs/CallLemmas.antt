@@ -1,17 +1,11 @@
 -- What a statement leaves of a connection, also where the rows of a query are read one at a time, and what the rows so far are.
 use Rattle.std.proofs.Common.{◌≡◌, ◌⊎◌, inl, inr, ℕ, ◌≤◌, List, [], true, false, None, Some, Ok, Option, IsTrue, refl, sym, ap, subst, subst₂, ◌∙◌, arith, true≢false, cond, ◌∷◌, ◌++◌, map}
 use Rattle.sqlite_trees.specs.View.{doubt}
-use Rattle.sqlite.specs.Order.{Row}
-use Rattle.sqlite.specs.Tree.{Trees}
-use Rattle.sqlite.specs.declared.error.Error.{Error}
-use Rattle.sqlite.specs.Clock.{timed}
-use Rattle.sqlite.specs.Effect.{Database, IsDatabase}
-use Rattle.sqlite.specs.Given.{IsPlain}
-use Rattle.sqlite.specs.Listing.{understood}
+use Rattle.sqlite.specs.{Order.Row, Tree.Trees, declared.error.Error.Error, Clock.timed}
+use Rattle.sqlite.specs.{Effect.Database, Effect.IsDatabase, Given.IsPlain, Listing.understood}
 use Rattle.sqlite.specs.State.{State, HasCleanDisk, Survives, CommitsShowing, IsUnchanged, IsRolledBack, Shown, ShowsRows, FailsToQuery, FailsToShow, IsNotRun, ExecutesInside, IsTooLate, Begins, Fails}
 use Rattle.sqlite_schema.specs.declared.command.Returning.{Returning}
-use Rattle.sqlite.specs.Steps.{FailsToCommit}
-use Rattle.sqlite.specs.Held.{Held, state}
+use Rattle.sqlite.specs.{Steps.FailsToCommit, Held.Held, Held.state}
 use Rattle.sqlite_trees.specs.declared.store.Store as store
 use Rattle.office_tables_schema.specs.Schema.{office_schema}
 use Rattle.office_tables_sql.specs.Calls.{AreOrdered, IsHonest, IsOffice, Keeps, IsQuery, Reads, IsWriting, Ran, StandsOn, command_of}
@@ -21,8 +15,7 @@ use Rattle.std.specs.List.{AllByRecursion}
 use Rattle.std.proofs.lemmas.List.{map-append}
 use Rattle.sqlite_rules.specs.Lists.{Has}
 use Rattle.sqlite_rules.proofs.ListLemmas.{has_left, has_right}
-use Rattle.office_tables_shelf.specs.declared.rows.Table.{Table}
-use Rattle.office_tables_shelf.specs.Cells.{Cell}
+use Rattle.office_tables_shelf.specs.{declared.rows.Table.Table, Cells.Cell}
 use Rattle.office_tables_sql.specs.Tables.{IsListText, row_shown, stored_for}
 
 abbrev pub IsUndisturbed : State → State → Type 0

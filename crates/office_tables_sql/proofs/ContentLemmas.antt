@@ -2,16 +2,12 @@
 use Rattle.std.proofs.Common.{◌≡◌, ◌⊎◌, inl, inr, ℤ, List, [], ◌∷◌, map, find, Bool, true, false, not, Some, cond, option_map, refl, sym, ap, subst, ◌∙◌, true≢false}
 use Rattle.std.proofs.lemmas.Bool.{cases_Bool, false_from_ne_true, not-true, not-false, or_parts}
 use Rattle.std.proofs.lemmas.Cmp.{tied_back}
-use Rattle.std.specs.Cmp.{tied_itself}
-use Rattle.std.specs.List.{AllByRecursion, IsDistinct}
-use Rattle.std.specs.declared.cmp.Ordering.{Ordering}
+use Rattle.std.specs.{Cmp.tied_itself, List.AllByRecursion, List.IsDistinct}
+use Rattle.std.specs.{declared.cmp.Ordering.Ordering, Ordering.is_eq, Ordering.match_ordering}
 use Rattle.std.specs.declared.cmp.Ordering.TheVariants.{Less, Equal, Greater}
-use Rattle.std.specs.Ordering.{is_eq, match_ordering}
-use Rattle.sqlite.specs.declared.types.Value.TheVariants.{Int}
-use Rattle.sqlite.specs.Order.{Row, value_cmp}
+use Rattle.sqlite.specs.{declared.types.Value.TheVariants.Int, Order.Row, Order.value_cmp}
 use Rattle.sqlite.specs.Tree.{rowid, has_rowid, put_row, without_rowid, IsTable}
-use Rattle.sqlite.specs.View.{IsShaped}
-use Rattle.sqlite.specs.Edit.{is_taken, without_all, id_in}
+use Rattle.sqlite.specs.{View.IsShaped, Edit.is_taken, Edit.without_all, Edit.id_in}
 use Rattle.sqlite_trees.specs.declared.store.Shape.TheVariants as shape
 use Rattle.sqlite_value.proofs.OrderLemmas.{value_cmp_total}
 use Rattle.sqlite_rules.specs.Lists.{Has}
@@ -22,9 +18,8 @@ use Rattle.sqlite_catalog.proofs.ListFacts.{find_within}
 use Rattle.std.specs.FinMap.{insert, same_map, get-insert}
 use Rattle.office_tables_shelf.specs.Cells.{Cell, cells_cmp, number}
 use Rattle.office_tables_shelf.proofs.CellLemmas.{cells_total, cells_exact, tied}
-use Rattle.office_tables_sql.specs.Stored.{cell_of, cells_at, rows_in}
+use Rattle.office_tables_sql.specs.{Stored.cell_of, Stored.cells_at, Stored.rows_in, Layout.Layout}
 use Rattle.office_tables_sql.proofs.StoredLemmas.{has_cells, get_rows}
-use Rattle.office_tables_sql.specs.Layout.{Layout}
 
 module _ (p : Row → Bool) where
   pub find_without : (ids : List ℤ) (rows : List Row) → ((r : Row) (id : ℤ) → Has rows r → Has ids id → has_rowid id r ≡ true → p r ≡ false) → find p (without_all rows ids) ≡ find p rows

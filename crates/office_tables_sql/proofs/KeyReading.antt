@@ -1,21 +1,16 @@
 -- A key from the numbers of its columns.
 use Rattle.std.proofs.Common.{◌≡◌, ℕ, ◌<◌, ◌^◌, pos, arith}
 use Rattle.sqlite.specs.Order.{Row, column}
-use Rattle.signal_records.specs.Key.{kind_of, first_of, second_of}
+use Rattle.signal_records.specs.{Key.kind_of, Key.first_of, Key.second_of, declared.key.Key.Key}
 use Rattle.signal_records.specs.Within.{IsKeyWithin, current_limits}
-use Rattle.signal_records.specs.declared.key.Key.{Key}
 use Rattle.signal_records.specs.declared.key.Key.TheVariants.{Phase, Seq, Split, Pattern}
-use Rattle.office_tables_shelf.specs.Cells.{number}
-use Rattle.office_tables_shelf.specs.Rows.{timing_key}
-use Rattle.office_tables_sql.specs.Listed.{shown_key}
-use Rattle.office_tables_sql.specs.Stored.{cell_of}
+use Rattle.office_tables_shelf.specs.{Cells.number, Rows.timing_key}
+use Rattle.office_tables_sql.specs.{Listed.shown_key, Stored.cell_of}
 
 -- there are four kinds
 pub kinds : (key : Key) → (0 < kind_of key) × (kind_of key < 5)
 kinds (Phase p) = (omega arith, omega arith)
-kinds (Seq n ring) = (omega arith, omega arith)
-kinds (Split n p) = (omega arith, omega arith)
-kinds (Pattern n) = (omega arith, omega arith)
+kinds _ = (omega arith, omega arith)
 
 pub small_first : (key : Key) → IsKeyWithin current_limits key → first_of key < 2 ^ 32
 small_first (Phase p) within = let top = within.1 in omega arith

@@ -1,33 +1,22 @@
 -- The texts of the statements, and what a query by key answers.
 use Rattle.std.proofs.Common.{◌≡◌, ℕ, List, [], ◌∷◌, map, filter, find, slice_get, Bool, ◌&&◌, inl, inr, Option, None, Some, option_map, refl, sym, ap, subst₂, ◌∙◌, arith, length, IfSome, subst}
-use Rattle.std.specs.Option.{option_to_list}
+use Rattle.std.specs.{Option.option_to_list, List.Sorted.IsPermutation, List.list_all}
 use Rattle.sqlite.proofs.Callers.{one_permutation}
-use Rattle.std.proofs.lemmas.Bool.{cases_Bool}
-use Rattle.std.specs.List.Sorted.{IsPermutation}
+use Rattle.std.proofs.lemmas.{Bool.cases_Bool, List.length-map}
 use Rattle.std.proofs.lemmas.List.Sorted.{IsPermutation-map, length_permutation}
-use Rattle.sqlite.specs.Order.{Row, column}
+use Rattle.sqlite.specs.{Order.Row, Order.column, Tree.Trees, Collation.TheVariants.Binary}
 use Rattle.sqlite.specs.Term.{Term, Env, col, op2, holds, eval_all}
 use Rattle.sqlite.specs.Query.{inner, end, IsAnswer, output, Output, matches}
-use Rattle.sqlite.specs.Tree.{Trees}
-use Rattle.std.specs.List.{list_all}
-use Rattle.sqlite.specs.Collation.TheVariants.{Binary}
-use Rattle.sqlite_sql.specs.declared.ops.BinaryOp.TheVariants.{Compare}
-use Rattle.sqlite_sql.specs.declared.ops.CompareOp.TheVariants.{Eq}
+use Rattle.sqlite_sql.specs.declared.ops.{BinaryOp.TheVariants.Compare, CompareOp.TheVariants.Eq}
 use Rattle.sqlite_schema.specs.Rules.{agree}
 use Rattle.sqlite_value.specs.Keys.{plain, first_key}
 use Rattle.sqlite_rules.specs.Lists.{Has}
 use Rattle.sqlite_trees.proofs.ListLemmas.{map-map}
 use Rattle.office_tables_sql.specs.Layout.{Layout, values_at, has_key}
 use Rattle.office_tables_sql.specs.Tables.{of_key, found_by, picked_by, picked_where}
-use Rattle.std.proofs.lemmas.List.{length-map}
-use Rattle.sqlite.specs.declared.types.Value.TheVariants.{Null}
-use Rattle.sqlite.specs.Command.{Command}
-use Rattle.sqlite.specs.Command.TheVariants.{Select}
-use Rattle.sqlite.specs.Listing.{understood}
-use Rattle.sqlite.specs.Given.{IsPlain}
+use Rattle.sqlite.specs.{declared.types.Value.TheVariants.Null, Command.Command, Listing.understood}
+use Rattle.sqlite.specs.{Command.TheVariants.Select, Given.IsPlain, Effect.Database, View.IsShaped}
 use Rattle.sqlite.specs.Effect as effect
-use Rattle.sqlite.specs.Effect.{Database}
-use Rattle.sqlite.specs.View.{IsShaped}
 use Rattle.sqlite_trees.specs.declared.store.Shape.TheVariants as shape
 use Rattle.sqlite.specs.Program.{overlay}
 use Rattle.office_tables_sql.specs.Calls.{IsQuery, Reads, command_of}

@@ -2,45 +2,33 @@
 use Rattle.std.proofs.Common.{◌≡◌, ◌≢◌, ◌⊎◌, inl, inr, ℕ, ℤ, List, [], ◌∷◌, map, filter, find, slice_get, not, Bool, true, false, Option, None, Some, cond, option_map, refl, sym, ap, subst, ◌∙◌, true≢false}
 use Rattle.std.proofs.lemmas.Bool.{cases_Bool, false_from_ne_true}
 use Rattle.std.proofs.lemmas.List.Sorted.{IsPermutation-sym}
-use Rattle.std.specs.List.Sorted.{IsPermutation}
-use Rattle.std.specs.List.{AllByRecursion}
-use Rattle.std.specs.declared.cmp.Ordering.TheVariants.{Equal}
-use Rattle.std.specs.Ordering.{is_eq}
+use Rattle.std.specs.{List.Sorted.IsPermutation, List.AllByRecursion, Ordering.is_eq}
+use Rattle.std.specs.{declared.cmp.Ordering.TheVariants.Equal, Cmp.tied_itself}
 use Rattle.sqlite.specs.declared.types.Value.TheVariants.{Null, Int}
-use Rattle.sqlite.specs.Command.TheVariants.{Delete}
-use Rattle.sqlite.specs.Edit.{edit_of, without_all, id_in, taken_by}
-use Rattle.sqlite.specs.Order.{Row, value_cmp}
-use Rattle.sqlite.specs.Program.{overlay}
-use Rattle.sqlite.specs.Query.{Query, IsAnswer}
-use Rattle.sqlite.specs.Rowids.TheVariants.{Given}
-use Rattle.sqlite.specs.Rows.{Written}
-use Rattle.sqlite.specs.State.{State}
-use Rattle.sqlite.specs.Table.{Table}
-use Rattle.sqlite.specs.Tree.{Trees, rowid, has_rowid}
-use Rattle.sqlite.specs.View.{IsShaped}
+use Rattle.sqlite.specs.{Command.TheVariants.Delete, Order.Row, Order.value_cmp, Program.overlay}
+use Rattle.sqlite.specs.{Edit.edit_of, Edit.without_all, Edit.id_in, Edit.taken_by, Rows.Written}
+use Rattle.sqlite.specs.{Query.Query, Query.IsAnswer, Rowids.TheVariants.Given, State.State}
+use Rattle.sqlite.specs.{Table.Table, Tree.Trees, Tree.rowid, Tree.has_rowid, View.IsShaped}
 use Rattle.sqlite.proofs.Callers.{one_step}
 use Rattle.sqlite_schema.specs.declared.schema.Keys.TheVariants.{Enforced}
 use Rattle.sqlite_trees.specs.declared.store.Shape.TheVariants as shape
 use Rattle.sqlite_trees.proofs.ListLemmas.{all-permutation, filter_same}
 use Rattle.sqlite_value.proofs.OrderLemmas.{value_cmp_total}
-use Rattle.sqlite_rules.specs.Calls.{ids_of}
-use Rattle.sqlite_rules.specs.Lists.{Has}
+use Rattle.sqlite_rules.specs.{Calls.ids_of, Lists.Has}
 use Rattle.sqlite_rules.proofs.ListLemmas.{all_has, all_from, has_filtered, has_kept}
 use Rattle.sqlite_rules.proofs.ProbeLemmas.{has_mapped, mapped_has}
 use Rattle.sqlite_rules.proofs.TableLemmas.{int_is, without_all_has}
 use Rattle.office_tables_schema.specs.Schema.{office_schema}
 use Rattle.office_tables_sql.specs.Layout.{Layout, values_at, has_key}
-use Rattle.std.specs.Cmp.{tied_itself}
 use Rattle.std.specs.FinMap.{get, remove, retain_keys, same_map, get-remove, get-retain_keys}
 use Rattle.office_tables_shelf.specs.Cells.{Cell, Rows, cells_cmp}
 use Rattle.office_tables_shelf.proofs.CellLemmas.{cells_total, cells_exact, tied}
 use Rattle.office_tables_sql.specs.Stored.{cells_at, rows_in, are_sound}
 use Rattle.office_tables_sql.proofs.StoredLemmas.{agree_ties, has_cells, get_rows, HaveKeys}
-use Rattle.office_tables_sql.specs.Calls.{IsReady, Ran}
+use Rattle.office_tables_sql.specs.{Calls.IsReady, Calls.Ran, Tables.found_by}
 use Rattle.office_tables_sql.proofs.QueryLemmas.{ArePaired, answers, IsWrite}
 use Rattle.office_tables_sql.proofs.WriteLemmas.{IsIdle, went_on, same_value, shaped_without, wrote}
 use Rattle.office_tables_sql.proofs.ContentLemmas.{find_without, left_without, one_rowid}
-use Rattle.office_tables_sql.specs.Tables.{found_by}
 
 pub permuted : {X : Type 0} (xs ys : List X) → IsPermutation xs ys → (y : X) → Has ys y → Has xs y
 permuted xs ys same y there = all_has (Has xs) ys y (all-permutation (Has xs) xs ys same (all_from (Has xs) xs (λ x h. h))) there

@@ -2,30 +2,22 @@
 use Rattle.std.proofs.Common.{◌≡◌, ℕ, zero, suc, ◌+◌, Bool, true, false, not, ◌&&◌, ◌||◌, if◌then◌else◌, List, [], ◌∷◌, drop, slice_get, Option, None, Some, refl, sym, subst, true≢false, arith}
 use Rattle.std.proofs.lemmas.Bool.{and_parts, and_from}
 use Rattle.std.specs.List.{list_all}
-use Rattle.sqlite.specs.declared.types.Value.{Value}
-use Rattle.sqlite.specs.declared.types.Value.TheVariants.{Null, Int, Real, Text, Blob}
-use Rattle.sqlite.specs.Kind.{Kind}
+use Rattle.sqlite.specs.{declared.types.Value.Value, Kind.Kind, Ops.is_null, Schema.Schema}
+use Rattle.sqlite.specs.declared.types.Value.TheVariants.{Null, Int, Text}
 use Rattle.sqlite.specs.Kind.TheVariants as kind
-use Rattle.sqlite.specs.Ops.{is_null}
-use Rattle.sqlite.specs.Order.{Row, column}
-use Rattle.sqlite.specs.Schema.{Schema}
-use Rattle.sqlite.specs.Table.{Table}
-use Rattle.sqlite.specs.Tree.{Trees}
+use Rattle.sqlite.specs.{Order.Row, Order.column, Table.Table, Tree.Trees}
 use Rattle.sqlite_schema.specs.declared.schema.Column.{Column}
 use Rattle.sqlite_schema.specs.declared.schema.Constraint.TheVariants.{Datatype, NotNull}
 use Rattle.sqlite_schema.specs.Rules.{suits, has_affinity, is_of, are_typed, are_present, Obeys}
 use Rattle.sqlite_rules.specs.Lists.{Has}
 use Rattle.sqlite_rules.proofs.RuleLemmas.{keeps_at}
-use Rattle.office_tables_sql.specs.Layout.{Layout}
-use Rattle.office_tables_sql.specs.Stored.{is_sound, are_sound}
+use Rattle.office_tables_sql.specs.{Layout.Layout, Stored.is_sound, Stored.are_sound}
 use Rattle.office_tables_sql.proofs.StoredLemmas.{HaveKeys}
 
 abbrev is_sound_kind : Kind → Bool
 is_sound_kind kind.Integer = true
 is_sound_kind kind.Text = true
-is_sound_kind kind.Real = false
-is_sound_kind kind.Blob = false
-is_sound_kind kind.Any = false
+is_sound_kind _ = false
 
 abbrev is_key_column : Option Column → Bool
 is_key_column None = false
@@ -37,19 +29,12 @@ has_key_at table zero = false
 has_key_at table (suc at) = is_key_column (slice_get table.columns at)
 
 sound_value : (k : Kind) (v : Value) → is_sound_kind k ≡ true → is_of k v ≡ true → is_null v ≡ false → is_sound v ≡ true
-sound_value k Null h is some = absurd (true≢false some)
 sound_value k (Int n) h is some = refl
 sound_value k (Text t) h is some = refl
-sound_value kind.Integer (Real x) h is some = absurd (true≢false (sym is))
-sound_value kind.Text (Real x) h is some = absurd (true≢false (sym is))
-sound_value kind.Real (Real x) h is some = absurd (true≢false (sym h))
-sound_value kind.Blob (Real x) h is some = absurd (true≢false (sym h))
-sound_value kind.Any (Real x) h is some = absurd (true≢false (sym h))
-sound_value kind.Integer (Blob b) h is some = absurd (true≢false (sym is))
-sound_value kind.Text (Blob b) h is some = absurd (true≢false (sym is))
-sound_value kind.Real (Blob b) h is some = absurd (true≢false (sym h))
-sound_value kind.Blob (Blob b) h is some = absurd (true≢false (sym h))
-sound_value kind.Any (Blob b) h is some = absurd (true≢false (sym h))
+sound_value k Null h is some = absurd (true≢false some)
+sound_value kind.Integer _ h is some = absurd (true≢false (sym is))
+sound_value kind.Text _ h is some = absurd (true≢false (sym is))
+sound_value _ _ h is some = absurd (true≢false (sym h))
 
 chosen : (b x y : Bool) → b ≡ true → (if b then x else y) ≡ true → x ≡ true
 chosen true x y is h = h

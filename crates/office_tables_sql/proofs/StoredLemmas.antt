@@ -1,18 +1,13 @@
 -- SQL's = is the tie of cells, so a look-up by key gives what the map has under its cells.
 use Rattle.std.proofs.Common.{◌≡◌, ℕ, Bool, true, false, List, [], ◌∷◌, find, cond, Option, None, Some, option_map, int_cmp, refl, sym, ap, subst, ◌∙◌, true≢false, inl, inr}
 use Rattle.std.proofs.lemmas.Bool.{and_parts, and_from}
-use Rattle.std.specs.Cmp.{both_tied, eq_by_cmp_equiv}
-use Rattle.std.specs.FinMap.{get}
+use Rattle.std.specs.{Cmp.both_tied, Cmp.eq_by_cmp_equiv, FinMap.get}
 use Rattle.std.specs.Ordering.{is_eq, ordering_then}
-use Rattle.sqlite.specs.Collation.TheVariants.{Binary}
-use Rattle.sqlite.specs.declared.types.Value.{Value}
-use Rattle.sqlite.specs.declared.types.Value.TheVariants.{Null, Int, Real, Text, Blob}
-use Rattle.sqlite.specs.Order.{Row, column, value_cmp, row_cmp}
-use Rattle.sqlite.specs.Tree.{rowid}
-use Rattle.sqlite.specs.View.{IsShaped}
+use Rattle.sqlite.specs.{Collation.TheVariants.Binary, declared.types.Value.Value, Tree.rowid}
+use Rattle.sqlite.specs.declared.types.Value.TheVariants.{Int, Text}
+use Rattle.sqlite.specs.{Order.Row, Order.column, Order.value_cmp, Order.row_cmp, View.IsShaped}
 use Rattle.sqlite_trees.specs.declared.store.Shape.TheVariants as shape
-use Rattle.sqlite_rules.proofs.ListLemmas.{all_has}
-use Rattle.sqlite_rules.proofs.TableLemmas.{int_is}
+use Rattle.sqlite_rules.proofs.{ListLemmas.all_has, TableLemmas.int_is}
 use Rattle.sqlite.specs.Ops.{binary, is_true, from_truth}
 use Rattle.sqlite_schema.specs.Rules.{agree, equal}
 use Rattle.sqlite_value.specs.Keys.{plain, first_key}
@@ -34,19 +29,13 @@ compared : (a b : Value) → is_sound a ≡ true → is_sound b ≡ true
     → (value_cmp a b ≡ cell_cmp (cell_of a) (cell_of b))
     × (equal Binary a b ≡ is_eq (value_cmp a b))
 unfolding binary cell_cmp
-compared Null b h k = absurd (true≢false (sym h))
-compared (Real x) b h k = absurd (true≢false (sym h))
-compared (Blob x) b h k = absurd (true≢false (sym h))
-compared (Int m) Null h k = absurd (true≢false (sym k))
-compared (Int m) (Real y) h k = absurd (true≢false (sym k))
-compared (Int m) (Blob y) h k = absurd (true≢false (sym k))
 compared (Int m) (Int n) h k = (value_cmp-Int m n ∙ sym (then-Equal (int_cmp m n)), told _)
 compared (Int m) (Text t) h k = (value_cmp-apart (Int m) (Text t) (λ e. cc), told _)
-compared (Text s) Null h k = absurd (true≢false (sym k))
-compared (Text s) (Real y) h k = absurd (true≢false (sym k))
-compared (Text s) (Blob y) h k = absurd (true≢false (sym k))
 compared (Text s) (Int n) h k = (value_cmp-apart (Text s) (Int n) (λ e. cc), told _)
 compared (Text s) (Text t) h k = (value_cmp-Text s t, told _)
+compared (Int m) _ h k = absurd (true≢false (sym k))
+compared (Text s) _ h k = absurd (true≢false (sym k))
+compared _ b h k = absurd (true≢false (sym h))
 
 equal_ties : (a b : Value) → is_sound a ≡ true → is_sound b ≡ true → equal Binary a b ≡ is_eq (cell_cmp (cell_of a) (cell_of b))
 equal_ties a b h k = let it = compared a b h k in it.1 ∙ ap is_eq it.0

@@ -1,28 +1,16 @@
 -- The statements that put and remove rows, and what they make of the tables.
 use Rattle.std.proofs.Common.{◌≡◌, ◌≢◌, ℕ, List, [], ◌∷◌, ◌++◌, map, filter, length, not, refl, sym, ap, subst, ◌∙◌}
-use Rattle.std.specs.FinMap.{insert, remove, retain_keys}
-use Rattle.std.specs.Cmp.{eq_by_cmp_equiv}
-use Rattle.std.specs.List.{IsDistinct}
-use Rattle.std.specs.List.Sorted.{IsPermutation}
-use Rattle.std.specs.Ordering.{eq_by_cmp}
-use Rattle.sqlite.specs.declared.types.Value.TheVariants.{Null}
-use Rattle.sqlite.specs.Cast.{cast_row}
-use Rattle.sqlite.specs.Edit.{with_rowid}
+use Rattle.std.specs.{FinMap.insert, FinMap.remove, FinMap.retain_keys, Cmp.eq_by_cmp_equiv}
+use Rattle.std.specs.{List.IsDistinct, List.Sorted.IsPermutation, Ordering.eq_by_cmp}
+use Rattle.sqlite.specs.{declared.types.Value.TheVariants.Null, Cast.cast_row, Edit.with_rowid}
 use Rattle.sqlite.specs.Kind.TheVariants as kind
-use Rattle.sqlite.specs.Rowids.TheVariants.{Chosen}
-use Rattle.sqlite.specs.Order.{Row}
-use Rattle.sqlite.specs.Program.{overlay}
-use Rattle.sqlite.specs.Query.{IsAnswer}
-use Rattle.sqlite.specs.Rows.{Written}
-use Rattle.sqlite.specs.State.{State}
-use Rattle.sqlite.specs.Term.{col, eval_all}
+use Rattle.sqlite.specs.{Rowids.TheVariants.Chosen, Order.Row, Program.overlay, Query.IsAnswer}
+use Rattle.sqlite.specs.{Rows.Written, State.State, Term.col, Term.eval_all}
 use Rattle.sqlite_rules.specs.Lists.{Has}
-use Rattle.office_tables_shelf.specs.Cells.{Cell, cells_cmp, null}
+use Rattle.office_tables_shelf.specs.{Cells.Cell, Cells.cells_cmp, Cells.null, Content.Content}
 use Rattle.office_tables_shelf.proofs.CellLemmas.{cells_total}
-use Rattle.office_tables_shelf.specs.Content.{Content}
 use Rattle.office_tables_shelf.specs.declared.rows.Table.{Table}
-use Rattle.office_tables_sql.specs.Calls.{IsReady, Ran}
-use Rattle.office_tables_sql.specs.Layout.{has_key, values_at}
+use Rattle.office_tables_sql.specs.{Calls.IsReady, Calls.Ran, Layout.has_key, Layout.values_at}
 use Rattle.office_tables_schema.specs.Schema.{office_schema}
 use Rattle.office_tables_sql.specs.Stored.{cells_at, content_now, rows_in}
 use Rattle.office_tables_sql.proofs.Casts.{cast_one, cast_suited}

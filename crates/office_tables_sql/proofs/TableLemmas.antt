@@ -1,32 +1,23 @@
 -- What is known of each table by computation on the schema.
 use Rattle.std.proofs.Common.{◌≡◌, ◌≢◌, ◌⊎◌, inl, inr, ℕ, ◌+◌, ◌/◌, true, false, true≢false, cond, List, [], ◌∷◌, slice_get, unwrap_or, None, Some, refl, sym, ap, subst, ◌∙◌, eq-eqb, pos}
 use Rattle.std.proofs.lemmas.Bool.{cases_Bool, eqb-true, and_parts, and_from}
-use Rattle.std.specs.List.{AllByRecursion, list_all}
-use Rattle.sqlite.specs.Order.{Row, column}
-use Rattle.sqlite.specs.Term.{Term, holds}
-use Rattle.sqlite.specs.Tree.{Trees}
-use Rattle.sqlite.specs.Program.{overlay}
+use Rattle.std.specs.{List.AllByRecursion, List.list_all, Cmp.eq_by_cmp_equiv, Ordering.is_eq}
+use Rattle.sqlite.specs.{Order.Row, Order.column, Term.Term, Term.holds, Tree.Trees}
+use Rattle.sqlite.specs.{Program.overlay, declared.types.Value.TheVariants.Int}
 use Rattle.sqlite_rules.specs.Lists.{Has}
 use Rattle.sqlite_rules.proofs.ListLemmas.{all_has}
-use Rattle.sqlite_schema.specs.Rules.{guards}
-use Rattle.sqlite_schema.specs.declared.schema.Index.{Index}
+use Rattle.sqlite_schema.specs.{Rules.guards, declared.schema.Index.Index}
 use Rattle.sqlite_value.specs.Keys.{plain, first_key}
-use Rattle.office_tables_shelf.specs.Cells.{Rows, number, cell_cmp}
+use Rattle.office_tables_shelf.specs.{Cells.Rows, Cells.number, Cells.cell_cmp, Shelf.is_of}
 use Rattle.office_tables_shelf.specs.Content.{Content, is_same_table}
 use Rattle.office_tables_shelf.specs.declared.rows.Table.{Table}
 use Rattle.office_tables_shelf.specs.declared.rows.Table.TheVariants as table
 use Rattle.office_tables_schema.specs.Schema.{office_schema}
 use Rattle.office_tables_sql.specs.Stored.{cells_at, rows_in, content_of, are_sound, cell_of}
-use Rattle.office_tables_sql.proofs.ListedLemmas.{IsListing}
-use Rattle.office_tables_sql.proofs.QueryLemmas.{ArePaired}
-use Rattle.office_tables_sql.proofs.SoundLemmas.{has_key_at}
-use Rattle.office_tables_sql.proofs.WriteLemmas.{IsIdle}
+use Rattle.office_tables_sql.proofs.{ListedLemmas.IsListing, QueryLemmas.ArePaired}
+use Rattle.office_tables_sql.proofs.{SoundLemmas.has_key_at, WriteLemmas.IsIdle}
 use Rattle.office_tables_sql.specs.Tables.{rows_at, with_rows, layout_at, schema_at, place_at, key_shown, columns_shown, filter_of, params_of, is_among, of_key}
-use Rattle.std.specs.Cmp.{eq_by_cmp_equiv}
-use Rattle.std.specs.Ordering.{is_eq}
-use Rattle.sqlite.specs.declared.types.Value.TheVariants.{Int}
 use Rattle.sqlite_value.proofs.OrderLemmas.{then-Equal}
-use Rattle.office_tables_shelf.specs.Shelf.{is_of}
 use Rattle.office_tables_shelf.proofs.CellLemmas.{cell_total}
 use Rattle.office_tables_sql.proofs.StoredLemmas.{agree_ties}
 
@@ -83,13 +74,7 @@ is_uncounted = each (λ t. (schema_at t).is_counted ≡ false) refl refl refl re
 
 pub is_idle : (t : Table) → IsIdle office_schema (schema_at t)
 is_idle table.Intersection = record { on_change = λ olds new. refl; on_delete = λ olds. refl }
-is_idle table.Timing = record { on_change = λ olds new. refl; on_delete = λ olds. refl }
-is_idle table.Draft = record { on_change = λ olds new. refl; on_delete = λ olds. refl }
-is_idle table.Inspection = record { on_change = λ olds new. refl; on_delete = λ olds. refl }
-is_idle table.WorkOrder = record { on_change = λ olds new. refl; on_delete = λ olds. refl }
-is_idle table.Part = record { on_change = λ olds new. refl; on_delete = λ olds. refl }
-is_idle table.Delivery = record { on_change = λ olds new. refl; on_delete = λ olds. refl }
-is_idle table.UsedPart = record { on_change = λ olds new. refl; on_delete = λ olds. refl }
+is_idle _ = record { on_change = λ olds new. refl; on_delete = λ olds. refl }
 
 -- ---- keys
 
@@ -136,13 +121,7 @@ same_table t other same = sym (at_place t) ∙ ap table_at (eqb-true (place_at t
 -- whatever its filter
 pub listing_of : (filter : List Term) (t : Table) → IsListing (layout_at t) filter (key_shown t) (columns_shown t)
 listing_of filter table.Intersection = record { shows = λ params row. refl; orders = λ a b. refl; keys = λ row. refl; others = λ row. refl }
-listing_of filter table.Timing = record { shows = λ params row. refl; orders = λ a b. refl; keys = λ row. refl; others = λ row. refl }
-listing_of filter table.Draft = record { shows = λ params row. refl; orders = λ a b. refl; keys = λ row. refl; others = λ row. refl }
-listing_of filter table.Inspection = record { shows = λ params row. refl; orders = λ a b. refl; keys = λ row. refl; others = λ row. refl }
-listing_of filter table.WorkOrder = record { shows = λ params row. refl; orders = λ a b. refl; keys = λ row. refl; others = λ row. refl }
-listing_of filter table.Part = record { shows = λ params row. refl; orders = λ a b. refl; keys = λ row. refl; others = λ row. refl }
-listing_of filter table.Delivery = record { shows = λ params row. refl; orders = λ a b. refl; keys = λ row. refl; others = λ row. refl }
-listing_of filter table.UsedPart = record { shows = λ params row. refl; orders = λ a b. refl; keys = λ row. refl; others = λ row. refl }
+listing_of filter _ = record { shows = λ params row. refl; orders = λ a b. refl; keys = λ row. refl; others = λ row. refl }
 
 -- ---- the content
 

@@ -1,20 +1,16 @@
 use Rattle.std.proofs.Common.{◌≡◌, ◌++◌, rules, refl, None, Some, [], ◌∷◌, arith, ap, subst, sym, ◌∙◌, Err}
 use Rattle.std.specs.Prelude.{option_copied}
-use Rattle.sqlite.specs.Given.{GivesOn, row_if}
-use Rattle.sqlite.specs.Order.{Row}
-use Rattle.sqlite.specs.State.{HasCleanDisk, Survives}
+use Rattle.sqlite.specs.{Given.GivesOn, Given.row_if, Order.Row, State.HasCleanDisk}
 use Rattle.sqlite.specs.Held.{state}
 use Rattle.sqlite.proofs.Callers.{given_begin, begun_plain, unchanged_then}
 use Rattle.office_tables_shelf.proofs.ListLemmas.{all_more}
 use Rattle.office_tables_shelf.specs.declared.shelf.ShelfFault.TheVariants.{Damaged}
-use Rattle.office_tables_sql.specs.Calls.{IsHonest, Keeps, Reads}
-use Rattle.office_tables_sql.specs.Stored.{content_now}
+use Rattle.office_tables_sql.specs.{Calls.IsHonest, Calls.Keeps, Calls.Reads, Stored.content_now}
 use Rattle.office_tables_sql.specs.Tables.{params_of, row_shown, stored_for, HasDamagedRow}
 use Rattle.office_tables_sql.specs.Gathers.{Gathers}
 use Rattle.office_tables_sql.proofs.StoredLists.{lists, width, damaged_at}
-use Rattle.office_tables_sql.proofs.CallLemmas.{survives_on}
-use Rattle.office_tables_sql.proofs.CallLemmas.{plain_at, refused_keeps, began_survives, still_keeps, broken_keeps, all_read, some_read, has_mid, one_more, next_honest, next_keeps}
-use Rattle.office_tables_sql.proofs.each_row.gather_each.Given.{Over}
+use Rattle.office_tables_sql.proofs.{CallLemmas.survives_on, each_row.gather_each.Given.Over}
+use Rattle.office_tables_sql.proofs.CallLemmas.{plain_at, refused_keeps, began_survives, broken_keeps, all_read, some_read, has_mid, one_more, next_honest, next_keeps}
 use Rattle.office_tables_sql.proofs.each_row.gather_each.Goals as goal
 use Rattle.office_tables_sql.proofs.each_row.gather_each.Goals.{In_default}
 
@@ -36,31 +32,25 @@ honest g c =
 pub returns-in-Err-clause-kept : goal.returns-in-Err-clause-kept
 returns-in-Err-clause-kept g c =
     let held = rw (c.in-Err.is, c.requires.params) at c.query_prepared.follows.holds-at-none in
-    refused_keeps g.T.StoredRow.list_text c.args.statement.now.text (params_of g.T.StoredRow.table (g.T.StoredRow.number c.args.of)) g.met.T.StoredRow.lists.query (state g.S.Store c.args.conn.now) c.requires.office c.requires.opened c.requires.text
-    (state g.S.Store c.query_prepared.follows.lender-at-none) held.survives (held.mode c.requires.office.autocommit) _ held.err
+    refused_keeps _ _ _ g.met.T.StoredRow.lists.query _ c.requires.office c.requires.opened c.requires.text _ held.survives (held.mode c.requires.office.autocommit) _ held.err
 
 pub returns-in-Err-clause-crash : goal.returns-in-Err-clause-crash
 returns-in-Err-clause-crash g c =
     let held = rw (c.in-Err.is, c.requires.params) at c.query_prepared.follows.holds-at-none in
-    began_survives g.T.StoredRow.list_text c.args.statement.now.text (params_of g.T.StoredRow.table (g.T.StoredRow.number c.args.of)) g.met.T.StoredRow.lists.query (state g.S.Store c.args.conn.now) c.requires.office c.requires.opened c.requires.text
-    (state g.S.Store c.query_prepared.follows.lender-at-none) held.survives (held.mode c.requires.office.autocommit)
+    began_survives _ _ _ g.met.T.StoredRow.lists.query _ c.requires.office c.requires.opened c.requires.text _ held.survives (held.mode c.requires.office.autocommit)
 
 pub rows-init : goal.rows-init
 rows-init g c =
-    let sql = g.T.StoredRow.list_text in
-    let text = c.args.statement.now.text in
-    let params : Row = params_of g.T.StoredRow.table (g.T.StoredRow.number c.args.of) in
     let query = g.met.T.StoredRow.lists.query in
-    let old = state g.S.Store c.args.conn.now in
-    let new = state g.S.Store c.in-Ok.rows.conn.now in
     let made = rw (c.requires.params) at c.in-Ok.ensures in
     let mode = made.mode c.requires.office.autocommit in
-    let survives : Survives old new (λ _. ⊥) = began_survives sql text params query old c.requires.office c.requires.opened c.requires.text new made.survives mode in (
+    let params : Row = params_of g.T.StoredRow.table (g.T.StoredRow.number c.args.of) in
+    let survives = began_survives _ _ params query _ c.requires.office c.requires.opened c.requires.text _ made.survives mode in (
       refl,
       survives,
       mode,
       λ clean.
-          let begun = begun_plain g.S.Store text params c.args.conn.now c.in-Ok.rows.conn.now (plain_at sql text params query old c.requires.office c.requires.opened c.requires.text (omega (arith, clean, survives.clean))) (made.begun clean) in
+          let begun = begun_plain g.S.Store _ params c.args.conn.now c.in-Ok.rows.conn.now (plain_at _ _ params query _ c.requires.office c.requires.opened c.requires.text (omega (arith, clean, survives.clean))) (made.begun clean) in
           (begun.1, [], begun.0, ([], c.requires.begun, tt, refl)),
     )
 
@@ -75,27 +65,23 @@ returns-in-Err-advance-clause-kept g c =
 
 pub returns-in_default-get-clause-rows : goal.returns-in_default-get-clause-rows
 returns-in_default-get-clause-rows g c =
-    let sql = g.T.StoredRow.list_text in
     let text = c.args.statement.now.text in
     let params : Row = params_of g.T.StoredRow.table (g.T.StoredRow.number c.args.of) in
     let means = g.met.T.StoredRow.lists in
     let inv = c.rows.invariant in
     let old = state g.S.Store c.args.conn.now in
-    let mid = state g.S.Store c.rows.rows.conn.now in
     let new = state g.S.Store c.advance.new.self.conn.now in
     let step = c.in_default.ensures in
     let none : row_if c.advance.new.self.has_row c.advance.new.self.conn.now ≡ None = sym c.get.ensures ∙ ap option_copied c.in_default-get.is in
     let told : IsHonest new → Gathers g.G.Gather.holds g.T.StoredRow.table g.T.StoredRow.is_within
     g.T.StoredRow.key g.T.StoredRow.columns (content_now old)
     (g.T.StoredRow.number c.args.of) c.rows.found = λ honest.
-    let before = c.requires.office.schema in
     let now = inv.3 (omega (arith, honest.0, step.survives.clean)) in
     let shown = λ (clean : HasCleanDisk new). subst (GivesOn g.S.Store text params c.rows.rows.conn.now c.advance.new.self.conn.now now.1) none (step.ok clean text params now.1 now.2) in
-    let reads : Reads sql params old.now now.1 = all_read sql text params means.query old c.requires.office c.requires.opened c.requires.text mid inv.1 inv.2 (λ clean. (inv.3 clean).0) new step.survives (step.mode inv.2) now.1 shown honest in
-    let was : IsHonest old = (next_keeps sql means.query old c.requires.office mid inv.1 inv.2 (λ clean. (inv.3 clean).0) new step.survives step.mode step.same).honest honest in
-    let listed = lists g.T.StoredRow.table old.now (c.requires.office.schema was)
-    (c.requires.office.sound was) (c.requires.office.ordered was) sql means
-    (g.T.StoredRow.number c.args.of) now.1 reads in
+    let reads : Reads g.T.StoredRow.list_text params old.now now.1 = all_read _ text params means.query old c.requires.office c.requires.opened c.requires.text _ inv.1 inv.2 (λ clean. (inv.3 clean).0) _ step.survives (step.mode inv.2) now.1 shown honest in
+    let was = (keeps g (goal.at.returns-in_default-get-clause-rows g c).In_default).honest honest in
+    let office = c.requires.office in
+    let listed = lists g.T.StoredRow.table old.now (office.schema was) (office.sound was) (office.ordered was) _ means (g.T.StoredRow.number c.args.of) now.1 reads in
     record { records = now.3.0; held = now.3.1; within = now.3.2; lists = now.3.3 ∙ listed } in
     search rules
 
@@ -111,32 +97,29 @@ returns-in_default-get-clause-kept g c =
 
 pub returns-in_err-record-clause-damaged : goal.returns-in_err-record-clause-damaged
 returns-in_err-record-clause-damaged g c bad =
-    let sql = g.T.StoredRow.list_text in
     let text = c.args.statement.now.text in
     let params : Row = params_of g.T.StoredRow.table (g.T.StoredRow.number c.args.of) in
     let means = g.met.T.StoredRow.lists in
     let inv = c.rows.invariant in
     let old = state g.S.Store c.args.conn.now in
-    let mid = state g.S.Store c.rows.rows.conn.now in
     let new = state g.S.Store c.advance.new.self.conn.now in
     let step = c.in_default.ensures in
-    let survives = survives_on old mid new inv.1 step.survives in
+    let survives = survives_on _ _ _ inv.1 step.survives in
     let mode = step.mode inv.2 in
-    let unchanged = λ (clean : HasCleanDisk new). unchanged_then old mid new (inv.3 (omega (arith, clean, step.survives.clean))).0 (step.same clean) in
+    let unchanged = λ (clean : HasCleanDisk new). unchanged_then _ _ _ (inv.3 (omega (arith, clean, step.survives.clean))).0 (step.same clean) in
     let is : c.read.result ≡ Err Damaged = search rules in
     let some : row_if c.advance.new.self.has_row c.advance.new.self.conn.now ≡ Some c.in-Some.row.now = sym c.get.ensures ∙ ap option_copied c.in-Some.is in
     let told : IsHonest new → HasDamagedRow g.T.StoredRow.table g.T.StoredRow.is_within g.T.StoredRow.key g.T.StoredRow.columns (content_now old) (g.T.StoredRow.number c.args.of) = λ honest.
     let now = inv.3 (omega (arith, honest.0, step.survives.clean)) in
     let so_far = now.1 ++ c.in-Some.row.now ∷ [] in
     let given = subst (GivesOn g.S.Store text params c.rows.rows.conn.now c.advance.new.self.conn.now now.1) some (step.ok honest.0 text params now.1 now.2) in
-    let whole = some_read sql text params means.query old c.requires.office c.requires.opened c.requires.text new survives mode unchanged g.T.StoredRow.table means honest so_far (given_begin g.S.Store text params c.advance.new.self.conn.now so_far given) in
-    let was : IsHonest old = (still_keeps sql means.query old c.requires.office new survives mode unchanged).honest honest in
+    let whole = some_read _ text params means.query old c.requires.office c.requires.opened c.requires.text new survives mode unchanged g.T.StoredRow.table means honest so_far (given_begin g.S.Store text params c.advance.new.self.conn.now so_far given) in
+    let was = (keeps g (goal.at.returns-in_err-record-clause-damaged g c).In_default).honest honest in
     let all = so_far ++ whole.0 in
-    let schema = c.requires.office.schema was in
-    let sound = c.requires.office.sound was in
-    let ordered = c.requires.office.ordered was in
+    let office = c.requires.office in
     damaged_at g.T.StoredRow.table g.T.StoredRow.is_within g.T.StoredRow.key g.T.StoredRow.columns (content_now old) (g.T.StoredRow.number c.args.of) all
-    (lists g.T.StoredRow.table old.now schema sound ordered sql means (g.T.StoredRow.number c.args.of) all whole.1) (width g.T.StoredRow.table old.now schema sound ordered sql means (g.T.StoredRow.number c.args.of) all whole.1)
+    (lists g.T.StoredRow.table old.now (office.schema was) (office.sound was) (office.ordered was) _ means (g.T.StoredRow.number c.args.of) all whole.1)
+    (width g.T.StoredRow.table old.now (office.schema was) (office.sound was) (office.ordered was) _ means (g.T.StoredRow.number c.args.of) all whole.1)
     c.in-Some.row.now (has_mid now.1 c.in-Some.row.now whole.0) (c.read.ensures.damaged is) in
     search rules
 
@@ -157,25 +140,20 @@ returns-in_err-take-clause-kept g c =
 
 pub rows-preserved : goal.rows-preserved
 rows-preserved g c =
-    let sql = g.T.StoredRow.list_text in
     let text = c.args.statement.now.text in
     let params : Row = params_of g.T.StoredRow.table (g.T.StoredRow.number c.args.of) in
-    let means = g.met.T.StoredRow.lists in
     let inv = c.rows.invariant in
-    let old = state g.S.Store c.args.conn.now in
-    let mid = state g.S.Store c.rows.rows.conn.now in
     let new = state g.S.Store c.advance.new.self.conn.now in
     let step = c.in_default.ensures in
-    let survives = survives_on old mid new inv.1 step.survives in
-    let mode = step.mode inv.2 in
-    let unchanged = λ (clean : HasCleanDisk new). unchanged_then old mid new (inv.3 (omega (arith, clean, step.survives.clean))).0 (step.same clean) in
+    let survives = survives_on _ _ _ inv.1 step.survives in
+    let unchanged = λ (clean : HasCleanDisk new). unchanged_then _ _ _ (inv.3 (omega (arith, clean, step.survives.clean))).0 (step.same clean) in
     let some : row_if c.advance.new.self.has_row c.advance.new.self.conn.now ≡ Some c.in-Some.row.now = sym c.get.ensures ∙ ap option_copied c.in-Some.is in
     let read = c.in_ok-record.record in
     let key = c.in_ok-record.ensures.key in
     let columns = c.in_ok-record.ensures.columns in (
       step.same_reference ∙ inv.0,
       survives,
-      mode,
+      step.mode inv.2,
       λ clean.
           let now = inv.3 (omega (arith, clean, step.survives.clean)) in
           let given = subst (GivesOn g.S.Store text params c.rows.rows.conn.now c.advance.new.self.conn.now now.1) some (step.ok clean text params now.1 now.2) in (

@@ -4,8 +4,7 @@ use Rattle.office_tables_shelf.specs.CabinetReads.{IsPartWithin}
 use Rattle.office_tables_shelf.specs.CabinetRows.{part_key, part_columns}
 use Rattle.office_tables_shelf.specs.declared.rows.Table.TheVariants as table
 use Rattle.office_tables_shelf.specs.declared.shelf.ShelfFault.TheVariants.{Damaged}
-use Rattle.office_tables_sql.specs.Stored.{content_now}
-use Rattle.office_tables_sql.specs.Tables.{HasDamagedUnder}
+use Rattle.office_tables_sql.specs.{Stored.content_now, Tables.HasDamagedUnder}
 use Rattle.office_tables_sql.proofs.part.hand.Goals as goal
 
 pub find-requires-clause-key : goal.find-requires-clause-key

@@ -1,9 +1,7 @@
-use Rattle.std.proofs.Common.{◌≡◌, ◌++◌, arith, subst, sym}
-use Rattle.sqlite.specs.Held.{state}
-use Rattle.sqlite.specs.State.{HasCleanDisk}
-use Rattle.office_tables_sql.specs.Calls.{IsReady, Ran}
-use Rattle.office_tables_sql.specs.Stored.{content_now}
-use Rattle.office_tables_sql.specs.Tables.{put_in, values_of}
+use Rattle.std.proofs.Common.{◌≡◌, arith, subst, sym}
+use Rattle.sqlite.specs.{Held.state, State.HasCleanDisk}
+use Rattle.office_tables_sql.specs.{Calls.IsReady, Stored.content_now}
+use Rattle.office_tables_sql.specs.Tables.{put_in}
 use Rattle.office_tables_sql.proofs.StoredPuts.{one_put, two_put}
 use Rattle.office_tables_sql.proofs.stored_row.put.Given.{Over}
 use Rattle.office_tables_sql.proofs.stored_row.put.Goals as goal
@@ -14,27 +12,22 @@ stored : (g : Over) (c : After-drop-text-2 g) → HasCleanDisk (state g.S.Store 
     → IsReady (state g.S.Store c.if-changed-eq0.tx.conn.now) × (content_now (state g.S.Store c.if-changed-eq0.tx.conn.now) ≡ put_in (content_now (state g.S.Store c.args.tx.now.conn.now)) g.T.StoredRow.table (g.T.StoredRow.key (g.T.StoredRow.number c.args.of) c.args.row.now) (g.T.StoredRow.columns c.args.row.now))
 stored g c clean ready =
     let T = g.T.StoredRow in
-    let key = T.key (T.number c.args.of) c.args.row.now in
-    let columns = T.columns c.args.row.now in
     let met = g.met.T.StoredRow in
     let fits = met.fits (T.number c.args.of) c.args.row.now in
-    let old = state g.S.Store c.args.tx.now.conn.now in
-    let mid = state g.S.Store c.write.new.tx.conn.now in
-    let first : HasCleanDisk mid → Ran T.update_text (values_of (key ++ columns)) old mid c.in_ok-changed.changed = λ clear.
+    let put = put_in (content_now (state g.S.Store c.args.tx.now.conn.now)) T.table (T.key (T.number c.args.of) c.args.row.now) (T.columns c.args.row.now) in
+    let first = λ (clear : HasCleanDisk (state g.S.Store c.write.new.tx.conn.now)).
     rw (c.update_text.ensures, c.as_slice.ensures.value, c.in-Ok.ensures) at (c.in_ok-changed.ensures.ran clear) in
     elim c.if-changed-eq0.branch [
       | then-changed-eq0+in_ok-write w ↦
-          let new = state g.S.Store w.write-then-changed-eq0.new.tx.conn.now in
-          let clear : HasCleanDisk new = subst (λ tx. HasCleanDisk (state g.S.Store tx.conn.now)) w.tx-is clean in
-          let second : Ran T.insert_text (values_of (key ++ columns)) mid new w.in_ok-write.field-0 =
-          rw (w.insert_text.ensures, w.as_slice-then-changed-eq0.ensures.value, c.in-Ok.ensures) at (w.in_ok-write.ensures.ran clear) in
-          subst (λ tx. IsReady (state g.S.Store tx.conn.now) × (content_now (state g.S.Store tx.conn.now) ≡ put_in (content_now old) T.table key columns)) (sym w.tx-is)
-          (two_put T.table key columns fits T.update_text T.insert_text met.updates met.inserts old mid new c.in_ok-changed.changed w.in_ok-write.field-0 w.if-changed-eq0.true ready
+          let clear = subst (λ tx. HasCleanDisk (state g.S.Store tx.conn.now)) w.tx-is clean in
+          let second = rw (w.insert_text.ensures, w.as_slice-then-changed-eq0.ensures.value, c.in-Ok.ensures) at (w.in_ok-write.ensures.ran clear) in
+          subst (λ tx. IsReady (state g.S.Store tx.conn.now) × (content_now (state g.S.Store tx.conn.now) ≡ put)) (sym w.tx-is)
+          (two_put _ _ _ fits _ _ met.updates met.inserts _ _ _ _ _ w.if-changed-eq0.true ready
           (first (omega (arith, clear, w.in_ok-write.ensures.crash.clean))) second)
       | else-changed-eq0 w ↦
-          let clear : HasCleanDisk mid = subst (λ tx. HasCleanDisk (state g.S.Store tx.conn.now)) w.tx-is clean in
-          subst (λ tx. IsReady (state g.S.Store tx.conn.now) × (content_now (state g.S.Store tx.conn.now) ≡ put_in (content_now old) T.table key columns)) (sym w.tx-is)
-          (one_put T.table key columns fits T.update_text met.updates old mid c.in_ok-changed.changed w.if-changed-eq0.false ready (first clear))
+          subst (λ tx. IsReady (state g.S.Store tx.conn.now) × (content_now (state g.S.Store tx.conn.now) ≡ put)) (sym w.tx-is)
+          (one_put _ _ _ fits _ met.updates _ _ _ w.if-changed-eq0.false ready
+          (first (subst (λ tx. HasCleanDisk (state g.S.Store tx.conn.now)) w.tx-is clean)))
     ]
 
 pub returns-clause-ready : goal.returns-clause-ready

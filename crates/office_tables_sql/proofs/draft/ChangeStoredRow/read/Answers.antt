@@ -1,12 +1,9 @@
 use Rattle.std.proofs.Common.{rules, ◌≡◌, ◌∙◌, sym, ap, arith, ◌≤◌, length}
 use Rattle.sqlite.specs.Order.{column}
-use Rattle.signal_records.specs.Row.{key_of}
-use Rattle.signal_records.specs.Within.{IsChangeWithin, current_limits}
-use Rattle.signal_records.specs.declared.record.Change.{Change}
-use Rattle.signal_records.specs.declared.record.Change.TheVariants.{Put, Remove}
+use Rattle.signal_records.specs.{Row.key_of, Within.IsChangeWithin, Within.current_limits}
+use Rattle.signal_records.specs.declared.record.Change.{Change, TheVariants.Put, TheVariants.Remove}
 use Rattle.office_tables_shelf.specs.Rows.{timing_key, draft_key, draft_columns}
-use Rattle.office_tables_sql.specs.Listed.{shown_key, shown_body}
-use Rattle.office_tables_sql.specs.Stored.{cell_of}
+use Rattle.office_tables_sql.specs.{Listed.shown_key, Listed.shown_body, Stored.cell_of}
 use Rattle.office_tables_sql.proofs.BodyReading.{same_stored}
 use Rattle.office_tables_sql.proofs.draft.ChangeStoredRow.read.Goals as goal
 
