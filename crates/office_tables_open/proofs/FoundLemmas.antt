@@ -1,10 +1,9 @@
 -- What is found in tables whose layout is not the office's; and a database that lists nothing has no rows.
 use Rattle.std.proofs.Common.{◌≡◌, ◌≢◌, inl, inr, ℕ, Bool, true, false, true≢false, not, IsTrue, List, [], ◌∷◌, length, eqb, eq-eqb, filter, find, map, option_map, Option, None, Some, ℤ, pos, refl, sym, ap, ◌∙◌, ◌&&◌, ◌⊎◌, ◌<◌, nat_lt, subst, arith}
-use Rattle.std.proofs.{lemmas.Bool.and_parts, lemmas.Bool.cases_Bool, lemmas.Bool.ltb-true, lemmas.List.length-map, lemmas.List.Sorted.length_permutation}
+use Rattle.std.proofs.{lemmas.Bool.and_parts, lemmas.Bool.cases_Bool, lemmas.Bool.ltb-true, lemmas.List.length-map, lemmas.List.nil_from_length, lemmas.List.Sorted.length_permutation}
 use Rattle.std.specs.{FinMap.get, FinMap.get-empty, Ordering.is_eq, List.AllZip, List.AllByRecursion, List.list_all}
 use Rattle.sqlite.specs.{Collation.TheVariants.Binary, Ops.binary, Ops.is_true, Ops.from_truth, Order.Row, Order.column, Tree.Trees}
-use Rattle.sqlite.specs.View.{View, IsShaped}
-use Rattle.sqlite.specs.declared.types.Value.TheVariants.{Int}
+use Rattle.sqlite.specs.{View.View, View.IsShaped, declared.types.Value.TheVariants.Int}
 use Rattle.sqlite.specs.declared.types.Value.{Value}
 use Rattle.sqlite_rules.proofs.ListLemmas.{all_has, all_from, test_has}
 use Rattle.sqlite_rules.specs.Lists.{Has}
@@ -16,8 +15,7 @@ use Rattle.sqlite_trees.specs.Objects.{catalog_tree, shape_code, number_in, row_
 use Rattle.sqlite_trees.specs.Tree.{sought, from_key, has_rowid}
 use Rattle.sqlite_trees.specs.declared.store.Direction.TheVariants.{Forward}
 use Rattle.sqlite_trees.specs.declared.store.Shape.TheVariants as shape
-use Rattle.sqlite_value.specs.{Keys.first_key, Order.value_cmp}
-use Rattle.sqlite_value.specs.declared.keys.Order.{Order}
+use Rattle.sqlite_value.specs.{Keys.first_key, Order.value_cmp, declared.keys.Order.Order}
 use Rattle.office_tables_shelf.specs.Cells.{number, cells_cmp}
 use Rattle.office_tables_sql.specs.Layout as layout
 use Rattle.office_tables_schema.specs.Schema.{no_schema}
@@ -30,7 +28,6 @@ use Rattle.office_tables_open.specs.declared.{found.Found.Found, found.TheConsta
 use Rattle.sqlite_catalog.specs.Listing.{AreListed, IsSound, IsTableRow, is_table_row, is_index_row, is_view_row}
 use Rattle.sqlite_catalog.proofs.LayoutLemmas.{row_kind, index_row, index_owner, named_tree}
 use Rattle.sqlite_sql.specs.Catalog.{IsIndexOf, entry_of}
-use Rattle.office_tables_open.proofs.VersionLemmas.{none_left}
 
 -- ---- the first row of a tree
 
@@ -181,7 +178,7 @@ module _ (trees : Trees) (it : IsArranged trees) where
         let row = index_row it.listed it.objects.0 sound.lists.listed i there in
         let entries = all_has (λ i. IsIndexOf i.columns (trees i.table) (trees i.tree)) schema.indexes i sound.obeys.indexed there in
         let none_in : trees i.table ≡ [] = ap trees (index_owner row.2.table i _ row.2.defined) ∙ all_has (λ (t : Table). trees t.tree ≡ []) schema.tables row.2.table none row.2.listed in
-        none_left (trees i.tree) (length_permutation _ _ entries ∙ length-map _ (entry_of i.columns) ∙ ap length none_in)
+        nil_from_length (trees i.tree) (length_permutation _ _ entries ∙ length-map _ (entry_of i.columns) ∙ ap length none_in)
 
     empty_tree : (tree : ℕ) → tree < 65536 → trees tree ≡ []
     empty_tree tree low = elim (named_tree it.listed it.objects.0 sound.lists.listed tree (λ e. absurd (omega (arith, e, low))) (λ e. absurd (omega (arith, e, low)))) [

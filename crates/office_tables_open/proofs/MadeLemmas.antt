@@ -8,11 +8,10 @@ use Rattle.sqlite.specs.{Rows.Then, Rows.Gives, Tree.Trees, View.IsShaped}
 use Rattle.sqlite.proofs.Callers.{runs_as, through}
 use Rattle.sqlite_catalog.specs.Change.{created, next_tree, KeepsRows}
 use Rattle.sqlite_resolve.specs.Compile.{table_defined_by}
-use Rattle.sqlite_schema.specs.declared.{schema.Schema.Schema, schema.Table.Table}
+use Rattle.sqlite_schema.specs.declared.schema.{Schema.Schema, Table.Table}
 use Rattle.sqlite_tied.specs.Compute.{everything}
 use Rattle.sqlite_trees.specs.declared.store.Shape.TheVariants as shape
-use Rattle.sqlite_trees.specs.declared.store.Store.{Ghosts}
-use Rattle.sqlite_trees.specs.View.{doubt}
+use Rattle.sqlite_trees.specs.{declared.store.Store.Ghosts, View.doubt}
 use Rattle.sqlite_trees.proofs.ListLemmas.{all_both, all_weaker}
 use Rattle.office_tables_shelf.proofs.ListLemmas.{all_more}
 use Rattle.office_tables_shelf.specs.Content.{no_content}

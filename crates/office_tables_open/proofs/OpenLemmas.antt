@@ -2,12 +2,11 @@
 use Rattle.std.proofs.Common.{◌≡◌, ◌≤◌, inl, inr, [], Option, Some, option_map, IsTrue, false, refl, sym, ap, subst, ◌∙◌, arith}
 use Rattle.sqlite.specs.State.{State, HasCleanDisk, Opens, IsLive}
 use Rattle.sqlite.specs.{Effect.Database, Effect.IsDatabase, Held.Held, Held.state, Steps.IsFresh, Order.Row, Tree.Trees, View.View, View.IsClean}
-use Rattle.sqlite_trees.specs.{View.doubt, Objects.catalog_tree}
-use Rattle.sqlite_trees.specs.declared.store.Store.{Ghosts}
+use Rattle.sqlite_trees.specs.{View.doubt, Objects.catalog_tree, declared.store.Store.Ghosts}
 use Rattle.sqlite_catalog.specs.Listing.{AreListed}
 use Rattle.office_tables_shelf.specs.Counts.{no_writes}
 use Rattle.office_tables_schema.specs.Schema.{office_schema, no_schema, version_table}
-use Rattle.office_tables_sql.specs.{Calls.IsHonest, Calls.IsOffice}
+use Rattle.office_tables_sql.specs.Calls.{IsHonest, IsOffice}
 use Rattle.office_tables_sql.specs.Stored.{cells, content_now, content_of}
 use Rattle.office_tables_open.specs.Arranged.{IsArranged, IsUnchanged, IsTaken, IsCheckedAgain}
 use Rattle.office_tables_open.specs.Found.{HasOtherVersion, HasRowsAlone, IsFound, IsFoundIn, IsUnclaimed}

@@ -1,6 +1,6 @@
 -- The stored version and its statements, and the queries of all rows of a table.
-use Rattle.std.proofs.Common.{◌≡◌, Bor, ℕ, List, [], ◌∷◌, filter, length, codes, refl, sym, ap, subst, ◌∙◌, arith, ◌≢◌, cond, Option, Some, IfSome, option_map, pos}
-use Rattle.std.proofs.{lemmas.List.Sorted.length_permutation, lemmas.List.length-map}
+use Rattle.std.proofs.Common.{◌≡◌, Bor, ℕ, List, [], ◌∷◌, filter, length, codes, refl, sym, ap, subst, ◌∙◌, ◌≢◌, cond, Option, Some, IfSome, option_map, pos}
+use Rattle.std.proofs.lemmas.List.{Sorted.length_permutation, length-map}
 use Rattle.std.specs.{List.AllByRecursion, Option.option_to_list, FinMap.get, FinMap.insert, FinMap.get-insert}
 use Rattle.sqlite.specs.{Command.Command, Command.TheVariants.Select, Command.TheVariants.Insert, Command.TheVariants.Delete, Query.Join, Query.inner}
 use Rattle.sqlite.specs.{Effect.Database, Listing.understood, Order.Row, Program.overlay, Tree.Trees, Cast.cast_row, Source.Source, State.State}
@@ -9,7 +9,7 @@ use Rattle.sqlite.specs.Effect as effect
 use Rattle.sqlite.specs.declared.types.Value.TheVariants.{Null, Int}
 use Rattle.sqlite_tied.specs.Compute.{everything}
 use Rattle.office_tables_sql.specs.Layout as layout
-use Rattle.office_tables_shelf.specs.{Content.no_content, Cells.number}
+use Rattle.office_tables_shelf.specs.{Content.no_content, Cells.number, declared.rows.Table.Table}
 use Rattle.office_tables_sql.specs.Stored.{rows_in, content_of, cells, rows_of, content_now}
 use Rattle.office_tables_sql.specs.Calls.{IsQuery, Reads, IsReady, Ran}
 use Rattle.office_tables_schema.specs.Schema.{office_schema, version_table}
@@ -21,7 +21,6 @@ use Rattle.office_tables_sql.proofs.{StoredLemmas.get_columns, StoredLemmas.soun
 use Rattle.office_tables_sql.proofs.{ContentLemmas.tie_self, ContentLemmas.put_at, ContentLemmas.free_rowid, TableLemmas.each, TableLemmas.none_in}
 use Rattle.sqlite_trees.specs.declared.store.Shape.TheVariants as shape
 use Rattle.office_tables_shelf.proofs.CellLemmas.{cells_total}
-use Rattle.office_tables_shelf.specs.declared.rows.Table.{Table}
 use Rattle.office_tables_open.specs.declared.version.TheConstants.{FIND as FIND_VERSION, DROP as DROP_VERSION, PUT as PUT_VERSION}
 
 -- the text shows all rows of that table, and only reads
@@ -66,10 +65,6 @@ module _ (sql : List ℕ) (tree : ℕ) (it : ListsRows sql tree) where
       let same = answers whole tt (it.shown ∷ []) [] (overlay db.trees []) rows (got.answer Null) in
       let many = length_permutation _ rows same in
       many ∙ length-map _ (layout.values_at (it.shown ∷ [])) ∙ ap length (kept_all (overlay db.trees [] tree) ∙ it.low db.trees)
-
-pub none_left : {X : Type 0} (rows : List X) → length rows ≡ 0 → rows ≡ []
-none_left [] h = refl
-none_left (r ∷ rows) h = absurd (omega (arith, h))
 
 -- that query shows no row
 abbrev pub ShowNone : Database → Bor (List ℕ) → Type 0

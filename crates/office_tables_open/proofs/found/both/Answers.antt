@@ -1,6 +1,5 @@
 use Rattle.std.proofs.Common.{subst}
-use Rattle.office_tables_open.specs.Found.{IsFound, IsFoundAt}
-use Rattle.office_tables_open.specs.declared.found.Found.{Found}
+use Rattle.office_tables_open.specs.{Found.IsFound, Found.IsFoundAt, declared.found.Found.Found}
 use Rattle.office_tables_open.proofs.FoundLemmas.{empty_before, rows_before, store_none}
 use Rattle.office_tables_open.proofs.found.both.Goals as goal
 

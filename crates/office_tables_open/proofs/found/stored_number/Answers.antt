@@ -1,8 +1,7 @@
 use Rattle.std.proofs.Common.{pos, sym, subst, Bool, ◌∙◌}
 use Rattle.std.proofs.lemmas.Option.{IfSome_then}
 use Rattle.sqlite.specs.View.{IsShaped}
-use Rattle.sqlite_trees.specs.View.{Finds}
-use Rattle.sqlite_trees.specs.declared.store.Shape.{Shape}
+use Rattle.sqlite_trees.specs.{View.Finds, declared.store.Shape.Shape}
 use Rattle.office_tables_open.proofs.FoundLemmas.{number_stored}
 use Rattle.office_tables_open.proofs.found.stored_number.Goals as goal
 

@@ -11,7 +11,6 @@ use Rattle.office_tables_open.proofs.open.laid_anew.Goals as goal
 
 pub returns-in-Err-clause-refused : goal.returns-in-Err-clause-refused
 returns-in-Err-clause-refused g c =
-    let s = state g.S.Store c.args.conn in
     let fault = c.from.ensures in
     refused_left g.S.Store c.args.conn _ _ fault.0 fault.1 (as_left g.S.Store c.args.conn _ _ _ c.in-Err.ensures.left) tt
 
