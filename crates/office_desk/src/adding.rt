@@ -1,6 +1,6 @@
 //! The command AddIntersection.
 ghost use Rattle.std.specs.Prelude.{IfOk};
-ghost use Rattle.office_tables_shelf.specs.Shelf.{AnswersOpen, IsKept};
+ghost use Rattle.office_tables_shelf.specs.Keeps.{AnswersShelf, KeepsShelf};
 ghost use Rattle.office_desk.specs.Adding.{AddsRow};
 ghost use Rattle.office_desk.specs.Deciding.{Decides};
 
@@ -56,8 +56,8 @@ pub(crate) fn decide_add<S: Shelf>(
     name: &Words<120>,
 ) -> Result<Decided, ShelfFault>
     ensures decides { Decides (S.is_honest shelf.new) (S.content shelf.old) (Command.AddIntersection id interval name.now) result }
-    ensures kept { IsKept S.is_honest S.content S.written S.may_leave shelf.old shelf.new }
-    ensures open { AnswersOpen S.is_clean S.is_honest result shelf.old shelf.new }
+    ensures kept { KeepsShelf S.Shelf shelf.old shelf.new }
+    ensures open { AnswersShelf S.Shelf result shelf.old shelf.new }
 {
     let row = intersection_row(shelf, alloc, id)?;
     let decided = added(alloc, id, interval, name, &row)?;

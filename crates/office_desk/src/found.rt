@@ -2,7 +2,7 @@
 ghost use Rattle.std.specs.Prelude.{◌≡◌, ◌≢◌, true, false, Ok, Err};
 ghost use Rattle.std.specs.Prelude.{IfOk, IsSome, IsTrue, OnErr, OnOk};
 ghost use Rattle.office_tables_shelf.specs.Content.{Content};
-ghost use Rattle.office_tables_shelf.specs.Shelf.{IsKept};
+ghost use Rattle.office_tables_shelf.specs.Keeps.{KeepsShelf};
 ghost use Rattle.office_desk_cabinet.specs.Open.{StaysOpen};
 ghost use Rattle.office_desk.specs.Recording.{AreFound, IsAmong, IsFound};
 ghost use Rattle.office_desk.specs.Recording.{IsKnownIn, HasDamagedAbout, TellsAbout};
@@ -56,7 +56,7 @@ pub(crate) fn is_found<S: Shelf>(
         ¬ HasDamagedAbout (S.content shelf.old) about) }
     ensures damaged { result ≡ Err ShelfFault.Damaged → S.is_honest shelf.new →
         HasDamagedAbout (S.content shelf.old) about }
-    ensures kept { IsKept S.is_honest S.content S.written S.may_leave shelf.old shelf.new }
+    ensures kept { KeepsShelf S.Shelf shelf.old shelf.new }
     ensures open { StaysOpen S.is_clean S.is_honest (result ≢ Ok true)
         result shelf.old shelf.new }
 {

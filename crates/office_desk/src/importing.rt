@@ -1,7 +1,7 @@
 //! Imports: records of the register decided in turn, each after those before it.
 ghost use Rattle.std.specs.Prelude.{◌≡◌, ◌≤◌, ◌+◌, IfOk, ◌≢◌, [], IsOkAnd};
 ghost use Rattle.office_tables_shelf.specs.Counts.{writes_in};
-ghost use Rattle.office_tables_shelf.specs.Shelf.{IsKept};
+ghost use Rattle.office_tables_shelf.specs.Keeps.{KeepsShelf};
 ghost use Rattle.office_desk_cabinet.specs.Open.{StaysOpen};
 ghost use Rattle.office_tables_shelf.specs.declared.rows.Table.{Table};
 ghost use Rattle.office_desk_cabinet.specs.Registers.{most_record_writes};
@@ -59,7 +59,7 @@ fn take_record<S: Shelf>(
     ensures named { IfOk result (λ taken. IsNamedTaken command.now taken.0) }
     ensures leaves { IfOk result (λ taken. LeavesAnyTiming pending → LeavesAnyTiming taken.1) }
     ensures writes { IfOk result (λ taken. (table : Table) → writes_in table taken.1 ≤ writes_in table pending + most_record_writes command.now table) }
-    ensures kept { IsKept S.is_honest S.content S.written S.may_leave shelf.old shelf.new }
+    ensures kept { KeepsShelf S.Shelf shelf.old shelf.new }
     ensures open { StaysOpen S.is_clean S.is_honest (pending ≡ [])
         result shelf.old shelf.new }
 {
@@ -86,7 +86,7 @@ pub(crate) fn decide_import<S: Shelf>(
     ensures decides { Decides (S.is_honest shelf.new) (S.content shelf.old) (Command.Import records.now) result }
     ensures blames { IfOk result (λ decided. BlamesRightly (S.is_honest shelf.new)
         (S.content shelf.old) (Command.Import records.now) decided.reply) }
-    ensures kept { IsKept S.is_honest S.content S.written S.may_leave shelf.old shelf.new }
+    ensures kept { KeepsShelf S.Shelf shelf.old shelf.new }
     ensures open { StaysOpen S.is_clean S.is_honest (records.now ≢ [])
         result shelf.old shelf.new }
     ensures nothing { records.now ≡ [] → IsOkAnd result AddsNothing }

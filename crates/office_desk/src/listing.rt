@@ -1,7 +1,7 @@
 //! All intersections, as they are listed.
 ghost use Rattle.std.specs.Prelude.{◌≡◌, [], ◌∷◌, ◌++◌, Err, IfOk, OnOk};
 ghost use Rattle.office_tables_shelf.specs.Damage.{HasAnyDamagedIntersection};
-ghost use Rattle.office_tables_shelf.specs.Shelf.{AnswersOpen, IsKept};
+ghost use Rattle.office_tables_shelf.specs.Keeps.{AnswersShelf, KeepsShelf};
 ghost use Rattle.office_desk.specs.Listing.{ListsRows, row_listed};
 
 use office_machine::intersections::ListedIntersection;
@@ -48,8 +48,8 @@ pub(crate) fn list_intersections<S: Shelf>(
         ¬ HasAnyDamagedIntersection (S.content shelf.old)) }
     ensures damaged { result ≡ Err ShelfFault.Damaged → S.is_honest shelf.new →
         HasAnyDamagedIntersection (S.content shelf.old) }
-    ensures kept { IsKept S.is_honest S.content S.written S.may_leave shelf.old shelf.new }
-    ensures open { AnswersOpen S.is_clean S.is_honest result shelf.old shelf.new }
+    ensures kept { KeepsShelf S.Shelf shelf.old shelf.new }
+    ensures open { AnswersShelf S.Shelf result shelf.old shelf.new }
 {
     let rows = shelf.intersections(alloc)?;
     let mut found = Vec::new(alloc);

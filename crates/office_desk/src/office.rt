@@ -6,7 +6,7 @@ ghost use Rattle.office_tables_shelf.specs.Content.{Content};
 ghost use Rattle.office_tables_shelf.specs.Change.{changed_by};
 ghost use Rattle.office_tables_shelf.specs.Counts.{counts_after};
 ghost use Rattle.office_tables_shelf.specs.Damage.{HasAnyDamagedIntersection};
-ghost use Rattle.office_tables_shelf.specs.Shelf.{IsKept};
+ghost use Rattle.office_tables_shelf.specs.Keeps.{KeepsShelf};
 ghost use Rattle.office_desk.specs.Answers.{EndsIn, RunsAny};
 ghost use Rattle.office_desk.specs.Damage.{MeetsDamage};
 ghost use Rattle.office_desk.specs.Deciding.{DecidesIdly, IsAnswered};
@@ -77,7 +77,7 @@ impl<S: Shelf> Office<S> {
         ensures clean { S.is_clean self.new → S.is_clean self.old }
         ensures shut { S.is_clean self.new →
             S.is_honest self.new ⊎ DecidesIdly command.now result }
-        ensures kept { IsKept S.is_honest S.content S.written S.may_leave self.old self.new }
+        ensures kept { KeepsShelf S.Shelf self.old self.new }
     {
         match try_decide(&mut self.shelf, alloc, command) {
             Ok(decided) => return decided,
@@ -162,7 +162,7 @@ impl<S: Shelf> Office<S> {
         ensures clean { S.is_clean self.new → S.is_clean self.old }
         ensures shut { S.is_clean self.new →
             S.is_honest self.new ⊎ (result ≡ Err Refusal.Unavailable) }
-        ensures kept { IsKept S.is_honest S.content S.written S.may_leave self.old self.new }
+        ensures kept { KeepsShelf S.Shelf self.old self.new }
     {
         match self.shelf.overdue_rows(alloc, day, most) {
             Ok(found) => return Ok(found),
@@ -185,7 +185,7 @@ impl<S: Shelf> Office<S> {
         ensures clean { S.is_clean self.new → S.is_clean self.old }
         ensures shut { S.is_clean self.new →
             S.is_honest self.new ⊎ (result ≡ Err Refusal.Unavailable) }
-        ensures kept { IsKept S.is_honest S.content S.written S.may_leave self.old self.new }
+        ensures kept { KeepsShelf S.Shelf self.old self.new }
     {
         match list_intersections(&mut self.shelf, alloc) {
             Ok(found) => return Ok(found),

@@ -1,5 +1,5 @@
 //! The query Overdue.
-ghost use Rattle.office_tables_shelf.specs.Shelf.{AnswersOpen, IsKept};
+ghost use Rattle.office_tables_shelf.specs.Keeps.{AnswersShelf, KeepsShelf};
 ghost use Rattle.office_desk.specs.Deciding.{Decides};
 
 use crate::decided::Decided;
@@ -19,8 +19,8 @@ pub(crate) fn decide_overdue<S: Shelf>(
     day: Day,
 ) -> Result<Decided, ShelfFault>
     ensures decides { Decides (S.is_honest shelf.new) (S.content shelf.old) (Command.Overdue day) result }
-    ensures kept { IsKept S.is_honest S.content S.written S.may_leave shelf.old shelf.new }
-    ensures open { AnswersOpen S.is_clean S.is_honest result shelf.old shelf.new }
+    ensures kept { KeepsShelf S.Shelf shelf.old shelf.new }
+    ensures open { AnswersShelf S.Shelf result shelf.old shelf.new }
 {
     let late = shelf.overdue_rows(alloc, day, ALL)?;
     let found = OverdueList::new(late);

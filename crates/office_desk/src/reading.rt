@@ -1,7 +1,8 @@
 //! What is read of an intersection.
 ghost use Rattle.std.specs.Prelude.{◌≡◌, IfOk, IfSome, ◌≢◌};
 ghost use Rattle.office_tables_shelf.specs.Damage.{HasDamagedIntersection, HasDamagedTiming};
-ghost use Rattle.office_tables_shelf.specs.Shelf.{AnswersOpen, IsKept, ReadsIntersection};
+ghost use Rattle.office_tables_shelf.specs.Keeps.{AnswersShelf, KeepsShelf};
+ghost use Rattle.office_tables_shelf.specs.Shelf.{ReadsIntersection};
 ghost use Rattle.office_desk_cabinet.specs.Open.{StaysOpen};
 ghost use Rattle.office_desk.specs.Damage.{HasDamageIn, HasDamagedPlan};
 ghost use Rattle.office_machine.specs.Office.{Office, side_at};
@@ -33,8 +34,8 @@ pub(crate) fn committed_set<S: Shelf>(
 ) -> Result<TimingSet, ShelfFault>
     ensures set { IfOk result (λ set. S.is_honest shelf.new → (office : Office) → StandForSound (S.content shelf.old) office → set ≡ (side_at office id).committed) }
     ensures damaged { result ≡ Err ShelfFault.Damaged → S.is_honest shelf.new → HasDamagedTiming (S.content shelf.old) id }
-    ensures kept { IsKept S.is_honest S.content S.written S.may_leave shelf.old shelf.new }
-    ensures open { AnswersOpen S.is_clean S.is_honest result shelf.old shelf.new }
+    ensures kept { KeepsShelf S.Shelf shelf.old shelf.new }
+    ensures open { AnswersShelf S.Shelf result shelf.old shelf.new }
 {
     let rows = shelf.timing_rows(alloc, id)?;
     let set = TimingSet::of_rows(alloc, rows)?;
@@ -79,8 +80,8 @@ pub(crate) fn intersection_row<S: Shelf>(
     ensures row { IfOk result (λ row. S.is_honest shelf.new → ReadsIntersection (S.content shelf.old) id row) }
     ensures whole { IfOk result (λ _. S.is_honest shelf.new → ¬ HasDamagedIntersection (S.content shelf.old) id) }
     ensures damaged { result ≡ Err ShelfFault.Damaged → S.is_honest shelf.new → HasDamagedIntersection (S.content shelf.old) id }
-    ensures kept { IsKept S.is_honest S.content S.written S.may_leave shelf.old shelf.new }
-    ensures open { AnswersOpen S.is_clean S.is_honest result shelf.old shelf.new }
+    ensures kept { KeepsShelf S.Shelf shelf.old shelf.new }
+    ensures open { AnswersShelf S.Shelf result shelf.old shelf.new }
 {
     let Some(row) = shelf.intersection(alloc, id)? else {
         return Ok(None);
@@ -101,7 +102,7 @@ fn plan_rows<S: Shelf>(
         ListsPlan reach (S.content shelf.old) id read.0.items read.1.items) }
     ensures damaged { result ≡ Err ShelfFault.Damaged → S.is_honest shelf.new →
         HasDamagedPlan reach (S.content shelf.old) id }
-    ensures kept { IsKept S.is_honest S.content S.written S.may_leave shelf.old shelf.new }
+    ensures kept { KeepsShelf S.Shelf shelf.old shelf.new }
     ensures open { StaysOpen S.is_clean S.is_honest (reach ≢ Reach.Row)
         result shelf.old shelf.new }
 {
@@ -130,8 +131,8 @@ pub(crate) fn find<S: Shelf>(
         ¬ HasDamageIn reach (S.content shelf.old) id) }
     ensures damaged { result ≡ Err ShelfFault.Damaged → S.is_honest shelf.new →
         HasDamageIn reach (S.content shelf.old) id }
-    ensures kept { IsKept S.is_honest S.content S.written S.may_leave shelf.old shelf.new }
-    ensures open { AnswersOpen S.is_clean S.is_honest result shelf.old shelf.new }
+    ensures kept { KeepsShelf S.Shelf shelf.old shelf.new }
+    ensures open { AnswersShelf S.Shelf result shelf.old shelf.new }
 {
     let Some(row) = intersection_row(shelf, alloc, id)? else {
         return Ok(None);

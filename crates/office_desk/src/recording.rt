@@ -1,6 +1,6 @@
 //! The commands of the register.
 ghost use Rattle.std.specs.Prelude.{◌≡◌, false, IfOk, IsSome, OnErr, Ok, Err};
-ghost use Rattle.office_tables_shelf.specs.Shelf.{AnswersOpen, IsKept};
+ghost use Rattle.office_tables_shelf.specs.Keeps.{AnswersShelf, KeepsShelf};
 ghost use Rattle.office_desk_cabinet.specs.Open.{StaysOpen};
 ghost use Rattle.office_desk_cabinet.specs.Registers.{line_told, rows_told};
 ghost use Rattle.office_desk.specs.Deciding.{Decides};
@@ -45,7 +45,7 @@ pub(crate) fn is_known<S: Shelf>(
     ensures fault { OnErr result (IsSome about) }
     ensures whole { IfOk result (λ _. S.is_honest shelf.new → ¬ HasDamagedAbout (S.content shelf.old) about) }
     ensures damaged { result ≡ Err ShelfFault.Damaged → S.is_honest shelf.new → HasDamagedAbout (S.content shelf.old) about }
-    ensures kept { IsKept S.is_honest S.content S.written S.may_leave shelf.old shelf.new }
+    ensures kept { KeepsShelf S.Shelf shelf.old shelf.new }
     ensures open { StaysOpen S.is_clean S.is_honest (IsSome about)
         result shelf.old shelf.new }
 {
@@ -88,8 +88,8 @@ pub(crate) fn decide_record_command<S: Shelf>(
     command: &RecordCommand,
 ) -> Result<Decided, ShelfFault>
     ensures decides { Decides (S.is_honest shelf.new) (S.content shelf.old) (Command.Record command.now) result }
-    ensures kept { IsKept S.is_honest S.content S.written S.may_leave shelf.old shelf.new }
-    ensures open { AnswersOpen S.is_clean S.is_honest result shelf.old shelf.new }
+    ensures kept { KeepsShelf S.Shelf shelf.old shelf.new }
+    ensures open { AnswersShelf S.Shelf result shelf.old shelf.new }
 {
     if !is_known(shelf, alloc, cabinet_of(command))? {
         return Ok(Decided::refused(alloc, Refusal::UnknownIntersection));

@@ -1,5 +1,5 @@
 //! The queries Cabinet, OpenOrders and Stock.
-ghost use Rattle.office_tables_shelf.specs.Shelf.{AnswersOpen, IsKept};
+ghost use Rattle.office_tables_shelf.specs.Keeps.{AnswersShelf, KeepsShelf};
 ghost use Rattle.office_desk.specs.Deciding.{Decides};
 
 use crate::decided::Decided;
@@ -19,8 +19,8 @@ pub(crate) fn decide_cabinet<S: Shelf>(
     id: InterId,
 ) -> Result<Decided, ShelfFault>
     ensures decides { Decides (S.is_honest shelf.new) (S.content shelf.old) (Command.Cabinet id) result }
-    ensures kept { IsKept S.is_honest S.content S.written S.may_leave shelf.old shelf.new }
-    ensures open { AnswersOpen S.is_clean S.is_honest result shelf.old shelf.new }
+    ensures kept { KeepsShelf S.Shelf shelf.old shelf.new }
+    ensures open { AnswersShelf S.Shelf result shelf.old shelf.new }
 {
     if !is_known(shelf, alloc, Some(id))? {
         return Ok(Decided::refused(alloc, Refusal::UnknownIntersection));
@@ -37,8 +37,8 @@ pub(crate) fn decide_open_orders<S: Shelf>(
     id: InterId,
 ) -> Result<Decided, ShelfFault>
     ensures decides { Decides (S.is_honest shelf.new) (S.content shelf.old) (Command.OpenOrders id) result }
-    ensures kept { IsKept S.is_honest S.content S.written S.may_leave shelf.old shelf.new }
-    ensures open { AnswersOpen S.is_clean S.is_honest result shelf.old shelf.new }
+    ensures kept { KeepsShelf S.Shelf shelf.old shelf.new }
+    ensures open { AnswersShelf S.Shelf result shelf.old shelf.new }
 {
     let known = is_known(shelf, alloc, Some(id))?;
     if !known {
@@ -52,8 +52,8 @@ pub(crate) fn decide_open_orders<S: Shelf>(
 /// Decides Stock.
 pub(crate) fn decide_stock<S: Shelf>(shelf: &mut S, alloc: Global) -> Result<Decided, ShelfFault>
     ensures decides { Decides (S.is_honest shelf.new) (S.content shelf.old) Command.Stock result }
-    ensures kept { IsKept S.is_honest S.content S.written S.may_leave shelf.old shelf.new }
-    ensures open { AnswersOpen S.is_clean S.is_honest result shelf.old shelf.new }
+    ensures kept { KeepsShelf S.Shelf shelf.old shelf.new }
+    ensures open { AnswersShelf S.Shelf result shelf.old shelf.new }
 {
     let list = stock(shelf, alloc)?;
     let parts = Stock::new(list);

@@ -1,7 +1,7 @@
 //! The queries State, Timing and Draft.
 ghost use Rattle.std.specs.Prelude.{◌≡◌, ◌≢◌, ◌∷◌, [], Some, IfOk};
 ghost use Rattle.draft_core.specs.Transaction.{state_of_holder};
-ghost use Rattle.office_tables_shelf.specs.Shelf.{AnswersOpen, IsKept};
+ghost use Rattle.office_tables_shelf.specs.Keeps.{AnswersShelf, KeepsShelf};
 ghost use Rattle.office_desk_cabinet.specs.Open.{StaysOpen};
 ghost use Rattle.office_desk.specs.Deciding.{Decides};
 ghost use Rattle.office_desk.specs.Damage.{HasDamage, IsDone};
@@ -66,7 +66,7 @@ fn verdict_at<S: Shelf>(
     ensures whole { IfOk result (λ _. S.is_honest shelf.new →
         IsDone row.now → ¬ HasDamage (S.content shelf.old) id) }
     ensures damaged { result ≡ Err ShelfFault.Damaged → S.is_honest shelf.new → IsDone row.now × HasDamage (S.content shelf.old) id }
-    ensures kept { IsKept S.is_honest S.content S.written S.may_leave shelf.old shelf.new }
+    ensures kept { KeepsShelf S.Shelf shelf.old shelf.new }
     ensures open { StaysOpen S.is_clean S.is_honest (IsDone row.now)
         result shelf.old shelf.new }
 {
@@ -90,8 +90,8 @@ pub(crate) fn decide_state<S: Shelf>(
     id: InterId,
 ) -> Result<Decided, ShelfFault>
     ensures decides { Decides (S.is_honest shelf.new) (S.content shelf.old) (Command.State id) result }
-    ensures kept { IsKept S.is_honest S.content S.written S.may_leave shelf.old shelf.new }
-    ensures open { AnswersOpen S.is_clean S.is_honest result shelf.old shelf.new }
+    ensures kept { KeepsShelf S.Shelf shelf.old shelf.new }
+    ensures open { AnswersShelf S.Shelf result shelf.old shelf.new }
 {
     let Some(row) = intersection_row(shelf, alloc, id)? else {
         return Ok(Decided::refused(alloc, Refusal::UnknownIntersection));
@@ -108,8 +108,8 @@ pub(crate) fn decide_timing<S: Shelf>(
     id: InterId,
 ) -> Result<Decided, ShelfFault>
     ensures decides { Decides (S.is_honest shelf.new) (S.content shelf.old) (Command.Timing id) result }
-    ensures kept { IsKept S.is_honest S.content S.written S.may_leave shelf.old shelf.new }
-    ensures open { AnswersOpen S.is_clean S.is_honest result shelf.old shelf.new }
+    ensures kept { KeepsShelf S.Shelf shelf.old shelf.new }
+    ensures open { AnswersShelf S.Shelf result shelf.old shelf.new }
 {
     let Some(row) = intersection_row(shelf, alloc, id)? else {
         return Ok(Decided::refused(alloc, Refusal::UnknownIntersection));
@@ -156,8 +156,8 @@ pub(crate) fn decide_draft<S: Shelf>(
     id: InterId,
 ) -> Result<Decided, ShelfFault>
     ensures decides { Decides (S.is_honest shelf.new) (S.content shelf.old) (Command.Draft id) result }
-    ensures kept { IsKept S.is_honest S.content S.written S.may_leave shelf.old shelf.new }
-    ensures open { AnswersOpen S.is_clean S.is_honest result shelf.old shelf.new }
+    ensures kept { KeepsShelf S.Shelf shelf.old shelf.new }
+    ensures open { AnswersShelf S.Shelf result shelf.old shelf.new }
 {
     let Some(found) = find(shelf, alloc, id, Reach::Plan)? else {
         return Ok(Decided::refused(alloc, Refusal::UnknownIntersection));

@@ -3,7 +3,7 @@ ghost use Rattle.std.specs.Prelude.{◌≡◌, length, IfOk};
 ghost use Rattle.draft_core.specs.Moves.{FollowsSoundLine, RefusesFirst, drafted_in};
 ghost use Rattle.draft_core.specs.News.{AddsOnlyNew};
 ghost use Rattle.draft_core.specs.Within.{AreChangesWithin};
-ghost use Rattle.office_tables_shelf.specs.Shelf.{AnswersOpen, IsKept};
+ghost use Rattle.office_tables_shelf.specs.Keeps.{AnswersShelf, KeepsShelf};
 ghost use Rattle.office_desk.specs.Deciding.{Decides};
 ghost use Rattle.office_desk.specs.Transacting.{IsAskWithin, IsBounded, IsLater, command_of};
 ghost use Rattle.office_desk.specs.Transacting.{first_refusal, line_of, reach_of};
@@ -81,8 +81,8 @@ pub(crate) fn transact<S: Shelf>(
     ask: Ask,
 ) -> Result<Decided, ShelfFault>
     ensures decides { Decides (S.is_honest shelf.new) (S.content shelf.old) (command_of id clerk.now ask.entry) result }
-    ensures kept { IsKept S.is_honest S.content S.written S.may_leave shelf.old shelf.new }
-    ensures open { AnswersOpen S.is_clean S.is_honest result shelf.old shelf.new }
+    ensures kept { KeepsShelf S.Shelf shelf.old shelf.new }
+    ensures open { AnswersShelf S.Shelf result shelf.old shelf.new }
 {
     let _name = clerk.as_str();
     let Some(found) = find(shelf, alloc, id, reach(ask))? else {

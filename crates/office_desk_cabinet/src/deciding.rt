@@ -1,6 +1,6 @@
 //! The commands of the register, decided.
 ghost use Rattle.std.specs.Prelude.{◌≡◌, []};
-ghost use Rattle.office_tables_shelf.specs.Shelf.{IsKept};
+ghost use Rattle.office_tables_shelf.specs.Keeps.{KeepsShelf};
 ghost use Rattle.office_desk_cabinet.specs.Open.{StaysOpen};
 ghost use Rattle.office_desk_cabinet.specs.Decides.{DecidesRecord};
 
@@ -22,7 +22,7 @@ pub fn decide_record<S: Shelf>(
 ) -> Result<Registered, ShelfFault>
     ensures decides { DecidesRecord (S.is_honest shelf.new) (S.content shelf.old) pending.now
         command.now result }
-    ensures kept { IsKept S.is_honest S.content S.written S.may_leave shelf.old shelf.new }
+    ensures kept { KeepsShelf S.Shelf shelf.old shelf.new }
     ensures open { StaysOpen S.is_clean S.is_honest (pending.now ≡ [])
         result shelf.old shelf.new }
 {

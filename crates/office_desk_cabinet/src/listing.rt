@@ -4,7 +4,7 @@ ghost use Rattle.office_tables_shelf.specs.CabinetReads.{ListsInspections, HasDa
 ghost use Rattle.office_tables_shelf.specs.CabinetReads.{ListsOrders, HasDamagedOrder};
 ghost use Rattle.office_tables_shelf.specs.CabinetReads.{ListsUsed, HasDamagedUsed};
 ghost use Rattle.office_tables_shelf.specs.CabinetReads.{ListsParts, HasDamagedPart};
-ghost use Rattle.office_tables_shelf.specs.Shelf.{AnswersOpen, IsKept};
+ghost use Rattle.office_tables_shelf.specs.Keeps.{AnswersShelf, KeepsShelf};
 
 use cabinet_core::{Hand, Inspection, Order, Ordered, PartCode, UsedLine};
 use office_tables_shelf::shelf::{Shelf, ShelfFault};
@@ -23,8 +23,8 @@ pub(crate) fn inspections_of<S: Shelf>(
         ¬ HasDamagedInspection (S.content shelf.old) id) }
     ensures damaged { result ≡ Err ShelfFault.Damaged → S.is_honest shelf.new →
         HasDamagedInspection (S.content shelf.old) id }
-    ensures kept { IsKept S.is_honest S.content S.written S.may_leave shelf.old shelf.new }
-    ensures open { AnswersOpen S.is_clean S.is_honest result shelf.old shelf.new }
+    ensures kept { KeepsShelf S.Shelf shelf.old shelf.new }
+    ensures open { AnswersShelf S.Shelf result shelf.old shelf.new }
 {
     let list = shelf.inspections(alloc, id)?;
     Ok(Ordered::new(list))
@@ -42,8 +42,8 @@ pub(crate) fn orders_of<S: Shelf>(
         ¬ HasDamagedOrder (S.content shelf.old) id) }
     ensures damaged { result ≡ Err ShelfFault.Damaged → S.is_honest shelf.new →
         HasDamagedOrder (S.content shelf.old) id }
-    ensures kept { IsKept S.is_honest S.content S.written S.may_leave shelf.old shelf.new }
-    ensures open { AnswersOpen S.is_clean S.is_honest result shelf.old shelf.new }
+    ensures kept { KeepsShelf S.Shelf shelf.old shelf.new }
+    ensures open { AnswersShelf S.Shelf result shelf.old shelf.new }
 {
     let list = shelf.orders(alloc, id)?;
     Ok(Ordered::new(list))
@@ -61,8 +61,8 @@ pub(crate) fn lines_of<S: Shelf>(
         ¬ HasDamagedUsed (S.content shelf.old) id) }
     ensures damaged { result ≡ Err ShelfFault.Damaged → S.is_honest shelf.new →
         HasDamagedUsed (S.content shelf.old) id }
-    ensures kept { IsKept S.is_honest S.content S.written S.may_leave shelf.old shelf.new }
-    ensures open { AnswersOpen S.is_clean S.is_honest result shelf.old shelf.new }
+    ensures kept { KeepsShelf S.Shelf shelf.old shelf.new }
+    ensures open { AnswersShelf S.Shelf result shelf.old shelf.new }
 {
     let list = shelf.used_lines(alloc, id)?;
     Ok(Ordered::new(list))
@@ -79,8 +79,8 @@ pub(crate) fn parts_of<S: Shelf>(
         ¬ HasDamagedPart (S.content shelf.old)) }
     ensures damaged { result ≡ Err ShelfFault.Damaged → S.is_honest shelf.new →
         HasDamagedPart (S.content shelf.old) }
-    ensures kept { IsKept S.is_honest S.content S.written S.may_leave shelf.old shelf.new }
-    ensures open { AnswersOpen S.is_clean S.is_honest result shelf.old shelf.new }
+    ensures kept { KeepsShelf S.Shelf shelf.old shelf.new }
+    ensures open { AnswersShelf S.Shelf result shelf.old shelf.new }
 {
     let list = shelf.parts(alloc)?;
     Ok(list)

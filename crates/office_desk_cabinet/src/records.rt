@@ -1,7 +1,7 @@
 //! Inspections and orders: their commands decided.
 ghost use Rattle.std.specs.Prelude.{◌≡◌, []};
 ghost use Rattle.cabinet_core.specs.declared.command.RecordCommand.{RecordCommand};
-ghost use Rattle.office_tables_shelf.specs.Shelf.{IsKept};
+ghost use Rattle.office_tables_shelf.specs.Keeps.{KeepsShelf};
 ghost use Rattle.office_desk_cabinet.specs.Open.{StaysOpen};
 ghost use Rattle.office_desk_cabinet.specs.Decides.{DecidesRecord};
 
@@ -24,7 +24,7 @@ pub(crate) fn decide_inspect<S: Shelf>(
 ) -> Result<Registered, ShelfFault>
     ensures decides { DecidesRecord (S.is_honest shelf.new) (S.content shelf.old) pending.now
         (RecordCommand.Inspect id inspection.now) result }
-    ensures kept { IsKept S.is_honest S.content S.written S.may_leave shelf.old shelf.new }
+    ensures kept { KeepsShelf S.Shelf shelf.old shelf.new }
     ensures open { StaysOpen S.is_clean S.is_honest (pending.now ≡ [])
         result shelf.old shelf.new }
 {
@@ -43,7 +43,7 @@ pub(crate) fn decide_open_order<S: Shelf>(
 ) -> Result<Registered, ShelfFault>
     ensures decides { DecidesRecord (S.is_honest shelf.new) (S.content shelf.old) pending.now
         (RecordCommand.OpenOrder id opening.now) result }
-    ensures kept { IsKept S.is_honest S.content S.written S.may_leave shelf.old shelf.new }
+    ensures kept { KeepsShelf S.Shelf shelf.old shelf.new }
     ensures open { StaysOpen S.is_clean S.is_honest (pending.now ≡ [])
         result shelf.old shelf.new }
 {
@@ -63,7 +63,7 @@ pub(crate) fn decide_close_order<S: Shelf>(
 ) -> Result<Registered, ShelfFault>
     ensures decides { DecidesRecord (S.is_honest shelf.new) (S.content shelf.old) pending.now
         (RecordCommand.CloseOrder id order closing.now) result }
-    ensures kept { IsKept S.is_honest S.content S.written S.may_leave shelf.old shelf.new }
+    ensures kept { KeepsShelf S.Shelf shelf.old shelf.new }
     ensures open { StaysOpen S.is_clean S.is_honest (pending.now ≡ [])
         result shelf.old shelf.new }
 {

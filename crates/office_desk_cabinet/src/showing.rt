@@ -4,7 +4,7 @@ ghost use Rattle.cabinet_core.specs.Orders.{is_open, open_at};
 ghost use Rattle.cabinet_core.specs.Register.{Register};
 ghost use Rattle.cabinet_core.specs.declared.record.Order.{Order};
 ghost use Rattle.office_tables_shelf.specs.CabinetReads.{HasDamagedOrder};
-ghost use Rattle.office_tables_shelf.specs.Shelf.{AnswersOpen, IsKept};
+ghost use Rattle.office_tables_shelf.specs.Keeps.{AnswersShelf, KeepsShelf};
 ghost use Rattle.office_desk_cabinet.specs.RegisterDamage.{HasDamagedCabinet};
 ghost use Rattle.office_desk_cabinet.specs.RegisterStands.{RegisterStandsSound};
 ghost use Rattle.office_desk_cabinet.specs.Registers.{ShowsCabinet};
@@ -28,8 +28,8 @@ pub fn cabinet_view<S: Shelf>(
         ¬ HasDamagedCabinet (S.content shelf.old) id) }
     ensures damaged { result ≡ Err ShelfFault.Damaged → S.is_honest shelf.new →
         HasDamagedCabinet (S.content shelf.old) id }
-    ensures kept { IsKept S.is_honest S.content S.written S.may_leave shelf.old shelf.new }
-    ensures open { AnswersOpen S.is_clean S.is_honest result shelf.old shelf.new }
+    ensures kept { KeepsShelf S.Shelf shelf.old shelf.new }
+    ensures open { AnswersShelf S.Shelf result shelf.old shelf.new }
 {
     let inspections = inspections_of(shelf, alloc, id)?;
     let orders = orders_of(shelf, alloc, id)?;
@@ -67,8 +67,8 @@ pub fn open_orders<S: Shelf>(
         ¬ HasDamagedOrder (S.content shelf.old) id) }
     ensures damaged { result ≡ Err ShelfFault.Damaged → S.is_honest shelf.new →
         HasDamagedOrder (S.content shelf.old) id }
-    ensures kept { IsKept S.is_honest S.content S.written S.may_leave shelf.old shelf.new }
-    ensures open { AnswersOpen S.is_clean S.is_honest result shelf.old shelf.new }
+    ensures kept { KeepsShelf S.Shelf shelf.old shelf.new }
+    ensures open { AnswersShelf S.Shelf result shelf.old shelf.new }
 {
     let orders = orders_of(shelf, alloc, id)?;
     let numbers = open_numbers(alloc, orders.as_slice())?;

@@ -8,7 +8,7 @@ ghost use Rattle.office_tables_shelf.specs.CabinetReads.{ReadsUsed, HasDamagedUs
 ghost use Rattle.office_tables_shelf.specs.CabinetReads.{IsHand, ReadsHand, HasDamagedHand};
 ghost use Rattle.office_tables_shelf.specs.CabinetReads.{ReadsDelivery, HasDamagedDelivery};
 ghost use Rattle.office_tables_shelf.specs.Change.{changed_by};
-ghost use Rattle.office_tables_shelf.specs.Shelf.{IsKept};
+ghost use Rattle.office_tables_shelf.specs.Keeps.{KeepsShelf};
 ghost use Rattle.office_desk_cabinet.specs.Open.{StaysOpen};
 
 use crate::pending::Pending;
@@ -41,7 +41,7 @@ pub(crate) fn inspection_at<S: Shelf>(
     ensures whole { IfOk result (λ _. S.is_honest shelf.new →
         ¬ HasDamagedInspectionAt (changed_by (S.content shelf.old) pending.now) id number) }
     ensures damaged { result ≡ Err ShelfFault.Damaged → S.is_honest shelf.new → HasDamagedInspectionAt (S.content shelf.old) id number }
-    ensures kept { IsKept S.is_honest S.content S.written S.may_leave shelf.old shelf.new }
+    ensures kept { KeepsShelf S.Shelf shelf.old shelf.new }
     ensures open { StaysOpen S.is_clean S.is_honest (pending.now ≡ [])
         result shelf.old shelf.new }
 {
@@ -75,7 +75,7 @@ pub(crate) fn order_at<S: Shelf>(
     ensures whole { IfOk result (λ _. S.is_honest shelf.new →
         ¬ HasDamagedOrderAt (changed_by (S.content shelf.old) pending.now) id number) }
     ensures damaged { result ≡ Err ShelfFault.Damaged → S.is_honest shelf.new → HasDamagedOrderAt (S.content shelf.old) id number }
-    ensures kept { IsKept S.is_honest S.content S.written S.may_leave shelf.old shelf.new }
+    ensures kept { KeepsShelf S.Shelf shelf.old shelf.new }
     ensures open { StaysOpen S.is_clean S.is_honest (pending.now ≡ [])
         result shelf.old shelf.new }
 {
@@ -110,7 +110,7 @@ pub(crate) fn line_at<S: Shelf>(
     ensures whole { IfOk result (λ _. S.is_honest shelf.new →
         ¬ HasDamagedUsedAt (changed_by (S.content shelf.old) pending.now) id order line) }
     ensures damaged { result ≡ Err ShelfFault.Damaged → S.is_honest shelf.new → HasDamagedUsedAt (S.content shelf.old) id order line }
-    ensures kept { IsKept S.is_honest S.content S.written S.may_leave shelf.old shelf.new }
+    ensures kept { KeepsShelf S.Shelf shelf.old shelf.new }
     ensures open { StaysOpen S.is_clean S.is_honest (pending.now ≡ [])
         result shelf.old shelf.new }
 {
@@ -144,7 +144,7 @@ pub(crate) fn hand_at<S: Shelf>(
     ensures whole { IfOk result (λ _. S.is_honest shelf.new →
         ¬ HasDamagedHand (changed_by (S.content shelf.old) pending.now) part.now) }
     ensures damaged { result ≡ Err ShelfFault.Damaged → S.is_honest shelf.new → HasDamagedHand (S.content shelf.old) part.now }
-    ensures kept { IsKept S.is_honest S.content S.written S.may_leave shelf.old shelf.new }
+    ensures kept { KeepsShelf S.Shelf shelf.old shelf.new }
     ensures open { StaysOpen S.is_clean S.is_honest (pending.now ≡ [])
         result shelf.old shelf.new }
 {
@@ -179,7 +179,7 @@ pub(crate) fn delivery_at<S: Shelf>(
     ensures whole { IfOk result (λ _. S.is_honest shelf.new →
         ¬ HasDamagedDelivery (changed_by (S.content shelf.old) pending.now) part.now number) }
     ensures damaged { result ≡ Err ShelfFault.Damaged → S.is_honest shelf.new → HasDamagedDelivery (S.content shelf.old) part.now number }
-    ensures kept { IsKept S.is_honest S.content S.written S.may_leave shelf.old shelf.new }
+    ensures kept { KeepsShelf S.Shelf shelf.old shelf.new }
     ensures open { StaysOpen S.is_clean S.is_honest (pending.now ≡ [])
         result shelf.old shelf.new }
 {

@@ -5,6 +5,7 @@ pub mod CabinetRows
 pub mod Change
 pub mod Counts
 pub mod Shelf
+pub mod Keeps
 pub mod Damage
 pub mod CabinetReads
 pub mod Overdue

@@ -1,7 +1,7 @@
 //! A query of the office.
 
 ghost use Rattle.std.specs.Prelude.{◌≡◌};
-ghost use Rattle.office_tables_shelf.specs.Shelf.{IsKept};
+ghost use Rattle.office_tables_shelf.specs.Keeps.{KeepsShelf};
 ghost use Rattle.office_desk.specs.Answers.{AnswersAny};
 ghost use Rattle.office_desk.specs.Changes.{IsQuery};
 ghost use Rattle.office_desk.specs.Damage.{MeetsDamage};
@@ -18,7 +18,7 @@ use std::alloc::Global;
 /// to drop.
 pub fn ask<S: Shelf>(alloc: Global, office: &mut Office<S>, query: Command) -> Reply
     requires { IsQuery query }
-    ensures kept { IsKept S.is_honest S.content S.written S.may_leave office.old office.new }
+    ensures kept { KeepsShelf S.Shelf office.old office.new }
     ensures step { S.is_honest office.new → AnswersAny (S.content office.old) query result (S.content office.old) }
     // It is refused for what its line of the table names, and else Unavailable or Damaged.
     ensures named { IsNamedFor query result }

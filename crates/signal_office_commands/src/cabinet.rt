@@ -1,7 +1,7 @@
 //! The register of a cabinet, by two queries of the office.
 
 ghost use Rattle.std.specs.Prelude.{◌≡◌, Err, IfOk, IfErr};
-ghost use Rattle.office_tables_shelf.specs.Shelf.{IsKept};
+ghost use Rattle.office_tables_shelf.specs.Keeps.{KeepsShelf};
 ghost use Rattle.office_machine.specs.Office.{Office as OfficeState};
 ghost use Rattle.office_desk.specs.StandFor.{StandForSound};
 ghost use Rattle.signal_office_commands.specs.Fault.{IsFaultOfQuery, TellsUnknown};
@@ -23,7 +23,7 @@ pub fn cabinet_of<S: Shelf>(
     id: InterId,
 ) -> Result<Vec<u8>, Fault>
     // It changes nothing.
-    ensures kept { IsKept S.is_honest S.content S.written S.may_leave office.old office.new }
+    ensures kept { KeepsShelf S.Shelf office.old office.new }
     ensures register { IfOk result (λ text. S.is_honest office.new → (before : OfficeState) →
         StandForSound (S.content office.old) before → IsRegisterOf before id text.items) }
     // Where it fails, the intersection is unknown, memory or the database refused, or a row that

@@ -1,7 +1,7 @@
 //! What two plans differ in.
 
 ghost use Rattle.std.specs.Prelude.{◌≢◌, IfOk, IfErr};
-ghost use Rattle.office_tables_shelf.specs.Shelf.{IsKept};
+ghost use Rattle.office_tables_shelf.specs.Keeps.{KeepsShelf};
 ghost use Rattle.signal_office_commands.specs.Comparing.{ComparesDraft, ComparesFiles, IsFirstBad};
 ghost use Rattle.signal_office_commands.specs.Comparing.{IsRefusedQuery};
 
@@ -36,7 +36,7 @@ pub fn draft_differences<S: Shelf>(
     office: &mut Office<S>,
     id: InterId,
 ) -> Result<Vec<Difference>, Fault>
-    ensures kept { IsKept S.is_honest S.content S.written S.may_leave office.old office.new }
+    ensures kept { KeepsShelf S.Shelf office.old office.new }
     ensures found { IfOk result (λ found. S.is_honest office.new →
         ComparesDraft (S.content office.old) id found.items) }
     ensures fault { IfErr result (λ why. why ≢ Fault.Memory → S.is_honest office.new →

@@ -1,7 +1,7 @@
 //! The pictures of patterns.
 
 ghost use Rattle.std.specs.Prelude.{◌≢◌, IfOk, IfErr};
-ghost use Rattle.office_tables_shelf.specs.Shelf.{IsKept};
+ghost use Rattle.office_tables_shelf.specs.Keeps.{KeepsShelf};
 ghost use Rattle.signal_office_commands.specs.Drawing.{Draws, DrawsFile, DrawsNoFile};
 ghost use Rattle.signal_office_commands.specs.Drawing.{DrawsTiming, DrawsNoTiming, Lacks};
 
@@ -41,7 +41,7 @@ pub fn diagram_of<S: Shelf>(
     id: InterId,
     pattern: PatternNo,
 ) -> Result<Vec<u8>, Fault>
-    ensures kept { IsKept S.is_honest S.content S.written S.may_leave office.old office.new }
+    ensures kept { KeepsShelf S.Shelf office.old office.new }
     ensures draws { IfOk result (λ text. S.is_honest office.new →
         DrawsTiming (S.content office.old) id pattern text.items) }
     ensures fault { IfErr result (λ why. why ≢ Fault.Memory → S.is_honest office.new →

@@ -1,7 +1,7 @@
 //! What is exported of an intersection as CSV.
 
 ghost use Rattle.std.specs.Prelude.{◌≢◌, Err, IfOk, IfErr};
-ghost use Rattle.office_tables_shelf.specs.Shelf.{IsKept};
+ghost use Rattle.office_tables_shelf.specs.Keeps.{KeepsShelf};
 ghost use Rattle.signal_office_commands.specs.Exporting.{ExportsTiming, ExportsDraft};
 ghost use Rattle.signal_office_commands.specs.Exporting.{ExportsCabinet};
 ghost use Rattle.signal_office_commands.specs.Showing.{ShowsTiming, ShowsDraft, ShowsCabinet};
@@ -20,7 +20,7 @@ pub fn timing_csv_of<S: Shelf>(
     office: &mut Office<S>,
     id: InterId,
 ) -> Result<Vec<u8>, Fault>
-    ensures kept { IsKept S.is_honest S.content S.written S.may_leave office.old office.new }
+    ensures kept { KeepsShelf S.Shelf office.old office.new }
     ensures text { IfOk result (λ text. S.is_honest office.new →
         ExportsTiming (S.content office.old) id text.items) }
     ensures fault { IfErr result (λ why. why ≢ Fault.Memory → S.is_honest office.new →
@@ -36,7 +36,7 @@ pub fn draft_csv_of<S: Shelf>(
     office: &mut Office<S>,
     id: InterId,
 ) -> Result<Vec<u8>, Fault>
-    ensures kept { IsKept S.is_honest S.content S.written S.may_leave office.old office.new }
+    ensures kept { KeepsShelf S.Shelf office.old office.new }
     ensures text { IfOk result (λ text. S.is_honest office.new →
         ExportsDraft (S.content office.old) id text.items) }
     ensures fault { IfErr result (λ why. why ≢ Fault.Memory → S.is_honest office.new →
@@ -52,7 +52,7 @@ pub fn cabinet_csv_of<S: Shelf>(
     office: &mut Office<S>,
     id: InterId,
 ) -> Result<Vec<u8>, Fault>
-    ensures kept { IsKept S.is_honest S.content S.written S.may_leave office.old office.new }
+    ensures kept { KeepsShelf S.Shelf office.old office.new }
     ensures text { IfOk result (λ text. S.is_honest office.new →
         ExportsCabinet (S.content office.old) id text.items) }
     ensures fault { IfErr result (λ why. why ≢ Fault.Memory → S.is_honest office.new →

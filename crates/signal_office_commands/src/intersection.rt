@@ -1,7 +1,7 @@
 //! What the page of an intersection shows, by the queries of the office.
 
 ghost use Rattle.std.specs.Prelude.{IfErr, IfOk, ◌≢◌};
-ghost use Rattle.office_tables_shelf.specs.Shelf.{IsKept};
+ghost use Rattle.office_tables_shelf.specs.Keeps.{KeepsShelf};
 ghost use Rattle.signal_office_commands.specs.Intersection.{IsRefusedShowing, ShowsDraftIn};
 ghost use Rattle.signal_office_commands.specs.Intersection.{ShowsIntersection};
 
@@ -21,7 +21,7 @@ fn draft_where_open<S: Shelf>(
     id: InterId,
     state: DbState,
 ) -> Result<Option<TimingSet>, Fault>
-    ensures kept { IsKept S.is_honest S.content S.written S.may_leave office.old office.new }
+    ensures kept { KeepsShelf S.Shelf office.old office.new }
     ensures shown { S.is_honest office.new → ShowsDraftIn (S.content office.old) id state result }
 {
     match state {
@@ -36,7 +36,7 @@ pub(crate) fn intersection_in<S: Shelf>(
     office: &mut Office<S>,
     id: InterId,
 ) -> Result<IntersectionShown, Fault>
-    ensures kept { IsKept S.is_honest S.content S.written S.may_leave office.old office.new }
+    ensures kept { KeepsShelf S.Shelf office.old office.new }
     ensures shown { IfOk result (λ shown. S.is_honest office.new →
         ShowsIntersection (S.content office.old) id shown) }
     ensures fault { IfErr result (λ why. S.is_honest office.new →

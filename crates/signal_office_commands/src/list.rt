@@ -2,7 +2,7 @@
 
 ghost use Rattle.std.specs.Prelude.{◌≡◌, ◌⊎◌, Err, IfOk, IfErr};
 ghost use Rattle.office_tables_shelf.specs.Damage.{HasAnyDamagedIntersection};
-ghost use Rattle.office_tables_shelf.specs.Shelf.{IsKept};
+ghost use Rattle.office_tables_shelf.specs.Keeps.{KeepsShelf};
 ghost use Rattle.office_machine.specs.Listed.{intersections_of};
 ghost use Rattle.office_machine.specs.Office.{Office as OfficeState};
 ghost use Rattle.office_desk.specs.StandFor.{StandForSound};
@@ -30,7 +30,7 @@ fn list_written(alloc: Global, csv: bool, list: &[ListedIntersection]) -> Result
 /// The list of all intersections, by their numbers, as a text or as CSV. The office is as it was.
 pub fn list_of<S: Shelf>(alloc: Global, office: &mut Office<S>, csv: bool) -> Result<Vec<u8>, Fault>
     // It changes nothing.
-    ensures kept { IsKept S.is_honest S.content S.written S.may_leave office.old office.new }
+    ensures kept { KeepsShelf S.Shelf office.old office.new }
     ensures list { IfOk result (λ text. S.is_honest office.new → (before : OfficeState) →
         StandForSound (S.content office.old) before →
         text.items ≡ list_written csv (intersections_of before)) }

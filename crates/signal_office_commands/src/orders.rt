@@ -1,7 +1,7 @@
 //! The open orders of an intersection, or of all.
 
 ghost use Rattle.std.specs.Prelude.{◌≡◌, ◌++◌, Err, None, IfOk, IfErr, OnOk};
-ghost use Rattle.office_tables_shelf.specs.Shelf.{IsKept};
+ghost use Rattle.office_tables_shelf.specs.Keeps.{KeepsShelf};
 ghost use Rattle.office_desk.specs.Damage.{MeetsDamage};
 ghost use Rattle.office_machine.specs.Office.{Office as OfficeState};
 ghost use Rattle.office_desk.specs.StandFor.{StandForSound};
@@ -27,7 +27,7 @@ fn add_orders_on<S: Shelf>(
     found: &mut Vec<OpenOrder>,
     id: InterId,
 ) -> Result<(), Fault>
-    ensures kept { IsKept S.is_honest S.content S.written S.may_leave office.old office.new }
+    ensures kept { KeepsShelf S.Shelf office.old office.new }
     ensures added { OnOk result (S.is_honest office.new → (before : OfficeState) →
         StandForSound (S.content office.old) before →
         IsThere before id × (found.new.items ≡ found.old.items ++ open_on before id)) }
@@ -44,7 +44,7 @@ fn add_orders_on<S: Shelf>(
 
 /// The open orders of all intersections, by the numbers of these.
 fn all_orders<S: Shelf>(alloc: Global, office: &mut Office<S>) -> Result<Vec<OpenOrder>, Fault>
-    ensures kept { IsKept S.is_honest S.content S.written S.may_leave office.old office.new }
+    ensures kept { KeepsShelf S.Shelf office.old office.new }
     ensures open { IfOk result (λ found. S.is_honest office.new → (before : OfficeState) →
         StandForSound (S.content office.old) before → AreOpen before None found.items) }
     ensures refused { IfErr result IsFaultOfQuery }
@@ -67,7 +67,7 @@ fn orders_asked<S: Shelf>(
     office: &mut Office<S>,
     id: Option<InterId>,
 ) -> Result<Vec<OpenOrder>, Fault>
-    ensures kept { IsKept S.is_honest S.content S.written S.may_leave office.old office.new }
+    ensures kept { KeepsShelf S.Shelf office.old office.new }
     ensures open { IfOk result (λ found. S.is_honest office.new → (before : OfficeState) →
         StandForSound (S.content office.old) before → AreOpen before id found.items) }
     ensures refused { IfErr result IsFaultOfQuery }
@@ -92,7 +92,7 @@ pub fn orders_of<S: Shelf>(
     id: Option<InterId>,
 ) -> Result<Vec<u8>, Fault>
     // It changes nothing.
-    ensures kept { IsKept S.is_honest S.content S.written S.may_leave office.old office.new }
+    ensures kept { KeepsShelf S.Shelf office.old office.new }
     ensures orders { IfOk result (λ text. S.is_honest office.new → (before : OfficeState) →
         StandForSound (S.content office.old) before → IsOrdersListOf before id text.items) }
     // Where it fails, the intersection is unknown, memory or the database refused, or a row that

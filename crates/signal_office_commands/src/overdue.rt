@@ -1,7 +1,7 @@
 //! The report of overdue inspections.
 
 ghost use Rattle.std.specs.Prelude.{◌≡◌, ◌⊎◌, IfOk, IfErr, Err};
-ghost use Rattle.office_tables_shelf.specs.Shelf.{IsKept};
+ghost use Rattle.office_tables_shelf.specs.Keeps.{KeepsShelf};
 ghost use Rattle.office_desk.specs.Damage.{MeetsDamage};
 ghost use Rattle.office_machine.specs.Office.{Office as OfficeState};
 ghost use Rattle.office_desk.specs.StandFor.{StandForSound};
@@ -25,7 +25,7 @@ pub fn overdue_of<S: Shelf>(
     most: usize,
 ) -> Result<Vec<u8>, Fault>
     // It changes nothing.
-    ensures kept { IsKept S.is_honest S.content S.written S.may_leave office.old office.new }
+    ensures kept { KeepsShelf S.Shelf office.old office.new }
     ensures report { IfOk result (λ text. S.is_honest office.new → (before : OfficeState) → StandForSound (S.content office.old) before →
         IsReportOf before day most text.items) }
     // Where it fails, memory or the database refused, or a row that is read is no record.

@@ -4,7 +4,7 @@ ghost use Rattle.std.specs.Prelude.{◌≡◌, ◌≢◌, Err, IfErr, IfOk};
 ghost use Rattle.office_files.specs.Changes.{changes_of};
 ghost use Rattle.office_machine.specs.Office.{Office as OfficeState};
 ghost use Rattle.office_desk.specs.StandFor.{StandForSound};
-ghost use Rattle.office_tables_shelf.specs.Shelf.{IsKept};
+ghost use Rattle.office_tables_shelf.specs.Keeps.{KeepsShelf};
 ghost use Rattle.signal_office_commands.specs.Fault.{TellsUnknown};
 ghost use Rattle.signal_office_commands.specs.Intersection.{IsRefusedShowing};
 ghost use Rattle.signal_office_commands.specs.Paging.{IsPageOf, IsPageOfFile};
@@ -25,7 +25,7 @@ pub fn page_of<S: Shelf>(
     id: InterId,
 ) -> Result<Vec<u8>, Fault>
     // It changes nothing.
-    ensures kept { IsKept S.is_honest S.content S.written S.may_leave office.old office.new }
+    ensures kept { KeepsShelf S.Shelf office.old office.new }
     // The page shows the plan that runs as that, the draft as the draft, and the register.
     ensures page { IfOk result (λ text. S.is_honest office.new → (before : OfficeState) →
         StandForSound (S.content office.old) before → IsPageOf before id text.items) }

@@ -2,7 +2,7 @@
 
 ghost use Rattle.std.specs.Prelude.{◌≡◌, ◌⊎◌, Err, IfOk, IfErr};
 ghost use Rattle.office_tables_shelf.specs.Damage.{HasAnyDamagedIntersection};
-ghost use Rattle.office_tables_shelf.specs.Shelf.{IsKept};
+ghost use Rattle.office_tables_shelf.specs.Keeps.{KeepsShelf};
 ghost use Rattle.office_desk.specs.Damage.{MeetsDamage};
 ghost use Rattle.office_machine.specs.Listed.{intersections_of};
 ghost use Rattle.office_machine.specs.Office.{Office as OfficeState};
@@ -27,7 +27,7 @@ pub(crate) fn intersections_asked<S: Shelf>(
     alloc: Global,
     office: &mut Office<S>,
 ) -> Result<Vec<ListedIntersection>, Fault>
-    ensures kept { IsKept S.is_honest S.content S.written S.may_leave office.old office.new }
+    ensures kept { KeepsShelf S.Shelf office.old office.new }
     ensures all { IfOk result (λ found. S.is_honest office.new → (before : OfficeState) →
         StandForSound (S.content office.old) before → found.items ≡ intersections_of before) }
     ensures whole { IfOk result (λ _. S.is_honest office.new →
@@ -48,7 +48,7 @@ pub(crate) fn state_asked<S: Shelf>(
     office: &mut Office<S>,
     id: InterId,
 ) -> Result<IntersectionState, Fault>
-    ensures kept { IsKept S.is_honest S.content S.written S.may_leave office.old office.new }
+    ensures kept { KeepsShelf S.Shelf office.old office.new }
     ensures state { IfOk result (λ state. S.is_honest office.new → (before : OfficeState) →
         StandForSound (S.content office.old) before → IsStateOf before id state) }
     ensures refused { IfErr result IsFaultOfQuery }
@@ -70,7 +70,7 @@ pub(crate) fn cabinet_asked<S: Shelf>(
     office: &mut Office<S>,
     id: InterId,
 ) -> Result<CabinetShown, Fault>
-    ensures kept { IsKept S.is_honest S.content S.written S.may_leave office.old office.new }
+    ensures kept { KeepsShelf S.Shelf office.old office.new }
     ensures cabinet { IfOk result (λ cabinet. S.is_honest office.new → (before : OfficeState) →
         StandForSound (S.content office.old) before → IsCabinetOf before id cabinet) }
     ensures refused { IfErr result IsFaultOfQuery }

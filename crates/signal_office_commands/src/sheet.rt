@@ -1,7 +1,7 @@
 //! The timing sheet of an intersection, by one query of the office.
 
 ghost use Rattle.std.specs.Prelude.{◌≡◌, Err, IfOk, IfErr};
-ghost use Rattle.office_tables_shelf.specs.Shelf.{IsKept};
+ghost use Rattle.office_tables_shelf.specs.Keeps.{KeepsShelf};
 ghost use Rattle.office_desk.specs.Damage.{MeetsDamage};
 ghost use Rattle.office_machine.specs.Office.{Office as OfficeState};
 ghost use Rattle.office_desk.specs.StandFor.{StandForSound};
@@ -26,7 +26,7 @@ fn timing_in<S: Shelf>(
     office: &mut Office<S>,
     id: InterId,
 ) -> Result<RunningTiming, Fault>
-    ensures kept { IsKept S.is_honest S.content S.written S.may_leave office.old office.new }
+    ensures kept { KeepsShelf S.Shelf office.old office.new }
     ensures timing { IfOk result (λ timing. S.is_honest office.new → (before : OfficeState) →
         StandForSound (S.content office.old) before → IsTimingOf before id timing) }
     ensures refused { IfErr result IsFaultOfQuery }
@@ -49,7 +49,7 @@ pub fn sheet_of<S: Shelf>(
     id: InterId,
 ) -> Result<Vec<u8>, Fault>
     // It changes nothing.
-    ensures kept { IsKept S.is_honest S.content S.written S.may_leave office.old office.new }
+    ensures kept { KeepsShelf S.Shelf office.old office.new }
     // The sheet is that of the set that the office runs, whatever is being drafted.
     ensures sheet { IfOk result (λ text. S.is_honest office.new → (before : OfficeState) → StandForSound (S.content office.old) before →
         IsSheetOf before id text.items) }

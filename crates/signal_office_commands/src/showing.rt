@@ -1,7 +1,7 @@
 //! What the office shows of an intersection.
 
 ghost use Rattle.std.specs.Prelude.{◌≡◌};
-ghost use Rattle.office_tables_shelf.specs.Shelf.{IsKept};
+ghost use Rattle.office_tables_shelf.specs.Keeps.{KeepsShelf};
 ghost use Rattle.signal_office_commands.specs.Showing.{state_shown, timing_shown, draft_shown};
 ghost use Rattle.signal_office_commands.specs.Showing.{cabinet_shown};
 ghost use Rattle.signal_office_commands.specs.Showing.{ShowsState, ShowsTiming, ShowsDraft};
@@ -67,7 +67,7 @@ pub fn state_in<S: Shelf>(
     office: &mut Office<S>,
     id: InterId,
 ) -> Result<IntersectionState, Fault>
-    ensures kept { IsKept S.is_honest S.content S.written S.may_leave office.old office.new }
+    ensures kept { KeepsShelf S.Shelf office.old office.new }
     ensures shown { S.is_honest office.new → ShowsState (S.content office.old) id result }
 {
     state_shown(ask(alloc, office, Command::State { id }))
@@ -79,7 +79,7 @@ pub fn timing_in<S: Shelf>(
     office: &mut Office<S>,
     id: InterId,
 ) -> Result<TimingSet, Fault>
-    ensures kept { IsKept S.is_honest S.content S.written S.may_leave office.old office.new }
+    ensures kept { KeepsShelf S.Shelf office.old office.new }
     ensures shown { S.is_honest office.new → ShowsTiming (S.content office.old) id result }
 {
     timing_shown(ask(alloc, office, Command::Timing { id }))
@@ -91,7 +91,7 @@ pub fn draft_in<S: Shelf>(
     office: &mut Office<S>,
     id: InterId,
 ) -> Result<TimingSet, Fault>
-    ensures kept { IsKept S.is_honest S.content S.written S.may_leave office.old office.new }
+    ensures kept { KeepsShelf S.Shelf office.old office.new }
     ensures shown { S.is_honest office.new → ShowsDraft (S.content office.old) id result }
 {
     draft_shown(ask(alloc, office, Command::Draft { id }))
@@ -103,7 +103,7 @@ pub fn cabinet_in<S: Shelf>(
     office: &mut Office<S>,
     id: InterId,
 ) -> Result<CabinetShown, Fault>
-    ensures kept { IsKept S.is_honest S.content S.written S.may_leave office.old office.new }
+    ensures kept { KeepsShelf S.Shelf office.old office.new }
     ensures shown { S.is_honest office.new → ShowsCabinet (S.content office.old) id result }
 {
     cabinet_shown(ask(alloc, office, Command::Cabinet { id }))

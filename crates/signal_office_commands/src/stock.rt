@@ -2,7 +2,7 @@
 
 ghost use Rattle.std.specs.Prelude.{◌≡◌, ◌⊎◌, Err, IfOk, IfErr};
 ghost use Rattle.cabinet_core.specs.Stock.{stock_of};
-ghost use Rattle.office_tables_shelf.specs.Shelf.{IsKept};
+ghost use Rattle.office_tables_shelf.specs.Keeps.{KeepsShelf};
 ghost use Rattle.office_desk.specs.Damage.{MeetsDamage};
 ghost use Rattle.office_machine.specs.Office.{Office as OfficeState};
 ghost use Rattle.office_desk.specs.StandFor.{StandForSound};
@@ -33,7 +33,7 @@ fn stock_written(alloc: Global, csv: bool, parts: &[(PartCode, Hand)]) -> Result
 
 /// Each part that was ever delivered, with how many are on hand.
 fn stock_asked<S: Shelf>(alloc: Global, office: &mut Office<S>) -> Result<Stock, Fault>
-    ensures kept { IsKept S.is_honest S.content S.written S.may_leave office.old office.new }
+    ensures kept { KeepsShelf S.Shelf office.old office.new }
     ensures stock { IfOk result (λ parts. S.is_honest office.new → (before : OfficeState) →
         StandForSound (S.content office.old) before → parts ≡ stock_of before.register) }
     ensures refused { IfErr result (λ why. (why ≡ Fault.Store) ⊎ (why ≡ Fault.Damaged)) }
@@ -55,7 +55,7 @@ pub fn stock_of<S: Shelf>(
     csv: bool,
 ) -> Result<Vec<u8>, Fault>
     // It changes nothing.
-    ensures kept { IsKept S.is_honest S.content S.written S.may_leave office.old office.new }
+    ensures kept { KeepsShelf S.Shelf office.old office.new }
     ensures stock { IfOk result (λ text. S.is_honest office.new → (before : OfficeState) →
         StandForSound (S.content office.old) before →
         text.items ≡ stock_written csv (stock_of before.register)) }
