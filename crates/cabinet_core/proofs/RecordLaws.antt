@@ -73,9 +73,15 @@ counted_law count one all none more step [] r last run = omega (arith, ap count 
 counted_law count one all none more step (c ∷ cs) r last run =
     omega (arith, counted_law count one all none more step cs (with_record r c) last run.1, step r c run.0, more c cs)
 
+-- the deliveries grow by what was received
+pub delivered_law : (code : List ℕ) (commands : List RecordCommand) (r last : Register) → AreAccepted r commands last → delivered last code ≡ delivered r code + received_by code commands
+delivered_law code = counted_law (λ x. delivered x code) (received code) (received_by code) refl (λ c cs. refl) (λ x c. delivered_step x code c)
+
+-- the used lines grow by what was taken
+pub used_law : (code : List ℕ) (commands : List RecordCommand) (r last : Register) → AreAccepted r commands last → used last code ≡ used r code + spent_by code commands
+used_law code = counted_law (λ x. used x code) (spent code) (spent_by code) refl (λ c cs. refl) (λ x c. used_step x code c)
+
 -- what is on hand and what was taken is what was on hand and what was received
 pub stock_law : (code : List ℕ) (commands : List RecordCommand) (r last : Register) → AreAccepted r commands last → IsSoundRegister r → IsSoundRegister last → pieces last code + spent_by code commands ≡ pieces r code + received_by code commands
 stock_law code commands r last run first_sound last_sound =
-    let came = counted_law (λ x. delivered x code) (received code) (received_by code) refl (λ c cs. refl) (λ x c. delivered_step x code c) commands r last run in
-    let went = counted_law (λ x. used x code) (spent code) (spent_by code) refl (λ c cs. refl) (λ x c. used_step x code c) commands r last run in
-    omega (arith, came, went, (first_sound.stock code).covered, (last_sound.stock code).covered)
+    omega (arith, delivered_law code commands r last run, used_law code commands r last run, (first_sound.stock code).covered, (last_sound.stock code).covered)
