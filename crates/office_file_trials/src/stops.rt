@@ -8,7 +8,7 @@ use office_row_files::trouble::Trouble;
 use office_tables::sql_shelf::SqlShelf;
 use office_tables_memory::memory_shelf::MemoryShelf;
 use office_tables_shelf::shelf::Shelf;
-use office_trials::script::{ANSWERS, STREAM, UNAVAILABLE, UNKNOWN, commands};
+use office_trials::script::{UNAVAILABLE, UNKNOWN, commands, sent, told};
 use office_trials::state::shown;
 use office_trials::talking::{is_done, serve_all};
 use sqlite::{Alter, Connection};
@@ -61,17 +61,17 @@ fn are_refusals(bytes: &[u8], more: usize) -> bool {
 
 /// How many requests of the stream are answered before one is refused.
 fn requests_answered<S: Shelf>(alloc: Global, office: &mut Office<S>) -> Result<usize, Trouble> {
-    let (answers, requests) = serve_all(alloc, office, STREAM)?;
+    let (answers, requests) = serve_all(alloc, office, sent(0, 203))?;
     for (n, end, more) in [(0, 0, 2), (1, 89, 1), (2, 273, 0)] {
-        let rest = answers.strip_prefix(&ANSWERS[..end]).unwrap_or(&[]);
+        let rest = answers.strip_prefix(told(0, end)).unwrap_or(&[]);
         if are_refusals(rest, more) && requests == 3 {
             return Ok(n);
         }
     }
-    if answers.as_slice() == ANSWERS.as_slice() && requests == 3 {
+    if answers.as_slice() == told(0, 399) && requests == 3 {
         return Ok(3);
     }
-    Err(Trouble::wrong(alloc, "a stream that was stopped", ANSWERS, &answers))
+    Err(Trouble::wrong(alloc, "a stream that was stopped", told(0, 399), &answers))
 }
 
 /// Has the office over a shelf do its work, and tells how much of it was done.

@@ -1,6 +1,6 @@
 //! A stream that breaks off after each of its bytes.
 
-use crate::script::{ANSWERS, STREAM};
+use crate::script::{sent, told};
 use crate::talking::serve_all;
 use office_desk::office::Office;
 use office_row_files::trouble::{Trouble, compare};
@@ -17,8 +17,8 @@ pub(crate) fn cut_everywhere(alloc: Global) -> Result<(), Trouble> {
             _ => (3, 399),
         };
         let mut office = Office::new(MemoryShelf::new(alloc));
-        let (answers, requests) = serve_all(alloc, &mut office, &STREAM[..n])?;
-        compare(alloc, "a stream that is cut", &ANSWERS[..end], &answers)?;
+        let (answers, requests) = serve_all(alloc, &mut office, sent(0, n))?;
+        compare(alloc, "a stream that is cut", told(0, end), &answers)?;
         if requests != wanted {
             return Err(Trouble::Unprepared("a count of requests"));
         }

@@ -4,7 +4,7 @@
 
 use crate::more::more;
 use crate::running::is_run;
-use crate::script::{ANSWERS, STREAM, UNAVAILABLE, UNKNOWN, commands};
+use crate::script::{UNAVAILABLE, UNKNOWN, commands, sent, told};
 use crate::state::{is_unchanged, state_of};
 use crate::talking::answer;
 use office_desk::office::Office;
@@ -51,8 +51,7 @@ pub fn run_all<S: Shelf + Drop>(alloc: Global, start: Office<S>) -> Result<bool,
 /// Whether the answers to two requests tell of a refusal, which may be of either, after which the
 /// office is as it was; none where they are neither such answers nor the right ones.
 fn tells_refusal(answers: &[u8]) -> Option<bool> {
-    let (first, rest) = ANSWERS.split_at(89);
-    let second = &rest[..184];
+    let (first, second) = (told(0, 89), told(89, 273));
     if answers.strip_prefix(first) == Some(second) {
         return Some(false);
     }
@@ -66,7 +65,7 @@ fn tells_refusal(answers: &[u8]) -> Option<bool> {
 pub fn serve_two<S: Shelf>(alloc: Global, office: &mut Office<S>) -> Result<bool, Trouble> {
     let mut room = [0; 512];
     let mut writer = ToWrite::new(&mut room[..]);
-    let mut reader = FromRead::new(&STREAM[..127]);
+    let mut reader = FromRead::new(sent(0, 127));
     let served = serve(alloc, office, &mut reader, &mut writer, 9);
     let free = writer.writer.len();
     let answers = &room[..512_usize.saturating_sub(free)];
@@ -77,6 +76,6 @@ pub fn serve_two<S: Shelf>(alloc: Global, office: &mut Office<S>) -> Result<bool
             compare(alloc, "an office without memory to serve", UNKNOWN, &came)?;
             Ok(true)
         }
-        _ => Err(Trouble::wrong(alloc, "two requests", ANSWERS, answers)),
+        _ => Err(Trouble::wrong(alloc, "two requests", told(0, 273), answers)),
     }
 }

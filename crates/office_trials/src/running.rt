@@ -3,7 +3,7 @@
 use crate::script::Line;
 use crate::talking::{Words, told_answer, words};
 use office_desk::office::Office;
-use office_http::{AskFault, Asked, Request, answer_of, command_of};
+use office_http::{AskFault, Asked, Form, Request, answer_of, command_of};
 use office_machine::refusal::Refusal;
 use office_machine::reply::Reply;
 use office_row_files::trouble::{Trouble, compare};
@@ -25,6 +25,18 @@ pub fn asked(alloc: Global, (method, path, body): Words<'_>) -> Result<Option<As
     }
 }
 
+/// The answer to a reply, asked for once more where memory was refused; none where the reply is
+/// that the office is unavailable.
+fn answer_to(alloc: Global, reply: &Reply, form: Form) -> Result<Option<Vec<u8>>, Trouble> {
+    if matches!(reply, Reply::Refused(Refusal::Unavailable)) {
+        return Ok(None);
+    }
+    match answer_of(alloc, reply, form) {
+        Ok(came) => Ok(Some(came)),
+        Err(_) => Ok(Some(answer_of(alloc, reply, form)?)),
+    }
+}
+
 /// Runs what a request asks for, and gives the answer to it; none where memory or the shelf
 /// refused.
 pub fn run<S: Shelf>(
@@ -36,13 +48,7 @@ pub fn run<S: Shelf>(
         return Ok(None);
     };
     let reply = office.run(alloc, &command);
-    if matches!(&reply, Reply::Refused(Refusal::Unavailable)) {
-        return Ok(None);
-    }
-    match answer_of(alloc, &reply, form) {
-        Ok(came) => Ok(Some(came)),
-        Err(_) => Ok(Some(answer_of(alloc, &reply, form)?)),
-    }
+    answer_to(alloc, &reply, form)
 }
 
 /// Runs what a request asks for, which must be answered this.

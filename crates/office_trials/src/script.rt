@@ -97,14 +97,14 @@ const QUERIES: [&str; 7] = [
 ];
 
 /// Adds intersection 12, asks for it, and begins a transaction: requests of 93, 34 and 76 bytes.
-pub const STREAM: &[u8; 203] = b"POST /intersections HTTP/1.1\r\nContent-Length: 41\r\n\r\n\
+const STREAM: &[u8; 203] = b"POST /intersections HTTP/1.1\r\nContent-Length: 41\r\n\r\n\
     {\"id\":12,\"interval\":365,\"name\":\"Main St\"}\
     GET /intersections/12 HTTP/1.1\r\n\r\n\
     POST /intersections/12/begin HTTP/1.1\r\nContent-Length: 15\r\n\r\n\
     {\"clerk\":\"Ana\"}";
 
 /// Its answers, of 89, 184 and 126 bytes.
-pub const ANSWERS: &[u8; 399] =
+const ANSWERS: &[u8; 399] =
     b"HTTP/1.1 200 OK\r\nContent-Type: application/json\r\nContent-Length: 18\r\n\r\n\
     {\"result\":\"added\"}\
     HTTP/1.1 200 OK\r\nContent-Type: application/json\r\nContent-Length: 112\r\n\r\n\
@@ -128,6 +128,16 @@ pub const UNKNOWN: &[u8] = b"HTTP/1.1 404 Not Found\r\nContent-Type: application
 /// that names it.
 pub fn commands() -> &'static [Line; 12] {
     &COMMANDS
+}
+
+/// The bytes of the stream from one place to another.
+pub fn sent(from: usize, to: usize) -> &'static [u8] {
+    STREAM.get(from..to).unwrap_or(b"")
+}
+
+/// The bytes of its answers from one place to another.
+pub fn told(from: usize, to: usize) -> &'static [u8] {
+    ANSWERS.get(from..to).unwrap_or(b"")
 }
 
 /// The queries.

@@ -1,6 +1,6 @@
 //! The office at ends that wait for one another or never stop, and on two connections.
 
-use crate::script::{ANSWERS, STREAM};
+use crate::script::{sent, told};
 use office_desk::office::Office;
 use office_http::{Served, Sink, ToWrite, WaitsOnce, serve, serve_on};
 use office_row_files::trouble::{Trouble, compare, holds};
@@ -14,8 +14,8 @@ use std::net::{Ipv4Addr, Shutdown, SocketAddr, TcpListener, TcpStream};
 
 /// An answer is written before the next request is asked for.
 pub(crate) fn serve_in_turn(alloc: Global) -> Result<(), Trouble> {
-    let (taken, stream) = (Cell::new(0), STREAM.as_slice());
-    let mut reader = Patient::new(&stream[..93], &stream[93..127], 89, &taken);
+    let taken = Cell::new(0);
+    let mut reader = Patient::new(sent(0, 93), sent(93, 127), 89, &taken);
     let mut writer = Telling::new(&taken);
     let mut office = Office::new(MemoryShelf::new(alloc));
     let served = serve(alloc, &mut office, &mut reader, &mut writer, 9);
@@ -25,8 +25,7 @@ pub(crate) fn serve_in_turn(alloc: Global) -> Result<(), Trouble> {
 
 /// A stream without end is served to the limit.
 pub(crate) fn serve_without_end(alloc: Global) -> Result<(), Trouble> {
-    let stream = STREAM.as_slice();
-    let mut reader = Endless::new(&stream[93..127]);
+    let mut reader = Endless::new(sent(93, 127));
     let mut writer = ToWrite::new(Vec::new(alloc));
     let mut office = Office::new(MemoryShelf::new(alloc));
     let served = serve(alloc, &mut office, &mut reader, &mut writer, 3);
@@ -53,25 +52,28 @@ const SAME: &[u8] =
 /// Sends the first two requests of the stream to the listener, and closes the sending side.
 fn send(rt: &HostRuntime, listener: &TcpListener) -> io::Result<TcpStream> {
     let mut wire = TcpStream::connect(rt, listener.local_addr()?)?;
-    wire.write_all(&STREAM[..127])?;
+    wire.write_all(sent(0, 127))?;
     wire.shutdown(Shutdown::Write)?;
     Ok(wire)
+}
+
+/// Reads a connection to its end: what comes begins so, and then as the second request is answered.
+fn hears(alloc: Global, wire: TcpStream, first: &[u8]) -> Result<(), Trouble> {
+    let text = io::read_to_string(alloc, wire)?;
+    let rest = text.as_bytes().strip_prefix(first).unwrap_or(b"");
+    compare(alloc, "a connection", told(89, 273), rest)
 }
 
 /// Two connections wait, and each gets its own two answers: the first adds the intersection, and
 /// the second finds it there.
 pub(crate) fn serve_two_connections(rt: &HostRuntime) -> Result<(), Trouble> {
-    let (alloc, answers) = (rt.alloc(), ANSWERS.as_slice());
+    let alloc = rt.alloc();
     let listener = TcpListener::bind(rt, SocketAddr::from((Ipv4Addr::LOCALHOST, 0)))?;
     let first = send(rt, &listener)?;
     let second = send(rt, &listener)?;
     let mut office = Office::new(MemoryShelf::new(alloc));
     let is_served = serve_on(alloc, &listener, 2, &mut office).is_ok();
     holds(is_served, "two connections")?;
-    let text = io::read_to_string(alloc, first)?;
-    let told = &answers[..273];
-    compare(alloc, "the first connection", told, text.as_bytes())?;
-    let text = io::read_to_string(alloc, second)?;
-    let rest = text.as_bytes().strip_prefix(SAME).unwrap_or(b"");
-    compare(alloc, "the second connection", &answers[89..273], rest)
+    hears(alloc, first, told(0, 89))?;
+    hears(alloc, second, SAME)
 }
