@@ -1,10 +1,9 @@
 use Rattle.std.proofs.Common.{arith, ◌+◌, drop, inl, inr, sym, ap, ◌∙◌}
-use Rattle.std.proofs.lemmas.List.{drop_more}
+use Rattle.std.proofs.lemmas.List.{drop_more, nil_from_length}
 use Rattle.office_tables_shelf.specs.Change.{changed, changed_by}
 use Rattle.office_tables_sql.specs.Stored.{content_now}
 use Rattle.sqlite.specs.Held.{state}
 use Rattle.office_tables_sql.proofs.CallLemmas.{stands_then, survives_on}
-use Rattle.office_tables_open.proofs.VersionLemmas.{none_left}
 use Rattle.office_tables.proofs.change.change_rows.Goals as goal
 
 pub loop-change-preserved : goal.loop-change-preserved
@@ -31,6 +30,6 @@ loop-change-preserved g c =
 pub returns-clause-honest : goal.returns-clause-honest
 returns-clause-honest g c = λ clean some.
     elim (c.loop-change.invariant.3 clean) [
-      | inl none ↦ absurd (some (none_left c.args.changes.now (omega (arith, none, c.loop-change-test.false))))
+      | inl none ↦ absurd (some (nil_from_length c.args.changes.now (omega (arith, none, c.loop-change-test.false))))
       | inr honest ↦ honest
     ]
