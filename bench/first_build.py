@@ -3,9 +3,8 @@ tells how many crates were proved after how many minutes, and what each took of 
 
     python3 bench/first_build.py [--write]
 
-With --write both go into docs/MEASUREMENTS.md. A machine on which the same crates were proved
-before has a part of the work kept, so this is to be run on one where they were not. It takes the
-time of the build, and some gigabytes below the folder for temporary files.
+With --write both go into docs/MEASUREMENTS.md. It takes the time of the build, in which nothing
+else should run, and some gigabytes below the folder for temporary files.
 """
 import collections
 import pathlib
