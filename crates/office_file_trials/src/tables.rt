@@ -102,9 +102,9 @@ fn found_again<D: Disk + Drop>(
     alloc: Global,
     conn: Connection<FileStore<D>>,
 ) -> Base<FileStore<D>> {
-    match conn.close_files() {
-        Ok(files) => based(connect(alloc, files)),
-        Err(_) => Base::Lost,
+    match conn.close_files().ok() {
+        Some(files) => based(connect(alloc, files)),
+        None => Base::Lost,
     }
 }
 
