@@ -13,7 +13,8 @@ import sys
 import measured
 
 TOP = pathlib.Path(__file__).resolve().parent.parent
-TESTS = {"signal_core_tests", "office_row_files", "office_trials", "office_file_trials"}
+TESTS = {"signal_core_tests", "office_row_files", "office_trial_files", "office_trials"}
+TESTS |= {"office_hostile_trials", "office_row_tables", "office_file_trials"}
 KINDS = ["Code", "Tests", "Specs", "Proofs", "Edits of the gate", "Other edits"]
 
 

@@ -1,10 +1,10 @@
 //! A migration that is stopped at each call of a file, and what is found after it.
 
-use crate::files::{close, connect, crashed, found, stopping};
 use office_row_files::trouble::Trouble;
 use office_tables::Migrated;
 use office_tables::open::OpenFault;
 use office_tables::sql_shelf::SqlShelf;
+use office_trial_files::{close, connect, crashed, found, stopping};
 use sqlite::{Alter, Connection, Options};
 use sqlite_disk::{Disk, Files};
 use std::alloc::Global;

@@ -1,13 +1,13 @@
 //! Commands and a stream that are stopped at each call of a file, and what is found after it. A
 //! line is printed for each thing tried.
 
-use crate::files::{close, connect, crashed, found, stopping};
 use crate::migrating::{stop_migration, with_tables};
 use office_desk::office::Office;
 use office_row_files::trouble::Trouble;
 use office_tables::sql_shelf::SqlShelf;
 use office_tables_memory::memory_shelf::MemoryShelf;
 use office_tables_shelf::shelf::Shelf;
+use office_trial_files::{close, connect, crashed, found, stopping};
 use office_trials::script::{UNAVAILABLE, UNKNOWN, commands, sent, told};
 use office_trials::state::shown;
 use office_trials::talking::{is_done, serve_all};

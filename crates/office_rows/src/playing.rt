@@ -1,12 +1,12 @@
 //! A row played by runs of the program.
 
-use office_file_trials::other_hand::alter_file;
 use office_row_files::comparing::{compare, compare_statuses};
 use office_row_files::ends::{Cut, Feed, Keep};
 use office_row_files::folder::{lacks_file, make_folder, write_file};
 use office_row_files::row::{Act, Row, Step, Talk};
 use office_row_files::trouble::Trouble;
 use office_row_files::wording::program_words;
+use office_row_tables::other_hand::alter_file;
 use signal_office_run::{Fault, report, run_words};
 use std::alloc::Global;
 use std::net::{Ipv4Addr, SocketAddr, TcpListener};

@@ -2,15 +2,15 @@
 
 ghost use Rattle.std.specs.Prelude.{◌≡◌, OnErr};
 
-use crate::script::{Line, commands};
-use crate::state::{is_unchanged, state_of};
-use crate::talking::is_done;
 use cabinet_core::{Delivery, Hand, Inspection, Order, PartCode, UsedLine};
 use office_desk::office::Office;
 use office_row_files::trouble::Trouble;
 use office_tables_maps::map_shelf::MapShelf;
 use office_tables_shelf::rows::{IntersectionRow, RowChange, Table};
 use office_tables_shelf::shelf::{Shelf, ShelfFault};
+use office_trials::script::{Line, commands};
+use office_trials::state::{is_unchanged, state_of};
+use office_trials::talking::is_done;
 use signal_records::{Change, InterId, LineNo, RecordNo, Row};
 use std::alloc::Global;
 

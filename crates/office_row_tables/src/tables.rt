@@ -1,12 +1,12 @@
 //! The tables that a row is played over.
 
-use crate::files::connect;
 use office_desk::office::Office;
 use office_http::{ServeFault, Served, Sink, Source, serve};
 use office_row_files::way::Kind;
 use office_tables::open::OpenFault;
 use office_tables::sql_shelf::SqlShelf;
 use office_tables_memory::memory_shelf::MemoryShelf;
+use office_trial_files::connect;
 use sqlite::{Alter, Connection, FileStore, MemStore};
 use sqlite_disk::{Disk, Files, Fuse, Memory};
 use std::alloc::Global;

@@ -1,4 +1,5 @@
 //! Database files in memory that stop after so many calls, and what is found in them then.
+#![tactic(auto)]
 
 use office_row_files::trouble::Trouble;
 use sqlite::{Connection, FileStore, Options};
@@ -7,7 +8,7 @@ use std::alloc::Global;
 use std::io;
 
 /// The two files.
-pub(crate) type Pair = Files<Fuse<Memory>>;
+pub type Pair = Files<Fuse<Memory>>;
 
 /// Writes these bytes to an empty file, so that they stay after a crash.
 fn fill<D: Disk>(file: &mut D, bytes: &[u8]) -> io::Result<()> {
@@ -28,7 +29,7 @@ fn file(alloc: Global, bytes: &[u8], calls: u64) -> Result<Fuse<Memory>, Trouble
 }
 
 /// The files of a database, with an empty log. One of them stops after so many calls.
-pub(crate) fn stopping(
+pub fn stopping(
     alloc: Global,
     db: &[u8],
     is_log: bool,
@@ -46,7 +47,7 @@ pub(crate) fn stopping(
 }
 
 /// The files once more, with all that was written to them.
-pub(crate) fn found(alloc: Global, left: &Pair) -> Result<Pair, Trouble> {
+pub fn found(alloc: Global, left: &Pair) -> Result<Pair, Trouble> {
     Ok(Files {
         log: file(alloc, left.log.inner().bytes(), u64::MAX)?,
         db: file(alloc, left.db.inner().bytes(), u64::MAX)?,
@@ -54,7 +55,7 @@ pub(crate) fn found(alloc: Global, left: &Pair) -> Result<Pair, Trouble> {
 }
 
 /// The files after a crash, which loses all that was not synced.
-pub(crate) fn crashed<D: Crash>(left: Files<D>) -> Files<D> {
+pub fn crashed<D: Crash>(left: Files<D>) -> Files<D> {
     let Files { mut log, mut db } = left;
     log.crash();
     db.crash();
@@ -62,7 +63,7 @@ pub(crate) fn crashed<D: Crash>(left: Files<D>) -> Files<D> {
 }
 
 /// The database in these files.
-pub(crate) fn connect<D: Disk + Drop>(
+pub fn connect<D: Disk + Drop>(
     alloc: Global,
     files: Files<D>,
 ) -> Option<Connection<FileStore<D>>> {
@@ -74,7 +75,7 @@ pub(crate) fn connect<D: Disk + Drop>(
 
 /// Closes a database, so that its log is copied into it, and gives the files as they were left and
 /// whether that was done.
-pub(crate) fn close<D: Disk + Drop>(conn: Connection<FileStore<D>>) -> (Files<D>, bool) {
+pub fn close<D: Disk + Drop>(conn: Connection<FileStore<D>>) -> (Files<D>, bool) {
     match conn.close_files() {
         Ok(files) => (files, true),
         Err((_, store)) => (store.close(), false),

@@ -1,10 +1,10 @@
 //! A stream that breaks off after each of its bytes.
 
-use crate::script::{sent, told};
-use crate::talking::serve_all;
 use office_desk::office::Office;
 use office_row_files::trouble::{Trouble, compare};
 use office_tables_memory::memory_shelf::MemoryShelf;
+use office_trials::script::{sent, told};
+use office_trials::talking::serve_all;
 use std::alloc::Global;
 
 /// Cuts the stream after each of its bytes: the whole requests are answered.

@@ -1,8 +1,8 @@
 //! What is tried with an office over maps, or with none: ends that wait, the front of a stream, and
 //! hostile use. A line is printed for each kind of it.
 
-use crate::below::{answer_faults, read_front};
 use crate::cuts::cut_everywhere;
+use crate::fronts::{answer_faults, read_front};
 use crate::refusing::refuse_everywhere;
 use crate::waits::{serve_in_turn, serve_two_connections, serve_without_end, wait_once};
 use office_row_files::trouble::Trouble;
