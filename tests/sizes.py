@@ -10,11 +10,11 @@ Builds nothing.
 import pathlib
 import sys
 
+import drawing
 import measured
 
 TOP = pathlib.Path(__file__).resolve().parent.parent
-TESTS = {"signal_core_tests", "office_row_files", "office_trial_files", "office_trials"}
-TESTS |= {"office_hostile_trials", "office_row_tables", "office_file_trials"}
+TESTS = drawing.TESTS - {"office_rows"}
 KINDS = ["Code", "Tests", "Specs", "Proofs", "Edits of the gate", "Other edits"]
 
 
