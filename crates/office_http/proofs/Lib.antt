@@ -1,4 +1,5 @@
 pub mod ListeningLemmas
 pub mod MachineLemmas
+pub mod ServedLemmas
 pub mod StreamLaws
 pub mod StreetLemmas

@@ -19,8 +19,8 @@ use Rattle.office_machine.specs.declared.reply.Reply.{Reply}
 use Rattle.office_machine.specs.declared.reply.Reply.TheVariants.{Refused}
 use Rattle.signal_office_commands.specs.Fault.{IsFaultOfQuery, TellsUnknown}
 use Rattle.signal_office_commands.specs.Refused.{fault_of, fault_of_record, record_refusal}
-use Rattle.signal_office_commands.specs.declared.fault.Fault.{Fault}
-use Rattle.signal_office_commands.specs.declared.fault.Fault.TheVariants as told
+use Rattle.signal_office_faults.specs.declared.fault.Fault.{Fault}
+use Rattle.signal_office_faults.specs.declared.fault.Fault.TheVariants as told
 
 -- what holds of a fault that is handed on holds of that which is told
 pub on_fault : {A : Type 0} (result : Result A Fault) (fault : Fault) (P : Fault → Type 0) → IsErrAnd result (λ why. why ≡ fault) → P fault → IfErr result P

@@ -11,8 +11,8 @@ use Rattle.office_desk.proofs.IntersectionTable.{Entry}
 use Rattle.office_desk.proofs.ListedIntersections.{each_there}
 use Rattle.office_listings.specs.declared.orders.OpenOrder.{OpenOrder}
 use Rattle.signal_office_commands.specs.Fault.{IsFaultOfQuery, TellsUnknown}
-use Rattle.signal_office_commands.specs.declared.fault.Fault.{Fault}
-use Rattle.signal_office_commands.specs.declared.fault.Fault.TheVariants as told
+use Rattle.signal_office_faults.specs.declared.fault.Fault.{Fault}
+use Rattle.signal_office_faults.specs.declared.fault.Fault.TheVariants as told
 use Rattle.signal_office_commands.specs.Listing.{open_in, open_on}
 
 -- those of some intersections

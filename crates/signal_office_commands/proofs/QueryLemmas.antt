@@ -15,7 +15,7 @@ use Rattle.office_machine.specs.declared.reply.Reply.{Reply}
 use Rattle.office_machine.specs.declared.reply.Reply.TheVariants as reply
 use Rattle.office_listings.specs.Cabinet.{cabinet_register}
 use Rattle.signal_office_commands.proofs.AskingLemmas.{step_taken}
-use Rattle.signal_office_commands.specs.declared.fault.Fault.{Fault}
+use Rattle.signal_office_faults.specs.declared.fault.Fault.{Fault}
 use Rattle.signal_office_commands.specs.Cabinet.{IsCabinetOf, IsRegisterOf, IsStateOf}
 
 shown_state : (id : ℕ) (found : Option Intersection) (state : IntersectionState)

@@ -5,7 +5,7 @@ use Rattle.draft_state.specs.declared.state.DbState.TheVariants.{Normal, Transac
 use Rattle.signal_records.specs.TimingSet.{Rows}
 use Rattle.office_tables_shelf.specs.Content.{Content}
 use Rattle.signal_office_commands.specs.Showing.{ShowsDraft}
-use Rattle.signal_office_commands.specs.declared.fault.Fault.{Fault}
+use Rattle.signal_office_faults.specs.declared.fault.Fault.{Fault}
 use Rattle.signal_office_commands.specs.Intersection.{ShowsDraftIn, ShowsOpen}
 
 abbrev IsNothing : Result (Option Rows) Fault → Type 0

@@ -21,7 +21,7 @@ use Rattle.office_machine.specs.declared.reply.Reply.{Reply}
 use Rattle.office_machine.specs.declared.reply.Reply.TheVariants as reply
 use Rattle.office_machine.specs.declared.reply.CabinetShown.{CabinetShown}
 use Rattle.office_machine.specs.declared.reply.IntersectionState.{IntersectionState}
-use Rattle.signal_office_commands.specs.declared.fault.Fault.{Fault}
+use Rattle.signal_office_faults.specs.declared.fault.Fault.{Fault}
 use Rattle.signal_office_commands.specs.Asking.{Answered}
 use Rattle.signal_office_commands.specs.Showing.{state_shown, timing_shown, draft_shown, cabinet_shown}
 use Rattle.signal_page.specs.declared.shown.IntersectionShown.{IntersectionShown}

@@ -16,8 +16,8 @@ use Rattle.office_machine.specs.declared.reply.Reply.TheVariants as reply
 use Rattle.signal_office_commands.specs.Asking.{Answered}
 use Rattle.signal_office_commands.specs.Fault.{TellsUnknown}
 use Rattle.signal_office_commands.specs.Showing.{state_shown, timing_shown, draft_shown, cabinet_shown}
-use Rattle.signal_office_commands.specs.declared.fault.Fault.{Fault}
-use Rattle.signal_office_commands.specs.declared.fault.Fault.TheVariants as told
+use Rattle.signal_office_faults.specs.declared.fault.Fault.{Fault}
+use Rattle.signal_office_faults.specs.declared.fault.Fault.TheVariants as told
 use Rattle.signal_office_commands.specs.Intersection.{IsRefusedShowing, ShowsIntersection}
 use Rattle.signal_office_commands.specs.Paging.{shown_of}
 use Rattle.signal_office_commands.proofs.ShownLemmas.{all_shown}

@@ -6,8 +6,8 @@ use Rattle.office_files.specs.declared.fault.CsvFault.TheVariants as file
 use Rattle.office_desk.specs.Answers.{AnswersAny, RunsAny}
 use Rattle.office_machine.specs.declared.command.Command.{Command}
 use Rattle.office_machine.specs.declared.reply.Reply.{Reply}
-use Rattle.signal_office_commands.specs.declared.fault.Fault.{Fault}
-use Rattle.signal_office_commands.specs.declared.fault.Fault.TheVariants as told
+use Rattle.signal_office_faults.specs.declared.fault.Fault.{Fault}
+use Rattle.signal_office_faults.specs.declared.fault.Fault.TheVariants as told
 
 -- the office answered one command, and this is made of its reply
 pub record Answered {A : Type 0} (made : Reply → Result A Fault) (old : Content) (command : Command)

@@ -7,7 +7,7 @@ use Rattle.office_files.specs.Changes.{changes_of}
 use Rattle.office_files.specs.Plan.{IsPlan}
 use Rattle.office_files.specs.declared.fault.CsvFault.{CsvFault}
 use Rattle.office_tables_shelf.specs.Content.{Content}
-use Rattle.signal_office_commands.specs.declared.fault.Fault.{Fault}
+use Rattle.signal_office_faults.specs.declared.fault.Fault.{Fault}
 use Rattle.signal_office_commands.specs.Showing.{ShowsTiming, ShowsDraft}
 
 -- they are those of the plans of two files

@@ -4,8 +4,8 @@ use Rattle.signal_records.specs.TimingSet.{Rows}
 use Rattle.signal_rules.specs.Lookup.{pattern_at}
 use Rattle.signal_diagram.specs.Diagram.{diagram_text}
 use Rattle.office_tables_shelf.specs.Content.{Content}
-use Rattle.signal_office_commands.specs.declared.fault.Fault.{Fault}
-use Rattle.signal_office_commands.specs.declared.fault.Fault.TheVariants as told
+use Rattle.signal_office_faults.specs.declared.fault.Fault.{Fault}
+use Rattle.signal_office_faults.specs.declared.fault.Fault.TheVariants as told
 use Rattle.office_files.specs.Changes.{changes_of}
 use Rattle.signal_office_commands.specs.Asking.{IsUnread}
 use Rattle.signal_office_commands.specs.Showing.{ShowsTiming}

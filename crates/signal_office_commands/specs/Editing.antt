@@ -11,8 +11,8 @@ use Rattle.office_machine.specs.declared.command.Command.TheVariants as command
 use Rattle.office_machine.specs.declared.refusal.Refusal.TheVariants as refusal
 use Rattle.office_machine.specs.declared.reply.Reply.{Reply}
 use Rattle.office_machine.specs.declared.reply.Reply.TheVariants as reply
-use Rattle.signal_office_commands.specs.declared.fault.Fault.{Fault}
-use Rattle.signal_office_commands.specs.declared.fault.Fault.TheVariants as told
+use Rattle.signal_office_faults.specs.declared.fault.Fault.{Fault}
+use Rattle.signal_office_faults.specs.declared.fault.Fault.TheVariants as told
 use Rattle.signal_office_commands.specs.declared.editing.Edited.{Edited}
 use Rattle.signal_office_commands.specs.Asking.{Ran, IsWant, IsUnread}
 use Rattle.signal_office_commands.specs.Refused.{fault_of}

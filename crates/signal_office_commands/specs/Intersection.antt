@@ -4,7 +4,7 @@ use Rattle.draft_state.specs.declared.state.DbState.{DbState}
 use Rattle.draft_state.specs.declared.state.DbState.TheVariants.{Normal}
 use Rattle.office_tables_shelf.specs.Content.{Content}
 use Rattle.signal_records.specs.TimingSet.{Rows}
-use Rattle.signal_office_commands.specs.declared.fault.Fault.{Fault}
+use Rattle.signal_office_faults.specs.declared.fault.Fault.{Fault}
 use Rattle.signal_office_commands.specs.Showing.{ShowsState, ShowsTiming, ShowsDraft, ShowsCabinet}
 use Rattle.signal_page.specs.declared.shown.IntersectionShown.{IntersectionShown}
 

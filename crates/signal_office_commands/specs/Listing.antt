@@ -13,8 +13,8 @@ use Rattle.office_listings.specs.Orders.{open_orders, orders_listing}
 use Rattle.office_listings.specs.Stock.{stock_csv_text, stock_listing}
 use Rattle.office_listings.specs.declared.orders.OpenOrder.{OpenOrder}
 use Rattle.signal_office_commands.specs.Fault.{TellsUnknown}
-use Rattle.signal_office_commands.specs.declared.fault.Fault.{Fault}
-use Rattle.signal_office_commands.specs.declared.fault.Fault.TheVariants as told
+use Rattle.signal_office_faults.specs.declared.fault.Fault.{Fault}
+use Rattle.signal_office_faults.specs.declared.fault.Fault.TheVariants as told
 use Rattle.signal_office_commands.specs.Cabinet.{IsThere}
 
 -- as CSV or as a text

@@ -4,8 +4,8 @@ use Rattle.cabinet_core.specs.declared.refusal.CabinetRefusal.TheVariants as cab
 use Rattle.office_machine.specs.Refusal.{line_of}
 use Rattle.office_machine.specs.declared.refusal.Refusal.{Refusal}
 use Rattle.office_machine.specs.declared.refusal.Refusal.TheVariants as refusal
-use Rattle.signal_office_commands.specs.declared.fault.Fault.{Fault}
-use Rattle.signal_office_commands.specs.declared.fault.Fault.TheVariants as told
+use Rattle.signal_office_faults.specs.declared.fault.Fault.{Fault}
+use Rattle.signal_office_faults.specs.declared.fault.Fault.TheVariants as told
 
 -- what a record of the register may be refused for
 abbrev pub of_records : List Refusal

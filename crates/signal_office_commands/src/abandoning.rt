@@ -3,10 +3,10 @@
 ghost use Rattle.signal_office_commands.specs.Commands.{Abandons};
 
 use crate::editing::moved;
-use crate::fault::Fault;
 use office_desk::office::Office;
 use office_machine::command::Command;
 use office_tables_shelf::shelf::Shelf;
+use signal_office_faults::Fault;
 use signal_records::{InterId, Words};
 use std::alloc::Global;
 

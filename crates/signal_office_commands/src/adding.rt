@@ -3,12 +3,12 @@
 ghost use Rattle.std.specs.Prelude.{◌≡◌};
 ghost use Rattle.signal_office_commands.specs.Commands.{Adds, entered_told};
 
-use crate::fault::Fault;
 use crate::refused::fault_of;
 use office_desk::office::Office;
 use office_machine::command::Command;
 use office_machine::reply::Reply;
 use office_tables_shelf::shelf::Shelf;
+use signal_office_faults::Fault;
 use signal_records::{InterId, Interval, Words};
 use std::alloc::Global;
 

@@ -7,11 +7,11 @@ ghost use Rattle.office_desk.specs.StandFor.{StandForSound};
 ghost use Rattle.signal_office_commands.specs.Fault.{IsFaultOfQuery, TellsUnknown};
 ghost use Rattle.signal_office_commands.specs.Cabinet.{IsRegisterOf, MeetsRegisterDamage};
 
-use crate::fault::Fault;
 use crate::querying::{cabinet_asked, state_asked};
 use office_desk::office::Office;
 use office_listings::cabinet_text;
 use office_tables_shelf::shelf::Shelf;
+use signal_office_faults::Fault;
 use signal_records::InterId;
 use std::alloc::Global;
 

@@ -5,12 +5,12 @@ ghost use Rattle.office_tables_shelf.specs.Keeps.{KeepsShelf};
 ghost use Rattle.signal_office_commands.specs.Comparing.{ComparesDraft, ComparesFiles, IsFirstBad};
 ghost use Rattle.signal_office_commands.specs.Comparing.{IsRefusedQuery};
 
-use crate::fault::Fault;
 use crate::showing::{draft_in, timing_in};
 use office_desk::office::Office;
 use office_files::{CsvFault, read_plan_csv};
 use office_tables_shelf::shelf::Shelf;
 use signal_compare::{Difference, compare};
+use signal_office_faults::Fault;
 use signal_records::InterId;
 use std::alloc::Global;
 

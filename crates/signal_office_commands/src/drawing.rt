@@ -5,12 +5,12 @@ ghost use Rattle.office_tables_shelf.specs.Keeps.{KeepsShelf};
 ghost use Rattle.signal_office_commands.specs.Drawing.{Draws, DrawsFile, DrawsNoFile};
 ghost use Rattle.signal_office_commands.specs.Drawing.{DrawsTiming, DrawsNoTiming, Lacks};
 
-use crate::fault::Fault;
 use crate::showing::timing_in;
 use office_desk::office::Office;
 use office_files::read_plan_csv;
 use office_tables_shelf::shelf::Shelf;
 use signal_diagram::diagram;
+use signal_office_faults::Fault;
 use signal_records::{InterId, PatternNo, TimingSet};
 use std::alloc::Global;
 

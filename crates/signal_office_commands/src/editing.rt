@@ -6,7 +6,6 @@ ghost use Rattle.signal_office_commands.specs.Editing.{drafted};
 ghost use Rattle.signal_office_commands.specs.Editing.{edit_commands, edit_told, moved, opened};
 ghost use Rattle.signal_office_commands.specs.Editing.{is_due, Does, EditsAs, Goes};
 
-use crate::fault::Fault;
 use crate::refused::fault_of;
 use draft_core::changes::Changes;
 use draft_core::refusal::DraftRefusal;
@@ -16,6 +15,7 @@ use office_machine::command::Command;
 use office_machine::refusal::Refusal;
 use office_machine::reply::{Reply, Violations};
 use office_tables_shelf::shelf::Shelf;
+use signal_office_faults::Fault;
 use signal_records::{InterId, Words};
 use std::alloc::Global;
 

@@ -6,11 +6,11 @@ ghost use Rattle.signal_office_commands.specs.Exporting.{ExportsTiming, ExportsD
 ghost use Rattle.signal_office_commands.specs.Exporting.{ExportsCabinet};
 ghost use Rattle.signal_office_commands.specs.Showing.{ShowsTiming, ShowsDraft, ShowsCabinet};
 
-use crate::fault::Fault;
 use crate::showing::{cabinet_in, draft_in, timing_in};
 use office_desk::office::Office;
 use office_files::{records_csv, timing_csv};
 use office_tables_shelf::shelf::Shelf;
+use signal_office_faults::Fault;
 use signal_records::InterId;
 use std::alloc::Global;
 

@@ -3,7 +3,6 @@
 ghost use Rattle.signal_office_commands.specs.Importing.{Imports, import_told};
 ghost use Rattle.std.specs.Prelude.{◌≡◌};
 
-use crate::fault::Fault;
 use crate::refused::fault_of;
 use office_desk::office::Office;
 use office_files::read_records_csv;
@@ -11,6 +10,7 @@ use office_machine::command::Command;
 use office_machine::records::Records;
 use office_machine::reply::Reply;
 use office_tables_shelf::shelf::Shelf;
+use signal_office_faults::Fault;
 use std::alloc::Global;
 
 /// What an import made of its records.

@@ -5,11 +5,11 @@ ghost use Rattle.office_tables_shelf.specs.Keeps.{KeepsShelf};
 ghost use Rattle.signal_office_commands.specs.Intersection.{IsRefusedShowing, ShowsDraftIn};
 ghost use Rattle.signal_office_commands.specs.Intersection.{ShowsIntersection};
 
-use crate::fault::Fault;
 use crate::showing::{cabinet_in, draft_in, state_in, timing_in};
 use draft_core::state::DbState;
 use office_desk::office::Office;
 use office_tables_shelf::shelf::Shelf;
+use signal_office_faults::Fault;
 use signal_page::IntersectionShown;
 use signal_records::{InterId, TimingSet};
 use std::alloc::Global;

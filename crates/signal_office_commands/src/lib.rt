@@ -1,6 +1,5 @@
 //! The commands of the program, over any office: what is asked and printed of it, what is brought in
-//! and exported, plans that are edited, compared and drawn, pages; and why the program ends with a
-//! fault.
+//! and exported, plans that are edited, compared and drawn, and pages.
 #![tactic(auto)]
 
 mod abandoning;
@@ -11,7 +10,6 @@ mod comparing;
 mod drawing;
 mod editing;
 mod exporting;
-mod fault;
 mod importing;
 mod intersection;
 mod list;
@@ -34,7 +32,6 @@ pub use comparing::{compare_files, draft_differences};
 pub use drawing::{diagram_in, diagram_of};
 pub use editing::{Edited, edit_plan};
 pub use exporting::{cabinet_csv_of, draft_csv_of, timing_csv_of};
-pub use fault::Fault;
 pub use importing::{Imported, import_csv};
 pub use list::list_of;
 pub use orders::orders_of;
@@ -44,5 +41,6 @@ pub use plan::violations_in;
 pub use refused::fault_of;
 pub use sheet::sheet_of;
 pub use showing::{cabinet_in, draft_in, state_in, timing_in};
+pub use signal_office_faults::Fault;
 pub use stock::stock_of;
 pub use telling::report;

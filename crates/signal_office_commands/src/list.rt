@@ -8,12 +8,12 @@ ghost use Rattle.office_machine.specs.Office.{Office as OfficeState};
 ghost use Rattle.office_desk.specs.StandFor.{StandForSound};
 ghost use Rattle.signal_office_commands.specs.Listing.{list_written};
 
-use crate::fault::Fault;
 use crate::querying::intersections_asked;
 use office_desk::office::Office;
 use office_listings::{intersections_csv, intersections_text};
 use office_machine::intersections::ListedIntersection;
 use office_tables_shelf::shelf::Shelf;
+use signal_office_faults::Fault;
 use signal_records::NoMemory;
 use std::alloc::Global;
 

@@ -12,11 +12,11 @@ ghost use Rattle.signal_office_commands.specs.Cabinet.{IsThere};
 ghost use Rattle.signal_office_commands.specs.Listing.{open_on, AreOpen, TellsOrders};
 ghost use Rattle.signal_office_commands.specs.Listing.{MeetsOrdersDamage, IsOrdersListOf};
 
-use crate::fault::Fault;
 use crate::querying::{cabinet_asked, intersections_asked};
 use office_desk::office::Office;
 use office_listings::{OpenOrder, add_open_orders, orders_text};
 use office_tables_shelf::shelf::Shelf;
+use signal_office_faults::Fault;
 use signal_records::InterId;
 use std::alloc::Global;
 

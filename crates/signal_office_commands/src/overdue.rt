@@ -8,12 +8,12 @@ ghost use Rattle.office_desk.specs.StandFor.{StandForSound};
 ghost use Rattle.signal_office_commands.specs.Overdue.{IsReportOf};
 ghost use Rattle.office_machine.specs.declared.command.Command.TheVariants as command;
 
-use crate::fault::Fault;
 use crate::refused::fault_of;
 use cabinet_core::Day;
 use office_desk::office::Office;
 use office_files::overdue_text;
 use office_tables_shelf::shelf::Shelf;
+use signal_office_faults::Fault;
 use std::alloc::Global;
 
 /// The report of the intersections that are overdue on a day, those with the lowest numbers, at most

@@ -9,11 +9,11 @@ ghost use Rattle.signal_office_commands.specs.Fault.{TellsUnknown};
 ghost use Rattle.signal_office_commands.specs.Intersection.{IsRefusedShowing};
 ghost use Rattle.signal_office_commands.specs.Paging.{IsPageOf, IsPageOfFile};
 
-use crate::fault::Fault;
 use crate::intersection::intersection_in;
 use office_desk::office::Office;
 use office_files::{CsvFault, read_plan_csv};
 use office_tables_shelf::shelf::Shelf;
+use signal_office_faults::Fault;
 use signal_page::{intersection_page, plan_page};
 use signal_records::InterId;
 use std::alloc::Global;

@@ -12,13 +12,13 @@ ghost use Rattle.signal_office_commands.specs.Fault.{IsFaultOfQuery, TellsUnknow
 ghost use Rattle.signal_office_commands.specs.Cabinet.{IsCabinetOf, IsStateOf};
 
 use crate::asking::ask;
-use crate::fault::Fault;
 use crate::refused::fault_of;
 use office_desk::office::Office;
 use office_machine::command::Command;
 use office_machine::intersections::ListedIntersection;
 use office_machine::reply::{CabinetShown, IntersectionState, Reply};
 use office_tables_shelf::shelf::Shelf;
+use signal_office_faults::Fault;
 use signal_records::InterId;
 use std::alloc::Global;
 

@@ -3,9 +3,9 @@
 ghost use Rattle.std.specs.Prelude.{◌≡◌};
 ghost use Rattle.signal_office_commands.specs.Refused.{fault_of, record_refusal, with_number};
 
-use crate::fault::Fault;
 use cabinet_core::CabinetRefusal;
 use office_machine::refusal::Refusal;
+use signal_office_faults::Fault;
 
 /// The refusals that a record of the register may get.
 const OF_RECORDS: [Refusal; 11] = [

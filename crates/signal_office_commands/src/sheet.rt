@@ -10,13 +10,13 @@ ghost use Rattle.signal_office_commands.specs.Fault.{IsFaultOfQuery, TellsUnknow
 ghost use Rattle.signal_office_commands.specs.Sheet.{IsSheetOf, IsTimingOf};
 
 use crate::asking::ask;
-use crate::fault::Fault;
 use crate::refused::fault_of;
 use office_desk::office::Office;
 use office_files::timing_sheet;
 use office_machine::command::Command;
 use office_machine::reply::{Reply, RunningTiming};
 use office_tables_shelf::shelf::Shelf;
+use signal_office_faults::Fault;
 use signal_records::InterId;
 use std::alloc::Global;
 

@@ -8,12 +8,12 @@ ghost use Rattle.signal_office_commands.specs.Showing.{ShowsState, ShowsTiming, 
 ghost use Rattle.signal_office_commands.specs.Showing.{ShowsCabinet};
 
 use crate::asking::ask;
-use crate::fault::Fault;
 use crate::refused::fault_of;
 use office_desk::office::Office;
 use office_machine::command::Command;
 use office_machine::reply::{CabinetShown, IntersectionState, Reply};
 use office_tables_shelf::shelf::Shelf;
+use signal_office_faults::Fault;
 use signal_records::{InterId, TimingSet};
 use std::alloc::Global;
 

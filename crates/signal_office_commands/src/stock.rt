@@ -10,7 +10,6 @@ ghost use Rattle.office_machine.specs.declared.command.Command.TheVariants as co
 ghost use Rattle.signal_office_commands.specs.Listing.{stock_written};
 
 use crate::asking::ask;
-use crate::fault::Fault;
 use crate::refused::fault_of;
 use cabinet_core::{Hand, PartCode};
 use office_desk::office::Office;
@@ -18,6 +17,7 @@ use office_listings::{stock_csv, stock_text};
 use office_machine::command::Command;
 use office_machine::reply::{Reply, Stock};
 use office_tables_shelf::shelf::Shelf;
+use signal_office_faults::Fault;
 use signal_records::NoMemory;
 use std::alloc::Global;
 

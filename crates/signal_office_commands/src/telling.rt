@@ -2,8 +2,8 @@
 
 ghost use Rattle.std.specs.Prelude.{◌≤◌};
 
-use crate::fault::Fault;
 use office_http_framing::ends::{Sink, write_all};
+use signal_office_faults::Fault;
 use std::alloc::Global;
 
 /// Says a fault on standard error, as far as that takes it, and gives the status.

@@ -1,2 +1,1 @@
 pub mod MemoryLemmas
-pub mod ServedLemmas

@@ -3,19 +3,15 @@
 #![tactic(auto)]
 
 mod done;
-mod files;
 mod memory;
 mod office_in_file;
 mod program;
 mod serving;
-mod streaming;
 mod task;
 
 pub use done::Done;
-pub use files::is_missing;
 pub use memory::{open_in_memory, serve_new_office};
 pub use office_in_file::OfficeInFile;
 pub use program::run_words_over;
 pub use serving::serve_port;
-pub use streaming::serve_by;
 pub use task::{Shown, Task, done_with};

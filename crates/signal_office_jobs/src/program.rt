@@ -1,7 +1,6 @@
 //! What the program's words ask for, from a source of bytes to its two outputs.
 
 use crate::done::Done;
-use crate::files::{is_missing, read_file};
 use crate::memory::{open_in_memory, serve_new_office};
 use crate::office_in_file::OfficeInFile;
 use crate::serving::serve_port;
@@ -11,6 +10,7 @@ use office_desk::office::Office;
 use office_http::{Sink, Source, write_all};
 use office_tables_shelf::shelf::Shelf;
 use signal_office_commands::{Fault, compare_files, diagram_in, page_in, report, violations_in};
+use signal_office_faults::{is_missing, read_file};
 use signal_office_line::{Edit, Job, JobFault, Plan, Plans, job_of};
 use signal_records::{InterId, Interval, PatternNo, Words};
 use std::alloc::Global;

@@ -1,10 +1,8 @@
 //! The office of a file, for the jobs of the program: opened, used and closed again.
 
-use crate::fault::fault_of_opening;
-use crate::file::{close_office, opened_file, serve_file};
-use crate::migrating::migrate_file;
 use office_http::{Served, Sink, Source};
-use signal_office_commands::Fault;
+use signal_office_faults::Fault;
+use signal_office_file::{close_office, fault_of_opening, migrate_file, opened_file, serve_file};
 use signal_office_jobs::{Done, OfficeInFile, Task, done_with, run_words_over};
 use sqlite::Wary;
 use std::alloc::Global;

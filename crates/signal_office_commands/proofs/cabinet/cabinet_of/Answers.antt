@@ -4,8 +4,8 @@ use Rattle.office_desk.specs.StandFor.{StandForSound}
 use Rattle.office_machine.specs.declared.command.Command.TheVariants as command
 use Rattle.office_tables_shelf.proofs.KeptLemmas.{kept_on}
 use Rattle.signal_office_commands.proofs.FaultLemmas.{on_fault}
-use Rattle.signal_office_commands.specs.declared.fault.Fault.{Fault}
-use Rattle.signal_office_commands.specs.declared.fault.Fault.TheVariants as told
+use Rattle.signal_office_faults.specs.declared.fault.Fault.{Fault}
+use Rattle.signal_office_faults.specs.declared.fault.Fault.TheVariants as told
 use Rattle.signal_office_commands.proofs.QueryLemmas.{handed, register_is}
 use Rattle.signal_office_commands.proofs.cabinet.cabinet_of.Goals as goal
 

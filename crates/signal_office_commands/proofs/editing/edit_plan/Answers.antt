@@ -1,6 +1,6 @@
 use Rattle.std.proofs.Common.{List, Ok, Err, inr, subst}
 use Rattle.signal_records.specs.declared.record.Change.{Change}
-use Rattle.signal_office_commands.specs.declared.fault.Fault.TheVariants as told
+use Rattle.signal_office_faults.specs.declared.fault.Fault.TheVariants as told
 use Rattle.signal_office_commands.specs.Asking.{Ran}
 use Rattle.signal_office_commands.specs.Editing.{edit_commands, edit_told, Goes}
 use Rattle.signal_office_commands.proofs.EditLemmas.{fails_so, was_run}

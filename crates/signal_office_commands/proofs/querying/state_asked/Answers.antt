@@ -3,7 +3,7 @@ use Rattle.office_machine.specs.declared.command.Command.TheVariants as command
 use Rattle.office_machine.specs.declared.reply.Reply.TheVariants.{Refused}
 use Rattle.signal_office_commands.proofs.FaultLemmas.{damaged_told, query_told, refused_tells, store_tells}
 use Rattle.signal_office_commands.specs.Fault.{IsFaultOfQuery, TellsUnknown}
-use Rattle.signal_office_commands.specs.declared.fault.Fault.TheVariants as told
+use Rattle.signal_office_faults.specs.declared.fault.Fault.TheVariants as told
 use Rattle.signal_office_commands.proofs.QueryLemmas.{stated}
 use Rattle.signal_office_commands.proofs.querying.state_asked.Goals as goal
 

@@ -4,7 +4,7 @@ use Rattle.office_machine.specs.declared.reply.Reply.TheVariants.{Refused}
 use Rattle.signal_office_commands.proofs.FaultLemmas.{damaged_told, query_told, refused_tells, store_tells}
 use Rattle.signal_office_commands.proofs.SheetLemmas.{timed}
 use Rattle.signal_office_commands.specs.Fault.{IsFaultOfQuery, TellsUnknown}
-use Rattle.signal_office_commands.specs.declared.fault.Fault.TheVariants as told
+use Rattle.signal_office_faults.specs.declared.fault.Fault.TheVariants as told
 use Rattle.signal_office_commands.proofs.sheet.timing_in.Goals as goal
 
 pub returns-in-Timing-clause-timing : goal.returns-in-Timing-clause-timing

@@ -2,8 +2,8 @@ use Rattle.std.proofs.Common.{◌≡◌, inl, inr, refl, sym, ap, subst, ◌∙�
 use Rattle.std.specs.Prelude.{◌⊎◌}
 use Rattle.office_machine.specs.declared.reply.Reply.TheVariants.{Refused}
 use Rattle.signal_office_commands.proofs.FaultLemmas.{damaged_told, list_told}
-use Rattle.signal_office_commands.specs.declared.fault.Fault.{Fault}
-use Rattle.signal_office_commands.specs.declared.fault.Fault.TheVariants as told
+use Rattle.signal_office_faults.specs.declared.fault.Fault.{Fault}
+use Rattle.signal_office_faults.specs.declared.fault.Fault.TheVariants as told
 use Rattle.signal_office_commands.proofs.QueryLemmas.{stocked}
 use Rattle.signal_office_commands.proofs.stock.stock_asked.Goals as goal
 

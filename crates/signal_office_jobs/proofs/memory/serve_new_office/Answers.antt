@@ -3,7 +3,7 @@ use Rattle.std.proofs.lemmas.Result.{IfErr-weaker}
 use Rattle.office_http_framing.proofs.ServeLemmas.{Did-weaker}
 use Rattle.office_http.specs.Protocol.{office_protocol}
 use Rattle.office_tables_shelf.specs.Counts.{no_writes}
-use Rattle.signal_office_jobs.proofs.ServedLemmas.{from_opened}
+use Rattle.office_http.proofs.ServedLemmas.{from_opened}
 use Rattle.signal_office_jobs.specs.Memory.{memory_storage, new_office}
 use Rattle.signal_office_jobs.proofs.memory.serve_new_office.Goals as goal
 

@@ -93,7 +93,7 @@ impl fmt::Display for Fault {
 
 impl From<NoMemory> for Fault {
     ghost use Rattle.std.specs.Prelude.{◌≡◌};
-    ghost use Rattle.signal_office_commands.specs.declared.fault.Fault.TheVariants as told;
+    ghost use Rattle.signal_office_faults.specs.declared.fault.Fault.TheVariants as told;
 
     ghost from_gives = { λ _ fault. fault ≡ told.Memory };
 
@@ -110,7 +110,7 @@ impl From<WriteFailed> for Fault {
 
 impl From<CsvFault> for Fault {
     ghost use Rattle.std.specs.Prelude.{◌≡◌};
-    ghost use Rattle.signal_office_commands.specs.declared.fault.Fault.TheVariants as told;
+    ghost use Rattle.signal_office_faults.specs.declared.fault.Fault.TheVariants as told;
 
     ghost from_gives = { λ cause fault. fault ≡ told.Csv cause };
 

@@ -1,12 +1,12 @@
 //! Files of the system: the bytes of one, and whether it is there.
 
-use signal_office_commands::Fault;
+use crate::fault::Fault;
 use std::alloc::{AllocError, Global};
 use std::fs;
 use std::io::ErrorKind;
 
 /// The bytes of a file.
-pub(crate) fn read_file(rt: &HostRuntime, path: &str) -> Result<Vec<u8>, Fault> {
+pub fn read_file(rt: &HostRuntime, path: &str) -> Result<Vec<u8>, Fault> {
     match fs::read(rt, path) {
         Ok(bytes) => Ok(bytes),
         Err(error) if error.kind() == ErrorKind::OutOfMemory => Err(Fault::Memory),

@@ -26,8 +26,8 @@ use Rattle.office_tables_open.proofs.LackingLemmas.{today_content}
 use Rattle.office_tables_migration.specs.Migration.{StandAnew}
 use Rattle.office_tables_migration.specs.declared.puts.Migrated.{Migrated}
 use Rattle.office_tables_migration.proofs.Migration.{stand_anew}
-use Rattle.signal_office_run.specs.File.{AreThoseOf, StandInFiles}
-use Rattle.signal_office_run.specs.Migrating.{AreMigrated, HoldMigrated, Migrates, MigratesFiles, TellsOfFiles, StandFormerly, StandToday, StandFormerlyInFiles, StandTodayInFiles, IsImageOf}
+use Rattle.signal_office_file.specs.File.{AreThoseOf, StandInFiles}
+use Rattle.signal_office_file.specs.Migrating.{AreMigrated, HoldMigrated, Migrates, MigratesFiles, TellsOfFiles, StandFormerly, StandToday, StandFormerlyInFiles, StandTodayInFiles, IsImageOf}
 
 versions_differ : Some current_version ≡ Some first_version → ⊥
 versions_differ e = cc

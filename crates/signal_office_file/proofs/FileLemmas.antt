@@ -8,8 +8,8 @@ use Rattle.sqlite.specs.Start.{FindsIn}
 use Rattle.sqlite.specs.State.{HasCleanDisk}
 use Rattle.sqlite.specs.declared.FileStore.{FileStore}
 use Rattle.sqlite_disk.specs.declared.Disk.{Ghosts as Disk}
-use Rattle.signal_office_commands.specs.declared.fault.Fault.{Fault}
-use Rattle.signal_office_run.specs.File.{IsTurnedAway, IsTurnedAwayFrom}
+use Rattle.signal_office_faults.specs.declared.fault.Fault.{Fault}
+use Rattle.signal_office_file.specs.File.{IsTurnedAway, IsTurnedAwayFrom}
 
 pub turned_from : {D : Type 0} {g : Disk D} (left : Option (Result (Held (FileStore D g)) (FileStore D g))) (image : Image) (told : Fault) (conn : Held (FileStore D g)) → (HasCleanDisk (file_state conn) → FindsIn image (file_state conn))
     → IfSome left (IsTurnedAway over_files conn told) → IfSome left (IsTurnedAwayFrom image told)

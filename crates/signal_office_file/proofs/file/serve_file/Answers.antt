@@ -3,10 +3,10 @@ use Rattle.sqlite.specs.Files.{file_state}
 use Rattle.office_http.specs.Protocol.{office_protocol}
 use Rattle.office_http_framing.proofs.ServeLemmas.{Did-weaker}
 use Rattle.office_tables.specs.Stored.{content_now}
-use Rattle.signal_office_jobs.proofs.ServedLemmas.{from_opened}
+use Rattle.office_http.proofs.ServedLemmas.{from_opened}
 use Rattle.office_tables_shelf.specs.Counts.{no_writes}
-use Rattle.signal_office_run.specs.File.{sql_storage}
-use Rattle.signal_office_run.proofs.file.serve_file.Goals as goal
+use Rattle.signal_office_file.specs.File.{sql_storage}
+use Rattle.signal_office_file.proofs.file.serve_file.Goals as goal
 
 -- what was opened is what the tables in the files stood for, and so is what a crash may leave of it
 pub returns-in-Ok-clause-did : goal.returns-in-Ok-clause-did

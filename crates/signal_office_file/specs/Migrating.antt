@@ -23,7 +23,7 @@ use Rattle.office_tables_open.specs.Promises.{KeepsCommitted}
 use Rattle.office_tables_open.specs.declared.open.OpenFault.{OpenFault}
 use Rattle.office_tables_open.specs.declared.open.OpenFault.TheVariants as fault
 use Rattle.office_tables_open.specs.Version.{version_in, current_version, first_version}
-use Rattle.signal_office_run.specs.File.{AreThoseOf, StandInFiles}
+use Rattle.signal_office_file.specs.File.{AreThoseOf, StandInFiles}
 
 -- version 1 is stored, and as it reads the tables they stand for the office, which is sound by its rules
 pub record StandFormerly (trees : Trees) (office : Office) : Type 0 where

@@ -1,9 +1,9 @@
 use Rattle.std.proofs.Common.{inl, inr, sym, subst, arith}
 use Rattle.sqlite.specs.Held.{state}
 use Rattle.sqlite.specs.Tree.{Trees}
-use Rattle.signal_office_run.specs.Migrating.{StandFormerly}
-use Rattle.signal_office_run.proofs.MigratingLemmas.{stands_today, is_committed, become_today, brought_committed}
-use Rattle.signal_office_run.proofs.migrating.migrate_tables.Goals as goal
+use Rattle.signal_office_file.specs.Migrating.{StandFormerly}
+use Rattle.signal_office_file.proofs.MigratingLemmas.{stands_today, is_committed, become_today, brought_committed}
+use Rattle.signal_office_file.proofs.migrating.migrate_tables.Goals as goal
 
 pub returns-clause-clean : goal.returns-clause-clean
 returns-clause-clean g c clean = omega (arith, clean, c.migrate.ensures.crash.clean)

@@ -1,7 +1,7 @@
 use Rattle.sqlite.specs.Files.{file_state}
 use Rattle.office_tables_open.proofs.ArrangedLemmas.{found_arranged}
-use Rattle.signal_office_run.proofs.MigratingLemmas.{on_ok, on_err, found_formerly, found_those}
-use Rattle.signal_office_run.proofs.migrating.open_and_migrate.Goals as goal
+use Rattle.signal_office_file.proofs.MigratingLemmas.{on_ok, on_err, found_formerly, found_those}
+use Rattle.signal_office_file.proofs.migrating.open_and_migrate.Goals as goal
 
 pub migrated-requires : goal.migrated-requires
 migrated-requires g c clean = found_arranged _ _ (c.in-Ok.ensures.found clean).reads

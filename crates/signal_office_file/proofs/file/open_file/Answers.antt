@@ -5,8 +5,8 @@ use Rattle.office_tables_open.proofs.ArrangedLemmas.{found_arranged}
 use Rattle.office_tables.specs.Stored.{content_now}
 use Rattle.office_desk.specs.StandFor.{StandForSound}
 use Rattle.sqlite.specs.WalFiles.{image_at}
-use Rattle.signal_office_run.proofs.FileLemmas.{turned_from}
-use Rattle.signal_office_run.proofs.file.open_file.Goals as goal
+use Rattle.signal_office_file.proofs.FileLemmas.{turned_from}
+use Rattle.signal_office_file.proofs.file.open_file.Goals as goal
 
 pub office_over-requires : goal.office_over-requires
 office_over-requires g c clean = found_arranged _ _ (c.in-Ok.ensures.found clean).reads

@@ -1,7 +1,7 @@
 use Rattle.sqlite.specs.WalFiles.{image_at}
-use Rattle.signal_office_run.specs.Migrating.{StandFormerlyInFiles}
-use Rattle.signal_office_run.proofs.MigratingLemmas.{files_migrated, files_told, files_stand}
-use Rattle.signal_office_run.proofs.migrating.migrate_file.Goals as goal
+use Rattle.signal_office_file.specs.Migrating.{StandFormerlyInFiles}
+use Rattle.signal_office_file.proofs.MigratingLemmas.{files_migrated, files_told, files_stand}
+use Rattle.signal_office_file.proofs.migrating.migrate_file.Goals as goal
 
 pub returns-in-Ok-clause-migrated : goal.returns-in-Ok-clause-migrated
 returns-in-Ok-clause-migrated g c = files_migrated (image_at g.S.Start) c.in_ok-conn.conn c.in-Ok.files c.in_ok-conn.outcome c.in-Ok.ensures c.in_ok-conn.ensures.migrated

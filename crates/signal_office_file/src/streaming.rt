@@ -16,7 +16,7 @@ use office_tables_shelf::shelf::Shelf;
 use std::alloc::Global;
 
 /// Serves the requests that the reader gives by an office, and gives it back.
-pub fn serve_by<S: Shelf, R: Source, W: Sink>(
+pub(crate) fn serve_by<S: Shelf, R: Source, W: Sink>(
     alloc: Global,
     mut office: Office<S>,
     reader: &mut R,

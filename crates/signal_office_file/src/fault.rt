@@ -3,7 +3,7 @@
 ghost use Rattle.std.specs.Prelude.{◌≡◌, ◌≢◌, ◌↔◌};
 
 use office_tables::open::OpenFault;
-use signal_office_commands::Fault;
+use signal_office_faults::Fault;
 use sqlite::{Error, ErrorCode};
 
 /// The fault that is told of an error of the database.
@@ -17,7 +17,7 @@ pub(crate) fn fault_of_database(error: Error) -> Fault
 }
 
 /// The fault that is told of tables that were refused.
-pub(crate) fn fault_of_opening(fault: OpenFault) -> Fault
+pub fn fault_of_opening(fault: OpenFault) -> Fault
     ensures { ((result ≡ Fault.Version) ↔ (fault ≡ OpenFault.Version))
         × ((result ≡ Fault.Damaged) ↔ (fault ≡ OpenFault.Damaged)) }
 {

@@ -1,0 +1,9 @@
+//! Why the program ends with a fault, and the files of the system: the bytes of one, and whether it
+//! is there.
+#![tactic(auto)]
+
+mod fault;
+mod files;
+
+pub use fault::Fault;
+pub use files::{is_missing, read_file};
