@@ -17,7 +17,7 @@ pub(crate) fn fault_of_database(error: Error) -> Fault
 }
 
 /// The fault that is told of tables that were refused.
-pub fn fault_of_opening(fault: OpenFault) -> Fault
+pub(crate) fn fault_of_opening(fault: OpenFault) -> Fault
     ensures { ((result ≡ Fault.Version) ↔ (fault ≡ OpenFault.Version))
         × ((result ≡ Fault.Damaged) ↔ (fault ≡ OpenFault.Damaged)) }
 {

@@ -4,9 +4,10 @@
 
 mod fault;
 mod file;
+mod in_file;
 mod migrating;
 mod streaming;
 
-pub use fault::fault_of_opening;
 pub use file::{FileOffice, close_office, opened_file, serve_file};
+pub use in_file::TablesInFile;
 pub use migrating::{FileConnection, migrate_file, open_and_migrate};

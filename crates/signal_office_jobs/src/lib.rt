@@ -4,14 +4,12 @@
 
 mod done;
 mod memory;
-mod office_in_file;
 mod program;
 mod serving;
 mod task;
 
 pub use done::Done;
 pub use memory::{open_in_memory, serve_new_office};
-pub use office_in_file::OfficeInFile;
-pub use program::run_words_over;
+pub use program::run_words;
 pub use serving::serve_port;
-pub use task::{Shown, Task, done_with};
+pub use task::{Shown, Task};

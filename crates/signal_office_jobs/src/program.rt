@@ -2,7 +2,6 @@
 
 use crate::done::Done;
 use crate::memory::{open_in_memory, serve_new_office};
-use crate::office_in_file::OfficeInFile;
 use crate::serving::serve_port;
 use crate::task::{Shown, Task};
 use cabinet_core::read_day;
@@ -11,6 +10,7 @@ use office_http::{Sink, Source, write_all};
 use office_tables_shelf::shelf::Shelf;
 use signal_office_commands::{Fault, compare_files, diagram_in, page_in, report, violations_in};
 use signal_office_faults::{is_missing, read_file};
+use signal_office_in_file::OfficeInFile;
 use signal_office_line::{Edit, Job, JobFault, Plan, Plans, job_of};
 use signal_records::{InterId, Interval, PatternNo, Words};
 use std::alloc::Global;
@@ -76,7 +76,7 @@ fn in_file<F: OfficeInFile, W: Sink>(
     if !task.makes_file() && is_missing(rt, alloc, path)? {
         return Err(Fault::File);
     }
-    let done = F::do_task(rt, alloc, path, task, out)?;
+    let done = F::do_task::<Done, Task<'_>, W>(rt, alloc, path, task, out)?;
     done.print(out)
 }
 
@@ -316,7 +316,7 @@ fn show<W: Sink, E: Sink>(
 /// Does what the words ask for, over offices in files as `F` opens them, and gives the status:
 /// 0 done, 1 a fault, 2 the words were refused, 3 a plan breaks a rule, 4 two plans differ. The
 /// first word is the name under which the program was called.
-pub fn run_words_over<F: OfficeInFile, R: Source, W: Sink, E: Sink>(
+pub fn run_words<F: OfficeInFile, R: Source, W: Sink, E: Sink>(
     rt: &HostRuntime,
     alloc: Global,
     words: &[&str],

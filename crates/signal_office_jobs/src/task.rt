@@ -11,6 +11,7 @@ use signal_office_commands::{
     draft_differences, edit_plan, import_csv, list_of, orders_of, overdue_of, page_of, sheet_of,
     stock_of, timing_csv_of,
 };
+use signal_office_in_file::OfficeTask;
 use signal_office_line::View;
 use signal_records::{InterId, Interval, PatternNo, Words};
 use std::alloc::Global;
@@ -163,14 +164,15 @@ fn done_by<S: Shelf, W: Sink>(
     }
 }
 
-/// Does a task by an office, which is given back with what is to be printed.
-pub fn done_with<S: Shelf, W: Sink>(
-    rt: &HostRuntime,
-    alloc: Global,
-    mut office: Office<S>,
-    task: &Task<'_>,
-    out: &mut W,
-) -> (Office<S>, Result<Done, Fault>) {
-    let outcome = done_by(rt, alloc, &mut office, task, out);
-    (office, outcome)
+impl OfficeTask<Done> for Task<'_> {
+    fn done_with<S: Shelf, W: Sink>(
+        &self,
+        rt: &HostRuntime,
+        alloc: Global,
+        mut office: Office<S>,
+        out: &mut W,
+    ) -> (Office<S>, Result<Done, Fault>) {
+        let outcome = done_by(rt, alloc, &mut office, self, out);
+        (office, outcome)
+    }
 }
