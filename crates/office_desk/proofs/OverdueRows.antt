@@ -8,13 +8,13 @@ use Rattle.cabinet_core.specs.declared.{overdue_inspections.OverdueRow.OverdueRo
 use Rattle.office_tables_shelf.specs.Overdue.{seen_row, IsSeen, AreSeenOf, AreSeen, ListsOverdue}
 use Rattle.office_tables_shelf.specs.Content.{Content}
 use Rattle.office_tables_shelf.specs.declared.rows.IntersectionRow.{IntersectionRow}
-use Rattle.office_desk_cabinet.specs.RegisterStands.{RegisterStandsSound}
+use Rattle.office_tables_shelf.specs.RegisterStands.{RegisterStandsSound}
 use Rattle.office_desk_cabinet.proofs.ListedRecords.{inspections_listed}
 use Rattle.office_machine.specs.{Office.Office, Office.IsSound, Step.answered, Step.overdue_on, Step.seen_of}
 use Rattle.office_desk.specs.StandFor.{StandForSound, row_of}
 use Rattle.office_machine.specs.declared.command.Command.TheVariants as command
 use Rattle.office_machine.specs.declared.reply.Reply.TheVariants as reply
-use Rattle.office_desk.proofs.{IntersectionCount.at_most_9999, IntersectionTable.Entry, IntersectionTable.of_entry, IntersectionTable.rows_read}
+use Rattle.office_desk_timing.proofs.{IntersectionCount.at_most_9999, IntersectionTable.Entry, IntersectionTable.of_entry, IntersectionTable.rows_read}
 use Rattle.office_desk.proofs.Recorded.{register_of}
 
 -- ---- what is seen of each is what the office knows

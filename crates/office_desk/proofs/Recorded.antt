@@ -8,8 +8,11 @@ use Rattle.office_tables_shelf.specs.Rows.{intersection_columns, intersection_ke
 use Rattle.office_tables_shelf.specs.declared.{rows.IntersectionRow.IntersectionRow, rows.RowChange.RowChange, rows.Table.Table}
 use Rattle.office_tables_shelf.specs.declared.shelf.ShelfFault.{ShelfFault}
 use Rattle.cabinet_core.specs.{Orders.open_at, Register.Register, Step.after_record, Stock.stock_of}
-use Rattle.office_desk_cabinet.specs.Registers.{IsNamed, IsOneOf, LeavesTiming, RegistersFrom, ShowsCabinet, line_told, most_record_writes, refusals_of, rows_told}
-use Rattle.office_desk_cabinet.specs.{Decides.DecidesRecord, RegisterDamage.MeetsRecordDamage, RegisterStands.RegisterStandsSound}
+use Rattle.office_desk_decisions.specs.RecordBounds.{IsNamed, IsOneOf, most_record_writes, refusals_of}
+use Rattle.office_desk_cabinet.specs.Registers.{LeavesTiming, RegistersFrom, ShowsCabinet, line_told, rows_told}
+use Rattle.office_desk_cabinet.specs.Decides.{DecidesRecord}
+use Rattle.office_desk_decisions.specs.RegisterDamage.{MeetsRecordDamage}
+use Rattle.office_tables_shelf.specs.RegisterStands.{RegisterStandsSound}
 use Rattle.office_desk_cabinet.specs.declared.registered.Registered.{Registered}
 use Rattle.office_desk_cabinet.specs.declared.registered.Registered.TheVariants.{Added, Same, Refused}
 use Rattle.office_desk.specs.Named.{RefusesBy, number_of, numbers_about, numbers_of}
@@ -19,10 +22,12 @@ use Rattle.office_machine.specs.Step.{answered, cabinet_of, cabinet_shown, is_kn
 use Rattle.office_machine.specs.Office.{Office, Intersection}
 use Rattle.office_machine.specs.declared.{reply.CabinetShown.CabinetShown, refusal.Refusal.Refusal, reply.Reply.Reply}
 use Rattle.office_machine.specs.declared.command.Command.TheVariants as command
-use Rattle.office_desk.specs.declared.decided.Decided.{Decided}
+use Rattle.office_desk_decisions.specs.declared.decided.Decided.{Decided}
 use Rattle.office_machine.specs.declared.refusal.Refusal.TheVariants as refusal
 use Rattle.office_machine.specs.declared.reply.Reply.TheVariants as reply
-use Rattle.office_desk.proofs.{Decisions.refuses_so, Stands.row_read, Writes.record_writes}
+use Rattle.office_desk_decisions.proofs.Decisions.{refuses_so}
+use Rattle.office_desk_timing.proofs.Stands.{row_read}
+use Rattle.office_desk.proofs.Writes.{record_writes}
 
 -- ---- whether the intersection is there
 

@@ -12,10 +12,12 @@ use Rattle.office_machine.specs.Step.{Step, Run, moved_to, with_intersection, ne
 use Rattle.office_machine.specs.Timing.{is_commit_of, is_moved, set_of_draft, running}
 use Rattle.office_machine.specs.declared.{command.Command.Command, reply.Reply.Reply}
 use Rattle.office_machine.specs.declared.command.Command.TheVariants as command
-use Rattle.office_desk.proofs.{Stands.same_id, Stands.other_id, Stands.side_after, Walks.HoldsOfEach, Walks.records_so, Walks.step_so}
-use Rattle.office_desk.specs.Transacting.{command_of, line_of}
-use Rattle.office_desk.specs.declared.transacting.Ask.{Ask}
-use Rattle.office_desk.specs.declared.transacting.Ask.TheVariants.{Begin, Commit, Abandon}
+use Rattle.office_desk_timing.proofs.Stands.{same_id, other_id, side_after}
+use Rattle.office_desk.proofs.Walks.{HoldsOfEach, records_so, step_so}
+use Rattle.office_desk_decisions.specs.Asking.{command_of}
+use Rattle.office_desk_timing.specs.Transacting.{line_of}
+use Rattle.office_desk_decisions.specs.declared.ask.Ask.{Ask}
+use Rattle.office_desk_decisions.specs.declared.ask.Ask.TheVariants.{Begin, Commit, Abandon}
 
 -- ---- the lines of the table
 

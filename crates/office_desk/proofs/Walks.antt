@@ -14,9 +14,10 @@ use Rattle.office_machine.specs.declared.{command.Command.Command, refusal.Refus
 use Rattle.office_machine.specs.declared.command.Command.TheVariants as command
 use Rattle.office_machine.specs.declared.refusal.Refusal.TheVariants as refusal
 use Rattle.office_machine.specs.declared.reply.Reply.TheVariants as reply
-use Rattle.office_desk.specs.Transacting.{command_of, edit_of, line_of}
-use Rattle.office_desk.specs.declared.transacting.Ask.TheVariants.{Begin, Verify, Check, Commit, Reopen, Abandon}
-use Rattle.office_desk.specs.declared.transacting.Ask.{Ask}
+use Rattle.office_desk_decisions.specs.Asking.{command_of, edit_of}
+use Rattle.office_desk_timing.specs.Transacting.{line_of}
+use Rattle.office_desk_decisions.specs.declared.ask.Ask.TheVariants.{Begin, Verify, Check, Commit, Reopen, Abandon}
+use Rattle.office_desk_decisions.specs.declared.ask.Ask.{Ask}
 
 -- ---- one command
 

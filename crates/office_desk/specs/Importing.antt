@@ -7,10 +7,11 @@ use Rattle.office_tables_shelf.specs.declared.rows.RowChange.{RowChange}
 use Rattle.cabinet_core.specs.Register.{Register}
 use Rattle.cabinet_core.specs.Step.{line_at, with_record}
 use Rattle.cabinet_core.specs.Cabinet.{added as added_line, same as same_line}
-use Rattle.office_desk_cabinet.specs.Registers.{IsOneOf, LeavesTiming}
-use Rattle.office_desk_cabinet.specs.RegisterStands.{RegisterStandsSound}
+use Rattle.office_desk_decisions.specs.RecordBounds.{IsOneOf}
+use Rattle.office_desk_cabinet.specs.Registers.{LeavesTiming}
+use Rattle.office_tables_shelf.specs.RegisterStands.{RegisterStandsSound}
 use Rattle.office_machine.specs.Office.{Office}
-use Rattle.office_desk_cabinet.specs.RegisterDamage.{KeepsDamage, MeetsRecordDamage}
+use Rattle.office_desk_decisions.specs.RegisterDamage.{KeepsDamage, MeetsRecordDamage}
 use Rattle.office_desk.specs.Blaming.{FollowsLine, IsRefusedAfter}
 use Rattle.office_desk.specs.Named.{number_of, numbers_of}
 use Rattle.office_desk.specs.Recording.{HasDamagedAbout, TellsAbout}

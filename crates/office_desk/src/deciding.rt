@@ -1,19 +1,18 @@
 //! How a command is decided over a shelf.
 ghost use Rattle.std.specs.Prelude.{◌≡◌, IfOk, ◌≢◌, [], IsOkAnd};
 ghost use Rattle.office_tables_shelf.specs.Keeps.{KeepsShelf};
-ghost use Rattle.office_desk_cabinet.specs.Open.{StaysOpen};
+ghost use Rattle.office_desk_decisions.specs.Open.{StaysOpen};
 ghost use Rattle.office_desk.specs.Blaming.{BlamesRightly};
 ghost use Rattle.office_desk.specs.Deciding.{AddsNothing, Decides};
-ghost use Rattle.office_desk.specs.Decisions.{refusal_of};
+ghost use Rattle.office_desk_timing.specs.Decisions.{refusal_of};
 
-use crate::adding::decide_add;
-use crate::decided::Decided;
 use crate::importing::decide_import;
 use crate::overdue::decide_overdue;
 use crate::recording::decide_record_command;
 use crate::register_showing::{decide_cabinet, decide_open_orders, decide_stock};
-use crate::showing::{decide_draft, decide_state, decide_timing};
-use crate::transacting::{Ask, transact};
+use office_desk_decisions::ask::Ask;
+use office_desk_decisions::decided::Decided;
+use office_desk_timing::{decide_add, decide_draft, decide_state, decide_timing, transact};
 use office_machine::command::Command;
 use office_machine::refusal::Refusal;
 use office_tables_shelf::shelf::{Shelf, ShelfFault};

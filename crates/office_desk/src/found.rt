@@ -3,7 +3,7 @@ ghost use Rattle.std.specs.Prelude.{◌≡◌, ◌≢◌, true, false, Ok, Err};
 ghost use Rattle.std.specs.Prelude.{IfOk, IsSome, IsTrue, OnErr, OnOk};
 ghost use Rattle.office_tables_shelf.specs.Content.{Content};
 ghost use Rattle.office_tables_shelf.specs.Keeps.{KeepsShelf};
-ghost use Rattle.office_desk_cabinet.specs.Open.{StaysOpen};
+ghost use Rattle.office_desk_decisions.specs.Open.{StaysOpen};
 ghost use Rattle.office_desk.specs.Recording.{AreFound, IsAmong, IsFound};
 ghost use Rattle.office_desk.specs.Recording.{IsKnownIn, HasDamagedAbout, TellsAbout};
 

@@ -2,9 +2,9 @@
 ghost use Rattle.std.specs.Prelude.{◌≡◌, ◌≤◌, ◌+◌, IfOk, ◌≢◌, [], IsOkAnd};
 ghost use Rattle.office_tables_shelf.specs.Counts.{writes_in};
 ghost use Rattle.office_tables_shelf.specs.Keeps.{KeepsShelf};
-ghost use Rattle.office_desk_cabinet.specs.Open.{StaysOpen};
+ghost use Rattle.office_desk_decisions.specs.Open.{StaysOpen};
 ghost use Rattle.office_tables_shelf.specs.declared.rows.Table.{Table};
-ghost use Rattle.office_desk_cabinet.specs.Registers.{most_record_writes};
+ghost use Rattle.office_desk_decisions.specs.RecordBounds.{most_record_writes};
 ghost use Rattle.office_desk.specs.Blaming.{BlamesRightly};
 ghost use Rattle.office_desk.specs.Deciding.{AddsNothing, Decides};
 ghost use Rattle.office_desk.specs.Damage.{MeetsCabinetDamage};
@@ -13,11 +13,11 @@ ghost use Rattle.office_desk.specs.Importing.{TakesLine, TakesRecord, TakesWhole
 ghost use Rattle.office_desk.specs.Recording.{AreFound};
 ghost use Rattle.office_machine.specs.Step.{cabinet_of as about_of};
 
-use crate::decided::Decided;
 use crate::found::is_found;
 use crate::recording::{cabinet_of, refused};
 use cabinet_core::RecordCommand;
 use office_desk_cabinet::{Pending, Registered, decide_record};
+use office_desk_decisions::decided::Decided;
 use office_machine::command::Command;
 use office_machine::records::Records;
 use office_machine::refusal::Refusal;

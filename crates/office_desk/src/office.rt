@@ -16,10 +16,10 @@ ghost use Rattle.office_desk.specs.StandFor.{StandForSound};
 ghost use Rattle.office_machine.specs.Listed.{intersections_of};
 ghost use Rattle.office_machine.specs.Step.{overdue_on};
 
-use crate::decided::Decided;
 use crate::deciding::{refused, try_decide};
-use crate::listing::list_intersections;
 use cabinet_core::{Day, OverdueRow};
+use office_desk_decisions::decided::Decided;
+use office_desk_timing::list_intersections;
 use office_machine::command::Command;
 use office_machine::intersections::ListedIntersection;
 use office_machine::refusal::Refusal;

@@ -2,8 +2,8 @@
 ghost use Rattle.office_tables_shelf.specs.Keeps.{AnswersShelf, KeepsShelf};
 ghost use Rattle.office_desk.specs.Deciding.{Decides};
 
-use crate::decided::Decided;
 use cabinet_core::Day;
+use office_desk_decisions::decided::Decided;
 use office_machine::command::Command;
 use office_machine::reply::{OverdueList, Reply};
 use office_tables_shelf::shelf::{Shelf, ShelfFault};

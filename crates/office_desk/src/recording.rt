@@ -1,17 +1,17 @@
 //! The commands of the register.
 ghost use Rattle.std.specs.Prelude.{◌≡◌, false, IfOk, IsSome, OnErr, Ok, Err};
 ghost use Rattle.office_tables_shelf.specs.Keeps.{AnswersShelf, KeepsShelf};
-ghost use Rattle.office_desk_cabinet.specs.Open.{StaysOpen};
+ghost use Rattle.office_desk_decisions.specs.Open.{StaysOpen};
 ghost use Rattle.office_desk_cabinet.specs.Registers.{line_told, rows_told};
 ghost use Rattle.office_desk.specs.Deciding.{Decides};
 ghost use Rattle.office_desk.specs.Recording.{IsKnownIn, HasDamagedAbout, TellsAbout};
 ghost use Rattle.office_machine.specs.Step.{cabinet_of as about_of, refusal_of_record};
 ghost use Rattle.office_machine.specs.Step.{told as reply_of};
 
-use crate::decided::Decided;
-use crate::reading::intersection_row;
 use cabinet_core::{CabinetRefusal, RecordCommand};
 use office_desk_cabinet::{Pending, Registered, decide_record};
+use office_desk_decisions::decided::Decided;
+use office_desk_timing::intersection_row;
 use office_machine::command::Command;
 use office_machine::refusal::Refusal;
 use office_machine::reply::Reply;

@@ -2,9 +2,9 @@
 ghost use Rattle.office_tables_shelf.specs.Keeps.{AnswersShelf, KeepsShelf};
 ghost use Rattle.office_desk.specs.Deciding.{Decides};
 
-use crate::decided::Decided;
 use crate::recording::is_known;
 use office_desk_cabinet::{cabinet_view, open_orders, stock};
+use office_desk_decisions::decided::Decided;
 use office_machine::command::Command;
 use office_machine::refusal::Refusal;
 use office_machine::reply::{CabinetShown, OrderNumbers, Reply, Stock};

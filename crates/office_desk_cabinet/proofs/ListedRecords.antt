@@ -1,7 +1,7 @@
 -- A list that was read from tables that stand for a sound register is that of the register.
 use Rattle.std.proofs.Common.{◌≡◌, ℕ, pos, true, false, ◌==◌, List, [], ◌∷◌, map, cond, Ordering, refl, sym, ap, ◌∙◌, map-id}
 use Rattle.std.proofs.lemmas.Cmp.{nat_list_cmp_total}
-use Rattle.std.specs.{Cmp.IsTotalOrder, FinMap.FinMap, FinMap.entries, FinMap.get, FinMap.Entries.where_key, List.AllByRecursion, Prelude.IfSome}
+use Rattle.std.specs.{Cmp.IsTotalOrder, FinMap.FinMap, FinMap.entries, FinMap.get, FinMap.Entries.where_key, Prelude.IfSome}
 use Rattle.cabinet_core.specs.{Register.Register, Register.records_at, Sound.IsInspectionAt, Sound.IsOrderAt, Sound.IsLineAt}
 use Rattle.cabinet_core.specs.Stock.{stock_by_code, stock_of}
 use Rattle.cabinet_core.specs.declared.{record.Inspection.Inspection, record.Order.Order, record.UsedLine.UsedLine}
@@ -12,30 +12,9 @@ use Rattle.office_tables_shelf.specs.Cells.{Cell, Rows, number, cells_cmp, tree_
 use Rattle.office_tables_shelf.specs.{Content.Content, Shelf.is_of, Shelf.rows_of}
 use Rattle.office_tables_shelf.proofs.{CabinetLemmas.of_number, CabinetLemmas.part_order, KeyCells.record_order, KeyCells.line_order}
 use Rattle.office_tables_shelf.proofs.StoredMaps.{stored_entries}
+use Rattle.office_desk_decisions.proofs.RowsTell.{told_by_rows, rows_tell}
 use Rattle.office_desk_cabinet.specs.RegisterStands.{inspection_cells, order_cells, line_cells, RegisterStands, RegisterStandsSound}
 use Rattle.office_desk_cabinet.proofs.Tells.{inspections_tell, orders_tell, lines_tell}
-
--- ---- lists that are shown by rows
-
--- a list whose rows are those of other things is of these, if a row tells what it is of
-pub told_by_rows : {X E Row : Type 0} (row : X → Row) (cells : E → Row) (of : E → X) (Stands : E → Type 0) → ((x : X) (e : E) → Stands e → row x ≡ cells e → x ≡ of e)
-    → (xs : List X) (es : List E) → AllByRecursion Stands es → map row xs ≡ map cells es → xs ≡ map of es
-told_by_rows row cells of Stands tells [] [] all same = refl
-told_by_rows row cells of Stands tells (x ∷ xs) (e ∷ es) all same =
-    let first : row x ≡ cells e = cc in
-    let rest : map row xs ≡ map cells es = cc in
-    let head = tells x e all.0 first in
-    let tail = told_by_rows row cells of Stands tells xs es all.1 rest in
-    λ i. head i ∷ tail i
-told_by_rows row cells of Stands tells _ _ all same = absurd cc
-
--- where a row tells it of anything
-pub rows_tell : {X E Row : Type 0} (row : X → Row) (cells : E → Row) (of : E → X) → ((x : X) (e : E) → row x ≡ cells e → x ≡ of e) → (xs : List X) (es : List E) → map row xs ≡ map cells es → xs ≡ map of es
-rows_tell {E = E} row cells of tells xs es = told_by_rows row cells of (λ e. Unit {0}) (λ x e at. tells x e) xs es (units es)
-  where
-    units : (list : List E) → AllByRecursion (λ e. Unit {0}) list
-    units [] = tt
-    units (e ∷ list) = (tt, units list)
 
 -- ---- the records of an intersection
 

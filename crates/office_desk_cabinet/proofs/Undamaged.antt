@@ -8,19 +8,16 @@ use Rattle.cabinet_core.specs.Within.{IsInspectionWithin, IsOrderWithin, IsUsedL
 use Rattle.cabinet_core.specs.{Register.Register, declared.record.Order.Order as OrderRecord}
 use Rattle.cabinet_core.specs.declared.{command.RecordCommand.RecordCommand, record.Inspection.Inspection as InspectionRecord, record.UsedLine.UsedLine}
 use Rattle.cabinet_core.proofs.{KeyOrders.record_total, KeyOrders.line_total, StockList.code_on_hand, StockList.stock_has, Puts.if_more}
-use Rattle.office_tables_shelf.proofs.{CabinetLemmas.part_order, CellLemmas.cell_exact, CellLemmas.tied, KeyCells.record_order, KeyCells.line_order}
+use Rattle.office_tables_shelf.proofs.{CabinetLemmas.part_order, KeyCells.record_order, KeyCells.line_order}
 use Rattle.office_tables_shelf.proofs.StoredMaps.{stored_found}
 use Rattle.office_tables_shelf.specs.CabinetReads.{HasDamagedInspection, HasDamagedOrder, HasDamagedUsed, HasDamagedPart, IsHand}
 use Rattle.office_tables_shelf.specs.CabinetRows.{inspection_key, inspection_columns, order_key, order_columns, used_key, used_columns, part_key, part_columns}
-use Rattle.office_tables_shelf.specs.{Cells.Cell, Cells.Rows, Cells.number, Content.Content, Shelf.is_of}
+use Rattle.office_tables_shelf.specs.{Cells.Rows, Cells.number, Content.Content, Shelf.is_of}
+use Rattle.office_desk_decisions.proofs.RowsTell.{of_tells}
 use Rattle.office_desk_cabinet.specs.RegisterStands.{inspection_cells, order_cells, line_cells, RegisterStandsSound}
 use Rattle.office_desk_cabinet.specs.RegisterDamage.{MeetsRecordDamage}
 use Rattle.office_desk_cabinet.proofs.Places.{DamagedAt, Place, Inspection, Order, Line, Part, Delivery, WithinAt, met_at, whole_at}
 use Rattle.office_desk_cabinet.proofs.Found.{register_reads, standing_at}
-
--- the first cell of a key tells the intersection
-pub of_tells : (id other : ℕ) (cells : List Cell) → is_of id (number (pos other) ∷ cells) ≡ true → id ≡ other
-of_tells id other cells of = let same = cell_exact _ _ (tied _ of) in cc
 
 -- ---- rows of an intersection
 

@@ -1,9 +1,9 @@
 pub use Rattle.office_tables_shelf.specs.RegisterStands
-pub mod RegisterDamage
+pub use Rattle.office_desk_decisions.specs.RegisterDamage
+pub use Rattle.office_desk_decisions.specs.Open
+pub use Rattle.office_desk_decisions.specs.Lines
 pub mod Puts
 pub mod Registers
 pub mod Telling
-pub mod Open
-pub mod Lines
 pub mod Stocking
 pub mod Decides

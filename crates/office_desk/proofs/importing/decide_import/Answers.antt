@@ -5,7 +5,8 @@ use Rattle.office_desk_cabinet.proofs.Opened.{handed_told}
 use Rattle.office_desk.specs.{Damage.MeetsCabinetDamage, Recording.AreFound, Importing.IsNamedTaken, Importing.LeavesAnyTiming}
 use Rattle.office_machine.specs.{Step.cabinet_of, declared.reply.Reply.TheVariants.Imported}
 use Rattle.office_desk.proofs.Imports.{SoFar, counted_on, damage_of_record, first_refused, import_decides, is_next, none_next, nothing_leaves, nothing_written, nothing_yet, one_more, refused_all, refused_decides, some_read, taken_open, takes_so, writes_left, writes_whole}
-use Rattle.office_desk.proofs.{FoundAgain.none_found, Decisions.fault_decides, Blames.WentOn, Blames.blames_next, Blames.taken_blames}
+use Rattle.office_desk.proofs.{FoundAgain.none_found, Blames.WentOn, Blames.blames_next, Blames.taken_blames}
+use Rattle.office_desk_decisions.proofs.Decisions.{fault_decides}
 use Rattle.office_desk.proofs.importing.decide_import.Goals.{in-Added, in-Same}
 use Rattle.office_tables_shelf.proofs.KeptLemmas.{kept_on}
 use Rattle.office_desk.proofs.importing.decide_import.Goals as goal

@@ -2,7 +2,7 @@ use Rattle.std.proofs.Common.{◌∙◌, Bool, Ok, ap}
 use Rattle.office_machine.specs.Step.{cabinet_of}
 use Rattle.office_desk_cabinet.proofs.Opened.{handed_told}
 use Rattle.office_desk.proofs.Recorded.{about_known, at_unknown, gone_whole, decided_on, meets_record, record_decides, tells_about, unknown_named}
-use Rattle.office_desk.proofs.Decisions.{fault_decides, unknown_decides}
+use Rattle.office_desk_decisions.proofs.Decisions.{fault_decides, unknown_decides}
 use Rattle.office_desk.proofs.recording.decide_record_command.Goals as goal
 
 pub returns-then-not-branch-clause-decides : goal.returns-then-not-branch-clause-decides

@@ -1,6 +1,7 @@
 use Rattle.std.proofs.Common.{Err, ap, inl}
 use Rattle.office_machine.specs.declared.refusal.Refusal.{Refusal}
-use Rattle.office_desk.proofs.{ListedIntersections.all_listed, Runs.refusal_shut}
+use Rattle.office_desk_timing.proofs.ListedIntersections.{all_listed}
+use Rattle.office_desk.proofs.Runs.{refusal_shut}
 use Rattle.office_desk.proofs.office.Office.intersections.Goals as goal
 
 pub returns-in-Ok-clause-all : goal.returns-in-Ok-clause-all

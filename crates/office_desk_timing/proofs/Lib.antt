@@ -1,0 +1,16 @@
+pub mod Rows
+pub mod WholeRows
+pub mod EmptySet
+pub mod KeptRegister
+pub mod Stands
+pub mod NewIntersection
+pub mod ReadBack
+pub mod TimingCount
+pub mod Moved
+pub mod AddedRows
+pub mod Keeps
+pub mod Transactions
+pub mod Shown
+pub mod IntersectionTable
+pub mod IntersectionCount
+pub mod ListedIntersections

@@ -1,0 +1,53 @@
+-- The list of the intersections row by row, and what it is of an office.
+use Rattle.std.proofs.Common.{◌≡◌, ◌<◌, ◌+◌, ◌++◌, ℕ, List, [], ◌∷◌, map, length, get_or, take, Option, None, Some, refl, ap, sym, ◌∙◌}
+use Rattle.std.proofs.{lemmas.Cmp.nat_cmp_total, lemmas.List.map-append, lemmas.List.take_more}
+use Rattle.std.specs.{FinMap.entries, FinMap.get, FinMap.len, List.AllByRecursion, Prelude.IfSome}
+use Rattle.cabinet_core.proofs.EntryLemmas.{entries_stand}
+use Rattle.office_tables_shelf.specs.Content.{Content}
+use Rattle.office_tables_shelf.specs.declared.rows.IntersectionRow.{IntersectionRow}
+use Rattle.office_machine.specs.{Listed.intersection_listed, Listed.intersections_of, Office.Office, Office.Intersection, Office.side_of}
+use Rattle.office_machine.specs.declared.intersections.ListedIntersection.{ListedIntersection}
+use Rattle.office_desk_timing.specs.Listing.{ListsRows, listed_in, row_listed}
+use Rattle.office_tables_standing.specs.StandFor.{StandForSound, row_of}
+use Rattle.office_desk_timing.proofs.{IntersectionTable.Entry, IntersectionTable.of_entry, IntersectionTable.rows_read, TimingCount.committed_counted}
+
+-- the next row comes last
+pub listed_more : (tables : Content) (rows : List (ℕ × IntersectionRow)) (i : ℕ) (e : ℕ × IntersectionRow) (count : ℕ)
+    (old new : List ListedIntersection) → i < length rows → e ≡ get_or rows i e
+    → row_listed e.0 e.1 count ≡ listed_in tables e → old ≡ map (listed_in tables) (take i rows)
+    → new ≡ old ++ row_listed e.0 e.1 count ∷ [] → new ≡ map (listed_in tables) (take (i + 1) rows)
+listed_more tables rows i e count old new low at counted so_far added =
+    let next : take (i + 1) rows ≡ take i rows ++ e ∷ [] =
+    take_more rows i e low ∙ ap (λ x. take i rows ++ x ∷ []) (sym at) in
+    added ∙ (λ k. so_far k ++ counted k ∷ [])
+    ∙ sym (ap (λ list. map (listed_in tables) list) next ∙ map-append (listed_in tables) (take i rows) (e ∷ []))
+
+-- ---- each intersection is there
+
+itself : (o p : Option Intersection) → p ≡ o → IfSome o (λ i. p ≡ Some i)
+itself None p is = tt
+itself (Some i) p is = is
+
+pub each_there : (office : Office) → AllByRecursion (λ (e : Entry). get office.intersections e.0 ≡ Some e.1) (entries office.intersections)
+each_there office =
+    entries_stand nat_cmp_total (λ id i. get office.intersections id ≡ Some i) office.intersections
+    (λ id. itself (get office.intersections id) (get office.intersections id) refl)
+
+-- ---- the list of an office
+
+module _ (tables : Content) (office : Office) (stands : StandForSound tables office) where
+  one_listed : (e : Entry) → get office.intersections e.0 ≡ Some e.1 → listed_in tables (of_entry e) ≡ intersection_listed e
+  one_listed e there =
+      ap (λ count. row_listed e.0 (row_of e.1) count)
+      (committed_counted tables office e.0 stands ∙ ap (λ (o : Option Intersection). len (side_of o).committed) there)
+
+  each_listed : (es : List Entry) → AllByRecursion (λ (e : Entry). get office.intersections e.0 ≡ Some e.1) es
+      → map (listed_in tables) (map of_entry es) ≡ map intersection_listed es
+  each_listed [] there = refl
+  each_listed (e ∷ es) there = λ k. one_listed e there.0 k ∷ each_listed es there.1 k
+
+  pub all_listed : (found : List ListedIntersection) → ListsRows tables found → found ≡ intersections_of office
+  all_listed found lists =
+      lists.found_is
+      ∙ ap (λ rows. map (listed_in tables) rows) (rows_read tables office stands.stand lists.rows lists.lists)
+      ∙ each_listed (entries office.intersections) (each_there office)

@@ -1,0 +1,26 @@
+-- What a decision on AddIntersection gives.
+use Rattle.std.specs.Prelude.{◌≡◌, ℕ, ◌≤◌, List, [], ◌∷◌, ◌==◌, ◌&&◌, if◌then◌else◌, Option, Some, None}
+use Rattle.std.specs.Int.{IsInRange}
+use Rattle.std.specs.Str.{bytes_eq}
+use Rattle.signal_records.specs.Words.{AreWords}
+use Rattle.office_tables_shelf.specs.declared.rows.IntersectionRow.{IntersectionRow}
+use Rattle.office_tables_shelf.specs.declared.rows.RowChange.{RowChange}
+use Rattle.office_tables_shelf.specs.declared.rows.RowChange.TheVariants.{AddIntersection}
+use Rattle.office_machine.specs.declared.reply.Reply.{Reply}
+use Rattle.office_machine.specs.declared.reply.Reply.TheVariants.{Added, Same, Refused}
+use Rattle.office_machine.specs.declared.refusal.Refusal.TheVariants.{IntersectionDiffers}
+use Rattle.office_tables_standing.specs.StandFor.{row_of}
+use Rattle.office_machine.specs.Step.{new_intersection}
+
+-- a number, a name and an interval within their limits
+pub record AreLimited (id : ℕ) (bytes : List ℕ) (days : ℕ) : Type 0 where
+  pub number : IsInRange 1 9999 id
+  pub name : AreWords 120 bytes
+  pub interval_low : 1 ≤ days
+  pub interval_high : days ≤ 3650
+
+-- where no row was read, that of a new intersection is added; else the row stays, and the reply says whether it is equal
+abbrev pub AddsRow : ℕ → ℕ → List ℕ → Option IntersectionRow → Reply → List RowChange → Type 0
+AddsRow id interval name None reply changes = (reply ≡ Added) × (changes ≡ AddIntersection id (row_of (new_intersection interval name)) ∷ []) × AreLimited id name interval
+AddsRow id interval name (Some row) reply changes =
+    (reply ≡ (if bytes_eq row.name name && (row.interval == interval) then Same else Refused IntersectionDiffers)) × (changes ≡ [])

@@ -1,0 +1,6 @@
+pub mod Adding
+pub mod Reading
+pub mod Moving
+pub mod Transacting
+pub mod Decisions
+pub mod Listing

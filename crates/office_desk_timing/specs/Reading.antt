@@ -1,0 +1,72 @@
+-- What is read of an intersection.
+use Rattle.std.specs.Prelude.{◌≡◌, ℕ, List, Option, Some, None}
+use Rattle.std.specs.FinMap.{get}
+use Rattle.std.specs.List.{AllByRecursion}
+pub use Rattle.signal_records.specs.TimingSet.{set_of_rows}
+use Rattle.signal_records.specs.Within.{IsRowWithin, current_limits}
+use Rattle.signal_records.specs.declared.record.Row.{Row}
+use Rattle.signal_records.specs.declared.record.Change.{Change}
+use Rattle.draft_core.specs.DraftRows.{RowsByKey, Stands}
+use Rattle.draft_core.specs.Within.{AreChangesWithin}
+use Rattle.draft_core.specs.declared.timing.Reach.{Reach}
+use Rattle.draft_core.specs.declared.timing.Reach.TheVariants as reach
+use Rattle.office_tables_shelf.specs.Content.{Content}
+use Rattle.office_tables_shelf.specs.Shelf.{ListsDraft, ListsTiming}
+use Rattle.office_tables_shelf.specs.declared.rows.IntersectionRow.{IntersectionRow}
+use Rattle.office_desk_timing.specs.declared.reading.Found.{Found}
+use Rattle.office_machine.specs.Office.{Intersection, Office}
+use Rattle.office_tables_standing.specs.StandFor.{StandFor, StandForSound}
+
+-- each row is within its limits
+abbrev pub AreWithin : List Row → Type 0
+AreWithin = AllByRecursion (IsRowWithin current_limits)
+
+-- what is made of the rows that were read
+pub record IsMadeOf (row : IntersectionRow) (rows : List Row) (changes : List Change) (found : Found) : Type 0 where
+  pub same_name : found.name ≡ row.name
+  pub same_interval : found.interval ≡ row.interval
+  pub same_revision : found.timing.revision ≡ row.revision
+  pub same_holder : found.timing.holder ≡ row.holder
+  pub same_committed : found.timing.committed ≡ set_of_rows rows
+  pub same_delta : found.timing.delta ≡ changes
+  pub rows_within : AreWithin rows
+  pub changes_within : AreChangesWithin changes
+
+-- the rows of an intersection's plan are those of the lists, as far as they are read
+abbrev pub ListsPlan : Reach → Content → ℕ → List Row → List Change → Type 0
+ListsPlan reach.Row tables id rows changes = Unit {0}
+ListsPlan reach.Drafts tables id rows changes = ListsDraft tables id changes
+ListsPlan reach.Plan tables id rows changes =
+    ListsTiming tables id rows × ListsDraft tables id changes
+
+-- the draft rows that were found are those that stand, as far as they are read, and the set is made
+-- of the committed rows
+abbrev pub ListsFound : Reach → Content → ℕ → Found → Type 0
+ListsFound reach tables id found =
+    (rows : List Row) × ListsPlan reach tables id rows found.timing.delta
+    × (found.timing.committed ≡ set_of_rows rows)
+
+-- the draft rows of an intersection, in tables that stand for an office
+abbrev pub drafts_at : {tables : Content} {office : Office} → StandFor tables office → ℕ
+    → RowsByKey
+drafts_at stand id key = (stand.draft id key).said
+
+-- what was found stands, with draft rows, for the intersection, as far as it was read
+pub record FoundStands (reach : Reach) (rows : RowsByKey) (i : Intersection)
+    (found : Found) : Type 0 where
+  pub same_name : found.name ≡ i.name
+  pub same_interval : found.interval ≡ i.interval
+  pub timing_stands : Stands reach found.timing rows i.timing
+
+-- an intersection is found where there is one
+abbrev pub Finds : Reach → RowsByKey → Option Intersection → Option Found → Type 0
+Finds reach rows None None = Unit {0}
+Finds reach rows (Some i) (Some found) = FoundStands reach rows i found
+Finds reach rows None (Some found) = ⊥
+Finds reach rows (Some i) None = ⊥
+
+-- for whichever sound office the tables stand for
+abbrev pub FindsAny : Reach → Content → ℕ → Option Found → Type 0
+FindsAny reach tables id found =
+    (office : Office) (stands : StandForSound tables office) →
+    Finds reach (drafts_at stands.stand id) (get office.intersections id) found

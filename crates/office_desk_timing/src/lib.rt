@@ -1,0 +1,15 @@
+//! The transaction and the timing side of an intersection, over any shelf.
+#![tactic(auto)]
+
+mod adding;
+mod listing;
+mod moving;
+mod reading;
+mod showing;
+mod transacting;
+
+pub use adding::decide_add;
+pub use listing::list_intersections;
+pub use reading::intersection_row;
+pub use showing::{decide_draft, decide_state, decide_timing};
+pub use transacting::transact;

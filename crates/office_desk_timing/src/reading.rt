@@ -1,0 +1,143 @@
+//! What is read of an intersection.
+ghost use Rattle.std.specs.Prelude.{◌≡◌, IfOk, IfSome, ◌≢◌};
+ghost use Rattle.office_tables_shelf.specs.Damage.{HasDamagedIntersection, HasDamagedTiming};
+ghost use Rattle.office_tables_shelf.specs.Keeps.{AnswersShelf, KeepsShelf};
+ghost use Rattle.office_tables_shelf.specs.Shelf.{ReadsIntersection};
+ghost use Rattle.office_desk_decisions.specs.Open.{StaysOpen};
+ghost use Rattle.office_desk_decisions.specs.Damage.{HasDamageIn, HasDamagedPlan};
+ghost use Rattle.office_machine.specs.Office.{Office, side_at};
+ghost use Rattle.office_desk_timing.specs.Reading.{FindsAny, IsMadeOf, ListsFound, ListsPlan};
+ghost use Rattle.office_tables_standing.specs.StandFor.{StandForSound};
+
+use draft_core::changes::Changes;
+use draft_core::timing::{Reach, Timing};
+use office_tables_shelf::bounds::intersection_is_within;
+use office_tables_shelf::rows::IntersectionRow;
+use office_tables_shelf::shelf::{Shelf, ShelfFault};
+use signal_records::{Change, InterId, Interval, NoMemory, Row, TimingSet, Words};
+use std::alloc::Global;
+
+/// An intersection as it is kept.
+#[derive(Drop)]
+pub struct Found {
+    pub name: Words<120>,
+    /// Days from one inspection of its cabinet to the next.
+    pub interval: Interval,
+    pub timing: Timing,
+}
+
+/// The committed set of an intersection; the empty one where there is no such intersection.
+pub(crate) fn committed_set<S: Shelf>(
+    shelf: &mut S,
+    alloc: Global,
+    id: InterId,
+) -> Result<TimingSet, ShelfFault>
+    ensures set { IfOk result (λ set. S.is_honest shelf.new → (office : Office) → StandForSound (S.content shelf.old) office → set ≡ (side_at office id).committed) }
+    ensures damaged { result ≡ Err ShelfFault.Damaged → S.is_honest shelf.new → HasDamagedTiming (S.content shelf.old) id }
+    ensures kept { KeepsShelf S.Shelf shelf.old shelf.new }
+    ensures open { AnswersShelf S.Shelf result shelf.old shelf.new }
+{
+    let rows = shelf.timing_rows(alloc, id)?;
+    let set = TimingSet::of_rows(alloc, rows)?;
+    Ok(set)
+}
+
+/// The intersection of which these rows were read.
+fn made_of(
+    alloc: Global,
+    row: IntersectionRow,
+    rows: Vec<Row>,
+    changes: Vec<Change>,
+) -> Result<Found, NoMemory>
+    ensures { IfOk result (λ found. IsMadeOf row rows.items changes.items found) }
+{
+    let delta = Changes::new(changes);
+    let committed = TimingSet::of_rows(alloc, rows)?;
+    let IntersectionRow {
+        name,
+        interval,
+        revision,
+        holder,
+    } = row;
+    Ok(Found {
+        name,
+        interval,
+        timing: Timing {
+            revision,
+            holder,
+            committed,
+            delta,
+        },
+    })
+}
+
+/// The row of an intersection, if there is one. A row that is no record is neither.
+pub fn intersection_row<S: Shelf>(
+    shelf: &mut S,
+    alloc: Global,
+    id: InterId,
+) -> Result<Option<IntersectionRow>, ShelfFault>
+    ensures row { IfOk result (λ row. S.is_honest shelf.new → ReadsIntersection (S.content shelf.old) id row) }
+    ensures whole { IfOk result (λ _. S.is_honest shelf.new → ¬ HasDamagedIntersection (S.content shelf.old) id) }
+    ensures damaged { result ≡ Err ShelfFault.Damaged → S.is_honest shelf.new → HasDamagedIntersection (S.content shelf.old) id }
+    ensures kept { KeepsShelf S.Shelf shelf.old shelf.new }
+    ensures open { AnswersShelf S.Shelf result shelf.old shelf.new }
+{
+    let Some(row) = shelf.intersection(alloc, id)? else {
+        return Ok(None);
+    };
+    intersection_is_within(id, &row);
+    Ok(Some(row))
+}
+
+/// The committed rows and the draft rows of an intersection, as far as is asked for; none past
+/// that.
+fn plan_rows<S: Shelf>(
+    shelf: &mut S,
+    alloc: Global,
+    id: InterId,
+    reach: Reach,
+) -> Result<(Vec<Row>, Vec<Change>), ShelfFault>
+    ensures lists { IfOk result (λ read. S.is_honest shelf.new →
+        ListsPlan reach (S.content shelf.old) id read.0.items read.1.items) }
+    ensures damaged { result ≡ Err ShelfFault.Damaged → S.is_honest shelf.new →
+        HasDamagedPlan reach (S.content shelf.old) id }
+    ensures kept { KeepsShelf S.Shelf shelf.old shelf.new }
+    ensures open { StaysOpen S.is_clean S.is_honest (reach ≢ Reach.Row)
+        result shelf.old shelf.new }
+{
+    match reach {
+        Reach::Row => return Ok((Vec::new(alloc), Vec::new(alloc))),
+        Reach::Drafts => return Ok((Vec::new(alloc), shelf.draft_rows(alloc, id)?)),
+        Reach::Plan => {}
+    }
+    let rows = shelf.timing_rows(alloc, id)?;
+    let changes = shelf.draft_rows(alloc, id)?;
+    Ok((rows, changes))
+}
+
+/// Reads an intersection, and of its plan as much as is asked for; the rest of it is left out.
+pub(crate) fn find<S: Shelf>(
+    shelf: &mut S,
+    alloc: Global,
+    id: InterId,
+    reach: Reach,
+) -> Result<Option<Found>, ShelfFault>
+    ensures found { IfOk result (λ found. S.is_honest shelf.new →
+        FindsAny reach (S.content shelf.old) id found) }
+    ensures listed { IfOk result (λ found. S.is_honest shelf.new →
+        IfSome found (ListsFound reach (S.content shelf.old) id)) }
+    ensures whole { IfOk result (λ _. S.is_honest shelf.new →
+        ¬ HasDamageIn reach (S.content shelf.old) id) }
+    ensures damaged { result ≡ Err ShelfFault.Damaged → S.is_honest shelf.new →
+        HasDamageIn reach (S.content shelf.old) id }
+    ensures kept { KeepsShelf S.Shelf shelf.old shelf.new }
+    ensures open { AnswersShelf S.Shelf result shelf.old shelf.new }
+{
+    let Some(row) = intersection_row(shelf, alloc, id)? else {
+        return Ok(None);
+    };
+    let (rows, changes) = plan_rows(shelf, alloc, id, reach)?;
+    let found = made_of(alloc, row, rows, changes)?;
+    Ok(Some(found))
+}

@@ -1,0 +1,166 @@
+//! The queries State, Timing and Draft.
+ghost use Rattle.std.specs.Prelude.{◌≡◌, ◌≢◌, ◌∷◌, [], Some, IfOk};
+ghost use Rattle.draft_core.specs.Transaction.{state_of_holder};
+ghost use Rattle.office_tables_shelf.specs.Keeps.{AnswersShelf, KeepsShelf};
+ghost use Rattle.office_desk_decisions.specs.Open.{StaysOpen};
+ghost use Rattle.office_desk_decisions.specs.Deciding.{Decides};
+ghost use Rattle.office_desk_decisions.specs.Damage.{HasDamage, IsDone};
+ghost use Rattle.office_desk_timing.specs.Decisions.{row_shown, IsVerdictOf, ShowsDraft};
+ghost use Rattle.office_desk_decisions.specs.Named.{RefusesBy};
+
+use crate::reading::{Found, find, intersection_row};
+use draft_core::refusal::DraftRefusal;
+use draft_core::state::{DbState, Holder, Stage, Verdict};
+use draft_core::timing::{Reach, Timing};
+use draft_core::verdict;
+use office_desk_decisions::decided::Decided;
+use office_machine::command::Command;
+use office_machine::refusal::Refusal;
+use office_machine::reply::{IntersectionState, OpenDraft, Reply, RunningTiming, Violations};
+use office_tables_shelf::rows::IntersectionRow;
+use office_tables_shelf::shelf::{Shelf, ShelfFault};
+use signal_records::{InterId, NoMemory, TimingSet};
+use signal_rules::violations;
+use std::alloc::Global;
+
+fn state_of(holder: &Option<Holder>) -> DbState
+    ensures { result ≡ state_of_holder holder.now }
+{
+    match holder {
+        None => DbState::Normal,
+        Some(holder) => match holder.stage {
+            Stage::Transaction => DbState::Transaction,
+            Stage::Verify => DbState::Verify,
+            Stage::Done => DbState::Done,
+        },
+    }
+}
+
+/// What State shows of an intersection of which this row was read.
+fn shown(id: InterId, row: IntersectionRow, rows: usize, verify: Verdict) -> Reply
+    ensures { result ≡ Reply.State (row_shown id row rows verify) }
+{
+    let state = state_of(&row.holder);
+    let owner = row.holder.map(|holder| holder.owner);
+    Reply::State(IntersectionState {
+        id,
+        interval: row.interval,
+        name: row.name,
+        owner,
+        revision: row.revision,
+        rows,
+        state,
+        verify,
+    })
+}
+
+/// The verdict on the draft of an intersection of which this row was read: only in Done is there
+/// anything to judge.
+fn verdict_at<S: Shelf>(
+    shelf: &mut S,
+    alloc: Global,
+    id: InterId,
+    row: &IntersectionRow,
+) -> Result<Verdict, ShelfFault>
+    ensures verdict { IfOk result (λ verdict. S.is_honest shelf.new → IsVerdictOf (S.content shelf.old) id row.now verdict) }
+    ensures whole { IfOk result (λ _. S.is_honest shelf.new →
+        IsDone row.now → ¬ HasDamage (S.content shelf.old) id) }
+    ensures damaged { result ≡ Err ShelfFault.Damaged → S.is_honest shelf.new → IsDone row.now × HasDamage (S.content shelf.old) id }
+    ensures kept { KeepsShelf S.Shelf shelf.old shelf.new }
+    ensures open { StaysOpen S.is_clean S.is_honest (IsDone row.now)
+        result shelf.old shelf.new }
+{
+    let Some(holder) = &row.holder else {
+        return Ok(Verdict::NotDone);
+    };
+    match holder.stage {
+        Stage::Transaction | Stage::Verify => return Ok(Verdict::NotDone),
+        Stage::Done => {}
+    }
+    let Some(found) = find(shelf, alloc, id, Reach::Plan)? else {
+        return Ok(Verdict::NotDone);
+    };
+    Ok(verdict(alloc, &found.timing)?)
+}
+
+/// Decides State.
+pub fn decide_state<S: Shelf>(
+    shelf: &mut S,
+    alloc: Global,
+    id: InterId,
+) -> Result<Decided, ShelfFault>
+    ensures decides { Decides (S.is_honest shelf.new) (S.content shelf.old) (Command.State id) result }
+    ensures kept { KeepsShelf S.Shelf shelf.old shelf.new }
+    ensures open { AnswersShelf S.Shelf result shelf.old shelf.new }
+{
+    let Some(row) = intersection_row(shelf, alloc, id)? else {
+        return Ok(Decided::refused(alloc, Refusal::UnknownIntersection));
+    };
+    let rows = shelf.committed_count(alloc, id)?;
+    let verify = verdict_at(shelf, alloc, id, &row)?;
+    Ok(Decided::unchanged(alloc, shown(id, row, rows, verify)))
+}
+
+/// Decides Timing.
+pub fn decide_timing<S: Shelf>(
+    shelf: &mut S,
+    alloc: Global,
+    id: InterId,
+) -> Result<Decided, ShelfFault>
+    ensures decides { Decides (S.is_honest shelf.new) (S.content shelf.old) (Command.Timing id) result }
+    ensures kept { KeepsShelf S.Shelf shelf.old shelf.new }
+    ensures open { AnswersShelf S.Shelf result shelf.old shelf.new }
+{
+    let Some(row) = intersection_row(shelf, alloc, id)? else {
+        return Ok(Decided::refused(alloc, Refusal::UnknownIntersection));
+    };
+    let rows = shelf.timing_rows(alloc, id)?;
+    let set = TimingSet::of_rows(alloc, rows)?;
+    let timing = RunningTiming {
+        name: row.name,
+        revision: row.revision,
+        rows: set,
+    };
+    Ok(Decided::unchanged(alloc, Reply::Timing(timing)))
+}
+
+/// What Draft shows of an intersection that was found.
+fn draft_of(alloc: Global, found: Found) -> Result<Reply, NoMemory>
+    ensures shows { IfOk result (λ reply. ShowsDraft found reply) }
+    ensures named { IfOk result (λ reply. RefusesBy (13 ∷ []) reply) }
+    ensures undamaged { IfOk result (λ reply. reply ≢ Reply.Refused Refusal.Damaged) }
+{
+    let Timing {
+        holder,
+        committed,
+        delta,
+        ..
+    } = found.timing;
+    let Some(holder) = holder else {
+        let refusal = DraftRefusal::NotTransaction;
+        return Ok(Reply::Refused(Refusal::Draft(refusal)));
+    };
+    let rows = committed.changed(delta.as_slice())?;
+    let violations = Violations::new(violations(alloc, &rows)?);
+    Ok(Reply::Draft(OpenDraft {
+        owner: holder.owner,
+        rows,
+        violations,
+    }))
+}
+
+/// Decides Draft.
+pub fn decide_draft<S: Shelf>(
+    shelf: &mut S,
+    alloc: Global,
+    id: InterId,
+) -> Result<Decided, ShelfFault>
+    ensures decides { Decides (S.is_honest shelf.new) (S.content shelf.old) (Command.Draft id) result }
+    ensures kept { KeepsShelf S.Shelf shelf.old shelf.new }
+    ensures open { AnswersShelf S.Shelf result shelf.old shelf.new }
+{
+    let Some(found) = find(shelf, alloc, id, Reach::Plan)? else {
+        return Ok(Decided::refused(alloc, Refusal::UnknownIntersection));
+    };
+    Ok(Decided::unchanged(alloc, draft_of(alloc, found)?))
+}
