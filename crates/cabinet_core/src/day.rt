@@ -1,16 +1,16 @@
 //! Days, which are counted from 1 January 1970.
 
-ghost use Rattle.std.specs.Prelude.{◌≡◌, ℕ, ◌+◌, ◌*◌, ◌/◌, ◌%◌, ◌<◌, ◌≤◌, pos, IfSome, IfNone, IfOk, Some, string_bytes};
+ghost use Rattle.std.specs.Prelude.{◌≡◌, ℕ, ◌+◌, ◌*◌, ◌/◌, ◌%◌, ◌<◌, ◌≤◌, pos, ◌++◌, IfSome, IfNone, IfOk, OnOk, Some, string_bytes};
 ghost use Rattle.std.specs.Option.{SomeIff};
 ghost use Rattle.jiff.specs.Words.{epoch_day};
 ghost use Rattle.jiff_core.specs.Calendar.{IsCivilDate};
 ghost use Rattle.cabinet_core.specs.Day.{day_text, IsDay, SpellsDay};
 
-use jiff::ToSpan;
-use jiff::civil::Date;
+use jiff::civil::Date as CivilDate;
 use jiff_core::civil;
 use signal_records::{Interval, NoMemory};
-use std::alloc::Global;
+use std::alloc::{AllocError, Global};
+use std::fmt::Write;
 use std::marker::Model;
 
 /// A day from 1970-01-01 to 2199-12-31. It is seen as its number, 0 to 84,005.
@@ -53,19 +53,50 @@ impl Day {
 
     /// The date.
     pub fn date(self) -> Date
-        ensures value { epoch_day result ≡ pos self }
+        ensures value { result ≡ self }
         ensures bound { IsDay self }
     {
-        Date::from_plain(civil::Date::from_days_since_min(4_371_587 + self.number))
+        Date {
+            number: self.number,
+        }
     }
 
-    /// The day of a date, if it is one from 1970 to 2199.
-    fn from_date(date: Date) -> Option<Day>
+    /// The day of a date of the calendar, if it is one from 1970 to 2199.
+    fn from_date(date: CivilDate) -> Option<Day>
         ensures value { IfSome result (λ d. IsDay d × (epoch_day date ≡ pos d)) }
         ensures outside { IfNone result ((n : ℕ) → IsDay n → ¬ (epoch_day date ≡ pos n)) }
     {
         let number = u32::try_from(date.to_plain().to_unix_epoch_day()).ok()?;
         Day::new(number)
+    }
+}
+
+/// A date from 1970-01-01 that is a day or falls due after one: up to 2209-12-29. It is seen as the
+/// number of days since 1970-01-01, 0 to 87,655.
+#[derive(Clone, Copy, PartialEq, Eq, PartialOrd, Ord)]
+pub struct Date {
+    number: u32,
+}
+
+impl Model for Date {
+    ghost use Rattle.std.specs.Prelude.{ℕ};
+    ghost use Rattle.cabinet_core.specs.Day.{IsDue};
+
+    ghost Value = { ℕ };
+
+    ghost view = { λ d. d.number };
+
+    ghost invariant = { λ d. IsDue d.number };
+
+    ghost inverse = { λ n. record { number = n } };
+}
+
+impl Date {
+    /// The date as the calendar has it.
+    fn civil(self) -> CivilDate
+        ensures { epoch_day result ≡ pos self }
+    {
+        CivilDate::from_plain(civil::Date::from_days_since_min(4_371_587 + self.number))
     }
 }
 
@@ -81,7 +112,7 @@ fn two_digits(tens: u8, ones: u8) -> Option<u8>
 }
 
 /// The date with these numbers, the year being given by its century and its place there.
-fn date_of(century: u8, year: u8, month: u8, day: u8) -> Option<Date>
+fn date_of(century: u8, year: u8, month: u8, day: u8) -> Option<CivilDate>
     requires century_in { century < 100 }
     requires year_in { year < 100 }
     requires month_in { month < 100 }
@@ -90,7 +121,7 @@ fn date_of(century: u8, year: u8, month: u8, day: u8) -> Option<Date>
     ensures none { IfNone result (¬ (IsCivilDate (pos (century * 100 + year)) month day)) }
 {
     let year = u16::from(century) * 100 + u16::from(year);
-    Date::new(year as i16, month as i8, day as i8).ok()
+    CivilDate::new(year as i16, month as i8, day as i8).ok()
 }
 
 /// The day that the bytes spell as `YYYY-MM-DD`, if they spell one from 1970-01-01 to 2199-12-31.
@@ -108,19 +139,36 @@ pub fn read_day(bytes: &[u8]) -> Option<Day>
     Day::from_date(date_of(century, year, month, day)?)
 }
 
+/// Appends a date as `YYYY-MM-DD`.
+pub fn push_date(text: &mut String, date: Date) -> Result<(), AllocError>
+    ensures { OnOk result (string_bytes text.new ≡ string_bytes text.old ++ day_text date) }
+{
+    let civil = date.civil();
+    write!(text, "{civil}")
+}
+
+/// The spelling `YYYY-MM-DD` of a date.
+pub fn write_date(alloc: Global, date: Date) -> Result<String, NoMemory>
+    ensures { IfOk result (λ text. string_bytes text ≡ day_text date) }
+{
+    let civil = date.civil();
+    let text = format!(in alloc; "{civil}")?;
+    Ok(text)
+}
+
 /// The spelling `YYYY-MM-DD` of a day.
 pub fn write_day(alloc: Global, day: Day) -> Result<String, NoMemory>
     ensures { IfOk result (λ text. string_bytes text ≡ day_text day) }
 {
-    let date = day.date();
-    let text = format!(in alloc; "{date}")?;
-    Ok(text)
+    write_date(alloc, day.date())
 }
 
 /// The day on which the next inspection falls due: so many days after the last one. It may lie
 /// past 2199-12-31.
 pub fn due(last: Day, interval: Interval) -> Date
-    ensures { epoch_day result ≡ pos (last + interval) }
+    ensures { result ≡ last + interval }
 {
-    last.date().saturating_add((interval.get() as i64).days())
+    Date {
+        number: last.number + interval.get(),
+    }
 }

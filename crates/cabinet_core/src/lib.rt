@@ -17,7 +17,7 @@ pub use bounds::{
     used_line_is_within,
 };
 pub use command::RecordCommand;
-pub use day::{Day, due, read_day, write_day};
+pub use day::{Date, Day, due, push_date, read_day, write_date, write_day};
 pub use decide::{CabinetChange, Recorded, close_order, inspect, open_order, receive, use_part};
 pub use open_orders::open_count;
 pub use ordered::{Ordered, Placed};

@@ -3,9 +3,8 @@
 ghost use Rattle.std.specs.Prelude.{◌≡◌, map, option_map, IfOk};
 ghost use Rattle.cabinet_core.specs.Overdue.{greater, latest_day, overdue_list, listed, lateness};
 
-use crate::day::{Day, due};
+use crate::day::{Date, Day, due};
 use crate::record::Inspection;
-use jiff::civil::Date;
 use signal_records::{InterId, Interval, NoMemory, Words};
 use std::alloc::Global;
 

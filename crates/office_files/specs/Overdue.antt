@@ -1,15 +1,13 @@
 -- The report of overdue inspections.
 use Rattle.std.specs.Prelude.{ℕ, List, ◌++◌, length, flat_map, codes, decimal, Option, Some, None}
-use Rattle.jiff.specs.Words.{date_text}
-use Rattle.jiff.specs.declared.civil.dates.Date.{Date}
 use Rattle.cabinet_core.specs.Day.{day_text}
 use Rattle.cabinet_core.specs.declared.overdue_inspections.OverdueRow.{OverdueRow}
 use Rattle.office_files.specs.Cells.{right_aligned}
 
 -- the due day, or that there never was an inspection, left in ten places
-abbrev pub due_written : Option Date → List ℕ
+abbrev pub due_written : Option ℕ → List ℕ
 due_written None = codes "never     "
-due_written (Some due) = date_text due
+due_written (Some due) = day_text due
 
 -- `  12  2027-03-01  Main St`
 abbrev pub overdue_line : OverdueRow → List ℕ

@@ -4,8 +4,7 @@ ghost use Rattle.std.specs.Prelude.{◌≡◌, ◌++◌, OnOk, IfOk, decimal, st
 ghost use Rattle.office_files.specs.Cells.{right_aligned};
 ghost use Rattle.office_files.specs.Overdue.{overdue_report, overdue_line, due_written};
 
-use cabinet_core::{Day, OverdueRow, write_day};
-use jiff::civil::Date;
+use cabinet_core::{Date, Day, OverdueRow, push_date, write_day};
 use signal_records::{InterId, NoMemory};
 use std::alloc::{AllocError, Global};
 use std::fmt::Write;
@@ -16,7 +15,7 @@ fn push_due(text: &mut String, due: &Option<Date>) -> Result<(), AllocError>
 {
     match due {
         None => text.push_str("never     "),
-        Some(due) => write!(text, "{due}"),
+        Some(due) => push_date(text, *due),
     }
 }
 

@@ -1,3 +1,2 @@
-pub mod DueLemmas
 pub mod HeadLemmas
 pub mod TokenLemmas

@@ -1,5 +1,5 @@
 -- The JSON trees of what the register shows, each object's keys in ascending order.
-use Rattle.std.specs.Prelude.{ℕ, List, [], ◌∷◌, ◌++◌, codes, option_map, ℤ, pos, negsuc}
+use Rattle.std.specs.Prelude.{ℕ, List, [], ◌∷◌, ◌++◌, codes, option_map}
 use Rattle.std.specs.List.{filter}
 use Rattle.serde_json.specs.Data.{Data, null}
 use Rattle.cabinet_core.specs.Day.{day_text}
@@ -67,15 +67,10 @@ hand_tree entry = keys ((codes "count", count entry.1) ∷ (codes "part", text e
 abbrev pub stock_tree : List (List ℕ × ℕ) → Data
 stock_tree parts = keys ((codes "hand", list hand_tree parts) ∷ [])
 
--- the day on which an inspection falls due; days are counted from 1 January 1970, and an earlier date is none
-abbrev pub due_tree : ℤ → Data
-due_tree (pos day) = day_tree day
-due_tree (negsuc n) = null
-
 -- an intersection that is overdue
 abbrev pub listed_tree : Listed → Data
 listed_tree listed =
-    keys ((codes "due", or_null due_tree listed.due) ∷ (codes "id", count listed.id) ∷ (codes "name", text listed.name) ∷ [])
+    keys ((codes "due", or_null day_tree listed.due) ∷ (codes "id", count listed.id) ∷ (codes "name", text listed.name) ∷ [])
 
 -- what Overdue shows
 abbrev pub overdue_tree : List Listed → Data

@@ -4,11 +4,10 @@ use Rattle.std.specs.Borrow.{Bor}
 use Rattle.json.specs.Token.{Token, key}
 use Rattle.json.specs.Tree.{json_tokens}
 use Rattle.json.specs.Written.{Written}
-use Rattle.jiff.specs.Words.{epoch_day}
 use Rattle.serde_json.specs.Data.{Data, null}
 use Rattle.serde_json.specs.Written.{outline}
 use Rattle.office_http_responses.specs.Json.{count, text}
-use Rattle.office_http_responses.specs.RegisterTrees.{day_tree, due_tree}
+use Rattle.office_http_responses.specs.RegisterTrees.{day_tree}
 use Rattle.office_http_responses.specs.declared.writing.Scalar.{Scalar}
 use Rattle.office_http_responses.specs.declared.writing.Scalar.TheVariants as scalar
 
@@ -38,7 +37,7 @@ abbrev pub scalar_tree : Scalar → Data
 scalar_tree (scalar.Number n) = count n
 scalar_tree (scalar.Text bytes) = text bytes.now
 scalar_tree (scalar.Day day) = day_tree day
-scalar_tree (scalar.Due due) = due_tree (epoch_day due)
+scalar_tree (scalar.Due due) = day_tree due
 scalar_tree scalar.Null = null
 
 -- the key and the tree of a member

@@ -1,10 +1,8 @@
 //! Days, in JSON.
-ghost use Rattle.jiff.specs.Words.{epoch_day};
-ghost use Rattle.office_http_responses.specs.RegisterTrees.{day_tree, due_tree};
+ghost use Rattle.office_http_responses.specs.RegisterTrees.{day_tree};
 ghost use Rattle.office_http_responses.specs.Writing.{AddsTree};
 
-use cabinet_core::{Day, write_day};
-use jiff::civil::Date;
+use cabinet_core::{Date, Day, write_date, write_day};
 use json::Writer;
 use std::alloc::{AllocError, Global};
 
@@ -16,14 +14,10 @@ pub(crate) fn day_in_json(alloc: Global, to: &mut Writer, day: Day) -> Result<()
     to.string(text.as_str())
 }
 
-/// The day on which an inspection falls due. No date before 1970 is one.
+/// The day on which an inspection falls due.
 pub(crate) fn due_in_json(alloc: Global, to: &mut Writer, due: Date) -> Result<(), AllocError>
-    ensures { AddsTree result to.old to.new (due_tree (epoch_day due)) }
+    ensures { AddsTree result to.old to.new (day_tree due) }
 {
-    if due.to_plain().to_unix_epoch_day() < 0 {
-        return to.null();
-    }
-    let text = format!(in alloc; "{due}")?;
-    to.string(text.as_str())?;
-    Ok(())
+    let text = write_date(alloc, due)?;
+    to.string(text.as_str())
 }

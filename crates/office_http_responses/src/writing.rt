@@ -2,13 +2,11 @@
 ghost use Rattle.std.specs.Prelude.{◌≡◌, [], ◌∷◌, map, flat_map, option_map};
 ghost use Rattle.json.specs.Token.{key as key_token};
 ghost use Rattle.office_http_responses.specs.Json.{keys, list, or_null, text as text_tree};
-ghost use Rattle.jiff.specs.Words.{epoch_day};
-ghost use Rattle.office_http_responses.specs.RegisterTrees.{day_tree, due_tree};
+ghost use Rattle.office_http_responses.specs.RegisterTrees.{day_tree};
 ghost use Rattle.office_http_responses.specs.Writing.{Adds, AddsTree, entry_of, member_tokens, scalar_tree, tokens_of};
 
 use crate::day::{day_in_json, due_in_json};
-use cabinet_core::Day;
-use jiff::civil::Date;
+use cabinet_core::{Date, Day};
 use json::Writer;
 use signal_records::Words;
 use std::alloc::{AllocError, Global};
@@ -47,7 +45,7 @@ pub(crate) fn day_or_null(day: Option<Day>) -> Scalar<'static>
 
 /// The day on which an inspection falls due, or null where there is none.
 pub(crate) fn due_or_null(due: Option<Date>) -> Scalar<'static>
-    ensures { scalar_tree result ≡ or_null due_tree (option_map epoch_day due) }
+    ensures { scalar_tree result ≡ or_null day_tree due }
 {
     match due {
         Some(due) => Scalar::Due(due),
@@ -109,8 +107,7 @@ pub(crate) fn object(
 /// What is written as JSON.
 pub(crate) trait WriteJson {
     ghost use Rattle.serde_json.specs.Data.{Data};
-    ghost use Rattle.jiff.specs.Words.{epoch_day};
-    ghost use Rattle.office_http_responses.specs.RegisterTrees.{day_tree, due_tree};
+    ghost use Rattle.office_http_responses.specs.RegisterTrees.{day_tree};
     ghost use Rattle.office_http_responses.specs.Writing.{AddsTree};
 
     // What is written, as a tree.

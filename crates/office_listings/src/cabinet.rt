@@ -12,10 +12,10 @@ ghost use Rattle.office_listings.specs.Cabinet.{cabinet_count, cabinet_records};
 ghost use Rattle.office_listings.specs.Cabinet.{cabinet_register};
 
 use crate::columns::{
-    push_date, push_day, push_last, push_line_number, push_long_number, push_number, push_word,
+    push_day, push_last, push_line_number, push_long_number, push_number, push_word,
 };
 use cabinet_core::{
-    CabinetView, Closing, Day, Inspection, Order, UsedLine, due, latest, open_count,
+    CabinetView, Closing, Day, Inspection, Order, UsedLine, due, latest, open_count, push_date,
 };
 use office_machine::reply::CabinetShown;
 use signal_records::{InterId, Interval, NoMemory, RecordNo, Words};

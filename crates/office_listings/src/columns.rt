@@ -1,12 +1,10 @@
 //! Columns of the listings. Places count bytes.
 
 ghost use Rattle.std.specs.Prelude.{◌≡◌, ◌++◌, OnOk, string_bytes};
-ghost use Rattle.jiff.specs.Words.{date_text};
 ghost use Rattle.cabinet_core.specs.Day.{day_text};
 ghost use Rattle.office_listings.specs.Columns.{left_aligned, number_in, last_column, count_line};
 
-use cabinet_core::Day;
-use jiff::civil::Date;
+use cabinet_core::{Day, push_date};
 use std::alloc::AllocError;
 use std::fmt::Write;
 
@@ -56,13 +54,6 @@ pub(crate) fn push_last(text: &mut String, word: &str) -> Result<(), AllocError>
     ensures { OnOk result (string_bytes text.new ≡ string_bytes text.old ++ last_column word.now) }
 {
     writeln!(text, "  {word}")
-}
-
-/// Appends a date as `YYYY-MM-DD`.
-pub(crate) fn push_date(text: &mut String, date: Date) -> Result<(), AllocError>
-    ensures { OnOk result (string_bytes text.new ≡ string_bytes text.old ++ date_text date) }
-{
-    write!(text, "{date}")
 }
 
 /// Appends a day as `YYYY-MM-DD`.

@@ -7,7 +7,7 @@ ghost use Rattle.signal_page.specs.State.{state_words, verdict_words, owner_text
 ghost use Rattle.signal_page.specs.State.{draft_facts, cabinet_facts};
 
 use crate::words::push_isolated;
-use cabinet_core::{Day, Order, due, open_count};
+use cabinet_core::{Day, Order, due, open_count, push_date};
 use draft_core::state::{DbState, Verdict};
 use office_machine::reply::IntersectionState;
 use signal_records::{Interval, Words};
@@ -106,8 +106,7 @@ pub(crate) fn push_due_day(
     ensures { OnOk result (string_bytes text.new
         ≡ string_bytes text.old ++ day_text (latest + interval)) }
 {
-    let date = due(latest, interval);
-    write!(text, "{date}")
+    push_date(text, due(latest, interval))
 }
 
 fn push_due(text: &mut String, interval: Interval, latest: Option<Day>) -> Result<(), AllocError>
