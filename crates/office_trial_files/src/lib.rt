@@ -29,12 +29,7 @@ fn file(alloc: Global, bytes: &[u8], calls: u64) -> Result<Fuse<Memory>, Trouble
 }
 
 /// The files of a database, with an empty log. One of them stops after so many calls.
-pub fn stopping(
-    alloc: Global,
-    db: &[u8],
-    is_log: bool,
-    calls: u64,
-) -> Result<Pair, Trouble> {
+pub fn stopping(alloc: Global, db: &[u8], is_log: bool, calls: u64) -> Result<Pair, Trouble> {
     let (log_calls, db_calls) = if is_log {
         (calls, u64::MAX)
     } else {
@@ -63,10 +58,7 @@ pub fn crashed<D: Crash>(left: Files<D>) -> Files<D> {
 }
 
 /// The database in these files.
-pub fn connect<D: Disk + Drop>(
-    alloc: Global,
-    files: Files<D>,
-) -> Option<Connection<FileStore<D>>> {
+pub fn connect<D: Disk + Drop>(alloc: Global, files: Files<D>) -> Option<Connection<FileStore<D>>> {
     if !files.may_be_used() {
         return None;
     }

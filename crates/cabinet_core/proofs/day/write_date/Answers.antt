@@ -5,4 +5,4 @@ use Rattle.cabinet_core.proofs.day.write_date.Goals as goal
 
 pub returns : goal.returns
 returns c =
-    c.in_ok-text.ensures.ok ∙ date_text_is c.civil.result c.args.date c.civil.ensures
+    c.in_ok-text.ensures.ok ∙ date_text_is c.civil-civil.result c.args.date c.civil-civil.ensures
