@@ -1,13 +1,14 @@
-use Rattle.std.proofs.Common.{◌≡◌, true, false, eqb, refl, sym, ap, ◌∙◌, rules, tests, of_calls}
+use Rattle.std.proofs.Common.{◌≡◌, ℕ, List, ◌∷◌, ◌++◌, true, false, eqb, refl, sym, ap, ◌∙◌, rules, tests, of_calls}
 use Rattle.std.specs.Str.Parse.{digits_value}
 use Rattle.std.proofs.lemmas.Iterator.Splits.{YieldsList-from_slice_split}
 use Rattle.std.proofs.lemmas.Iterator.Consumers.{YieldsList-at}
 use Rattle.std.proofs.lemmas.List.{map_push}
-use Rattle.signal_records.specs.Reading.{texts}
+use Rattle.signal_records.specs.Reading.{parts, texts}
 use Rattle.signal_records.proofs.Lists.{may_follow}
 use Rattle.signal_records.proofs.Marks.{none_met, met_tells, met_more}
 use Rattle.signal_records.proofs.Parts.{values, spells, split_turn, split_end}
 use Rattle.signal_records.proofs.Parts.{no_numeral, no_phase, small_phase, one_more}
+use Rattle.signal_records.proofs.list_reading.spells_phases.Goals.{In-Some}
 use Rattle.signal_records.proofs.list_reading.spells_phases.Goals as goal
 
 pub loop-part-init : goal.loop-part-init
@@ -18,18 +19,22 @@ loop-part-init c = record {
   fits = refl;
 }
 
-pub returns-in_default : goal.returns-in_default
-returns-in_default c =
-    let ts = texts c.loop-part.yielded in
-    let t = c.in-Some.part.now in
-    let here = split_turn
-    c.args.bytes.now c.if-is_empty.ensures
+-- a turn: the parts so far, this one, and others
+turn : (c : In-Some) → (rest : List (List ℕ)) × (parts c.args.bytes.now ≡ texts c.loop-part.yielded ++ c.in-Some.part.now ∷ rest)
+turn c =
+    split_turn c.args.bytes.now c.if-is_empty.ensures
     (YieldsList-at c.into_iter-part-iterator.ensures.into_iter_gives
     (YieldsList-from_slice_split _ (λ b. eqb b 32) c.args.bytes.now c.split-part-items.ensures.rest
     c.split-part-items.ensures.done c.split-part-items.ensures.closure
     (λ x b q k. search (rules, tests))))
     c.loop-part.yielded _ c.loop-part.yielded_by _ c.next.new.self
-    c.in-Some.part c.in-Some.is c.next.ensures.steps in
+    c.in-Some.part c.in-Some.is c.next.ensures.steps
+
+pub returns-in_default : goal.returns-in_default
+returns-in_default c =
+    let ts = texts c.loop-part.yielded in
+    let t = c.in-Some.part.now in
+    let here = turn (goal.at.returns-in_default c).In-Some in
     let fails = no_numeral c.args.last ts t here.0 c.in_default.ensures.none in
     sym (ap (spells c.args.last) here.1 ∙ fails)
 
@@ -39,14 +44,7 @@ returns-then-not-meets c =
     let n = c.in-Some-numeral.n in
     let ts = texts c.loop-part.yielded in
     let t = c.in-Some.part.now in
-    let here = split_turn
-    c.args.bytes.now c.if-is_empty.ensures
-    (YieldsList-at c.into_iter-part-iterator.ensures.into_iter_gives
-    (YieldsList-from_slice_split _ (λ b. eqb b 32) c.args.bytes.now c.split-part-items.ensures.rest
-    c.split-part-items.ensures.done c.split-part-items.ensures.closure
-    (λ x b q k. search (rules, tests))))
-    c.loop-part.yielded _ c.loop-part.yielded_by _ c.next.new.self
-    c.in-Some.part c.in-Some.is c.next.ensures.steps in
+    let here = turn (goal.at.returns-then-not-meets c).In-Some in
     let so_far = c.loop-part.invariant in
     let tells = met_tells last n c.loop-part.met.met (values ts) c.requires so_far.met in
     let may : may_follow last (values ts) n ≡ false =
