@@ -2,6 +2,9 @@
 use Rattle.std.proofs.Common.{◌≡◌, ◌≢◌, inl, inr, List, [], subst}
 use Rattle.office_tables_shelf.specs.Content.{Content}
 use Rattle.office_tables_shelf.specs.Change.{changed_by}
+use Rattle.office_tables_shelf.specs.Shelf.{IsKept}
+use Rattle.office_tables_shelf.specs.declared.counts.WriteCounts.{WriteCounts}
+use Rattle.office_tables_shelf.proofs.KeptLemmas.{kept_on}
 use Rattle.office_tables_shelf.specs.declared.rows.RowChange.{RowChange}
 use Rattle.office_desk.specs.Answers.{AnswersAny}
 use Rattle.office_machine.specs.Office.{Office}
@@ -20,3 +23,9 @@ pub step_taken : (office next : Office) (asked : Command) (reply : Reply) → St
     → answered office asked ≡ (reply, next)
 step_taken office next asked reply (inl h) available = absurd (available h.0)
 step_taken office next asked reply (inr h) available = h
+
+-- one query after another
+infixl 5 ◌then◌
+pub ◌then◌ : {S : Type 0} {is_honest : S → Type 0} {content : S → Content} {written : S → WriteCounts} {may_leave : S → Content → Type 0} {old mid new : S}
+    → IsKept is_honest content written may_leave old mid → IsKept is_honest content written may_leave mid new → IsKept is_honest content written may_leave old new
+◌then◌ first rest = kept_on _ _ _ _ _ _ _ first rest

@@ -1,10 +1,15 @@
 -- An edit that was made, and one that was not.
 use Rattle.std.proofs.Common.{◌≡◌, ◌⊎◌, ℕ, Bool, List, Result, Ok, Err, inl, inr, subst, sym}
 use Rattle.std.specs.Result.{IsErrAnd}
+use Rattle.signal_records.specs.declared.record.Change.{Change}
+use Rattle.signal_rules.specs.declared.violation.Violation.{Violation}
+use Rattle.office_files.specs.Changes.{changes_of}
 use Rattle.office_tables_shelf.specs.Content.{Content}
 use Rattle.signal_office_faults.specs.declared.fault.Fault.{Fault}
 use Rattle.signal_office_commands.specs.declared.editing.Edited.{Edited}
-use Rattle.signal_office_commands.specs.Editing.{EditsAs, Fails}
+use Rattle.signal_office_commands.specs.declared.fault.Fault.TheVariants as told
+use Rattle.signal_office_commands.specs.Asking.{Ran}
+use Rattle.signal_office_commands.specs.Editing.{edit_commands, edit_told, is_due, Does, Edits, EditsAs, Fails, Goes}
 
 apart : {A E : Type 0} (x : A) (e : E) → Ok x ≡ Err e → ⊥
 apart x e same = cc
@@ -21,3 +26,15 @@ pub fails_so : (bytes : List ℕ) (id : ℕ) (clerk : List ℕ) (commit : Bool) 
 fails_so bytes id clerk commit old new (Ok done) fault is fails = absurd is
 fails_so bytes id clerk commit old new (Err told) fault is fails =
     subst (Fails bytes id clerk commit old new) (sym is) fails
+
+-- an edit that was made, and the commit of it where it is due
+pub edited : (bytes : List ℕ) (id : ℕ) (clerk : List ℕ) (commit : Bool) (old middle new : Content) (given changes : List Change) (violations : List Violation) (due : Bool) (outcome : Result Unit Fault)
+    → changes_of bytes ≡ Ok changes → given ≡ changes → Does edit_told old (edit_commands id clerk given) middle (Ok violations)
+    → due ≡ is_due commit violations → Goes due id clerk middle new outcome → Edits bytes id clerk commit old new violations outcome
+edited bytes id clerk commit old middle new given changes violations due outcome spelled list does is goes = record {
+  changes = changes;
+  spelled = spelled;
+  middle = middle;
+  edit = subst (λ (cs : List Change). Ran edit_told old (edit_commands id clerk cs) middle (Ok violations)) list (was_run violations told.Memory does);
+  goes = subst (λ (d : Bool). Goes d id clerk middle new outcome) is goes;
+}

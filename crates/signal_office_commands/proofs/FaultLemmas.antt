@@ -79,7 +79,7 @@ no_record at cause None e = cc
 no_record at cause (Some why) e = cc
 
 -- a damaged row is told of that refusal alone
-pub damaged_told : (why : Refusal) → fault_of why ≡ told.Damaged → why ≡ refusal.Damaged
+damaged_told : (why : Refusal) → fault_of why ≡ told.Damaged → why ≡ refusal.Damaged
 damaged_told refusal.UnknownIntersection e = cc
 damaged_told refusal.IntersectionDiffers e = cc
 damaged_told (refusal.Draft why) e = cc
@@ -87,6 +87,9 @@ damaged_told (refusal.Cabinet why) e = cc
 damaged_told (refusal.ImportRow at cause) e = absurd (no_record at cause (record_refusal cause) e)
 damaged_told refusal.Unavailable e = cc
 damaged_told refusal.Damaged e = refl
+
+pub damage_refused : {A : Type 0} (why : Refusal) (fault : Fault) → fault ≡ fault_of why → ◌≡◌ {A = Result A Fault} (Err fault) (Err told.Damaged) → Refused why ≡ Refused refusal.Damaged
+damage_refused why fault is e = let same : fault ≡ told.Damaged = cc in ap (λ w. Refused w) (damaged_told why (sym is ∙ same))
 
 -- ---- of an intersection
 

@@ -6,7 +6,7 @@ use Rattle.signal_records.specs.TimingSet.{Rows}
 use Rattle.office_tables_shelf.specs.Content.{Content}
 use Rattle.signal_office_commands.specs.Showing.{ShowsDraft}
 use Rattle.signal_office_faults.specs.declared.fault.Fault.{Fault}
-use Rattle.signal_office_commands.specs.Intersection.{ShowsDraftIn, ShowsOpen}
+use Rattle.signal_office_commands.specs.Intersection.{ShowsDraftIn}
 
 abbrev IsNothing : Result (Option Rows) Fault → Type 0
 IsNothing draft = draft ≡ Ok None
@@ -15,14 +15,9 @@ no_draft : (why : Fault) → IsNothing (Err why) → ⊥
 no_draft why e = cc
 
 -- nothing is asked of it in state Normal
-open_of : (tables : Content) (id : ℕ) (state : DbState) (why : Fault) (P : Type 0)
-    → (ShowsOpen tables id (Err why) → P) → ShowsDraftIn tables id state (Err why) → P
-open_of tables id Normal why P f shows = absurd (no_draft why shows)
-open_of tables id Transaction why P f shows = f shows
-open_of tables id Verify why P f shows = f shows
-open_of tables id Done why P f shows = f shows
-
 pub draft_refused : (tables : Content) (id : ℕ) (state : DbState) (why : Fault)
     → ShowsDraftIn tables id state (Err why) → ShowsDraft tables id (Err why)
-draft_refused tables id state why shows =
-    open_of tables id state why (ShowsDraft tables id (Err why)) (λ asked. asked) shows
+draft_refused tables id Normal why shows = absurd (no_draft why shows)
+draft_refused tables id Transaction why shows = shows
+draft_refused tables id Verify why shows = shows
+draft_refused tables id Done why shows = shows

@@ -59,12 +59,6 @@ rows_drafted : (draft : Option Draft) (rows : Rows) → draft_shown (draft_of_in
 rows_drafted None rows e = cc
 rows_drafted (Some d) rows e = cc
 
-draft_found : (found : Option Intersection) (rows : Rows)
-    → draft_shown (shown found (λ i. draft_of_intersection i.timing.draft)) ≡ Ok rows
-    → (i : Intersection) × (found ≡ Some i) × (Some rows ≡ option_map (λ (d : Draft). d.set) i.timing.draft)
-draft_found None rows e = cc
-draft_found (Some i) rows e = (i, refl, rows_drafted i.timing.draft rows e)
-
 cabinet_found : (office : Office) (id : ℕ) (found : Option Intersection) (cabinet : CabinetShown)
     → cabinet_shown (shown found (λ i. reply.Cabinet (cabinet_of_intersection office.register id))) ≡ Ok cabinet
     → cabinet ≡ cabinet_of_intersection office.register id

@@ -2,7 +2,7 @@ use Rattle.std.proofs.Common.{◌∙◌, Err, ap, inl, inr, subst, sym}
 use Rattle.office_desk.specs.Damage.{MeetsDamage}
 use Rattle.office_desk.specs.StandFor.{StandForSound}
 use Rattle.office_machine.specs.declared.command.Command.TheVariants as command
-use Rattle.office_tables_shelf.proofs.KeptLemmas.{kept_on}
+use Rattle.signal_office_commands.proofs.AskingLemmas.{◌then◌}
 use Rattle.signal_office_commands.proofs.FaultLemmas.{on_fault}
 use Rattle.signal_office_faults.specs.declared.fault.Fault.{Fault}
 use Rattle.signal_office_faults.specs.declared.fault.Fault.TheVariants as told
@@ -39,11 +39,7 @@ returns-in_err-cabinet-clause-fault g c =
     c.in_err-cabinet.ensures.fault honest before (subst (λ t. StandForSound t before) (sym same) stands))
 
 pub returns-in_err-cabinet-clause-kept : goal.returns-in_err-cabinet-clause-kept
-returns-in_err-cabinet-clause-kept g c =
-    let shelf = g.S.Shelf in
-    kept_on shelf.is_honest shelf.content shelf.written shelf.may_leave c.args.office.now c.state_asked.new.office c.cabinet_asked.new.office c.state_asked.ensures.kept c.cabinet_asked.ensures.kept
+returns-in_err-cabinet-clause-kept g c = c.state_asked.ensures.kept then c.cabinet_asked.ensures.kept
 
 pub returns-clause-kept : goal.returns-clause-kept
-returns-clause-kept g c =
-    let shelf = g.S.Shelf in
-    kept_on shelf.is_honest shelf.content shelf.written shelf.may_leave c.args.office.now c.state_asked.new.office c.cabinet_asked.new.office c.state_asked.ensures.kept c.cabinet_asked.ensures.kept
+returns-clause-kept g c = c.state_asked.ensures.kept then c.cabinet_asked.ensures.kept

@@ -1,5 +1,5 @@
 use Rattle.std.proofs.Common.{Ok, Err, inl, inr, subst, ◌∙◌}
-use Rattle.office_tables_shelf.proofs.KeptLemmas.{kept_on}
+use Rattle.signal_office_commands.proofs.AskingLemmas.{◌then◌}
 use Rattle.signal_office_commands.specs.Showing.{ShowsTiming, ShowsDraft, ShowsCabinet}
 use Rattle.signal_office_commands.proofs.FaultLemmas.{on_fault}
 use Rattle.signal_office_commands.proofs.RefusedLemmas.{draft_refused}
@@ -43,50 +43,27 @@ returns-in_err-committed-clause-fault g c =
 pub returns-in_err-draft-clause-fault : goal.returns-in_err-draft-clause-fault
 returns-in_err-draft-clause-fault g c =
     on_fault _ c.in_err-draft.field-0.0 _ c.from_residual-in_err-draft.ensures.1 (λ honest.
-    let after_timing = c.draft_where_open.ensures.kept.honest_before honest in
-    let after_state = c.timing_in.ensures.kept.honest_before after_timing in
-    let one = c.state_in.ensures.kept.same_content after_state in
-    let two = c.timing_in.ensures.kept.same_content after_timing ∙ one in
+    let kept = c.state_in.ensures.kept then c.timing_in.ensures.kept in
+    let two = kept.same_content (c.draft_where_open.ensures.kept.honest_before honest) in
     inr (inr (inl (subst (λ tables. ShowsDraft tables c.args.id (Err c.in_err-draft.field-0.0)) two
     (draft_refused _ c.args.id c.in_ok-state.state.state c.in_err-draft.field-0.0 (c.in_err-draft.ensures.shown honest))))))
 
 pub returns-in_err-cabinet-clause-fault : goal.returns-in_err-cabinet-clause-fault
 returns-in_err-cabinet-clause-fault g c =
     on_fault _ c.in_err-cabinet.field-0.0 _ c.from_residual-in_err-cabinet.ensures.1 (λ honest.
-    let after_draft = c.cabinet_in.ensures.kept.honest_before honest in
-    let after_timing = c.draft_where_open.ensures.kept.honest_before after_draft in
-    let after_state = c.timing_in.ensures.kept.honest_before after_timing in
-    let one = c.state_in.ensures.kept.same_content after_state in
-    let two = c.timing_in.ensures.kept.same_content after_timing ∙ one in
-    let three = c.draft_where_open.ensures.kept.same_content after_draft ∙ two in
+    let kept = c.state_in.ensures.kept then c.timing_in.ensures.kept then c.draft_where_open.ensures.kept in
+    let three = kept.same_content (c.cabinet_in.ensures.kept.honest_before honest) in
     inr (inr (inr (subst (λ tables. ShowsCabinet tables c.args.id (Err c.in_err-cabinet.field-0.0)) three
     (c.in_err-cabinet.ensures.shown honest)))))
 
 pub returns-in_err-committed-clause-kept : goal.returns-in_err-committed-clause-kept
-returns-in_err-committed-clause-kept g c =
-    let shelf = g.S.Shelf in
-    let on = kept_on shelf.is_honest shelf.content shelf.written shelf.may_leave c.args.office.now in
-    on c.state_in.new.office c.timing_in.new.office c.state_in.ensures.kept c.timing_in.ensures.kept
+returns-in_err-committed-clause-kept g c = c.state_in.ensures.kept then c.timing_in.ensures.kept
 
 pub returns-in_err-draft-clause-kept : goal.returns-in_err-draft-clause-kept
-returns-in_err-draft-clause-kept g c =
-    let shelf = g.S.Shelf in
-    let on = kept_on shelf.is_honest shelf.content shelf.written shelf.may_leave c.args.office.now in
-    let two = on c.state_in.new.office c.timing_in.new.office c.state_in.ensures.kept c.timing_in.ensures.kept in
-    on c.timing_in.new.office c.draft_where_open.new.office two c.draft_where_open.ensures.kept
+returns-in_err-draft-clause-kept g c = c.state_in.ensures.kept then c.timing_in.ensures.kept then c.draft_where_open.ensures.kept
 
 pub returns-in_err-cabinet-clause-kept : goal.returns-in_err-cabinet-clause-kept
-returns-in_err-cabinet-clause-kept g c =
-    let shelf = g.S.Shelf in
-    let on = kept_on shelf.is_honest shelf.content shelf.written shelf.may_leave c.args.office.now in
-    let two = on c.state_in.new.office c.timing_in.new.office c.state_in.ensures.kept c.timing_in.ensures.kept in
-    let three = on c.timing_in.new.office c.draft_where_open.new.office two c.draft_where_open.ensures.kept in
-    on c.draft_where_open.new.office c.cabinet_in.new.office three c.cabinet_in.ensures.kept
+returns-in_err-cabinet-clause-kept g c = c.state_in.ensures.kept then c.timing_in.ensures.kept then c.draft_where_open.ensures.kept then c.cabinet_in.ensures.kept
 
 pub returns-clause-kept : goal.returns-clause-kept
-returns-clause-kept g c =
-    let shelf = g.S.Shelf in
-    let on = kept_on shelf.is_honest shelf.content shelf.written shelf.may_leave c.args.office.now in
-    let two = on c.state_in.new.office c.timing_in.new.office c.state_in.ensures.kept c.timing_in.ensures.kept in
-    let three = on c.timing_in.new.office c.draft_where_open.new.office two c.draft_where_open.ensures.kept in
-    on c.draft_where_open.new.office c.cabinet_in.new.office three c.cabinet_in.ensures.kept
+returns-clause-kept g c = c.state_in.ensures.kept then c.timing_in.ensures.kept then c.draft_where_open.ensures.kept then c.cabinet_in.ensures.kept

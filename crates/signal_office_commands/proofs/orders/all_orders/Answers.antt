@@ -1,6 +1,6 @@
 use Rattle.std.proofs.Common.{◌∙◌, Err, ap, arith, inl, inr, subst, sym}
 use Rattle.std.proofs.lemmas.List.{take_all}
-use Rattle.office_tables_shelf.proofs.KeptLemmas.{kept_on}
+use Rattle.signal_office_commands.proofs.AskingLemmas.{◌then◌}
 use Rattle.office_desk.specs.Damage.{MeetsDamage}
 use Rattle.office_desk.specs.StandFor.{StandForSound}
 use Rattle.office_machine.specs.declared.command.Command.TheVariants as command
@@ -20,7 +20,6 @@ loop-listed-init g c = record {
 
 pub loop-listed-preserved : goal.loop-listed-preserved
 loop-listed-preserved g c =
-    let shelf = g.S.Shelf in
     let back = c.add_orders_on.ensures.kept.honest_before in
     let so_far = c.loop-listed.invariant in
     record {
@@ -30,7 +29,7 @@ loop-listed-preserved g c =
           let added = c.in_ok-add_orders_on.ensures.added honest before still in
           orders_more before c.as_slice-listed-items.result.now c.loop-listed.listed-index c.listed-item.result _ _ c.loop-listed-test.true
           c.listed-item.is (so_far.orders (back honest) before stands) added.1;
-      kept = kept_on shelf.is_honest shelf.content shelf.written shelf.may_leave c.args.office.now c.loop-listed.office c.add_orders_on.new.office so_far.kept c.add_orders_on.ensures.kept;
+      kept = so_far.kept then c.add_orders_on.ensures.kept;
     }
 
 pub returns-clause-open : goal.returns-clause-open
@@ -44,9 +43,7 @@ pub returns-clause-kept : goal.returns-clause-kept
 returns-clause-kept g c = c.loop-listed.invariant.kept
 
 pub returns-in_err-add_orders_on-clause-kept : goal.returns-in_err-add_orders_on-clause-kept
-returns-in_err-add_orders_on-clause-kept g c =
-    let shelf = g.S.Shelf in
-    kept_on shelf.is_honest shelf.content shelf.written shelf.may_leave c.args.office.now c.loop-listed.office c.add_orders_on.new.office c.loop-listed.invariant.kept c.add_orders_on.ensures.kept
+returns-in_err-add_orders_on-clause-kept g c = c.loop-listed.invariant.kept then c.add_orders_on.ensures.kept
 
 pub returns-in_err-add_orders_on-clause-damaged : goal.returns-in_err-add_orders_on-clause-damaged
 returns-in_err-add_orders_on-clause-damaged g c = λ is honest.

@@ -1,10 +1,7 @@
-use Rattle.std.proofs.Common.{◌≡◌, refl, subst, sym, ap, ◌∙◌}
+use Rattle.std.proofs.Common.{refl}
 use Rattle.office_machine.specs.declared.command.Command.TheVariants as command
-use Rattle.office_machine.specs.declared.reply.Reply.TheVariants.{Refused}
-use Rattle.signal_office_commands.proofs.FaultLemmas.{damaged_told, query_told, refused_tells, store_tells}
+use Rattle.signal_office_commands.proofs.FaultLemmas.{damage_refused, query_told, refused_tells, store_tells}
 use Rattle.signal_office_commands.proofs.SheetLemmas.{timed}
-use Rattle.signal_office_commands.specs.Fault.{IsFaultOfQuery, TellsUnknown}
-use Rattle.signal_office_faults.specs.declared.fault.Fault.TheVariants as told
 use Rattle.signal_office_commands.proofs.sheet.timing_in.Goals as goal
 
 pub returns-in-Timing-clause-timing : goal.returns-in-Timing-clause-timing
@@ -13,19 +10,14 @@ returns-in-Timing-clause-timing g c = λ honest before stands.
 
 pub returns-in-Refused-clause-fault : goal.returns-in-Refused-clause-fault
 returns-in-Refused-clause-fault g c = λ honest before stands.
-    subst (TellsUnknown before c.args.id) (sym c.fault_of.ensures)
-    (refused_tells (g.S.Shelf.content c.args.office.now) before c.args.id (command.Timing c.args.id) c.in-Refused.refusal _ refl (λ i e. cc) (c.in-Refused.ensures.step honest before stands))
+    rw c.fault_of.ensures (refused_tells (g.S.Shelf.content c.args.office.now) before c.args.id (command.Timing c.args.id) c.in-Refused.refusal _ refl (λ i e. cc) (c.in-Refused.ensures.step honest before stands))
 
 pub returns-in-Refused-clause-refused : goal.returns-in-Refused-clause-refused
 returns-in-Refused-clause-refused g c =
-    subst IsFaultOfQuery (sym c.fault_of.ensures)
-    (query_told c.in-Refused.refusal (c.in-Refused.ensures.named c.in-Refused.refusal refl))
+    rw c.fault_of.ensures (query_told c.in-Refused.refusal (c.in-Refused.ensures.named c.in-Refused.refusal refl))
 
 pub returns-in-Refused-clause-damaged : goal.returns-in-Refused-clause-damaged
-returns-in-Refused-clause-damaged g c = λ is honest.
-    let told_is : c.fault_of.result ≡ told.Damaged = cc in
-    c.in-Refused.ensures.damaged
-    (ap (λ why. Refused why) (damaged_told c.in-Refused.refusal (sym c.fault_of.ensures ∙ told_is))) honest
+returns-in-Refused-clause-damaged g c is = c.in-Refused.ensures.damaged (damage_refused c.in-Refused.refusal c.fault_of.result c.fault_of.ensures is)
 
 pub returns-clause-fault : goal.returns-clause-fault
 returns-clause-fault g c = λ honest before stands. store_tells before c.args.id

@@ -1,9 +1,5 @@
-use Rattle.std.proofs.Common.{◌≡◌, inl, inr, refl, sym, ap, subst, ◌∙◌}
-use Rattle.std.specs.Prelude.{◌⊎◌}
-use Rattle.office_machine.specs.declared.reply.Reply.TheVariants.{Refused}
-use Rattle.signal_office_commands.proofs.FaultLemmas.{damaged_told, list_told}
-use Rattle.signal_office_faults.specs.declared.fault.Fault.{Fault}
-use Rattle.signal_office_faults.specs.declared.fault.Fault.TheVariants as told
+use Rattle.std.proofs.Common.{inl, inr, refl}
+use Rattle.signal_office_commands.proofs.FaultLemmas.{damage_refused, list_told}
 use Rattle.signal_office_commands.proofs.QueryLemmas.{stocked}
 use Rattle.signal_office_commands.proofs.stock.stock_asked.Goals as goal
 
@@ -14,8 +10,7 @@ returns-in-Stock-clause-stock g c = λ honest before stands.
 pub returns-in-Refused-clause-refused : goal.returns-in-Refused-clause-refused
 returns-in-Refused-clause-refused g c =
     let why = c.in-Refused.refusal in
-    subst (λ (f : Fault). (f ≡ told.Store) ⊎ (f ≡ told.Damaged)) (sym c.fault_of.ensures)
-    (elim (c.in-Refused.ensures.named why refl) [
+    rw c.fault_of.ensures (elim (c.in-Refused.ensures.named why refl) [
       | inl is ↦ list_told why (inl is)
       | inr rest ↦ elim rest [
         | inl is ↦ list_told why (inr is)
@@ -24,7 +19,4 @@ returns-in-Refused-clause-refused g c =
     ])
 
 pub returns-in-Refused-clause-damaged : goal.returns-in-Refused-clause-damaged
-returns-in-Refused-clause-damaged g c = λ is honest.
-    let told_is : c.fault_of.result ≡ told.Damaged = cc in
-    c.in-Refused.ensures.damaged
-    (ap (λ why. Refused why) (damaged_told c.in-Refused.refusal (sym c.fault_of.ensures ∙ told_is))) honest
+returns-in-Refused-clause-damaged g c is = c.in-Refused.ensures.damaged (damage_refused c.in-Refused.refusal c.fault_of.result c.fault_of.ensures is)
