@@ -5,8 +5,7 @@ use Rattle.std.specs.FinMap.{empty, entries, from_entries, get-empty, len-empty,
 use Rattle.cabinet_core.specs.Register.{DeliveryKey, no_register, record_cmp, line_cmp, delivery_cmp}
 use Rattle.cabinet_core.specs.Sound.{IsInspectionAt, IsOrderAt, IsLineAt, IsDeliveryAt, IsSoundRegister}
 use Rattle.cabinet_core.specs.Stock.{brought, taken, delivered, used, pieces, stock_of}
-use Rattle.cabinet_core.specs.declared.record.{Inspection.Inspection, Order.Order}
-use Rattle.cabinet_core.specs.declared.record.{UsedLine.UsedLine, Delivery.Delivery}
+use Rattle.cabinet_core.specs.declared.record.{Inspection.Inspection, Order.Order, UsedLine.UsedLine, Delivery.Delivery}
 
 no_items : {X : Type 0} (xs : List X) → length xs ≡ 0 → xs ≡ []
 no_items [] e = refl

@@ -3,27 +3,20 @@ use Rattle.std.proofs.Common.{◌≡◌, ◌⊎◌, inl, inr, ◌≤◌, ℕ, tr
 use Rattle.std.proofs.Common.{Option, None, Some, Result, Ok, Err, refl, sym, ap, subst, ◌∙◌, arith}
 use Rattle.std.proofs.lemmas.Bool.{cases_Bool}
 use Rattle.std.specs.{Prelude.IfSome, FinMap.get, FinMap.insert, Str.bytes_eq}
-use Rattle.cabinet_core.specs.Cabinet.{Records, added, close_line, record_of, with_closing}
-use Rattle.cabinet_core.specs.Cabinet.{use_changes, close_changes, receive_changes}
-use Rattle.cabinet_core.specs.{Changes.ChangesMake, Changes.MakesIn, Changes.Makes, Stock.hand_of}
-use Rattle.cabinet_core.specs.Register.{Register, LineKey, DeliveryKey}
-use Rattle.cabinet_core.specs.{Sound.IsOrderAt, Sound.IsSoundRegister, declared.record.Order.Order}
-use Rattle.cabinet_core.specs.Step.{Standing, standing_in, line_on, line_at}
-use Rattle.cabinet_core.specs.{Step.with_closed, Step.with_record, declared.record.Closing.Closing}
-use Rattle.cabinet_core.specs.Within.{IsInspectionWithin, IsClosingWithin, IsOpeningWithin}
-use Rattle.cabinet_core.specs.Within.{IsUsedLineWithin, IsDeliveryWithin}
-use Rattle.cabinet_core.specs.declared.{command.RecordCommand.RecordCommand, record.Opening.Opening}
-use Rattle.cabinet_core.specs.declared.command.RecordCommand.TheVariants.{Inspect, OpenOrder, UsePart}
-use Rattle.cabinet_core.specs.declared.command.RecordCommand.TheVariants.{CloseOrder, Receive}
+use Rattle.cabinet_core.specs.Cabinet.{Records, added, close_line, record_of, with_closing, use_changes, close_changes, receive_changes}
+use Rattle.cabinet_core.specs.{Changes.ChangesMake, Changes.MakesIn, Changes.Makes, Stock.hand_of, Register.Register, Register.LineKey}
+use Rattle.cabinet_core.specs.{Register.DeliveryKey, Sound.IsOrderAt, Sound.IsSoundRegister, declared.record.Order.Order, Step.Standing}
+use Rattle.cabinet_core.specs.Step.{standing_in, line_on, line_at, with_closed, with_record}
+use Rattle.cabinet_core.specs.{declared.record.Closing.Closing, Within.IsInspectionWithin, Within.IsClosingWithin, Within.IsOpeningWithin}
+use Rattle.cabinet_core.specs.{Within.IsUsedLineWithin, Within.IsDeliveryWithin, declared.command.RecordCommand.RecordCommand}
+use Rattle.cabinet_core.specs.declared.{record.Opening.Opening, decide.Recorded.TheVariants.Added, record.Delivery.Delivery}
+use Rattle.cabinet_core.specs.declared.command.RecordCommand.TheVariants.{Inspect, OpenOrder, UsePart, CloseOrder, Receive}
 use Rattle.cabinet_core.specs.declared.decide.{CabinetChange.CabinetChange, Recorded.Recorded}
 use Rattle.cabinet_core.specs.declared.decide.CabinetChange.TheVariants.{PutInspection, PutOrder}
-use Rattle.cabinet_core.specs.declared.{decide.Recorded.TheVariants.Added, record.Delivery.Delivery}
-use Rattle.cabinet_core.specs.declared.record.UsedLine.{UsedLine}
-use Rattle.cabinet_core.specs.declared.refusal.CabinetRefusal.{CabinetRefusal, TheVariants.NoMemory}
-use Rattle.cabinet_core.proofs.Sound.{inspection_sound, order_sound, closed_order, line_sound}
-use Rattle.cabinet_core.proofs.Sound.{usable, delivery_sound, receivable}
-use Rattle.cabinet_core.proofs.StockLemmas.{same_bytes, line_here, line_elsewhere}
-use Rattle.cabinet_core.proofs.StockLemmas.{delivery_here, delivery_elsewhere}
+use Rattle.cabinet_core.specs.{declared.record.UsedLine.UsedLine, declared.refusal.CabinetRefusal.CabinetRefusal}
+use Rattle.cabinet_core.specs.declared.refusal.CabinetRefusal.{TheVariants.NoMemory}
+use Rattle.cabinet_core.proofs.Sound.{inspection_sound, order_sound, closed_order, line_sound, usable, delivery_sound, receivable}
+use Rattle.cabinet_core.proofs.StockLemmas.{same_bytes, line_here, line_elsewhere, delivery_here, delivery_elsewhere}
 
 -- ---- what a command brings
 

@@ -1,7 +1,6 @@
 -- The bytes of a part's code are ASCII.
 use Rattle.std.proofs.Common.{ℕ, ◌<◌, List, All, IsTrue, IsUtf8, arith}
-use Rattle.std.proofs.lemmas.Str.{IsUtf8-from_ascii, Ascii.IsAscii-from_all}
-use Rattle.std.proofs.lemmas.List.Elements.{All-weaker}
+use Rattle.std.proofs.{lemmas.Str.IsUtf8-from_ascii, lemmas.Str.Ascii.IsAscii-from_all, lemmas.List.Elements.All-weaker}
 use Rattle.cabinet_core.specs.Part.{is_code_byte}
 
 code_byte_is_ascii : (b : ℕ) → IsTrue (is_code_byte b) → b < 128

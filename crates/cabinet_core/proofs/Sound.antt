@@ -1,8 +1,7 @@
 -- A register stays sound with what a command adds.
 use Rattle.std.proofs.Common.{◌≡◌, ◌≤◌, ◌+◌, ℕ, Bool, true, false, cond, Option, None, Some, refl, arith}
 use Rattle.std.proofs.lemmas.Bool.Decides.{nat_tests}
-use Rattle.std.specs.Prelude.{IfSome, IsSome, nat_lt, is_some}
-use Rattle.std.specs.FinMap.{get, insert}
+use Rattle.std.specs.{Prelude.IfSome, Prelude.IsSome, Prelude.nat_lt, Prelude.is_some, FinMap.get, FinMap.insert}
 use Rattle.cabinet_core.specs.Cabinet.{added, same, refused, on_hand, is_same_closing, is_same_line, is_same_delivery, use_line, close_order_line, close_line, receive_line, with_closing}
 use Rattle.cabinet_core.specs.Register.{Register, RecordKey, LineKey}
 use Rattle.cabinet_core.specs.Sound.{IsInspectionAt, IsOrderAt, IsLineAt, IsDeliveryAt, IsSoundRegister}
@@ -15,8 +14,7 @@ use Rattle.cabinet_core.specs.declared.record.UsedLine.{UsedLine}
 use Rattle.cabinet_core.specs.declared.refusal.CabinetRefusal.{CabinetRefusal}
 use Rattle.cabinet_core.specs.declared.refusal.CabinetRefusal.TheVariants.{OrderClosed, DayBeforeOpening, NoStock, StockFull, DeliveryDiffers, LineDiffers, CloseDiffers}
 use Rattle.cabinet_core.proofs.KeyOrders.{record_total, record_exact, line_total, line_exact, delivery_total, delivery_exact}
-use Rattle.cabinet_core.proofs.Puts.{all_put, there_put, if_more}
-use Rattle.cabinet_core.proofs.StockLemmas.{line_stocked, delivery_stocked}
+use Rattle.cabinet_core.proofs.{Puts.all_put, Puts.there_put, Puts.if_more, StockLemmas.line_stocked, StockLemmas.delivery_stocked}
 
 -- ---- lines that add
 

@@ -1,15 +1,11 @@
 -- The stock of a register by the codes of the parts.
 use Rattle.std.proofs.Common.{◌≡◌, ◌⊎◌, inl, inr, ℕ, Bool, true, false, ◌||◌, List, [], ◌∷◌, map, cond, Some, None, nat_cmp, refl, sym, ap, subst, ◌∙◌}
 use Rattle.std.proofs.lemmas.{Bool.cases_Bool, Cmp.nat_list_cmp_total, Slice.Eq.bytes_eq-Decides}
-use Rattle.std.specs.{Cmp.Lexicographic.slice_cmp, List.list_any, Str.bytes_eq}
+use Rattle.std.specs.{Cmp.Lexicographic.slice_cmp, List.list_any, Str.bytes_eq, FinMap.get, FinMap.entries, FinMap.get-from_entries}
 use Rattle.std.specs.FinMap as finite
-use Rattle.std.specs.FinMap.{get, entries, get-from_entries}
-use Rattle.cabinet_core.specs.{Part.IsPartCode, Register.Register, Register.DeliveryKey}
-use Rattle.cabinet_core.specs.Sound.{IsDeliveryAt, IsSoundRegister}
-use Rattle.cabinet_core.specs.Stock.{was_delivered, pieces, hand_of, stock_by_code}
-use Rattle.cabinet_core.specs.declared.record.Delivery.{Delivery}
-use Rattle.cabinet_core.proofs.EntryLemmas.{entries_stand, one_passes}
-use Rattle.cabinet_core.proofs.KeyOrders.{delivery_total, codes_tie}
+use Rattle.cabinet_core.specs.{Part.IsPartCode, Register.Register, Register.DeliveryKey, Sound.IsDeliveryAt, Sound.IsSoundRegister}
+use Rattle.cabinet_core.specs.{Stock.was_delivered, Stock.pieces, Stock.hand_of, Stock.stock_by_code, declared.record.Delivery.Delivery}
+use Rattle.cabinet_core.proofs.{EntryLemmas.entries_stand, EntryLemmas.one_passes, KeyOrders.delivery_total, KeyOrders.codes_tie}
 use Rattle.cabinet_core.proofs.StockLemmas.{same_bytes}
 
 -- ---- what the stock has under a code

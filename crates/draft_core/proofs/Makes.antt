@@ -1,20 +1,15 @@
 -- That a move makes the next timing side, for each kind of move.
 use Rattle.std.proofs.Common.{◌≡◌, ℕ, List, [], Some, None, refl, ap, sym, subst, ◌∙◌}
 use Rattle.std.specs.{Option.option_map, FinMap.get}
-use Rattle.signal_records.specs.declared.{key.Key.Key, record.Change.Change}
-use Rattle.signal_records.specs.TimingSet.{after_changes}
-use Rattle.draft_state.specs.declared.state.Stage.{Stage}
-use Rattle.draft_state.specs.declared.state.Stage.TheVariants.{Transaction}
-use Rattle.draft_state.specs.declared.state.Verdict.{Verdict}
-use Rattle.draft_state.specs.declared.state.Verdict.TheVariants.{NotDone as NotJudged}
+use Rattle.signal_records.specs.{declared.key.Key.Key, declared.record.Change.Change, TimingSet.after_changes}
+use Rattle.draft_state.specs.{declared.state.Stage.Stage, declared.state.Stage.TheVariants.Transaction, declared.state.Verdict.Verdict}
 use Rattle.draft_state.specs.declared.state.Holding.TheVariants.{Begun, Kept, Dropped}
-use Rattle.draft_core.specs.declared.timing.Timing.{Timing}
-use Rattle.draft_core.specs.declared.timing.{Reach.Reach, Move.Move, TimingChange.TimingChange}
-use Rattle.draft_core.specs.Transaction.{TimingSide, Draft, holder_of, verdict_of, with_draft}
-use Rattle.draft_core.specs.DraftRows.{RowsByKey, RowStands, Stands, row_at, overlaid}
-use Rattle.draft_core.specs.Moves.{Makes, move_to, next_holder, row_after}
-use Rattle.draft_core.specs.Writes.{settling, dropping}
-use Rattle.draft_core.specs.Drafting.{DraftsChanges, KeepsOnlyChange}
+use Rattle.draft_state.specs.declared.state.Verdict.TheVariants.{NotDone as NotJudged}
+use Rattle.draft_core.specs.{declared.timing.Timing.Timing, declared.timing.Reach.Reach, declared.timing.Move.Move}
+use Rattle.draft_core.specs.{declared.timing.TimingChange.TimingChange, Transaction.TimingSide, Transaction.Draft, Transaction.holder_of}
+use Rattle.draft_core.specs.{Transaction.verdict_of, Transaction.with_draft, DraftRows.RowsByKey, DraftRows.RowStands, DraftRows.Stands}
+use Rattle.draft_core.specs.{DraftRows.row_at, DraftRows.overlaid, Moves.Makes, Moves.move_to, Moves.next_holder, Moves.row_after}
+use Rattle.draft_core.specs.{Writes.settling, Writes.dropping, Drafting.DraftsChanges, Drafting.KeepsOnlyChange}
 use Rattle.draft_core.specs.declared.timing.Reach.TheVariants as reach
 use Rattle.draft_core.proofs.OnlyChanges.{kept_differs, kept_makes, no_committed}
 use Rattle.draft_core.proofs.Overlaid.{get-after_changes, draft_row}

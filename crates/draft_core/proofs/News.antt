@@ -2,22 +2,16 @@
 use Rattle.std.proofs.Common.{◌≡◌, ◌⊎◌, true, false, cond, List, [], ◌∷◌, map, Option, Result}
 use Rattle.std.proofs.Common.{Ok, Err, refl, ap, sym, subst, ◌∙◌, inl, inr}
 use Rattle.std.proofs.lemmas.Bool.{cases_Bool}
-use Rattle.std.specs.{Prelude.IfOk, Cmp.tied_itself, FinMap.get, List.AllByRecursion}
-use Rattle.std.specs.{List.Sorted.IsStrictlySortedBy, Ordering.eq_by_cmp, Ordering.is_eq}
-use Rattle.std.specs.declared.cmp.Ordering.TheVariants.{Less}
-use Rattle.signal_records.specs.{Key.key_cmp, KeyOrder.key_total, TimingSet.Rows}
-use Rattle.signal_records.specs.declared.{key.Key.Key, record.Row.Row, record.Change.Change}
-use Rattle.signal_records.specs.declared.record.Change.TheVariants.{Put}
-use Rattle.draft_core.specs.declared.{refusal.DraftRefusal.DraftRefusal, timing.Move.Move}
-use Rattle.draft_core.specs.declared.timing.{Reach.Reach, Timing.Timing}
+use Rattle.std.specs.{Prelude.IfOk, Cmp.tied_itself, FinMap.get, List.AllByRecursion, List.Sorted.IsStrictlySortedBy, Ordering.eq_by_cmp}
+use Rattle.std.specs.{Ordering.is_eq, declared.cmp.Ordering.TheVariants.Less}
+use Rattle.signal_records.specs.{Key.key_cmp, KeyOrder.key_total, TimingSet.Rows, declared.key.Key.Key, declared.record.Row.Row}
+use Rattle.signal_records.specs.{declared.record.Change.Change, declared.record.Change.TheVariants.Put}
+use Rattle.draft_core.specs.{declared.refusal.DraftRefusal.DraftRefusal, declared.timing.Move.Move, declared.timing.Reach.Reach}
+use Rattle.draft_core.specs.{declared.timing.Timing.Timing, DraftRows.Said, DraftRows.silent, DraftRows.said_by, DraftRows.later_of}
+use Rattle.draft_core.specs.{DraftRows.overlaid, DraftRows.row_at, Drafting.is_said, Moves.committed_by, Moves.said_after, News.AddsOnlyNew}
+use Rattle.draft_core.specs.{News.AreInOrder, News.AreNewAt, News.IsNewAt, Writes.settled_by, Writes.settling}
 use Rattle.draft_core.specs.declared.timing.Reach.TheVariants as reach
-use Rattle.draft_core.specs.DraftRows.{Said, silent, said_by}
 use Rattle.draft_state.specs.ChangedRows.{changed_key}
-use Rattle.draft_core.specs.DraftRows.{later_of, overlaid, row_at}
-use Rattle.draft_core.specs.Drafting.{is_said}
-use Rattle.draft_core.specs.Moves.{committed_by, said_after}
-use Rattle.draft_core.specs.News.{AddsOnlyNew, AreInOrder, AreNewAt, IsNewAt}
-use Rattle.draft_core.specs.Writes.{settled_by, settling}
 use Rattle.draft_core.proofs.{OnlyChanges.same_key, Pushed.later_of-silent}
 use Rattle.draft_core.proofs.Written.{committing, settled_commits, settled_either}
 

@@ -4,27 +4,21 @@ use Rattle.std.proofs.Common.{Option, Result, Ok, Err, refl, ap, sym, subst, ◌
 use Rattle.std.specs.{Prelude.IfOk, BTreeSet.BTreeSet, BTreeSet.contains, Cmp.eq_by_cmp_equiv}
 use Rattle.std.specs.{FinMap.get, List.Contains, Ordering.eq_by_cmp, Ordering.is_eq}
 use Rattle.std.specs.declared.cmp.Ordering.TheVariants.{Less, Equal, Greater}
-use Rattle.std.proofs.lemmas.List.{append-nil, length-append}
-use Rattle.std.proofs.lemmas.List.Elements.{All-contains, All-contains_itself, All-from_recursion}
-use Rattle.std.proofs.lemmas.List.Elements.{All-weaker, Contains-append_left, Contains-push}
+use Rattle.std.proofs.{lemmas.List.append-nil, lemmas.List.length-append, lemmas.List.Elements.All-contains}
+use Rattle.std.proofs.lemmas.List.Elements.{All-contains_itself, All-from_recursion, All-weaker, Contains-append_left, Contains-push}
 use Rattle.std.proofs.lemmas.List.Elements.{Contains-push_cases, recursion_from_All}
-use Rattle.signal_records.specs.{Key.key_cmp, KeyOrder.key_exact, KeyOrder.key_total}
-use Rattle.signal_records.specs.{TimingSet.Rows, Within.IsChangeWithin, Within.current_limits}
-use Rattle.signal_records.specs.declared.{key.Key.Key, record.Row.Row, record.Change.Change}
+use Rattle.signal_records.specs.{Key.key_cmp, KeyOrder.key_exact, KeyOrder.key_total, TimingSet.Rows, Within.IsChangeWithin}
+use Rattle.signal_records.specs.{Within.current_limits, declared.key.Key.Key, declared.record.Row.Row, declared.record.Change.Change}
 use Rattle.signal_records.specs.declared.record.Change.TheVariants.{Put, Remove}
 use Rattle.draft_core.specs.declared.timing.{Move.Move, TimingChange.TimingChange}
-use Rattle.draft_core.specs.declared.timing.TimingChange.TheVariants.{CommittedNew, Committed}
-use Rattle.draft_core.specs.declared.timing.TimingChange.TheVariants.{DraftGone}
-use Rattle.draft_core.specs.declared.refusal.DraftRefusal.{DraftRefusal}
-use Rattle.draft_core.specs.DraftRows.{Said, silent, leaves, removes}
+use Rattle.draft_core.specs.declared.timing.TimingChange.TheVariants.{CommittedNew, Committed, DraftGone}
+use Rattle.draft_core.specs.{declared.refusal.DraftRefusal.DraftRefusal, DraftRows.Said, DraftRows.silent, DraftRows.leaves}
+use Rattle.draft_core.specs.DraftRows.{removes, said_by, said_at, later_of, overlaid, row_at, SaysOtherwise}
+use Rattle.draft_core.specs.Drafting.{AreAmong, DraftsChanges, KeepsIfDiffers, KeepsOnlyChange, SaysCommitted, drafted_as, is_said}
+use Rattle.draft_core.specs.{Within.AreChangesWithin, Moves.committed_after, Moves.drafted_in, Moves.row_after, Moves.timing_writes}
 use Rattle.draft_state.specs.ChangedRows.{changed_key, left_by}
-use Rattle.draft_core.specs.DraftRows.{said_by, said_at, later_of, overlaid, row_at, SaysOtherwise}
-use Rattle.draft_core.specs.Drafting.{AreAmong, DraftsChanges, KeepsIfDiffers, KeepsOnlyChange, SaysCommitted}
-use Rattle.draft_core.specs.{Drafting.drafted_as, Drafting.is_said, Within.AreChangesWithin}
-use Rattle.draft_core.specs.Moves.{committed_after, drafted_in, row_after, timing_writes}
-use Rattle.draft_core.proofs.Pushed.{AreNewAt-push, drafted_in-push, drafted_is, drafted_new}
-use Rattle.draft_core.proofs.Pushed.{drafted_says, drafted_writes, draft_writes-push}
-use Rattle.draft_core.proofs.Pushed.{row_after-push, row_at-push, timing_writes-push}
+use Rattle.draft_core.proofs.Pushed.{AreNewAt-push, drafted_in-push, drafted_is, drafted_new, drafted_says, drafted_writes}
+use Rattle.draft_core.proofs.Pushed.{draft_writes-push, row_after-push, row_at-push, timing_writes-push}
 
 -- ---- keys
 

@@ -1,19 +1,16 @@
 -- What changes leave of a set, key by key, and the draft as the committed set with its rows over it.
 use Rattle.std.proofs.Common.{◌≡◌, ◌+◌, Bool, true, false, cond, List, [], ◌∷◌, map, Option, Some, refl, ap, sym, subst, ◌∙◌, arith, add-one}
 use Rattle.std.specs.declared.cmp.Ordering.TheVariants.{Less, Equal, Greater}
-use Rattle.std.specs.{List.Contains, Ordering.is_eq}
-use Rattle.std.specs.FinMap.{get, get-insert, get-remove, same_map}
+use Rattle.std.specs.{List.Contains, Ordering.is_eq, FinMap.get, FinMap.get-insert, FinMap.get-remove, FinMap.same_map}
 use Rattle.signal_records.specs.declared.{key.Key.Key, record.Row.Row, record.Change.Change}
 use Rattle.signal_records.specs.declared.record.Change.TheVariants.{Put, Remove}
 use Rattle.signal_records.specs.{Key.key_cmp, KeyOrder.key_total, KeyOrder.key_exact, Row.key_of}
 use Rattle.signal_records.specs.TimingSet.{Rows, after_change, after_changes}
-use Rattle.signal_rules.specs.{declared.violation.Violation.Violation, Difference.DiffersAtMost}
-use Rattle.signal_rules.specs.Violations.{violations_of}
-use Rattle.draft_core.specs.declared.timing.{Timing.Timing, Reach.Reach}
+use Rattle.signal_rules.specs.{declared.violation.Violation.Violation, Difference.DiffersAtMost, Violations.violations_of}
+use Rattle.draft_core.specs.{declared.timing.Timing.Timing, declared.timing.Reach.Reach, Transaction.TimingSide, Transaction.Draft}
+use Rattle.draft_core.specs.DraftRows.{Said, silent, leaves, removes, RowsByKey, RowStands, Stands, said_by, said_at, later_of, row_at}
+use Rattle.draft_core.specs.DraftRows.{overlaid}
 use Rattle.draft_core.specs.declared.timing.Reach.TheVariants as reach
-use Rattle.draft_core.specs.Transaction.{TimingSide, Draft}
-use Rattle.draft_core.specs.DraftRows.{Said, silent, leaves, removes, RowsByKey, RowStands, Stands}
-use Rattle.draft_core.specs.DraftRows.{said_by, said_at, later_of, row_at, overlaid}
 use Rattle.draft_state.specs.ChangedRows.{changed_key}
 
 over : (b : Bool) (said : Said) (committed : Option Row) → cond b

@@ -2,15 +2,12 @@
 use Rattle.std.proofs.Common.{◌≡◌, ◌+◌, Bool, true, false, List, [], ◌∷◌, ◌++◌, Option}
 use Rattle.std.proofs.Common.{refl, ap, sym, ◌∙◌, arith}
 use Rattle.signal_records.specs.declared.{key.Key.Key, record.Row.Row, record.Change.Change}
-use Rattle.draft_core.specs.{declared.timing.TimingChange.TimingChange, Moves.timing_writes}
+use Rattle.draft_core.specs.{declared.timing.TimingChange.TimingChange, Moves.timing_writes, Moves.committed_after, Moves.committed_by}
+use Rattle.draft_core.specs.Moves.{drafted_in, draft_write, draft_writes, row_after, said_after, timing_write}
 use Rattle.draft_core.specs.declared.timing.TimingChange.TheVariants.{DraftedNew, Drafted}
-use Rattle.draft_core.specs.DraftRows.{Said, silent, later_of}
-use Rattle.draft_state.specs.ChangedRows.{changed_key}
-use Rattle.draft_core.specs.DraftRows.{row_at, said_at}
-use Rattle.draft_core.specs.Drafting.{drafted_as}
-use Rattle.draft_core.specs.Moves.{committed_after, committed_by, drafted_in, draft_write}
-use Rattle.draft_core.specs.Moves.{draft_writes, row_after, said_after, timing_write}
+use Rattle.draft_core.specs.{DraftRows.Said, DraftRows.silent, DraftRows.later_of, DraftRows.row_at, DraftRows.said_at, Drafting.drafted_as}
 use Rattle.draft_core.specs.News.{AreNewAt, IsNewAt}
+use Rattle.draft_state.specs.ChangedRows.{changed_key}
 
 -- ---- what is said of a key
 

@@ -6,9 +6,7 @@ use Rattle.cabinet_core.specs.Overdue.{Listed, lateness, latest_day, listed, ove
 use Rattle.cabinet_core.specs.Register.{Register}
 use Rattle.cabinet_core.specs.declared.{overdue_inspections.OverdueRow.OverdueRow, overdue_inspections.Seen.Seen}
 use Rattle.office_tables_shelf.specs.Overdue.{seen_row, IsSeen, AreSeenOf, AreSeen, ListsOverdue}
-use Rattle.office_tables_shelf.specs.Content.{Content}
-use Rattle.office_tables_shelf.specs.declared.rows.IntersectionRow.{IntersectionRow}
-use Rattle.office_tables_shelf.specs.RegisterStands.{RegisterStandsSound}
+use Rattle.office_tables_shelf.specs.{Content.Content, declared.rows.IntersectionRow.IntersectionRow, RegisterStands.RegisterStandsSound}
 use Rattle.office_desk_cabinet.proofs.ListedRecords.{inspections_listed}
 use Rattle.office_machine.specs.{Office.Office, Office.IsSound, Step.answered, Step.overdue_on, Step.seen_of}
 use Rattle.office_desk.specs.StandFor.{StandForSound, row_of}

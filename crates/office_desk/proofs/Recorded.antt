@@ -2,18 +2,16 @@
 use Rattle.std.proofs.Common.{◌≡◌, ◌≢◌, ◌≤◌, ℕ, Bool, true, false, List, [], ◌∷◌, map, Option, Some, None, is_some, Result, Ok, refl, ap, sym, subst, subst₂, ◌∙◌, inl, inr}
 use Rattle.std.specs.{Prelude.IsSome, Option.option_map, FinMap.get}
 use Rattle.cabinet_core.specs.declared.{command.RecordCommand.RecordCommand, record.CabinetView.CabinetView, refusal.CabinetRefusal.CabinetRefusal}
-use Rattle.cabinet_core.specs.declared.refusal.CabinetRefusal.TheVariants as cabinet
-use Rattle.office_tables_shelf.specs.{Cells.Cell, Cells.Rows, Change.AddNew, Change.changed_by, Content.Content, Counts.writes_in, Shelf.ReadsIntersection}
-use Rattle.office_tables_shelf.specs.Rows.{intersection_columns, intersection_key, timing_key}
-use Rattle.office_tables_shelf.specs.declared.{rows.IntersectionRow.IntersectionRow, rows.RowChange.RowChange, rows.Table.Table}
-use Rattle.office_tables_shelf.specs.declared.shelf.ShelfFault.{ShelfFault}
 use Rattle.cabinet_core.specs.{Orders.open_at, Register.Register, Step.after_record, Stock.stock_of}
+use Rattle.cabinet_core.specs.declared.refusal.CabinetRefusal.TheVariants as cabinet
+use Rattle.office_tables_shelf.specs.{Cells.Cell, Cells.Rows, Change.AddNew, Change.changed_by, Content.Content, Counts.writes_in}
+use Rattle.office_tables_shelf.specs.{Shelf.ReadsIntersection, Rows.intersection_columns, Rows.intersection_key, Rows.timing_key}
+use Rattle.office_tables_shelf.specs.declared.{rows.IntersectionRow.IntersectionRow, rows.RowChange.RowChange, rows.Table.Table}
+use Rattle.office_tables_shelf.specs.{declared.shelf.ShelfFault.ShelfFault, RegisterStands.RegisterStandsSound}
 use Rattle.office_desk_decisions.specs.RecordBounds.{IsNamed, IsOneOf, most_record_writes, refusals_of}
+use Rattle.office_desk_decisions.specs.{RegisterDamage.MeetsRecordDamage, declared.decided.Decided.Decided}
 use Rattle.office_desk_cabinet.specs.Registers.{LeavesTiming, RegistersFrom, ShowsCabinet, line_told, rows_told}
-use Rattle.office_desk_cabinet.specs.Decides.{DecidesRecord}
-use Rattle.office_desk_decisions.specs.RegisterDamage.{MeetsRecordDamage}
-use Rattle.office_tables_shelf.specs.RegisterStands.{RegisterStandsSound}
-use Rattle.office_desk_cabinet.specs.declared.registered.Registered.{Registered}
+use Rattle.office_desk_cabinet.specs.{Decides.DecidesRecord, declared.registered.Registered.Registered}
 use Rattle.office_desk_cabinet.specs.declared.registered.Registered.TheVariants.{Added, Same, Refused}
 use Rattle.office_desk.specs.Named.{RefusesBy, number_of, numbers_about, numbers_of}
 use Rattle.office_desk.specs.{Answers.Answers, Changes.IsRefused, Damage.MeetsAfter, Damage.MeetsCabinetDamage, Deciding.IsDecision}
@@ -22,7 +20,6 @@ use Rattle.office_machine.specs.Step.{answered, cabinet_of, cabinet_shown, is_kn
 use Rattle.office_machine.specs.Office.{Office, Intersection}
 use Rattle.office_machine.specs.declared.{reply.CabinetShown.CabinetShown, refusal.Refusal.Refusal, reply.Reply.Reply}
 use Rattle.office_machine.specs.declared.command.Command.TheVariants as command
-use Rattle.office_desk_decisions.specs.declared.decided.Decided.{Decided}
 use Rattle.office_machine.specs.declared.refusal.Refusal.TheVariants as refusal
 use Rattle.office_machine.specs.declared.reply.Reply.TheVariants as reply
 use Rattle.office_desk_decisions.proofs.Decisions.{refuses_so}

@@ -7,6 +7,7 @@ use Rattle.draft_core.specs.declared.timing.Reach.TheVariants as reach
 use Rattle.office_tables_shelf.specs.{Change.AddNew, Change.changed_by, Content.Content, Counts.counts_after, Counts.writes_in, Shelf.IsKept}
 use Rattle.office_tables_shelf.specs.declared.{counts.WriteCounts.WriteCounts, rows.RowChange.RowChange, shelf.ShelfFault.ShelfFault}
 use Rattle.office_tables_shelf.specs.declared.shelf.ShelfFault.TheVariants.{Damaged}
+use Rattle.office_tables_shelf.specs.RegisterStands.{RegisterStandsSound}
 use Rattle.office_desk.specs.Answers.{AnswersAny, Answers, EndsIn, IsAfterStep, RunsAny, RunsTo}
 use Rattle.office_desk.specs.Deciding.{AddsNothing, DecidesIdly, IsAnswered, IsDecision, IsIdle}
 use Rattle.office_desk.specs.Damage.{HasDamageIn, IsTurnedAway, MeetsAfter, MeetsCabinetDamage, MeetsImportDamage, MeetsDamage}
@@ -18,15 +19,13 @@ use Rattle.cabinet_core.specs.declared.command.RecordCommand.{RecordCommand}
 use Rattle.office_desk_cabinet.proofs.Undamaged.{no_damaged_inspection, no_damaged_order, no_damaged_used, no_damaged_part, undamaged_record}
 use Rattle.office_machine.specs.Step.{AreSound, Step, Run, answered, cabinet_of}
 use Rattle.office_machine.specs.Office.{Office, IsSound}
-use Rattle.office_tables_shelf.specs.RegisterStands.{RegisterStandsSound}
 use Rattle.office_machine.specs.declared.{command.Command.Command, command.Command.TheVariants.Import, refusal.Refusal.Refusal, reply.Reply.Reply}
 use Rattle.office_machine.specs.declared.{refusal.Refusal.TheVariants.Unavailable, reply.Reply.TheVariants.Imported, reply.Reply.TheVariants.Refused}
 use Rattle.office_machine.specs.declared.command.Command.TheVariants as command
 use Rattle.office_machine.specs.declared.refusal.Refusal.TheVariants as refusal
 use Rattle.office_desk_timing.proofs.{IntersectionTable.no_damaged_intersection, Stands.no_damage, Stands.no_damaged_timing}
-use Rattle.office_desk.proofs.Recorded.{register_of}
-use Rattle.office_desk.proofs.{Blames.blames_later, Blames.fault_blames, Blames.unavailable_blames, RegisterLaws.runs_register, Repeats.runs_repeat}
-use Rattle.office_desk.proofs.{TimingLaw.runs_timing, Writes.no_rise, Writes.rise_at_most}
+use Rattle.office_desk.proofs.{Recorded.register_of, Blames.blames_later, Blames.fault_blames, Blames.unavailable_blames}
+use Rattle.office_desk.proofs.{RegisterLaws.runs_register, Repeats.runs_repeat, TimingLaw.runs_timing, Writes.no_rise, Writes.rise_at_most}
 
 -- ---- a decision
 

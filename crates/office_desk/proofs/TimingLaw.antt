@@ -4,20 +4,18 @@ use Rattle.std.specs.{Prelude.◌&&◌, FinMap.get}
 use Rattle.signal_records.specs.TimingSet.{Rows}
 use Rattle.draft_core.specs.Transaction.{TimingSide, Draft, holder_of, owned, with_draft, begun_from, committed, abandoned_from}
 use Rattle.draft_core.specs.declared.refusal.DraftRefusal.{DraftRefusal}
-use Rattle.draft_state.specs.declared.state.Stage.{Stage}
 use Rattle.draft_core.specs.declared.refusal.DraftRefusal.TheVariants.{NotNormal, NotTransaction}
+use Rattle.draft_state.specs.declared.state.Stage.{Stage}
 use Rattle.draft_core.proofs.Sound.{owned_inverts, committed_inverts}
-use Rattle.office_machine.specs.Office.{Office, Intersection, side_of, side_at}
-use Rattle.office_machine.specs.Step.{Step, Run, moved_to, with_intersection, new_intersection}
-use Rattle.office_machine.specs.Timing.{is_commit_of, is_moved, set_of_draft, running}
-use Rattle.office_machine.specs.declared.{command.Command.Command, reply.Reply.Reply}
+use Rattle.office_machine.specs.{Office.Office, Office.Intersection, Office.side_of, Office.side_at, Step.Step, Step.Run, Step.moved_to}
+use Rattle.office_machine.specs.{Step.with_intersection, Step.new_intersection, Timing.is_commit_of, Timing.is_moved, Timing.set_of_draft}
+use Rattle.office_machine.specs.{Timing.running, declared.command.Command.Command, declared.reply.Reply.Reply}
 use Rattle.office_machine.specs.declared.command.Command.TheVariants as command
 use Rattle.office_desk_timing.proofs.Stands.{same_id, other_id, side_after}
 use Rattle.office_desk.proofs.Walks.{HoldsOfEach, records_so, step_so}
-use Rattle.office_desk_decisions.specs.Asking.{command_of}
+use Rattle.office_desk_decisions.specs.{Asking.command_of, declared.ask.Ask.Ask, declared.ask.Ask.TheVariants.Begin}
+use Rattle.office_desk_decisions.specs.declared.ask.Ask.TheVariants.{Commit, Abandon}
 use Rattle.office_desk_timing.specs.Transacting.{line_of}
-use Rattle.office_desk_decisions.specs.declared.ask.Ask.{Ask}
-use Rattle.office_desk_decisions.specs.declared.ask.Ask.TheVariants.{Begin, Commit, Abandon}
 
 -- ---- the lines of the table
 

@@ -5,8 +5,7 @@ use Rattle.std.specs.{FinMap.get, Str.bytes_eq}
 use Rattle.cabinet_core.specs.Cabinet.{Line, added as added_line, same as same_line, refused as refused_line}
 use Rattle.cabinet_core.specs.{Step.line_at, Step.with_record, Step.after_line, Orders.open_at}
 use Rattle.cabinet_core.specs.declared.command.RecordCommand.{RecordCommand}
-use Rattle.draft_core.specs.Transaction.{Draft, TimingSide}
-use Rattle.draft_core.specs.declared.refusal.DraftRefusal.{DraftRefusal}
+use Rattle.draft_core.specs.{Transaction.Draft, Transaction.TimingSide, declared.refusal.DraftRefusal.DraftRefusal}
 use Rattle.office_machine.specs.Step.{Step, answered, added, new_intersection, with_intersection, transacted, moved, moved_to, shown, state_shown, timing_shown, draft_shown, told, recorded, recorded_at, known, cabinet_of, is_known, with_recorded, import_by, import_from, imported, cabinet_shown}
 use Rattle.office_machine.specs.{Office.Office, Office.Intersection, RegisterRuns.accepted_of, RegisterRuns.is_accepted, RegisterRuns.records_asked}
 use Rattle.office_machine.specs.Timing.{is_moved}
@@ -15,9 +14,9 @@ use Rattle.office_machine.specs.declared.command.Command.TheVariants as command
 use Rattle.office_machine.specs.declared.refusal.Refusal.TheVariants as refusal
 use Rattle.office_machine.specs.declared.reply.Reply.TheVariants as reply
 use Rattle.office_desk_decisions.specs.Asking.{command_of, edit_of}
-use Rattle.office_desk_timing.specs.Transacting.{line_of}
 use Rattle.office_desk_decisions.specs.declared.ask.Ask.TheVariants.{Begin, Verify, Check, Commit, Reopen, Abandon}
 use Rattle.office_desk_decisions.specs.declared.ask.Ask.{Ask}
+use Rattle.office_desk_timing.specs.Transacting.{line_of}
 
 -- ---- one command
 

@@ -6,8 +6,7 @@ use Rattle.cabinet_core.specs.Step.{Standing, line_on}
 use Rattle.cabinet_core.specs.declared.{command.RecordCommand.RecordCommand, refusal.CabinetRefusal.CabinetRefusal}
 use Rattle.cabinet_core.specs.declared.command.RecordCommand.TheVariants as asks
 use Rattle.cabinet_core.specs.declared.refusal.CabinetRefusal.TheVariants as refusal
-use Rattle.office_tables_shelf.specs.{Change.AddNew, Change.changed, Change.changed_by, Content.Content}
-use Rattle.office_tables_shelf.specs.declared.rows.RowChange.{RowChange}
+use Rattle.office_tables_shelf.specs.{Change.AddNew, Change.changed, Change.changed_by, Content.Content, declared.rows.RowChange.RowChange}
 use Rattle.office_desk_cabinet.specs.Lines.{TellsLine, rows_for}
 use Rattle.office_desk_cabinet.proofs.{Found.ReadsKeys, KeptDamage.rows_on}
 

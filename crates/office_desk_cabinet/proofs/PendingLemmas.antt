@@ -1,7 +1,6 @@
 -- What stands under a key of the register after rows are written: what they put there over tables without a row, or what stood there before.
 use Rattle.std.proofs.Common.{◌≡◌, Bool, true, false, ◌&&◌, List, [], ◌∷◌, ◌++◌, ◌≢◌, cond, Option, Some, None, refl, sym, ap, subst, ◌∙◌, ◌==◌, bytes_eq}
-use Rattle.std.specs.FinMap.{get, insert, get-empty, get-insert}
-use Rattle.std.specs.{Option.option_or, Ordering.eq_by_cmp}
+use Rattle.std.specs.{FinMap.get, FinMap.insert, FinMap.get-empty, FinMap.get-insert, Option.option_or, Ordering.eq_by_cmp}
 use Rattle.office_tables_shelf.proofs.CellLemmas.{cells_total}
 use Rattle.office_tables_shelf.specs.CabinetRows.{inspection_key, inspection_columns, order_key, order_columns, used_key, used_columns, part_key, part_columns, delivery_key, delivery_columns}
 use Rattle.office_tables_shelf.specs.{Cells.Cell, Cells.Rows, Cells.cells_cmp, Change.changed, Change.changed_by, Content.Content, Content.no_content}

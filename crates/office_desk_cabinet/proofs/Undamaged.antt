@@ -8,8 +8,7 @@ use Rattle.cabinet_core.specs.Within.{IsInspectionWithin, IsOrderWithin, IsUsedL
 use Rattle.cabinet_core.specs.{Register.Register, declared.record.Order.Order as OrderRecord}
 use Rattle.cabinet_core.specs.declared.{command.RecordCommand.RecordCommand, record.Inspection.Inspection as InspectionRecord, record.UsedLine.UsedLine}
 use Rattle.cabinet_core.proofs.{KeyOrders.record_total, KeyOrders.line_total, StockList.code_on_hand, StockList.stock_has, Puts.if_more}
-use Rattle.office_tables_shelf.proofs.{CabinetLemmas.part_order, KeyCells.record_order, KeyCells.line_order}
-use Rattle.office_tables_shelf.proofs.StoredMaps.{stored_found}
+use Rattle.office_tables_shelf.proofs.{CabinetLemmas.part_order, KeyCells.record_order, KeyCells.line_order, StoredMaps.stored_found}
 use Rattle.office_tables_shelf.specs.CabinetReads.{HasDamagedInspection, HasDamagedOrder, HasDamagedUsed, HasDamagedPart, IsHand}
 use Rattle.office_tables_shelf.specs.CabinetRows.{inspection_key, inspection_columns, order_key, order_columns, used_key, used_columns, part_key, part_columns}
 use Rattle.office_tables_shelf.specs.{Cells.Rows, Cells.number, Content.Content, Shelf.is_of}

@@ -1,22 +1,19 @@
 -- The rows that a move adds are new in the tables.
 use Rattle.std.proofs.Common.{ℕ, List, [], ◌∷◌, Option, refl, ap, sym, ◌∙◌}
 use Rattle.std.specs.{List.AllByRecursion, Option.option_map, FinMap.get}
-use Rattle.signal_records.specs.Row.{key_of}
+use Rattle.signal_records.specs.{Row.key_of, declared.key.Key.Key, declared.record.Row.Row, declared.record.Change.TheVariants.Put}
 use Rattle.signal_records.specs.TimingSet as set
-use Rattle.signal_records.specs.declared.{key.Key.Key, record.Row.Row, record.Change.TheVariants.Put}
-use Rattle.draft_core.specs.News.{AddsNone, AddsOnlyNew, AreNew, AreNewAt}
-use Rattle.draft_core.specs.{DraftRows.Said, DraftRows.row_at, Moves.committed_by, Moves.said_after}
-use Rattle.draft_state.specs.ChangedRows.{changed_key}
-use Rattle.draft_core.specs.declared.{timing.Reach.Reach, timing.TimingChange.TimingChange}
+use Rattle.draft_core.specs.{News.AddsNone, News.AddsOnlyNew, News.AreNew, News.AreNewAt, DraftRows.Said, DraftRows.row_at}
+use Rattle.draft_core.specs.{Moves.committed_by, Moves.said_after, declared.timing.Reach.Reach, declared.timing.TimingChange.TimingChange}
 use Rattle.draft_core.specs.declared.timing.TimingChange.TheVariants.{CommittedNew, Committed, DraftedNew}
+use Rattle.draft_state.specs.ChangedRows.{changed_key}
 use Rattle.draft_core.specs.declared.timing.Reach.TheVariants as reach
 use Rattle.office_tables_shelf.specs.{Change.AddNew, Change.AddsNew, Change.changed, Content.Content, Rows.timing_columns}
-use Rattle.office_tables_standing.specs.StandFor.{said_columns}
 use Rattle.office_tables_shelf.specs.declared.{rows.IntersectionRow.IntersectionRow, rows.RowChange.TheVariants.PutIntersection}
+use Rattle.office_tables_standing.specs.StandFor.{said_columns}
 use Rattle.office_tables_shelf.proofs.KeyLemmas.{draft_keys_rise, get_timing}
 use Rattle.office_tables_standing.proofs.DraftLemmas.{get_listed_draft}
-use Rattle.office_desk_timing.specs.{Moving.row_change_of, Moving.row_changes_of, Reading.ListsFound}
-use Rattle.office_desk_timing.specs.declared.reading.Found.{Found}
+use Rattle.office_desk_timing.specs.{Moving.row_change_of, Moving.row_changes_of, Reading.ListsFound, declared.reading.Found.Found}
 use Rattle.office_desk_timing.proofs.Moved.{HoldsAt, holds_then}
 
 -- ---- a move that adds none

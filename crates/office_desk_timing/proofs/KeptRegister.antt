@@ -1,8 +1,7 @@
 -- Changes of the intersections and of their timing leave the register as it was.
 use Rattle.std.proofs.Common.{◌≡◌, ◌∙◌, ap}
 use Rattle.cabinet_core.specs.Register.{Register}
-use Rattle.office_tables_shelf.specs.{Cells.Rows, Content.Content}
-use Rattle.office_tables_shelf.specs.RegisterStands.{RegisterStands}
+use Rattle.office_tables_shelf.specs.{Cells.Rows, Content.Content, RegisterStands.RegisterStands}
 
 -- the tables of the register
 abbrev pub FiveTables : Type 0

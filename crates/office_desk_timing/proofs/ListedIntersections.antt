@@ -3,8 +3,7 @@ use Rattle.std.proofs.Common.{◌≡◌, ◌<◌, ◌+◌, ◌++◌, ℕ, List, 
 use Rattle.std.proofs.{lemmas.Cmp.nat_cmp_total, lemmas.List.map-append, lemmas.List.take_more}
 use Rattle.std.specs.{FinMap.entries, FinMap.get, FinMap.len, List.AllByRecursion, Prelude.IfSome}
 use Rattle.cabinet_core.proofs.EntryLemmas.{entries_stand}
-use Rattle.office_tables_shelf.specs.Content.{Content}
-use Rattle.office_tables_shelf.specs.declared.rows.IntersectionRow.{IntersectionRow}
+use Rattle.office_tables_shelf.specs.{Content.Content, declared.rows.IntersectionRow.IntersectionRow}
 use Rattle.office_machine.specs.{Listed.intersection_listed, Listed.intersections_of, Office.Office, Office.Intersection, Office.side_of}
 use Rattle.office_machine.specs.declared.intersections.ListedIntersection.{ListedIntersection}
 use Rattle.office_desk_timing.specs.Listing.{ListsRows, listed_in, row_listed}

@@ -2,24 +2,21 @@
 use Rattle.std.proofs.Common.{◌≡◌, ℕ, Bool, true, false, List, [], ◌∷◌, cond, Option, Some, None, refl, ap, sym, subst, ◌∙◌, IfSome, option_map}
 use Rattle.std.specs.{Ordering.eq_by_cmp, FinMap.get, FinMap.same_map}
 use Rattle.cabinet_core.proofs.Puts.{if_more}
-use Rattle.signal_records.specs.{Key.key_cmp, KeyOrder.key_total, KeyOrder.key_exact, Row.key_of}
-use Rattle.signal_records.specs.Within.{IsRowWithin, IsChangeWithin, current_limits}
-use Rattle.signal_records.specs.declared.{key.Key.Key, record.Row.Row, record.Change.Change}
+use Rattle.signal_records.specs.{Key.key_cmp, KeyOrder.key_total, KeyOrder.key_exact, Row.key_of, Within.IsRowWithin, Within.IsChangeWithin}
+use Rattle.signal_records.specs.{Within.current_limits, declared.key.Key.Key, declared.record.Row.Row, declared.record.Change.Change}
 use Rattle.signal_records.specs.declared.record.Change.TheVariants.{Put, Remove}
 use Rattle.draft_core.specs.DraftRows.{Said, silent, leaves, removes, IsRead, RowStands, later_of, row_at, said_at, said_by}
+use Rattle.draft_core.specs.{Transaction.TimingSide, Within.AreChangesWithin, declared.timing.Timing.Timing, declared.timing.Reach.Reach}
 use Rattle.draft_state.specs.ChangedRows.{changed_key}
-use Rattle.draft_core.specs.{Transaction.TimingSide, Within.AreChangesWithin}
-use Rattle.draft_core.specs.declared.{timing.Timing.Timing, timing.Reach.Reach}
 use Rattle.draft_core.specs.declared.timing.Reach.TheVariants as reach
-use Rattle.office_tables_shelf.specs.{Content.Content, Rows.timing_columns, Rows.left_columns}
-use Rattle.office_tables_shelf.specs.Shelf.{ReadsIntersection, ListsTiming, ListsDraft}
-use Rattle.office_tables_shelf.specs.declared.rows.IntersectionRow.{IntersectionRow}
+use Rattle.office_tables_shelf.specs.{Content.Content, Rows.timing_columns, Rows.left_columns, Shelf.ReadsIntersection, Shelf.ListsTiming}
+use Rattle.office_tables_shelf.specs.{Shelf.ListsDraft, declared.rows.IntersectionRow.IntersectionRow}
 use Rattle.office_tables_shelf.proofs.KeyLemmas.{row_in, timing_keys_rise, get_set_of_rows, get_listed_timing}
-use Rattle.office_tables_standing.proofs.DraftLemmas.{get_listed_draft}
 use Rattle.office_tables_shelf.proofs.{CellLemmas.tied, RowLemmas.timing_columns_tell, RowLemmas.left_columns_tell}
+use Rattle.office_tables_standing.proofs.DraftLemmas.{get_listed_draft}
 use Rattle.office_desk_timing.specs.declared.reading.Found.{Found}
-use Rattle.office_machine.specs.Office.{Office, Intersection, side_at, side_of}
 use Rattle.office_desk_timing.specs.Reading.{AreWithin, IsMadeOf, Finds, ListsPlan, drafts_at, set_of_rows}
+use Rattle.office_machine.specs.Office.{Office, Intersection, side_at, side_of}
 use Rattle.office_tables_standing.specs.StandFor.{StandForSound, IsSaid, row_of, said_columns}
 use Rattle.office_desk_timing.proofs.Stands.{row_read, records_at}
 

@@ -4,23 +4,20 @@ use Rattle.std.specs.FinMap.{get, len}
 use Rattle.signal_records.specs.{TimingSet.Rows, TimingSet.after_changes, declared.record.Row.Row}
 use Rattle.signal_rules.specs.{Violations.violations_of, declared.violation.Violation.Violation}
 use Rattle.draft_core.specs.Transaction.{Draft, state_of, state_of_holder, TimingSide, holder_of, verdict_of}
-use Rattle.draft_core.specs.DraftRows.{RowsByKey, Stands}
+use Rattle.draft_core.specs.{DraftRows.RowsByKey, DraftRows.Stands, declared.timing.Timing.Timing, declared.timing.Reach.Reach}
 use Rattle.draft_core.proofs.Overlaid.{draft_is}
-use Rattle.draft_core.specs.declared.{timing.Timing.Timing, timing.Reach.Reach}
 use Rattle.draft_state.specs.declared.{state.Holder.Holder, state.Verdict.Verdict}
 use Rattle.draft_core.specs.declared.timing.Reach.TheVariants as reach
 use Rattle.office_tables_shelf.specs.{Content.Content, Shelf.ReadsIntersection, Shelf.ListsTiming, Shelf.CountsTiming}
 use Rattle.office_tables_shelf.specs.declared.rows.IntersectionRow.{IntersectionRow}
 use Rattle.office_desk_timing.specs.Reading.{AreWithin, FoundStands, Finds, FindsAny, drafts_at, set_of_rows}
-use Rattle.office_desk_timing.specs.Decisions.{row_shown, IsVerdictOf, ShowsDraft}
+use Rattle.office_desk_timing.specs.{Decisions.row_shown, Decisions.IsVerdictOf, Decisions.ShowsDraft, declared.reading.Found.Found}
 use Rattle.office_tables_standing.specs.StandFor.{StandForSound, row_of}
-use Rattle.office_machine.specs.Office.{Office, Intersection, IsSoundIntersection, side_of}
-use Rattle.office_machine.specs.Step.{answered, shown, state_shown, draft_shown, timing_shown}
+use Rattle.office_machine.specs.{Office.Office, Office.Intersection, Office.IsSoundIntersection, Office.side_of, Step.answered, Step.shown}
+use Rattle.office_machine.specs.{Step.state_shown, Step.draft_shown, Step.timing_shown, declared.reply.Reply.Reply}
 use Rattle.office_machine.specs.declared.command.Command.TheVariants as command
-use Rattle.office_desk_timing.specs.declared.reading.Found.{Found}
 use Rattle.draft_core.specs.declared.refusal.DraftRefusal.TheVariants as draft
 use Rattle.office_machine.specs.declared.refusal.Refusal.TheVariants as refusal
-use Rattle.office_machine.specs.declared.reply.Reply.{Reply}
 use Rattle.office_machine.specs.declared.reply.Reply.TheVariants as reply
 use Rattle.office_desk_timing.proofs.{Stands.row_read, ReadBack.committed_read, TimingCount.committed_counted}
 

@@ -6,15 +6,14 @@ use Rattle.std.specs.{Cmp.nat_cmp_total, Int.IsInRange, Ordering.nat_cmp, Orderi
 use Rattle.cabinet_core.proofs.Puts.{all_put}
 use Rattle.signal_records.specs.{Row.key_of, Within.IsRowWithin, Within.current_limits, Words.AreWords}
 use Rattle.signal_records.specs.declared.{key.Key.Key, record.Row.Row, record.Change.TheVariants.Put, record.Change.TheVariants.Remove}
-use Rattle.draft_core.specs.DraftRows.{Said, silent, leaves, removes, RowStands}
-use Rattle.draft_core.specs.Transaction.{Draft, TimingSide, holder_of}
+use Rattle.draft_core.specs.{DraftRows.Said, DraftRows.silent, DraftRows.leaves, DraftRows.removes, DraftRows.RowStands, Transaction.Draft}
+use Rattle.draft_core.specs.{Transaction.TimingSide, Transaction.holder_of, declared.timing.Reach.Reach}
 use Rattle.office_tables_shelf.proofs.{CellLemmas.cell_exact, CellLemmas.tied, KeyCells.intersection_order}
 use Rattle.office_tables_shelf.proofs.StoredMaps.{get_stored, insert_stored}
 use Rattle.office_tables_shelf.specs.Rows.{intersection_key, intersection_columns, timing_key, timing_columns, left_columns, IsIntersectionRow}
 use Rattle.office_tables_shelf.specs.{Cells.Cell, Cells.Rows, Cells.number, Content.Content, Shelf.ReadsIntersection, Shelf.is_of}
 use Rattle.office_tables_shelf.specs.Damage.{HasDamagedIntersection, HasDamagedTiming, HasDamagedDraft}
 use Rattle.office_tables_shelf.specs.declared.rows.IntersectionRow.{IntersectionRow}
-use Rattle.draft_core.specs.declared.timing.Reach.{Reach}
 use Rattle.draft_core.specs.declared.timing.Reach.TheVariants as reach
 use Rattle.office_tables_standing.specs.StandFor.{StandFor, StandForSound, DraftRowStands, HasTimingKeys, IsSaid, row_of, columns_of, said_columns}
 use Rattle.office_desk_decisions.specs.Damage.{HasDamageIn, HasDamagedPlan}

@@ -3,34 +3,30 @@ use Rattle.std.proofs.Common.{◌≡◌, ◌≢◌, ◌+◌, ◌≤◌, ℕ, Boo
 use Rattle.std.proofs.lemmas.List.{length-map}
 use Rattle.std.specs.Prelude.{IfSome, IfOk, OnErr, if◌then◌else◌, not}
 use Rattle.std.specs.{FinMap.get, Int.IsInRange, Result.result_err, Str.bytes_eq}
-use Rattle.signal_records.specs.Words.{AreWords}
-use Rattle.signal_records.specs.declared.{record.Change.Change, record.Change.TheVariants.Put}
+use Rattle.signal_records.specs.{Words.AreWords, declared.record.Change.Change, declared.record.Change.TheVariants.Put}
 use Rattle.draft_core.specs.Moves.{Follows, FollowsSoundLine, IsUnsettled, Makes, RefusesFirst, drafted_in, timing_writes, draft_writes}
-use Rattle.draft_core.specs.{News.AddsOnlyNew, Transaction.TimingSide, Transaction.is_stage, Transaction.refused_by, Within.AreChangesWithin}
-use Rattle.draft_core.specs.declared.{refusal.DraftRefusal.DraftRefusal, timing.Move.Move}
+use Rattle.draft_core.specs.{News.AddsOnlyNew, Transaction.TimingSide, Transaction.is_stage, Transaction.refused_by}
+use Rattle.draft_core.specs.{Within.AreChangesWithin, declared.refusal.DraftRefusal.DraftRefusal, declared.timing.Move.Move}
+use Rattle.draft_core.specs.{declared.timing.TimingChange.TimingChange, declared.timing.TimingChange.TheVariants.Committed}
 use Rattle.draft_state.specs.declared.{state.Holder.Holder, state.Stage.Stage}
-use Rattle.draft_core.specs.declared.timing.TimingChange.{TimingChange}
-use Rattle.draft_core.specs.declared.timing.TimingChange.TheVariants.{Committed}
 use Rattle.draft_core.specs.declared.refusal.DraftRefusal.TheVariants as draft
 use Rattle.office_tables_shelf.specs.{Change.changed_by, Content.Content, Shelf.ListsDraft, Shelf.rows_of, Counts.is_same_table, Counts.writes_in}
 use Rattle.office_tables_shelf.specs.declared.{rows.RowChange.RowChange, rows.RowChange.TheVariants.PutIntersection, rows.Table.Table}
 use Rattle.office_tables_shelf.specs.declared.{shelf.ShelfFault.ShelfFault, shelf.ShelfFault.TheVariants.NoMemory}
 use Rattle.office_tables_shelf.specs.declared.rows.Table.TheVariants as table
-use Rattle.office_desk_decisions.specs.RecordBounds.{IsOneOf}
-use Rattle.office_desk_timing.specs.Reading.{FoundStands, FindsAny, ListsFound, drafts_at}
-use Rattle.office_desk_decisions.specs.Asking.{command_of, reach_of}
-use Rattle.office_desk_timing.specs.Transacting.{first_refusal, line_of, IsAskWithin, IsBounded, IsLater, most_committed, most_drafted}
-use Rattle.office_desk_decisions.specs.{Answers.Answers, Changes.IsQuery, Changes.most_intersection_writes, Changes.most_writes, Named.number_of, Named.numbers_of}
+use Rattle.office_desk_decisions.specs.{RecordBounds.IsOneOf, Asking.command_of, Asking.reach_of, Answers.Answers, Changes.IsQuery}
+use Rattle.office_desk_decisions.specs.{Changes.most_intersection_writes, Changes.most_writes, Named.number_of, Named.numbers_of}
 use Rattle.office_desk_decisions.specs.{Damage.HasDamageIn, Damage.MeetsDamage, Deciding.Decides, Deciding.IsDecision}
-use Rattle.office_tables_standing.specs.StandFor.{StandForSound}
-use Rattle.office_desk_timing.specs.Moving.{WritesDecision, moved_row, row_changes_of}
-use Rattle.office_machine.specs.Step.{answered, transacted, moved, moved_to, refusal_of_draft, with_intersection}
-use Rattle.office_machine.specs.Office.{Office, Intersection, IsSoundIntersection}
 use Rattle.office_desk_decisions.specs.declared.ask.Ask.TheVariants.{Begin, Edit, Check, Commit, Abandon}
 use Rattle.office_desk_decisions.specs.declared.{decided.Decided.Decided, ask.Ask.Ask}
-use Rattle.office_desk_timing.specs.declared.reading.Found.{Found}
-use Rattle.office_machine.specs.declared.refusal.Refusal.TheVariants as refusal
+use Rattle.office_desk_timing.specs.Reading.{FoundStands, FindsAny, ListsFound, drafts_at}
+use Rattle.office_desk_timing.specs.Transacting.{first_refusal, line_of, IsAskWithin, IsBounded, IsLater, most_committed, most_drafted}
+use Rattle.office_desk_timing.specs.{Moving.WritesDecision, Moving.moved_row, Moving.row_changes_of, declared.reading.Found.Found}
+use Rattle.office_tables_standing.specs.StandFor.{StandForSound}
+use Rattle.office_machine.specs.Step.{answered, transacted, moved, moved_to, refusal_of_draft, with_intersection}
+use Rattle.office_machine.specs.Office.{Office, Intersection, IsSoundIntersection}
 use Rattle.office_machine.specs.declared.reply.Reply.TheVariants.{Moved, Refused}
+use Rattle.office_machine.specs.declared.refusal.Refusal.TheVariants as refusal
 use Rattle.office_desk_decisions.proofs.Decisions.{accepted_decides, refuses_so, told_decides, unknown_decides}
 use Rattle.office_desk_timing.proofs.{AddedRows.move_news, Keeps.line_keeps, Keeps.side_sound, Keeps.sound_intersection, Stands.sound_with}
 use Rattle.office_desk_timing.proofs.{Moved.move_stands, Moved.with_timing_side, Shown.found_none, Shown.found_there, Shown.sound_there}

@@ -1,8 +1,7 @@
 -- The columns that `write!` makes are those that are defined.
 use Rattle.std.proofs.Common.{get_or, take, flat_map, append-nil, ◌≡◌, ℕ, ◌+◌, ◌-◌, ◌/◌, ◌%◌, ◌<◌, ◌^◌, List, [], ◌∷◌, ◌++◌, length, replicate, decimal, refl, sym, ap, ◌∙◌, arith, append_assoc, length-append}
 use Rattle.std.specs.Fmt.{styled_decimal, format_spec}
-use Rattle.std.proofs.lemmas.{List.take_more, Grind.flat_map-append, Fmt.decimal_digit}
-use Rattle.std.proofs.Padding.{padded_integral_right}
+use Rattle.std.proofs.{lemmas.List.take_more, lemmas.Grind.flat_map-append, lemmas.Fmt.decimal_digit, Padding.padded_integral_right}
 use Rattle.office_files.specs.Cells.{right_aligned, tenths}
 
 -- a number that is written with a width stands at the right

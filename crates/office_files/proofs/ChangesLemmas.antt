@@ -1,8 +1,6 @@
 -- The laws of the rows of a file of changes.
-use Rattle.signal_records.specs.{Reading.change_at, Spelling.change_spelling}
-use Rattle.signal_records.specs.Within.{current_limits, IsChangeWithin}
-use Rattle.signal_records.proofs.RowLaws.{are_current}
-use Rattle.signal_records.proofs.ChangeLaws.{change_found, change_only}
+use Rattle.signal_records.specs.{Reading.change_at, Spelling.change_spelling, Within.current_limits, Within.IsChangeWithin}
+use Rattle.signal_records.proofs.{RowLaws.are_current, ChangeLaws.change_found, ChangeLaws.change_only}
 use Rattle.office_files.proofs.FileLaws.{AreRowLaws}
 
 pub change_laws : AreRowLaws (change_at current_limits) (change_spelling current_limits) (IsChangeWithin current_limits)

@@ -3,10 +3,9 @@ use Rattle.std.proofs.Common.{◌≡◌, ◌≢◌, ℕ, ◌+◌, ◌<◌, List,
 use Rattle.std.proofs.lemmas.List.{take_more, map-append, take-append-drop, length-map, length-take-le}
 use Rattle.std.proofs.Common.{append_assoc}
 use Rattle.signal_records.specs.declared.fault.RowFault.{RowFault}
-use Rattle.office_files.specs.declared.fault.CsvFault.{CsvFault}
+use Rattle.office_files.specs.{declared.fault.CsvFault.CsvFault, CsvFault.bad_row, CsvFault.fault_at, CsvFault.NamesFault, CsvRow.rows_from}
+use Rattle.office_files.specs.CsvRow.{rows_of, add_row}
 use Rattle.office_files.specs.declared.fault.CsvFault.TheVariants as file
-use Rattle.office_files.specs.CsvFault.{bad_row, fault_at, NamesFault}
-use Rattle.office_files.specs.CsvRow.{rows_from, rows_of, add_row}
 use Rattle.signal_records.specs.declared.fault.RowFault.TheVariants as row
 
 -- a record and the rest of a file spell something where both do

@@ -4,12 +4,10 @@ use Rattle.std.specs.{Bool.Decides, List.All, List.list_all, Option.ok_or, Str.b
 use Rattle.std.specs.Prelude.{IsTrue, if◌then◌else◌}
 use Rattle.std.proofs.lemmas.Bool.{leb-true, le-leb, cases_Bool, cases_lt}
 use Rattle.std.proofs.lemmas.Bool.Decides.{Decides-and, Decides-not, Decides-eqb, Decides-like, Decides-by_and}
-use Rattle.std.proofs.lemmas.Slice.Eq.{bytes_eq-Decides}
-use Rattle.std.proofs.lemmas.Str.{is_utf8-from_IsUtf8, IsUtf8-from_is_utf8}
+use Rattle.std.proofs.{lemmas.Slice.Eq.bytes_eq-Decides, lemmas.Str.is_utf8-from_IsUtf8, lemmas.Str.IsUtf8-from_is_utf8}
 use Rattle.signal_records.specs.{Words.AreWords, declared.fault.RowFault.RowFault}
 use Rattle.signal_records.proofs.RowLaws.{same_bytes}
-use Rattle.cabinet_core.specs.Day.{civil_day, day_text, IsDay, SpellsDay}
-use Rattle.cabinet_core.specs.Part.{IsPartCode, is_code_byte}
+use Rattle.cabinet_core.specs.{Day.civil_day, Day.day_text, Day.IsDay, Day.SpellsDay, Part.IsPartCode, Part.is_code_byte}
 use Rattle.cabinet_core.proofs.DayLemmas.{civil_day_is_dated, civil_day_is_short, spelt_digits, digits_same}
 use Rattle.office_files.specs.RecordReading.{day_among, day_of, is_printed, is_words, words_of, is_part_code, part_of}
 

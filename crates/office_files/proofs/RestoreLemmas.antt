@@ -5,8 +5,7 @@ use Rattle.std.specs.{Ordering.is_eq, Ordering.eq_by_cmp, Prelude.OnOk}
 use Rattle.std.specs.FinMap.{get, insert, find, entries, empty, entries_sorted, get-entries, get-insert, get-empty, same_map}
 use Rattle.std.specs.FinMap.Entries.{below_all, is_sorted}
 use Rattle.signal_records.specs.declared.{key.Key.Key, record.Row.Row, record.Change.Change}
-use Rattle.signal_records.specs.{declared.record.Change.TheVariants.Put, Key.key_cmp, Row.key_of}
-use Rattle.signal_records.specs.KeyOrder.{key_total, key_exact}
+use Rattle.signal_records.specs.{declared.record.Change.TheVariants.Put, Key.key_cmp, Row.key_of, KeyOrder.key_total, KeyOrder.key_exact}
 use Rattle.signal_records.specs.TimingSet.{Rows, AreKeyed, after_changes}
 use Rattle.signal_records.proofs.Sets.{not_found, parts}
 use Rattle.office_files.specs.Timing.{puts_of}

@@ -2,15 +2,13 @@
 use Rattle.std.proofs.Common.{true, ℕ, ◌+◌, ◌<◌, ◌/◌, ◌%◌, List, [], ◌∷◌, Option, Some, None, refl, arith}
 use Rattle.std.specs.Prelude.{IsUtf8, codes, if◌then◌else◌}
 use Rattle.std.proofs.lemmas.Str.{IsUtf8-nil}
-use Rattle.signal_records.specs.declared.record.{Ped.Ped, Phase.Phase, Row.Row}
+use Rattle.signal_records.specs.{declared.record.Ped.Ped, declared.record.Phase.Phase, declared.record.Row.Row, Spelling.spelling}
+use Rattle.signal_records.specs.{Spelling.phase_front, Spelling.ped_fields, SplitMode.mode_code, Within.current_limits, Within.IsRowWithin}
 use Rattle.signal_records.specs.declared.record.Row.TheVariants as row
-use Rattle.signal_records.specs.Spelling.{spelling, phase_front, ped_fields}
-use Rattle.signal_records.specs.{SplitMode.mode_code, Within.current_limits, Within.IsRowWithin}
 use Rattle.cabinet_core.specs.Day.{CivilDay, civil_day, civil_text, day_text, IsDay}
 use Rattle.cabinet_core.specs.{declared.command.RecordCommand.RecordCommand, Within.IsRecordWithin}
 use Rattle.cabinet_core.specs.declared.command.RecordCommand.TheVariants as command
-use Rattle.cabinet_core.proofs.DayLemmas.{IsShort, civil_day_is_short}
-use Rattle.cabinet_core.proofs.PartLemmas.{IsUtf8-from_code}
+use Rattle.cabinet_core.proofs.{DayLemmas.IsShort, DayLemmas.civil_day_is_short, PartLemmas.IsUtf8-from_code}
 use Rattle.office_files.specs.RecordSpelling.{record_spelling}
 use Rattle.office_files.proofs.Utf8Lemmas.{AreTexts, AreTexts-append, before, IsUtf8-low, IsUtf8-decimal, IsUtf8-list}
 

@@ -2,12 +2,10 @@
 use Rattle.std.proofs.Common.{◌≡◌, ℕ, List, [], ◌∷◌, map, All, Result, Ok, Err, refl, ap, ◌∙◌, arith}
 use Rattle.std.specs.Prelude.{IfOk, OnOk}
 use Rattle.std.proofs.lemmas.List.Elements.{All-nil, All-cons, All-head, All-tail}
-use Rattle.signal_records.specs.declared.record.{Row.Row, Change.TheVariants.Put}
+use Rattle.signal_records.specs.{declared.record.Row.Row, declared.record.Change.TheVariants.Put, Reading.change_at, Spelling.spelling}
+use Rattle.signal_records.specs.{Spelling.change_spelling, Within.current_limits, Within.IsRowWithin, Within.IsChangeWithin}
 use Rattle.signal_records.specs.declared.record.Row.TheVariants as row
-use Rattle.signal_records.specs.{Reading.change_at, Spelling.spelling, Spelling.change_spelling}
-use Rattle.signal_records.specs.Within.{current_limits, IsRowWithin, IsChangeWithin}
-use Rattle.office_files.specs.Changes.{changes_of, AreWithin, spellings}
-use Rattle.office_files.specs.Csv.{csv_text}
+use Rattle.office_files.specs.{Changes.changes_of, Changes.AreWithin, Changes.spellings, Csv.csv_text}
 use Rattle.office_files.proofs.{ChangesLemmas.change_laws, FileLaws.file_only}
 use Rattle.office_files.proofs.WritingLemmas.{BeginsWithLetter, csv_records-spellings}
 

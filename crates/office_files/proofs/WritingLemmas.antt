@@ -4,9 +4,8 @@ use Rattle.std.proofs.lemmas.List.{take_more, append-nil, map-append}
 use Rattle.std.proofs.lemmas.{Grind.flat_map-append, Bool.cases_Bool, Bool.ne_eqb}
 use Rattle.std.proofs.lemmas.List.Elements.{All-nil, All-cons, All-head, All-tail}
 use Rattle.std.specs.List.{list_any}
-use Rattle.csv.specs.Machine.{next_record}
-use Rattle.csv.specs.Reading.{default_config, strip_bom, records_from}
-use Rattle.csv.specs.Writing.{default_writer, row_text, field_text, fields_text, escaped, is_blank, needs_byte}
+use Rattle.csv.specs.{Machine.next_record, Reading.default_config, Reading.strip_bom, Reading.records_from, Writing.default_writer}
+use Rattle.csv.specs.Writing.{row_text, field_text, fields_text, escaped, is_blank, needs_byte}
 use Rattle.csv.specs.declared.parser.State.TheVariants as st
 use Rattle.csv.proofs.RoundTrip.{read-write}
 use Rattle.office_files.specs.Csv.{csv_records, csv_text, file_writer}

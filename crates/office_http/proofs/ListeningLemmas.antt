@@ -10,13 +10,9 @@ use Rattle.office_http.specs.Protocol.{office_protocol}
 use Rattle.office_http.specs.declared.listening.ListenCounts.{ListenCounts}
 use Rattle.office_http.specs.declared.listening.ServeStop.{ServeStop}
 use Rattle.office_http.specs.declared.listening.ServeStop.TheVariants as stop
-use Rattle.office_http_framing.specs.Asks.{Asks, OnlyAsks}
-use Rattle.office_http_framing.specs.Ends.{Told, no_calls}
-use Rattle.office_http_framing.specs.Limits.{longest_request}
-use Rattle.office_http_framing.specs.Serve.{Did, Ends, TellsFault, Untouched, ends_of}
-use Rattle.office_http_framing.specs.Stops.{Keeps, Storage}
-use Rattle.office_http_framing.specs.declared.engine.Served.{Served}
-use Rattle.office_http_framing.specs.declared.engine.ServeFault.{ServeFault}
+use Rattle.office_http_framing.specs.{Asks.Asks, Asks.OnlyAsks, Ends.Told, Ends.no_calls, Limits.longest_request, Serve.Did, Serve.Ends}
+use Rattle.office_http_framing.specs.{Serve.TellsFault, Serve.Untouched, Serve.ends_of, Stops.Keeps, Stops.Storage}
+use Rattle.office_http_framing.specs.{declared.engine.Served.Served, declared.engine.ServeFault.ServeFault}
 use Rattle.office_http_framing.specs.declared.engine.ServeFault.TheVariants.{NoMemory}
 
 -- what holds where the result is no error

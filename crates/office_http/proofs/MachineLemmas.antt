@@ -1,26 +1,16 @@
 -- How a decision and its answer deal with a request.
 use Rattle.std.proofs.Common.{◌≡◌, ◌≢◌, ◌⊎◌, ◌∙◌, inl, inr, ℕ, List, refl, sym, ap, subst}
 use Rattle.std.specs.Prelude.{Result, Ok, Err, IfOk}
-use Rattle.office_tables_shelf.specs.Content.{Content}
-use Rattle.office_tables_shelf.specs.declared.counts.WriteCounts.{WriteCounts}
-use Rattle.office_desk.specs.Answers.{AnswersAny}
-use Rattle.office_desk.specs.Changes.{IsQuery, IsRefused, RiseAtMost}
-use Rattle.office_machine.specs.Office.{Office}
-use Rattle.office_desk.specs.StandFor.{StandForSound}
-use Rattle.office_machine.specs.Step.{Step, answered}
-use Rattle.office_machine.specs.declared.command.Command.{Command}
-use Rattle.office_machine.specs.declared.refusal.Refusal.TheVariants.{Unavailable}
-use Rattle.office_machine.specs.declared.reply.Reply.{Reply}
+use Rattle.office_tables_shelf.specs.{Content.Content, declared.counts.WriteCounts.WriteCounts}
+use Rattle.office_desk.specs.{Answers.AnswersAny, Changes.IsQuery, Changes.IsRefused, Changes.RiseAtMost, StandFor.StandForSound}
+use Rattle.office_machine.specs.{Office.Office, Step.Step, Step.answered, declared.command.Command.Command}
+use Rattle.office_machine.specs.{declared.refusal.Refusal.TheVariants.Unavailable, declared.reply.Reply.Reply}
 use Rattle.office_machine.specs.declared.reply.Reply.TheVariants.{Refused}
 use Rattle.office_desk.proofs.Writes.{no_rise}
-use Rattle.office_http_responses.specs.Answers.{answer_bytes}
-use Rattle.office_http_responses.specs.Faults.{ask_fault_text}
+use Rattle.office_http_responses.specs.{Answers.answer_bytes, Faults.ask_fault_text}
 use Rattle.office_http_requests.specs.declared.asked.Asked.{Asked}
-use Rattle.office_http_faults.specs.declared.fault.AskFault.{AskFault}
-use Rattle.office_http_faults.specs.declared.fault.AskFault.TheVariants.{NoMemory}
-use Rattle.office_http_framing.specs.Front.{PlainRequest}
-use Rattle.office_http_framing.specs.Protocol.{bytes_of}
-use Rattle.office_http_framing.specs.Stops.{DealsBy, IsAfterStep}
+use Rattle.office_http_faults.specs.{declared.fault.AskFault.AskFault, declared.fault.AskFault.TheVariants.NoMemory}
+use Rattle.office_http_framing.specs.{Front.PlainRequest, Protocol.bytes_of, Stops.DealsBy, Stops.IsAfterStep}
 use Rattle.office_http_framing.specs.declared.machine.Answer.{Answer}
 use Rattle.office_http_framing.specs.declared.machine.Unavailable.{Unavailable as IsUnavailable}
 use Rattle.office_http.specs.Protocol.{AnswersAsked, AnswersRead, ChangesNothing, WritesAsked, WritesRead, office_protocol, office_storage, read_of}

@@ -2,10 +2,8 @@
 use Rattle.std.proofs.Common.{◌≡◌, ℕ, List, subst}
 use Rattle.office_tables_shelf.specs.Content.{Content}
 use Rattle.office_machine.specs.Office.{Office}
-use Rattle.office_http.specs.Laws.{Serves}
-use Rattle.office_http.specs.Protocol.{office_protocol}
-use Rattle.office_http_framing.specs.Front.{PlainRequest}
-use Rattle.office_http_framing.specs.Stops.{Storage}
+use Rattle.office_http.specs.{Laws.Serves, Protocol.office_protocol}
+use Rattle.office_http_framing.specs.{Front.PlainRequest, Stops.Storage}
 use Rattle.office_http_framing.proofs.StopLemmas.{ran-wider}
 
 -- the rows were counted from here, and a crash could leave no more than this

@@ -1,23 +1,16 @@
 -- How a run over requests is a run of the office machine over their commands, and so keeps its laws.
 use Rattle.std.proofs.Common.{◌≡◌, ◌⊎◌, ◌++◌, ℕ, List, [], ◌∷◌, inl, inr, refl, sym, subst}
 use Rattle.std.specs.Prelude.{Result, Ok, Err}
-use Rattle.office_machine.specs.Office.{IsSound, Office}
-use Rattle.office_machine.specs.Step.{AreSound, Run}
-use Rattle.office_machine.specs.declared.command.Command.{Command}
-use Rattle.office_machine.specs.declared.refusal.Refusal.TheVariants.{Unavailable}
-use Rattle.office_machine.specs.declared.reply.Reply.{Reply}
+use Rattle.office_machine.specs.{Office.IsSound, Office.Office, Step.AreSound, Step.Run, declared.command.Command.Command}
+use Rattle.office_machine.specs.{declared.refusal.Refusal.TheVariants.Unavailable, declared.reply.Reply.Reply}
 use Rattle.office_machine.specs.declared.reply.Reply.TheVariants.{Refused}
-use Rattle.office_desk.proofs.RegisterLaws.{runs_register}
-use Rattle.office_desk.proofs.Repeats.{runs_repeat}
-use Rattle.office_desk.proofs.TimingLaw.{runs_timing}
-use Rattle.office_tables_shelf.specs.Content.{Content}
-use Rattle.office_tables_shelf.specs.declared.counts.WriteCounts.{WriteCounts}
+use Rattle.office_desk.proofs.{RegisterLaws.runs_register, Repeats.runs_repeat, TimingLaw.runs_timing}
+use Rattle.office_tables_shelf.specs.{Content.Content, declared.counts.WriteCounts.WriteCounts}
 use Rattle.office_http.specs.Laws.{Serves, TellsRead, TellsReplies, asked_in, command_read}
 use Rattle.office_http.specs.Protocol.{AnswersRead, office_protocol, office_storage, read_of}
 use Rattle.office_http_faults.specs.declared.fault.AskFault.{AskFault}
-use Rattle.office_http_framing.specs.Front.{PlainRequest}
+use Rattle.office_http_framing.specs.{Front.PlainRequest, Stops.IsKept, Stops.Leaves, Stops.LeavesOne, Stops.Ran}
 use Rattle.office_http_framing.specs.Protocol.{MayAnswer, Run as ProtocolRun}
-use Rattle.office_http_framing.specs.Stops.{IsKept, Leaves, LeavesOne, Ran}
 use Rattle.office_http_responses.specs.Answers.{unavailable_bytes}
 use Rattle.office_http_requests.specs.declared.asked.Asked.{Asked}
 

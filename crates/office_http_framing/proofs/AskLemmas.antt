@@ -1,9 +1,8 @@
 -- How the source is asked while a stream is served.
 use Rattle.std.proofs.Common.{◌≡◌, ℕ, suc, ◌<◌, List, [], ◌∷◌, ◌++◌, drop, refl, subst, sym}
 use Rattle.std.specs.Io.KnownBytes.{Consumes}
-use Rattle.office_http_framing.specs.{Asks.Asks, Asks.OnlyAsks, Ends.Told, Ends.raised}
-use Rattle.office_http_framing.specs.Front.{PlainRequest, BeginsWithRequest, IsIncomplete}
-use Rattle.office_http_framing.specs.Stream.{left_after, BeginsWith}
+use Rattle.office_http_framing.specs.{Asks.Asks, Asks.OnlyAsks, Ends.Told, Ends.raised, Front.PlainRequest, Front.BeginsWithRequest}
+use Rattle.office_http_framing.specs.{Front.IsIncomplete, Stream.left_after, Stream.BeginsWith}
 use Rattle.office_http_framing.proofs.StreamLemmas.{BeginsWith-append, BeginsWith-next}
 
 -- the calls so far gave bytes that begin with some requests and then `held`, and so many more may come

@@ -2,8 +2,7 @@
 use Rattle.std.proofs.Common.{◌≡◌, ℕ, ◌≤◌, cond, inl, inr, arith}
 use Rattle.std.specs.Prelude.{◌==◌}
 use Rattle.std.proofs.lemmas.Bool.{cases_lt, Decides.nat_tests}
-use Rattle.office_http_framing.specs.declared.ends.Counts.{Counts}
-use Rattle.office_http_framing.specs.Ends.{count_limit, raised, Rose, Grows}
+use Rattle.office_http_framing.specs.{declared.ends.Counts.Counts, Ends.count_limit, Ends.raised, Ends.Rose, Ends.Grows}
 
 pub Grows-refl : (c : Counts) → Grows c c
 Grows-refl c = record { calls = omega arith; failures = omega arith; empties = omega arith }

@@ -1,15 +1,13 @@
 -- How far a stream has been served, and what each step adds.
 use Rattle.std.proofs.Common.{◌≡◌, inl, ℕ, ◌+◌, ◌<◌, List, [], ◌∷◌, ◌++◌, length, drop, refl, sym, ap, subst, ◌∙◌, arith, append_assoc}
 use Rattle.std.specs.Prelude.{Option, Some, None, Result, Ok, Err, MatchResult, true, false}
-use Rattle.std.specs.{Result.is_err, List.concat}
-use Rattle.std.specs.Io.KnownBytes.{Appends, Consumes, Keeps}
+use Rattle.std.specs.{Result.is_err, List.concat, Io.KnownBytes.Appends, Io.KnownBytes.Consumes, Io.KnownBytes.Keeps}
 use Rattle.std.proofs.KnownBytes.{Consumes-nil, Consumes-trans, Appends-nil, Appends-trans}
 use Rattle.std.proofs.lemmas.List.{append-nil, length-append}
-use Rattle.office_http_framing.specs.declared.engine.{Served.Served, ServeFault.ServeFault}
-use Rattle.office_http_framing.specs.declared.engine.ServeFault.TheVariants as stop
-use Rattle.office_http_framing.specs.{Ends.AppendsPart, Front.PlainRequest, Front.BeginsWithRequest}
-use Rattle.office_http_framing.specs.{Protocol.Protocol, Stream.left_after, Stream.BeginsWith}
+use Rattle.office_http_framing.specs.{declared.engine.Served.Served, declared.engine.ServeFault.ServeFault, Ends.AppendsPart}
+use Rattle.office_http_framing.specs.{Front.PlainRequest, Front.BeginsWithRequest, Protocol.Protocol, Stream.left_after, Stream.BeginsWith}
 use Rattle.office_http_framing.specs.Serve.{BreaksOff, Did, Ends, EndsBy, Runs, Writes}
+use Rattle.office_http_framing.specs.declared.engine.ServeFault.TheVariants as stop
 use Rattle.office_http_framing.proofs.StreamLemmas.{BeginsWith-append, BeginsWith-next}
 
 -- The source gave bytes that begin with so many requests and then `held`; the machine ran over them;

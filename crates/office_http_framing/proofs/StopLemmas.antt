@@ -1,8 +1,7 @@
 -- How a run goes on by one request, with what is kept and what a crash may leave.
 use Rattle.std.proofs.Common.{ℕ, List, [], ◌∷◌, ◌++◌, inl, inr, refl, sym, subst}
-use Rattle.office_http_framing.specs.Front.{PlainRequest}
-use Rattle.office_http_framing.specs.Protocol.{Protocol, MayAnswer, Run}
-use Rattle.office_http_framing.specs.Stops.{Storage, Keeps, IsKept, LeavesOne, Deals, Leaves, Ran}
+use Rattle.office_http_framing.specs.{Front.PlainRequest, Protocol.Protocol, Protocol.MayAnswer, Protocol.Run, Stops.Storage, Stops.Keeps}
+use Rattle.office_http_framing.specs.Stops.{IsKept, LeavesOne, Deals, Leaves, Ran}
 
 module _ {Machine State Stored : Type 0} (protocol : Protocol State) (storage : Storage Machine State Stored) where
   -- where more could be left before a request, more may be left after it

@@ -1,19 +1,12 @@
 -- The object that a body is, from what a reader of JSON says of it.
 use Rattle.std.proofs.Common.{◌≡◌, ℕ, List, [], ◌∷◌, length, arith, Bool, true, false, Some, None, Result, Ok, Err, is_some, refl, cond, inl, inr}
-use Rattle.std.proofs.lemmas.Bool.Decides.{nat_tests}
+use Rattle.std.proofs.{lemmas.Bool.Decides.nat_tests, lemmas.Str.is_utf8-from_IsUtf8, lemmas.Str.IsUtf8-from_is_utf8}
 use Rattle.std.specs.Prelude.{IfOk, IfErr, ◌==◌}
-use Rattle.std.specs.Option.{option_and_then}
-use Rattle.std.specs.Str.{IsUtf8, is_utf8}
-use Rattle.std.proofs.lemmas.Str.{is_utf8-from_IsUtf8, IsUtf8-from_is_utf8}
-use Rattle.serde_json.specs.Data.{Data, object}
-use Rattle.serde_json.specs.Errors.{IsMemory}
-use Rattle.serde_json.specs.Read.{read, read as read_text}
-use Rattle.serde_json.specs.View.{view}
-use Rattle.serde_json.specs.declared.error.Error.{Error}
-use Rattle.serde_json.specs.declared.value.Value.{Value}
+use Rattle.std.specs.{Option.option_and_then, Str.IsUtf8, Str.is_utf8}
+use Rattle.serde_json.specs.{Data.Data, Data.object, Errors.IsMemory, View.view, declared.error.Error.Error, declared.value.Value.Value}
 use Rattle.serde_json.specs.Find.{as_object}
-use Rattle.office_http_faults.specs.declared.fault.AskFault.{AskFault}
-use Rattle.office_http_faults.specs.declared.fault.AskFault.TheVariants.{Json}
+use Rattle.serde_json.specs.Read.{read, read as read_text}
+use Rattle.office_http_faults.specs.{declared.fault.AskFault.AskFault, declared.fault.AskFault.TheVariants.Json}
 use Rattle.office_http_requests.specs.Asks.{or_fault, Gives, WantsMemoryOnlyIf}
 use Rattle.office_http_requests.specs.Bodies.{object_in, body_of, data_of, opens_object, IsTold, MayBeObject}
 use Rattle.office_http_requests.proofs.OpeningLemmas.{read-no_object}

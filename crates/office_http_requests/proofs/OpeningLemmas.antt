@@ -5,12 +5,11 @@ use Rattle.std.proofs.lemmas.Bool.Decides.{nat_tests}
 use Rattle.json.specs.Token.{Token, begin_object, end_object, begin_array, end_array, string, number, boolean, null, bad}
 use Rattle.json.specs.Text.{content, plain}
 use Rattle.json.specs.Lex.{Lexeme, token, comma, colon, between, quote, backslash, operator, space, other, operator_lexeme, string_token, lex, lex_byte, Place, fresh, place_token, punctuate, tokens}
-use Rattle.json.specs.Ascii as ascii
 use Rattle.json.specs.Word.{is_space, head, after_number, word, literal, number_before}
+use Rattle.json.specs.Ascii as ascii
 use Rattle.json.specs.Json as json
-use Rattle.serde_json.specs.Data.{Num, Items}
+use Rattle.serde_json.specs.{Data.Num, Data.Items, Read.read, Read.of_json, Read.number_of, Read.of_items}
 use Rattle.serde_json.specs.Data as read_data
-use Rattle.serde_json.specs.Read.{read, of_json, number_of, of_items}
 use Rattle.office_http_requests.specs.Bodies.{object_in, opens_object}
 
 abbrev is_open : Token → Bool

@@ -1,8 +1,6 @@
 -- The router takes the routes of the table one after another.
 use Rattle.std.proofs.Common.{◌≡◌, ℕ, ◌+◌, ◌<◌, List, [], ◌∷◌, length, drop, get_or, suc, refl, Bool, true, false, ◌&&◌, is_none, Result, Ok, Err, sym, ap, add-one, drop-cons, arith}
-use Rattle.matchit.specs.Route.{Scan, parse_route}
-use Rattle.matchit.specs.Router.{InsertsRead, nearest}
-use Rattle.matchit.specs.declared.error.InsertError.{InsertError}
+use Rattle.matchit.specs.{Route.Scan, Route.parse_route, Router.InsertsRead, Router.nearest, declared.error.InsertError.InsertError}
 use Rattle.matchit.specs.declared.error.InsertError.TheVariants.{Conflict, InvalidParam, InvalidParamSegment, InvalidCatchAll, OutOfMemory}
 use Rattle.matchit.proofs.OnLiterals.{matchit_on_literals}
 use Rattle.office_http_requests.specs.declared.route.Endpoint.{Endpoint}

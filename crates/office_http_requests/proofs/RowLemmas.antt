@@ -1,28 +1,20 @@
 -- A walk that takes the value of each element of a list in turn.
 use Rattle.std.proofs.Common.{◌≡◌, ◌≢◌, ℕ, ◌+◌, ◌<◌, Bool, true, ◌&&◌, is_some, List, [], ◌∷◌, ◌++◌, length, drop, get_or, suc, Option, Some, None, Result, Ok, Err, option_map, option_and_then, add-one, drop-cons, append_assoc, map, ap, sym, ◌∙◌, refl}
 use Rattle.std.specs.List.{list_all}
-use Rattle.serde_json.specs.Data.{Data}
-use Rattle.serde_json.specs.Find.{get, as_array, as_str}
-use Rattle.serde_json.specs.View.{view, items_of, items_view}
+use Rattle.serde_json.specs.{Data.Data, Find.get, Find.as_array, Find.as_str, View.view, View.items_of, View.items_view}
 use Rattle.serde_json.specs.declared.value.Value.{Value}
-use Rattle.std.proofs.Math.Seq.{drop-length}
-use Rattle.std.proofs.lemmas.List.{get_or-map, length-map, append-nil}
+use Rattle.std.proofs.{Math.Seq.drop-length, lemmas.List.get_or-map, lemmas.List.length-map, lemmas.List.append-nil}
 use Rattle.signal_records.specs.Reading.{change_at, Gives as RowGives}
-use Rattle.signal_records.specs.Within.{current_limits}
-use Rattle.signal_records.specs.declared.fault.RowFault.{RowFault}
+use Rattle.signal_records.specs.{Within.current_limits, declared.fault.RowFault.RowFault, declared.record.Change.Change}
 use Rattle.signal_records.specs.declared.fault.RowFault.TheVariants as row
-use Rattle.signal_records.specs.declared.record.Change.{Change}
-use Rattle.office_http_faults.specs.declared.fault.AskFault.{AskFault}
-use Rattle.office_http_faults.specs.declared.fault.AskFault.TheVariants.{BadRow, NoMemory}
+use Rattle.office_http_faults.specs.{declared.fault.AskFault.AskFault, declared.fault.AskFault.TheVariants.BadRow}
+use Rattle.office_http_faults.specs.{declared.fault.AskFault.TheVariants.NoMemory, Fields.field_name}
 use Rattle.office_http_faults.specs.declared.field.Field.TheVariants.{Rows as FieldRows}
 use Rattle.office_files.specs.CsvFault.{bad_row as bad_record}
-use Rattle.office_files.specs.CsvRow.{rows_of}
-use Rattle.office_files.specs.declared.fault.CsvFault.{CsvFault}
+use Rattle.office_files.specs.{CsvRow.rows_of, declared.fault.CsvFault.CsvFault}
 use Rattle.office_files.specs.declared.fault.CsvFault.TheVariants as file
-use Rattle.office_http_faults.specs.Fields.{field_name}
 use Rattle.office_http_requests.specs.Asks.{◌>>=◌, or_bad_row, or_field, MayWant, WantsMemoryOnlyIf}
-use Rattle.office_http_requests.specs.Rows.{list_of, list_in, each, texts_in, rows_in}
-use Rattle.office_http_requests.specs.Rows.{changes_of, changes_in, IsRowFault}
+use Rattle.office_http_requests.specs.Rows.{list_of, list_in, each, texts_in, rows_in, changes_of, changes_in, IsRowFault}
 
 -- what is done, before what the rest gives
 abbrev pub onto : {B : Type 0} → List B → Option (List B) → Option (List B)

@@ -1,15 +1,10 @@
 -- The tokens of lists and objects.
 use Rattle.std.proofs.Common.{◌≡◌, ℕ, List, [], ◌∷◌, ◌++◌, map, flat_map, Ok, refl, sym, ap, ◌∙◌, append_assoc}
-use Rattle.json.specs.Token.{Token, begin_array, end_array, begin_object, end_object, key}
-use Rattle.json.specs.Tree.{items_tokens, members_tokens}
-use Rattle.json.specs.Written.{Written, Writes}
-use Rattle.json.specs.Print.{print}
-use Rattle.serde_json.specs.Data.{Data}
-use Rattle.serde_json.specs.View.{items_of}
-use Rattle.serde_json.specs.Written.{items_outline, members_outline, compact_text}
+use Rattle.json.specs.{Token.Token, Token.begin_array, Token.end_array, Token.begin_object, Token.end_object, Token.key, Tree.items_tokens}
+use Rattle.json.specs.{Tree.members_tokens, Written.Written, Written.Writes, Print.print}
+use Rattle.serde_json.specs.{Data.Data, View.items_of, Written.items_outline, Written.members_outline, Written.compact_text}
 use Rattle.serde_json.proofs.Texts.{print-outline}
-use Rattle.office_http_responses.specs.Json.{keys, list, members}
-use Rattle.office_http_responses.specs.Writing.{Added, member_tokens, tokens_of}
+use Rattle.office_http_responses.specs.{Json.keys, Json.list, Json.members, Writing.Added, Writing.member_tokens, Writing.tokens_of}
 
 -- the tokens of an array's items, and the closing bracket
 pub items_tokens_are : (ds : List Data) → items_tokens (items_outline (items_of ds)) ≡ flat_map tokens_of ds ++ end_array ∷ []

@@ -1,10 +1,8 @@
 -- The columns that are written are those that are defined.
 use Rattle.std.proofs.Common.{◌≡◌, ℕ, ◌+◌, ◌-◌, ◌^◌, false, List, [], ◌∷◌, ◌++◌, length, replicate, decimal, Result, Ok, Err, refl, ap, ◌∙◌, arith, append_assoc}
-use Rattle.std.specs.Fmt.{styled_decimal, padded_integral, format_spec}
+use Rattle.std.specs.{Fmt.styled_decimal, Fmt.padded_integral, Fmt.format_spec, Result.is_ok}
 use Rattle.std.specs.Prelude.{OnOk, if◌then◌else◌}
-use Rattle.std.specs.Result.{is_ok}
-use Rattle.std.proofs.Padding.{padded_integral_right}
-use Rattle.std.proofs.lemmas.Grind.{replicate_next}
+use Rattle.std.proofs.{Padding.padded_integral_right, lemmas.Grind.replicate_next}
 use Rattle.office_files.specs.Cells.{right_aligned}
 use Rattle.office_listings.specs.Columns.{left_aligned}
 

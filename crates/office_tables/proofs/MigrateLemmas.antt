@@ -1,32 +1,22 @@
 -- What a migration makes of the tables, and which office they then stand for.
 use Rattle.std.proofs.Common.{◌≡◌, inl, inr, ℕ, true, false, Some, List, [], ◌∷◌, ◌++◌, length, refl, sym, ap, subst, ◌∙◌, true≢false}
-use Rattle.std.specs.FinMap.{entries}
-use Rattle.std.specs.List.{list_all}
+use Rattle.std.specs.{FinMap.entries, List.list_all}
 use Rattle.sqlite_rules.specs.Lists.{Has}
-use Rattle.sqlite.specs.Tree.{Trees}
-use Rattle.signal_records.specs.Within.{version_1_limits}
-use Rattle.signal_records.specs.declared.record.Change.{Change}
-use Rattle.signal_records.specs.declared.record.Change.TheVariants.{Put, Remove}
+use Rattle.sqlite.specs.{Tree.Trees, Effect.Database, State.State, State.Survives}
+use Rattle.signal_records.specs.{Within.version_1_limits, declared.record.Change.Change, declared.record.Change.TheVariants.Put}
+use Rattle.signal_records.specs.declared.record.Change.TheVariants.{Remove}
 use Rattle.draft_state.specs.ChangedRows.{left_by}
-use Rattle.office_tables_shelf.specs.Cells.{Rows, null}
-use Rattle.office_tables_shelf.specs.Rows.{left_columns_in}
-use Rattle.office_tables_sql.specs.Calls.{IsHonest, Keeps}
+use Rattle.office_tables_shelf.specs.{Cells.Rows, Cells.null, Rows.left_columns_in, Change.changed_by, Change.changed, Content.Content}
+use Rattle.office_tables_shelf.specs.declared.rows.RowChange.{RowChange}
+use Rattle.office_tables_sql.specs.{Calls.IsHonest, Calls.Keeps, Stored.content_of, Stored.content_now}
 use Rattle.sqlite_rules.proofs.ListLemmas.{fails_has}
 use Rattle.office_tables_shelf.proofs.ListLemmas.{stands, where_all}
-use Rattle.office_tables_sql.proofs.ListedLemmas.{is_in}
+use Rattle.office_tables_sql.proofs.{ListedLemmas.is_in, CallLemmas.survives_on}
 use Rattle.office_tables_migration.specs.Former.{AreKept, HasNoFormer, HasNoFormerRow, is_row, timing_puts, draft_puts}
-use Rattle.sqlite.specs.Effect.{Database}
-use Rattle.sqlite.specs.State.{State, Survives}
+use Rattle.office_tables_migration.specs.{Migration.IsMigrated, Migration.StandAnew, Migration.kept_key, declared.puts.Migrated.Migrated}
 use Rattle.sqlite.proofs.StateLemmas.{survives_then}
-use Rattle.office_tables_sql.proofs.CallLemmas.{survives_on}
-use Rattle.office_tables_shelf.specs.Change.{changed_by, changed}
-use Rattle.office_tables_shelf.specs.Content.{Content}
 use Rattle.office_machine.specs.Office.{Office, version_1}
 use Rattle.office_tables_standing.specs.StandFor.{StandForSoundIn}
-use Rattle.office_tables_shelf.specs.declared.rows.RowChange.{RowChange}
-use Rattle.office_tables_sql.specs.Stored.{content_of, content_now}
-use Rattle.office_tables_migration.specs.Migration.{IsMigrated, StandAnew, kept_key}
-use Rattle.office_tables_migration.specs.declared.puts.Migrated.{Migrated}
 use Rattle.office_tables_migration.proofs.Migration.{migrated, stand_anew}
 use Rattle.office_tables.specs.Migrate.{HoldsToday, IsBrought, IsSpelledToday}
 use Rattle.office_tables_open.specs.Version.{version_in, current_version, first_version}

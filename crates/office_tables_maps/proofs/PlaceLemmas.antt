@@ -1,30 +1,18 @@
 -- Trees of timing and draft rows: each row stays under its own key, and those of an intersection are listed in order.
 use Rattle.std.proofs.Common.{◌≡◌, inl, inr, ℕ, ◌==◌, Bool, true, false, eqb-true, List, [], ◌∷◌, map, filter, not, cond, if◌then◌else◌, Option, Some, None, Ordering, refl, sym, ap, subst, ◌∙◌}
 use Rattle.std.proofs.lemmas.Bool.{cases_Bool}
-use Rattle.std.specs.FinMap.Entries.{where_key}
-use Rattle.std.specs.List.{AllByRecursion}
-use Rattle.std.specs.List.Sorted.{IsStrictlySortedBy}
-use Rattle.std.specs.Map.{keys_of, remove_entry}
-use Rattle.std.specs.Ordering.{is_eq, ordering_then}
-use Rattle.std.specs.Prelude.{IfSome}
-use Rattle.std.specs.declared.cmp.Ordering.TheVariants.{Equal}
-use Rattle.signal_records.specs.Key.{kind_of, first_of, second_of, key_cmp}
-use Rattle.signal_records.specs.Row.{key_of}
-use Rattle.signal_records.specs.declared.key.Key.{Key}
-use Rattle.signal_records.specs.declared.record.Row.{Row}
-use Rattle.signal_records.specs.declared.record.Change.{Change}
-use Rattle.signal_records.specs.declared.record.Change.TheVariants.{Put, Remove}
+use Rattle.std.specs.{FinMap.Entries.where_key, List.AllByRecursion, List.Sorted.IsStrictlySortedBy, Map.keys_of, Map.remove_entry}
+use Rattle.std.specs.{Ordering.is_eq, Ordering.ordering_then, Prelude.IfSome, declared.cmp.Ordering.TheVariants.Equal}
+use Rattle.signal_records.specs.{Key.kind_of, Key.first_of, Key.second_of, Key.key_cmp, Row.key_of, declared.key.Key.Key}
+use Rattle.signal_records.specs.{declared.record.Row.Row, declared.record.Change.Change, declared.record.Change.TheVariants.Put}
+use Rattle.signal_records.specs.declared.record.Change.TheVariants.{Remove}
 use Rattle.draft_state.specs.ChangedRows.{changed_key, left_by}
-use Rattle.office_tables_shelf.specs.Cells.{Cell, cells_cmp, tree_rows}
-use Rattle.office_tables_shelf.specs.Content.{rows_but}
+use Rattle.office_tables_shelf.specs.{Cells.Cell, Cells.cells_cmp, Cells.tree_rows, Content.rows_but, Rows.timing_key, Rows.timing_columns}
+use Rattle.office_tables_shelf.specs.{Rows.left_columns, Rows.draft_key, Rows.draft_columns, Shelf.is_of, Shelf.rows_of}
 use Rattle.office_tables_maps.specs.MapShelf.{place_key, change_at, timing_rows, draft_rows, IsRowAt, IsLeftAt, AreRowsPlaced, AreLeftPlaced}
-use Rattle.office_tables_shelf.specs.Rows.{timing_key, timing_columns, left_columns, draft_key, draft_columns}
-use Rattle.office_tables_shelf.specs.Shelf.{is_of, rows_of}
 use Rattle.office_tables_maps.specs.declared.place.Place.{Place}
-use Rattle.office_tables_shelf.proofs.CabinetLemmas.{of_number}
-use Rattle.office_tables_shelf.proofs.CellLemmas.{cells_exact}
-use Rattle.office_tables_shelf.proofs.KeyLemmas.{timing_key_tells}
-use Rattle.office_tables_shelf.proofs.TreeLemmas.{number_order, ranged_cmp, then_last}
+use Rattle.office_tables_shelf.proofs.{CabinetLemmas.of_number, CellLemmas.cells_exact, KeyLemmas.timing_key_tells, TreeLemmas.number_order}
+use Rattle.office_tables_shelf.proofs.TreeLemmas.{ranged_cmp, then_last}
 use Rattle.office_tables_maps.proofs.TreeRows.{ranged_order, rows_kept, tree_entries}
 
 -- ---- how places compare, as their cells do

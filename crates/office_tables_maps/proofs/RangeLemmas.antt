@@ -1,32 +1,20 @@
 -- What a walk over the places of an intersection finds is what it finds in the whole tree.
 use Rattle.std.proofs.Common.{◌≡◌, ◌≤◌, ℕ, ◌==◌, Bool, true, false, eqb-true, true≢false, not, ◌&&◌, List, [], ◌∷◌, filter, cond, if◌then◌else◌, Option, Ordering, nat_cmp, refl, sym, ap, subst, ◌∙◌, arith}
 use Rattle.std.proofs.lemmas.Bool.Decides.{nat_tests}
-use Rattle.std.specs.BTreeMap.Range.{range_contains, entries_between}
-use Rattle.std.specs.Int.{IsInRange}
-use Rattle.std.specs.List.{AllByRecursion}
-use Rattle.std.specs.Ordering.{is_gt, is_le, is_lt, ordering_then}
-use Rattle.std.specs.declared.cmp.Ordering.TheVariants.{Less, Equal, Greater}
-use Rattle.signal_records.specs.Key.{key_cmp}
-use Rattle.signal_records.specs.Within.{current_limits, IsKeyWithin}
-use Rattle.signal_records.specs.declared.key.Key.{Key}
+use Rattle.std.specs.{BTreeMap.Range.range_contains, BTreeMap.Range.entries_between, Int.IsInRange, List.AllByRecursion, Ordering.is_gt}
+use Rattle.std.specs.{Ordering.is_le, Ordering.is_lt, Ordering.ordering_then, declared.cmp.Ordering.TheVariants.Less}
+use Rattle.std.specs.declared.cmp.Ordering.TheVariants.{Equal, Greater}
+use Rattle.signal_records.specs.{Key.key_cmp, Within.current_limits, Within.IsKeyWithin, declared.key.Key.Key}
 use Rattle.signal_records.specs.declared.key.Key.TheVariants.{Phase, Seq, Split, Pattern}
 use Rattle.signal_records.specs.declared.record.Row.{Row}
-use Rattle.cabinet_core.specs.declared.record.Inspection.{Inspection}
-use Rattle.cabinet_core.specs.declared.record.Order.{Order}
-use Rattle.cabinet_core.specs.declared.record.UsedLine.{UsedLine}
-use Rattle.office_tables_maps.specs.MapCabinet.{AreInspectionsPlaced, AreOrdersPlaced, AreUsedPlaced}
-use Rattle.office_tables_maps.specs.MapCabinet.{IsInspectionAt, IsOrderAt, IsUsedAt}
+use Rattle.cabinet_core.specs.{declared.record.Inspection.Inspection, declared.record.Order.Order, declared.record.UsedLine.UsedLine}
+use Rattle.office_tables_maps.specs.MapCabinet.{AreInspectionsPlaced, AreOrdersPlaced, AreUsedPlaced, IsInspectionAt, IsOrderAt, IsUsedAt}
 use Rattle.office_tables_maps.specs.MapShelf.{IsRowAt, IsLeftAt, AreRowsPlaced, AreLeftPlaced}
-use Rattle.office_tables_maps.specs.Places.{first_place, last_place, all_places}
-use Rattle.office_tables_maps.specs.Places.{first_record, last_record, all_records}
-use Rattle.office_tables_maps.specs.Places.{first_line, last_line, all_lines}
-use Rattle.office_tables_maps.specs.declared.place.LinePlace.{LinePlace}
-use Rattle.office_tables_maps.specs.declared.place.Place.{Place}
+use Rattle.office_tables_maps.specs.Places.{first_place, last_place, all_places, first_record, last_record, all_records, first_line}
+use Rattle.office_tables_maps.specs.{Places.last_line, Places.all_lines, declared.place.LinePlace.LinePlace, declared.place.Place.Place}
 use Rattle.office_tables_maps.specs.declared.place.RecordPlace.{RecordPlace}
-use Rattle.office_tables_maps.proofs.CabinetTrees.{record_cmp, line_cmp, records_under}
-use Rattle.office_tables_maps.proofs.CabinetTrees.{record_inter, line_inter}
-use Rattle.office_tables_maps.proofs.PlaceLemmas.{under, row_of, change_of}
-use Rattle.office_tables_maps.proofs.PlaceLemmas.{place_cmp}
+use Rattle.office_tables_maps.proofs.CabinetTrees.{record_cmp, line_cmp, records_under, record_inter, line_inter}
+use Rattle.office_tables_maps.proofs.PlaceLemmas.{under, row_of, change_of, place_cmp}
 use Rattle.office_tables_shelf.proofs.TreeLemmas.{ranged_cmp, then_last}
 
 -- ---- a walk that takes what passes a test

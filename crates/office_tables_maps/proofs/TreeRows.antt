@@ -1,16 +1,12 @@
 -- Trees of records: how the numbers of their keys compare, the rows in their order, those that pass a test, and each under its own key.
 use Rattle.std.proofs.Common.{◌≡◌, inl, inr, ℕ, pos, Bool, List, [], ◌∷◌, map, filter, cond, Some, None, Ordering, T, nat_cmp, refl, sym, ap, subst, subst₂, ◌∙◌}
-use Rattle.std.proofs.lemmas.Bool.{cases_Bool}
-use Rattle.std.proofs.lemmas.Map.Entries.{entries_from_clone}
-use Rattle.std.specs.BTreeMap.{insert_entry, is_at}
+use Rattle.std.proofs.{lemmas.Bool.cases_Bool, lemmas.Map.Entries.entries_from_clone}
+use Rattle.std.specs.{BTreeMap.insert_entry, BTreeMap.is_at, FinMap.entries, FinMap.retain_keys, FinMap.get-retain_keys, FinMap.same_map}
+use Rattle.std.specs.{FinMap.Entries.is_sorted, FinMap.Entries.below_all, FinMap.Entries.find-where_key, List.AllByRecursion, List.AllZip}
+use Rattle.std.specs.{List.Sorted.IsStrictlySortedBy, Map.keys_of, Map.lookup, Ordering.is_eq, Ordering.is_lt, Ordering.match_ordering}
+use Rattle.std.specs.{Ordering.ordering_then, declared.cmp.Ordering.TheVariants.Less, declared.cmp.Ordering.TheVariants.Equal}
+use Rattle.std.specs.declared.cmp.Ordering.TheVariants.{Greater}
 use Rattle.std.specs.FinMap as finite
-use Rattle.std.specs.FinMap.{entries, retain_keys, get-retain_keys, same_map}
-use Rattle.std.specs.FinMap.Entries.{is_sorted, below_all, find-where_key}
-use Rattle.std.specs.List.{AllByRecursion, AllZip}
-use Rattle.std.specs.List.Sorted.{IsStrictlySortedBy}
-use Rattle.std.specs.Map.{keys_of, lookup}
-use Rattle.std.specs.Ordering.{is_eq, is_lt, match_ordering, ordering_then}
-use Rattle.std.specs.declared.cmp.Ordering.TheVariants.{Less, Equal, Greater}
 use Rattle.office_tables_shelf.specs.Cells.{Cell, number, rows_by, tree_rows, cell_cmp, cells_cmp}
 use Rattle.office_tables_shelf.proofs.CellLemmas.{cells_total, cells_exact, find_entry, get_by, tied}
 use Rattle.office_tables_shelf.proofs.ListLemmas.{both, cells_of, entry, entries_filter, entries_in_order}

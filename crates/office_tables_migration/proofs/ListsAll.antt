@@ -1,36 +1,24 @@
 -- The query of all rows of a table that is keyed as `timing` is, what it shows, and what the cells of a row tell.
 use Rattle.std.proofs.Common.{◌≡◌, ℕ, List, [], ◌++◌, true, map, length, Some, refl, sym, subst, ap, ◌∙◌, ◌∷◌, pos, Result, Ok, Err}
-use Rattle.std.specs.FinMap.{entries, get}
-use Rattle.std.specs.List.{AllByRecursion}
-use Rattle.sqlite.specs.declared.types.Value.TheVariants.{Null}
+use Rattle.std.specs.{FinMap.entries, FinMap.get, List.AllByRecursion, Prelude.IfOk}
+use Rattle.sqlite.specs.{declared.types.Value.TheVariants.Null, Effect.Database, Effect.IsDatabase, Program.overlay, Query.IsAnswer}
 use Rattle.sqlite.specs.Effect as effect
-use Rattle.sqlite.specs.Effect.{Database, IsDatabase}
 use Rattle.sqlite.specs.Order.{Row as SqlRow, column}
-use Rattle.sqlite.specs.Program.{overlay}
-use Rattle.sqlite.specs.Query.{IsAnswer}
 use Rattle.sqlite_rules.specs.Lists.{Has}
-use Rattle.office_tables_shelf.specs.Cells.{Cell, null, number, text}
-use Rattle.office_tables_shelf.specs.declared.rows.Table.{Table}
-use Rattle.office_tables_sql.specs.Calls.{AreOrdered, Reads}
-use Rattle.office_tables_sql.specs.Listed.{shown_key, shown_body}
+use Rattle.office_tables_shelf.specs.{Cells.Cell, Cells.null, Cells.number, Cells.text, declared.rows.Table.Table, Rows.body_in}
+use Rattle.office_tables_shelf.specs.Rows.{timing_key, draft_key, left_columns_in}
+use Rattle.office_tables_sql.specs.{Calls.AreOrdered, Calls.Reads, Listed.shown_key, Listed.shown_body, Stored.cells_at, Stored.content_of}
+use Rattle.office_tables_sql.specs.{Stored.cell_of, Tables.rows_at, Tables.layout_at, Tables.row_shown, Tables.listed_by}
+use Rattle.office_tables_sql.specs.Tables.{places_from}
 use Rattle.office_tables_schema.specs.Schema.{office_schema}
-use Rattle.office_tables_sql.specs.Stored.{cells_at, content_of, cell_of}
-use Rattle.office_tables_sql.specs.Tables.{rows_at, layout_at, row_shown, listed_by, places_from}
-use Rattle.office_tables_shelf.proofs.ListLemmas.{stands, where_all}
-use Rattle.office_tables_sql.proofs.ListedLemmas.{is_in}
-use Rattle.office_tables_sql.proofs.StoredLists.{lists_where, width_where}
-use Rattle.office_tables_migration.specs.Former.{shown_cells}
-use Rattle.office_tables_migration.specs.Listing.{ListsAll}
-use Rattle.std.specs.Prelude.{IfOk}
-use Rattle.signal_records.specs.Row.{key_of}
-use Rattle.signal_records.specs.Within.{IsRowWithin, IsChangeWithin, version_1_limits}
-use Rattle.signal_records.specs.declared.record.Change.{Change}
-use Rattle.signal_records.specs.declared.record.Change.TheVariants.{Put, Remove}
-use Rattle.signal_records.specs.declared.record.Row.{Row}
+use Rattle.office_tables_shelf.proofs.{ListLemmas.stands, ListLemmas.where_all, RowLemmas.same_row}
+use Rattle.office_tables_sql.proofs.{ListedLemmas.is_in, StoredLists.lists_where, StoredLists.width_where}
+use Rattle.office_tables_migration.specs.{Former.shown_cells, Listing.ListsAll}
+use Rattle.signal_records.specs.{Row.key_of, Within.IsRowWithin, Within.IsChangeWithin, Within.version_1_limits}
+use Rattle.signal_records.specs.{declared.record.Change.Change, declared.record.Change.TheVariants.Put}
+use Rattle.signal_records.specs.{declared.record.Change.TheVariants.Remove, declared.record.Row.Row}
 use Rattle.signal_records.proofs.RowLaws.{are_version_1}
 use Rattle.draft_state.specs.ChangedRows.{left_by}
-use Rattle.office_tables_shelf.specs.Rows.{body_in, timing_key, draft_key, left_columns_in}
-use Rattle.office_tables_shelf.proofs.RowLemmas.{same_row}
 
 -- the row of a text, in whichever intersection its first column says
 pub one_key : (row : SqlRow) (found : Row) (id mine : ℕ) (change : Change) → IsRowWithin version_1_limits found → IsChangeWithin version_1_limits change → cell_of (column row 4) ≡ text (body_in version_1_limits found)

@@ -1,46 +1,30 @@
 -- The tables after the rows were put in their place, and the office that they stand for.
 use Rattle.std.proofs.Common.{◌≡◌, ◌⊎◌, inl, inr, ℕ, suc, true, false, T, List, [], ◌∷◌, map, find, length, cond, if◌then◌else◌, Option, Some, None, option_map, refl, sym, ap, subst, ◌∙◌, arith, true≢false}
-use Rattle.std.proofs.lemmas.Option.{IfSome_then}
-use Rattle.std.proofs.lemmas.Bool.{cases_Bool}
+use Rattle.std.proofs.{lemmas.Option.IfSome_then, lemmas.Bool.cases_Bool}
 use Rattle.std.specs.FinMap as finite
 use Rattle.std.specs.FinMap.{get, insert, entries_sorted, get-entries, get-insert, get-empty, same_map, is_sorted}
-use Rattle.std.specs.List.{AllByRecursion, list_all}
-use Rattle.std.specs.Ordering.{is_eq}
-use Rattle.std.specs.FinMap.Entries.{below_all}
-use Rattle.std.specs.Prelude.{IfSome, IsTrue}
+use Rattle.std.specs.{List.AllByRecursion, List.list_all, Ordering.is_eq, FinMap.Entries.below_all, Prelude.IfSome, Prelude.IsTrue}
 use Rattle.sqlite_rules.proofs.ListLemmas.{all_has, has_found}
-use Rattle.signal_records.specs.PhaseList.{is_phase_list}
-use Rattle.signal_records.specs.Row.{key_of}
-use Rattle.signal_records.specs.TimingSet.{Rows as Set}
-use Rattle.signal_records.specs.Within.{current_limits, version_1_limits, IsAnyPedWithin, IsRowWithin, IsKeyWithin, IsChangeWithin}
-use Rattle.signal_records.specs.Key.{key_cmp}
-use Rattle.signal_records.specs.declared.key.Key.{Key}
-use Rattle.signal_records.specs.declared.limits.Limits.{Limits}
-use Rattle.signal_records.specs.declared.key.Key.TheVariants as key
-use Rattle.signal_records.specs.declared.record.Change.{Change}
-use Rattle.signal_records.specs.declared.record.Change.TheVariants.{Put, Remove}
-use Rattle.signal_records.specs.declared.record.Ped.{Ped}
-use Rattle.signal_records.specs.declared.record.Phase.{Phase}
+use Rattle.signal_records.specs.{PhaseList.is_phase_list, Row.key_of, Within.current_limits, Within.version_1_limits, Within.IsAnyPedWithin}
+use Rattle.signal_records.specs.{Within.IsRowWithin, Within.IsKeyWithin, Within.IsChangeWithin, Key.key_cmp, declared.key.Key.Key}
+use Rattle.signal_records.specs.{declared.limits.Limits.Limits, declared.record.Change.Change, declared.record.Change.TheVariants.Put}
+use Rattle.signal_records.specs.{declared.record.Change.TheVariants.Remove, declared.record.Ped.Ped, declared.record.Phase.Phase}
 use Rattle.signal_records.specs.declared.record.Row.{Row}
+use Rattle.signal_records.specs.TimingSet.{Rows as Set}
+use Rattle.signal_records.specs.declared.key.Key.TheVariants as key
 use Rattle.signal_records.specs.declared.record.Row.TheVariants as row
-use Rattle.signal_records.proofs.Lists.{is_phase_list_wider}
-use Rattle.signal_records.proofs.RowLaws.{are_version_1}
-use Rattle.signal_rules.specs.BeforeLead.{HasNoLead, violations_before_lead}
-use Rattle.signal_rules.specs.Lookup.{the_phase}
-use Rattle.signal_rules.specs.Violations.{violations_of}
+use Rattle.signal_records.proofs.{Lists.is_phase_list_wider, RowLaws.are_version_1}
+use Rattle.signal_rules.specs.{BeforeLead.HasNoLead, BeforeLead.violations_before_lead, Lookup.the_phase, Violations.violations_of}
 use Rattle.signal_rules.proofs.BeforeLead.{same_violations}
 use Rattle.draft_core.specs.DraftRows.{Said, silent, leaves, removes}
 use Rattle.draft_state.specs.ChangedRows.{left_by, changed_key}
-use Rattle.office_tables_shelf.specs.Cells.{Cell, text, Rows, cells_cmp, rows_by}
-use Rattle.office_tables_shelf.specs.Change.{changed_by}
-use Rattle.office_tables_shelf.specs.Content.{Content}
-use Rattle.office_machine.specs.Office.{Office, Intersection, side_at, side_of, AreRecordsIn, IsSoundIntersectionIn, IsSoundDraftIn, today, version_1}
-use Rattle.office_tables_shelf.specs.Rows.{timing_key, timing_columns_in, left_columns_in, body_in}
-use Rattle.office_tables_standing.specs.StandFor.{IsTimingKey, HasTimingKeys, IsSaidIn, said_columns_in, StandForSoundIn}
+use Rattle.office_tables_shelf.specs.{Cells.Cell, Cells.text, Cells.Rows, Cells.cells_cmp, Cells.rows_by, Change.changed_by}
+use Rattle.office_tables_shelf.specs.{Content.Content, Rows.timing_key, Rows.timing_columns_in, Rows.left_columns_in, Rows.body_in}
 use Rattle.office_tables_shelf.specs.RegisterStands.{RegisterStands}
+use Rattle.office_machine.specs.Office.{Office, Intersection, side_at, side_of, AreRecordsIn, IsSoundIntersectionIn, IsSoundDraftIn, today, version_1}
+use Rattle.office_tables_standing.specs.StandFor.{IsTimingKey, HasTimingKeys, IsSaidIn, said_columns_in, StandForSoundIn}
 use Rattle.office_tables_shelf.proofs.CellLemmas.{cells_total, cells_exact, is_under, find_entry, get_by, tied}
-use Rattle.office_tables_shelf.proofs.ListLemmas.{less, parts}
-use Rattle.office_tables_shelf.proofs.RowLemmas.{same_left}
+use Rattle.office_tables_shelf.proofs.{ListLemmas.less, ListLemmas.parts, RowLemmas.same_left}
 use Rattle.office_tables_migration.specs.Former.{former_cells, AreKept, has_ped, is_row, timing_puts, draft_puts}
 use Rattle.office_tables_migration.specs.Migration.{respelled, kept_key, kept_columns, IsSpelledAnew, IsMigrated, StandAnew}
 use Rattle.office_tables_migration.specs.declared.puts.Migrated.{Migrated}

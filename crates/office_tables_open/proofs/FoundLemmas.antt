@@ -3,16 +3,14 @@ use Rattle.std.proofs.Common.{◌≡◌, ◌≢◌, inl, inr, ℕ, Bool, true, f
 use Rattle.std.proofs.{lemmas.Bool.and_parts, lemmas.Bool.cases_Bool, lemmas.Bool.ltb-true, lemmas.List.length-map, lemmas.List.nil_from_length, lemmas.List.Sorted.length_permutation}
 use Rattle.std.specs.{FinMap.get, FinMap.get-empty, Ordering.is_eq, List.AllZip, List.AllByRecursion, List.list_all}
 use Rattle.sqlite.specs.{Collation.TheVariants.Binary, Ops.binary, Ops.is_true, Ops.from_truth, Order.Row, Order.column, Tree.Trees}
-use Rattle.sqlite.specs.{View.View, View.IsShaped, declared.types.Value.TheVariants.Int}
-use Rattle.sqlite.specs.declared.types.Value.{Value}
+use Rattle.sqlite.specs.{View.View, View.IsShaped, declared.types.Value.TheVariants.Int, declared.types.Value.Value}
 use Rattle.sqlite_rules.proofs.ListLemmas.{all_has, all_from, test_has}
 use Rattle.sqlite_rules.specs.Lists.{Has}
 use Rattle.sqlite_schema.specs.Rules.{equal}
 use Rattle.sqlite_store.proofs.{RowLemmas.from_key-none, AlikeLemmas.no_code}
 use Rattle.sqlite_schema.specs.declared.{schema.Table.Table, schema.Index.Index, schema.Schema.Schema, schema.View.View as Stored}
-use Rattle.sqlite_trees.specs.View.{with_cursor, Advances, Finds, is_int}
-use Rattle.sqlite_trees.specs.Objects.{catalog_tree, shape_code, number_in, row_for}
-use Rattle.sqlite_trees.specs.Tree.{sought, from_key, has_rowid}
+use Rattle.sqlite_trees.specs.{View.with_cursor, View.Advances, View.Finds, View.is_int, Objects.catalog_tree, Objects.shape_code}
+use Rattle.sqlite_trees.specs.{Objects.number_in, Objects.row_for, Tree.sought, Tree.from_key, Tree.has_rowid}
 use Rattle.sqlite_trees.specs.declared.store.Direction.TheVariants.{Forward}
 use Rattle.sqlite_trees.specs.declared.store.Shape.TheVariants as shape
 use Rattle.sqlite_value.specs.{Keys.first_key, Order.value_cmp, declared.keys.Order.Order}

@@ -3,10 +3,9 @@ use Rattle.std.proofs.Common.{◌≡◌, ℕ, zero, suc, ◌<◌, ◌≤◌, ◌
 use Rattle.std.proofs.{lemmas.Bool.eq-eqb, lemmas.Bool.ltb-true, lemmas.Bool.ne_eqb, lemmas.List.take-append-drop}
 use Rattle.std.specs.{Prelude.OnOk, Prelude.⊤, List.AllByRecursion, List.list_all}
 use Rattle.sqlite.specs.Does.{AtPlace, Drops as DoesDrop, Empties, HoldWithout, Leaves, Redefines, Tally, Tested, Uncounts, UncountsIn, is_acted_on, no_rows}
-use Rattle.sqlite.specs.Rows.{Gives, Outcome, Part, Task, Then, sequence}
-use Rattle.sqlite.specs.{Command.TheVariants.DropTable, Effect.Database, Effect.IsDatabase, Given.IsPlain, Held.Held, Held.state, Listing.understood}
-use Rattle.sqlite.specs.{State.State, State.ExecutesInside, State.mode_of, Tree.Trees, View.IsShaped}
-use Rattle.sqlite.specs.declared.run.Mode.{Mode}
+use Rattle.sqlite.specs.{Rows.Gives, Rows.Outcome, Rows.Part, Rows.Task, Rows.Then, Rows.sequence, Command.TheVariants.DropTable}
+use Rattle.sqlite.specs.{Effect.Database, Effect.IsDatabase, Given.IsPlain, Held.Held, Held.state, Listing.understood, State.State}
+use Rattle.sqlite.specs.{State.ExecutesInside, State.mode_of, Tree.Trees, View.IsShaped, declared.run.Mode.Mode}
 use Rattle.sqlite.proofs.Callers.{runs_as, through}
 use Rattle.sqlite_catalog.specs.Change.{without_table, KeepsRows}
 use Rattle.sqlite_catalog.proofs.ListFacts.{filter_all, filter_left}
@@ -17,8 +16,8 @@ use Rattle.sqlite_trees.specs.declared.store.Shape.TheVariants as shape
 use Rattle.sqlite_trees.specs.declared.store.Store.{Ghosts}
 use Rattle.sqlite_trees.proofs.ListLemmas.{all-append, all_both}
 use Rattle.office_tables_schema.specs.Schema.{front_schema, numbered, office_schema, place_after, version_table}
-use Rattle.office_tables_sql.specs.{Calls.IsReady, Calls.command_of, Calls.statement_of, Stored.content_now, Stored.content_of}
 use Rattle.office_tables_schema.specs.declared.TheConstants.{CREATES}
+use Rattle.office_tables_sql.specs.{Calls.IsReady, Calls.command_of, Calls.statement_of, Stored.content_now, Stored.content_of}
 use Rattle.office_tables_open.specs.Lacking.{IsGrown, IsSpread, SeesFront, content_before, emptied_from}
 use Rattle.office_tables_open.specs.{Opening.AreRun, Version.version_in, Version.current_version}
 use Rattle.office_tables_open.proofs.MadeLemmas.{AreFree, AreMaking, Ends, kept_rows, made_of, office_making, over_run, second_of, untreed}

@@ -9,8 +9,7 @@ use Rattle.sqlite_catalog.proofs.LayoutLemmas.{named_tree, zipped_left, zipped_r
 use Rattle.sqlite_trees.proofs.ListLemmas.{all_weaker}
 use Rattle.sqlite_rules.proofs.ListLemmas.{all_from, all_has, has_either, has_right, test_has}
 use Rattle.sqlite_rules.specs.Lists.{Has}
-use Rattle.sqlite_schema.specs.Names.{same_name}
-use Rattle.sqlite_schema.specs.declared.{schema.Index.Index, schema.Schema.Schema, schema.Table.Table}
+use Rattle.sqlite_schema.specs.{Names.same_name, declared.schema.Index.Index, declared.schema.Schema.Schema, declared.schema.Table.Table}
 use Rattle.sqlite_tied.specs.Compute.{everything}
 use Rattle.sqlite_trees.specs.Objects.{catalog_tree, number_in}
 use Rattle.sqlite_value.specs.Order.{bytes}

@@ -1,10 +1,9 @@
 -- What the texts that make the tables make of a database that has none.
 use Rattle.std.proofs.Common.{◌≡◌, ◌≤◌, ℕ, true, false, List, [], ◌∷◌, map, Some, Result, Ok, Err, refl, sym, ap, subst, ◌∙◌, arith}
 use Rattle.std.specs.{List.AllByRecursion, Prelude.OnOk, Prelude.⊤}
-use Rattle.sqlite.specs.Does.{MakesTable, MakesSequence, lacks_sequence, no_rows}
-use Rattle.sqlite.specs.State.{State, ExecutesInside, HasCleanDisk, Shows}
-use Rattle.sqlite.specs.{Command.TheVariants.CreateTable, Effect.Database, Effect.IsDatabase, Given.IsPlain, Held.Held, Held.state, Listing.understood}
-use Rattle.sqlite.specs.{Rows.Then, Rows.Gives, Tree.Trees, View.IsShaped}
+use Rattle.sqlite.specs.{Does.MakesTable, Does.MakesSequence, Does.lacks_sequence, Does.no_rows, State.State, State.ExecutesInside}
+use Rattle.sqlite.specs.{State.HasCleanDisk, State.Shows, Command.TheVariants.CreateTable, Effect.Database, Effect.IsDatabase}
+use Rattle.sqlite.specs.{Given.IsPlain, Held.Held, Held.state, Listing.understood, Rows.Then, Rows.Gives, Tree.Trees, View.IsShaped}
 use Rattle.sqlite.proofs.Callers.{runs_as, through}
 use Rattle.sqlite_catalog.specs.Change.{created, next_tree, KeepsRows}
 use Rattle.sqlite_resolve.specs.Compile.{table_defined_by}
@@ -16,9 +15,8 @@ use Rattle.sqlite_trees.proofs.ListLemmas.{all_both, all_weaker}
 use Rattle.office_tables_shelf.proofs.ListLemmas.{all_more}
 use Rattle.office_tables_shelf.specs.Content.{no_content}
 use Rattle.office_tables_sql.specs.Calls.{AreOrdered, IsOffice, IsReady, command_of, statement_of}
-use Rattle.office_tables_schema.specs.Schema.{no_schema, office_schema}
 use Rattle.office_tables_sql.specs.Stored.{content_now}
-use Rattle.office_tables_schema.specs.declared.TheConstants.{CREATES}
+use Rattle.office_tables_schema.specs.{Schema.no_schema, Schema.office_schema, declared.TheConstants.CREATES}
 use Rattle.office_tables_open.specs.{Opening.AreRun, Opening.IsNew, Version.AreEmpty, Version.version_in, Version.current_version}
 
 -- in a transaction over tables that have these rows

@@ -6,14 +6,12 @@ use Rattle.sqlite_trees.specs.{View.doubt, Objects.catalog_tree, declared.store.
 use Rattle.sqlite_catalog.specs.Listing.{AreListed}
 use Rattle.office_tables_shelf.specs.Counts.{no_writes}
 use Rattle.office_tables_schema.specs.Schema.{office_schema, no_schema, version_table}
-use Rattle.office_tables_sql.specs.Calls.{IsHonest, IsOffice}
-use Rattle.office_tables_sql.specs.Stored.{cells, content_now, content_of}
+use Rattle.office_tables_sql.specs.{Calls.IsHonest, Calls.IsOffice, Stored.cells, Stored.content_now, Stored.content_of}
 use Rattle.office_tables_open.specs.Arranged.{IsArranged, IsUnchanged, IsTaken, IsCheckedAgain}
 use Rattle.office_tables_open.specs.Found.{HasOtherVersion, HasRowsAlone, IsFound, IsFoundIn, IsUnclaimed}
 use Rattle.office_tables_open.specs.Opening.{AreMade, IsMadeNew, IsOpened, IsSettled, MayBeTaken, IsOpenIfClean}
-use Rattle.office_tables_open.specs.Version.{AreEmpty, TellsOther, version_in, current_version}
-use Rattle.office_tables_open.specs.{Lacking.Hold, Lacking.IsLacking, Lacking.Rise, SqlShelf.SqlView}
-use Rattle.office_tables_open.specs.declared.found.Found.{Found}
+use Rattle.office_tables_open.specs.{Version.AreEmpty, Version.TellsOther, Version.version_in, Version.current_version, Lacking.Hold}
+use Rattle.office_tables_open.specs.{Lacking.IsLacking, Lacking.Rise, SqlShelf.SqlView, declared.found.Found.Found}
 use Rattle.office_tables_open.specs.declared.found.Found.TheVariants.{Nothing, RowsAlone, OtherVersion}
 use Rattle.office_tables_open.proofs.{ArrangedLemmas.tables_rise, FoundLemmas.found_empty, FoundLemmas.store_none, FoundLemmas.have_no_row}
 use Rattle.office_tables_open.proofs.{LackingLemmas.hold_none, LackingLemmas.unclaimed_whole, VersionLemmas.empty_content}

@@ -5,15 +5,14 @@ use Rattle.std.specs.{List.AllByRecursion, Option.option_to_list, FinMap.get, Fi
 use Rattle.sqlite.specs.{Command.Command, Command.TheVariants.Select, Command.TheVariants.Insert, Command.TheVariants.Delete, Query.Join, Query.inner}
 use Rattle.sqlite.specs.{Effect.Database, Listing.understood, Order.Row, Program.overlay, Tree.Trees, Cast.cast_row, Source.Source, State.State}
 use Rattle.sqlite.specs.{Source.TheVariants.Values, Term.lit, Term.col, View.IsShaped}
-use Rattle.sqlite.specs.Effect as effect
 use Rattle.sqlite.specs.declared.types.Value.TheVariants.{Null, Int}
+use Rattle.sqlite.specs.Effect as effect
 use Rattle.sqlite_tied.specs.Compute.{everything}
 use Rattle.office_tables_sql.specs.Layout as layout
 use Rattle.office_tables_shelf.specs.{Content.no_content, Cells.number, declared.rows.Table.Table}
-use Rattle.office_tables_sql.specs.Stored.{rows_in, content_of, cells, rows_of, content_now}
-use Rattle.office_tables_sql.specs.Calls.{IsQuery, Reads, IsReady, Ran}
+use Rattle.office_tables_sql.specs.{Stored.rows_in, Stored.content_of, Stored.cells, Stored.rows_of, Stored.content_now, Calls.IsQuery}
+use Rattle.office_tables_sql.specs.{Calls.Reads, Calls.IsReady, Calls.Ran, Tables.schema_at, Tables.found_by, Layout.office_version}
 use Rattle.office_tables_schema.specs.Schema.{office_schema, version_table}
-use Rattle.office_tables_sql.specs.{Tables.schema_at, Tables.found_by, Layout.office_version}
 use Rattle.office_tables_open.specs.Version.{AreEmpty, IsListing, ListsRows, stored_trees, version_in, current_version}
 use Rattle.office_tables_sql.proofs.QueryLemmas.{answers, IsRead, IsWrite, AreShaped, found_by_key, has_width}
 use Rattle.office_tables_sql.proofs.WriteLemmas.{Added, adds, IsIdle, wrote}

@@ -3,13 +3,10 @@ use Rattle.std.proofs.Common.{◌≡◌, ◌≢◌, ℕ, zero, suc, ◌<◌, ◌
 use Rattle.std.proofs.lemmas.Option.{unwrap_or-slice_get, get_or_from_slice_get}
 use Rattle.sqlite_value.specs.declared.value.Value.TheVariants.{Null, Int}
 use Rattle.sqlite_value.specs.declared.keys.Collation.TheVariants as collation
-use Rattle.sqlite_sql.specs.Term.{Term, lit, col, op2}
-use Rattle.sqlite_sql.specs.declared.ops.BinaryOp.TheVariants.{Compare}
-use Rattle.sqlite_schema.specs.Code.{op_term, term_to, term_in, terms_in}
-use Rattle.sqlite_schema.specs.declared.code.Op.{Op}
+use Rattle.sqlite_sql.specs.{Term.Term, Term.lit, Term.col, Term.op2, declared.ops.BinaryOp.TheVariants.Compare}
+use Rattle.sqlite_schema.specs.{Code.op_term, Code.term_to, Code.term_in, Code.terms_in, declared.code.Op.Op}
 use Rattle.sqlite_schema.specs.declared.code.Op.TheVariants.{Literal, Column, Unary, Binary, Case}
-use Rattle.office_tables_schema.specs.Wanted.{ComparesAt}
-use Rattle.office_tables_schema.specs.declared.parts.WantedCheck.{WantedCheck}
+use Rattle.office_tables_schema.specs.{Wanted.ComparesAt, declared.parts.WantedCheck.WantedCheck}
 
 module _ (ops : List Op) where
   node_there : (at : ℕ) (op : Op) → slice_index_or ops at (Literal Null) ≡ op → op ≢ Literal Null → slice_get ops at ≡ Some op

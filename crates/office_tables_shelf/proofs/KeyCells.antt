@@ -1,13 +1,10 @@
 -- The cells of the keys of intersections and of the register have the order of the keys.
 use Rattle.std.proofs.Common.{◌≡◌, ℕ, ◌∙◌}
-use Rattle.std.specs.Ordering.{nat_cmp, ordering_then}
-use Rattle.std.specs.declared.cmp.Ordering.TheVariants.{Equal}
+use Rattle.std.specs.{Ordering.nat_cmp, Ordering.ordering_then, declared.cmp.Ordering.TheVariants.Equal}
 use Rattle.cabinet_core.specs.Register.{RecordKey, LineKey, DeliveryKey, record_cmp, line_cmp, delivery_cmp}
-use Rattle.office_tables_shelf.specs.Cells.{cells_cmp}
-use Rattle.office_tables_shelf.specs.Rows.{intersection_key}
-use Rattle.office_tables_shelf.specs.RegisterStands.{inspection_cells, line_cells, delivery_cells}
-use Rattle.office_tables_shelf.proofs.CabinetLemmas.{text_order}
-use Rattle.office_tables_shelf.proofs.TreeLemmas.{number_order, then_last}
+use Rattle.office_tables_shelf.specs.{Cells.cells_cmp, Rows.intersection_key, RegisterStands.inspection_cells, RegisterStands.line_cells}
+use Rattle.office_tables_shelf.specs.RegisterStands.{delivery_cells}
+use Rattle.office_tables_shelf.proofs.{CabinetLemmas.text_order, TreeLemmas.number_order, TreeLemmas.then_last}
 
 pub intersection_order : (a b : ℕ) → cells_cmp (intersection_key a) (intersection_key b) ≡ nat_cmp a b
 intersection_order a b = (λ i. ordering_then (number_order a b i) Equal) ∙ then_last (nat_cmp a b)

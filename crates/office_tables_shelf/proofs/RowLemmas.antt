@@ -3,32 +3,22 @@
 use Rattle.std.proofs.Common.{◌≡◌, ℕ, zero, suc, ◌^◌, ◌<◌, ◌≤◌, Bool, true, false, eqb}
 use Rattle.std.proofs.Common.{List, [], ◌∷◌, map, Option, Some, None, refl, sym, ap, ◌∙◌, arith}
 use Rattle.std.specs.Prelude.{codes, slice_index, not, ◌&&◌, IfSome, IsTrue}
-use Rattle.std.specs.Char.{is_ascii, is_ascii_digit}
-use Rattle.std.specs.Fmt.{decimal}
-use Rattle.std.specs.Str.{IsUtf8}
-use Rattle.std.proofs.lemmas.Str.{IsUtf8-from_ascii}
-use Rattle.std.specs.List.{All, list_all, join_with_byte, slice_split}
-use Rattle.std.proofs.lemmas.Bool.{and_parts, and_from, not-true}
-use Rattle.std.proofs.lemmas.Bool.Decides.{nat_tests}
-use Rattle.std.proofs.lemmas.List.Folds.{list_all-append}
-use Rattle.std.proofs.lemmas.List.Elements.{All-weaker}
+use Rattle.std.specs.{Char.is_ascii, Char.is_ascii_digit, Fmt.decimal, Str.IsUtf8, List.All, List.list_all, List.join_with_byte}
+use Rattle.std.specs.List.{slice_split}
+use Rattle.std.proofs.{lemmas.Str.IsUtf8-from_ascii, lemmas.Bool.and_parts, lemmas.Bool.and_from, lemmas.Bool.not-true}
+use Rattle.std.proofs.{lemmas.Bool.Decides.nat_tests, lemmas.List.Folds.list_all-append, lemmas.List.Elements.All-weaker}
 use Rattle.std.proofs.lemmas.List.Splits.{join_with_byte-slice_split, slice_split_at, slice_split_none}
 use Rattle.std.proofs.lemmas.List.Sums.{AllPass-from_list_all, list_all-from_AllPass}
-use Rattle.signal_records.specs.declared.record.Ped.{Ped}
-use Rattle.signal_records.specs.declared.record.Phase.{Phase}
-use Rattle.signal_records.specs.declared.record.SplitMode.{SplitMode}
-use Rattle.signal_records.specs.declared.record.SplitMode.TheVariants.{NoRecall, MinimumVehicleRecall, MaximumVehicleRecall, PedestrianRecall, MaximumVehicleAndPedestrianRecall, PhaseOmitted}
-use Rattle.signal_records.specs.declared.record.Row.{Row}
+use Rattle.signal_records.specs.{declared.record.Ped.Ped, declared.record.Phase.Phase, declared.record.SplitMode.SplitMode}
+use Rattle.signal_records.specs.declared.record.SplitMode.TheVariants.{NoRecall, MinimumVehicleRecall, MaximumVehicleRecall}
+use Rattle.signal_records.specs.declared.record.SplitMode.TheVariants.{PedestrianRecall, MaximumVehicleAndPedestrianRecall, PhaseOmitted}
+use Rattle.signal_records.specs.{declared.record.Row.Row, PhaseList.is_phase, PhaseList.is_phase_list, PhaseList.is_distinct}
+use Rattle.signal_records.specs.{Reading.is_numeral, Reading.row_at, Spelling.list, Spelling.flag, Spelling.lead_field, Spelling.ped_fields}
+use Rattle.signal_records.specs.{Spelling.phase_front, Spelling.phase_fields, Spelling.spelling, SplitMode.mode_code}
+use Rattle.signal_records.specs.{declared.limits.Limits.Limits, declared.number.TheConstants.PHASES, Within.AreLimits}
+use Rattle.signal_records.specs.Within.{current_limits, most_lead, IsAnyPedWithin, IsPhaseWithin, IsRowWithin}
 use Rattle.signal_records.specs.declared.record.Row.TheVariants as row
-use Rattle.signal_records.specs.PhaseList.{is_phase, is_phase_list, is_distinct}
-use Rattle.signal_records.specs.Reading.{is_numeral, row_at}
-use Rattle.signal_records.specs.Spelling.{list, flag, lead_field, ped_fields, phase_front, phase_fields, spelling}
-use Rattle.signal_records.specs.SplitMode.{mode_code}
-use Rattle.signal_records.specs.declared.limits.Limits.{Limits}
-use Rattle.signal_records.specs.declared.number.TheConstants.{PHASES}
-use Rattle.signal_records.specs.Within.{AreLimits, current_limits, most_lead, IsAnyPedWithin, IsPhaseWithin, IsRowWithin}
-use Rattle.signal_records.proofs.FieldLaws.{numeral_decimal, in_range, same_ok}
-use Rattle.signal_records.proofs.RowLaws.{row_only, are_current}
+use Rattle.signal_records.proofs.{FieldLaws.numeral_decimal, FieldLaws.in_range, FieldLaws.same_ok, RowLaws.row_only, RowLaws.are_current}
 use Rattle.office_tables_shelf.specs.Rows.{body_in, body_of, timing_columns, left_columns_in, left_columns}
 
 abbrev pub is_comma : ℕ → Bool

@@ -1,11 +1,9 @@
 -- A finite map, stored as the rows of a table: what the rows have at a key, what an insertion makes of them, and that they are the map's entries.
 use Rattle.std.proofs.Common.{◌≡◌, ◌⊎◌, inl, inr, List, [], ◌∷◌, map, length, Option, Some, None, cond, T, Ordering, refl, ap, sym, subst, ◌∙◌, arith}
-use Rattle.std.specs.Cmp.{IsTotalOrder, eq_by_cmp_equiv}
+use Rattle.std.specs.{Cmp.IsTotalOrder, Cmp.eq_by_cmp_equiv, FinMap.FinMap, FinMap.entries, FinMap.entries_sorted, FinMap.get}
+use Rattle.std.specs.{FinMap.insert, FinMap.get-entries, FinMap.get-insert, FinMap.Entries.is_sorted, FinMap.Entries.below_all}
+use Rattle.std.specs.{Option.option_map, Ordering.is_eq, Ordering.is_lt, Ordering.eq_by_cmp}
 use Rattle.std.specs.FinMap as finite
-use Rattle.std.specs.FinMap.{FinMap, entries, entries_sorted, get, insert, get-entries, get-insert}
-use Rattle.std.specs.FinMap.Entries.{is_sorted, below_all}
-use Rattle.std.specs.Option.{option_map}
-use Rattle.std.specs.Ordering.{is_eq, is_lt, eq_by_cmp}
 use Rattle.office_tables_shelf.specs.Cells.{Cell, tree_rows, cells_cmp}
 use Rattle.office_tables_shelf.proofs.CellLemmas.{first_under, get_by}
 use Rattle.office_tables_shelf.proofs.ListLemmas.{both, parts, entries_in_order, cells_of}

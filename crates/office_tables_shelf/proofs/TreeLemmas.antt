@@ -1,18 +1,13 @@
 -- A tree of records stands for the map of their cells, and follows its changes.
 use Rattle.std.proofs.Common.{◌≡◌, ◌⊎◌, inl, inr, ℕ, true, false, List, [], ◌∷◌, find, cond, Option, None, Some, option_map, Ordering, nat_cmp, pos, refl, sym, ap, subst, ◌∙◌, arith}
-use Rattle.std.proofs.lemmas.Bool.{cases_Bool}
-use Rattle.std.proofs.lemmas.Bool.Decides.{nat_tests}
-use Rattle.std.specs.BTreeMap.{is_at}
-use Rattle.std.specs.Cmp.{eq_by_cmp_equiv, nat_cmp_total, tied_itself}
-use Rattle.std.specs.FinMap.{insert, remove, get, same_map, get-insert, get-remove}
-use Rattle.std.specs.Map.{lookup}
-use Rattle.std.specs.Ordering.{is_eq, eq_by_cmp, int_cmp, ordering_then}
-use Rattle.signal_records.specs.Key.{kind_of, first_of, second_of, key_cmp}
-use Rattle.signal_records.specs.declared.key.Key.{Key}
-use Rattle.office_tables_shelf.specs.Rows.{timing_key}
-use Rattle.office_tables_shelf.specs.Cells.{Cell, number, tree_rows, cell_cmp, cells_cmp}
+use Rattle.std.proofs.{lemmas.Bool.cases_Bool, lemmas.Bool.Decides.nat_tests}
+use Rattle.std.specs.{BTreeMap.is_at, Cmp.eq_by_cmp_equiv, Cmp.nat_cmp_total, Cmp.tied_itself, FinMap.insert, FinMap.remove, FinMap.get}
+use Rattle.std.specs.{FinMap.same_map, FinMap.get-insert, FinMap.get-remove, Map.lookup, Ordering.is_eq, Ordering.eq_by_cmp}
+use Rattle.std.specs.{Ordering.int_cmp, Ordering.ordering_then, declared.cmp.Ordering.TheVariants.Less}
+use Rattle.std.specs.declared.cmp.Ordering.TheVariants.{Equal, Greater}
+use Rattle.signal_records.specs.{Key.kind_of, Key.first_of, Key.second_of, Key.key_cmp, declared.key.Key.Key}
+use Rattle.office_tables_shelf.specs.{Rows.timing_key, Cells.Cell, Cells.number, Cells.tree_rows, Cells.cell_cmp, Cells.cells_cmp}
 use Rattle.office_tables_shelf.proofs.CellLemmas.{cells_total, cells_exact, is_under, first_under, get_by, mapped, tied}
-use Rattle.std.specs.declared.cmp.Ordering.TheVariants.{Less, Equal, Greater}
 
 module _ {K X : Type 0} (R : K → K → Ordering) (key : K → List Cell) (columns : X → List Cell) where
   -- what a tree with these entries has at a key

@@ -1,13 +1,11 @@
 -- A value that has the cell of a row's text reads as a text.
 use Rattle.std.proofs.Common.{◌≡◌, ℕ, List, [], ◌∷◌, refl, sym, subst}
 use Rattle.std.specs.Str.{IsUtf8}
-use Rattle.sqlite.specs.declared.types.Value.{Value}
-use Rattle.sqlite.specs.declared.types.Value.TheVariants.{Text}
+use Rattle.sqlite.specs.{declared.types.Value.Value, declared.types.Value.TheVariants.Text}
 use Rattle.signal_records.specs.declared.{limits.Limits.Limits, record.Row.Row}
 use Rattle.signal_records.specs.Within.{AreLimits, current_limits, IsRowWithin}
 use Rattle.signal_records.proofs.RowLaws.{are_current}
-use Rattle.office_tables_shelf.specs.Cells.{Cell, text}
-use Rattle.office_tables_shelf.specs.Rows.{body_in, body_of, timing_columns}
+use Rattle.office_tables_shelf.specs.{Cells.Cell, Cells.text, Rows.body_in, Rows.body_of, Rows.timing_columns}
 use Rattle.office_tables_shelf.proofs.RowLemmas.{body_utf8, same_row}
 use Rattle.office_tables_sql.specs.Stored.{cell_of}
 

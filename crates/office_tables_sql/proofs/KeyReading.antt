@@ -1,8 +1,7 @@
 -- A key from the numbers of its columns.
 use Rattle.std.proofs.Common.{◌≡◌, ℕ, ◌<◌, ◌^◌, pos, arith}
 use Rattle.sqlite.specs.Order.{Row, column}
-use Rattle.signal_records.specs.{Key.kind_of, Key.first_of, Key.second_of, declared.key.Key.Key}
-use Rattle.signal_records.specs.Within.{IsKeyWithin, current_limits}
+use Rattle.signal_records.specs.{Key.kind_of, Key.first_of, Key.second_of, declared.key.Key.Key, Within.IsKeyWithin, Within.current_limits}
 use Rattle.signal_records.specs.declared.key.Key.TheVariants.{Phase, Seq, Split, Pattern}
 use Rattle.office_tables_shelf.specs.{Cells.number, Rows.timing_key}
 use Rattle.office_tables_sql.specs.{Listed.shown_key, Stored.cell_of}

@@ -3,28 +3,25 @@ use Rattle.std.proofs.Common.{◌≡◌, inl, inr, ℕ, ◌+◌, ◌<◌, Bool, 
 use Rattle.std.proofs.lemmas.Bool.{cases_Bool, false_from_ne_true, and_from, not-true}
 use Rattle.std.proofs.lemmas.List.{get_or_default, length-map, Sorted.IsPermutation-map}
 use Rattle.std.proofs.lemmas.Map.Keys.{IsDistinct-IsPermutation}
-use Rattle.std.specs.{Cmp.eq_by_cmp_equiv, List.IsDistinct, List.list_all}
-use Rattle.std.specs.FinMap.{entries, get, len, entries_sorted, get-entries, len-entries, len-empty, len-insert}
-use Rattle.std.specs.FinMap.Entries.{where_key, is_sorted-where_key, find-where_key, same_entries}
-use Rattle.std.specs.List.Sorted.{IsPermutation, IsSorted}
-use Rattle.std.specs.Ordering.{is_lt, eq_by_cmp}
-use Rattle.sqlite.specs.{Order.Row, Order.column, Order.row_cmp, Order.value_cmp, Ops.binary}
-use Rattle.sqlite.specs.Query.{inner, end, IsAnswer, output, Output, matches}
-use Rattle.sqlite.specs.{Term.Term, Term.holds, Tree.Trees, Tree.rowid, Tree.IsTable, Schema.Schema}
+use Rattle.std.specs.{Cmp.eq_by_cmp_equiv, List.IsDistinct, List.list_all, FinMap.entries, FinMap.get, FinMap.len, FinMap.entries_sorted}
+use Rattle.std.specs.{FinMap.get-entries, FinMap.len-entries, FinMap.len-empty, FinMap.len-insert, FinMap.Entries.where_key}
+use Rattle.std.specs.FinMap.Entries.{is_sorted-where_key, find-where_key, same_entries}
+use Rattle.std.specs.{List.Sorted.IsPermutation, List.Sorted.IsSorted, Ordering.is_lt, Ordering.eq_by_cmp}
+use Rattle.sqlite.specs.{Order.Row, Order.column, Order.row_cmp, Order.value_cmp, Ops.binary, Query.inner, Query.end, Query.IsAnswer}
+use Rattle.sqlite.specs.{Query.output, Query.Output, Query.matches, Term.Term, Term.holds, Tree.Trees, Tree.rowid, Tree.IsTable}
+use Rattle.sqlite.specs.{Schema.Schema, declared.types.Value.TheVariants.Int, Table.Table, View.IsShaped}
 use Rattle.sqlite_sql.specs.Query.{output_cmp}
 use Rattle.sqlite_rules.specs.Lists.{Has}
 use Rattle.sqlite_rules.proofs.ListLemmas.{has_at, has_filtered, all_from, all_has, some_from, test_has}
+use Rattle.sqlite_rules.proofs.{ProbeLemmas.has_mapped, RuleLemmas.keeps_at, TableLemmas.int_is}
 use Rattle.sqlite_trees.proofs.ListLemmas.{all-filter, all-map, all_from_map, map-map}
 use Rattle.office_tables_shelf.specs.Cells.{Cell, cells_cmp, rows_by}
 use Rattle.office_tables_shelf.proofs.CellLemmas.{cells_total, cells_exact, is_under, find_entry, get_by}
-use Rattle.office_tables_sql.specs.{Layout.Layout, Layout.values_at, Tables.listed_by}
-use Rattle.office_tables_sql.specs.Stored.{cells_at, rows_in}
+use Rattle.office_tables_shelf.proofs.ListLemmas.{entry, listed, strictly, IsIn, entries_filter, no_find}
+use Rattle.office_tables_sql.specs.{Layout.Layout, Layout.values_at, Tables.listed_by, Stored.cells_at, Stored.rows_in}
 use Rattle.office_tables_sql.proofs.StoredLemmas.{HaveKeys, same_order, agree_ties}
 use Rattle.office_tables_sql.proofs.{QueryLemmas.matched, RemoveLemmas.permuted}
-use Rattle.sqlite_rules.proofs.{ProbeLemmas.has_mapped, RuleLemmas.keeps_at, TableLemmas.int_is}
-use Rattle.office_tables_shelf.proofs.ListLemmas.{entry, listed, strictly, IsIn, entries_filter, no_find}
 use Rattle.std.specs.FinMap as finite
-use Rattle.sqlite.specs.{declared.types.Value.TheVariants.Int, Table.Table, View.IsShaped}
 use Rattle.sqlite_trees.specs.declared.store.Shape.TheVariants as shape
 use Rattle.sqlite_schema.specs.declared.schema.{Index.Index, Constraint.TheVariants.Unique}
 use Rattle.sqlite_schema.specs.Rules.{agree, clashes, differ, guards, Obeys}

@@ -1,35 +1,31 @@
 -- What the queries on a table show: those of its rows, of how many they are, and of one row by its key.
 use Rattle.std.proofs.Common.{◌≡◌, inl, inr, ℕ, false, true, List, [], ◌∷◌, map, length, refl, sym, subst, ap, ◌∙◌, find, Option, Some, None, IfSome, option_map, ◌<◌, ◌^◌, min, Bool, filter, pos, arith}
-use Rattle.std.specs.{FinMap.entries, FinMap.get, FinMap.Entries.where_key, Option.option_to_list}
-use Rattle.std.specs.List.{IsDistinct, AllByRecursion, list_all, AllZip, Sorted.IsPermutation}
-use Rattle.std.specs.Ordering.{is_eq, eq_by_cmp}
-use Rattle.sqlite.specs.{declared.types.Value.TheVariants.Null, Effect.Database, Effect.IsDatabase}
+use Rattle.std.specs.{FinMap.entries, FinMap.get, FinMap.Entries.where_key, Option.option_to_list, List.IsDistinct, List.AllByRecursion}
+use Rattle.std.specs.{List.list_all, List.AllZip, List.Sorted.IsPermutation, Ordering.is_eq, Ordering.eq_by_cmp}
+use Rattle.sqlite.specs.{declared.types.Value.TheVariants.Null, Effect.Database, Effect.IsDatabase, Order.Row, Order.column}
+use Rattle.sqlite.specs.{Program.overlay, Term.Term, Term.holds, Term.Env, Query.IsAnswer, Query.inner, Query.end, Query.matches}
+use Rattle.sqlite.specs.{Query.output, Query.Output, View.IsShaped}
 use Rattle.sqlite.specs.Effect as effect
-use Rattle.sqlite.specs.{Order.Row, Order.column, Program.overlay, Term.Term, Term.holds, Term.Env}
-use Rattle.sqlite.specs.Query.{IsAnswer, inner, end, matches, output, Output}
-use Rattle.sqlite.specs.View.{IsShaped}
 use Rattle.sqlite_trees.specs.declared.store.Shape.TheVariants as shape
 use Rattle.sqlite_rules.proofs.ListLemmas.{all_from, all_has, has_found}
 use Rattle.sqlite_rules.specs.Lists.{Has}
 use Rattle.sqlite_schema.specs.Rules.{Obeys, clashes}
 use Rattle.sqlite_value.specs.Keys.{plain}
-use Rattle.office_tables_shelf.specs.{Cells.Cell, Cells.cells_cmp, Cells.number, Content.Content}
-use Rattle.office_tables_shelf.specs.declared.rows.Table.{Table}
+use Rattle.office_tables_shelf.specs.{Cells.Cell, Cells.cells_cmp, Cells.number, Content.Content, declared.rows.Table.Table}
 use Rattle.office_tables_sql.specs.{Calls.AreOrdered, Calls.Reads, Layout.values_at, Layout.has_key}
-use Rattle.office_tables_schema.specs.Schema.{office_schema}
 use Rattle.office_tables_sql.specs.Stored.{are_sound, cells_at, rows_in, content_of, cells, cell_of}
+use Rattle.office_tables_sql.specs.Tables.{rows_at, layout_at, schema_at, key_shown, columns_shown, row_shown, width_of, filter_of, params_of, is_among, rows_among, listed_by, IsListText, IsNoRow, HasDamagedRow, places_of, key_given, IsKeyOf, IsUnder, IsFindText, counting, counted_by, IsCountText}
+use Rattle.office_tables_schema.specs.Schema.{office_schema}
 use Rattle.office_tables_sql.specs.Layout as layout
 use Rattle.office_tables_sql.proofs.StoredLemmas.{HaveKeys, same_order, sound_rowids, agree_ties, get_columns}
-use Rattle.office_tables_sql.proofs.SoundLemmas.{sound_keys}
-use Rattle.office_tables_shelf.proofs.{ListLemmas.stands, CellLemmas.cells_exact, CellLemmas.tied}
-use Rattle.office_tables_sql.proofs.ListedLemmas.{distinct_keys, distinct_rising, is_in, unique_by}
-use Rattle.office_tables_sql.proofs.ListedLemmas.{listing, shown_width, counted, distinct_kept}
-use Rattle.office_tables_sql.specs.Tables.{rows_at, layout_at, schema_at, key_shown, columns_shown, row_shown, width_of, filter_of, params_of, is_among, rows_among, listed_by, IsListText, IsNoRow, HasDamagedRow, places_of, key_given, IsKeyOf, IsUnder, IsFindText, counting, counted_by, IsCountText}
+use Rattle.office_tables_sql.proofs.{SoundLemmas.sound_keys, ListedLemmas.distinct_keys, ListedLemmas.distinct_rising, ListedLemmas.is_in}
+use Rattle.office_tables_sql.proofs.ListedLemmas.{unique_by, listing, shown_width, counted, distinct_kept}
 use Rattle.office_tables_sql.proofs.TableLemmas.{same_tree, is_listed, is_low, OwnKey, facts, listing_of, rows_in_tree, in_tree}
+use Rattle.office_tables_sql.proofs.QueryLemmas.{Passes, found_by_key, has_width, matched}
+use Rattle.office_tables_shelf.proofs.{ListLemmas.stands, CellLemmas.cells_exact, CellLemmas.tied}
 use Rattle.std.proofs.lemmas.List.{length-map, Sorted.length_permutation}
 use Rattle.sqlite.proofs.Callers.{one_permutation}
 use Rattle.sqlite_sql.specs.{Aggregate.count, Group.IsSummary, Group.value_over}
-use Rattle.office_tables_sql.proofs.QueryLemmas.{Passes, found_by_key, has_width, matched}
 
 -- ---- one group, and how many it has
 

@@ -2,26 +2,22 @@
 use Rattle.std.proofs.Common.{◌≡◌, ◌≢◌, ℕ, List, [], ◌∷◌, ◌++◌, map, filter, length, not, refl, sym, ap, subst, ◌∙◌}
 use Rattle.std.specs.{FinMap.insert, FinMap.remove, FinMap.retain_keys, Cmp.eq_by_cmp_equiv}
 use Rattle.std.specs.{List.IsDistinct, List.Sorted.IsPermutation, Ordering.eq_by_cmp}
-use Rattle.sqlite.specs.{declared.types.Value.TheVariants.Null, Cast.cast_row, Edit.with_rowid}
+use Rattle.sqlite.specs.{declared.types.Value.TheVariants.Null, Cast.cast_row, Edit.with_rowid, Rowids.TheVariants.Chosen, Order.Row}
+use Rattle.sqlite.specs.{Program.overlay, Query.IsAnswer, Rows.Written, State.State, Term.col, Term.eval_all}
 use Rattle.sqlite.specs.Kind.TheVariants as kind
-use Rattle.sqlite.specs.{Rowids.TheVariants.Chosen, Order.Row, Program.overlay, Query.IsAnswer}
-use Rattle.sqlite.specs.{Rows.Written, State.State, Term.col, Term.eval_all}
 use Rattle.sqlite_rules.specs.Lists.{Has}
-use Rattle.office_tables_shelf.specs.{Cells.Cell, Cells.cells_cmp, Cells.null, Content.Content}
+use Rattle.office_tables_shelf.specs.{Cells.Cell, Cells.cells_cmp, Cells.null, Content.Content, declared.rows.Table.Table}
 use Rattle.office_tables_shelf.proofs.CellLemmas.{cells_total}
-use Rattle.office_tables_shelf.specs.declared.rows.Table.{Table}
 use Rattle.office_tables_sql.specs.{Calls.IsReady, Calls.Ran, Layout.has_key, Layout.values_at}
-use Rattle.office_tables_schema.specs.Schema.{office_schema}
 use Rattle.office_tables_sql.specs.Stored.{cells_at, content_now, rows_in}
-use Rattle.office_tables_sql.proofs.Casts.{cast_one, cast_suited}
-use Rattle.office_tables_sql.proofs.ContentLemmas.{put_at, put_apart}
-use Rattle.office_tables_sql.proofs.WriteLemmas.{Added, adds, went_on, same_value, wrote}
-use Rattle.office_tables_sql.proofs.QueryLemmas.{picked, where_picked}
-use Rattle.office_tables_sql.proofs.RemoveLemmas.{dropped_rows, loses, remove_keyed}
-use Rattle.office_tables_sql.proofs.UpdateLemmas.{Renewed, renews}
 use Rattle.office_tables_sql.specs.Tables.{beside_rowid, id_given, row_given, source_at, rows_at, with_rows, layout_at, schema_at, place_at, renewed_at, put_in, remove_in, key_given, values_of, IsKeyOf, IsUpdateText, IsInsertText, IsRemoveText, Fits}
 use Rattle.office_tables_sql.specs.Tables.{filter_of, is_among, params_of, picked_where, IsDropText}
-use Rattle.office_tables_sql.proofs.TableLemmas.{each, is_placed, is_low, is_uncounted, is_idle, facts, in_tree, same_tree, only_in}
+use Rattle.office_tables_schema.specs.Schema.{office_schema}
+use Rattle.office_tables_sql.proofs.{Casts.cast_one, Casts.cast_suited, ContentLemmas.put_at, ContentLemmas.put_apart, WriteLemmas.Added}
+use Rattle.office_tables_sql.proofs.{WriteLemmas.adds, WriteLemmas.went_on, WriteLemmas.same_value, WriteLemmas.wrote, QueryLemmas.picked}
+use Rattle.office_tables_sql.proofs.{QueryLemmas.where_picked, RemoveLemmas.dropped_rows, RemoveLemmas.loses, RemoveLemmas.remove_keyed}
+use Rattle.office_tables_sql.proofs.{UpdateLemmas.Renewed, UpdateLemmas.renews, TableLemmas.each, TableLemmas.is_placed, TableLemmas.is_low}
+use Rattle.office_tables_sql.proofs.TableLemmas.{is_uncounted, is_idle, facts, in_tree, same_tree, only_in}
 use Rattle.office_tables_sql.proofs.StoredLists.{distinct, shaped, own_keys, seen}
 
 -- the content with the rows that it has

@@ -2,24 +2,21 @@
 use Rattle.std.proofs.Common.{◌≡◌, ◌≢◌, ◌⊎◌, inl, inr, ℕ, ◌+◌, ◌/◌, true, false, true≢false, cond, List, [], ◌∷◌, slice_get, unwrap_or, None, Some, refl, sym, ap, subst, ◌∙◌, eq-eqb, pos}
 use Rattle.std.proofs.lemmas.Bool.{cases_Bool, eqb-true, and_parts, and_from}
 use Rattle.std.specs.{List.AllByRecursion, List.list_all, Cmp.eq_by_cmp_equiv, Ordering.is_eq}
-use Rattle.sqlite.specs.{Order.Row, Order.column, Term.Term, Term.holds, Tree.Trees}
-use Rattle.sqlite.specs.{Program.overlay, declared.types.Value.TheVariants.Int}
+use Rattle.sqlite.specs.{Order.Row, Order.column, Term.Term, Term.holds, Tree.Trees, Program.overlay, declared.types.Value.TheVariants.Int}
 use Rattle.sqlite_rules.specs.Lists.{Has}
 use Rattle.sqlite_rules.proofs.ListLemmas.{all_has}
 use Rattle.sqlite_schema.specs.{Rules.guards, declared.schema.Index.Index}
 use Rattle.sqlite_value.specs.Keys.{plain, first_key}
-use Rattle.office_tables_shelf.specs.{Cells.Rows, Cells.number, Cells.cell_cmp, Shelf.is_of}
-use Rattle.office_tables_shelf.specs.Content.{Content, is_same_table}
+use Rattle.office_tables_shelf.specs.{Cells.Rows, Cells.number, Cells.cell_cmp, Shelf.is_of, Content.Content, Content.is_same_table}
 use Rattle.office_tables_shelf.specs.declared.rows.Table.{Table}
 use Rattle.office_tables_shelf.specs.declared.rows.Table.TheVariants as table
 use Rattle.office_tables_schema.specs.Schema.{office_schema}
 use Rattle.office_tables_sql.specs.Stored.{cells_at, rows_in, content_of, are_sound, cell_of}
-use Rattle.office_tables_sql.proofs.{ListedLemmas.IsListing, QueryLemmas.ArePaired}
-use Rattle.office_tables_sql.proofs.{SoundLemmas.has_key_at, WriteLemmas.IsIdle}
 use Rattle.office_tables_sql.specs.Tables.{rows_at, with_rows, layout_at, schema_at, place_at, key_shown, columns_shown, filter_of, params_of, is_among, of_key}
+use Rattle.office_tables_sql.proofs.{ListedLemmas.IsListing, QueryLemmas.ArePaired, SoundLemmas.has_key_at, WriteLemmas.IsIdle}
+use Rattle.office_tables_sql.proofs.StoredLemmas.{agree_ties}
 use Rattle.sqlite_value.proofs.OrderLemmas.{then-Equal}
 use Rattle.office_tables_shelf.proofs.CellLemmas.{cell_total}
-use Rattle.office_tables_sql.proofs.StoredLemmas.{agree_ties}
 
 abbrev pub of_first : List Term
 of_first = of_key (1 ∷ []) (0 ∷ [])

@@ -1,18 +1,12 @@
 -- What the table of draft rows has at a key, as the changes of a list say it.
 use Rattle.std.proofs.Common.{◌≡◌, inl, inr, ℕ, List, [], ◌∷◌, map, Option, None, Some, option_map, refl, sym, ap, ◌∙◌}
 use Rattle.std.proofs.lemmas.Bool.{cases_Bool}
-use Rattle.std.specs.FinMap.{get}
-use Rattle.std.specs.List.Sorted.{IsStrictlySortedBy}
-use Rattle.std.specs.Ordering.{eq_by_cmp}
-use Rattle.signal_records.specs.Key.{key_cmp}
-use Rattle.signal_records.specs.declared.key.Key.{Key}
-use Rattle.signal_records.specs.declared.record.Change.{Change}
-use Rattle.signal_records.specs.declared.record.Change.TheVariants.{Put, Remove}
+use Rattle.std.specs.{FinMap.get, List.Sorted.IsStrictlySortedBy, Ordering.eq_by_cmp}
+use Rattle.signal_records.specs.{Key.key_cmp, declared.key.Key.Key, declared.record.Change.Change, declared.record.Change.TheVariants.Put}
+use Rattle.signal_records.specs.declared.record.Change.TheVariants.{Remove}
 use Rattle.draft_state.specs.ChangedRows.{changed_key}
 use Rattle.draft_core.specs.DraftRows.{Said, silent, leaves, removes, said_by, later_of, row_at}
-use Rattle.office_tables_shelf.specs.Content.{Content}
-use Rattle.office_tables_shelf.specs.Rows.{timing_key, draft_columns}
-use Rattle.office_tables_shelf.specs.Shelf.{ListsDraft}
+use Rattle.office_tables_shelf.specs.{Content.Content, Rows.timing_key, Rows.draft_columns, Shelf.ListsDraft}
 use Rattle.office_tables_shelf.proofs.CellLemmas.{tied}
 use Rattle.office_tables_shelf.proofs.KeyLemmas.{first_at, none_above, get_listed, draft_keys_rise}
 use Rattle.office_tables_standing.specs.StandFor.{said_columns}

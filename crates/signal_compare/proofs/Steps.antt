@@ -2,22 +2,16 @@
 use Rattle.std.proofs.Common.{◌≡◌, ◌≢◌, Bool, true, false, cond, T, List, [], ◌∷◌, ◌++◌, Option}
 use Rattle.std.proofs.Common.{Some, None, get_or, drop, refl, sym, ap, subst, ◌∙◌, append_assoc}
 use Rattle.std.proofs.Common.{append-nil, inl, inr}
-use Rattle.std.specs.declared.cmp.Ordering.{Ordering}
-use Rattle.std.specs.declared.cmp.Ordering.TheVariants.{Less, Equal, Greater}
-use Rattle.std.specs.Ordering.{is_lt, is_eq, ordering_reverse}
-use Rattle.std.specs.FinMap.{find}
+use Rattle.std.specs.{declared.cmp.Ordering.Ordering, declared.cmp.Ordering.TheVariants.Less, declared.cmp.Ordering.TheVariants.Equal}
+use Rattle.std.specs.{declared.cmp.Ordering.TheVariants.Greater, Ordering.is_lt, Ordering.is_eq, Ordering.ordering_reverse, FinMap.find}
 use Rattle.std.specs.FinMap.Entries.{below_all}
-use Rattle.signal_records.specs.declared.key.Key.{Key}
-use Rattle.signal_records.specs.declared.record.Row.{Row}
-use Rattle.signal_records.specs.Key.{key_cmp}
-use Rattle.signal_records.specs.KeyOrder.{key_total, key_exact}
+use Rattle.signal_records.specs.{declared.key.Key.Key, declared.record.Row.Row, Key.key_cmp, KeyOrder.key_total, KeyOrder.key_exact}
 use Rattle.signal_records.specs.Row.{key_of}
 use Rattle.signal_records.proofs.Sets.{both, is_less, not_found, parts, tied}
-use Rattle.signal_compare.specs.declared.difference.Difference.{Difference}
-use Rattle.signal_compare.specs.declared.difference.Difference.TheVariants.{Added, Removed, Changed}
-use Rattle.signal_compare.specs.Difference.{difference_at, Explains}
-use Rattle.signal_compare.specs.Merging.{keyed, placed, AreInOrder, AreDifferences, TellsChange}
-use Rattle.signal_compare.specs.Merging.{next_order}
+use Rattle.signal_compare.specs.{declared.difference.Difference.Difference, declared.difference.Difference.TheVariants.Added}
+use Rattle.signal_compare.specs.declared.difference.Difference.TheVariants.{Removed, Changed}
+use Rattle.signal_compare.specs.{Difference.difference_at, Difference.Explains, Merging.keyed, Merging.placed, Merging.AreInOrder}
+use Rattle.signal_compare.specs.Merging.{AreDifferences, TellsChange, next_order}
 
 pub less : (o : Ordering) → o ≡ Less → T (is_lt o)
 less o e = subst (λ p. T (is_lt p)) (sym e) tt

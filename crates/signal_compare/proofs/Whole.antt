@@ -2,23 +2,15 @@
 use Rattle.std.proofs.Common.{◌≡◌, ◌≢◌, Bool, true, false, cond, T, List, [], ◌∷◌, Option, Some}
 use Rattle.std.proofs.Common.{None, Result, Ok, Err, map, refl, sym, ap, subst, ◌∙◌}
 use Rattle.std.specs.Prelude.{◌↔◌, IfOk, IsSome}
-use Rattle.std.specs.Ordering.{is_lt, eq_by_cmp}
-use Rattle.std.specs.List.{AllByRecursion}
-use Rattle.std.specs.List.Sorted.{IsStrictlySortedBy}
-use Rattle.std.specs.declared.cmp.Ordering.TheVariants.{Less}
-use Rattle.std.specs.FinMap.{find, get, entries, entries_sorted, values, get-entries, get-insert}
-use Rattle.std.specs.FinMap.{get-remove, same_map}
-use Rattle.std.specs.FinMap.Entries.{below_all, is_sorted}
-use Rattle.signal_records.specs.declared.key.Key.{Key}
-use Rattle.signal_records.specs.declared.record.Row.{Row}
-use Rattle.signal_records.specs.Key.{key_cmp}
-use Rattle.signal_records.specs.KeyOrder.{key_total, key_exact}
-use Rattle.signal_records.specs.Row.{key_of}
-use Rattle.signal_records.specs.TimingSet.{Rows, AreKeyed, after_change, after_changes}
-use Rattle.signal_compare.specs.declared.difference.Difference.{Difference}
-use Rattle.signal_compare.specs.declared.difference.Difference.TheVariants.{Added, Removed, Changed}
-use Rattle.signal_compare.specs.Difference.{place_of, change_of, changes_of, difference_at}
-use Rattle.signal_compare.specs.Difference.{Explains}
+use Rattle.std.specs.{Ordering.is_lt, Ordering.eq_by_cmp, List.AllByRecursion, List.Sorted.IsStrictlySortedBy}
+use Rattle.std.specs.{declared.cmp.Ordering.TheVariants.Less, FinMap.find, FinMap.get, FinMap.entries, FinMap.entries_sorted, FinMap.values}
+use Rattle.std.specs.{FinMap.get-entries, FinMap.get-insert, FinMap.get-remove, FinMap.same_map, FinMap.Entries.below_all}
+use Rattle.std.specs.FinMap.Entries.{is_sorted}
+use Rattle.signal_records.specs.{declared.key.Key.Key, declared.record.Row.Row, Key.key_cmp, KeyOrder.key_total, KeyOrder.key_exact}
+use Rattle.signal_records.specs.{Row.key_of, TimingSet.Rows, TimingSet.AreKeyed, TimingSet.after_change, TimingSet.after_changes}
+use Rattle.signal_compare.specs.{declared.difference.Difference.Difference, declared.difference.Difference.TheVariants.Added}
+use Rattle.signal_compare.specs.declared.difference.Difference.TheVariants.{Removed, Changed}
+use Rattle.signal_compare.specs.Difference.{place_of, change_of, changes_of, difference_at, Explains}
 use Rattle.signal_compare.specs.Merging.{keyed, placed, AreInOrder, AreDifferences}
 use Rattle.signal_records.proofs.Sets.{is_less, keyed_values, parts}
 use Rattle.signal_compare.proofs.Steps.{found_nowhere}

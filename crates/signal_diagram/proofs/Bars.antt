@@ -3,19 +3,14 @@ use Rattle.std.proofs.Common.{◌≡◌, ℕ, zero, suc, ◌+◌, ◌-◌, ◌<�
 use Rattle.std.proofs.Common.{List, [], ◌∷◌, ◌++◌, map, filter, length, Some}
 use Rattle.std.proofs.Common.{◌⊎◌, inl, inr}
 use Rattle.std.proofs.Common.{refl, sym, ap, ap₂, ◌∙◌, subst, arith}
-use Rattle.std.proofs.lemmas.Bool.{and_from, and_left, and_parts}
-use Rattle.std.proofs.lemmas.Bool.{or_from, or_left, or_right}
-use Rattle.std.proofs.lemmas.Bool.{cases_eq, cond-true, cond-false, eq-eqb, ne_eqb}
-use Rattle.std.proofs.lemmas.Bool.{le-leb, le-ltb, lt-ltb, ltb-false}
-use Rattle.std.proofs.lemmas.List.Elements.{All-nil, All-cons}
+use Rattle.std.proofs.lemmas.Bool.{and_from, and_left, and_parts, or_from, or_left, or_right, cases_eq, cond-true, cond-false, eq-eqb}
+use Rattle.std.proofs.lemmas.Bool.{ne_eqb, le-leb, le-ltb, lt-ltb, ltb-false}
+use Rattle.std.proofs.{lemmas.List.Elements.All-nil, lemmas.List.Elements.All-cons, lemmas.Bool.Decides.nat_tests}
 use Rattle.std.specs.Prelude.{All, cond, option_map, replicate, slice_get, ◌||◌, ◌&&◌}
 use Rattle.std.specs.List.{list_any}
-use Rattle.signal_rules.specs.Lookup.{is_in}
-use Rattle.signal_rules.specs.CutPoints.{timed, start_of, starts}
-use Rattle.std.proofs.lemmas.Bool.Decides.{nat_tests}
+use Rattle.signal_rules.specs.{Lookup.is_in, CutPoints.timed, CutPoints.start_of, CutPoints.starts}
 use Rattle.signal_rules.proofs.CutPoints.{length-timed, same_answer}
-use Rattle.signal_diagram.specs.Chart.{Bar, Follow, end_of, phase_at_second}
-use Rattle.signal_diagram.specs.Chart.{changes}
+use Rattle.signal_diagram.specs.Chart.{Bar, Follow, end_of, phase_at_second, changes}
 
 -- a phase of some time from a second on, where it has any
 abbrev pub bar_of : ℕ → ℕ → ℕ → List Bar

@@ -2,38 +2,23 @@
 use Rattle.std.proofs.Common.{◌≡◌, ℕ, zero, suc, ◌+◌, ◌-◌, ◌*◌, ◌<◌, Bool, false, eqb}
 use Rattle.std.proofs.Common.{leb, ltb, List, [], ◌∷◌, ◌++◌, map, filter, length, get_or, flat_map, Some}
 use Rattle.std.proofs.Common.{refl, sym, ap, ap₂, ◌∙◌, arith, codes}
-use Rattle.std.proofs.lemmas.Bool.{and_left}
-use Rattle.std.proofs.lemmas.Bool.Decides.{nat_tests}
-use Rattle.std.proofs.lemmas.List.{append-nil, length-map}
-use Rattle.std.proofs.lemmas.List.Concat.{flat_map-append}
-use Rattle.std.proofs.lemmas.List.Elements.{All-map}
-use Rattle.std.proofs.lemmas.List.Folds.{list_all-map, list_any-append}
+use Rattle.std.proofs.{lemmas.Bool.and_left, lemmas.Bool.Decides.nat_tests, lemmas.List.append-nil, lemmas.List.length-map}
+use Rattle.std.proofs.{lemmas.List.Concat.flat_map-append, lemmas.List.Elements.All-map, lemmas.List.Folds.list_all-map}
+use Rattle.std.proofs.lemmas.List.Folds.{list_any-append}
 use Rattle.std.specs.Prelude.{decimal, ◌||◌, ◌&&◌}
 use Rattle.std.specs.List.{list_all}
-use Rattle.signal_records.specs.declared.record.Pattern.{Pattern}
-use Rattle.signal_records.specs.TimingSet.{Rows}
-use Rattle.signal_rules.specs.Lookup.{is_in, pattern_at, phase_at, split_at}
-use Rattle.signal_rules.specs.SequenceRule.{ring_row}
-use Rattle.signal_rules.specs.PatternRules.{is_coordinated, lane, used_rings}
-use Rattle.signal_rules.specs.CutPoints.{timed}
-use Rattle.signal_rules.specs.Starts.{times}
+use Rattle.signal_records.specs.{declared.record.Pattern.Pattern, TimingSet.Rows}
+use Rattle.signal_rules.specs.{Lookup.is_in, Lookup.pattern_at, Lookup.phase_at, Lookup.split_at, SequenceRule.ring_row}
+use Rattle.signal_rules.specs.{PatternRules.is_coordinated, PatternRules.lane, PatternRules.used_rings, CutPoints.timed, Starts.times}
 use Rattle.signal_rules.proofs.Among.{is_filtered, is_number}
-use Rattle.signal_diagram.specs.declared.geometry.TheConstants.{LABEL_LEFT}
-use Rattle.signal_diagram.specs.Geometry.{shown_seconds, top_of, width_of, height_of}
-use Rattle.signal_diagram.specs.Elements.{where_long, words_at}
-use Rattle.signal_diagram.specs.PhasePicture.{phase_picture}
-use Rattle.signal_diagram.specs.Lanes.{lane_phases, lane_pictures}
-use Rattle.signal_diagram.specs.Barriers.{all_start, barrier, barriers, seconds_within}
-use Rattle.signal_diagram.specs.Scale.{scale}
-use Rattle.signal_diagram.specs.Notes.{head}
-use Rattle.signal_diagram.specs.Diagram.{opening, body, picture, picture_of}
-use Rattle.signal_diagram.specs.declared.document.Sizing.{Sizing}
-use Rattle.signal_diagram.specs.Chart.{Lane, Chart, IsLane, IsChart, all_change, changes}
-use Rattle.signal_diagram.specs.Chart.{end_of}
-use Rattle.signal_diagram.specs.Drawing.{DrawsChart, bar_drawing, lane_drawings, chart_drawing}
-use Rattle.signal_diagram.specs.Drawing.{drawing}
-use Rattle.signal_diagram.proofs.Bars.{bar_of, bars, order, follow, lasts, ends, seconds}
-use Rattle.signal_diagram.proofs.Bars.{changes_at_starts, no_change_at_zero}
+use Rattle.signal_diagram.specs.{declared.geometry.TheConstants.LABEL_LEFT, Geometry.shown_seconds, Geometry.top_of, Geometry.width_of}
+use Rattle.signal_diagram.specs.{Geometry.height_of, Elements.where_long, Elements.words_at, PhasePicture.phase_picture, Lanes.lane_phases}
+use Rattle.signal_diagram.specs.{Lanes.lane_pictures, Barriers.all_start, Barriers.barrier, Barriers.barriers, Barriers.seconds_within}
+use Rattle.signal_diagram.specs.{Scale.scale, Notes.head, Diagram.opening, Diagram.body, Diagram.picture, Diagram.picture_of}
+use Rattle.signal_diagram.specs.{declared.document.Sizing.Sizing, Chart.Lane, Chart.Chart, Chart.IsLane, Chart.IsChart, Chart.all_change}
+use Rattle.signal_diagram.specs.{Chart.changes, Chart.end_of, Drawing.DrawsChart, Drawing.bar_drawing, Drawing.lane_drawings}
+use Rattle.signal_diagram.specs.Drawing.{chart_drawing, drawing}
+use Rattle.signal_diagram.proofs.Bars.{bar_of, bars, order, follow, lasts, ends, seconds, changes_at_starts, no_change_at_zero}
 
 -- the lane of a ring, the barriers and the chart
 abbrev pub lane_of : Rows → Pattern → ℕ → Lane

@@ -1,18 +1,12 @@
 -- What is known of the reply to a query.
 use Rattle.std.proofs.Common.{◌≡◌, ◌≢◌, inl, inr, List, [], subst}
-use Rattle.office_tables_shelf.specs.Content.{Content}
-use Rattle.office_tables_shelf.specs.Change.{changed_by}
-use Rattle.office_tables_shelf.specs.Shelf.{IsKept}
-use Rattle.office_tables_shelf.specs.declared.counts.WriteCounts.{WriteCounts}
-use Rattle.office_tables_shelf.proofs.KeptLemmas.{kept_on}
+use Rattle.office_tables_shelf.specs.{Content.Content, Change.changed_by, Shelf.IsKept, declared.counts.WriteCounts.WriteCounts}
 use Rattle.office_tables_shelf.specs.declared.rows.RowChange.{RowChange}
+use Rattle.office_tables_shelf.proofs.KeptLemmas.{kept_on}
 use Rattle.office_desk.specs.Answers.{AnswersAny}
-use Rattle.office_machine.specs.Office.{Office}
-use Rattle.office_machine.specs.Step.{Step, answered}
-use Rattle.office_machine.specs.declared.command.Command.{Command}
-use Rattle.office_machine.specs.declared.refusal.Refusal.TheVariants as refusal
-use Rattle.office_machine.specs.declared.reply.Reply.{Reply}
+use Rattle.office_machine.specs.{Office.Office, Step.Step, Step.answered, declared.command.Command.Command, declared.reply.Reply.Reply}
 use Rattle.office_machine.specs.declared.reply.Reply.TheVariants.{Refused}
+use Rattle.office_machine.specs.declared.refusal.Refusal.TheVariants as refusal
 
 -- a reply without changes is a step that leaves the tables
 pub unchanged : (tables : Content) (asked : Command) (reply : Reply) (changes : List RowChange) → changes ≡ [] → AnswersAny tables asked reply (changed_by tables changes) → AnswersAny tables asked reply tables

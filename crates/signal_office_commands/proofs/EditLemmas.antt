@@ -6,10 +6,9 @@ use Rattle.signal_rules.specs.declared.violation.Violation.{Violation}
 use Rattle.office_files.specs.Changes.{changes_of}
 use Rattle.office_tables_shelf.specs.Content.{Content}
 use Rattle.signal_office_faults.specs.declared.fault.Fault.{Fault}
-use Rattle.signal_office_commands.specs.declared.editing.Edited.{Edited}
-use Rattle.signal_office_commands.specs.declared.fault.Fault.TheVariants as told
-use Rattle.signal_office_commands.specs.Asking.{Ran}
-use Rattle.signal_office_commands.specs.Editing.{edit_commands, edit_told, is_due, Does, Edits, EditsAs, Fails, Goes}
+use Rattle.signal_office_commands.specs.{declared.editing.Edited.Edited, Asking.Ran, Editing.edit_commands, Editing.edit_told}
+use Rattle.signal_office_commands.specs.Editing.{is_due, Does, Edits, EditsAs, Fails, Goes}
+use Rattle.signal_office_faults.specs.declared.fault.Fault.TheVariants as told
 
 apart : {A E : Type 0} (x : A) (e : E) → Ok x ≡ Err e → ⊥
 apart x e same = cc

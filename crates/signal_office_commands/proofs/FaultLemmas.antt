@@ -1,22 +1,15 @@
 -- What the fault of a refused query tells.
 use Rattle.std.proofs.Common.{◌≡◌, ◌≢◌, ◌⊎◌, inl, inr, ℕ, Option, Some, None, Result, Ok, Err, refl, sym, ap, subst, ◌∙◌, arith}
-use Rattle.std.specs.FinMap.{get}
-use Rattle.std.specs.Prelude.{IfErr}
-use Rattle.std.specs.Result.{IsErrAnd}
+use Rattle.std.specs.{FinMap.get, Prelude.IfErr, Result.IsErrAnd}
 use Rattle.cabinet_core.specs.declared.refusal.CabinetRefusal.{CabinetRefusal}
 use Rattle.cabinet_core.specs.declared.refusal.CabinetRefusal.TheVariants as cabinet
 use Rattle.draft_core.specs.declared.refusal.DraftRefusal.{DraftRefusal}
 use Rattle.draft_core.specs.declared.refusal.DraftRefusal.TheVariants as draft
 use Rattle.office_tables_shelf.specs.Content.{Content}
-use Rattle.office_desk.specs.Answers.{Answers}
-use Rattle.office_desk.specs.Named.{number_of}
-use Rattle.office_machine.specs.Office.{Office, Intersection}
-use Rattle.office_machine.specs.Step.{Step, answered, shown}
-use Rattle.office_machine.specs.declared.command.Command.{Command}
-use Rattle.office_machine.specs.declared.refusal.Refusal.{Refusal}
+use Rattle.office_desk.specs.{Answers.Answers, Named.number_of}
+use Rattle.office_machine.specs.{Office.Office, Office.Intersection, Step.Step, Step.answered, Step.shown, declared.command.Command.Command}
+use Rattle.office_machine.specs.{declared.refusal.Refusal.Refusal, declared.reply.Reply.Reply, declared.reply.Reply.TheVariants.Refused}
 use Rattle.office_machine.specs.declared.refusal.Refusal.TheVariants as refusal
-use Rattle.office_machine.specs.declared.reply.Reply.{Reply}
-use Rattle.office_machine.specs.declared.reply.Reply.TheVariants.{Refused}
 use Rattle.signal_office_commands.specs.Fault.{IsFaultOfQuery, TellsUnknown}
 use Rattle.signal_office_commands.specs.Refused.{fault_of, fault_of_record, record_refusal}
 use Rattle.signal_office_faults.specs.declared.fault.Fault.{Fault}

@@ -1,19 +1,14 @@
 -- The open orders of the intersections, one after the other.
 use Rattle.std.proofs.Common.{◌≡◌, ◌≢◌, ◌<◌, ◌+◌, ◌++◌, ◌⊎◌, inl, inr, ℕ, zero, suc, List, [], ◌∷◌, map, flat_map, length, get_or, take, Some, None, refl, ap, sym, subst, ◌∙◌, arith, append-nil}
-use Rattle.std.proofs.lemmas.Grind.{flat_map-append}
-use Rattle.std.proofs.lemmas.List.{take_more}
-use Rattle.std.specs.FinMap.{entries, get}
-use Rattle.std.specs.List.{AllByRecursion}
-use Rattle.office_machine.specs.Listed.{intersection_listed, intersections_of}
-use Rattle.office_machine.specs.Office.{Office, Intersection}
+use Rattle.std.proofs.{lemmas.Grind.flat_map-append, lemmas.List.take_more}
+use Rattle.std.specs.{FinMap.entries, FinMap.get, List.AllByRecursion}
+use Rattle.office_machine.specs.{Listed.intersection_listed, Listed.intersections_of, Office.Office, Office.Intersection}
 use Rattle.office_machine.specs.declared.intersections.ListedIntersection.{ListedIntersection}
-use Rattle.office_desk.proofs.IntersectionTable.{Entry}
-use Rattle.office_desk.proofs.ListedIntersections.{each_there}
+use Rattle.office_desk.proofs.{IntersectionTable.Entry, ListedIntersections.each_there}
 use Rattle.office_listings.specs.declared.orders.OpenOrder.{OpenOrder}
-use Rattle.signal_office_commands.specs.Fault.{IsFaultOfQuery, TellsUnknown}
+use Rattle.signal_office_commands.specs.{Fault.IsFaultOfQuery, Fault.TellsUnknown, Listing.open_in, Listing.open_on}
 use Rattle.signal_office_faults.specs.declared.fault.Fault.{Fault}
 use Rattle.signal_office_faults.specs.declared.fault.Fault.TheVariants as told
-use Rattle.signal_office_commands.specs.Listing.{open_in, open_on}
 
 -- those of some intersections
 abbrev pub open_of : Office → List ListedIntersection → List OpenOrder

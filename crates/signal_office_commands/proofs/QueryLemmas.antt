@@ -1,17 +1,13 @@
 -- What the queries State, Cabinet and Stock show.
 use Rattle.std.proofs.Common.{◌≡◌, ℕ, List, Option, Some, None, Result, Ok, Err, refl, sym, ap, subst, ◌∙◌}
-use Rattle.std.specs.FinMap.{get}
-use Rattle.std.specs.Option.{IsSome}
-use Rattle.std.specs.Result.{IsErrAnd}
+use Rattle.std.specs.{FinMap.get, Option.IsSome, Result.IsErrAnd}
 use Rattle.cabinet_core.specs.Stock.{stock_of}
 use Rattle.office_tables_shelf.specs.Content.{Content}
 use Rattle.office_desk.specs.Answers.{Answers}
-use Rattle.office_machine.specs.Office.{Office, Intersection}
-use Rattle.office_machine.specs.Step.{cabinet_shown, shown, state_shown}
-use Rattle.office_machine.specs.declared.command.Command.TheVariants as command
-use Rattle.office_machine.specs.declared.reply.CabinetShown.{CabinetShown}
-use Rattle.office_machine.specs.declared.reply.IntersectionState.{IntersectionState}
+use Rattle.office_machine.specs.{Office.Office, Office.Intersection, Step.cabinet_shown, Step.shown, Step.state_shown}
+use Rattle.office_machine.specs.{declared.reply.CabinetShown.CabinetShown, declared.reply.IntersectionState.IntersectionState}
 use Rattle.office_machine.specs.declared.reply.Reply.{Reply}
+use Rattle.office_machine.specs.declared.command.Command.TheVariants as command
 use Rattle.office_machine.specs.declared.reply.Reply.TheVariants as reply
 use Rattle.office_listings.specs.Cabinet.{cabinet_register}
 use Rattle.signal_office_commands.proofs.AskingLemmas.{step_taken}

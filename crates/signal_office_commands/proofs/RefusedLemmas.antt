@@ -4,9 +4,8 @@ use Rattle.draft_state.specs.declared.state.DbState.{DbState}
 use Rattle.draft_state.specs.declared.state.DbState.TheVariants.{Normal, Transaction, Verify, Done}
 use Rattle.signal_records.specs.TimingSet.{Rows}
 use Rattle.office_tables_shelf.specs.Content.{Content}
-use Rattle.signal_office_commands.specs.Showing.{ShowsDraft}
+use Rattle.signal_office_commands.specs.{Showing.ShowsDraft, Intersection.ShowsDraftIn}
 use Rattle.signal_office_faults.specs.declared.fault.Fault.{Fault}
-use Rattle.signal_office_commands.specs.Intersection.{ShowsDraftIn}
 
 abbrev IsNothing : Result (Option Rows) Fault → Type 0
 IsNothing draft = draft ≡ Ok None

@@ -3,12 +3,10 @@ use Rattle.std.proofs.Common.{◌≡◌, ℕ, List, Option, Some, None, refl, sy
 use Rattle.std.specs.FinMap.{get, values}
 use Rattle.office_tables_shelf.specs.Content.{Content}
 use Rattle.office_desk.specs.Answers.{Answers}
-use Rattle.office_machine.specs.Office.{Office, Intersection}
-use Rattle.office_machine.specs.Step.{shown, timing_shown}
-use Rattle.office_machine.specs.declared.command.Command.TheVariants as command
-use Rattle.office_machine.specs.declared.reply.Reply.{Reply}
-use Rattle.office_machine.specs.declared.reply.Reply.TheVariants.{Timing as Running}
+use Rattle.office_machine.specs.{Office.Office, Office.Intersection, Step.shown, Step.timing_shown, declared.reply.Reply.Reply}
 use Rattle.office_machine.specs.declared.reply.RunningTiming.{RunningTiming}
+use Rattle.office_machine.specs.declared.command.Command.TheVariants as command
+use Rattle.office_machine.specs.declared.reply.Reply.TheVariants.{Timing as Running}
 use Rattle.office_files.specs.Sheet.{sheet_text}
 use Rattle.signal_office_commands.proofs.AskingLemmas.{step_taken}
 use Rattle.signal_office_commands.specs.Sheet.{IsSheetOf, IsTimingOf}

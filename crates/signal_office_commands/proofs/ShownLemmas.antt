@@ -1,7 +1,6 @@
 -- What the queries show is the intersection of the office that the tables stand for.
 use Rattle.std.proofs.Common.{◌≡◌, ◌≢◌, inl, inr, ℕ, List, Option, Some, None, Result, Ok, refl, sym, ap, subst, ◌∙◌}
-use Rattle.std.specs.FinMap.{get}
-use Rattle.std.specs.Prelude.{option_map}
+use Rattle.std.specs.{FinMap.get, Prelude.option_map}
 use Rattle.draft_core.specs.Transaction.{Draft, state_of, in_stage}
 use Rattle.draft_state.specs.declared.state.DbState.{DbState}
 use Rattle.draft_state.specs.declared.state.DbState.TheVariants.{Normal, Transaction, Verify, Done}
@@ -10,24 +9,19 @@ use Rattle.draft_state.specs.declared.state.Stage.TheVariants as stage
 use Rattle.signal_records.specs.TimingSet.{Rows}
 use Rattle.office_tables_shelf.specs.Content.{Content}
 use Rattle.office_desk.specs.StandFor.{StandForSound}
-use Rattle.office_machine.specs.Office.{Office, Intersection}
-use Rattle.office_machine.specs.Step.{Step, answered, shown}
+use Rattle.office_machine.specs.{Office.Office, Office.Intersection, Step.Step, Step.answered, Step.shown, declared.command.Command.Command}
+use Rattle.office_machine.specs.{declared.reply.Reply.Reply, declared.reply.CabinetShown.CabinetShown}
+use Rattle.office_machine.specs.declared.reply.IntersectionState.{IntersectionState}
 use Rattle.office_machine.specs.Step.{state_shown as state_of_intersection, timing_shown as timing_of_intersection}
 use Rattle.office_machine.specs.Step.{draft_shown as draft_of_intersection, cabinet_shown as cabinet_of_intersection}
-use Rattle.office_machine.specs.declared.command.Command.{Command}
 use Rattle.office_machine.specs.declared.command.Command.TheVariants as command
 use Rattle.office_machine.specs.declared.refusal.Refusal.TheVariants as refusal
-use Rattle.office_machine.specs.declared.reply.Reply.{Reply}
 use Rattle.office_machine.specs.declared.reply.Reply.TheVariants as reply
-use Rattle.office_machine.specs.declared.reply.CabinetShown.{CabinetShown}
-use Rattle.office_machine.specs.declared.reply.IntersectionState.{IntersectionState}
 use Rattle.signal_office_faults.specs.declared.fault.Fault.{Fault}
-use Rattle.signal_office_commands.specs.Asking.{Answered}
-use Rattle.signal_office_commands.specs.Showing.{state_shown, timing_shown, draft_shown, cabinet_shown}
-use Rattle.signal_page.specs.declared.shown.IntersectionShown.{IntersectionShown}
-use Rattle.signal_page.specs.Page.{IsPage}
-use Rattle.signal_office_commands.specs.Intersection.{ShowsOpen, ShowsDraftIn, ShowsIntersection}
-use Rattle.signal_office_commands.specs.Paging.{shown_of, IsPageOf}
+use Rattle.signal_office_commands.specs.{Asking.Answered, Showing.state_shown, Showing.timing_shown, Showing.draft_shown}
+use Rattle.signal_office_commands.specs.{Showing.cabinet_shown, Intersection.ShowsOpen, Intersection.ShowsDraftIn}
+use Rattle.signal_office_commands.specs.{Intersection.ShowsIntersection, Paging.shown_of, Paging.IsPageOf}
+use Rattle.signal_page.specs.{declared.shown.IntersectionShown.IntersectionShown, Page.IsPage}
 
 -- what is made of a reply that is not Unavailable is made of the office's own answer
 made_of_answer : {A : Type 0} (made : Reply → Result A Fault) (tables : Content) (office : Office) (asked : Command) (value : A)

@@ -4,25 +4,20 @@ use Rattle.std.specs.FinMap.{get}
 use Rattle.draft_core.specs.Transaction.{Draft}
 use Rattle.office_tables_shelf.specs.Content.{Content}
 use Rattle.office_desk.specs.StandFor.{StandForSound}
-use Rattle.office_machine.specs.Office.{Office, Intersection}
-use Rattle.office_machine.specs.Step.{Step, answered, shown}
+use Rattle.office_machine.specs.{Office.Office, Office.Intersection, Step.Step, Step.answered, Step.shown, declared.command.Command.Command}
+use Rattle.office_machine.specs.declared.reply.Reply.{Reply}
 use Rattle.office_machine.specs.Step.{state_shown as state_of_intersection, timing_shown as timing_of_intersection}
 use Rattle.office_machine.specs.Step.{draft_shown as draft_of_intersection, cabinet_shown as cabinet_of_intersection}
-use Rattle.office_machine.specs.declared.command.Command.{Command}
 use Rattle.office_machine.specs.declared.command.Command.TheVariants as command
 use Rattle.office_machine.specs.declared.refusal.Refusal.TheVariants as refusal
-use Rattle.office_machine.specs.declared.reply.Reply.{Reply}
 use Rattle.office_machine.specs.declared.reply.Reply.TheVariants as reply
-use Rattle.signal_office_commands.specs.Asking.{Answered}
-use Rattle.signal_office_commands.specs.Fault.{TellsUnknown}
-use Rattle.signal_office_commands.specs.Showing.{state_shown, timing_shown, draft_shown, cabinet_shown}
+use Rattle.signal_office_commands.specs.{Asking.Answered, Fault.TellsUnknown, Showing.state_shown, Showing.timing_shown}
+use Rattle.signal_office_commands.specs.{Showing.draft_shown, Showing.cabinet_shown, Intersection.IsRefusedShowing}
+use Rattle.signal_office_commands.specs.{Intersection.ShowsIntersection, Paging.shown_of}
 use Rattle.signal_office_faults.specs.declared.fault.Fault.{Fault}
 use Rattle.signal_office_faults.specs.declared.fault.Fault.TheVariants as told
-use Rattle.signal_office_commands.specs.Intersection.{IsRefusedShowing, ShowsIntersection}
-use Rattle.signal_office_commands.specs.Paging.{shown_of}
-use Rattle.signal_office_commands.proofs.ShownLemmas.{all_shown}
+use Rattle.signal_office_commands.proofs.{ShownLemmas.all_shown, FaultLemmas.there_tells}
 use Rattle.signal_page.specs.declared.shown.IntersectionShown.{IntersectionShown}
-use Rattle.signal_office_commands.proofs.FaultLemmas.{there_tells}
 
 -- a fault that is made of no unknown intersection tells none, where there is one
 by_found : {A : Type 0} (made : Reply → Result A Fault) (office : Office) (id : ℕ) (show : Intersection → Reply) (found : Option Intersection) (why : Fault)

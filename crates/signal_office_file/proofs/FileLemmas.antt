@@ -1,11 +1,7 @@
 -- What is left of a database in files whose tables were refused.
 use Rattle.std.proofs.Common.{Option, None, Some, Result}
 use Rattle.std.specs.Prelude.{IfSome}
-use Rattle.sqlite.specs.Files.{file_state, over_files}
-use Rattle.sqlite.specs.Held.{Held}
-use Rattle.sqlite.specs.Recovery.{Image}
-use Rattle.sqlite.specs.Start.{FindsIn}
-use Rattle.sqlite.specs.State.{HasCleanDisk}
+use Rattle.sqlite.specs.{Files.file_state, Files.over_files, Held.Held, Recovery.Image, Start.FindsIn, State.HasCleanDisk}
 use Rattle.sqlite.specs.declared.FileStore.{FileStore}
 use Rattle.sqlite_disk.specs.declared.Disk.{Ghosts as Disk}
 use Rattle.signal_office_faults.specs.declared.fault.Fault.{Fault}

@@ -2,29 +2,18 @@
 use Rattle.std.proofs.Common.{◌≡◌, inl, inr, Result, Ok, Err, Some, refl, sym, subst, ◌∙◌}
 use Rattle.std.specs.Prelude.{IfOk, OnOk, OnErr}
 use Rattle.std.proofs.Math.Logic.{∥∥₁_elim}
-use Rattle.sqlite.specs.Closing.{HoldsAlone, IsCopied}
-use Rattle.sqlite.specs.Files.{file_state, over_files}
-use Rattle.sqlite.specs.Held.{Held}
-use Rattle.sqlite.specs.Recovery.{Image}
-use Rattle.sqlite.specs.Start.{FindsIn}
-use Rattle.sqlite.specs.State.{State}
-use Rattle.sqlite.specs.Tree.{Trees}
-use Rattle.sqlite.specs.WalReads.{AreClean}
-use Rattle.sqlite.specs.declared.FileStore.{FileStore}
+use Rattle.sqlite.specs.{Closing.HoldsAlone, Closing.IsCopied, Files.file_state, Files.over_files, Held.Held, Recovery.Image, Start.FindsIn}
+use Rattle.sqlite.specs.{State.State, Tree.Trees, WalReads.AreClean, declared.FileStore.FileStore}
 use Rattle.sqlite_disk.specs.declared.Disk.{Ghosts as Disk}
 use Rattle.sqlite_disk.specs.declared.Files.{Files}
 use Rattle.sqlite_trees.specs.Props.{Trees-set}
 use Rattle.office_machine.specs.Office.{Office, version_1}
 use Rattle.office_tables_shelf.specs.Content.{Content}
 use Rattle.office_tables_standing.specs.StandFor.{StandForSound, StandForSoundIn}
-use Rattle.office_tables.specs.Calls.{IsHonest}
-use Rattle.office_tables.specs.Stored.{content_now, content_of}
-use Rattle.office_tables.specs.Migrate.{IsBrought, MayBecome}
-use Rattle.office_tables_open.specs.Version.{version_in, current_version, first_version}
-use Rattle.office_tables_open.specs.declared.open.OpenFault.{OpenFault}
+use Rattle.office_tables.specs.{Calls.IsHonest, Stored.content_now, Stored.content_of, Migrate.IsBrought, Migrate.MayBecome}
+use Rattle.office_tables_open.specs.{Version.version_in, Version.current_version, Version.first_version, declared.open.OpenFault.OpenFault}
 use Rattle.office_tables_open.proofs.LackingLemmas.{today_content}
-use Rattle.office_tables_migration.specs.Migration.{StandAnew}
-use Rattle.office_tables_migration.specs.declared.puts.Migrated.{Migrated}
+use Rattle.office_tables_migration.specs.{Migration.StandAnew, declared.puts.Migrated.Migrated}
 use Rattle.office_tables_migration.proofs.Migration.{stand_anew}
 use Rattle.signal_office_file.specs.File.{AreThoseOf, StandInFiles}
 use Rattle.signal_office_file.specs.Migrating.{AreMigrated, HoldMigrated, Migrates, MigratesFiles, TellsOfFiles, StandFormerly, StandToday, StandFormerlyInFiles, StandTodayInFiles, IsImageOf}

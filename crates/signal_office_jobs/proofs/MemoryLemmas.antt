@@ -1,13 +1,10 @@
 -- New tables in memory stand for a new office.
 use Rattle.std.proofs.Common.{◌≡◌, ℕ, List, [], ◌∷◌, length, Option, Some, None, option_map, refl, sym, ap, subst, ◌∙◌, arith}
-use Rattle.std.specs.Prelude.{IfSome}
-use Rattle.std.specs.Int.{IsInRange}
-use Rattle.std.specs.Ordering.{nat_cmp}
-use Rattle.std.specs.FinMap.{empty, entries, get, get-empty, len-empty, len-entries}
+use Rattle.std.specs.{Prelude.IfSome, Int.IsInRange, Ordering.nat_cmp, FinMap.empty, FinMap.entries, FinMap.get, FinMap.get-empty}
+use Rattle.std.specs.FinMap.{len-empty, len-entries}
 use Rattle.signal_records.specs.Key.{key_cmp}
 use Rattle.draft_core.specs.DraftRows.{RowStands, silent}
-use Rattle.office_tables_shelf.specs.Cells.{Cell, Rows, tree_rows, cells_cmp}
-use Rattle.office_tables_shelf.specs.Content.{Content, no_content}
+use Rattle.office_tables_shelf.specs.{Cells.Cell, Cells.Rows, Cells.tree_rows, Cells.cells_cmp, Content.Content, Content.no_content}
 use Rattle.office_tables_shelf.specs.Rows.{intersection_key, timing_key, timing_columns}
 use Rattle.office_desk_cabinet.proofs.EmptyRegister.{nothing_registered}
 use Rattle.office_machine.specs.Office.{Intersection, IsSoundIntersection, side_of}

@@ -2,14 +2,9 @@
 use Rattle.std.proofs.Common.{◌≡◌, ℕ, ◌+◌, ◌<◌, Bool, false, ◌||◌, List, [], ◌∷◌, ◌++◌, map, take}
 use Rattle.std.proofs.Common.{get_or, length, refl, sym, ap, ap₂, subst, ◌∙◌}
 use Rattle.std.proofs.lemmas.List.{map-append, take_more}
-use Rattle.clap.specs.declared.builder.command.Command.{Command}
-use Rattle.clap.specs.declared.builder.arg.Arg.{Arg}
-use Rattle.clap.specs.Walk.{Rule, rule_of}
-use Rattle.clap.specs.Simple.{App, with_rule, with_subcommand}
-use Rattle.signal_office_line.specs.Arguments.{rule_for}
-use Rattle.signal_office_line.specs.CommandLine.{Reads, with_rules}
-use Rattle.signal_office_line.specs.declared.arguments.Argument.{Argument}
-use Rattle.clap.specs.Built.{AddsArg, AddsSubcommand}
+use Rattle.clap.specs.{declared.builder.command.Command.Command, declared.builder.arg.Arg.Arg, Walk.Rule, Walk.rule_of, Simple.App}
+use Rattle.clap.specs.{Simple.with_rule, Simple.with_subcommand, Built.AddsArg, Built.AddsSubcommand}
+use Rattle.signal_office_line.specs.{Arguments.rule_for, CommandLine.Reads, CommandLine.with_rules, declared.arguments.Argument.Argument}
 
 neither : (x y z : Bool) → x ≡ (y || z) → y ≡ false → z ≡ false → x ≡ false
 neither x y z e f g = rw (f, g) at e

@@ -1,19 +1,11 @@
 -- Which refusal words meet.
 use Rattle.std.proofs.Common.{◌≡◌, List, [], ◌∷◌, Option, None, Result, sym}
 use Rattle.std.proofs.Common.{inl, inr, refl, subst, true}
-use Rattle.clap.specs.Faults.{fault_of, is_simple_and_free}
-use Rattle.clap.specs.Kinds.{FailsBy, HasKind, IsAmong, Kinds, or_else}
-use Rattle.clap.specs.Simple.{App}
-use Rattle.clap.specs.Values.{kind_of}
-use Rattle.clap.specs.Walk.{Text}
-use Rattle.clap.specs.declared.error.Error.{Error}
-use Rattle.clap.specs.declared.error.kind.ErrorKind.{ErrorKind}
+use Rattle.clap.specs.{Faults.fault_of, Faults.is_simple_and_free, Kinds.FailsBy, Kinds.HasKind, Kinds.IsAmong, Kinds.Kinds, Kinds.or_else}
+use Rattle.clap.specs.{Simple.App, Values.kind_of, Walk.Text, declared.error.Error.Error, declared.error.kind.ErrorKind.ErrorKind}
 use Rattle.clap.specs.declared.error.kind.ErrorKind.TheVariants as kind
-use Rattle.signal_office_line.specs.declared.job.JobFault.{JobFault}
-use Rattle.signal_office_line.specs.declared.job.JobFault.TheVariants.{NoMemory}
-use Rattle.signal_office_line.specs.CommandLine.{signal_app}
-use Rattle.signal_office_line.specs.Job.{Asked}
-use Rattle.signal_office_line.specs.Refusals.{IsRefusedBy, IsToldAs, clap_refusals, value_refusals}
+use Rattle.signal_office_line.specs.{declared.job.JobFault.JobFault, declared.job.JobFault.TheVariants.NoMemory, CommandLine.signal_app}
+use Rattle.signal_office_line.specs.{Job.Asked, Refusals.IsRefusedBy, Refusals.IsToldAs, Refusals.clap_refusals, Refusals.value_refusals}
 
 -- what `clap` answers, by the words alone
 pub by_words : {T : Type 0} (r : Result T Error) (app : App) (words : List Text) → app ≡ signal_app

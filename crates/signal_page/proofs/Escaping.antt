@@ -1,8 +1,6 @@
 -- Names and texts as they are written.
 use Rattle.std.proofs.Common.{◌≡◌, ℕ, suc, ◌<◌, ◌≤◌, ◌⊎◌, inl, inr, List, [], ◌∷◌, ◌++◌, length, get_or, flat_map, refl, sym, ap, ap₂, ◌∙◌, arith, append-nil}
-use Rattle.std.proofs.lemmas.Bool.{cases_lt, ne_eqb}
-use Rattle.std.proofs.lemmas.Str.{inside_one}
-use Rattle.std.proofs.lemmas.Grind.{flat_map-append}
+use Rattle.std.proofs.{lemmas.Bool.cases_lt, lemmas.Bool.ne_eqb, lemmas.Str.inside_one, lemmas.Grind.flat_map-append}
 use Rattle.std.specs.Prelude.{encode_utf8}
 use Rattle.signal_page.specs.Words.{escaped, escaped_byte}
 

@@ -3,28 +3,18 @@ use Rattle.std.proofs.Common.{◌≡◌, ℕ, suc, eqb, Bool, true, false, List,
 use Rattle.std.proofs.Common.{filter, length, codes, Option, Some, None, refl, sym, ap, ap₂, ◌∙◌}
 use Rattle.std.proofs.lemmas.List.Elements.{filter-append}
 use Rattle.std.specs.Prelude.{cond, decimal, is_some, not, option_map}
-use Rattle.cabinet_core.specs.Orders.{is_open}
-use Rattle.cabinet_core.specs.Overdue.{greater, latest_day}
-use Rattle.cabinet_core.specs.declared.record.CabinetView.{CabinetView}
-use Rattle.cabinet_core.specs.declared.record.Closing.{Closing}
-use Rattle.cabinet_core.specs.declared.record.Inspection.{Inspection}
-use Rattle.cabinet_core.specs.declared.record.Order.{Order}
+use Rattle.cabinet_core.specs.{Orders.is_open, Overdue.greater, Overdue.latest_day, declared.record.CabinetView.CabinetView}
+use Rattle.cabinet_core.specs.{declared.record.Closing.Closing, declared.record.Inspection.Inspection, declared.record.Order.Order}
 use Rattle.cabinet_core.specs.declared.record.UsedLine.{UsedLine}
 use Rattle.office_machine.specs.declared.reply.IntersectionState.{IntersectionState}
 use Rattle.signal_compare.specs.declared.difference.Difference.{Difference}
-use Rattle.signal_page.specs.declared.shown.IntersectionShown.{IntersectionShown}
-use Rattle.signal_page.specs.Words.{escaped_byte, escaped, isolated}
-use Rattle.signal_page.specs.Reading.{is_markup, marks}
-use Rattle.signal_page.specs.Blank.{blank_state, blank_inspection, blank_closing}
-use Rattle.signal_page.specs.Blank.{blank_order, blank_line, blank_view, blank}
-use Rattle.signal_page.specs.Cells.{row_heading, text_cell}
-use Rattle.signal_page.specs.State.{fact, owner_text, due_text, draft_facts, cabinet_facts}
-use Rattle.signal_page.specs.Register.{day_cell, part_used, part_of, parts_cell, order_cells, closing_cells}
-use Rattle.signal_page.specs.Register.{open_by, open_row, closed_by, closed_row, open_orders}
-use Rattle.signal_page.specs.Register.{closed_orders, inspection_row, inspections_part, due_note}
-use Rattle.signal_page.specs.Register.{register_part}
-use Rattle.signal_page.specs.Page.{header, plan_section, draft_section, cabinet_section, page_end}
-use Rattle.signal_page.specs.Page.{page_text}
+use Rattle.signal_page.specs.{declared.shown.IntersectionShown.IntersectionShown, Words.escaped_byte, Words.escaped, Words.isolated}
+use Rattle.signal_page.specs.{Reading.is_markup, Reading.marks, Blank.blank_state, Blank.blank_inspection, Blank.blank_closing}
+use Rattle.signal_page.specs.{Blank.blank_order, Blank.blank_line, Blank.blank_view, Blank.blank, Cells.row_heading, Cells.text_cell}
+use Rattle.signal_page.specs.{State.fact, State.owner_text, State.due_text, State.draft_facts, State.cabinet_facts, Register.day_cell}
+use Rattle.signal_page.specs.Register.{part_used, part_of, parts_cell, order_cells, closing_cells, open_by, open_row, closed_by, closed_row}
+use Rattle.signal_page.specs.Register.{open_orders, closed_orders, inspection_row, inspections_part, due_note, register_part}
+use Rattle.signal_page.specs.Page.{header, plan_section, draft_section, cabinet_section, page_end, page_text}
 
 -- ---- texts with the same markup characters
 

@@ -2,8 +2,7 @@
 use Rattle.std.proofs.Common.{◌≡◌, ℕ, eqb, Bool, true, false, List, [], ◌∷◌, ◌++◌, codes, refl, ap, ◌∙◌}
 use Rattle.std.proofs.lemmas.Bool.{eqb-true}
 use Rattle.std.specs.Prelude.{cond}
-use Rattle.signal_page.specs.Words.{escaped_byte, escaped}
-use Rattle.signal_page.specs.Reading.{read_after, unescaped}
+use Rattle.signal_page.specs.{Words.escaped_byte, Words.escaped, Reading.read_after, Reading.unescaped}
 
 -- a text is read as a byte, whatever follows
 abbrev pub IsReadAs : ℕ → List ℕ → List ℕ → Type 0

@@ -2,14 +2,10 @@
 use Rattle.std.proofs.Common.{◌≡◌, ℕ, Bool, true, false, eqb, List, [], ◌∷◌, length, Option, Some, None, Result, Ok, Err, refl, subst, rules}
 use Rattle.std.specs.Prelude.{IfErr, IsTrue, ◌+◌, ◌||◌, codes, if◌then◌else◌}
 use Rattle.std.specs.Str.{bytes_eq}
-use Rattle.signal_records.specs.declared.fault.RowFault.{RowFault}
+use Rattle.signal_records.specs.{declared.fault.RowFault.RowFault, declared.limits.Limits.Limits, declared.record.Ped.Ped}
+use Rattle.signal_records.specs.{declared.record.Row.Row, declared.record.Change.Change, RowFault.is_timing_fault}
 use Rattle.signal_records.specs.declared.fault.RowFault.TheVariants as fault
-use Rattle.signal_records.specs.declared.limits.Limits.{Limits}
-use Rattle.signal_records.specs.declared.record.Ped.{Ped}
-use Rattle.signal_records.specs.declared.record.Row.{Row}
-use Rattle.signal_records.specs.declared.record.Change.{Change}
 use Rattle.signal_records.specs.declared.record.Change.TheVariants as change
-use Rattle.signal_records.specs.RowFault.{is_timing_fault}
 use Rattle.signal_records.specs.Reading.{◌>>=◌, text_at, number_of, number_at, flag_of, flag_at, mode_in, mode_at, parts, phases_in, or_no_list, list_at, some_ped, ped_width, lead_in, ped_record, ped_at, phase_record, seq_record, split_record, pattern_record, counted, row_at, phase_key, seq_key, split_key, pattern_key, key_at, removal_at, put_at, change_at, Gives}
 
 -- a fault that is read from the fields of a timing row

@@ -1,10 +1,9 @@
 -- Want of memory is not read: no field and no key gives it. A rule set has that of each of them.
 use Rattle.std.proofs.Common.{◌≡◌, ℕ, List, Result, Err}
 use Rattle.std.proofs.lemmas.Bool.{false≢true}
-use Rattle.signal_records.specs.declared.fault.RowFault.{RowFault}
+use Rattle.signal_records.specs.{declared.fault.RowFault.RowFault, declared.limits.Limits.Limits, Reading.number_at, Reading.flag_at}
+use Rattle.signal_records.specs.Reading.{mode_at, list_at, ped_at, key_at}
 use Rattle.signal_records.specs.declared.fault.RowFault.TheVariants as fault
-use Rattle.signal_records.specs.declared.limits.Limits.{Limits}
-use Rattle.signal_records.specs.Reading.{number_at, flag_at, mode_at, list_at, ped_at, key_at}
 use Rattle.signal_records.proofs.FaultLaws.{IsTiming, none_read, number_timing, flag_timing}
 use Rattle.signal_records.proofs.FaultLaws.{mode_timing, list_timing, any_ped_timing, key_timing}
 

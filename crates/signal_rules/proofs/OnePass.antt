@@ -9,8 +9,7 @@ use Rattle.signal_rules.specs.Lookup.{phase_at, phases, phase_numbers, ring_numb
 use Rattle.signal_rules.specs.PatternRules.{is_used, used_rings}
 use Rattle.signal_rules.specs.SequenceRule.{in_ring, ring_row, has_each_once, has_no_other, rows_are_right}
 use Rattle.signal_rules.specs.OnePass.{ring_of, rings_at, stands_in_ring, each_stands_once, no_other_stands}
-use Rattle.signal_rules.proofs.CutPoints.{all_numbers, at_number}
-use Rattle.signal_rules.proofs.Among.{all_at, in_filter, in_numbers}
+use Rattle.signal_rules.proofs.{CutPoints.all_numbers, CutPoints.at_number, Among.all_at, Among.in_filter, Among.in_numbers}
 
 -- ---- the rings that are used
 

@@ -2,8 +2,7 @@
 use Rattle.std.proofs.Common.{◌≡◌, ℕ, Bool, true, false, List, [], ◌∷◌, ◌++◌, map, filter, Option, Some, None, refl, sym, ap, ◌∙◌, append_assoc}
 use Rattle.std.proofs.lemmas.List.{append-nil, map-append, Elements.filter-append}
 use Rattle.std.specs.Prelude.{not}
-use Rattle.signal_records.specs.declared.record.{Pattern.Pattern, Ped.Ped, Phase.Phase}
-use Rattle.signal_records.specs.TimingSet.{Rows}
+use Rattle.signal_records.specs.{declared.record.Pattern.Pattern, declared.record.Ped.Ped, declared.record.Phase.Phase, TimingSet.Rows}
 use Rattle.signal_rules.specs.declared.violation.Rule.TheVariants as rule
 use Rattle.signal_rules.specs.declared.violation.{Subject.Subject, Violation.Violation}
 use Rattle.signal_rules.specs.PatternRules.{used_rings, lanes_fill_cycle, lanes_agree}

@@ -5,8 +5,7 @@ use Rattle.std.specs.{Prelude.◌||◌, declared.cmp.Ordering.TheVariants.Less, 
 use Rattle.std.specs.FinMap.{find, get, entries, entries_sorted, values, get-entries}
 use Rattle.std.specs.FinMap.Entries.{below_all, is_sorted}
 use Rattle.std.specs.List.{AllByRecursion, list_all, filter_map, cons_option}
-use Rattle.signal_records.specs.{declared.key.Key.Key, declared.record.Row.Row, Key.key_cmp}
-use Rattle.signal_records.specs.{Row.key_of, TimingSet.Rows, TimingSet.AreKeyed}
+use Rattle.signal_records.specs.{declared.key.Key.Key, declared.record.Row.Row, Key.key_cmp, Row.key_of, TimingSet.Rows, TimingSet.AreKeyed}
 use Rattle.signal_rules.specs.RowWalk.{keyed, is_from_to, is_within}
 use Rattle.signal_rules.proofs.InOrder.{Rising}
 use Rattle.signal_records.proofs.Sets.{is_less, keyed_values, parts}

@@ -3,18 +3,17 @@ use Rattle.std.proofs.Common.{◌≡◌, ℕ, List, [], ◌++◌, map, filter, i
 use Rattle.std.proofs.lemmas.Bool.{ne_eqb}
 use Rattle.std.specs.{FinMap.find, List.filter_map, List.flat_map}
 use Rattle.signal_records.specs.declared.key.Key.TheVariants as key
-use Rattle.signal_records.specs.declared.{number.TheConstants.PHASES, record.Row.Row}
-use Rattle.signal_records.specs.{Key.key_cmp, TimingSet.Rows}
+use Rattle.signal_records.specs.{declared.number.TheConstants.PHASES, declared.record.Row.Row, Key.key_cmp, TimingSet.Rows}
 use Rattle.signal_rules.specs.declared.violation.Subject.{Subject}
-use Rattle.signal_rules.specs.declared.violation.Subject.TheVariants as subject
 use Rattle.signal_rules.specs.Lookup.{the_phase, the_list, the_split, the_pattern, phase_at, sequence_at, split_at, pattern_at, last_sequence, last_split, last_pattern, phases, ring_numbers, sequence_numbers, split_numbers, pattern_numbers, has_sequence}
 use Rattle.signal_rules.specs.RowWalk.{keyed, of_kind, sequence_of, sequences_after}
 use Rattle.signal_rules.specs.Violations.{subjects, split_rows, split_subjects}
+use Rattle.signal_rules.specs.declared.violation.Subject.TheVariants as subject
 use Rattle.signal_rules.proofs.InOrder.{Rising, rising_from, in_order, firsts, firsts_rise, firsts_are, second_at, grouped}
-use Rattle.signal_rules.proofs.RowKinds as kind
 use Rattle.signal_rules.proofs.RowKinds.{phase_of, pattern_of, pair_of, split_of, phase_split}
 use Rattle.signal_rules.proofs.RowNumbers.{AreRowsOf, sorted_rows, found, rise}
 use Rattle.signal_rules.proofs.Unreached.{list_any_same, flat_map_same}
+use Rattle.signal_rules.proofs.RowKinds as kind
 
 module _ (set : Rows) (rows : List Row) (of : AreRowsOf set rows) where
   phases_walked : phases set ≡ filter_map phase_of rows

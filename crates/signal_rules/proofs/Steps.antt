@@ -3,8 +3,7 @@ use Rattle.std.proofs.Common.{◌≡◌, ℕ, ◌+◌, ◌<◌, ◌≤◌, Bool,
 use Rattle.std.proofs.lemmas.List.{append-nil, drop_all, drop_more}
 use Rattle.std.specs.List.{flat_map, list_all}
 use Rattle.signal_records.specs.TimingSet.{Rows}
-use Rattle.signal_rules.specs.declared.violation.Subject.{Subject}
-use Rattle.signal_rules.specs.Counts.{RisesAtMost, most_seconds, most_seconds_of}
+use Rattle.signal_rules.specs.{declared.violation.Subject.Subject, Counts.RisesAtMost, Counts.most_seconds, Counts.most_seconds_of}
 
 -- the element at the index, and those after it
 pub one_left : {A : Type 0} (items : List A) (i : ℕ) (x : A) → i < length items → x ≡ get_or items i x → drop i items ≡ x ∷ drop (i + 1) items

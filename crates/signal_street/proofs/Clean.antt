@@ -2,22 +2,18 @@
 use Rattle.std.proofs.Common.{◌≡◌, ℕ, Bool, true, false, eqb, if◌then◌else◌, List, [], ◌∷◌, ◌++◌, map, filter, is_some, Some, ◌⊎◌, inl, inr, refl, sym, ap, ◌∙◌}
 use Rattle.std.proofs.lemmas.Bool.{false≢true, or_cases, eqb-true}
 use Rattle.std.specs.List.{flat_map}
-use Rattle.signal_records.specs.declared.record.Pattern.{Pattern}
-use Rattle.signal_records.specs.declared.record.Phase.{Phase}
-use Rattle.signal_records.specs.declared.record.Split.{Split}
-use Rattle.signal_records.specs.TimingSet.{Rows}
+use Rattle.signal_records.specs.{declared.record.Pattern.Pattern, declared.record.Phase.Phase, declared.record.Split.Split, TimingSet.Rows}
 use Rattle.signal_rules.specs.declared.violation.Rule.{Rule}
-use Rattle.signal_rules.specs.declared.violation.Rule.TheVariants as rule
 use Rattle.signal_rules.specs.declared.violation.Subject.{Subject}
-use Rattle.signal_rules.specs.declared.violation.Subject.TheVariants as subject
 use Rattle.signal_rules.specs.Lookup.{phase_at, split_at, pattern_at, phases, has_sequence, is_in, phase_numbers, sequence_numbers, split_numbers, pattern_numbers}
 use Rattle.signal_rules.specs.PhaseRules.{yellow_is_right, red_is_right, walk_is_long, clears_crossing, clears_setback, lead_is_right, where_walked, mates_agree}
 use Rattle.signal_rules.specs.SequenceRule.{rows_are_right}
 use Rattle.signal_rules.specs.SplitRule.{split_is_right, time_is_right}
 use Rattle.signal_rules.specs.PatternRules.{has_rows, offset_is_right, has_coordinated, lanes_fill_cycle, lanes_agree}
 use Rattle.signal_rules.specs.Violations.{Findings, broken, phase_findings, pattern_findings, for_phase, for_sequence, for_split, for_pattern, violations_at, violations_of, split_rows, split_subjects}
-use Rattle.signal_rules.proofs.Kept.{nil_append, nil_parts}
-use Rattle.signal_rules.proofs.Among.{in_filter}
+use Rattle.signal_rules.specs.declared.violation.Rule.TheVariants as rule
+use Rattle.signal_rules.specs.declared.violation.Subject.TheVariants as subject
+use Rattle.signal_rules.proofs.{Kept.nil_append, Kept.nil_parts, Among.in_filter}
 
 -- subjects that were joined or made in a list without violations
 mapped_at : {S B : Type 0} (V : S → List B) (make : ℕ → S) (ns : List ℕ) (t : ℕ) → flat_map V (map make ns) ≡ [] → is_in t ns ≡ true → V (make t) ≡ []

@@ -2,27 +2,19 @@
 use Rattle.std.proofs.Common.{◌≡◌, ◌≢◌, ℕ, ◌+◌, ◌<◌, ◌≤◌, true, eqb, List, ◌∷◌, ◌++◌, map, length, get_or, is_some, Option, Some, None, sum_by, refl, sym, ap, ◌∙◌, arith}
 use Rattle.std.proofs.lemmas.Bool.{false≢true, and_parts, eq-eqb, eqb-true}
 use Rattle.std.proofs.lemmas.List.Folds.{list_all-map}
-use Rattle.std.specs.Int.{IsInRange}
-use Rattle.std.specs.List.{list_all}
-use Rattle.signal_records.specs.declared.number.TheConstants.{PHASES, RINGS}
-use Rattle.signal_records.specs.declared.record.Pattern.{Pattern}
-use Rattle.signal_records.specs.declared.record.Phase.{Phase}
-use Rattle.signal_records.specs.declared.record.Split.{Split}
-use Rattle.signal_records.specs.Numbers.{numbers}
-use Rattle.signal_records.specs.TimingSet.{Rows}
-use Rattle.signal_rules.specs.CutPoints.{timed}
-use Rattle.signal_rules.specs.Lookup.{phase_at, sequence_at, split_at, phases, has_sequence}
-use Rattle.signal_rules.specs.Lookup.{is_in, lists, the_mates, phase_numbers, ring_numbers}
-use Rattle.signal_rules.specs.Lookup.{last_sequence, last_split, last_pattern}
-use Rattle.signal_rules.specs.Lookup.{sequence_numbers, split_numbers, pattern_numbers}
-use Rattle.signal_rules.specs.PatternRules.{has_splits, has_rows, time_of, lane, is_used, used_rings, lanes, lanes_fill_cycle, list_each_other, all_list_each_other, phases_at, lanes_agree}
-use Rattle.signal_rules.specs.SequenceRule.{in_ring, ring_phases, or_empty, ring_row, has_each_once, has_no_other, row_is_right}
-use Rattle.signal_rules.specs.SplitRule.{time_is_right}
-use Rattle.signal_rules.specs.Starts.{times}
-use Rattle.signal_rules.proofs.CutPoints.{at_number}
+use Rattle.std.specs.{Int.IsInRange, List.list_all}
+use Rattle.signal_records.specs.{declared.number.TheConstants.PHASES, declared.number.TheConstants.RINGS, declared.record.Pattern.Pattern}
+use Rattle.signal_records.specs.{declared.record.Phase.Phase, declared.record.Split.Split, Numbers.numbers, TimingSet.Rows}
+use Rattle.signal_rules.specs.{CutPoints.timed, Lookup.phase_at, Lookup.sequence_at, Lookup.split_at, Lookup.phases, Lookup.has_sequence}
+use Rattle.signal_rules.specs.Lookup.{is_in, lists, the_mates, phase_numbers, ring_numbers, last_sequence, last_split, last_pattern}
+use Rattle.signal_rules.specs.{Lookup.sequence_numbers, Lookup.split_numbers, Lookup.pattern_numbers, PatternRules.has_splits}
+use Rattle.signal_rules.specs.PatternRules.{has_rows, time_of, lane, is_used, used_rings, lanes, lanes_fill_cycle, list_each_other}
+use Rattle.signal_rules.specs.{PatternRules.all_list_each_other, PatternRules.phases_at, PatternRules.lanes_agree, SequenceRule.in_ring}
+use Rattle.signal_rules.specs.SequenceRule.{ring_phases, or_empty, ring_row, has_each_once, has_no_other, row_is_right}
+use Rattle.signal_rules.specs.{SplitRule.time_is_right, Starts.times}
+use Rattle.signal_rules.proofs.{CutPoints.at_number, Among.in_numbers, Among.in_filter, Among.all_at, Among.any_at, Among.contains}
 use Rattle.signal_street.specs.Timing.{HasPhase, HasPattern, phases_or_none, order, time_or_none, split_time, TimesIn}
 use Rattle.signal_street.specs.StreetLaws.{Lists, AreConcurrent}
-use Rattle.signal_rules.proofs.Among.{in_numbers, in_filter, all_at, any_at, contains}
 use Rattle.signal_street.proofs.Members.{all_middle, some_value, pair_at}
 use Rattle.signal_street.proofs.Places.{places, length_is, times_within, lane_at}
 use Rattle.signal_street.proofs.Clean.{IsClean, sequence_rule, split_rule, pattern_rules}

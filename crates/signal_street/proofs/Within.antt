@@ -2,12 +2,9 @@
 use Rattle.std.proofs.Common.{◌≡◌, ◌≢◌, ◌↔◌, ℕ, ◌+◌, ◌-◌, ◌*◌, ◌<◌, ◌≤◌, max, Bool, true, ◌&&◌, eqb, leb, Option, Some, None, IfSome, ◌⊎◌, inl, inr, refl, sym, ap, ◌∙◌, arith}
 use Rattle.std.proofs.lemmas.Bool.{false≢true, or_cases, eq-eqb, eqb-true, leb-true}
 use Rattle.std.specs.Cmp.{booleans_Decides}
-use Rattle.signal_records.specs.declared.record.Ped.{Ped}
-use Rattle.signal_records.specs.declared.record.Phase.{Phase}
-use Rattle.signal_records.specs.declared.record.Split.{Split}
-use Rattle.signal_records.specs.declared.record.SplitMode.{SplitMode}
-use Rattle.signal_records.specs.declared.record.SplitMode.TheVariants.{PhaseOmitted}
-use Rattle.signal_records.specs.Need.{called, lead_time, walk_time, need_of}
+use Rattle.signal_records.specs.{declared.record.Ped.Ped, declared.record.Phase.Phase, declared.record.Split.Split}
+use Rattle.signal_records.specs.{declared.record.SplitMode.SplitMode, declared.record.SplitMode.TheVariants.PhaseOmitted, Need.called}
+use Rattle.signal_records.specs.Need.{lead_time, walk_time, need_of}
 use Rattle.signal_rules.specs.PhaseRules.{clearance, clears_crossing, clears_setback, where_walked}
 use Rattle.signal_rules.specs.SplitRule.{is_omitted, time_fits_mode, time_is_enough, coordination_is_right, time_is_right}
 use Rattle.signal_street.specs.Intervals.{CallsPedestrian, FitsCrossing, FitsSplit, clear_end, CrossesInTime, CrossesFromSetback}

@@ -1,6 +1,5 @@
 use Rattle.std.proofs.Common.{Ok, rules}
-use Rattle.cabinet_core.specs.declared.command.RecordCommand.TheVariants.{OpenOrder}
-use Rattle.cabinet_core.specs.declared.decide.Recorded.TheVariants.{Added}
+use Rattle.cabinet_core.specs.{declared.command.RecordCommand.TheVariants.OpenOrder, declared.decide.Recorded.TheVariants.Added}
 use Rattle.cabinet_core.proofs.Made.{decision_makes}
 use Rattle.cabinet_core.proofs.decide.open_order.Goals as goal
 

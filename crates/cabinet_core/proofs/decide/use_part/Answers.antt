@@ -1,6 +1,5 @@
 use Rattle.std.proofs.Common.{Ok, rules}
-use Rattle.cabinet_core.specs.declared.command.RecordCommand.TheVariants.{UsePart}
-use Rattle.cabinet_core.specs.declared.decide.Recorded.TheVariants.{Added}
+use Rattle.cabinet_core.specs.{declared.command.RecordCommand.TheVariants.UsePart, declared.decide.Recorded.TheVariants.Added}
 use Rattle.cabinet_core.proofs.Made.{decision_makes}
 use Rattle.cabinet_core.proofs.decide.use_part.Goals as goal
 

@@ -1,13 +1,9 @@
 use Rattle.std.proofs.Common.{◌≡◌, not, ap, sym, subst, ◌∙◌, rules}
 use Rattle.std.specs.{List.AllByRecursion, Prelude.Ok}
-use Rattle.draft_core.specs.{Moves.Follows, Moves.move_to, News.AddsNone}
-use Rattle.draft_core.specs.{Transaction.abandoned_from, Writes.dropping}
+use Rattle.draft_core.specs.{Moves.Follows, Moves.move_to, News.AddsNone, Transaction.abandoned_from, Writes.dropping}
 use Rattle.draft_core.specs.declared.timing.Move.{Move}
-use Rattle.draft_state.specs.declared.state.Holding.TheVariants.{Dropped}
-use Rattle.draft_state.specs.declared.state.Verdict.TheVariants.{NotDone}
-use Rattle.draft_core.proofs.Lines.{held}
-use Rattle.draft_core.proofs.Makes.{abandon_makes}
-use Rattle.draft_core.proofs.Written.{drafted_in-dropping, dropping_adds, dropping_writes}
+use Rattle.draft_state.specs.{declared.state.Holding.TheVariants.Dropped, declared.state.Verdict.TheVariants.NotDone}
+use Rattle.draft_core.proofs.{Lines.held, Makes.abandon_makes, Written.drafted_in-dropping, Written.dropping_adds, Written.dropping_writes}
 use Rattle.draft_core.proofs.decide.abandon.Goals as goal
 
 pub returns : goal.returns

@@ -1,8 +1,7 @@
 use Rattle.std.proofs.Common.{sym, ap, ◌∙◌}
 use Rattle.draft_core.specs.Transaction.{verdict_on}
 use Rattle.draft_state.specs.declared.state.Stage.TheVariants.{Done}
-use Rattle.draft_core.proofs.Lines.{owned_moves}
-use Rattle.draft_core.proofs.{Makes.stays_makes, Overlaid.draft_violations}
+use Rattle.draft_core.proofs.{Lines.owned_moves, Makes.stays_makes, Overlaid.draft_violations}
 use Rattle.draft_core.proofs.decide.check.Goals as goal
 
 pub returns-clause-line : goal.returns-clause-line

@@ -1,7 +1,6 @@
 use Rattle.std.proofs.Common.{refl, sym}
 use Rattle.draft_state.specs.declared.state.Stage.TheVariants.{Transaction}
-use Rattle.draft_core.proofs.Lines.{owned_moves}
-use Rattle.draft_core.proofs.Makes.{stays_makes}
+use Rattle.draft_core.proofs.{Lines.owned_moves, Makes.stays_makes}
 use Rattle.draft_core.proofs.decide.reopen.Goals as goal
 
 pub returns-clause-line : goal.returns-clause-line

@@ -1,10 +1,8 @@
 use Rattle.std.proofs.Common.{◌≡◌, ◌+◌, ◌++◌, ◌∷◌, [], List, take, sym, ap, subst, ◌∙◌}
 use Rattle.std.proofs.lemmas.List.{take_all, take_more}
 use Rattle.std.specs.{BTreeMap.is_at, List.list_any}
-use Rattle.signal_records.specs.Key.{key_cmp}
-use Rattle.signal_records.specs.declared.key.Key.{Key}
-use Rattle.draft_core.specs.DraftRows.{row_at}
-use Rattle.draft_core.specs.Drafting.{AreNamed, is_said}
+use Rattle.signal_records.specs.{Key.key_cmp, declared.key.Key.Key}
+use Rattle.draft_core.specs.{DraftRows.row_at, Drafting.AreNamed, Drafting.is_said}
 use Rattle.draft_core.proofs.{OnlyChanges.named_more, Pushed.row_at-push}
 use Rattle.draft_core.proofs.drafting.named_keys.Goals as goal
 

@@ -1,6 +1,5 @@
 use Rattle.std.proofs.Common.{⊎_elim, subst}
-use Rattle.cabinet_core.specs.Cabinet.{receive_line}
-use Rattle.cabinet_core.specs.declared.command.RecordCommand.TheVariants.{Receive}
+use Rattle.cabinet_core.specs.{Cabinet.receive_line, declared.command.RecordCommand.TheVariants.Receive}
 use Rattle.office_tables_shelf.specs.{CabinetReads.HasDamagedDelivery, CabinetReads.ReadsDelivery, Change.changed_by}
 use Rattle.office_desk_cabinet.proofs.{Decided.decided, Stocked.received_tells}
 use Rattle.office_desk_cabinet.proofs.stocking.decide_receive.Goals as goal

@@ -2,8 +2,7 @@ use Rattle.std.proofs.Common.{Option, Some, None, subst}
 use Rattle.std.specs.Prelude.{IfSome}
 use Rattle.draft_core.specs.declared.timing.Reach.{Reach}
 use Rattle.office_desk_decisions.specs.Damage.{HasDamageIn}
-use Rattle.office_desk_timing.specs.Reading.{FindsAny, ListsFound}
-use Rattle.office_desk_timing.specs.declared.reading.Found.{Found}
+use Rattle.office_desk_timing.specs.{Reading.FindsAny, Reading.ListsFound, declared.reading.Found.Found}
 use Rattle.office_desk_decisions.proofs.Decisions.{fault_decides}
 use Rattle.office_desk_timing.proofs.Transactions.{absent_decides, meets, transact_decides}
 use Rattle.office_desk_timing.proofs.transacting.transact.Goals as goal

@@ -1,7 +1,6 @@
 use Rattle.office_files.specs.{RecordReading.record_at, RecordSpelling.record_spelling}
 use Rattle.cabinet_core.specs.Within.{IsRecordWithin}
-use Rattle.office_files.proofs.RecordLaws.{record_laws}
-use Rattle.office_files.proofs.FileLaws.{given_found, given_within, given_only}
+use Rattle.office_files.proofs.{RecordLaws.record_laws, FileLaws.given_found, FileLaws.given_within, FileLaws.given_only}
 use Rattle.office_files.proofs.cabinet.read_records_csv.Goals as goal
 
 pub returns-clause-found : goal.returns-clause-found

@@ -1,8 +1,7 @@
 use Rattle.std.proofs.Common.{◌∙◌}
 use Rattle.office_files.specs.RecordSpelling.{record_spelling}
 use Rattle.cabinet_core.specs.Within.{IsRecordWithin}
-use Rattle.office_files.proofs.{Utf8Lemmas.given_utf8, SpelledTexts.record_texts}
-use Rattle.office_files.proofs.RecordLaws.{given_reads_back}
+use Rattle.office_files.proofs.{Utf8Lemmas.given_utf8, SpelledTexts.record_texts, RecordLaws.given_reads_back}
 use Rattle.office_files.proofs.cabinet.records_csv.Goals as goal
 
 pub returns-clause-utf8 : goal.returns-clause-utf8

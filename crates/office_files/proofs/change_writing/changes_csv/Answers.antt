@@ -1,7 +1,5 @@
-use Rattle.signal_records.specs.Spelling.{change_spelling}
-use Rattle.signal_records.specs.Within.{current_limits, IsChangeWithin}
-use Rattle.office_files.proofs.ChangeTexts.{change_texts, given_changes_back}
-use Rattle.office_files.proofs.Utf8Lemmas.{given_utf8}
+use Rattle.signal_records.specs.{Spelling.change_spelling, Within.current_limits, Within.IsChangeWithin}
+use Rattle.office_files.proofs.{ChangeTexts.change_texts, ChangeTexts.given_changes_back, Utf8Lemmas.given_utf8}
 use Rattle.office_files.proofs.change_writing.changes_csv.Goals as goal
 
 pub returns-clause-utf8 : goal.returns-clause-utf8

@@ -1,7 +1,5 @@
-use Rattle.signal_records.specs.{Reading.change_at, Spelling.change_spelling}
-use Rattle.signal_records.specs.Within.{current_limits, IsChangeWithin}
-use Rattle.office_files.proofs.ChangesLemmas.{change_laws}
-use Rattle.office_files.proofs.FileLaws.{given_found, given_within, given_only}
+use Rattle.signal_records.specs.{Reading.change_at, Spelling.change_spelling, Within.current_limits, Within.IsChangeWithin}
+use Rattle.office_files.proofs.{ChangesLemmas.change_laws, FileLaws.given_found, FileLaws.given_within, FileLaws.given_only}
 use Rattle.office_files.proofs.changes.read_timing_csv.Goals as goal
 
 pub returns-clause-found : goal.returns-clause-found

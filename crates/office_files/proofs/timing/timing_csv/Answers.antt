@@ -1,7 +1,6 @@
 use Rattle.std.proofs.Common.{◌∙◌}
 use Rattle.signal_records.specs.{Spelling.spelling, Within.current_limits, Within.IsRowWithin}
-use Rattle.office_files.proofs.{Utf8Lemmas.given_utf8, SpelledTexts.row_texts}
-use Rattle.office_files.proofs.{TimingLemmas.given_reads_back, RestoreLemmas.given_restored}
+use Rattle.office_files.proofs.{Utf8Lemmas.given_utf8, SpelledTexts.row_texts, TimingLemmas.given_reads_back, RestoreLemmas.given_restored}
 use Rattle.office_files.proofs.timing.timing_csv.Goals as goal
 
 pub returns-clause-utf8 : goal.returns-clause-utf8

@@ -1,13 +1,8 @@
 use Rattle.std.proofs.Common.{◌≡◌, ◌≤◌, ◌∙◌, [], Ok, inl, inr, sym, subst}
-use Rattle.office_http_framing.specs.Protocol.{bytes_of}
-use Rattle.office_http_framing.specs.Stops.{DealsBy}
-use Rattle.office_tables_shelf.specs.Change.{changed_by}
-use Rattle.office_tables_shelf.specs.Counts.{counts_after, writes_in}
-use Rattle.office_tables_shelf.specs.declared.rows.Table.{Table}
-use Rattle.office_desk.specs.Answers.{AnswersAny}
-use Rattle.office_desk.specs.Changes.{most_writes}
-use Rattle.office_desk.proofs.Runs.{idle_answers, none_or_some}
-use Rattle.office_desk.proofs.Writes.{rise_at_most}
+use Rattle.office_http_framing.specs.{Protocol.bytes_of, Stops.DealsBy}
+use Rattle.office_tables_shelf.specs.{Change.changed_by, Counts.counts_after, Counts.writes_in, declared.rows.Table.Table}
+use Rattle.office_desk.specs.{Answers.AnswersAny, Changes.most_writes}
+use Rattle.office_desk.proofs.{Runs.idle_answers, Runs.none_or_some, Writes.rise_at_most}
 use Rattle.office_http.proofs.MachineLemmas.{after_step, deals_made, deals_read, deals_refused}
 use Rattle.office_http.specs.Protocol.{office_protocol, office_storage}
 use Rattle.office_http.proofs.machine.answer_asked.Goals as goal

@@ -1,6 +1,5 @@
 use Rattle.std.proofs.Common.{◌≡◌, ℕ, List, ◌++◌, take, drop, sym, ap, ◌∙◌, append_assoc, arith}
-use Rattle.std.proofs.lemmas.{List.take-append-drop, List.take_rest, Bool.Decides.nat_tests}
-use Rattle.std.proofs.KnownBytes.{Appends-trans}
+use Rattle.std.proofs.{lemmas.List.take-append-drop, lemmas.List.take_rest, lemmas.Bool.Decides.nat_tests, KnownBytes.Appends-trans}
 use Rattle.office_http_framing.proofs.ends.write_all.Goals as goal
 
 -- a longer front, and the rest as the code takes it

@@ -1,9 +1,7 @@
 use Rattle.std.proofs.Common.{◌≡◌, ℕ, List, [], ◌∷◌, ◌+◌, ◌-◌, ◌<◌, ◌≤◌, length, drop, refl, sym, ap, subst, ◌∙◌, inr, arith}
-use Rattle.std.proofs.{KnownBytes.Consumes-nil, lemmas.Bool.Decides.nat_tests}
-use Rattle.std.proofs.lemmas.List.{length-drop, length-append}
-use Rattle.office_http_framing.specs.Front.{plain, BeginsWithRequest, IsIncomplete, IsFaulty}
-use Rattle.office_http_framing.specs.Stream.{closed, unfinished, faulty}
-use Rattle.office_http_framing.specs.Serve.{ends_of}
+use Rattle.std.proofs.{KnownBytes.Consumes-nil, lemmas.Bool.Decides.nat_tests, lemmas.List.length-drop, lemmas.List.length-append}
+use Rattle.office_http_framing.specs.{Front.plain, Front.BeginsWithRequest, Front.IsIncomplete, Front.IsFaulty, Stream.closed}
+use Rattle.office_http_framing.specs.{Stream.unfinished, Stream.faulty, Serve.ends_of}
 use Rattle.office_http_framing.proofs.AskLemmas.{AsksSoFar, asks-start, asks-next, asks-more, only_asks}
 use Rattle.office_http_framing.proofs.EndLemmas.{Grows-refl, Grows-trans, Rose-after, Rose-empty}
 use Rattle.office_http_framing.proofs.StopLemmas.{ran-start, ran-next}

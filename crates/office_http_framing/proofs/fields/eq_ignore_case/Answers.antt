@@ -1,6 +1,5 @@
-use Rattle.std.proofs.{Common.map, lemmas.Slice.Eq.bytes_eq-Decides}
+use Rattle.std.proofs.{Common.map, lemmas.Slice.Eq.bytes_eq-Decides, lemmas.Bool.Decides.same_from_decides}
 use Rattle.std.specs.Char.{to_ascii_lowercase}
-use Rattle.std.proofs.lemmas.Bool.Decides.{same_from_decides}
 use Rattle.office_http_framing.specs.Fields.{eq_ignore_case}
 use Rattle.office_http_framing.proofs.fields.eq_ignore_case.Goals as goal
 

@@ -1,7 +1,6 @@
 use Rattle.std.proofs.Common.{sym, ◌∙◌, rules, tests}
 use Rattle.std.specs.{Prelude.codes, Prelude.◌==◌, List.slice_split}
-use Rattle.std.proofs.lemmas.Iterator.Splits.{YieldsList-from_slice_split}
-use Rattle.std.proofs.lemmas.Iterator.Search.{any_from_yields_List}
+use Rattle.std.proofs.{lemmas.Iterator.Splits.YieldsList-from_slice_split, lemmas.Iterator.Search.any_from_yields_List}
 use Rattle.httparse.specs.Grammar.{trim_ows}
 use Rattle.office_http_framing.specs.Fields.{eq_ignore_case, lists_close}
 use Rattle.office_http_framing.proofs.FieldLemmas.{list_any-map}

@@ -1,7 +1,6 @@
 use Rattle.std.proofs.Common.{refl, ◌∙◌, arith}
 use Rattle.std.proofs.lemmas.Result.{err_from_is_err_and}
-use Rattle.office_http_requests.specs.Routes.{route_rows, endpoints}
-use Rattle.office_http_requests.specs.declared.route.Endpoint.TheVariants.{AddIntersection}
+use Rattle.office_http_requests.specs.{Routes.route_rows, Routes.endpoints, declared.route.Endpoint.TheVariants.AddIntersection}
 use Rattle.office_http_requests.proofs.RouteTable.{with_route-from_insert, with_routes-next, all_fit-next, table_fits, refused_for_memory}
 use Rattle.office_http_requests.proofs.route.router.Goals as goal
 

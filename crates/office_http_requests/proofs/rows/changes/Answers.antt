@@ -1,11 +1,9 @@
 use Rattle.std.proofs.Common.{◌∙◌, ◌+◌, Err, ap, sym, refl, arith}
 use Rattle.std.proofs.lemmas.Result.{err_from_is_err_and}
-use Rattle.signal_records.specs.Reading.{change_at, texts}
-use Rattle.signal_records.specs.Within.{current_limits}
+use Rattle.signal_records.specs.{Reading.change_at, Reading.texts, Within.current_limits}
 use Rattle.office_files.specs.CsvRow.{rows_from}
 use Rattle.office_files.proofs.CsvRowLemmas.{rows_of-next, rows_of-fault}
-use Rattle.office_http_requests.specs.Asks.{or_bad_row}
-use Rattle.office_http_requests.specs.Rows.{RowRefs}
+use Rattle.office_http_requests.specs.{Asks.or_bad_row, Rows.RowRefs}
 use Rattle.office_http_requests.proofs.RowLemmas.{bad_row}
 use Rattle.office_http_requests.proofs.rows.changes.Goals as goal
 

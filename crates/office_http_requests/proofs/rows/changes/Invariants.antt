@@ -1,6 +1,5 @@
 use Rattle.std.proofs.Common.{◌≡◌, Ok, take}
-use Rattle.signal_records.specs.Reading.{change_at}
-use Rattle.signal_records.specs.Within.{current_limits}
+use Rattle.signal_records.specs.{Reading.change_at, Within.current_limits}
 use Rattle.office_files.specs.CsvRow.{rows_of}
 use Rattle.office_http_requests.specs.Rows.{rows_seen}
 use Rattle.office_http_requests.proofs.rows.changes.Given as goal

@@ -1,7 +1,6 @@
 use Rattle.std.proofs.Common.{◌∙◌, sym, ap, is_some}
 use Rattle.std.specs.List.{list_all}
-use Rattle.serde_json.specs.Find.{as_str}
-use Rattle.serde_json.specs.View.{view}
+use Rattle.serde_json.specs.{Find.as_str, View.view}
 use Rattle.office_http_requests.proofs.RowLemmas.{each_passes, texts_in-array, texts_in-other}
 use Rattle.office_http_requests.proofs.rows.is_row.Goals as goal
 

@@ -1,6 +1,5 @@
 use Rattle.std.proofs.Common.{◌≡◌, map, drop}
-use Rattle.serde_json.specs.Find.{as_str}
-use Rattle.serde_json.specs.View.{view}
+use Rattle.serde_json.specs.{Find.as_str, View.view}
 use Rattle.signal_records.specs.Reading.{texts}
 use Rattle.office_http_requests.specs.Rows.{each, texts_in}
 use Rattle.office_http_requests.proofs.RowLemmas.{onto}

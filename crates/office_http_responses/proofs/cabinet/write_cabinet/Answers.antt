@@ -1,5 +1,4 @@
-use Rattle.office_http_responses.specs.RegisterTrees.{cabinet_tree}
-use Rattle.office_http_responses.specs.Writing.{tokens_of}
+use Rattle.office_http_responses.specs.{RegisterTrees.cabinet_tree, Writing.tokens_of}
 use Rattle.office_http_responses.proofs.TokenLemmas.{one, ◌then◌, same_tokens}
 use Rattle.office_http_responses.proofs.cabinet.write_cabinet.Goals as goal
 

@@ -1,6 +1,5 @@
 use Rattle.std.proofs.Common.{◌≡◌, ◌++◌, map, flat_map, take}
-use Rattle.office_http_responses.specs.RegisterTrees.{order_tree}
-use Rattle.office_http_responses.specs.Writing.{tokens_of}
+use Rattle.office_http_responses.specs.{RegisterTrees.order_tree, Writing.tokens_of}
 use Rattle.office_http_responses.proofs.cabinet.write_orders.Given as goal
 
 -- what was written so far

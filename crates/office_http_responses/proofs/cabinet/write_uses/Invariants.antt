@@ -1,8 +1,7 @@
 use Rattle.std.proofs.Common.{◌≡◌, ◌++◌, map, flat_map, take}
 use Rattle.std.specs.List.{filter}
 use Rattle.office_files.specs.Records.{is_line_of}
-use Rattle.office_http_responses.specs.RegisterTrees.{used_tree}
-use Rattle.office_http_responses.specs.Writing.{tokens_of}
+use Rattle.office_http_responses.specs.{RegisterTrees.used_tree, Writing.tokens_of}
 use Rattle.office_http_responses.proofs.cabinet.write_uses.Given as goal
 
 -- what was written so far

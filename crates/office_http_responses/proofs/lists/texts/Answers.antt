@@ -1,5 +1,4 @@
-use Rattle.std.proofs.Common.{string_bytes}
-use Rattle.std.proofs.lemmas.Simd.{map-map}
+use Rattle.std.proofs.{Common.string_bytes, lemmas.Simd.map-map}
 use Rattle.office_http_responses.specs.Json.{text}
 use Rattle.office_http_responses.proofs.lists.texts.Goals as goal
 

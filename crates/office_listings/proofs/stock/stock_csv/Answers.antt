@@ -1,6 +1,5 @@
 use Rattle.std.proofs.Common.{◌∙◌, ap, arith, map, subst}
-use Rattle.std.proofs.lemmas.List.{take_all}
-use Rattle.std.proofs.lemmas.List.Elements.{All-nil}
+use Rattle.std.proofs.{lemmas.List.take_all, lemmas.List.Elements.All-nil}
 use Rattle.csv.specs.Records.{fields_of}
 use Rattle.office_listings.specs.Stock.{part_fields}
 use Rattle.office_listings.proofs.CsvLemmas.{AreWritten, IsTextual, file_utf8, written_more}

@@ -1,8 +1,7 @@
 use Rattle.std.proofs.Common.{◌≡◌, true, IsTrue, refl, subst, rules, arith}
 use Rattle.std.proofs.lemmas.Result.{IfOk-weaker}
 use Rattle.std.specs.Prelude.{IfOk}
-use Rattle.sqlite.specs.Held.{state}
-use Rattle.sqlite.specs.State.{HasCleanDisk}
+use Rattle.sqlite.specs.{Held.state, State.HasCleanDisk}
 use Rattle.office_tables_sql.specs.Calls.{IsHonest, StandsOn}
 use Rattle.office_tables_sql.proofs.CallLemmas.{begun_stands, asked_stands, unasked_stands}
 use Rattle.office_tables.specs.Migrate.{AreNeither, ShowsNeither}

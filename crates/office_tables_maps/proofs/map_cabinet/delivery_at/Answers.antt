@@ -1,6 +1,5 @@
 use Rattle.std.proofs.Common.{rules, ◌≡◌, subst, None, Some}
-use Rattle.office_tables_shelf.specs.CabinetReads.{ReadsDelivery}
-use Rattle.office_tables_shelf.specs.Content.{no_content}
+use Rattle.office_tables_shelf.specs.{CabinetReads.ReadsDelivery, Content.no_content}
 use Rattle.office_tables_maps.specs.MapCabinet.{delivery_rows}
 use Rattle.office_tables_maps.proofs.CabinetTrees.{reads_delivery}
 use Rattle.office_tables_maps.proofs.map_cabinet.delivery_at.Goals as goal

@@ -1,9 +1,7 @@
 use Rattle.std.proofs.Common.{rules, ◌≡◌, ◌∙◌, ap}
-use Rattle.std.specs.Option.{option_map}
-use Rattle.std.specs.Ordering.{is_eq}
+use Rattle.std.specs.{Option.option_map, Ordering.is_eq}
 use Rattle.office_tables_shelf.specs.CabinetRows.{part_key, part_columns}
-use Rattle.office_tables_shelf.proofs.CabinetLemmas.{part_cmp, part_order}
-use Rattle.office_tables_shelf.proofs.TreeLemmas.{entry_at, get_tree}
+use Rattle.office_tables_shelf.proofs.{CabinetLemmas.part_cmp, CabinetLemmas.part_order, TreeLemmas.entry_at, TreeLemmas.get_tree}
 use Rattle.office_tables_maps.proofs.map_cabinet.hand_of.Goals as goal
 
 pub returns : goal.returns

@@ -1,11 +1,10 @@
 use Rattle.std.proofs.Common.{rules, ◌≡◌, ◌∙◌, refl, sym, ap}
-use Rattle.std.specs.FinMap.{insert}
-use Rattle.std.specs.Ordering.{is_eq}
+use Rattle.std.specs.{FinMap.insert, Ordering.is_eq}
 use Rattle.office_tables_shelf.specs.CabinetRows.{delivery_key, delivery_columns}
 use Rattle.office_tables_maps.specs.MapCabinet.{delivery_place_key, delivery_rows, IsDeliveryAt}
 use Rattle.office_tables_maps.proofs.CabinetTrees.{delivery_cmp, delivery_order, delivery_exact}
-use Rattle.office_tables_shelf.proofs.TreeLemmas.{insert_tree}
 use Rattle.office_tables_maps.proofs.TreeRows.{standing_put}
+use Rattle.office_tables_shelf.proofs.TreeLemmas.{insert_tree}
 use Rattle.office_tables_maps.proofs.map_cabinet.put_delivery.Goals as goal
 
 pub returns-clause-rows : goal.returns-clause-rows

@@ -2,9 +2,8 @@ use Rattle.std.proofs.Common.{refl, ap}
 use Rattle.std.specs.Ordering.{is_eq}
 use Rattle.office_tables_shelf.specs.CabinetRows.{used_columns}
 use Rattle.office_tables_maps.specs.MapCabinet.{line_place_key, IsUsedAt}
-use Rattle.office_tables_maps.proofs.CabinetTrees.{line_cmp, line_order, line_exact}
+use Rattle.office_tables_maps.proofs.{CabinetTrees.line_cmp, CabinetTrees.line_order, CabinetTrees.line_exact, TreeRows.standing_put}
 use Rattle.office_tables_shelf.proofs.TreeLemmas.{insert_tree}
-use Rattle.office_tables_maps.proofs.TreeRows.{standing_put}
 use Rattle.office_tables_maps.proofs.map_cabinet.put_line.Goals as goal
 
 pub returns-clause-rows : goal.returns-clause-rows

@@ -2,9 +2,8 @@ use Rattle.std.proofs.Common.{refl, ap}
 use Rattle.std.specs.Ordering.{is_eq}
 use Rattle.office_tables_shelf.specs.CabinetRows.{order_columns}
 use Rattle.office_tables_maps.specs.MapCabinet.{order_place_key, IsOrderAt}
-use Rattle.office_tables_maps.proofs.CabinetTrees.{record_cmp, order_order, record_exact}
+use Rattle.office_tables_maps.proofs.{CabinetTrees.record_cmp, CabinetTrees.order_order, CabinetTrees.record_exact, TreeRows.standing_put}
 use Rattle.office_tables_shelf.proofs.TreeLemmas.{insert_tree}
-use Rattle.office_tables_maps.proofs.TreeRows.{standing_put}
 use Rattle.office_tables_maps.proofs.map_cabinet.put_order.Goals as goal
 
 pub returns-clause-rows : goal.returns-clause-rows

@@ -1,8 +1,7 @@
 use Rattle.std.proofs.Common.{ap}
 use Rattle.std.specs.Ordering.{is_eq}
 use Rattle.office_tables_shelf.specs.CabinetRows.{part_key, part_columns}
-use Rattle.office_tables_shelf.proofs.CabinetLemmas.{part_cmp, part_order}
-use Rattle.office_tables_shelf.proofs.TreeLemmas.{insert_tree}
+use Rattle.office_tables_shelf.proofs.{CabinetLemmas.part_cmp, CabinetLemmas.part_order, TreeLemmas.insert_tree}
 use Rattle.office_tables_maps.proofs.map_cabinet.put_part.Goals as goal
 
 pub returns : goal.returns

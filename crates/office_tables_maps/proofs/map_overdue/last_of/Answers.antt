@@ -1,12 +1,8 @@
 use Rattle.std.proofs.Common.{◌∙◌, sym, ap, subst}
-use Rattle.std.specs.BTreeMap.Range.{entries_between}
-use Rattle.std.specs.List.{AllByRecursion}
-use Rattle.cabinet_core.specs.Overdue.{latest_day}
-use Rattle.cabinet_core.specs.Within.{IsInspectionWithin}
-use Rattle.office_tables_maps.proofs.CabinetTrees.{records_under, record_inter, record_cmp}
-use Rattle.office_tables_maps.proofs.CabinetTrees.{inspections_listed}
-use Rattle.office_tables_maps.proofs.CabinetTrees.{latest_with, latest_with_none}
-use Rattle.office_tables_maps.proofs.RangeLemmas.{records_forward, inspections_between}
+use Rattle.std.specs.{BTreeMap.Range.entries_between, List.AllByRecursion}
+use Rattle.cabinet_core.specs.{Overdue.latest_day, Within.IsInspectionWithin}
+use Rattle.office_tables_maps.proofs.CabinetTrees.{records_under, record_inter, record_cmp, inspections_listed, latest_with}
+use Rattle.office_tables_maps.proofs.{CabinetTrees.latest_with_none, RangeLemmas.records_forward, RangeLemmas.inspections_between}
 use Rattle.office_tables_maps.proofs.map_overdue.last_of.Goals as goal
 
 pub range-place-items-requires : goal.range-place-items-requires

@@ -1,9 +1,7 @@
 use Rattle.std.proofs.Common.{◌≡◌}
 use Rattle.std.specs.List.{AllByRecursion}
-use Rattle.cabinet_core.specs.Overdue.{latest_day}
-use Rattle.cabinet_core.specs.Within.{IsInspectionWithin}
-use Rattle.office_tables_maps.proofs.CabinetTrees.{records_under, record_inter}
-use Rattle.office_tables_maps.proofs.CabinetTrees.{latest_with}
+use Rattle.cabinet_core.specs.{Overdue.latest_day, Within.IsInspectionWithin}
+use Rattle.office_tables_maps.proofs.CabinetTrees.{records_under, record_inter, latest_with}
 use Rattle.office_tables_maps.proofs.map_overdue.last_of.Given as goal
 
 -- the latest day so far, with those of the entries that are left; and if those are within their

@@ -1,12 +1,9 @@
 use Rattle.std.proofs.Common.{◌≡◌, ◌∙◌, ◌++◌, [], ◌∷◌, List, ap, arith, length, map, subst, sym}
-use Rattle.std.specs.FinMap.{entries}
-use Rattle.std.specs.List.{AllByRecursion}
-use Rattle.cabinet_core.specs.Overdue.{listed, overdue_list}
-use Rattle.cabinet_core.specs.declared.overdue_inspections.OverdueRow.{OverdueRow}
-use Rattle.office_tables_shelf.specs.Content.{Content}
+use Rattle.std.specs.{FinMap.entries, List.AllByRecursion}
+use Rattle.cabinet_core.specs.{Overdue.listed, Overdue.overdue_list, declared.overdue_inspections.OverdueRow.OverdueRow}
+use Rattle.office_tables_shelf.specs.{Content.Content, Overdue.ReadsLast, Overdue.seen_row, Shelf.IsIntersectionWithin}
+use Rattle.office_tables_shelf.specs.Shelf.{ListsIntersections, rows_of}
 use Rattle.office_tables_maps.specs.MapCabinet.{inspection_rows, AreInspectionsPlaced}
-use Rattle.office_tables_shelf.specs.Overdue.{ReadsLast, seen_row}
-use Rattle.office_tables_shelf.specs.Shelf.{IsIntersectionWithin, ListsIntersections, rows_of}
 use Rattle.office_tables_shelf.proofs.OverdueLemmas.{seen_length, seen_at, overdue_more, still_short, enough_found, all_found}
 use Rattle.office_tables_shelf.proofs.OverdueLemmas.{whole_more, all_whole}
 use Rattle.office_tables_maps.proofs.map_overdue.overdue_of.Goals as goal

@@ -1,9 +1,7 @@
 use Rattle.std.proofs.Common.{◌≡◌, ◌≤◌, List, length, map, take}
-use Rattle.cabinet_core.specs.Overdue.{listed, overdue_list}
-use Rattle.cabinet_core.specs.declared.overdue_inspections.Seen.{Seen}
-use Rattle.office_tables_shelf.specs.Content.{Content}
+use Rattle.cabinet_core.specs.{Overdue.listed, Overdue.overdue_list, declared.overdue_inspections.Seen.Seen}
+use Rattle.office_tables_shelf.specs.{Content.Content, Overdue.AreSeenOf}
 use Rattle.office_tables_maps.specs.MapCabinet.{inspection_rows, AreInspectionsPlaced}
-use Rattle.office_tables_shelf.specs.Overdue.{AreSeenOf}
 use Rattle.office_tables_shelf.proofs.OverdueLemmas.{AreWhole}
 use Rattle.office_tables_maps.proofs.map_overdue.overdue_of.Given as goal
 

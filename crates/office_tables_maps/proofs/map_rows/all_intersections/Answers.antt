@@ -1,9 +1,8 @@
 use Rattle.std.proofs.Common.{◌≡◌, ◌++◌, map, sym, ap, ◌∙◌}
 use Rattle.std.proofs.lemmas.List.{append-nil}
 use Rattle.office_tables_shelf.specs.Rows.{intersection_key, intersection_columns}
-use Rattle.office_tables_maps.proofs.TreeRows.{tree_entries}
+use Rattle.office_tables_maps.proofs.TreeRows.{tree_entries, last_order}
 use Rattle.office_tables_shelf.proofs.TreeLemmas.{ranged_cmp}
-use Rattle.office_tables_maps.proofs.TreeRows.{last_order}
 use Rattle.office_tables_maps.proofs.map_rows.all_intersections.Goals as goal
 
 pub returns-clause-rows : goal.returns-clause-rows

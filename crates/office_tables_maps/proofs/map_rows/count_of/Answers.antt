@@ -1,9 +1,8 @@
 use Rattle.std.proofs.Common.{◌≡◌, ◌+◌, length, sym, ap, ◌∙◌, arith}
 use Rattle.std.proofs.lemmas.List.{length-map}
 use Rattle.std.specs.BTreeMap.Range.{entries_between}
-use Rattle.office_tables_maps.proofs.PlaceLemmas.{row_of, under, timing_listed}
+use Rattle.office_tables_maps.proofs.PlaceLemmas.{row_of, under, timing_listed, place_cmp}
 use Rattle.office_tables_maps.proofs.RangeLemmas.{places_forward, timing_between}
-use Rattle.office_tables_maps.proofs.PlaceLemmas.{place_cmp}
 use Rattle.office_tables_maps.proofs.map_rows.count_of.Goals as goal
 
 pub range-place-items-requires : goal.range-place-items-requires

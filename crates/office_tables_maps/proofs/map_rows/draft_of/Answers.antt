@@ -2,9 +2,8 @@ use Rattle.std.proofs.Common.{◌≡◌, ◌++◌, map, sym, ap, ◌∙◌}
 use Rattle.std.proofs.lemmas.List.{append-nil}
 use Rattle.std.specs.BTreeMap.Range.{entries_between}
 use Rattle.office_tables_shelf.specs.Rows.{draft_key, draft_columns}
-use Rattle.office_tables_maps.proofs.PlaceLemmas.{change_of, under, draft_listed}
+use Rattle.office_tables_maps.proofs.PlaceLemmas.{change_of, under, draft_listed, place_cmp}
 use Rattle.office_tables_maps.proofs.RangeLemmas.{places_forward, draft_between}
-use Rattle.office_tables_maps.proofs.PlaceLemmas.{place_cmp}
 use Rattle.office_tables_maps.proofs.map_rows.draft_of.Goals as goal
 
 pub range-place-items-requires : goal.range-place-items-requires

@@ -1,12 +1,9 @@
-use Rattle.signal_records.specs.Row.{key_of}
-use Rattle.office_tables_maps.specs.MapShelf.{place_key, IsRowAt}
+use Rattle.signal_records.specs.{Row.key_of, Within.current_limits, Within.IsKeyWithin}
+use Rattle.office_tables_maps.specs.{MapShelf.place_key, MapShelf.IsRowAt, declared.place.Place.Place}
 use Rattle.office_tables_shelf.specs.Rows.{timing_columns}
-use Rattle.office_tables_maps.specs.declared.place.Place.{Place}
 use Rattle.std.proofs.Common.{sym, subst, ◌∙◌}
-use Rattle.signal_records.specs.Within.{current_limits, IsKeyWithin}
-use Rattle.office_tables_maps.proofs.PlaceLemmas.{place_cmp, place_exact, place_ties}
+use Rattle.office_tables_maps.proofs.{PlaceLemmas.place_cmp, PlaceLemmas.place_exact, PlaceLemmas.place_ties, TreeRows.standing_put}
 use Rattle.office_tables_shelf.proofs.TreeLemmas.{insert_tree}
-use Rattle.office_tables_maps.proofs.TreeRows.{standing_put}
 use Rattle.office_tables_maps.proofs.map_rows.put_timing.Goals as goal
 
 pub returns-clause-rows : goal.returns-clause-rows

@@ -3,9 +3,8 @@ use Rattle.std.proofs.lemmas.List.{append-nil}
 use Rattle.std.specs.BTreeMap.Range.{entries_between}
 use Rattle.signal_records.specs.Row.{key_of}
 use Rattle.office_tables_shelf.specs.Rows.{timing_key, timing_columns}
-use Rattle.office_tables_maps.proofs.PlaceLemmas.{row_of, under, timing_listed}
+use Rattle.office_tables_maps.proofs.PlaceLemmas.{row_of, under, timing_listed, place_cmp}
 use Rattle.office_tables_maps.proofs.RangeLemmas.{places_forward, timing_between}
-use Rattle.office_tables_maps.proofs.PlaceLemmas.{place_cmp}
 use Rattle.office_tables_maps.proofs.map_rows.timing_of.Goals as goal
 
 pub range-place-items-requires : goal.range-place-items-requires

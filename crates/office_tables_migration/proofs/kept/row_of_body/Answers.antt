@@ -1,6 +1,5 @@
 use Rattle.std.proofs.Common.{sym, ap, ◌∙◌}
-use Rattle.signal_records.specs.Reading.{texts}
-use Rattle.signal_records.specs.Within.{version_1_limits}
+use Rattle.signal_records.specs.{Reading.texts, Within.version_1_limits}
 use Rattle.signal_records.proofs.RowLaws.{are_version_1}
 use Rattle.std.specs.List.{slice_split}
 use Rattle.office_tables_shelf.proofs.RowLemmas.{is_comma, fields_back, body_back}

@@ -1,6 +1,5 @@
 use Rattle.std.proofs.Common.{◌≡◌, ◌++◌, ℕ}
-use Rattle.std.specs.List.{list_all}
-use Rattle.std.specs.Vec.Iter.{into_iter_items}
+use Rattle.std.specs.{List.list_all, Vec.Iter.into_iter_items}
 use Rattle.signal_records.specs.declared.record.Change.{Change}
 use Rattle.office_tables_migration.specs.Former.{is_row, timing_puts}
 use Rattle.office_tables_migration.proofs.puts.timing_changes.Given as goal

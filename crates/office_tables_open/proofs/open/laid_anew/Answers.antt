@@ -1,8 +1,7 @@
 use Rattle.std.proofs.Common.{◌≡◌, inl, inr, ℕ, ◌<◌, Option, IfSome, subst, arith}
 use Rattle.sqlite.specs.{Held.state, Tree.Trees}
 use Rattle.office_tables_schema.specs.Schema.{IsFront}
-use Rattle.office_tables_open.specs.{Arranged.IsArranged, Found.IsFoundIn, Lacking.Completes}
-use Rattle.office_tables_open.specs.declared.found.Found.{Found}
+use Rattle.office_tables_open.specs.{Arranged.IsArranged, Found.IsFoundIn, Lacking.Completes, declared.found.Found.Found}
 use Rattle.office_tables_open.specs.declared.open.OpenFault.TheVariants.{Version, Damaged, Store}
 use Rattle.office_tables_open.proofs.OpenLemmas.{again_rises, found_unclaimed, found_none, found_other, found_rows}
 use Rattle.office_tables_open.proofs.LeftLemmas.{anew_left, as_left, mended_left, refused_again, refused_left, same_committed}

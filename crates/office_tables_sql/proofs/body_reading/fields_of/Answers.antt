@@ -1,5 +1,4 @@
-use Rattle.std.proofs.Common.{eqb, rules, tests}
-use Rattle.std.proofs.lemmas.Iterator.Consumers.{map_from_collect}
+use Rattle.std.proofs.{Common.eqb, Common.rules, Common.tests, lemmas.Iterator.Consumers.map_from_collect}
 use Rattle.std.proofs.lemmas.Iterator.Splits.{YieldsList-from_slice_split}
 use Rattle.office_tables_sql.proofs.body_reading.fields_of.Goals as goal
 

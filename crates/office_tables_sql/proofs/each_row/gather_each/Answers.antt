@@ -1,18 +1,16 @@
 use Rattle.std.proofs.Common.{◌≡◌, ◌++◌, rules, refl, None, Some, [], ◌∷◌, arith, ap, subst, sym, ◌∙◌, Err}
 use Rattle.std.specs.Prelude.{option_copied}
-use Rattle.sqlite.specs.{Given.GivesOn, Given.row_if, Order.Row, State.HasCleanDisk}
-use Rattle.sqlite.specs.Held.{state}
+use Rattle.sqlite.specs.{Given.GivesOn, Given.row_if, Order.Row, State.HasCleanDisk, Held.state}
 use Rattle.sqlite.proofs.Callers.{given_begin, begun_plain, unchanged_then}
 use Rattle.office_tables_shelf.proofs.ListLemmas.{all_more}
 use Rattle.office_tables_shelf.specs.declared.shelf.ShelfFault.TheVariants.{Damaged}
-use Rattle.office_tables_sql.specs.{Calls.IsHonest, Calls.Keeps, Calls.Reads, Stored.content_now}
-use Rattle.office_tables_sql.specs.Tables.{params_of, row_shown, stored_for, HasDamagedRow}
-use Rattle.office_tables_sql.specs.Gathers.{Gathers}
+use Rattle.office_tables_sql.specs.{Calls.IsHonest, Calls.Keeps, Calls.Reads, Stored.content_now, Tables.params_of, Tables.row_shown}
+use Rattle.office_tables_sql.specs.{Tables.stored_for, Tables.HasDamagedRow, Gathers.Gathers}
 use Rattle.office_tables_sql.proofs.StoredLists.{lists, width, damaged_at}
 use Rattle.office_tables_sql.proofs.{CallLemmas.survives_on, each_row.gather_each.Given.Over}
 use Rattle.office_tables_sql.proofs.CallLemmas.{plain_at, refused_keeps, began_survives, broken_keeps, all_read, some_read, has_mid, one_more, next_honest, next_keeps}
-use Rattle.office_tables_sql.proofs.each_row.gather_each.Goals as goal
 use Rattle.office_tables_sql.proofs.each_row.gather_each.Goals.{In_default}
+use Rattle.office_tables_sql.proofs.each_row.gather_each.Goals as goal
 
 -- what the call left once the query was asked for one more row
 keeps : (g : Over) (c : In_default g) → Keeps (state g.S.Store c.args.conn.now) (state g.S.Store c.advance.new.self.conn.now)

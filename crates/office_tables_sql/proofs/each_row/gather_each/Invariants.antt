@@ -1,6 +1,5 @@
 use Rattle.std.proofs.Common.{◌≡◌, false, List}
-use Rattle.sqlite.specs.{Order.Row, State.HasCleanDisk, State.IsUnchanged, State.Survives}
-use Rattle.sqlite.specs.{Held.state, Given.HasGiven}
+use Rattle.sqlite.specs.{Order.Row, State.HasCleanDisk, State.IsUnchanged, State.Survives, Held.state, Given.HasGiven}
 use Rattle.office_tables_sql.specs.Tables.{params_of}
 use Rattle.office_tables_sql.proofs.CallLemmas.{HasGathered}
 use Rattle.office_tables_sql.proofs.each_row.gather_each.Given as goal

@@ -1,10 +1,9 @@
 use Rattle.std.proofs.Common.{◌≡◌, Err, rules, refl, subst}
 use Rattle.std.specs.Int.{IsInRange}
 use Rattle.sqlite.specs.Held.{state}
-use Rattle.office_tables_shelf.specs.Rows.{intersection_key, intersection_columns}
-use Rattle.office_tables_shelf.specs.Shelf.{IsIntersectionWithin}
-use Rattle.office_tables_shelf.specs.declared.rows.Table.TheVariants as table
+use Rattle.office_tables_shelf.specs.{Rows.intersection_key, Rows.intersection_columns, Shelf.IsIntersectionWithin}
 use Rattle.office_tables_shelf.specs.declared.shelf.ShelfFault.TheVariants.{Damaged}
+use Rattle.office_tables_shelf.specs.declared.rows.Table.TheVariants as table
 use Rattle.office_tables_sql.specs.{Stored.content_now, Tables.HasDamagedUnder}
 use Rattle.office_tables_sql.proofs.intersection.read.Goals as goal
 

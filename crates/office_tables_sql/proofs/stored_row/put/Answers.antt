@@ -1,11 +1,9 @@
 use Rattle.std.proofs.Common.{◌≡◌, arith, subst, sym}
 use Rattle.sqlite.specs.{Held.state, State.HasCleanDisk}
-use Rattle.office_tables_sql.specs.{Calls.IsReady, Stored.content_now}
-use Rattle.office_tables_sql.specs.Tables.{put_in}
-use Rattle.office_tables_sql.proofs.StoredPuts.{one_put, two_put}
-use Rattle.office_tables_sql.proofs.stored_row.put.Given.{Over}
-use Rattle.office_tables_sql.proofs.stored_row.put.Goals as goal
+use Rattle.office_tables_sql.specs.{Calls.IsReady, Stored.content_now, Tables.put_in}
+use Rattle.office_tables_sql.proofs.{StoredPuts.one_put, StoredPuts.two_put, stored_row.put.Given.Over}
 use Rattle.office_tables_sql.proofs.stored_row.put.Goals.{After-drop-text-2, then-changed-eq0+in_ok-write, else-changed-eq0}
+use Rattle.office_tables_sql.proofs.stored_row.put.Goals as goal
 
 -- what the rows are after both ways
 stored : (g : Over) (c : After-drop-text-2 g) → HasCleanDisk (state g.S.Store c.if-changed-eq0.tx.conn.now) → IsReady (state g.S.Store c.args.tx.now.conn.now)

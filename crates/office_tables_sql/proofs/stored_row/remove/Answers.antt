@@ -1,7 +1,6 @@
 use Rattle.std.proofs.Common.{subst, sym, ap, ◌∙◌}
 use Rattle.sqlite.specs.Held.{state}
-use Rattle.office_tables_sql.specs.{Calls.IsWriting, Stored.content_now}
-use Rattle.office_tables_sql.specs.Tables.{key_values, remove_in}
+use Rattle.office_tables_sql.specs.{Calls.IsWriting, Stored.content_now, Tables.key_values, Tables.remove_in}
 use Rattle.office_tables_sql.proofs.StoredPuts.{removes}
 use Rattle.office_tables_sql.proofs.stored_row.remove.Goals as goal
 

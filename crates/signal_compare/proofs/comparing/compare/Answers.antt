@@ -1,5 +1,4 @@
-use Rattle.signal_compare.proofs.Whole.{rows_of, in_order, given_ascending, given_exact}
-use Rattle.signal_compare.proofs.Whole.{given_explained, given_makes}
+use Rattle.signal_compare.proofs.Whole.{rows_of, in_order, given_ascending, given_exact, given_explained, given_makes}
 use Rattle.signal_compare.proofs.comparing.compare.Goals as goal
 
 pub differences_of-requires-clause-first : goal.differences_of-requires-clause-first

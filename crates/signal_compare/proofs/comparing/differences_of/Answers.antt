@@ -1,8 +1,7 @@
 use Rattle.std.proofs.Common.{◌≡◌, Some, None, sym}
 use Rattle.std.specs.declared.cmp.Ordering.TheVariants.{Less, Equal, Greater}
 use Rattle.signal_compare.specs.Merging.{next_order}
-use Rattle.signal_compare.proofs.Steps.{in_order_after, after_less, after_greater, after_equal}
-use Rattle.signal_compare.proofs.Steps.{at_the_end}
+use Rattle.signal_compare.proofs.Steps.{in_order_after, after_less, after_greater, after_equal, at_the_end}
 use Rattle.signal_compare.proofs.comparing.differences_of.Goals as goal
 
 pub loop-order-preserved-in-Less : goal.loop-order-preserved-in-Less

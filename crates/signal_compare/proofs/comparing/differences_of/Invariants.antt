@@ -1,6 +1,5 @@
 use Rattle.std.proofs.Common.{List, ◌++◌, ◌+◌, length}
-use Rattle.signal_compare.specs.declared.difference.Difference.{Difference}
-use Rattle.signal_compare.specs.Merging.{AreInOrder, AreDifferences}
+use Rattle.signal_compare.specs.{declared.difference.Difference.Difference, Merging.AreInOrder, Merging.AreDifferences}
 use Rattle.signal_compare.proofs.comparing.differences_of.Given as goal
 
 -- what comes before the differences of the rows that are left

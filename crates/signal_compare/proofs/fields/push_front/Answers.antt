@@ -1,5 +1,4 @@
-use Rattle.std.proofs.Common.{append_assoc, rules}
-use Rattle.std.proofs.lemmas.Result.{IfOk-equal}
+use Rattle.std.proofs.{Common.append_assoc, Common.rules, lemmas.Result.IfOk-equal}
 use Rattle.signal_compare.proofs.fields.push_front.Goals as goal
 
 pub returns : goal.returns

@@ -1,7 +1,6 @@
 use Rattle.std.proofs.Common.{◌<◌, length, string_bytes, inl, inr, sym, ap, ◌∙◌, arith}
 use Rattle.signal_diagram.specs.Barriers.{all_start, barrier}
-use Rattle.signal_diagram.proofs.Seconds.{one_second}
-use Rattle.signal_diagram.proofs.barriers.push_barriers_within.Goals.{then-all_start+in_ok-push_barrier}
+use Rattle.signal_diagram.proofs.{Seconds.one_second, barriers.push_barriers_within.Goals.then-all_start+in_ok-push_barrier}
 use Rattle.signal_diagram.proofs.barriers.push_barriers_within.Goals.{else-all_start}
 use Rattle.signal_diagram.proofs.barriers.push_barriers_within.Goals as goal
 

@@ -1,7 +1,5 @@
 use Rattle.std.proofs.Common.{◌≡◌, ◌*◌, ◌≤◌, drop, length}
-use Rattle.signal_rules.specs.Lookup.{is_in}
-use Rattle.signal_rules.specs.CutPoints.{starts}
-use Rattle.signal_rules.specs.Starts.{times}
+use Rattle.signal_rules.specs.{Lookup.is_in, CutPoints.starts, Starts.times}
 use Rattle.signal_diagram.specs.Barriers.{ring_starts}
 use Rattle.signal_diagram.proofs.barriers.ring_starts.Given as goal
 

@@ -1,7 +1,6 @@
 use Rattle.std.proofs.Common.{◌≡◌, is_some, filter}
 use Rattle.std.specs.List.{list_all}
-use Rattle.signal_rules.specs.Lookup.{phase_at, split_at}
-use Rattle.signal_rules.specs.PatternRules.{has_splits}
+use Rattle.signal_rules.specs.{Lookup.phase_at, Lookup.split_at, PatternRules.has_splits}
 use Rattle.signal_diagram.proofs.rows.has_splits.Given as goal
 
 abbrev pub invariant-loop-p : goal.invariant-loop-p

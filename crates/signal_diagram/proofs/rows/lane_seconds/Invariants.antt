@@ -1,6 +1,5 @@
 use Rattle.std.proofs.Common.{◌≡◌, ◌+◌, ◌*◌, ◌≤◌, length, drop}
-use Rattle.signal_rules.specs.CutPoints.{timed}
-use Rattle.signal_rules.specs.Starts.{times}
+use Rattle.signal_rules.specs.{CutPoints.timed, Starts.times}
 use Rattle.signal_diagram.specs.Geometry.{lane_seconds}
 use Rattle.signal_diagram.proofs.rows.lane_seconds.Given as goal
 

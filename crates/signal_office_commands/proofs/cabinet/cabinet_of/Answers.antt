@@ -1,12 +1,10 @@
 use Rattle.std.proofs.Common.{◌∙◌, Err, ap, inl, inr, subst, sym}
-use Rattle.office_desk.specs.Damage.{MeetsDamage}
-use Rattle.office_desk.specs.StandFor.{StandForSound}
+use Rattle.office_desk.specs.{Damage.MeetsDamage, StandFor.StandForSound}
 use Rattle.office_machine.specs.declared.command.Command.TheVariants as command
 use Rattle.signal_office_commands.proofs.AskingLemmas.{◌then◌}
-use Rattle.signal_office_commands.proofs.FaultLemmas.{on_fault}
+use Rattle.signal_office_commands.proofs.{FaultLemmas.on_fault, QueryLemmas.handed, QueryLemmas.register_is}
 use Rattle.signal_office_faults.specs.declared.fault.Fault.{Fault}
 use Rattle.signal_office_faults.specs.declared.fault.Fault.TheVariants as told
-use Rattle.signal_office_commands.proofs.QueryLemmas.{handed, register_is}
 use Rattle.signal_office_commands.proofs.cabinet.cabinet_of.Goals as goal
 
 pub returns-clause-register : goal.returns-clause-register

@@ -1,5 +1,4 @@
-use Rattle.std.proofs.Common.{inr}
-use Rattle.std.proofs.lemmas.Result.{IfOk-weaker, IfErr-weaker}
+use Rattle.std.proofs.{Common.inr, lemmas.Result.IfOk-weaker, lemmas.Result.IfErr-weaker}
 use Rattle.signal_office_commands.proofs.drawing.diagram_of.Goals as goal
 
 pub returns-clause-draws : goal.returns-clause-draws

@@ -1,9 +1,7 @@
 use Rattle.std.proofs.Common.{Ok, Err, inl, inr, subst, ◌∙◌}
 use Rattle.signal_office_commands.proofs.AskingLemmas.{◌then◌}
-use Rattle.signal_office_commands.specs.Showing.{ShowsTiming, ShowsDraft, ShowsCabinet}
-use Rattle.signal_office_commands.proofs.FaultLemmas.{on_fault}
-use Rattle.signal_office_commands.proofs.RefusedLemmas.{draft_refused}
-use Rattle.signal_office_commands.specs.Intersection.{ShowsDraftIn}
+use Rattle.signal_office_commands.specs.{Showing.ShowsTiming, Showing.ShowsDraft, Showing.ShowsCabinet, Intersection.ShowsDraftIn}
+use Rattle.signal_office_commands.proofs.{FaultLemmas.on_fault, RefusedLemmas.draft_refused}
 use Rattle.signal_office_commands.proofs.intersection.intersection_in.Goals as goal
 
 pub returns-clause-shown : goal.returns-clause-shown

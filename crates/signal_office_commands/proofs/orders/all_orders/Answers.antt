@@ -1,14 +1,13 @@
 use Rattle.std.proofs.Common.{◌∙◌, Err, ap, arith, inl, inr, subst, sym}
 use Rattle.std.proofs.lemmas.List.{take_all}
 use Rattle.signal_office_commands.proofs.AskingLemmas.{◌then◌}
-use Rattle.office_desk.specs.Damage.{MeetsDamage}
-use Rattle.office_desk.specs.StandFor.{StandForSound}
+use Rattle.office_desk.specs.{Damage.MeetsDamage, StandFor.StandForSound}
 use Rattle.office_machine.specs.declared.command.Command.TheVariants as command
 use Rattle.signal_office_commands.proofs.FaultLemmas.{on_fault}
-use Rattle.signal_office_faults.specs.declared.fault.Fault.{Fault}
-use Rattle.signal_office_faults.specs.declared.fault.Fault.TheVariants as told
 use Rattle.signal_office_commands.proofs.OrderLemmas.{all_open, known_at, known_tells, listed_fault, listed_known, open_of, orders_more}
 use Rattle.signal_office_commands.proofs.QueryLemmas.{handed}
+use Rattle.signal_office_faults.specs.declared.fault.Fault.{Fault}
+use Rattle.signal_office_faults.specs.declared.fault.Fault.TheVariants as told
 use Rattle.signal_office_commands.proofs.orders.all_orders.Goals as goal
 
 pub loop-listed-init : goal.loop-listed-init

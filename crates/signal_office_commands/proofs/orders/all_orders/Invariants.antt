@@ -1,8 +1,7 @@
 use Rattle.std.proofs.Common.{◌≡◌, take}
 use Rattle.office_tables_shelf.specs.Shelf.{IsKept}
 use Rattle.office_desk.specs.StandFor.{StandForSound}
-use Rattle.office_machine.specs.Listed.{intersections_of}
-use Rattle.office_machine.specs.Office.{Office}
+use Rattle.office_machine.specs.{Listed.intersections_of, Office.Office}
 use Rattle.signal_office_commands.proofs.OrderLemmas.{open_of}
 use Rattle.signal_office_commands.proofs.orders.all_orders.Given as goal
 

@@ -1,7 +1,6 @@
-use Rattle.signal_office_commands.proofs.FaultLemmas.{on_fault}
+use Rattle.signal_office_commands.proofs.{FaultLemmas.on_fault, ShownLemmas.page_shown, UnknownLemmas.memory_tells}
+use Rattle.signal_office_commands.proofs.UnknownLemmas.{refused_tells}
 use Rattle.signal_office_faults.specs.declared.fault.Fault.TheVariants as told
-use Rattle.signal_office_commands.proofs.ShownLemmas.{page_shown}
-use Rattle.signal_office_commands.proofs.UnknownLemmas.{memory_tells, refused_tells}
 use Rattle.signal_office_commands.proofs.paging.page_of.Goals as goal
 
 pub returns-clause-page : goal.returns-clause-page

@@ -1,6 +1,5 @@
 use Rattle.std.proofs.Common.{inl, inr, refl}
-use Rattle.signal_office_commands.proofs.FaultLemmas.{damage_refused, list_told}
-use Rattle.signal_office_commands.proofs.QueryLemmas.{stocked}
+use Rattle.signal_office_commands.proofs.{FaultLemmas.damage_refused, FaultLemmas.list_told, QueryLemmas.stocked}
 use Rattle.signal_office_commands.proofs.stock.stock_asked.Goals as goal
 
 pub returns-in-Stock-clause-stock : goal.returns-in-Stock-clause-stock

@@ -1,10 +1,9 @@
 use Rattle.std.proofs.Common.{sym, subst, ◌∙◌}
 use Rattle.std.proofs.lemmas.Result.{IfOk-weaker, IfErr-weaker}
-use Rattle.sqlite.specs.Files.{file_state}
+use Rattle.sqlite.specs.{Files.file_state, WalFiles.image_at}
 use Rattle.office_tables_open.proofs.ArrangedLemmas.{found_arranged}
 use Rattle.office_tables.specs.Stored.{content_now}
 use Rattle.office_desk.specs.StandFor.{StandForSound}
-use Rattle.sqlite.specs.WalFiles.{image_at}
 use Rattle.signal_office_file.proofs.FileLemmas.{turned_from}
 use Rattle.signal_office_file.proofs.file.open_file.Goals as goal
 

@@ -1,6 +1,5 @@
 use Rattle.std.proofs.Common.{inl, inr, sym, subst, arith}
-use Rattle.sqlite.specs.Held.{state}
-use Rattle.sqlite.specs.Tree.{Trees}
+use Rattle.sqlite.specs.{Held.state, Tree.Trees}
 use Rattle.signal_office_file.specs.Migrating.{StandFormerly}
 use Rattle.signal_office_file.proofs.MigratingLemmas.{stands_today, is_committed, become_today, brought_committed}
 use Rattle.signal_office_file.proofs.migrating.migrate_tables.Goals as goal

@@ -1,5 +1,4 @@
-use Rattle.std.proofs.Common.{refl}
-use Rattle.std.proofs.lemmas.Result.{IfErr-weaker}
+use Rattle.std.proofs.{Common.refl, lemmas.Result.IfErr-weaker}
 use Rattle.office_http_framing.proofs.ServeLemmas.{Did-weaker}
 use Rattle.office_http.specs.Protocol.{office_protocol}
 use Rattle.office_tables_shelf.specs.Counts.{no_writes}

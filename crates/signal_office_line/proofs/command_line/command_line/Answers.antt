@@ -1,7 +1,6 @@
 use Rattle.std.proofs.Common.{ap, ◌∙◌, true}
-use Rattle.clap.specs.declared.builder.command.Command.{Command}
-use Rattle.clap.specs.declared.builder.command.Command.TheOpen.{Command-F}
-use Rattle.clap.specs.Simple.{app_of_fields, on_top}
+use Rattle.clap.specs.{declared.builder.command.Command.Command, declared.builder.command.Command.TheOpen.Command-F, Simple.app_of_fields}
+use Rattle.clap.specs.Simple.{on_top}
 use Rattle.signal_office_line.specs.CommandLine.{Reads}
 use Rattle.signal_office_line.proofs.command_line.command_line.Goals as goal
 

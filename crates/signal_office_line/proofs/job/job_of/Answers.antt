@@ -1,17 +1,10 @@
 use Rattle.std.proofs.Common.{◌≡◌, ℕ, List, None, Ok, Err, true, false, map, ap, subst, sym}
 use Rattle.std.proofs.Common.{refl, ◌∙◌}
-use Rattle.std.specs.Prelude.{is_some, option_map}
-use Rattle.std.specs.Borrow.{Bor}
-use Rattle.clap.specs.Matches.{found_of}
-use Rattle.clap.specs.Simple.{App, HasMatchesOf, subcommand_of}
-use Rattle.clap.specs.Takes.{takes}
-use Rattle.clap.specs.Walk.{Text, rows_of}
-use Rattle.signal_office_line.specs.CommandLine.{signal_app}
-use Rattle.signal_office_line.specs.Job.{asked, job_in}
-use Rattle.signal_office_line.specs.Refusals.{clap_refusals, value_refusals}
-use Rattle.signal_office_line.proofs.JobLemmas.{of_found}
-use Rattle.signal_office_line.proofs.RefusalLemmas.{by_words, refused_by_clap, refused_for_value}
-use Rattle.signal_office_line.proofs.RefusalLemmas.{told_by_itself}
+use Rattle.std.specs.{Prelude.is_some, Prelude.option_map, Borrow.Bor}
+use Rattle.clap.specs.{Matches.found_of, Simple.App, Simple.HasMatchesOf, Simple.subcommand_of, Takes.takes, Walk.Text, Walk.rows_of}
+use Rattle.signal_office_line.specs.{CommandLine.signal_app, Job.asked, Job.job_in, Refusals.clap_refusals, Refusals.value_refusals}
+use Rattle.signal_office_line.proofs.{JobLemmas.of_found, RefusalLemmas.by_words, RefusalLemmas.refused_by_clap}
+use Rattle.signal_office_line.proofs.RefusalLemmas.{refused_for_value, told_by_itself}
 use Rattle.signal_office_line.proofs.job.job_of.Goals as goal
 
 -- the command that was found is that of the words

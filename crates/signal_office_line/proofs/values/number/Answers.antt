@@ -1,12 +1,11 @@
 use Rattle.std.proofs.Common.{◌≤◌, ap, ◌∙◌, arith}
-use Rattle.std.specs.Prelude.{option_and_then}
+use Rattle.std.specs.{Prelude.option_and_then, Str.Parse.without_leading_plus}
 use Rattle.clap.specs.Walk.{Text}
-use Rattle.std.specs.Str.Parse.{without_leading_plus}
 use Rattle.signal_office_line.specs.Job.{number_of}
 use Rattle.signal_office_line.proofs.NumberLemmas.{unread, read, outside, inside}
-use Rattle.signal_office_line.proofs.values.number.Goals as goal
 use Rattle.signal_office_line.proofs.values.number.Goals.{then-number-eq0-via-then-number-eq0}
 use Rattle.signal_office_line.proofs.values.number.Goals.{then-number-eq0-via-else-number-eq0+then-number-most}
+use Rattle.signal_office_line.proofs.values.number.Goals as goal
 
 pub returns-in_err-number : goal.returns-in_err-number
 returns-in_err-number c =

@@ -1,5 +1,4 @@
-use Rattle.std.proofs.Common.{string_bytes}
-use Rattle.std.proofs.lemmas.Result.{on_ok_weaker}
+use Rattle.std.proofs.{Common.string_bytes, lemmas.Result.on_ok_weaker}
 use Rattle.signal_page.specs.Rules.{notes_beside}
 use Rattle.signal_page.proofs.Parts.{two}
 use Rattle.signal_page.proofs.rules.push_notes_beside.Goals as goal

@@ -1,8 +1,6 @@
 use Rattle.std.proofs.Common.{◌≡◌, ◌-◌, true, get_or, sym, ◌∙◌, arith}
 use Rattle.std.specs.Char.{is_ascii_digit, digit_value}
-use Rattle.std.proofs.lemmas.Bool.{and_from}
-use Rattle.std.proofs.lemmas.Bool.Decides.{nat_tests}
-use Rattle.std.proofs.lemmas.Int.Digits.{digits_value_more}
+use Rattle.std.proofs.{lemmas.Bool.and_from, lemmas.Bool.Decides.nat_tests, lemmas.Int.Digits.digits_value_more}
 use Rattle.std.proofs.lemmas.List.Folds.{list_all_more}
 use Rattle.signal_records.proofs.field_reading.digits.Goals as goal
 

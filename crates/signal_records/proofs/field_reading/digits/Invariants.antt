@@ -1,7 +1,5 @@
 use Rattle.std.proofs.Common.{◌≡◌, ◌-◌, ◌^◌, min, take, true}
-use Rattle.std.specs.Char.{is_ascii_digit}
-use Rattle.std.specs.List.{list_all}
-use Rattle.std.specs.Str.Parse.{digits_value}
+use Rattle.std.specs.{Char.is_ascii_digit, List.list_all, Str.Parse.digits_value}
 use Rattle.signal_records.proofs.field_reading.digits.Given as goal
 
 abbrev pub invariant-loop-b : goal.invariant-loop-b

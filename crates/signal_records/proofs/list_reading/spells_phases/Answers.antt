@@ -1,13 +1,9 @@
 use Rattle.std.proofs.Common.{◌≡◌, ℕ, List, ◌∷◌, ◌++◌, true, false, eqb, refl, sym, ap, ◌∙◌, rules, tests, of_calls}
 use Rattle.std.specs.Str.Parse.{digits_value}
-use Rattle.std.proofs.lemmas.Iterator.Splits.{YieldsList-from_slice_split}
-use Rattle.std.proofs.lemmas.Iterator.Consumers.{YieldsList-at}
-use Rattle.std.proofs.lemmas.List.{map_push}
+use Rattle.std.proofs.{lemmas.Iterator.Splits.YieldsList-from_slice_split, lemmas.Iterator.Consumers.YieldsList-at, lemmas.List.map_push}
 use Rattle.signal_records.specs.Reading.{parts, texts}
-use Rattle.signal_records.proofs.Lists.{may_follow}
-use Rattle.signal_records.proofs.Marks.{none_met, met_tells, met_more}
-use Rattle.signal_records.proofs.Parts.{values, spells, split_turn, split_end}
-use Rattle.signal_records.proofs.Parts.{no_numeral, no_phase, small_phase, one_more}
+use Rattle.signal_records.proofs.{Lists.may_follow, Marks.none_met, Marks.met_tells, Marks.met_more, Parts.values, Parts.spells}
+use Rattle.signal_records.proofs.Parts.{split_turn, split_end, no_numeral, no_phase, small_phase, one_more}
 use Rattle.signal_records.proofs.list_reading.spells_phases.Goals.{In-Some}
 use Rattle.signal_records.proofs.list_reading.spells_phases.Goals as goal
 

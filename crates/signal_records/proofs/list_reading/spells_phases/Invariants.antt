@@ -1,7 +1,6 @@
 use Rattle.std.proofs.Common.{◌≡◌, true}
 use Rattle.signal_records.specs.Reading.{texts}
-use Rattle.signal_records.proofs.Marks.{AreMet}
-use Rattle.signal_records.proofs.Parts.{values, spells}
+use Rattle.signal_records.proofs.{Marks.AreMet, Parts.values, Parts.spells}
 use Rattle.signal_records.proofs.list_reading.spells_phases.Given as goal
 
 abbrev pub invariant-loop-part : goal.invariant-loop-part

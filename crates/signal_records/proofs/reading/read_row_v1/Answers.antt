@@ -1,5 +1,4 @@
-use Rattle.signal_records.specs.Reading.{texts}
-use Rattle.signal_records.specs.Within.{version_1_limits}
+use Rattle.signal_records.specs.{Reading.texts, Within.version_1_limits}
 use Rattle.signal_records.proofs.RowLaws.{are_version_1, given_found, given_within, given_only}
 use Rattle.signal_records.proofs.FaultLaws.{given_row_timing}
 use Rattle.signal_records.proofs.reading.read_row_v1.Goals as goal

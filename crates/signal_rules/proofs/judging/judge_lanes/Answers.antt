@@ -2,10 +2,9 @@ use Rattle.std.proofs.Common.{ap, ◌∙◌}
 use Rattle.std.specs.Global.{Vec}
 use Rattle.signal_rules.specs.declared.violation.Subject.TheVariants as subject
 use Rattle.signal_rules.specs.declared.violation.Violation.{Violation}
-use Rattle.signal_rules.proofs.Reports.{unfilled_reported, filled_reported}
-use Rattle.signal_rules.proofs.Slots.{only_added, agree_of_slots, slots_rise}
-use Rattle.signal_rules.proofs.Steps.{rises_none}
-use Rattle.signal_rules.proofs.judging.judge_lanes.Goals.{then-fill+in_ok-report-2, else-fill}
+use Rattle.signal_rules.proofs.{Reports.unfilled_reported, Reports.filled_reported, Slots.only_added, Slots.agree_of_slots}
+use Rattle.signal_rules.proofs.{Slots.slots_rise, Steps.rises_none, judging.judge_lanes.Goals.then-fill+in_ok-report-2}
+use Rattle.signal_rules.proofs.judging.judge_lanes.Goals.{else-fill}
 use Rattle.signal_rules.proofs.judging.judge_lanes.Goals as goal
 
 pub returns-in_err-report-2-clause-ticks : goal.returns-in_err-report-2-clause-ticks

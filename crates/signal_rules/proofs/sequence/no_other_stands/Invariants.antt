@@ -1,7 +1,6 @@
 use Rattle.std.proofs.Common.{◌≡◌}
 use Rattle.std.specs.List.{list_all}
-use Rattle.signal_rules.specs.OnePass.{no_other_stands}
-use Rattle.signal_rules.specs.SequenceRule.{ring_row, has_no_other}
+use Rattle.signal_rules.specs.{OnePass.no_other_stands, SequenceRule.ring_row, SequenceRule.has_no_other}
 use Rattle.signal_rules.proofs.sequence.no_other_stands.Given as goal
 
 abbrev pub invariant-loop-ring : goal.invariant-loop-ring

@@ -1,6 +1,5 @@
 use Rattle.std.proofs.Common.{◌≡◌, true, sym, bytes_eq}
-use Rattle.office_http_requests.specs.Commands.{asked_at, command_at}
-use Rattle.office_http_requests.specs.Routes.{method_of}
+use Rattle.office_http_requests.specs.{Commands.asked_at, Commands.command_at, Routes.method_of}
 use Rattle.office_http_requests.proofs.CommandLemmas.{asked-unread, command_with-at, gives-read, gives-trans}
 use Rattle.office_http_requests.proofs.route.Routes.command_of.Goals as goal
 

@@ -1,6 +1,4 @@
-use Rattle.std.proofs.Common.{arith}
-use Rattle.std.proofs.lemmas.Grind.{common_steps}
-use Rattle.std.proofs.lemmas.Str.{is_utf8-from_IsUtf8, IsUtf8-from_is_utf8}
+use Rattle.std.proofs.{Common.arith, lemmas.Grind.common_steps, lemmas.Str.is_utf8-from_IsUtf8, lemmas.Str.IsUtf8-from_is_utf8}
 use Rattle.office_http_requests.specs.Routes.{endpoint_of}
 use Rattle.office_http_requests.proofs.route.Routes.endpoint_at.Goals as goal
 

@@ -1,15 +1,11 @@
 use Rattle.std.proofs.Common.{◌≡◌, ◌⊎◌, inl, inr, Err, refl, sym, ap, subst, ◌∙◌, true≢false}
-use Rattle.sqlite.specs.Effect.{Database}
-use Rattle.sqlite.specs.Held.{state}
-use Rattle.office_tables_sql.specs.Calls.{IsHonest}
-use Rattle.office_tables_sql.specs.Stored.{content_now, content_of}
-use Rattle.office_tables_open.specs.Found.{HasOtherVersion, HasRowsAlone}
-use Rattle.office_tables_open.specs.Lacking.{IsLacking}
-use Rattle.office_tables_open.specs.Opening.{Claims, MayBeTaken, OnlyReads}
-use Rattle.office_tables_open.specs.declared.open.OpenFault.TheVariants.{Version, Damaged}
-use Rattle.office_tables_open.proofs.LackingLemmas.{office_whole}
-use Rattle.office_tables_open.proofs.LeftLemmas.{refused_claimed}
-use Rattle.office_tables_open.proofs.OpenLemmas.{opened_looked, opened_made}
+use Rattle.sqlite.specs.{Effect.Database, Held.state}
+use Rattle.office_tables_sql.specs.{Calls.IsHonest, Stored.content_now, Stored.content_of}
+use Rattle.office_tables_open.specs.{Found.HasOtherVersion, Found.HasRowsAlone, Lacking.IsLacking, Opening.Claims, Opening.MayBeTaken}
+use Rattle.office_tables_open.specs.{Opening.OnlyReads, declared.open.OpenFault.TheVariants.Version}
+use Rattle.office_tables_open.specs.declared.open.OpenFault.TheVariants.{Damaged}
+use Rattle.office_tables_open.proofs.{LackingLemmas.office_whole, LeftLemmas.refused_claimed, OpenLemmas.opened_looked}
+use Rattle.office_tables_open.proofs.OpenLemmas.{opened_made}
 use Rattle.office_tables.proofs.sql_shelf.SqlShelf.open_arranged.Goals as goal
 
 -- the tables were made

@@ -1,16 +1,12 @@
 use Rattle.std.proofs.Common.{◌≡◌, sym, ap, subst, ◌∙◌, arith}
 use Rattle.std.proofs.lemmas.Result.{IfOk-weaker, IfErr-weaker}
-use Rattle.sqlite.specs.Effect.{Database}
-use Rattle.sqlite.specs.Held.{state}
-use Rattle.sqlite.specs.State.{HasCleanDisk}
+use Rattle.sqlite.specs.{Effect.Database, Held.state, State.HasCleanDisk}
 use Rattle.sqlite_trees.specs.Objects.{catalog_tree}
 use Rattle.sqlite_catalog.specs.Listing.{AreListed}
 use Rattle.office_tables_schema.specs.Schema.{no_schema}
-use Rattle.office_tables_open.specs.Arranged.{IsArranged}
-use Rattle.office_tables_open.specs.Version.{AreEmpty}
-use Rattle.office_tables_open.proofs.FoundLemmas.{blank_rows}
-use Rattle.office_tables_open.proofs.LeftLemmas.{as_left, refused_before, refused_given, refused_left}
-use Rattle.office_tables_open.proofs.OpenLemmas.{opened_before}
+use Rattle.office_tables_open.specs.{Arranged.IsArranged, Version.AreEmpty}
+use Rattle.office_tables_open.proofs.{FoundLemmas.blank_rows, LeftLemmas.as_left, LeftLemmas.refused_before, LeftLemmas.refused_given}
+use Rattle.office_tables_open.proofs.{LeftLemmas.refused_left, OpenLemmas.opened_before}
 use Rattle.office_tables.proofs.sql_shelf.SqlShelf.open_returning.Goals as goal
 
 pub returns-then-not-is_autocommit-clause-refused : goal.returns-then-not-is_autocommit-clause-refused

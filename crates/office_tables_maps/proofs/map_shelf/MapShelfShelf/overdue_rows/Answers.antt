@@ -1,6 +1,5 @@
 use Rattle.std.proofs.Common.{rules, ◌≡◌, ap, sym}
-use Rattle.office_tables_maps.specs.MapShelf.{ShelfView}
-use Rattle.office_tables_maps.specs.contracts.map_shelf.MapShelf.{the_view}
+use Rattle.office_tables_maps.specs.{MapShelf.ShelfView, contracts.map_shelf.MapShelf.the_view}
 use Rattle.office_tables_maps.proofs.map_shelf.MapShelfShelf.overdue_rows.Goals as goal
 
 pub returns-clause-rows : goal.returns-clause-rows

@@ -1,18 +1,13 @@
 use Rattle.std.proofs.Common.{◌≡◌, ◌++◌, [], ◌∷◌, Err, inr, List, ap, arith, length, map, refl, subst, sym}
 use Rattle.std.proofs.lemmas.Result.{err_from_is_err_and}
 use Rattle.std.specs.List.{AllByRecursion}
-use Rattle.cabinet_core.specs.Overdue.{listed, overdue_list}
-use Rattle.cabinet_core.specs.declared.overdue_inspections.OverdueRow.{OverdueRow}
-use Rattle.office_tables_shelf.specs.CabinetReads.{HasDamagedInspection}
-use Rattle.office_tables_shelf.specs.Overdue.{ReadsLast, seen_row}
-use Rattle.office_tables_shelf.specs.Shelf.{IsIntersectionWithin, ListsIntersections}
-use Rattle.office_tables_shelf.specs.declared.shelf.ShelfFault.TheVariants.{Damaged}
-use Rattle.office_tables_shelf.proofs.KeptLemmas.{hands_on, kept_on}
-use Rattle.office_tables_shelf.proofs.ListedRows.{listed_is_there}
-use Rattle.office_tables_shelf.proofs.OverdueLemmas.{seen_length, seen_at, overdue_more, still_short, enough_found, all_found}
-use Rattle.office_tables_shelf.proofs.OverdueLemmas.{whole_more, all_whole}
-use Rattle.office_tables_shelf.proofs.shelf.Shelf.overdue_rows.Goals as goal
+use Rattle.cabinet_core.specs.{Overdue.listed, Overdue.overdue_list, declared.overdue_inspections.OverdueRow.OverdueRow}
+use Rattle.office_tables_shelf.specs.{CabinetReads.HasDamagedInspection, Overdue.ReadsLast, Overdue.seen_row, Shelf.IsIntersectionWithin}
+use Rattle.office_tables_shelf.specs.{Shelf.ListsIntersections, declared.shelf.ShelfFault.TheVariants.Damaged}
+use Rattle.office_tables_shelf.proofs.{KeptLemmas.hands_on, KeptLemmas.kept_on, ListedRows.listed_is_there, OverdueLemmas.seen_length}
+use Rattle.office_tables_shelf.proofs.OverdueLemmas.{seen_at, overdue_more, still_short, enough_found, all_found, whole_more, all_whole}
 use Rattle.office_tables_shelf.proofs.shelf.Shelf.overdue_rows.Goals.{else-loop-id-test, then-loop-id-test+then-len-most}
+use Rattle.office_tables_shelf.proofs.shelf.Shelf.overdue_rows.Goals as goal
 
 pub loop-id-init : goal.loop-id-init
 loop-id-init g c = record {

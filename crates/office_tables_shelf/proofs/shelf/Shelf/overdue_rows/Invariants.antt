@@ -1,9 +1,7 @@
 use Rattle.std.proofs.Common.{◌≡◌, ◌≤◌, List, length, map, take}
 use Rattle.std.specs.List.{AllByRecursion}
-use Rattle.cabinet_core.specs.Overdue.{listed, overdue_list}
-use Rattle.cabinet_core.specs.declared.overdue_inspections.Seen.{Seen}
-use Rattle.office_tables_shelf.specs.Overdue.{AreSeenOf}
-use Rattle.office_tables_shelf.specs.Shelf.{IsIntersectionWithin, IsKept, ListsIntersections}
+use Rattle.cabinet_core.specs.{Overdue.listed, Overdue.overdue_list, declared.overdue_inspections.Seen.Seen}
+use Rattle.office_tables_shelf.specs.{Overdue.AreSeenOf, Shelf.IsIntersectionWithin, Shelf.IsKept, Shelf.ListsIntersections}
 use Rattle.office_tables_shelf.proofs.OverdueLemmas.{AreWhole}
 use Rattle.office_tables_shelf.proofs.shelf.Shelf.overdue_rows.Given as goal
 

@@ -1,8 +1,6 @@
 use Rattle.std.proofs.Common.{◌≡◌, map}
-use Rattle.std.specs.List.{AllByRecursion}
-use Rattle.std.specs.Vec.Iter.{into_iter_items}
-use Rattle.signal_records.specs.TimingSet.{after_changes, set_of_rows}
-use Rattle.signal_records.specs.Within.{IsRowWithin, current_limits}
+use Rattle.std.specs.{List.AllByRecursion, Vec.Iter.into_iter_items}
+use Rattle.signal_records.specs.{TimingSet.after_changes, TimingSet.set_of_rows, Within.IsRowWithin, Within.current_limits}
 use Rattle.signal_records.specs.declared.record.Change.TheVariants.{Put}
 use Rattle.signal_records.proofs.set.TimingSet.of_rows.Given as goal
 
