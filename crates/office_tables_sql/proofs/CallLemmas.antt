@@ -8,7 +8,7 @@ use Rattle.sqlite_schema.specs.declared.command.Returning.{Returning}
 use Rattle.sqlite.specs.{Steps.FailsToCommit, Held.Held, Held.state}
 use Rattle.sqlite_trees.specs.declared.store.Store as store
 use Rattle.office_tables_schema.specs.Schema.{office_schema}
-use Rattle.office_tables_sql.specs.Calls.{AreOrdered, IsHonest, IsOffice, IsReady, Keeps, IsQuery, Reads, IsWriting, Ran, StandsOn, command_of}
+use Rattle.office_tables_sql.specs.Calls.{AreOrdered, IsHonest, IsOffice, Keeps, IsQuery, Reads, IsWriting, Ran, StandsOn, command_of}
 use Rattle.sqlite.proofs.Callers.{reads_as, runs_as, never_commits, survives_begin, begins_shown, unchanged_then, EndsIn}
 use Rattle.sqlite.proofs.StateLemmas.{survives_then, survives_weaker}
 use Rattle.std.specs.List.{AllByRecursion}
@@ -193,24 +193,6 @@ ended_survives g old mid new P steps end holds =
     (λ _ db none. absurd none)
     (λ clean db is. subst P (sym is) (holds (omega (arith, clean, end.clean))))
     (survives_begin g old (state g mid) _ steps) end
-
--- the office's tables in a transaction that was just begun
-begun_ready : {S : Type 0} (g : store.Ghosts S) (old : Held S) → IsOffice (state g old) → IsHonest (state g old) → IsReady (state g (record old { in_transaction = true }))
-begun_ready g old office honest = record { inside = refl; schema = office.schema honest; ordered = office.ordered honest; sound = office.sound honest }
-
--- changes of the office's tables in a transaction of their own: its commit fails, and what a crash leaves
-module _ {S : Type 0} (g : store.Ghosts S) (old tx mid : Held S) (begun : tx ≡ record old { in_transaction = true }) (new : State) (office : IsOffice (state g old)) where
-  pub uncommitted_office : (e : Error) → StandsOn (state g tx) (state g mid) → (HasCleanDisk (state g mid) → IsReady (state g tx) → IsReady (state g mid))
-      → doubt (state g mid).is_clean ≤ doubt new.is_clean → (HasCleanDisk new → FailsToCommit (state g mid) new e) → new.in_transaction ≡ false → IsOffice new
-  uncommitted_office e steps ready clean fails ended =
-      undone_office (state g old) (state g mid) new office (begun_stands g old (state g mid) (rw begun at steps)) clean
-      (λ sure honest. ((rw begun at (ready sure)) (begun_ready g old office honest)).inside) (λ sure. failed_commit _ _ e (fails sure)) ended
-
-  pub changes_survive : (P : Trees → Type 0) → Survives (state g tx) (state g mid) (λ _. ⊥) → Survives (state g mid) new (λ db. db ≡ (state g mid).now.trees) → (HasCleanDisk (state g mid) → IsHonest (state g tx))
-      → (HasCleanDisk (state g mid) → IsReady (state g (record old { in_transaction = true })) → P (state g mid).now.trees) → Survives (state g old) new (λ trees. IsHonest (state g old) × P trees)
-  changes_survive P steps end honest holds =
-      ended_survives g old mid new (λ trees. IsHonest (state g old) × P trees) (rw begun at steps) end
-      (λ clean. let was : IsHonest (state g old) = rw begun at (honest clean) in (was, holds clean (begun_ready g old office was)))
 
 -- ---- a query on tables of whatever layout, in a transaction that is then undone
 
