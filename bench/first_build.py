@@ -67,11 +67,13 @@ def by_crate(sums):
 def main():
     if sys.argv[1:] not in ([], ["--write"]):
         sys.exit("usage: python3 bench/first_build.py [--write]")
+    begun = measured.ticks()
     with tempfile.TemporaryDirectory() as room:
         crates, proved, minutes, sums = built(pathlib.Path(room) / "clone")
     after = lambda limit: max((many for at, many in proved.items() if at < limit), default=0)
     shown = [str(after(it)) if it <= minutes else "" for it in MINUTES]
-    cells = [f"{measured.state()}, {measured.machine()}", str(crates), *shown, f"{minutes} min"]
+    where = f"{measured.state()}, {measured.machine(begun)}"
+    cells = [where, str(crates), *shown, f"{minutes} min"]
     told = measured.paragraph(f"{cells[0]}:") + "\n" + by_crate(sums)
     print(measured.table(HEAD, [cells]), told, sep="\n", end="")
     if sys.argv[1:]:

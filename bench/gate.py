@@ -83,7 +83,7 @@ def watch(top, known, seconds, is_over):
 def run(path):
     """Runs the gate and writes the record."""
     known, seconds, kept = {}, collections.Counter(), []
-    is_over, begun = threading.Event(), time.monotonic()
+    is_over, begun, ticks = threading.Event(), time.monotonic(), measured.ticks()
     gate = subprocess.Popen(["rt", "ci"], cwd=TOP, stdout=subprocess.PIPE, text=True)
     watcher = threading.Thread(target=watch, args=(gate.pid, known, seconds, is_over))
     watcher.start()
@@ -101,7 +101,8 @@ def run(path):
         sums[known[place]] += took
     whole, minutes = usage.ru_utime + usage.ru_stime, (time.monotonic() - begun) / 60
     with open(path, "w") as record:
-        print(f"# {measured.state()}; {measured.machine()}; {minutes:.0f} min; {last}", file=record)
+        machine = measured.machine(ticks)
+        print(f"# {measured.state()}; {machine}; {minutes:.0f} min; {last}", file=record)
         for name in dict.fromkeys(name for name, _ in sums):
             print(f"{name} {sums[name, False]:.0f} {sums[name, True]:.0f}", file=record)
         print(f"{REST.replace(' ', '_')} {whole - sum(sums.values()):.0f} 0", file=record)

@@ -59,11 +59,22 @@ def state():
     return f"{datetime.date.today()}, {told.stdout.strip() or 'no commit'}"
 
 
-def machine():
-    """How many processors there are, and of which kind."""
+def ticks():
+    """The ticks of all processors since the system began, and those of them that the host of a
+    virtual machine gave to others."""
+    with open("/proc/stat") as told:
+        cells = [int(it) for it in told.readline().split()[1:9]]
+    return sum(cells), cells[7]
+
+
+def machine(begun=None):
+    """How many processors there are, and of which kind; with the ticks at which some work began,
+    also how much of them the host took since, where that is a hundredth or more."""
     kind = "an unknown kind"
     with open("/proc/cpuinfo") as told:
         for found in re.finditer(r"^model name\s*:\s*(.*)$", told.read(), re.MULTILINE):
             kind = found[1]
     count = len(os.sched_getaffinity(0))
-    return f"{count} processor{'s' * (count != 1)} of {kind}"
+    text = f"{count} processor{'s' * (count != 1)} of {kind}"
+    had, taken = (now - then for now, then in zip(ticks(), begun or ticks()))
+    return f"{text}, of whose time the host took {taken / had:.0%}" if taken * 100 > had else text

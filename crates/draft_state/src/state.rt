@@ -1,4 +1,5 @@
-//! The states of the database transaction (NTCIP 1201, `dbCreateTransaction`), and who holds a draft.
+//! The states of the database transaction (NTCIP 1201, `dbCreateTransaction`), and who holds a
+//! draft.
 
 use signal_records::Words;
 use std::alloc::AllocError;

@@ -68,7 +68,8 @@ impl<S: Shelf> Office<S> {
     }
 
     /// What a command is answered, and what is to be written for it. Nothing is written yet. Where
-    /// memory or the shelf refuses, it answers Unavailable; where a stored row is no record, Damaged.
+    /// memory or the shelf refuses, it answers Unavailable; where a stored row is no record,
+    /// Damaged.
     pub fn decide(&mut self, alloc: Global, command: &Command) -> Decided
         ensures answers { IsAnswered (S.is_honest self.new) (S.content self.old)
             command.now result }
@@ -97,7 +98,8 @@ impl<S: Shelf> Office<S> {
         ensures undamaged { result ≢ Err ShelfFault.Damaged }
         ensures written_ok { OnOk result (S.written self.new ≡ counts_after (S.written self.old) changes.now) }
         ensures written_err { OnErr result (S.written self.new ≡ S.written self.old) }
-        // A crash leaves what it could before, or the whole result; and that alone once changes were made.
+        // A crash leaves what it could before, or the whole result; and that alone once changes
+        // were made.
         ensures crash { (tables : Content) → S.may_leave self.new tables →
             S.may_leave self.old tables ⊎ (S.is_honest self.old × (tables ≡ changed_by (S.content self.old) changes.now)) }
         ensures settled { OnOk result (changes.now ≢ [] →

@@ -12,8 +12,8 @@ use cabinet_core::RecordCommand;
 use office_tables_shelf::shelf::{Shelf, ShelfFault};
 use std::alloc::Global;
 
-/// Decides a command of the register, on what the shelf will hold once the pending rows are written,
-/// in their order. That the intersection is there is for the office to test.
+/// Decides a command of the register, on what the shelf will hold once the pending rows are
+/// written, in their order. That the intersection is there is for the office to test.
 pub fn decide_record<S: Shelf>(
     shelf: &mut S,
     alloc: Global,

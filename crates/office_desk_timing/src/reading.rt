@@ -1,13 +1,11 @@
 //! What is read of an intersection.
 ghost use Rattle.std.specs.Prelude.{◌≡◌, IfOk, IfSome, ◌≢◌};
-ghost use Rattle.office_tables_shelf.specs.Damage.{HasDamagedIntersection, HasDamagedTiming};
+ghost use Rattle.office_tables_shelf.specs.Damage.{HasDamagedIntersection};
 ghost use Rattle.office_tables_shelf.specs.Keeps.{AnswersShelf, KeepsShelf};
 ghost use Rattle.office_tables_shelf.specs.Shelf.{ReadsIntersection};
 ghost use Rattle.office_desk_decisions.specs.Open.{StaysOpen};
 ghost use Rattle.office_desk_decisions.specs.Damage.{HasDamageIn, HasDamagedPlan};
-ghost use Rattle.office_machine.specs.Office.{Office, side_at};
 ghost use Rattle.office_desk_timing.specs.Reading.{FindsAny, IsMadeOf, ListsFound, ListsPlan};
-ghost use Rattle.office_tables_standing.specs.StandFor.{StandForSound};
 
 use draft_core::changes::Changes;
 use draft_core::timing::{Reach, Timing};
@@ -24,22 +22,6 @@ pub struct Found {
     /// Days from one inspection of its cabinet to the next.
     pub interval: Interval,
     pub timing: Timing,
-}
-
-/// The committed set of an intersection; the empty one where there is no such intersection.
-pub(crate) fn committed_set<S: Shelf>(
-    shelf: &mut S,
-    alloc: Global,
-    id: InterId,
-) -> Result<TimingSet, ShelfFault>
-    ensures set { IfOk result (λ set. S.is_honest shelf.new → (office : Office) → StandForSound (S.content shelf.old) office → set ≡ (side_at office id).committed) }
-    ensures damaged { result ≡ Err ShelfFault.Damaged → S.is_honest shelf.new → HasDamagedTiming (S.content shelf.old) id }
-    ensures kept { KeepsShelf S.Shelf shelf.old shelf.new }
-    ensures open { AnswersShelf S.Shelf result shelf.old shelf.new }
-{
-    let rows = shelf.timing_rows(alloc, id)?;
-    let set = TimingSet::of_rows(alloc, rows)?;
-    Ok(set)
 }
 
 /// The intersection of which these rows were read.

@@ -23,8 +23,8 @@ impl RouteCache {
         RouteCache { routes: None }
     }
 
-    /// What a request asks, or the first fault, by the table that is kept. Where there is none, it is
-    /// made first.
+    /// What a request asks, or the first fault, by the table that is kept. Where there is none, it
+    /// is made first.
     pub fn command_of(&mut self, alloc: Global, request: &Request) -> Result<Asked, AskFault>
         ensures gives { Gives result (command_at request.now.method.now request.now.path.now request.now.body.now) }
         // Once there is a table, want of memory is told of no fault of the route, the method or the

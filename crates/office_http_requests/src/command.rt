@@ -19,13 +19,14 @@ use signal_records::{InterId, Words};
 use std::alloc::Global;
 
 impl Routes {
-    /// What a request asks, or the first fault: no route, another method, a path field from the left,
-    /// no JSON object, a key of the body by name, a row or a record of a CSV text that spells nothing.
+    /// What a request asks, or the first fault: no route, another method, a path field from the
+    /// left, no JSON object, a key of the body by name, a row or a record of a CSV text that spells
+    /// nothing.
     #[tactic(auto, unfolding(crate::specs::Commands::command_with, crate::specs::Commands::command_at))]
     pub fn command_of(&self, alloc: Global, request: &Request) -> Result<Asked, AskFault>
         ensures gives { Gives result (command_at request.now.method.now request.now.path.now request.now.body.now) }
-        // A fault of the route, the method or the path is told, and so is a body that can't be an object,
-        // however long it is: want of memory is told of none of them, and of no GET.
+        // A fault of the route, the method or the path is told, and so is a body that can't be an
+        // object, however long it is: want of memory is told of none of them, and of no GET.
         ensures memory { WantsMemoryOnlyIf result (MayWantFor request.now.method.now request.now.path.now request.now.body.now) }
     {
         let endpoint = self.endpoint_at(request.path)?;

@@ -34,7 +34,8 @@ fn after_slash(path: &[u8]) -> &[u8]
     }
 }
 
-/// What stands between two slashes of a path, counted from 0, which is what stands before the first.
+/// What stands between two slashes of a path, counted from 0, which is what stands before the
+/// first.
 pub(crate) fn segment(path: &[u8], index: usize) -> &[u8]
     ensures { result.now ≡ segment_of index path.now }
 {

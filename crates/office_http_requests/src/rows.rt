@@ -118,7 +118,8 @@ fn has_rows(body: &Value) -> bool
     }
 }
 
-/// The changes under their key. What is no array of arrays of texts is judged before memory is taken.
+/// The changes under their key. What is no array of arrays of texts is judged before memory is
+/// taken.
 #[tactic(auto, unfolding(crate::specs::Rows::changes_in))]
 pub(crate) fn of_body(alloc: Global, body: &Value) -> Result<Changes, AskFault>
     ensures gives { Gives result (changes_in (view body.now)) }

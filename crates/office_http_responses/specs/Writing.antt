@@ -36,8 +36,7 @@ AddsTree result old new tree = Adds result old new (tokens_of tree)
 abbrev pub scalar_tree : Scalar → Data
 scalar_tree (scalar.Number n) = count n
 scalar_tree (scalar.Text bytes) = text bytes.now
-scalar_tree (scalar.Day day) = day_tree day
-scalar_tree (scalar.Due due) = day_tree due
+scalar_tree (scalar.Day date) = day_tree date
 scalar_tree scalar.Null = null
 
 -- the key and the tree of a member

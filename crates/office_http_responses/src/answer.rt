@@ -26,7 +26,8 @@ const DAMAGED: &[u8] =
 /// The room that most contents need.
 pub(crate) const CONTENT_ROOM: usize = 240;
 
-/// The answer that stands for any other where there is no memory, or the database refused. It takes no memory.
+/// The answer that stands for any other where there is no memory, or the database refused. It takes
+/// no memory.
 pub fn unavailable() -> &'static [u8]
     ensures { result.now ≡ unavailable_bytes }
 {

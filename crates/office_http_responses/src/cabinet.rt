@@ -25,7 +25,7 @@ fn write_inspection(
         to,
         &[
             ("clerk", Text(inspection.clerk.as_str())),
-            ("day", Day(inspection.day)),
+            ("day", Day(inspection.day.date())),
             ("number", Number(u64::from(inspection.number.get()))),
             ("text", Text(inspection.text.as_str())),
         ],
@@ -99,7 +99,7 @@ fn write_order_members(alloc: Global, to: &mut Writer, order: &Order) -> Result<
             ("closed", day_or_null(order.closed())),
             ("closer", clerk_or_null(order.closer())),
             ("number", Number(u64::from(order.number.get()))),
-            ("opened", Day(order.opened)),
+            ("opened", Day(order.opened.date())),
             ("text", Text(order.text.as_str())),
         ],
     )
@@ -150,7 +150,8 @@ fn orders(
     Ok(())
 }
 
-/// The inspections and the orders of an intersection, each order with the parts that were used for it.
+/// The inspections and the orders of an intersection, each order with the parts that were used for
+/// it.
 pub(crate) fn write_cabinet(
     alloc: Global,
     to: &mut Writer,

@@ -188,7 +188,8 @@ pub fn fault_answer(alloc: Global, number: u32, more: More) -> Result<Vec<u8>, A
     kind_answer(alloc, kind_numbered(number), more)
 }
 
-/// The answer of a request that asks nothing. Want of memory has none of its own: that is an error here too.
+/// The answer of a request that asks nothing. Want of memory has none of its own: that is an error
+/// here too.
 pub fn ask_fault_answer(alloc: Global, fault: AskFault) -> Result<Vec<u8>, AllocError>
     ensures { IfOk result (λ answer. (fault ≢ NoMemory) × (answer.items ≡ ask_fault_text fault)) }
 {

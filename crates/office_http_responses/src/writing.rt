@@ -5,7 +5,7 @@ ghost use Rattle.office_http_responses.specs.Json.{keys, list, or_null, text as 
 ghost use Rattle.office_http_responses.specs.RegisterTrees.{day_tree};
 ghost use Rattle.office_http_responses.specs.Writing.{Adds, AddsTree, entry_of, member_tokens, scalar_tree, tokens_of};
 
-use crate::day::{day_in_json, due_in_json};
+use crate::day::date_in_json;
 use cabinet_core::{Date, Day};
 use json::Writer;
 use signal_records::Words;
@@ -17,10 +17,8 @@ pub(crate) enum Scalar<'a> {
     Null,
     Number(u64),
     Text(&'a str),
-    /// A day, as it is spelt.
-    Day(Day),
-    /// A day on which an inspection falls due.
-    Due(Date),
+    /// A day, or a date on which an inspection falls due, as it is spelt.
+    Day(Date),
 }
 
 /// A clerk, or null where there is none.
@@ -38,7 +36,7 @@ pub(crate) fn day_or_null(day: Option<Day>) -> Scalar<'static>
     ensures { scalar_tree result ≡ or_null day_tree day }
 {
     match day {
-        Some(day) => Scalar::Day(day),
+        Some(day) => Scalar::Day(day.date()),
         None => Scalar::Null,
     }
 }
@@ -48,7 +46,7 @@ pub(crate) fn due_or_null(due: Option<Date>) -> Scalar<'static>
     ensures { scalar_tree result ≡ or_null day_tree due }
 {
     match due {
-        Some(due) => Scalar::Due(due),
+        Some(due) => Scalar::Day(due),
         None => Scalar::Null,
     }
 }
@@ -60,8 +58,7 @@ fn write_scalar(alloc: Global, to: &mut Writer, value: &Scalar<'_>) -> Result<()
         Scalar::Null => to.null(),
         Scalar::Number(n) => to.u64(*n),
         Scalar::Text(text) => to.string(text),
-        Scalar::Day(day) => day_in_json(alloc, to, *day),
-        Scalar::Due(due) => due_in_json(alloc, to, *due),
+        Scalar::Day(date) => date_in_json(alloc, to, *date),
     }
 }
 

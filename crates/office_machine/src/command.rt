@@ -5,7 +5,8 @@ use cabinet_core::{Day, RecordCommand};
 use draft_core::changes::Changes;
 use signal_records::{InterId, Interval, Words};
 
-/// What the office is asked. A clerk is who asks: only the one who began a transaction may go on with it.
+/// What the office is asked. A clerk is who asks: only the one who began a transaction may go on
+/// with it.
 #[derive(Drop)]
 pub enum Command {
     /// Adds an intersection; the same once more changes nothing.

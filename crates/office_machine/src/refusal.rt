@@ -18,8 +18,8 @@ pub enum Refusal {
     Draft(DraftRefusal),
     /// The register refuses. Want of memory is told as Unavailable.
     Cabinet(CabinetRefusal),
-    /// A record of an import is refused, the first that is: which one, counted from 1, and the number
-    /// of its refusal.
+    /// A record of an import is refused, the first that is: which one, counted from 1, and the
+    /// number of its refusal.
     ImportRow { at: usize, cause: u32 },
     /// Memory or the database refused; nothing was changed.
     Unavailable,

@@ -63,7 +63,8 @@ pub type OrderNumbers = Listing<RecordNo>;
 /// Parts by their codes, each with how many are on hand.
 pub type Stock = Listing<(PartCode, Hand)>;
 
-/// Intersections whose inspection is overdue, by their numbers. They are seen as the list of what each row says.
+/// Intersections whose inspection is overdue, by their numbers. They are seen as the list of what
+/// each row says.
 #[derive(Drop)]
 pub struct OverdueList {
     rows: Vec<OverdueRow>,

@@ -129,6 +129,14 @@ impl<'a> Line<'a> {
         Ok(())
     }
 
+    /// So many committed rows and so many draft rows were written.
+    fn count(self, row: &mut Row<'a>) -> Result<(), Trouble> {
+        let (timing, draft) = self.rest.split_once(' ').unwrap_or((self.rest, ""));
+        let timing = self.number_in(timing)?;
+        let draft = self.number_in(draft)?;
+        Ok(row.push(self.number, Act::Wrote { timing, draft })?)
+    }
+
     /// An act that begins, and is whole by itself or goes on in the next lines.
     fn act(self) -> Option<Act<'a>> {
         let rest = self.rest;
@@ -160,6 +168,7 @@ impl<'a> Line<'a> {
                 None => Err(self.unread()),
             },
             "|" => self.write(row),
+            "wrote" => self.count(row),
             "bare" => {
                 row.is_bare = true;
                 Ok(())

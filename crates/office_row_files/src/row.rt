@@ -88,6 +88,9 @@ pub enum Act<'a> {
     Opens,
     /// The tables are opened again, and refused with this fault.
     Refuses(&'a str),
+    /// Since the last such act, or since the tables were new, so many committed rows and so many
+    /// draft rows were written.
+    Wrote { timing: u64, draft: u64 },
     /// A file is written.
     File { name: &'a str, text: String },
     /// A folder is made.
@@ -193,8 +196,8 @@ impl<'a> Row<'a> {
     }
 
     /// The ways in which the row is played. One that runs the program is played by it, since its
-    /// tables are in files that lie between the runs. Maps have no other hand, so a row in which one
-    /// changes the tables, or that begins without any, is played over databases alone.
+    /// tables are in files that lie between the runs. Maps have no other hand, so a row in which
+    /// one changes the tables, or that begins without any, is played over databases alone.
     pub fn ways(&self) -> &'static [Way] {
         if self.runs() > 0 {
             &BY_THE_PROGRAM

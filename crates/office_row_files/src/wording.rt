@@ -2,7 +2,8 @@
 
 use std::alloc::{AllocError, Global};
 
-/// Adds a text so many times, as `a*8174)` says, and what follows it; or tells that it says nothing.
+/// Adds a text so many times, as `a*8174)` says, and what follows it; or tells that it says
+/// nothing.
 fn push_repeated(bytes: &mut Vec<u8>, text: &str) -> Result<bool, AllocError> {
     let Some((repeated, rest)) = text.split_once(')') else {
         return Ok(false);

@@ -1,8 +1,10 @@
-//! Drawn rows played without a stream: what each request asks for is run by one call.
+//! Rows played without a stream: what each request of a drawn row asks for is run by one call, and
+//! what those of another row ask for by one call for all of them.
 
 use office_desk::office::Office;
-use office_http::{Asked, Front, Request, answer_of, command_of, next_request};
+use office_http::{Asked, Form, Front, Request, answer_of, command_of, next_request};
 use office_http_responses::ask_fault_answer;
+use office_machine::command::Command;
 use office_row_files::comparing::compare;
 use office_row_files::row::{Act, Row, Talk};
 use office_row_files::trouble::Trouble;
@@ -13,6 +15,9 @@ use std::alloc::Global;
 
 /// How the names of drawn rows begin.
 const DRAWN: &str = "drawn_";
+
+/// The row whose requests are run as one list.
+const LISTED: &str = "one_long_list_of_commands";
 
 /// The answer to a request.
 fn answer<S: Shelf>(
@@ -48,26 +53,75 @@ fn answers<S: Shelf>(
     Ok(answers)
 }
 
+/// What the requests of a stream ask for, with the forms of their answers.
+fn asked(alloc: Global, talk: &Talk<'_>) -> Result<(Vec<Command>, Vec<Form>), Trouble> {
+    let mut commands = Vec::new(alloc);
+    let mut forms = Vec::new(alloc);
+    let mut rest = talk.sent.as_slice();
+    for _ in 0..talk.requests {
+        let Front::Whole { request, length } = next_request(rest) else {
+            break;
+        };
+        let Ok(Asked { command, form }) = command_of(alloc, &request) else {
+            return Err(Trouble::Unprepared("a list of commands"));
+        };
+        if commands.push(command).is_err() || forms.push(form).is_err() {
+            return Err(Trouble::NoMemory);
+        }
+        rest = rest.get(length..).unwrap_or(b"");
+    }
+    Ok((commands, forms))
+}
+
+/// The answers to the requests of a stream, which are run as one list.
+fn listed_answers<S: Shelf>(
+    alloc: Global,
+    office: &mut Office<S>,
+    talk: &Talk<'_>,
+) -> Result<Vec<u8>, Trouble> {
+    let (commands, forms) = asked(alloc, talk)?;
+    let Ok(replies) = office.run_all(alloc, &commands) else {
+        return Err(Trouble::NoMemory);
+    };
+    let mut answers = Vec::new(alloc);
+    for (reply, form) in replies.iter().zip(&forms) {
+        let came = answer_of(alloc, reply, *form)?;
+        answers.extend_from_slice(&came)?;
+    }
+    Ok(answers)
+}
+
 /// Plays a row by an office.
-fn play_by<S: Shelf + Drop>(alloc: Global, start: Office<S>, row: &Row<'_>) -> Result<(), Trouble> {
+fn play_by<S: Shelf + Drop>(
+    alloc: Global,
+    start: Office<S>,
+    row: &Row<'_>,
+    is_list: bool,
+) -> Result<(), Trouble> {
     let mut office = start;
     for step in &row.steps {
         if let Act::Talk(talk) = &step.act {
-            let came = answers(alloc, &mut office, talk)?;
+            let came = if is_list {
+                listed_answers(alloc, &mut office, talk)?
+            } else {
+                answers(alloc, &mut office, talk)?
+            };
             compare(alloc, step.line, &talk.out, &came)?;
         }
     }
     Ok(())
 }
 
-/// Plays a drawn row by an office over maps, and by one over a database in memory.
+/// Plays a drawn row, and the one that is a list, by an office over maps, and by one over a
+/// database in memory.
 pub fn play_commands(alloc: Global, name: &str, row: &Row<'_>) -> Result<(), Trouble> {
-    if !name.starts_with(DRAWN) {
+    let is_list = name == LISTED;
+    if !is_list && !name.starts_with(DRAWN) {
         return Ok(());
     }
-    play_by(alloc, Office::new(MemoryShelf::new(alloc)), row)?;
+    play_by(alloc, Office::new(MemoryShelf::new(alloc)), row, is_list)?;
     match SqlShelf::open_in_memory(alloc) {
-        Ok(shelf) => play_by(alloc, Office::new(shelf), row),
+        Ok(shelf) => play_by(alloc, Office::new(shelf), row, is_list),
         Err(_) => Err(Trouble::NoMemory),
     }
 }

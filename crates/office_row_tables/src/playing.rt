@@ -55,6 +55,23 @@ fn play_sql(alloc: Global, tables: &mut Tables, line: usize, sql: &str) -> Resul
     Err(Trouble::differs(alloc, line, sql.as_bytes(), b"a refusal"))
 }
 
+/// Tells how many rows were written since so many were, and compares it.
+fn play_counts(
+    alloc: Global,
+    tables: &mut Tables,
+    line: usize,
+    told: [u64; 2],
+    before: &mut [u64; 2],
+) -> Result<(), Trouble> {
+    let now = tables.written(alloc);
+    let timing = now[0].saturating_sub(before[0]);
+    let draft = now[1].saturating_sub(before[1]);
+    *before = now;
+    let told = format!(in alloc; "wrote {} {}", told[0], told[1])?;
+    let came = format!(in alloc; "wrote {timing} {draft}")?;
+    compare_texts(alloc, line, told.as_str(), came.as_str())
+}
+
 /// How opening tables ends.
 fn opening(outcome: Result<(), OpenFault>) -> &'static str {
     match outcome {
@@ -66,14 +83,23 @@ fn opening(outcome: Result<(), OpenFault>) -> &'static str {
     }
 }
 
-/// Plays one step over tables.
-fn play_step(alloc: Global, tables: &mut Tables, step: &Step<'_>, cut: Cut) -> Result<(), Trouble> {
+/// Plays one step over tables, of which so many rows were written before.
+fn play_step(
+    alloc: Global,
+    tables: &mut Tables,
+    step: &Step<'_>,
+    cut: Cut,
+    before: &mut [u64; 2],
+) -> Result<(), Trouble> {
     let line = step.line;
     match &step.act {
         Act::Talk(talk) => play_stream(alloc, tables, line, talk, cut),
         Act::Sql(sql) => play_sql(alloc, tables, line, sql),
         Act::Opens => compare_texts(alloc, line, "opened", opening(tables.open(alloc))),
         Act::Refuses(fault) => compare_texts(alloc, line, fault, opening(tables.open(alloc))),
+        Act::Wrote { timing, draft } => {
+            play_counts(alloc, tables, line, [*timing, *draft], before)
+        }
         _ => Err(Trouble::differs(alloc, line, b"a step over tables", b"one of the program")),
     }
 }
@@ -84,8 +110,9 @@ pub fn play_over(alloc: Global, row: &Row<'_>, kind: Kind, cut: Cut) -> Result<(
     if !row.is_bare {
         compare_texts(alloc, 1, "opened", opening(tables.open(alloc)))?;
     }
+    let mut before = [0; 2];
     for step in &row.steps {
-        play_step(alloc, &mut tables, step, cut)?;
+        play_step(alloc, &mut tables, step, cut, &mut before)?;
     }
     Ok(())
 }

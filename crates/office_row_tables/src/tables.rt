@@ -6,6 +6,8 @@ use office_row_files::way::Kind;
 use office_tables::open::OpenFault;
 use office_tables::sql_shelf::SqlShelf;
 use office_tables_memory::memory_shelf::MemoryShelf;
+use office_tables_shelf::rows::Table;
+use office_tables_shelf::shelf::Shelf;
 use office_trial_files::connect;
 use sqlite::{Alter, Connection, FileStore, MemStore};
 use sqlite_disk::{Disk, Files, Fuse, Memory};
@@ -14,6 +16,13 @@ use std::mem;
 
 /// The most requests of a stream.
 const STREAM_LIMIT: u32 = 10_000;
+
+/// How often committed rows and draft rows were written by an office, which is given back.
+fn counted<S: Shelf>(office: Office<S>) -> (Office<S>, [u64; 2]) {
+    let shelf = office.into_shelf();
+    let written = [shelf.writes(Table::Timing), shelf.writes(Table::Draft)];
+    (Office::new(shelf), written)
+}
 
 /// A database, open as an office or not.
 #[derive(Drop)]
@@ -66,6 +75,21 @@ impl<S: Alter + Drop> Base<S> {
         let is_done = conn.execute_batch(sql).is_ok();
         *self = Base::Closed(conn);
         is_done
+    }
+
+    /// How often committed rows and draft rows were written since the office was opened.
+    fn written(&mut self) -> [u64; 2] {
+        match mem::replace(self, Base::Lost) {
+            Base::Open(office) => {
+                let (office, written) = counted(office);
+                *self = Base::Open(office);
+                written
+            }
+            base => {
+                *self = base;
+                [0; 2]
+            }
+        }
     }
 
     /// Serves a stream by the office, which is opened if it is not open.
@@ -173,6 +197,20 @@ impl Tables {
             Tables::Maps(_) => false,
             Tables::Memory(base) => base.alter(sql),
             Tables::Files(base) => base.alter(sql),
+        }
+    }
+
+    /// How often committed rows and draft rows were written since the tables were opened.
+    pub(crate) fn written(&mut self, alloc: Global) -> [u64; 2] {
+        match self {
+            Tables::Maps(office) => {
+                let new = Office::new(MemoryShelf::new(alloc));
+                let (kept, written) = counted(mem::replace(office, new));
+                *office = kept;
+                written
+            }
+            Tables::Memory(base) => base.written(),
+            Tables::Files(base) => base.written(),
         }
     }
 

@@ -1,14 +1,13 @@
-//! Plays the row files of the working folder: each over maps, over a database in memory and over one
-//! in files, with its streams whole and in single bytes. Then it makes calls that no row makes, and
-//! tries the office on hostile use and on files that stop. It prints a line for each row and each
-//! thing tried, and ends with status 1 where one is not as told. With the word `requests`, `maps`
-//! or `tables` it tries what is meant for runs in which an allocation is refused from outside.
+//! Plays the row files of the working folder: each over maps, over a database in memory and over
+//! one in files, with its streams whole and in single bytes. Then it makes calls that no row makes,
+//! and tries the office on hostile use and on files that stop. It prints a line for each row and
+//! each thing tried, and ends with status 1 where one is not as told.
 #![tactic(auto)]
 
 mod playing;
 
 use crate::playing::{play_runs, play_want_of_memory};
-use office_file_trials::calls::{try_below, try_memory};
+use office_file_trials::calls::try_below;
 use office_file_trials::stops::try_stops;
 use office_hostile_trials::calls::try_calls;
 use office_row_files::folder::{names, remove_others, row_name};
@@ -19,7 +18,7 @@ use office_row_files::way::Way;
 use office_row_tables::commands::play_commands;
 use office_row_tables::playing::play_over;
 use std::process::ExitCode;
-use std::{env, fs, io};
+use std::{fs, io};
 
 /// Plays a row in one way. What runs of the program left in the working folder is removed.
 fn play_way(rt: &HostRuntime, row: &Row<'_>, way: Way, kept: &[String]) -> Result<(), Trouble> {
@@ -33,7 +32,7 @@ fn play_way(rt: &HostRuntime, row: &Row<'_>, way: Way, kept: &[String]) -> Resul
     }
 }
 
-/// Plays a row in all its ways, and a drawn one command by command too, says where it is not as
+/// Plays a row in all its ways, and some without a stream too, says where it is not as
 /// told, and tells whether it was in each.
 fn play_ways(
     rt: &HostRuntime,
@@ -43,7 +42,7 @@ fn play_ways(
 ) -> Result<bool, Trouble> {
     let mut is_told = true;
     if let Err(fault) = play_commands(rt.alloc(), name, row) {
-        println!(rt; "{name} command by command, {fault}")?;
+        println!(rt; "{name} without a stream, {fault}")?;
         is_told = false;
     }
     for way in row.ways() {
@@ -106,15 +105,8 @@ fn play_or_say(rt: &HostRuntime) -> io::Result<bool> {
     }
 }
 
-/// Plays all rows and tries all, or tries what the first word names. Tells whether all was as told.
+/// Plays all rows and tries all. Tells whether all was as told.
 fn is_as_told(rt: &HostRuntime) -> Result<bool, Trouble> {
-    let Ok(mut words) = env::args(rt) else {
-        return Err(Trouble::NoMemory);
-    };
-    if let Some(part) = words.nth(1) {
-        try_memory(rt, part.as_str())?;
-        return Ok(true);
-    }
     let is_told = play_or_say(rt)?;
     try_below(rt)?;
     try_calls(rt)?;

@@ -8,10 +8,10 @@ use Rattle.signal_records.specs.declared.record.Change.TheVariants.{Remove}
 use Rattle.draft_state.specs.ChangedRows.{left_by}
 use Rattle.office_tables_shelf.specs.{Cells.Rows, Cells.null, Rows.left_columns_in, Change.changed_by, Change.changed, Content.Content}
 use Rattle.office_tables_shelf.specs.declared.rows.RowChange.{RowChange}
-use Rattle.office_tables_sql.specs.{Calls.IsHonest, Calls.Keeps, Stored.content_of, Stored.content_now}
+use Rattle.office_tables_statements.specs.{Calls.IsHonest, Calls.Keeps, Stored.content_of, Stored.content_now}
 use Rattle.sqlite_rules.proofs.ListLemmas.{fails_has}
 use Rattle.office_tables_shelf.proofs.ListLemmas.{stands, where_all}
-use Rattle.office_tables_sql.proofs.{ListedLemmas.is_in, CallLemmas.survives_on}
+use Rattle.office_tables_statements.proofs.{ListedLemmas.is_in, CallLemmas.survives_on}
 use Rattle.office_tables_migration.specs.Former.{AreKept, HasNoFormer, HasNoFormerRow, is_row, timing_puts, draft_puts}
 use Rattle.office_tables_migration.specs.{Migration.IsMigrated, Migration.StandAnew, Migration.kept_key, declared.puts.Migrated.Migrated}
 use Rattle.sqlite.proofs.StateLemmas.{survives_then}

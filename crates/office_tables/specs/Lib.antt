@@ -7,9 +7,9 @@ pub use Rattle.office_tables_shelf.specs.Counts
 pub use Rattle.office_tables_shelf.specs.Shelf
 pub use Rattle.office_tables_shelf.specs.Damage
 pub use Rattle.office_tables_schema.specs.Schema
-pub use Rattle.office_tables_sql.specs.Layout
-pub use Rattle.office_tables_sql.specs.Stored
-pub use Rattle.office_tables_sql.specs.Calls
+pub use Rattle.office_tables_statements.specs.Layout
+pub use Rattle.office_tables_statements.specs.Stored
+pub use Rattle.office_tables_statements.specs.Calls
 pub use Rattle.office_tables_maps.specs.MapShelf
 pub use Rattle.office_tables_open.specs.Version
 pub use Rattle.office_tables_open.specs.SqlShelf

@@ -13,8 +13,8 @@ use Rattle.office_tables_shelf.specs.Content.{Content}
 use Rattle.office_machine.specs.Office.{Office, version_1}
 use Rattle.office_tables_standing.specs.StandFor.{StandForSoundIn}
 use Rattle.office_tables_shelf.specs.declared.rows.RowChange.{RowChange}
-use Rattle.office_tables_sql.specs.Calls.{IsHonest, IsReady}
-use Rattle.office_tables_sql.specs.Stored.{content_now, content_of}
+use Rattle.office_tables_statements.specs.Calls.{IsHonest, IsReady}
+use Rattle.office_tables_statements.specs.Stored.{content_now, content_of}
 use Rattle.office_tables_migration.specs.Former.{HasNoFormer, HasNoFormerRow}
 use Rattle.office_tables_migration.specs.Migration.{IsMigrated, StandAnew}
 use Rattle.office_tables_migration.specs.declared.puts.Migrated.{Migrated}

@@ -4,13 +4,13 @@ ghost use Rattle.std.specs.Prelude.{◌≡◌, ◌≢◌, [], OnOk, OnErr};
 ghost use Rattle.sqlite.specs.State.{HasCleanDisk, Survives};
 ghost use Rattle.sqlite.specs.Held.{state};
 ghost use Rattle.office_tables_shelf.specs.Change.{changed, changed_by};
-ghost use Rattle.office_tables_sql.specs.Stored.{content_now, content_of};
-ghost use Rattle.office_tables_sql.specs.Calls.{IsHonest, IsOffice, StandsOn};
+ghost use Rattle.office_tables_statements.specs.Stored.{content_now, content_of};
+ghost use Rattle.office_tables_statements.specs.Calls.{IsHonest, IsOffice, StandsOn};
 ghost use Rattle.office_tables_open.specs.Promises.{WasHonest, StaysReady, TurnsTo, LeavesNoMore};
 
 use office_tables_shelf::rows::RowChange;
-use office_tables_sql::statement::SqlFault;
 use office_tables_sql::{draft, intersection, part, stored_row};
+use office_tables_statements::statement::SqlFault;
 use signal_records::{Change, Row};
 use sqlite::{Alter, Connection, Transaction};
 use std::alloc::Global;

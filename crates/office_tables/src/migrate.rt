@@ -3,8 +3,8 @@
 ghost use Rattle.std.specs.Prelude.{◌≡◌, ◌≢◌, ◌++◌, false, IsTrue, IfOk, Err};
 ghost use Rattle.sqlite.specs.State.{Survives};
 ghost use Rattle.sqlite.specs.Held.{state};
-ghost use Rattle.office_tables_sql.specs.Stored.{content_now};
-ghost use Rattle.office_tables_sql.specs.Calls.{IsHonest, IsOffice, StandsOn};
+ghost use Rattle.office_tables_statements.specs.Stored.{content_now};
+ghost use Rattle.office_tables_statements.specs.Calls.{IsHonest, IsOffice, StandsOn};
 ghost use Rattle.office_tables.specs.Migrate.{KeepNoVersion, IsChangedToday, IsSpelledToday};
 ghost use Rattle.office_tables.specs.Migrate.{MayBecome, WritesToday, WritesAllToday, Migrates};
 ghost use Rattle.office_tables.specs.Migrate.{AreNeither, Brings, ShowsNeither};
@@ -23,7 +23,7 @@ use office_tables_open::version::{
 };
 use office_tables_schema::is_office;
 use office_tables_shelf::rows::RowChange;
-use office_tables_sql::statement::SqlFault;
+use office_tables_statements::statement::SqlFault;
 use signal_records::NoMemory;
 use sqlite::{Alter, Connection, Row as SqlRow, Transaction, params};
 use sqlite_schema::schema::Table;

@@ -4,7 +4,7 @@ ghost use Rattle.std.specs.Prelude.{◌≡◌, ◌≢◌, true, false, Ok, Err, 
 ghost use Rattle.sqlite.specs.State.{Survives};
 ghost use Rattle.sqlite.specs.Held.{state};
 ghost use Rattle.sqlite.specs.Steps.{over_memory};
-ghost use Rattle.office_tables_sql.specs.Calls.{IsHonest};
+ghost use Rattle.office_tables_statements.specs.Calls.{IsHonest};
 ghost use Rattle.office_tables.specs.Migrate.{Brings, StandsAnew, MayBecome};
 ghost use Rattle.office_tables.specs.Migrate.{TellsVersion, TellsDamage};
 ghost use Rattle.office_tables_open.specs.Promises.{KeepsCommitted, Settles, IsArrangedIfClean};
@@ -15,7 +15,7 @@ ghost use Rattle.office_tables_open.specs.Opening.{IsAsFound, IsOpened, IsRefuse
 ghost use Rattle.office_tables_open.specs.Opening.{MayBeTaken, TellsOfTables};
 ghost use Rattle.office_tables_shelf.specs.Content.{no_content};
 ghost use Rattle.office_tables_shelf.specs.Counts.{no_writes};
-ghost use Rattle.office_tables_sql.specs.Stored.{content_now};
+ghost use Rattle.office_tables_statements.specs.Stored.{content_now};
 ghost use Rattle.office_tables_schema.specs.Schema.{office_schema};
 
 use crate::change;
@@ -42,7 +42,7 @@ pub struct SqlShelf<S: Alter> {
 
 impl<S: Alter> Model for SqlShelf<S> {
     ghost use Rattle.sqlite.specs.Held.{state};
-    ghost use Rattle.office_tables_sql.specs.Calls.{IsOffice};
+    ghost use Rattle.office_tables_statements.specs.Calls.{IsOffice};
     ghost use Rattle.office_tables_open.specs.SqlShelf.{SqlView, view_code};
 
     ghost Value = { SqlView S };
@@ -241,8 +241,8 @@ impl SqlShelf<MemStore> {
 impl<S: Alter> Shelf for SqlShelf<S> {
     ghost use Rattle.sqlite.specs.Held.{state};
     ghost use Rattle.sqlite.specs.State.{HasCleanDisk};
-    ghost use Rattle.office_tables_sql.specs.Stored.{content_now};
-    ghost use Rattle.office_tables_sql.specs.Calls.{IsHonest};
+    ghost use Rattle.office_tables_statements.specs.Stored.{content_now};
+    ghost use Rattle.office_tables_statements.specs.Calls.{IsHonest};
     ghost use Rattle.office_tables_open.specs.SqlShelf.{MayLeave};
 
     ghost content = { λ s. content_now (state S.Store s.conn) };

@@ -7,12 +7,12 @@ use Rattle.sqlite.specs.Order.{Row as SqlRow, column}
 use Rattle.sqlite_rules.specs.Lists.{Has}
 use Rattle.office_tables_shelf.specs.{Cells.Cell, Cells.null, Cells.number, Cells.text, declared.rows.Table.Table, Rows.body_in}
 use Rattle.office_tables_shelf.specs.Rows.{timing_key, draft_key, left_columns_in}
-use Rattle.office_tables_sql.specs.{Calls.AreOrdered, Calls.Reads, Listed.shown_key, Listed.shown_body, Stored.cells_at, Stored.content_of}
-use Rattle.office_tables_sql.specs.{Stored.cell_of, Tables.rows_at, Tables.layout_at, Tables.row_shown, Tables.listed_by}
-use Rattle.office_tables_sql.specs.Tables.{places_from}
+use Rattle.office_tables_statements.specs.{Calls.AreOrdered, Calls.Reads, Listed.shown_key, Listed.shown_body, Stored.cells_at, Stored.content_of}
+use Rattle.office_tables_statements.specs.{Stored.cell_of, Tables.rows_at, Tables.layout_at, Tables.row_shown, Tables.listed_by}
+use Rattle.office_tables_statements.specs.Tables.{places_from}
 use Rattle.office_tables_schema.specs.Schema.{office_schema}
 use Rattle.office_tables_shelf.proofs.{ListLemmas.stands, ListLemmas.where_all, RowLemmas.same_row}
-use Rattle.office_tables_sql.proofs.{ListedLemmas.is_in, StoredLists.lists_where, StoredLists.width_where}
+use Rattle.office_tables_statements.proofs.{ListedLemmas.is_in, StoredLists.lists_where, StoredLists.width_where}
 use Rattle.office_tables_migration.specs.{Former.shown_cells, Listing.ListsAll}
 use Rattle.signal_records.specs.{Row.key_of, Within.IsRowWithin, Within.IsChangeWithin, Within.version_1_limits}
 use Rattle.signal_records.specs.{declared.record.Change.Change, declared.record.Change.TheVariants.Put}

@@ -19,7 +19,7 @@ use Rattle.office_tables_shelf.specs.declared.rows.RowChange.{RowChange}
 use Rattle.office_tables_shelf.specs.declared.rows.RowChange.TheVariants.{PutTiming, PutDraft}
 use Rattle.office_tables_shelf.specs.declared.shelf.ShelfFault.{ShelfFault}
 use Rattle.office_tables_shelf.specs.declared.shelf.ShelfFault.TheVariants as fault
-use Rattle.office_tables_sql.specs.Listed.{shown_key, shown_body}
+use Rattle.office_tables_statements.specs.Listed.{shown_key, shown_body}
 
 -- the row that version 1 spelled in these bytes, or in this cell
 abbrev pub IsFormerBody : List ℕ → Row → Type 0

@@ -11,9 +11,9 @@ use Rattle.office_tables_shelf.specs.declared.rows.Table.{Table}
 use Rattle.office_tables_shelf.specs.declared.rows.Table.TheVariants.{Timing, Draft}
 use Rattle.office_tables_shelf.specs.declared.shelf.ShelfFault.{ShelfFault}
 use Rattle.office_tables_shelf.specs.declared.shelf.ShelfFault.TheVariants as fault
-use Rattle.office_tables_sql.specs.Calls.{IsHonest, IsQuery, command_of}
+use Rattle.office_tables_statements.specs.Calls.{IsHonest, IsQuery, command_of}
 use Rattle.office_tables_schema.specs.Schema.{office_schema}
-use Rattle.office_tables_sql.specs.Tables.{layout_at, listed_by}
+use Rattle.office_tables_statements.specs.Tables.{layout_at, listed_by}
 use Rattle.office_tables_migration.specs.Former.{AreKept, HasNoFormer}
 use Rattle.office_tables_migration.specs.declared.listing.TheConstants.{TIMING, DRAFT}
 

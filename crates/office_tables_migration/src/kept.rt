@@ -4,17 +4,17 @@ ghost use Rattle.std.specs.Prelude.{◌≡◌, ◌≢◌, IfOk, IfSome, Ok, None
 ghost use Rattle.sqlite.specs.Order.{column};
 ghost use Rattle.signal_records.specs.Within.{IsChangeWithin, version_1_limits};
 ghost use Rattle.office_tables_shelf.specs.Cells.{null};
-ghost use Rattle.office_tables_sql.specs.Stored.{cell_of};
-ghost use Rattle.office_tables_sql.specs.Listed.{shown_key, shown_body};
+ghost use Rattle.office_tables_statements.specs.Stored.{cell_of};
+ghost use Rattle.office_tables_statements.specs.Listed.{shown_key, shown_body};
 ghost use Rattle.office_tables_migration.specs.Former.{former_cells, shown_cells};
 ghost use Rattle.office_tables_migration.specs.Former.{OnDamage, IsNoFormer};
 ghost use Rattle.office_tables_migration.specs.Former.{IsFormerBody, IsNoFormerBody};
 ghost use Rattle.office_tables_migration.specs.Former.{IsFormerCell, IsNoFormerCell};
 
 use office_tables_shelf::shelf::ShelfFault;
-use office_tables_sql::body_reading::fields_of;
-use office_tables_sql::listed::{check_key, read_key};
-use office_tables_sql::value::{ranged_at, value_at};
+use office_tables_statements::body_reading::fields_of;
+use office_tables_statements::listed::{check_key, read_key};
+use office_tables_statements::value::{ranged_at, value_at};
 use signal_records::{Change, InterId, NoMemory, Row, RowFault, is_key_v1, read_row_v1};
 use sqlite::Row as SqlRow;
 use std::alloc::Global;

@@ -3,9 +3,9 @@
 ghost use Rattle.std.specs.Prelude.{◌≡◌, map, IfOk};
 ghost use Rattle.sqlite.specs.State.{Survives};
 ghost use Rattle.sqlite.specs.Held.{state};
-ghost use Rattle.office_tables_sql.specs.Calls.{IsOffice, IsQuery, Keeps};
-ghost use Rattle.office_tables_sql.specs.Stored.{content_now};
-ghost use Rattle.office_tables_sql.specs.Tables.{rows_at};
+ghost use Rattle.office_tables_statements.specs.Calls.{IsOffice, IsQuery, Keeps};
+ghost use Rattle.office_tables_statements.specs.Stored.{content_now};
+ghost use Rattle.office_tables_statements.specs.Tables.{rows_at};
 ghost use Rattle.office_tables_migration.specs.Former.{former_cells, shown_cells, AreFormer};
 ghost use Rattle.office_tables_migration.specs.Former.{HaveFive, ShowNoFormer};
 ghost use Rattle.office_tables_migration.specs.Listing.{Lists, ListsEach};
@@ -14,7 +14,7 @@ ghost use Rattle.office_tables_migration.specs.Listing.{TellsNoFormer, TellsNoFo
 use crate::growing::push;
 use crate::kept::read;
 use office_tables_shelf::shelf::ShelfFault;
-use office_tables_sql::statement::select;
+use office_tables_statements::statement::select;
 use signal_records::{Change, InterId};
 use sqlite::{Alter, Connection, Row as SqlRow};
 use std::alloc::Global;

@@ -15,10 +15,10 @@ use Rattle.sqlite_trees.specs.declared.store.Direction.TheVariants.{Forward}
 use Rattle.sqlite_trees.specs.declared.store.Shape.TheVariants as shape
 use Rattle.sqlite_value.specs.{Keys.first_key, Order.value_cmp, declared.keys.Order.Order}
 use Rattle.office_tables_shelf.specs.Cells.{number, cells_cmp}
-use Rattle.office_tables_sql.specs.Layout as layout
+use Rattle.office_tables_statements.specs.Layout as layout
 use Rattle.office_tables_schema.specs.Schema.{no_schema}
-use Rattle.office_tables_sql.specs.{Layout.has_key, Layout.values_at, Stored.cell_of, Stored.cells, Stored.rows_in}
-use Rattle.office_tables_sql.proofs.StoredLemmas.{get_columns, sound_rowids}
+use Rattle.office_tables_statements.specs.{Layout.has_key, Layout.values_at, Stored.cell_of, Stored.cells, Stored.rows_in}
+use Rattle.office_tables_statements.proofs.StoredLemmas.{get_columns, sound_rowids}
 use Rattle.office_tables_open.specs.Found.{IsOneOf, IsOneOfEight, KeepsVersion, StoresAt, StoreNone, HaveNoRow, IsFoundAt, IsFound, HasOtherVersion, HasRowsAlone, IsUnclaimed}
 use Rattle.office_tables_open.specs.{Version.version_at, Version.AreEmpty, Version.stored_trees, Arranged.IsArranged}
 use Rattle.office_tables_open.specs.declared.found.Found.TheVariants.{Nothing, RowsAlone, Unknown}

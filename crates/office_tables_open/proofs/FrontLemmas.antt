@@ -17,7 +17,7 @@ use Rattle.sqlite_trees.specs.declared.store.Store.{Ghosts}
 use Rattle.sqlite_trees.proofs.ListLemmas.{all-append, all_both}
 use Rattle.office_tables_schema.specs.Schema.{front_schema, numbered, office_schema, place_after, version_table}
 use Rattle.office_tables_schema.specs.declared.TheConstants.{CREATES}
-use Rattle.office_tables_sql.specs.{Calls.IsReady, Calls.command_of, Calls.statement_of, Stored.content_now, Stored.content_of}
+use Rattle.office_tables_statements.specs.{Calls.IsReady, Calls.command_of, Calls.statement_of, Stored.content_now, Stored.content_of}
 use Rattle.office_tables_open.specs.Lacking.{IsGrown, IsSpread, SeesFront, content_before, emptied_from}
 use Rattle.office_tables_open.specs.{Opening.AreRun, Version.version_in, Version.current_version}
 use Rattle.office_tables_open.proofs.MadeLemmas.{AreFree, AreMaking, Ends, kept_rows, made_of, office_making, over_run, second_of, untreed}

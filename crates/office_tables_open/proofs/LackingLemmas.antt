@@ -15,7 +15,7 @@ use Rattle.sqlite_trees.specs.Objects.{catalog_tree, number_in}
 use Rattle.sqlite_value.specs.Order.{bytes}
 use Rattle.office_tables_shelf.specs.Content.{Content, no_content}
 use Rattle.office_tables_schema.specs.Schema.{IsFront, front_schema, no_schema, office_schema, place_after}
-use Rattle.office_tables_sql.specs.{Calls.IsHonest, Calls.IsOffice, Stored.content_of}
+use Rattle.office_tables_statements.specs.{Calls.IsHonest, Calls.IsOffice, Stored.content_of}
 use Rattle.office_tables_open.specs.Lacking.{Hold, IsLacking, Lacks, content_before, emptied_from}
 use Rattle.office_tables_open.specs.Version.{AreEmpty, stored_trees, version_at, version_in, current_version}
 use Rattle.office_tables_open.specs.{Arranged.IsArranged, Found.IsFoundIn, Found.IsUnclaimed}

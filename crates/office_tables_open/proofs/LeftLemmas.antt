@@ -3,7 +3,7 @@ use Rattle.std.proofs.Common.{◌≡◌, ◌≢◌, ◌⊎◌, inl, inr, ℕ, fa
 use Rattle.std.proofs.lemmas.Result.{IfOk-weaker}
 use Rattle.sqlite.specs.{Effect.Database, Held.Held, Held.state, State.State, State.HasCleanDisk, State.Survives, Tree.Trees, View.IsClean}
 use Rattle.sqlite_trees.specs.{View.IsQuiet, View.IsRolledBack, declared.store.Store.Ghosts}
-use Rattle.office_tables_sql.specs.Calls.{IsHonest}
+use Rattle.office_tables_statements.specs.Calls.{IsHonest}
 use Rattle.office_tables_open.specs.Opening.{AreGone, Claims, IsAsFound, IsIdleOrSame, IsLeft, IsNewOffice, IsRefused, IsSettled, MayBeNew, OnlyReads, TellsOfTables, WereDropped, store_left}
 use Rattle.office_tables_open.specs.{Arranged.IsCheckedAgain, Found.HasOtherVersion, Found.HasRowsAlone, Found.IsUnclaimed}
 use Rattle.office_tables_open.specs.Lacking.{Completes, Lacks}

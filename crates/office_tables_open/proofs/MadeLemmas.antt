@@ -14,8 +14,8 @@ use Rattle.sqlite_trees.specs.{declared.store.Store.Ghosts, View.doubt}
 use Rattle.sqlite_trees.proofs.ListLemmas.{all_both, all_weaker}
 use Rattle.office_tables_shelf.proofs.ListLemmas.{all_more}
 use Rattle.office_tables_shelf.specs.Content.{no_content}
-use Rattle.office_tables_sql.specs.Calls.{AreOrdered, IsOffice, IsReady, command_of, statement_of}
-use Rattle.office_tables_sql.specs.Stored.{content_now}
+use Rattle.office_tables_statements.specs.Calls.{AreOrdered, IsOffice, IsReady, command_of, statement_of}
+use Rattle.office_tables_statements.specs.Stored.{content_now}
 use Rattle.office_tables_schema.specs.{Schema.no_schema, Schema.office_schema, declared.TheConstants.CREATES}
 use Rattle.office_tables_open.specs.{Opening.AreRun, Opening.IsNew, Version.AreEmpty, Version.version_in, Version.current_version}
 

@@ -3,7 +3,7 @@ use Rattle.std.proofs.Common.{refl}
 use Rattle.sqlite.specs.{Held.Held, Steps.over_memory}
 use Rattle.sqlite.proofs.Callers.{memory_is_clean}
 use Rattle.sqlite_trees.specs.declared.store.Store.{Ghosts}
-use Rattle.office_tables_sql.specs.Calls.{IsAlwaysHonest}
+use Rattle.office_tables_statements.specs.Calls.{IsAlwaysHonest}
 use Rattle.office_tables_open.specs.Opening.{StaysClean}
 
 pub memory_is_honest : IsAlwaysHonest over_memory

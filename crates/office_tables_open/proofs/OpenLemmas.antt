@@ -6,7 +6,7 @@ use Rattle.sqlite_trees.specs.{View.doubt, Objects.catalog_tree, declared.store.
 use Rattle.sqlite_catalog.specs.Listing.{AreListed}
 use Rattle.office_tables_shelf.specs.Counts.{no_writes}
 use Rattle.office_tables_schema.specs.Schema.{office_schema, no_schema, version_table}
-use Rattle.office_tables_sql.specs.{Calls.IsHonest, Calls.IsOffice, Stored.cells, Stored.content_now, Stored.content_of}
+use Rattle.office_tables_statements.specs.{Calls.IsHonest, Calls.IsOffice, Stored.cells, Stored.content_now, Stored.content_of}
 use Rattle.office_tables_open.specs.Arranged.{IsArranged, IsUnchanged, IsTaken, IsCheckedAgain}
 use Rattle.office_tables_open.specs.Found.{HasOtherVersion, HasRowsAlone, IsFound, IsFoundIn, IsUnclaimed}
 use Rattle.office_tables_open.specs.Opening.{AreMade, IsMadeNew, IsOpened, IsSettled, MayBeTaken, IsOpenIfClean}

@@ -8,16 +8,16 @@ use Rattle.sqlite.specs.{Source.TheVariants.Values, Term.lit, Term.col, View.IsS
 use Rattle.sqlite.specs.declared.types.Value.TheVariants.{Null, Int}
 use Rattle.sqlite.specs.Effect as effect
 use Rattle.sqlite_tied.specs.Compute.{everything}
-use Rattle.office_tables_sql.specs.Layout as layout
+use Rattle.office_tables_statements.specs.Layout as layout
 use Rattle.office_tables_shelf.specs.{Content.no_content, Cells.number, declared.rows.Table.Table}
-use Rattle.office_tables_sql.specs.{Stored.rows_in, Stored.content_of, Stored.cells, Stored.rows_of, Stored.content_now, Calls.IsQuery}
-use Rattle.office_tables_sql.specs.{Calls.Reads, Calls.IsReady, Calls.Ran, Tables.schema_at, Tables.found_by, Layout.office_version}
+use Rattle.office_tables_statements.specs.{Stored.rows_in, Stored.content_of, Stored.cells, Stored.rows_of, Stored.content_now, Calls.IsQuery}
+use Rattle.office_tables_statements.specs.{Calls.Reads, Calls.IsReady, Calls.Ran, Tables.schema_at, Tables.found_by, Layout.office_version}
 use Rattle.office_tables_schema.specs.Schema.{office_schema, version_table}
 use Rattle.office_tables_open.specs.Version.{AreEmpty, IsListing, ListsRows, stored_trees, version_in, current_version}
-use Rattle.office_tables_sql.proofs.QueryLemmas.{answers, IsRead, IsWrite, AreShaped, found_by_key, has_width}
-use Rattle.office_tables_sql.proofs.WriteLemmas.{Added, adds, IsIdle, wrote}
-use Rattle.office_tables_sql.proofs.{StoredLemmas.get_columns, StoredLemmas.sound_rowids, Casts.cast_int, Casts.cast_null, RemoveLemmas.remove_keyed}
-use Rattle.office_tables_sql.proofs.{ContentLemmas.tie_self, ContentLemmas.put_at, ContentLemmas.free_rowid, TableLemmas.each, TableLemmas.none_in}
+use Rattle.office_tables_statements.proofs.QueryLemmas.{answers, IsRead, IsWrite, AreShaped, found_by_key, has_width}
+use Rattle.office_tables_statements.proofs.WriteLemmas.{Added, adds, IsIdle, wrote}
+use Rattle.office_tables_statements.proofs.{StoredLemmas.get_columns, StoredLemmas.sound_rowids, Casts.cast_int, Casts.cast_null, RemoveLemmas.remove_keyed}
+use Rattle.office_tables_statements.proofs.{ContentLemmas.tie_self, ContentLemmas.put_at, ContentLemmas.free_rowid, TableLemmas.each, TableLemmas.none_in}
 use Rattle.sqlite_trees.specs.declared.store.Shape.TheVariants as shape
 use Rattle.office_tables_shelf.proofs.CellLemmas.{cells_total}
 use Rattle.office_tables_open.specs.declared.version.TheConstants.{FIND as FIND_VERSION, DROP as DROP_VERSION, PUT as PUT_VERSION}

@@ -8,9 +8,9 @@ use Rattle.sqlite_catalog.specs.Listing.{AreListed}
 use Rattle.sqlite_trees.specs.Objects.{catalog_tree}
 use Rattle.sqlite_trees.specs.declared.store.Shape.TheVariants as shape
 use Rattle.office_tables_shelf.specs.Content.{Content}
-use Rattle.office_tables_sql.specs.Calls.{IsReady}
+use Rattle.office_tables_statements.specs.Calls.{IsReady}
 use Rattle.office_tables_schema.specs.Schema.{IsFront, front_schema, place_after}
-use Rattle.office_tables_sql.specs.Stored.{content_now, content_of}
+use Rattle.office_tables_statements.specs.Stored.{content_now, content_of}
 use Rattle.office_tables_open.specs.Version.{version_at, version_in, current_version}
 
 -- so many of the eight tables are there, the others are missing, and today's version is stored

@@ -7,9 +7,9 @@ use Rattle.sqlite_trees.specs.View.{doubt, IsClean}
 use Rattle.sqlite_trees.specs.declared.store.Store.{Ghosts}
 use Rattle.office_tables_shelf.specs.Content.{no_content}
 use Rattle.office_tables_shelf.specs.Counts.{no_writes}
-use Rattle.office_tables_sql.specs.Calls.{IsHonest, IsReady, Keeps}
+use Rattle.office_tables_statements.specs.Calls.{IsHonest, IsReady, Keeps}
 use Rattle.office_tables_schema.specs.Schema.{no_schema, office_schema}
-use Rattle.office_tables_sql.specs.Stored.{content_now, content_of}
+use Rattle.office_tables_statements.specs.Stored.{content_now, content_of}
 use Rattle.office_tables_open.specs.SqlShelf.{SqlView}
 use Rattle.office_tables_open.specs.Found.{IsUnclaimed}
 pub use Rattle.office_tables_open.specs.Found.{HasOtherVersion, HasRowsAlone}

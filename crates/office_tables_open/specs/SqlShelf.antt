@@ -7,7 +7,7 @@ use Rattle.sqlite.specs.Tree.{Trees}
 use Rattle.office_tables_shelf.specs.Content.{Content}
 use Rattle.office_tables_shelf.specs.Counts.{counts_code}
 use Rattle.office_tables_shelf.specs.declared.counts.WriteCounts.{WriteCounts}
-use Rattle.office_tables_sql.specs.Stored.{content_of}
+use Rattle.office_tables_statements.specs.Stored.{content_of}
 
 -- the connection, and how often the rows of each table were written
 pub record SqlView (S : Type 0) : Type 0 where

@@ -12,9 +12,9 @@ use Rattle.sqlite.specs.Term.{lit, col}
 use Rattle.sqlite.specs.Tree.{Trees}
 use Rattle.office_tables_shelf.specs.Cells.{Cell, number}
 use Rattle.office_tables_schema.specs.Schema.{office_schema}
-use Rattle.office_tables_sql.specs.Layout as layout
-use Rattle.office_tables_sql.specs.Stored.{cells, rows_of}
-use Rattle.office_tables_sql.specs.Calls.{IsQuery, command_of}
+use Rattle.office_tables_statements.specs.Layout as layout
+use Rattle.office_tables_statements.specs.Stored.{cells, rows_of}
+use Rattle.office_tables_statements.specs.Calls.{IsQuery, command_of}
 
 -- the version that the table with this number stores, if it stores one: the cells under the number 1
 abbrev pub version_at : ℕ → Trees → Option (List Cell)

@@ -15,7 +15,7 @@ ghost use Rattle.office_tables_open.specs.Found.{IsFoundAt, IsFoundIn};
 ghost use Rattle.office_tables_open.specs.Opening.{IsAsFound};
 
 use crate::version::VERSION;
-use office_tables_sql::statement::SqlFault;
+use office_tables_statements::statement::SqlFault;
 use sqlite::{Alter, Connection};
 use sqlite_schema::schema::{Column, Table};
 use sqlite_trees::error::StoreError;

@@ -4,7 +4,7 @@
 ghost use Rattle.std.specs.Prelude.{◌≡◌, ◌<◌, true, false, drop, map, OnOk};
 ghost use Rattle.sqlite.specs.Held.{state};
 ghost use Rattle.sqlite.specs.State.{HasCleanDisk, Survives};
-ghost use Rattle.office_tables_sql.specs.Calls.{IsHonest, IsOffice, StandsOn, StaysOpen};
+ghost use Rattle.office_tables_statements.specs.Calls.{IsHonest, IsOffice, StandsOn, StaysOpen};
 ghost use Rattle.office_tables_schema.specs.declared.TheConstants.{CREATES};
 ghost use Rattle.office_tables_open.specs.Lacking.{Completes, IsGrown, IsSpread, Rise, SeesFront};
 ghost use Rattle.office_tables_open.specs.Promises.{KeepsCommitted, LeavesNoMore, WasHonest};
@@ -12,7 +12,7 @@ ghost use Rattle.office_tables_open.specs.Promises.{KeepsCommitted, LeavesNoMore
 use crate::open::{DROPS, run_all};
 use crate::version::put_version;
 use office_tables_schema::{CREATES, front_of};
-use office_tables_sql::statement::SqlFault;
+use office_tables_statements::statement::SqlFault;
 use sqlite::{Alter, Connection, Transaction};
 
 /// The texts that make the tables after so many others.

@@ -4,16 +4,16 @@ ghost use Rattle.std.specs.Prelude.{◌≡◌, ◌≢◌, ℕ, [], length, Some,
 ghost use Rattle.std.specs.Option.{option_map};
 ghost use Rattle.std.specs.List.{AllByRecursion};
 ghost use Rattle.sqlite.specs.Held.{state};
-ghost use Rattle.office_tables_sql.specs.Stored.{cells};
-ghost use Rattle.office_tables_sql.specs.Calls.{IsHonest, IsOffice, IsQuery, Keeps, StandsOn};
-ghost use Rattle.office_tables_sql.specs.Calls.{StaysOpen};
+ghost use Rattle.office_tables_statements.specs.Stored.{cells};
+ghost use Rattle.office_tables_statements.specs.Calls.{IsHonest, IsOffice, IsQuery, Keeps, StandsOn};
+ghost use Rattle.office_tables_statements.specs.Calls.{StaysOpen};
 ghost use Rattle.office_tables_open.specs.Version.{AreEmpty, HasRow, IsListing, ListsRows};
 ghost use Rattle.office_tables_open.specs.Version.{TellsOther, version_in, version_cells};
 ghost use Rattle.office_tables_open.specs.Promises.{WasHonest, StaysReady, StaysSame, StoresToday};
 ghost use Rattle.office_tables_open.specs.Promises.{LeavesNoMore, KeepsContent, KeepsCommitted};
 ghost use Rattle.office_tables_open.specs.Promises.{LeavesToday, EndsToday, SeesOpen};
 
-use office_tables_sql::statement::{SqlFault, select, select_one, write};
+use office_tables_statements::statement::{SqlFault, select, select_one, write};
 use sqlite::{Alter, Connection, Row, Transaction, params};
 
 /// The version of the tables, whose rows are those of today's grammar.

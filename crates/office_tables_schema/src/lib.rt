@@ -1,4 +1,5 @@
-//! The schema of the office in SQL: the texts that make its tables, and whether a database has them.
+//! The schema of the office in SQL: the texts that make its tables, and whether a database has
+//! them.
 #![tactic(auto)]
 
 ghost use Rattle.std.specs.Prelude.{◌≡◌, ◌<◌, ◌≤◌, take, length, IsTrue, IfSome};

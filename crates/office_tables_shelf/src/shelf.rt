@@ -261,7 +261,8 @@ pub trait Shelf {
         ensures written_ok { OnOk result (written self.new ≡ counts_after (written self.old) changes.now) }
         ensures written_err { OnErr result (written self.new ≡ written self.old) }
 
-        // A crash leaves what it could before, or the whole result; and that alone once changes were made.
+        // A crash leaves what it could before, or the whole result; and that alone once changes
+        // were made.
         ensures crash { (tables : Content) → may_leave self.new tables →
             may_leave self.old tables ⊎ (is_honest self.old × (tables ≡ changed_by (content self.old) changes.now)) }
         ensures settled { OnOk result (changes.now ≢ [] →

@@ -5,7 +5,7 @@ use Rattle.sqlite_tied.specs.Compute.{everything}
 use Rattle.cabinet_core.specs.declared.record.Delivery.{Delivery as Found}
 use Rattle.office_tables_shelf.specs.CabinetRows.{delivery_key, delivery_columns}
 use Rattle.office_tables_shelf.specs.declared.rows.Table.TheVariants.{Delivery}
-use Rattle.office_tables_sql.specs.Tables.{IsListText, IsFindText, IsUpdateText, IsInsertText, Fits}
+use Rattle.office_tables_statements.specs.Tables.{IsListText, IsFindText, IsUpdateText, IsInsertText, Fits}
 use Rattle.office_tables_sql.specs.declared.delivery.TheConstants.{LIST, FIND, UPDATE, INSERT}
 
 pub lists : IsListText Delivery LIST.now

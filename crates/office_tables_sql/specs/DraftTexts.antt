@@ -6,8 +6,8 @@ use Rattle.signal_records.specs.declared.record.Change.{Change}
 use Rattle.signal_records.specs.declared.record.Change.TheVariants.{Put, Remove}
 use Rattle.office_tables_shelf.specs.Rows.{draft_key, draft_columns}
 use Rattle.office_tables_shelf.specs.declared.rows.Table.TheVariants.{Draft}
-use Rattle.office_tables_sql.specs.Tables.{IsListText, IsFindText, IsUpdateText, IsInsertText, IsRemoveText, Fits}
-use Rattle.office_tables_sql.specs.Tables.{IsDropText}
+use Rattle.office_tables_statements.specs.Tables.{IsListText, IsFindText, IsUpdateText, IsInsertText, IsRemoveText, Fits}
+use Rattle.office_tables_statements.specs.Tables.{IsDropText}
 use Rattle.office_tables_sql.specs.declared.draft.TheConstants.{LIST, FIND, UPDATE, INSERT, REMOVE, DROP}
 
 pub lists : IsListText Draft LIST.now

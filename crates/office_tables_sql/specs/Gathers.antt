@@ -4,7 +4,7 @@ use Rattle.std.specs.List.{AllByRecursion}
 use Rattle.office_tables_shelf.specs.Cells.{Cell}
 use Rattle.office_tables_shelf.specs.Content.{Content}
 use Rattle.office_tables_shelf.specs.declared.rows.Table.{Table}
-use Rattle.office_tables_sql.specs.Tables.{ListsRows}
+use Rattle.office_tables_statements.specs.Tables.{ListsRows}
 
 -- the rows of the list in the table, in the order of their keys, are those of records, each within
 -- its limits, and it holds what is to be known of these

@@ -5,7 +5,7 @@ use Rattle.sqlite_tied.specs.Compute.{everything}
 use Rattle.cabinet_core.specs.declared.record.Inspection.{Inspection as Found}
 use Rattle.office_tables_shelf.specs.CabinetRows.{inspection_key, inspection_columns}
 use Rattle.office_tables_shelf.specs.declared.rows.Table.TheVariants.{Inspection}
-use Rattle.office_tables_sql.specs.Tables.{IsListText, IsFindText, IsUpdateText, IsInsertText, Fits}
+use Rattle.office_tables_statements.specs.Tables.{IsListText, IsFindText, IsUpdateText, IsInsertText, Fits}
 use Rattle.office_tables_sql.specs.declared.inspection.TheConstants.{LIST, FIND, UPDATE, INSERT}
 
 pub lists : IsListText Inspection LIST.now

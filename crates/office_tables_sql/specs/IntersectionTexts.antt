@@ -6,7 +6,7 @@ use Rattle.draft_state.specs.declared.state.Holder.{Holder}
 use Rattle.office_tables_shelf.specs.Cells.{number, text}
 use Rattle.office_tables_shelf.specs.Rows.{state_number, owner_cell, intersection_key}
 use Rattle.office_tables_shelf.specs.declared.rows.Table.TheVariants.{Intersection}
-use Rattle.office_tables_sql.specs.Tables.{IsListText, IsFindText, IsUpdateText, IsInsertText, Fits}
+use Rattle.office_tables_statements.specs.Tables.{IsListText, IsFindText, IsUpdateText, IsInsertText, Fits}
 use Rattle.office_tables_sql.specs.declared.intersection.TheConstants.{LIST, FIND, UPDATE, INSERT}
 
 pub lists : IsListText Intersection LIST.now

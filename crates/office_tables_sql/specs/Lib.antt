@@ -1,8 +1,3 @@
-pub mod Layout
-pub mod Stored
-pub mod Calls
-pub mod Listed
-pub mod Tables
 pub mod Gathers
 pub mod IntersectionTexts
 pub mod PartTexts

@@ -6,7 +6,7 @@ use Rattle.cabinet_core.specs.declared.record.Closing.{Closing}
 use Rattle.office_tables_shelf.specs.Cells.{number, text}
 use Rattle.office_tables_shelf.specs.CabinetRows.{order_key, closed_cell, closer_cell}
 use Rattle.office_tables_shelf.specs.declared.rows.Table.TheVariants.{WorkOrder}
-use Rattle.office_tables_sql.specs.Tables.{IsListText, IsFindText, IsUpdateText, IsInsertText, Fits}
+use Rattle.office_tables_statements.specs.Tables.{IsListText, IsFindText, IsUpdateText, IsInsertText, Fits}
 use Rattle.office_tables_sql.specs.declared.order.TheConstants.{LIST, FIND, UPDATE, INSERT}
 
 pub lists : IsListText WorkOrder LIST.now

@@ -4,7 +4,7 @@ use Rattle.sqlite.specs.Listing.{understood}
 use Rattle.sqlite_tied.specs.Compute.{everything}
 use Rattle.office_tables_shelf.specs.CabinetRows.{part_key, part_columns}
 use Rattle.office_tables_shelf.specs.declared.rows.Table.TheVariants.{Part}
-use Rattle.office_tables_sql.specs.Tables.{IsListText, IsFindText, IsUpdateText, IsInsertText, Fits}
+use Rattle.office_tables_statements.specs.Tables.{IsListText, IsFindText, IsUpdateText, IsInsertText, Fits}
 use Rattle.office_tables_sql.specs.declared.part.TheConstants.{LIST, FIND, UPDATE, INSERT}
 
 pub lists : IsListText Part LIST.now

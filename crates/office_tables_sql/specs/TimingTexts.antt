@@ -6,7 +6,7 @@ use Rattle.signal_records.specs.Row.{key_of}
 use Rattle.signal_records.specs.declared.record.Row.{Row}
 use Rattle.office_tables_shelf.specs.Rows.{timing_key, timing_columns}
 use Rattle.office_tables_shelf.specs.declared.rows.Table.TheVariants.{Timing}
-use Rattle.office_tables_sql.specs.Tables.{IsListText, IsFindText, IsCountText, IsUpdateText, IsInsertText, IsRemoveText, Fits}
+use Rattle.office_tables_statements.specs.Tables.{IsListText, IsFindText, IsCountText, IsUpdateText, IsInsertText, IsRemoveText, Fits}
 use Rattle.office_tables_sql.specs.declared.timing.TheConstants.{LIST, FIND, COUNT, UPDATE, INSERT, REMOVE}
 
 pub lists : IsListText Timing LIST.now

@@ -5,7 +5,7 @@ use Rattle.sqlite_tied.specs.Compute.{everything}
 use Rattle.cabinet_core.specs.declared.record.UsedLine.{UsedLine}
 use Rattle.office_tables_shelf.specs.CabinetRows.{used_key, used_columns}
 use Rattle.office_tables_shelf.specs.declared.rows.Table.TheVariants.{UsedPart}
-use Rattle.office_tables_sql.specs.Tables.{IsListText, IsFindText, IsUpdateText, IsInsertText, Fits}
+use Rattle.office_tables_statements.specs.Tables.{IsListText, IsFindText, IsUpdateText, IsInsertText, Fits}
 use Rattle.office_tables_sql.specs.declared.used.TheConstants.{LIST, FIND, UPDATE, INSERT}
 
 pub lists : IsListText UsedPart LIST.now

@@ -1,9 +1,9 @@
 //! The table `delivery`: what was delivered of each part.
 
 use crate::stored_row::StoredRow;
-use crate::value::{code_at, day_at, ranged_at};
-use cabinet_core::{Delivery, delivery_is_within};
+use cabinet_core::Delivery;
 use office_tables_shelf::shelf::ShelfFault;
+use office_tables_statements::value::{code_at, day_at, ranged_at};
 use signal_records::NoMemory;
 use sqlite::Row;
 use sqlite::types::{ToSql, ValueRef};
@@ -68,10 +68,6 @@ impl StoredRow for Delivery {
 
     fn insert_text() -> &'static str {
         INSERT
-    }
-
-    fn is_within(&self) {
-        delivery_is_within(self);
     }
 
     fn read(alloc: Global, _of: (), row: &Row) -> Result<Delivery, ShelfFault> {

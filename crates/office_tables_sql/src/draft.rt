@@ -7,17 +7,17 @@ ghost use Rattle.sqlite.specs.Values.{bound_value};
 ghost use Rattle.sqlite_value.specs.Value.{owned};
 ghost use Rattle.draft_state.specs.ChangedRows.{changed_key};
 ghost use Rattle.office_tables_shelf.specs.Rows.{draft_columns};
-ghost use Rattle.office_tables_sql.specs.Calls.{IsHonest, IsReady, StandsOn};
-ghost use Rattle.office_tables_sql.specs.Stored.{content_now};
-ghost use Rattle.office_tables_sql.specs.Tables.{drop_in, values_of};
+ghost use Rattle.office_tables_statements.specs.Calls.{IsHonest, IsReady, StandsOn};
+ghost use Rattle.office_tables_statements.specs.Stored.{content_now};
+ghost use Rattle.office_tables_statements.specs.Tables.{drop_in, values_of};
 
-use crate::body::write_body;
-use crate::listed::{body_at, check_key, read_key};
-use crate::statement::{SqlFault, write};
 use crate::stored_row::{StoredRow, TimingKeyed};
 use office_tables_shelf::rows::Table;
 use office_tables_shelf::shelf::ShelfFault;
-use signal_records::{Change, InterId, Key, NoMemory, change_is_within};
+use office_tables_statements::body::write_body;
+use office_tables_statements::listed::{body_at, check_key, read_key};
+use office_tables_statements::statement::{SqlFault, write};
+use signal_records::{Change, InterId, Key, NoMemory};
 use sqlite::types::{ToSql, ValueRef};
 use sqlite::{Alter, Row as SqlRow, Transaction, params};
 use std::alloc::Global;
@@ -115,10 +115,6 @@ impl StoredRow for Change {
 
     fn insert_text() -> &'static str {
         INSERT
-    }
-
-    fn is_within(&self) {
-        change_is_within(self);
     }
 
     /// Without a body it removes what is under its key.

@@ -6,15 +6,15 @@ ghost use Rattle.sqlite.specs.State.{HasCleanDisk, Survives};
 ghost use Rattle.sqlite.specs.Held.{state};
 ghost use Rattle.sqlite.specs.Values.{bound};
 ghost use Rattle.sqlite.specs.declared.types.Value.TheVariants.{Int};
-ghost use Rattle.office_tables_sql.specs.Stored.{content_now};
-ghost use Rattle.office_tables_sql.specs.Calls.{IsHonest, IsOffice, IsQuery, Keeps};
-ghost use Rattle.office_tables_sql.specs.Calls.{TellsOpen};
-ghost use Rattle.office_tables_sql.specs.Tables.{params_of, ListsRows, HasDamagedRow};
+ghost use Rattle.office_tables_statements.specs.Stored.{content_now};
+ghost use Rattle.office_tables_statements.specs.Calls.{IsHonest, IsOffice, IsQuery, Keeps};
+ghost use Rattle.office_tables_statements.specs.Calls.{TellsOpen};
+ghost use Rattle.office_tables_statements.specs.Tables.{params_of, ListsRows, HasDamagedRow};
 ghost use Rattle.office_tables_sql.specs.Gathers.{Gathers};
 
-use crate::statement::SqlFault;
 use crate::stored_row::StoredRow;
 use office_tables_shelf::shelf::ShelfFault;
+use office_tables_statements::statement::SqlFault;
 use signal_records::{InterId, NoMemory};
 use sqlite::types::ValueRef;
 use sqlite::{Alter, Connection, Error, Statement, params};
@@ -158,7 +158,6 @@ fn gather_each<T: StoredRow, G: Gather<T>, S: Alter>(
             return Ok(found);
         };
         let record = T::read(alloc, of, row)?;
-        record.is_within();
         found.take(record)?;
     }
     Err(ShelfFault::Store)

@@ -7,16 +7,16 @@ ghost use Rattle.cabinet_core.specs.Overdue.{latest_day};
 ghost use Rattle.office_tables_shelf.specs.CabinetReads.{HasDamagedInspection};
 ghost use Rattle.office_tables_shelf.specs.CabinetRows.{inspection_key, inspection_columns};
 ghost use Rattle.office_tables_shelf.specs.Overdue.{ReadsLast};
-ghost use Rattle.office_tables_sql.specs.Stored.{content_now};
-ghost use Rattle.office_tables_sql.specs.Calls.{IsHonest, IsOffice, Keeps};
-ghost use Rattle.office_tables_sql.specs.Calls.{TellsOpen};
+ghost use Rattle.office_tables_statements.specs.Stored.{content_now};
+ghost use Rattle.office_tables_statements.specs.Calls.{IsHonest, IsOffice, Keeps};
+ghost use Rattle.office_tables_statements.specs.Calls.{TellsOpen};
 
 use crate::each_row::{Gather, gathered};
-use crate::listed::check_number;
 use crate::stored_row::StoredRow;
-use crate::value::{day_at, ranged_at, words_at};
-use cabinet_core::{Day, Inspection, inspection_is_within, later};
+use cabinet_core::{Day, Inspection, later};
 use office_tables_shelf::shelf::ShelfFault;
+use office_tables_statements::listed::check_number;
+use office_tables_statements::value::{day_at, ranged_at, words_at};
 use signal_records::{InterId, NoMemory};
 use sqlite::types::{ToSql, ValueRef};
 use sqlite::{Alter, Connection, Row, params};
@@ -84,10 +84,6 @@ impl StoredRow for Inspection {
 
     fn insert_text() -> &'static str {
         INSERT
-    }
-
-    fn is_within(&self) {
-        inspection_is_within(self);
     }
 
     fn read(alloc: Global, id: InterId, row: &Row) -> Result<Inspection, ShelfFault> {

@@ -17,18 +17,19 @@ ghost use Rattle.office_tables_shelf.specs.Shelf.{ReadsIntersection};
 ghost use Rattle.office_tables_shelf.specs.Damage.{HasDamagedIntersection};
 ghost use Rattle.office_tables_shelf.specs.declared.rows.IntersectionRow.{IntersectionRow};
 ghost use Rattle.office_tables_shelf.specs.declared.rows.Table.TheVariants as table;
-ghost use Rattle.office_tables_sql.specs.Stored.{cell_of, content_now};
-ghost use Rattle.office_tables_sql.specs.Calls.{IsHonest, IsOffice, IsReady, Keeps, StandsOn};
-ghost use Rattle.office_tables_sql.specs.Calls.{TellsOpen};
-ghost use Rattle.office_tables_sql.specs.Tables.{value_of};
+ghost use Rattle.office_tables_statements.specs.Stored.{cell_of, content_now};
+ghost use Rattle.office_tables_statements.specs.Calls.{IsHonest, IsOffice, IsReady, Keeps, StandsOn};
+ghost use Rattle.office_tables_statements.specs.Calls.{TellsOpen};
+ghost use Rattle.office_tables_statements.specs.Tables.{value_of};
 
-use crate::statement::SqlFault;
 use crate::stored_row::{self, StoredRow};
-use crate::value::{number_at, ranged_at, revision_at, words_at, words_or_null_at};
 use draft_state::state::{Holder, Stage};
-use office_tables_shelf::bounds::intersection_is_within;
 use office_tables_shelf::rows::IntersectionRow;
 use office_tables_shelf::shelf::ShelfFault;
+use office_tables_statements::statement::SqlFault;
+use office_tables_statements::value::{
+    number_at, ranged_at, revision_at, words_at, words_or_null_at,
+};
 use signal_records::{InterId, NoMemory, Words};
 use sqlite::types::{ToSql, ValueRef};
 use sqlite::{Alter, Connection, Row, Transaction, params};
@@ -97,10 +98,6 @@ impl StoredRow for (InterId, IntersectionRow) {
         INSERT
     }
 
-    fn is_within(&self) {
-        intersection_is_within(self.0, &self.1);
-    }
-
     fn read(alloc: Global, _of: (), row: &Row) -> Result<(InterId, IntersectionRow), ShelfFault> {
         let id = ranged_at(row, 0)?;
         let name = words_at(alloc, row, 1)?;
@@ -159,10 +156,12 @@ pub fn read<S: Alter>(
     }
 }
 
-/// The state, and the owner in the next column: one stands beside each state but Normal, and beside that none.
+/// The state, and the owner in the next column: one stands beside each state but Normal, and beside
+/// that none.
 fn holder_at(alloc: Global, row: &Row) -> Result<Option<Holder>, ShelfFault>
     ensures state { IfOk result (λ holder. cell_of (column row.now 4) ≡ number (pos (state_number holder))) }
     ensures owner { IfOk result (λ holder. cell_of (column row.now 5) ≡ owner_cell holder) }
+    ensures within { IfOk result (λ holder. IfSome holder (λ h. AreWords 40 h.owner)) }
     ensures damaged { result ≡ Err ShelfFault.Damaged → length row.now ≡ 6 → (holder : Option Holder) → IfSome holder (λ h. AreWords 40 h.owner)
         → cell_of (column row.now 4) ≡ number (pos (state_number holder)) → cell_of (column row.now 5) ≢ owner_cell holder }
 {

@@ -7,14 +7,14 @@ ghost use Rattle.sqlite_value.specs.Value.{owned};
 ghost use Rattle.cabinet_core.specs.Within.{IsClosingWithin};
 ghost use Rattle.cabinet_core.specs.declared.record.Closing.{Closing};
 ghost use Rattle.office_tables_shelf.specs.CabinetRows.{order_key, order_columns, closed_cell, closer_cell};
-ghost use Rattle.office_tables_sql.specs.Stored.{cell_of};
-ghost use Rattle.office_tables_sql.specs.Tables.{value_of};
+ghost use Rattle.office_tables_statements.specs.Stored.{cell_of};
+ghost use Rattle.office_tables_statements.specs.Tables.{value_of};
 
-use crate::listed::check_number;
 use crate::stored_row::StoredRow;
-use crate::value::{check_null, day_at, ranged_at, words_at, words_or_null_at};
-use cabinet_core::{Closing, Order, order_is_within};
+use cabinet_core::{Closing, Order};
 use office_tables_shelf::shelf::ShelfFault;
+use office_tables_statements::listed::check_number;
+use office_tables_statements::value::{check_null, day_at, ranged_at, words_at, words_or_null_at};
 use signal_records::{InterId, NoMemory, Words};
 use sqlite::Row;
 use sqlite::types::{ToSql, ValueRef};
@@ -84,10 +84,6 @@ impl StoredRow for Order {
         INSERT
     }
 
-    fn is_within(&self) {
-        order_is_within(self);
-    }
-
     fn read(alloc: Global, id: InterId, row: &Row) -> Result<Order, ShelfFault> {
         check_number(row, 0, id.get())?;
         let number = ranged_at(row, 1)?;
@@ -125,6 +121,7 @@ impl StoredRow for Order {
 fn closing_at(alloc: Global, row: &Row) -> Result<Option<Closing>, ShelfFault>
     ensures day { IfOk result (λ closing. cell_of (column row.now 5) ≡ closed_cell closing) }
     ensures closer { IfOk result (λ closing. cell_of (column row.now 6) ≡ closer_cell closing) }
+    ensures within { IfOk result (λ closing. IfSome closing IsClosingWithin) }
     ensures damaged { result ≡ Err ShelfFault.Damaged → length row.now ≡ 7 → (closing : Option Closing) → IfSome closing IsClosingWithin
         → cell_of (column row.now 5) ≡ closed_cell closing → cell_of (column row.now 6) ≢ closer_cell closing }
 {

@@ -6,16 +6,15 @@ ghost use Rattle.sqlite.specs.State.{HasCleanDisk, Survives};
 ghost use Rattle.sqlite.specs.Held.{state};
 ghost use Rattle.office_tables_shelf.specs.CabinetReads.{ReadsHand, HasDamagedHand};
 ghost use Rattle.office_tables_shelf.specs.CabinetRows.{part_key, part_columns};
-ghost use Rattle.office_tables_sql.specs.Stored.{content_now};
-ghost use Rattle.office_tables_sql.specs.Calls.{IsHonest, IsOffice, IsReady, Keeps, StandsOn};
-ghost use Rattle.office_tables_sql.specs.Calls.{TellsOpen};
+ghost use Rattle.office_tables_statements.specs.Stored.{content_now};
+ghost use Rattle.office_tables_statements.specs.Calls.{IsHonest, IsOffice, IsReady, Keeps, StandsOn};
+ghost use Rattle.office_tables_statements.specs.Calls.{TellsOpen};
 
-use crate::statement::SqlFault;
 use crate::stored_row::{self, StoredRow};
-use crate::value::{code_at, ranged_at};
 use cabinet_core::{Hand, PartCode};
-use office_tables_shelf::bounds::part_is_within;
 use office_tables_shelf::shelf::ShelfFault;
+use office_tables_statements::statement::SqlFault;
+use office_tables_statements::value::{code_at, ranged_at};
 use signal_records::NoMemory;
 use sqlite::types::{ToSql, ValueRef};
 use sqlite::{Alter, Connection, Row, Transaction, params};
@@ -80,10 +79,6 @@ impl StoredRow for (PartCode, Hand) {
 
     fn insert_text() -> &'static str {
         INSERT
-    }
-
-    fn is_within(&self) {
-        part_is_within(&self.0, self.1);
     }
 
     fn read(alloc: Global, _of: (), row: &Row) -> Result<(PartCode, Hand), ShelfFault> {

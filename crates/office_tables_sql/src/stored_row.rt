@@ -8,13 +8,13 @@ ghost use Rattle.signal_records.specs.declared.key.Key.{Key};
 ghost use Rattle.office_tables_shelf.specs.Cells.{Cell};
 ghost use Rattle.office_tables_shelf.specs.Rows.{timing_key};
 ghost use Rattle.office_tables_shelf.specs.declared.rows.Table.{Table};
-ghost use Rattle.office_tables_sql.specs.Stored.{content_now};
-ghost use Rattle.office_tables_sql.specs.Calls.{IsHonest, IsOffice, IsReady, Keeps, StandsOn};
-ghost use Rattle.office_tables_sql.specs.Calls.{StaysOpen, TellsOpen};
-ghost use Rattle.office_tables_sql.specs.Tables.{put_in, remove_in, key_values, key_shown, columns_shown, width_of, key_given, IsKeyOf, IsUnder, ReadsRow, HasDamagedUnder, IsNoRow, IsListText, IsFindText, IsUpdateText, IsInsertText, IsRemoveText, Fits, values_of};
+ghost use Rattle.office_tables_statements.specs.Stored.{content_now};
+ghost use Rattle.office_tables_statements.specs.Calls.{IsHonest, IsOffice, IsReady, Keeps, StandsOn};
+ghost use Rattle.office_tables_statements.specs.Calls.{StaysOpen, TellsOpen};
+ghost use Rattle.office_tables_statements.specs.Tables.{put_in, remove_in, key_values, key_shown, columns_shown, width_of, key_given, IsKeyOf, IsUnder, ReadsRow, HasDamagedUnder, IsNoRow, IsListText, IsFindText, IsUpdateText, IsInsertText, IsRemoveText, Fits, values_of};
 
-use crate::statement::{SqlFault, select_one, write};
 use office_tables_shelf::shelf::ShelfFault;
+use office_tables_statements::statement::{SqlFault, select_one, write};
 use signal_records::{InterId, Key, NoMemory};
 use sqlite::types::ValueRef;
 use sqlite::{Alter, Connection, Row, Transaction, params};
@@ -55,14 +55,11 @@ pub trait StoredRow: Sized + Drop {
     fn insert_text() -> &'static str
         ensures { result.now ≡ insert_text };
 
-    /// Every one is within its limits, as its type says.
-    fn is_within(&self)
-        ensures { is_within self.now };
-
     /// What a row of the list stands for.
     fn read(alloc: Global, of: Self::Of, row: &Row) -> Result<Self, ShelfFault>
         ensures key { IfOk result (λ x. key (number of) x ≡ key_shown table row.now) }
         ensures columns { IfOk result (λ x. columns x ≡ columns_shown table row.now) }
+        ensures within { IfOk result is_within }
         ensures damaged { result ≡ Err ShelfFault.Damaged → length row.now ≡ width_of table → IsNoRow is_within key columns (number of) (key_shown table row.now) (columns_shown table row.now) };
 
     /// The parameters of the statements that put it; `text` is room for a text that is made for it.

@@ -4,17 +4,17 @@ ghost use Rattle.std.specs.Prelude.{◌≡◌, length, IfOk};
 ghost use Rattle.sqlite.specs.State.{Survives};
 ghost use Rattle.sqlite.specs.Held.{state};
 ghost use Rattle.office_tables_shelf.specs.Shelf.{rows_of};
-ghost use Rattle.office_tables_sql.specs.Stored.{content_now};
-ghost use Rattle.office_tables_sql.specs.Calls.{IsHonest, IsOffice, Keeps};
-ghost use Rattle.office_tables_sql.specs.Calls.{StaysOpen};
+ghost use Rattle.office_tables_statements.specs.Stored.{content_now};
+ghost use Rattle.office_tables_statements.specs.Calls.{IsHonest, IsOffice, Keeps};
+ghost use Rattle.office_tables_statements.specs.Calls.{StaysOpen};
 
-use crate::body::write_body;
-use crate::listed::{body_at, check_key};
-use crate::statement::{SqlFault, select_one};
 use crate::stored_row::{StoredRow, TimingKeyed};
-use crate::value::number_at;
 use office_tables_shelf::shelf::ShelfFault;
-use signal_records::{InterId, NoMemory, Row, row_is_within};
+use office_tables_statements::body::write_body;
+use office_tables_statements::listed::{body_at, check_key};
+use office_tables_statements::statement::{SqlFault, select_one};
+use office_tables_statements::value::number_at;
+use signal_records::{InterId, NoMemory, Row};
 use sqlite::types::{ToSql, ValueRef};
 use sqlite::{Alter, Connection, Row as SqlRow, params};
 use std::alloc::Global;
@@ -103,10 +103,6 @@ impl StoredRow for Row {
 
     fn insert_text() -> &'static str {
         INSERT
-    }
-
-    fn is_within(&self) {
-        row_is_within(self);
     }
 
     /// Its body is a row, and the columns before it are that row's key.

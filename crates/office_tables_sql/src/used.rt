@@ -2,11 +2,11 @@
 
 ghost use Rattle.office_tables_shelf.specs.CabinetRows.{used_key, used_columns};
 
-use crate::listed::check_number;
 use crate::stored_row::StoredRow;
-use crate::value::{code_at, ranged_at};
-use cabinet_core::{UsedLine, used_line_is_within};
+use cabinet_core::UsedLine;
 use office_tables_shelf::shelf::ShelfFault;
+use office_tables_statements::listed::check_number;
+use office_tables_statements::value::{code_at, ranged_at};
 use signal_records::{InterId, NoMemory};
 use sqlite::Row;
 use sqlite::types::{ToSql, ValueRef};
@@ -74,10 +74,6 @@ impl StoredRow for UsedLine {
 
     fn insert_text() -> &'static str {
         INSERT
-    }
-
-    fn is_within(&self) {
-        used_line_is_within(self);
     }
 
     fn read(alloc: Global, id: InterId, row: &Row) -> Result<UsedLine, ShelfFault> {

@@ -28,8 +28,8 @@ const LINE: &str = "use,12,4,1,RELAY,2";
 
 const DELIVERY: &str = "delivery,RELAY,1,2026-05-01,1";
 
-/// What is on hand of the part, the records that stand, one that is asked for, and the rows that are
-/// put, or why none is.
+/// What is on hand of the part, the records that stand, one that is asked for, and the rows that
+/// are put, or why none is.
 const CASES: [(u32, &str, &str, &str); 22] = [
     (0, "", INSPECTION, "inspection;"),
     (0, INSPECTION, INSPECTION, "same"),

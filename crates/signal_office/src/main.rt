@@ -10,8 +10,8 @@ use std::env;
 use std::io::ErrorKind;
 use std::process::ExitCode;
 
-/// Hands the words, the input and both outputs over. Words that are not UTF-8 are refused; where memory
-/// for them is refused, that is a fault.
+/// Hands the words, the input and both outputs over. Words that are not UTF-8 are refused; where
+/// memory for them is refused, that is a fault.
 fn run(rt: &HostRuntime) -> Result<u8, Fault> {
     let alloc = rt.alloc();
     let words = match env::args(rt) {

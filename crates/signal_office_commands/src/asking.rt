@@ -14,8 +14,8 @@ use office_machine::reply::Reply;
 use office_tables_shelf::shelf::Shelf;
 use std::alloc::Global;
 
-/// What the office answers, which stays as it is. It takes the query, so that those who ask have none
-/// to drop.
+/// What the office answers, which stays as it is. It takes the query, so that those who ask have
+/// none to drop.
 pub fn ask<S: Shelf>(alloc: Global, office: &mut Office<S>, query: Command) -> Reply
     requires { IsQuery query }
     ensures kept { KeepsShelf S.Shelf office.old office.new }

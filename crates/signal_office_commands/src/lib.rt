@@ -1,5 +1,5 @@
-//! The commands of the program, over any office: what is asked and printed of it, what is brought in
-//! and exported, plans that are edited, compared and drawn, and pages.
+//! The commands of the program, over any office: what is asked and printed of it, what is brought
+//! in and exported, plans that are edited, compared and drawn, and pages.
 #![tactic(auto)]
 
 mod abandoning;

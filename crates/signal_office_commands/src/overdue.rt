@@ -16,8 +16,8 @@ use office_tables_shelf::shelf::Shelf;
 use signal_office_faults::Fault;
 use std::alloc::Global;
 
-/// The report of the intersections that are overdue on a day, those with the lowest numbers, at most
-/// so many. The office is as it was.
+/// The report of the intersections that are overdue on a day, those with the lowest numbers, at
+/// most so many. The office is as it was.
 pub fn overdue_of<S: Shelf>(
     alloc: Global,
     office: &mut Office<S>,

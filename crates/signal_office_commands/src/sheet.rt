@@ -42,7 +42,8 @@ fn timing_in<S: Shelf>(
     }
 }
 
-/// The timing sheet of an intersection: its name, and its committed timing set. The office is as it was.
+/// The timing sheet of an intersection: its name, and its committed timing set. The office is as it
+/// was.
 pub fn sheet_of<S: Shelf>(
     alloc: Global,
     office: &mut Office<S>,
@@ -53,7 +54,8 @@ pub fn sheet_of<S: Shelf>(
     // The sheet is that of the set that the office runs, whatever is being drafted.
     ensures sheet { IfOk result (λ text. S.is_honest office.new → (before : OfficeState) → StandForSound (S.content office.old) before →
         IsSheetOf before id text.items) }
-    // Where it fails, the intersection is unknown, memory or the database refused, or a row of it is no record.
+    // Where it fails, the intersection is unknown, memory or the database refused, or a row of it
+    // is no record.
     ensures refused { IfErr result IsFaultOfQuery }
     ensures damaged { result ≡ Err Fault.Damaged → S.is_honest office.new →
         MeetsDamage (S.content office.old) (command.Timing id) }

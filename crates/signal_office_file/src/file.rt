@@ -108,8 +108,8 @@ pub fn opened_file<S: Start>(
 }
 
 /// Serves the requests that the reader gives by the office over the tables of a file, and gives the
-/// office back. The headline holds of it where the tables in the files stood for a sound office, and
-/// the disk has returned what was written. Where it answers a fault of its own, the file was
+/// office back. The headline holds of it where the tables in the files stood for a sound office,
+/// and the disk has returned what was written. Where it answers a fault of its own, the file was
 /// refused, and nothing was read or written. No clause ties the files to the path.
 pub fn serve_file<S: Start, R: Source, W: Sink>(
     rt: &HostRuntime,

@@ -1,5 +1,5 @@
-//! How the office of a file is opened, used and closed again: what the program's jobs ask for, and what
-//! the tables of a file give. Neither side knows the other.
+//! How the office of a file is opened, used and closed again: what the program's jobs ask for, and
+//! what the tables of a file give. Neither side knows the other.
 #![tactic(auto)]
 
 use office_desk::office::Office;

@@ -116,9 +116,9 @@ impl Judge for Tally {
     }
 }
 
-/// The judge's answers on the subjects of the draft that a key reaches, in their order. They are the
-/// violations of the draft, where the base has none, the sets differ at most at the keys, and the
-/// judge answers these subjects as a tally does.
+/// The judge's answers on the subjects of the draft that a key reaches, in their order. They are
+/// the violations of the draft, where the base has none, the sets differ at most at the keys, and
+/// the judge answers these subjects as a tally does.
 ///
 /// A refusal may leave the counts raised, within the same bounds.
 pub fn violations_touched<J: Judge>(

@@ -30,8 +30,8 @@ pub fn violations(alloc: Global, set: &TimingSet) -> Result<Vec<Violation>, NoMe
     Ok(found)
 }
 
-/// Adds the subject's part of the violations, which is empty where the set does not have the subject.
-/// Each second that is compared is a tick.
+/// Adds the subject's part of the violations, which is empty where the set does not have the
+/// subject. Each second that is compared is a tick.
 pub(crate) fn judge(
     alloc: Global,
     set: &TimingSet,

@@ -12,9 +12,9 @@ use std::alloc::Global;
 
 /// Of the subjects that the draft has, those that a key reaches, in their order and each once.
 ///
-/// A key reaches its own subject, which for a sequence row is the sequence. A phase also reaches the
-/// phases that list it, every sequence, its split rows and every pattern; a sequence row reaches the
-/// patterns with that sequence, and a split row those with that split number.
+/// A key reaches its own subject, which for a sequence row is the sequence. A phase also reaches
+/// the phases that list it, every sequence, its split rows and every pattern; a sequence row
+/// reaches the patterns with that sequence, and a split row those with that split number.
 #[tactic(auto, unfolding(crate::specs::Touched::touched_subjects))]
 pub fn touched(alloc: Global, draft: &TimingSet, keys: &[Key]) -> Result<Vec<Subject>, NoMemory>
     ensures { IfOk result (λ found. found.items ≡ touched_subjects draft.now keys.now) }

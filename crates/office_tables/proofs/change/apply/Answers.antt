@@ -2,8 +2,8 @@ use Rattle.std.specs.Prelude.{◌==◌}
 use Rattle.std.proofs.Common.{◌≡◌, ◌≢◌, [], length, true, true≢false, refl, sym, ap, subst, ◌∙◌, rules}
 use Rattle.sqlite.specs.{Tree.Trees, Held.state, State.HasCleanDisk, State.Survives}
 use Rattle.office_tables_shelf.specs.Change.{changed_by}
-use Rattle.office_tables_sql.specs.{Calls.IsHonest, Calls.IsOffice, Calls.IsReady, Stored.content_now, Stored.content_of}
-use Rattle.office_tables_sql.proofs.CallLemmas.{ended_survives, undone_office, begun_stands, failed_commit}
+use Rattle.office_tables_statements.specs.{Calls.IsHonest, Calls.IsOffice, Calls.IsReady, Stored.content_now, Stored.content_of}
+use Rattle.office_tables_statements.proofs.CallLemmas.{ended_survives, undone_office, begun_stands, failed_commit}
 use Rattle.office_tables.proofs.change.apply.Goals as goal
 
 pub returns-in_err-commit-clause-office : goal.returns-in_err-commit-clause-office

@@ -1,9 +1,9 @@
 use Rattle.std.proofs.Common.{arith, ◌+◌, drop, inl, inr, sym, ap, ◌∙◌}
 use Rattle.std.proofs.lemmas.List.{drop_more, nil_from_length}
 use Rattle.office_tables_shelf.specs.Change.{changed, changed_by}
-use Rattle.office_tables_sql.specs.Stored.{content_now}
+use Rattle.office_tables_statements.specs.Stored.{content_now}
 use Rattle.sqlite.specs.Held.{state}
-use Rattle.office_tables_sql.proofs.CallLemmas.{stands_then, survives_on}
+use Rattle.office_tables_statements.proofs.CallLemmas.{stands_then, survives_on}
 use Rattle.office_tables.proofs.change.change_rows.Goals as goal
 
 pub loop-change-preserved : goal.loop-change-preserved

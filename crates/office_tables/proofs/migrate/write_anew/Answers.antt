@@ -1,8 +1,8 @@
 use Rattle.std.proofs.Common.{◌≡◌, true, refl, subst, rules}
 use Rattle.sqlite.specs.{Tree.Trees, Held.state, State.HasCleanDisk, State.Survives}
 use Rattle.office_tables_shelf.specs.Change.{changed_by}
-use Rattle.office_tables_sql.specs.{Calls.IsHonest, Calls.IsOffice, Calls.IsReady, Stored.content_now}
-use Rattle.office_tables_sql.proofs.CallLemmas.{ended_survives, undone_office, begun_stands, failed_commit}
+use Rattle.office_tables_statements.specs.{Calls.IsHonest, Calls.IsOffice, Calls.IsReady, Stored.content_now}
+use Rattle.office_tables_statements.proofs.CallLemmas.{ended_survives, undone_office, begun_stands, failed_commit}
 use Rattle.office_tables.specs.Migrate.{HoldsToday}
 use Rattle.office_tables.proofs.migrate.write_anew.Goals as goal
 

@@ -2,7 +2,7 @@ use Rattle.std.proofs.Common.{rules, inr, arith}
 use Rattle.sqlite.specs.Order.{column}
 use Rattle.signal_records.specs.Within.{version_1_limits}
 use Rattle.signal_records.proofs.RowLaws.{are_version_1}
-use Rattle.office_tables_sql.proofs.BodyReading.{body_readable}
+use Rattle.office_tables_statements.proofs.BodyReading.{body_readable}
 use Rattle.office_tables_migration.proofs.kept.body_at.Goals as goal
 
 pub returns-in_err-body-clause-damaged : goal.returns-in_err-body-clause-damaged

@@ -1,7 +1,7 @@
 use Rattle.std.proofs.Common.{◌≡◌, true, refl, sym, subst, rules}
 use Rattle.sqlite.specs.{Held.state, State.HasCleanDisk, State.Survives, Tree.Trees}
-use Rattle.office_tables_sql.proofs.CallLemmas.{ended_survives}
-use Rattle.office_tables_sql.specs.Calls.{IsHonest, IsOffice}
+use Rattle.office_tables_statements.proofs.CallLemmas.{ended_survives}
+use Rattle.office_tables_statements.specs.Calls.{IsHonest, IsOffice}
 use Rattle.office_tables_open.specs.Lacking.{Completes, IsGrown}
 use Rattle.office_tables_open.proofs.{MadeLemmas.committed_office, MadeLemmas.committed_rows, missing.make_missing.Given.Over}
 use Rattle.office_tables_open.proofs.missing.make_missing.Goals.{After-commit}

@@ -1,7 +1,7 @@
 use Rattle.std.proofs.Common.{◌≡◌, refl, sym, ap, subst, rules, arith}
 use Rattle.sqlite.specs.{Effect.Database, Held.state, State.HasCleanDisk, State.Survives}
-use Rattle.office_tables_sql.proofs.CallLemmas.{ended_survives}
-use Rattle.office_tables_sql.specs.Calls.{IsHonest}
+use Rattle.office_tables_statements.proofs.CallLemmas.{ended_survives}
+use Rattle.office_tables_statements.specs.Calls.{IsHonest}
 use Rattle.office_tables_open.specs.Opening.{WereDropped}
 use Rattle.office_tables_open.proofs.{open.drop_tables.Given.Over, open.drop_tables.Goals.After-commit}
 use Rattle.office_tables_open.proofs.open.drop_tables.Goals as goal

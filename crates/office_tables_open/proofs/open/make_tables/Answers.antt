@@ -1,7 +1,7 @@
 use Rattle.std.proofs.Common.{◌≡◌, refl, sym, subst, rules}
 use Rattle.sqlite.specs.{Held.state, State.HasCleanDisk, State.Survives, Tree.Trees}
-use Rattle.office_tables_sql.proofs.CallLemmas.{ended_survives}
-use Rattle.office_tables_sql.specs.Calls.{IsHonest, IsOffice}
+use Rattle.office_tables_statements.proofs.CallLemmas.{ended_survives}
+use Rattle.office_tables_statements.specs.Calls.{IsHonest, IsOffice}
 use Rattle.office_tables_open.specs.Opening.{IsNew, IsNewOffice}
 use Rattle.office_tables_open.proofs.{MadeLemmas.committed_office, MadeLemmas.committed_rows, open.make_tables.Given.Over}
 use Rattle.office_tables_open.proofs.open.make_tables.Goals.{After-commit}

@@ -1,7 +1,7 @@
 use Rattle.std.proofs.Common.{◌≡◌, true, inl, inr, map, refl, sym, subst, ◌∙◌, arith}
 use Rattle.std.proofs.{lemmas.Bool.cases_Bool, lemmas.List.drop_more, lemmas.List.drop_all}
 use Rattle.sqlite.specs.Held.{state}
-use Rattle.office_tables_sql.proofs.CallLemmas.{ran_stands, stands_then, survives_on}
+use Rattle.office_tables_statements.proofs.CallLemmas.{ran_stands, stands_then, survives_on}
 use Rattle.office_tables_open.specs.Opening.{AreRun}
 use Rattle.office_tables_open.proofs.open.run_all.Goals as goal
 

@@ -1,6 +1,6 @@
 use Rattle.std.proofs.Common.{◌≡◌, true, drop, map}
 use Rattle.sqlite.specs.{Held.state, State.HasCleanDisk}
-use Rattle.office_tables_sql.specs.Calls.{StandsOn}
+use Rattle.office_tables_statements.specs.Calls.{StandsOn}
 use Rattle.office_tables_open.specs.{Opening.AreRun, Promises.LeavesNoMore}
 use Rattle.office_tables_open.proofs.open.run_all.Given as goal
 

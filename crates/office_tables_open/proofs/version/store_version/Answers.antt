@@ -1,7 +1,7 @@
 use Rattle.std.proofs.Common.{◌≡◌, true, Some, refl, subst, rules}
 use Rattle.sqlite.specs.{Tree.Trees, Held.state, State.HasCleanDisk, State.Survives}
-use Rattle.office_tables_sql.specs.{Calls.IsHonest, Calls.IsOffice, Calls.IsReady, Stored.content_now, Stored.content_of}
-use Rattle.office_tables_sql.proofs.CallLemmas.{ended_survives, undone_office, begun_stands, failed_commit}
+use Rattle.office_tables_statements.specs.{Calls.IsHonest, Calls.IsOffice, Calls.IsReady, Stored.content_now, Stored.content_of}
+use Rattle.office_tables_statements.proofs.CallLemmas.{ended_survives, undone_office, begun_stands, failed_commit}
 use Rattle.office_tables_open.specs.Version.{version_in, current_version}
 use Rattle.office_tables_open.proofs.version.store_version.Goals as goal
 

@@ -1,7 +1,7 @@
 use Rattle.std.proofs.{Common.pos, Common.[], Common.◌∷◌, lemmas.Result.IfOk-weaker}
 use Rattle.std.specs.Option.{option_to_list}
 use Rattle.sqlite.specs.{declared.types.Value.TheVariants.Int, Held.state}
-use Rattle.office_tables_sql.specs.Calls.{Reads}
+use Rattle.office_tables_statements.specs.Calls.{Reads}
 use Rattle.office_tables_open.specs.declared.version.TheConstants.{FIND}
 use Rattle.office_tables_open.proofs.VersionLemmas.{find_version_is, find_version, version_width}
 use Rattle.office_tables_open.proofs.version.stored_version.Goals as goal

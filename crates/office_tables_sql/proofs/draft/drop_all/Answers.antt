@@ -1,7 +1,7 @@
 use Rattle.office_tables_shelf.specs.declared.rows.Table.TheVariants.{Draft}
 use Rattle.office_tables_sql.specs.declared.draft.TheConstants.{DROP}
 use Rattle.office_tables_sql.specs.DraftTexts as texts
-use Rattle.office_tables_sql.proofs.StoredPuts.{drops}
+use Rattle.office_tables_statements.proofs.StoredPuts.{drops}
 use Rattle.office_tables_sql.proofs.draft.drop_all.Goals as goal
 
 pub write-requires : goal.write-requires

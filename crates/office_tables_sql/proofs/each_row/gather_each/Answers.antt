@@ -4,11 +4,13 @@ use Rattle.sqlite.specs.{Given.GivesOn, Given.row_if, Order.Row, State.HasCleanD
 use Rattle.sqlite.proofs.Callers.{given_begin, begun_plain, unchanged_then}
 use Rattle.office_tables_shelf.proofs.ListLemmas.{all_more}
 use Rattle.office_tables_shelf.specs.declared.shelf.ShelfFault.TheVariants.{Damaged}
-use Rattle.office_tables_sql.specs.{Calls.IsHonest, Calls.Keeps, Calls.Reads, Stored.content_now, Tables.params_of, Tables.row_shown}
-use Rattle.office_tables_sql.specs.{Tables.stored_for, Tables.HasDamagedRow, Gathers.Gathers}
-use Rattle.office_tables_sql.proofs.StoredLists.{lists, width, damaged_at}
-use Rattle.office_tables_sql.proofs.{CallLemmas.survives_on, each_row.gather_each.Given.Over}
-use Rattle.office_tables_sql.proofs.CallLemmas.{plain_at, refused_keeps, began_survives, broken_keeps, all_read, some_read, has_mid, one_more, next_honest, next_keeps}
+use Rattle.office_tables_statements.specs.{Calls.IsHonest, Calls.Keeps, Calls.Reads, Stored.content_now, Tables.params_of, Tables.row_shown}
+use Rattle.office_tables_sql.specs.Gathers.{Gathers}
+use Rattle.office_tables_statements.specs.{Tables.stored_for, Tables.HasDamagedRow}
+use Rattle.office_tables_statements.proofs.StoredLists.{lists, width, damaged_at}
+use Rattle.office_tables_sql.proofs.each_row.gather_each.Given.{Over}
+use Rattle.office_tables_statements.proofs.CallLemmas.{survives_on}
+use Rattle.office_tables_statements.proofs.CallLemmas.{plain_at, refused_keeps, began_survives, broken_keeps, all_read, some_read, has_mid, one_more, next_honest, next_keeps}
 use Rattle.office_tables_sql.proofs.each_row.gather_each.Goals.{In_default}
 use Rattle.office_tables_sql.proofs.each_row.gather_each.Goals as goal
 
@@ -161,7 +163,7 @@ rows-preserved g c =
             (
               now.3.0 ++ read ∷ [],
               c.in_ok-take.ensures now.3.0 now.3.1,
-              all_more g.T.StoredRow.is_within now.3.0 read now.3.2 c.is_within.ensures,
+              all_more g.T.StoredRow.is_within now.3.0 read now.3.2 c.in_ok-record.ensures.within,
               one_more (stored_for g.T.StoredRow.key g.T.StoredRow.columns
                   (g.T.StoredRow.number c.args.of)) (row_shown g.T.StoredRow.table) now.3.0 now.1
                   read c.in-Some.row.now now.3.3 (λ i. (key i, columns i)),

@@ -1,7 +1,7 @@
 use Rattle.std.proofs.Common.{◌≡◌, false, List}
 use Rattle.sqlite.specs.{Order.Row, State.HasCleanDisk, State.IsUnchanged, State.Survives, Held.state, Given.HasGiven}
-use Rattle.office_tables_sql.specs.Tables.{params_of}
-use Rattle.office_tables_sql.proofs.CallLemmas.{HasGathered}
+use Rattle.office_tables_statements.specs.Tables.{params_of}
+use Rattle.office_tables_statements.proofs.CallLemmas.{HasGathered}
 use Rattle.office_tables_sql.proofs.each_row.gather_each.Given as goal
 
 abbrev pub invariant-rows : goal.invariant-rows

@@ -1,5 +1,5 @@
 use Rattle.sqlite.specs.Held.{state}
-use Rattle.office_tables_sql.proofs.CallLemmas.{unprepared_keeps, prepared_keeps}
+use Rattle.office_tables_statements.proofs.CallLemmas.{unprepared_keeps, prepared_keeps}
 use Rattle.office_tables_sql.proofs.each_row.prepared.Goals as goal
 
 pub returns-in_err-statement-clause-kept : goal.returns-in_err-statement-clause-kept

@@ -3,7 +3,7 @@ use Rattle.sqlite.specs.Order.{column}
 use Rattle.signal_records.specs.Words.{AreWords}
 use Rattle.draft_state.specs.declared.state.Holder.{Holder}
 use Rattle.office_tables_shelf.specs.Rows.{owner_cell}
-use Rattle.office_tables_sql.specs.Stored.{cell_of}
+use Rattle.office_tables_statements.specs.Stored.{cell_of}
 use Rattle.office_tables_sql.proofs.intersection.holder_at.Goals as goal
 
 pub returns-in_err-owner-clause-damaged : goal.returns-in_err-owner-clause-damaged

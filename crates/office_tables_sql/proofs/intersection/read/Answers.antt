@@ -4,7 +4,7 @@ use Rattle.sqlite.specs.Held.{state}
 use Rattle.office_tables_shelf.specs.{Rows.intersection_key, Rows.intersection_columns, Shelf.IsIntersectionWithin}
 use Rattle.office_tables_shelf.specs.declared.shelf.ShelfFault.TheVariants.{Damaged}
 use Rattle.office_tables_shelf.specs.declared.rows.Table.TheVariants as table
-use Rattle.office_tables_sql.specs.{Stored.content_now, Tables.HasDamagedUnder}
+use Rattle.office_tables_statements.specs.{Stored.content_now, Tables.HasDamagedUnder}
 use Rattle.office_tables_sql.proofs.intersection.read.Goals as goal
 
 pub find-requires-clause-key : goal.find-requires-clause-key

@@ -1,7 +1,7 @@
 use Rattle.std.proofs.Common.{◌≡◌, Option, None, Some, IfSome, rules, arith, ◌<◌, length}
 use Rattle.sqlite.specs.Order.{column}
 use Rattle.cabinet_core.specs.{Within.IsClosingWithin, declared.record.Closing.Closing}
-use Rattle.office_tables_sql.specs.Stored.{cell_of}
+use Rattle.office_tables_statements.specs.Stored.{cell_of}
 use Rattle.office_tables_shelf.specs.CabinetRows.{closer_cell}
 use Rattle.office_tables_sql.proofs.order.closing_at.Goals as goal
 

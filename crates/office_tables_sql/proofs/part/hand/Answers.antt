@@ -3,7 +3,7 @@ use Rattle.sqlite.specs.Held.{state}
 use Rattle.office_tables_shelf.specs.{CabinetReads.IsPartWithin, CabinetRows.part_key, CabinetRows.part_columns}
 use Rattle.office_tables_shelf.specs.declared.shelf.ShelfFault.TheVariants.{Damaged}
 use Rattle.office_tables_shelf.specs.declared.rows.Table.TheVariants as table
-use Rattle.office_tables_sql.specs.{Stored.content_now, Tables.HasDamagedUnder}
+use Rattle.office_tables_statements.specs.{Stored.content_now, Tables.HasDamagedUnder}
 use Rattle.office_tables_sql.proofs.part.hand.Goals as goal
 
 pub find-requires-clause-key : goal.find-requires-clause-key

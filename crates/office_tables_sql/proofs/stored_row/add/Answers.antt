@@ -1,4 +1,4 @@
-use Rattle.office_tables_sql.proofs.StoredPuts.{inserts}
+use Rattle.office_tables_statements.proofs.StoredPuts.{inserts}
 use Rattle.office_tables_sql.proofs.stored_row.add.Goals as goal
 
 pub returns-clause-ready : goal.returns-clause-ready

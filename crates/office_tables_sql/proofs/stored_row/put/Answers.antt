@@ -1,7 +1,8 @@
 use Rattle.std.proofs.Common.{◌≡◌, arith, subst, sym}
 use Rattle.sqlite.specs.{Held.state, State.HasCleanDisk}
-use Rattle.office_tables_sql.specs.{Calls.IsReady, Stored.content_now, Tables.put_in}
-use Rattle.office_tables_sql.proofs.{StoredPuts.one_put, StoredPuts.two_put, stored_row.put.Given.Over}
+use Rattle.office_tables_statements.specs.{Calls.IsReady, Stored.content_now, Tables.put_in}
+use Rattle.office_tables_sql.proofs.stored_row.put.Given.{Over}
+use Rattle.office_tables_statements.proofs.{StoredPuts.one_put, StoredPuts.two_put}
 use Rattle.office_tables_sql.proofs.stored_row.put.Goals.{After-drop-text-2, then-changed-eq0+in_ok-write, else-changed-eq0}
 use Rattle.office_tables_sql.proofs.stored_row.put.Goals as goal
 

@@ -1,7 +1,7 @@
 use Rattle.std.proofs.Common.{subst, sym, ap, ◌∙◌}
 use Rattle.sqlite.specs.Held.{state}
-use Rattle.office_tables_sql.specs.{Calls.IsWriting, Stored.content_now, Tables.key_values, Tables.remove_in}
-use Rattle.office_tables_sql.proofs.StoredPuts.{removes}
+use Rattle.office_tables_statements.specs.{Calls.IsWriting, Stored.content_now, Tables.key_values, Tables.remove_in}
+use Rattle.office_tables_statements.proofs.StoredPuts.{removes}
 use Rattle.office_tables_sql.proofs.stored_row.remove.Goals as goal
 
 pub write-requires : goal.write-requires

@@ -1,8 +1,8 @@
 use Rattle.std.proofs.{Common.subst, Common.sym, lemmas.Result.IfOk-weaker}
 use Rattle.std.specs.Option.{option_to_list}
 use Rattle.sqlite.specs.{Held.state, Values.bound}
-use Rattle.office_tables_sql.specs.Calls.{IsQuery, Reads}
-use Rattle.office_tables_sql.proofs.StoredLists.{finds}
+use Rattle.office_tables_statements.specs.Calls.{IsQuery, Reads}
+use Rattle.office_tables_statements.proofs.StoredLists.{finds}
 use Rattle.office_tables_sql.proofs.stored_row.under.Goals as goal
 
 pub select_one-requires-clause-query : goal.select_one-requires-clause-query

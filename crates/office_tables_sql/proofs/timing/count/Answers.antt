@@ -1,9 +1,10 @@
 use Rattle.std.proofs.Common.{◌<◌, ◌^◌, rules, pos, [], ◌∷◌}
 use Rattle.sqlite.specs.{declared.types.Value.TheVariants.Int, Held.state}
 use Rattle.office_tables_shelf.specs.declared.rows.Table.TheVariants.{Timing}
-use Rattle.office_tables_sql.specs.{Calls.Reads, declared.timing.TheConstants.COUNT}
+use Rattle.office_tables_sql.specs.declared.timing.TheConstants.{COUNT}
+use Rattle.office_tables_statements.specs.Calls.{Reads}
 use Rattle.office_tables_sql.specs.TimingTexts as texts
-use Rattle.office_tables_sql.proofs.StoredLists.{counts}
+use Rattle.office_tables_statements.proofs.StoredLists.{counts}
 use Rattle.office_tables_sql.proofs.timing.count.Goals as goal
 
 pub select_one-requires-clause-query : goal.select_one-requires-clause-query

@@ -1,6 +1,6 @@
 use Rattle.std.proofs.Common.{◌≡◌, ◌⊎◌, inl, inr, Err, refl, sym, ap, subst, ◌∙◌, true≢false}
 use Rattle.sqlite.specs.{Effect.Database, Held.state}
-use Rattle.office_tables_sql.specs.{Calls.IsHonest, Stored.content_now, Stored.content_of}
+use Rattle.office_tables_statements.specs.{Calls.IsHonest, Stored.content_now, Stored.content_of}
 use Rattle.office_tables_open.specs.{Found.HasOtherVersion, Found.HasRowsAlone, Lacking.IsLacking, Opening.Claims, Opening.MayBeTaken}
 use Rattle.office_tables_open.specs.{Opening.OnlyReads, declared.open.OpenFault.TheVariants.Version}
 use Rattle.office_tables_open.specs.declared.open.OpenFault.TheVariants.{Damaged}

@@ -2,7 +2,7 @@ use Rattle.std.proofs.Common.{◌∙◌}
 use Rattle.std.proofs.lemmas.Result.{IfOk-weaker}
 use Rattle.std.specs.FinMap.{entries}
 use Rattle.sqlite.specs.Held.{state}
-use Rattle.office_tables_sql.specs.Stored.{content_now}
+use Rattle.office_tables_statements.specs.Stored.{content_now}
 use Rattle.office_tables_shelf.proofs.ListLemmas.{where_all}
 use Rattle.office_tables.proofs.sql_shelf.SqlShelfShelf.intersections.Goals as goal
 

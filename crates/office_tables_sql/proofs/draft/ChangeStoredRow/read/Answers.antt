@@ -3,8 +3,8 @@ use Rattle.sqlite.specs.Order.{column}
 use Rattle.signal_records.specs.{Row.key_of, Within.IsChangeWithin, Within.current_limits}
 use Rattle.signal_records.specs.declared.record.Change.{Change, TheVariants.Put, TheVariants.Remove}
 use Rattle.office_tables_shelf.specs.Rows.{timing_key, draft_key, draft_columns}
-use Rattle.office_tables_sql.specs.{Listed.shown_key, Listed.shown_body, Stored.cell_of}
-use Rattle.office_tables_sql.proofs.BodyReading.{same_stored}
+use Rattle.office_tables_statements.specs.{Listed.shown_key, Listed.shown_body, Stored.cell_of}
+use Rattle.office_tables_statements.proofs.BodyReading.{same_stored}
 use Rattle.office_tables_sql.proofs.draft.ChangeStoredRow.read.Goals as goal
 
 pub returns-in_err-check_key-clause-damaged : goal.returns-in_err-check_key-clause-damaged

@@ -2,8 +2,8 @@ use Rattle.std.proofs.Common.{rules, ◌∙◌, sym, ap, arith, ◌≤◌, lengt
 use Rattle.sqlite.specs.Order.{column}
 use Rattle.signal_records.specs.Row.{key_of}
 use Rattle.office_tables_shelf.specs.Rows.{timing_key}
-use Rattle.office_tables_sql.specs.Stored.{cell_of}
-use Rattle.office_tables_sql.proofs.BodyReading.{same_stored}
+use Rattle.office_tables_statements.specs.Stored.{cell_of}
+use Rattle.office_tables_statements.proofs.BodyReading.{same_stored}
 use Rattle.office_tables_sql.proofs.timing.RowStoredRow.read.Goals as goal
 
 pub returns-in_err-check_key-clause-damaged : goal.returns-in_err-check_key-clause-damaged

@@ -1,0 +1,301 @@
+-- What a statement leaves of a connection, also where the rows of a query are read one at a time, and what the rows so far are.
+use Rattle.std.proofs.Common.{◌≡◌, ◌⊎◌, inl, inr, ℕ, ◌≤◌, List, [], true, false, None, Some, Ok, Option, IsTrue, refl, sym, ap, subst, subst₂, ◌∙◌, arith, true≢false, cond, ◌∷◌, ◌++◌, map}
+use Rattle.sqlite_trees.specs.View.{doubt}
+use Rattle.sqlite.specs.{Order.Row, Tree.Trees, declared.error.Error.Error, Clock.timed}
+use Rattle.sqlite.specs.{Effect.Database, Effect.IsDatabase, Given.IsPlain, Listing.understood}
+use Rattle.sqlite.specs.State.{State, HasCleanDisk, Survives, CommitsShowing, IsUnchanged, IsRolledBack, Shown, ShowsRows, FailsToQuery, FailsToShow, IsNotRun, ExecutesInside, IsTooLate, Begins, Fails}
+use Rattle.sqlite_schema.specs.declared.command.Returning.{Returning}
+use Rattle.sqlite.specs.{Steps.FailsToCommit, Held.Held, Held.state}
+use Rattle.sqlite_trees.specs.declared.store.Store as store
+use Rattle.office_tables_schema.specs.Schema.{office_schema}
+use Rattle.office_tables_statements.specs.Calls.{AreOrdered, IsHonest, IsOffice, Keeps, IsQuery, Reads, IsWriting, Ran, StandsOn, command_of}
+use Rattle.sqlite.proofs.Callers.{reads_as, runs_as, never_commits, survives_begin, begins_shown, unchanged_then, EndsIn}
+use Rattle.sqlite.proofs.StateLemmas.{survives_then, survives_weaker}
+use Rattle.std.specs.List.{AllByRecursion}
+use Rattle.std.proofs.lemmas.List.{map-append}
+use Rattle.sqlite_rules.specs.Lists.{Has}
+use Rattle.sqlite_rules.proofs.ListLemmas.{has_left, has_right}
+use Rattle.office_tables_shelf.specs.{declared.rows.Table.Table, Cells.Cell}
+use Rattle.office_tables_statements.specs.Tables.{IsListText, row_shown, stored_for}
+
+abbrev pub IsUndisturbed : State → State → Type 0
+IsUndisturbed old new = IsUnchanged old new ⊎ IsRolledBack old new
+
+-- the connection was open, and the last commit stands
+abbrev Kept : State → State → Type 0
+Kept old new = (IsTrue new.is_open → IsTrue old.is_open) × (IsTrue new.is_open → new.committed ≡ old.committed)
+
+undisturbed_kept : (old new : State) → IsUndisturbed old new → Kept old new
+undisturbed_kept old new (inl same) = (λ _. same.0.was_open, λ _. same.0.committed_is)
+undisturbed_kept old new (inr undone) = (undone.was_open, λ h. (undone.undone h).1)
+
+shown_open : (sql : List ℕ) (params : Row) (old new : State) (rows : List Row) → Shown sql params old new rows → IsTrue old.is_open × IsTrue new.is_open
+unfolding Shown
+shown_open sql params old new rows h = go h.0.returning h.2
+  where
+    go : (returning : Option Returning) → ShowsRows old new sql h.0 (timed params h.0.formats h.1.now) rows returning → IsTrue old.is_open × IsTrue new.is_open
+    go None it = (it.3.0.was_open, it.3.0.is_open)
+    go (Some what) it = (it.1.shown.was_open, it.1.shown.is_open)
+
+-- what shows rows leaves the database open
+pub shown_honest : (sql : List ℕ) (params : Row) (old new : State) (rows : List Row) → (HasCleanDisk new → Shown sql params old new rows) → HasCleanDisk new → IsHonest new
+shown_honest sql params old new rows h clean = (clean, (shown_open sql params old new rows (h clean)).1)
+
+shown_unchanged : (sql : List ℕ) (params : Row) (old new : State) (rows : List Row) → IsPlain (understood old.now.schema sql) → Shown sql params old new rows → IsUnchanged old new
+unfolding Shown
+shown_unchanged sql params old new rows plain h = (subst (ShowsRows old new sql h.0 (timed params h.0.formats h.1.now) rows) (subst IsPlain h.1.is plain).0 h.2).3
+
+unprepared : (sql : List ℕ) (params : Row) (old new : State) (e : Error) → IsNotRun old new sql params e → IsUndisturbed old new
+unfolding IsNotRun
+unprepared sql params old new e (inl none) = inl none.1
+unprepared sql params old new e (inr failed) = inr failed.3
+
+pub fails_undisturbed : (sql : List ℕ) (params : Row) (old new : State) (e : Error) → FailsToQuery sql params old new e → IsUndisturbed old new
+unfolding FailsToQuery
+fails_undisturbed sql params old new e (inl unrun) = unprepared sql params old new e unrun
+fails_undisturbed sql params old new e (inr h) = go h.0.returning h.2
+  where
+    go : (returning : Option Returning) → FailsToShow old new sql h.0 (timed params h.0.formats h.1.now) e returning → IsUndisturbed old new
+    go None it = inl it.3
+    go (Some what) (inl it) = inl it.1
+    go (Some what) (inr it) = inr it.3
+
+pub keeps : (old new : State) → IsOffice old → doubt old.is_clean ≤ doubt new.is_clean → new.in_transaction ≡ false
+    → (IsHonest new → IsTrue old.is_open) → (IsHonest new → old.now.schema ≡ office_schema → IsUndisturbed old new) → Keeps old new
+keeps old new office clean mode opened undisturbed =
+    let honest : IsHonest new → IsHonest old = λ h. (omega (arith, h.0, clean), opened h) in
+    let now : (h : IsHonest new) → (new.now ≡ old.now) × (new.committed ≡ old.now) = λ h. go h (office.settled (honest h)) (undisturbed h (office.schema (honest h))) in
+    record {
+      office = record { autocommit = mode; schema = λ h. ap (λ (d : Database). d.schema) (now h).0 ∙ office.schema (honest h); settled = λ h. (now h).0 ∙ sym (now h).1; ordered = λ h. subst (λ (d : Database). AreOrdered d.trees) (sym (now h).0) (office.ordered (honest h)); sound = λ h. subst IsDatabase (sym (now h).0) (office.sound (honest h)) };
+      honest = honest;
+      same = λ h. (now h).0;
+    }
+  where
+    go : IsHonest new → old.now ≡ old.committed → IsUndisturbed old new → (new.now ≡ old.now) × (new.committed ≡ old.now)
+    go h settled (inl same) = (same.0.now_is, same.0.committed_is ∙ sym settled)
+    go h settled (inr undone) = ((undone.undone h.1).0 ∙ sym settled, (undone.undone h.1).1 ∙ sym settled)
+
+pub keeps_then : (a b c : State) → Keeps a b → Keeps b c → Keeps a c
+keeps_then a b c one two = record { office = two.office; honest = λ h. one.honest (two.honest h); same = λ h. two.same h ∙ one.same (two.honest h) }
+
+pub unprepared_keeps : (sql : List ℕ) (old new : State) (e : Error) → IsOffice old → doubt old.is_clean ≤ doubt new.is_clean → new.in_transaction ≡ false
+    → (HasCleanDisk new → (params : Row) → IsNotRun old new sql params e) → Keeps old new
+unprepared_keeps sql old new e office clean mode h =
+    keeps old new office clean mode (λ honest. (undisturbed_kept old new (unprepared sql [] old new e (h honest.0 []))).0 honest.1) (λ honest has. unprepared sql [] old new e (h honest.0 []))
+
+-- a query that was prepared, over the state in which it was found
+module _ (sql text : List ℕ) (old mid : State) (query : IsQuery sql) (office : IsOffice old) (survives : Survives old mid (λ _. ⊥)) (mode : mid.in_transaction ≡ false)
+    (ready : HasCleanDisk mid → (text ≡ sql) × IsUnchanged old mid) where
+  pub prepared_keeps : Keeps old mid
+  prepared_keeps = keeps old mid office survives.clean mode (λ honest. (ready honest.0).1.0.was_open) (λ honest has. inl (ready honest.0).1)
+
+  query_ready : HasCleanDisk mid → IsQuery text
+  query_ready clean = subst IsQuery (sym (ready clean).0) query
+
+  module _ (params : Row) (new : State) (then : Survives mid new (CommitsShowing text params mid)) (after : new.in_transaction ≡ false) where
+    pub prepared_survives : Survives old new (λ _. ⊥)
+    prepared_survives =
+        survives_then old mid new (λ _. ⊥) (CommitsShowing text params mid) (λ _. ⊥) (λ clean db none. none)
+        (λ clean db commits.
+        let early : HasCleanDisk mid = omega (arith, clean, then.clean) in
+        let has = prepared_keeps.office.schema (early, (ready early).1.0.is_open) in
+        never_commits text params mid db (subst (λ s. IsPlain (understood s text)) (sym has) (query_ready early).plain) commits)
+        survives then
+
+    pub queried_keeps : (rows : List Row) → (HasCleanDisk new → Shown text params mid new rows) → Keeps old new
+    queried_keeps rows h = keeps_then old mid new prepared_keeps (keeps mid new prepared_keeps.office then.clean after (λ honest. (shown_open text params mid new rows (h honest.0)).0)
+        (λ honest has. inl (shown_unchanged text params mid new rows (subst (λ s. IsPlain (understood s text)) (sym has) (query_ready (omega (arith, honest.0, then.clean))).plain) (h honest.0))))
+
+    pub unqueried_keeps : (e : Error) → (HasCleanDisk new → FailsToQuery text params mid new e) → Keeps old new
+    unqueried_keeps e h = keeps_then old mid new prepared_keeps (keeps mid new prepared_keeps.office then.clean after
+        (λ honest. (undisturbed_kept mid new (fails_undisturbed text params mid new e (h honest.0))).0 honest.1) (λ honest has. fails_undisturbed text params mid new e (h honest.0)))
+
+    pub queried_reads : (rows : List Row) → (HasCleanDisk new → Shown text params mid new rows) → IsHonest new → Reads sql params old.now rows
+    queried_reads rows h honest =
+        let early : HasCleanDisk mid = omega (arith, honest.0, then.clean) in
+        let has = prepared_keeps.office.schema (early, (ready early).1.0.is_open) in
+        let q = query_ready early in
+        subst₂ (λ t (d : Database). Reads t params d rows) (ready early).0 (ready early).1.0.now_is
+        (reads_as text params mid new office_schema has _ refl q.plain q.unlisted rows (h honest.0))
+
+-- ---- inside a transaction
+
+pub stands : (old new : State) → doubt old.is_clean ≤ doubt new.is_clean → (IsHonest new → IsUndisturbed old new) → StandsOn old new
+stands old new clean h = record {
+  honest = λ honest. (omega (arith, honest.0, clean), (undisturbed_kept old new (h honest)).0 honest.1);
+  committed = λ honest. (undisturbed_kept old new (h honest)).1 honest.1;
+}
+
+pub stands_then : (a b c : State) → StandsOn a b → StandsOn b c → StandsOn a c
+stands_then a b c one two = record { honest = λ h. one.honest (two.honest h); committed = λ h. two.committed h ∙ one.committed (two.honest h) }
+
+module _ (held : ℕ) (sql : List ℕ) (params : Row) (old new : State) (clean : doubt old.is_clean ≤ doubt new.is_clean) where
+  pub ran_stands : (count : ℕ) → (HasCleanDisk new → ExecutesInside held sql params old new (Ok count)) → StandsOn old new
+  ran_stands count h = record {
+    honest = λ honest. (omega (arith, honest.0, clean), (h honest.0).1.was_open);
+    committed = λ honest. (h honest.0).1.committed_is;
+  }
+
+  pub ran : (count : ℕ) → IsWriting sql → ExecutesInside held sql params old new (Ok count) → Ran sql params old new count
+  ran count plain h = record { was_open = h.1.was_open; inside = rw h.1.mode; runs = λ has. runs_as sql params old new office_schema has _ refl plain count h.0 }
+
+pub survives_on : (a b c : State) → Survives a b (λ _. ⊥) → Survives b c (λ _. ⊥) → Survives a c (λ _. ⊥)
+survives_on a b c p q = survives_then a b c (λ _. ⊥) (λ _. ⊥) (λ _. ⊥) (λ _ _ none. none) (λ _ _ none. none) p q
+
+pub survives_self : (s : State) (P : Trees → Type 0) → Survives s s P
+survives_self s P = record { clean = omega arith; shield = λ h. h; counts = omega arith; limit = refl; closes = λ clean opened. inl opened; crash = λ clean db h. inl h }
+
+-- a transaction over the office's tables whose commit fails is undone
+module _ (old mid new : State) (office : IsOffice old) (stands : StandsOn old mid) (clean : doubt mid.is_clean ≤ doubt new.is_clean) (inside : HasCleanDisk mid → IsHonest old → mid.in_transaction ≡ true)
+    (fails : HasCleanDisk new → IsRolledBack mid new ⊎ ((mid.in_transaction ≡ false) × IsUnchanged mid new)) where
+  back : IsHonest new → IsHonest mid
+  back honest = (
+    omega (arith, honest.0, clean),
+    elim (fails honest.0) [
+      | inl undone ↦ undone.was_open honest.1
+      | inr same ↦ same.1.0.was_open
+    ],
+  )
+
+  undone : IsHonest new → (new.now ≡ mid.committed) × (new.committed ≡ mid.committed)
+  undone honest = elim (fails honest.0) [
+    | inl it ↦ it.undone honest.1
+    | inr same ↦ absurd (true≢false (sym (inside (back honest).0 (stands.honest (back honest))) ∙ same.0))
+  ]
+
+  as_before : IsHonest new → new.now ≡ old.now
+  as_before honest = (undone honest).0 ∙ stands.committed (back honest) ∙ sym (office.settled (stands.honest (back honest)))
+
+  pub undone_office : new.in_transaction ≡ false → IsOffice new
+  undone_office mode = record {
+    autocommit = mode;
+    schema = λ honest. ap (λ (d : Database). d.schema) (as_before honest) ∙ office.schema (stands.honest (back honest));
+    settled = λ honest. (undone honest).0 ∙ sym (undone honest).1;
+    ordered = λ honest. subst (λ (d : Database). AreOrdered d.trees) (sym (as_before honest)) (office.ordered (stands.honest (back honest)));
+    sound = λ honest. subst IsDatabase (sym (as_before honest)) (office.sound (stands.honest (back honest)));
+  }
+
+pub failed_commit : (mid new : State) (e : Error) → FailsToCommit mid new e → IsRolledBack mid new ⊎ ((mid.in_transaction ≡ false) × IsUnchanged mid new)
+failed_commit mid new e (inl failed) = inl failed.3
+failed_commit mid new e (inr none) = inr (none.1, none.2)
+
+pub begun_stands : {S : Type 0} (g : store.Ghosts S) (old : Held S) (new : State) → StandsOn (state g (record old { in_transaction = true })) new → StandsOn (state g old) new
+begun_stands g old new h = record { honest = h.honest; committed = h.committed }
+
+-- a transaction whose steps leave nothing more leaves, once it ends, what it then holds
+pub ended_survives : {S : Type 0} (g : store.Ghosts S) (old mid : Held S) (new : State)
+    (P : Trees → Type 0)
+    → Survives (state g (record old { in_transaction = true })) (state g mid) (λ _. ⊥)
+    → Survives (state g mid) new (λ db. db ≡ (state g mid).now.trees)
+    → (HasCleanDisk (state g mid) → P (state g mid).now.trees) → Survives (state g old) new P
+ended_survives g old mid new P steps end holds =
+    survives_then (state g old) (state g mid) new (λ _. ⊥) (λ db. db ≡ (state g mid).now.trees) P
+    (λ _ db none. absurd none)
+    (λ clean db is. subst P (sym is) (holds (omega (arith, clean, end.clean))))
+    (survives_begin g old (state g mid) _ steps) end
+
+-- ---- a query on tables of whatever layout, in a transaction that is then undone
+
+shown_kept : (sql : List ℕ) (params : Row) (old new : State) (rows : List Row) → old.in_transaction ≡ true → Shown sql params old new rows → Kept old new
+unfolding Shown
+shown_kept sql params old new rows inside h = go h.0.returning h.2
+  where
+    go : (returning : Option Returning) → ShowsRows old new sql h.0 (timed params h.0.formats h.1.now) rows returning → Kept old new
+    go None it = undisturbed_kept old new (inl it.3)
+    go (Some what) it = (λ _. it.1.shown.was_open, λ _. it.1.shown.committed_is ∙ ap (λ b. cond b old.committed new.now) inside)
+
+stands_if : (old mid new : State) → doubt old.is_clean ≤ doubt mid.is_clean → doubt mid.is_clean ≤ doubt new.is_clean → (HasCleanDisk mid → Kept old mid) → (HasCleanDisk new → IsRolledBack mid new) → StandsOn old new
+stands_if old mid new first second kept undone = record {
+  honest = λ h. let early : HasCleanDisk mid = omega (arith, h.0, second) in (omega (arith, early, first), (kept early).0 ((undone h.0).was_open h.1));
+  committed = λ h. let early : HasCleanDisk mid = omega (arith, h.0, second) in ((undone h.0).undone h.1).1 ∙ (kept early).1 ((undone h.0).was_open h.1);
+}
+
+module _ (sql : List ℕ) (params : Row) (old mid new : State) (inside : old.in_transaction ≡ true)
+    (first : doubt old.is_clean ≤ doubt mid.is_clean) (second : doubt mid.is_clean ≤ doubt new.is_clean) (undone : HasCleanDisk new → IsRolledBack mid new) where
+  pub asked_stands : (rows : List Row) → (HasCleanDisk mid → Shown sql params old mid rows) → StandsOn old new
+  asked_stands rows shown = stands_if old mid new first second (λ h. shown_kept sql params old mid rows inside (shown h)) undone
+
+  pub unasked_stands : (e : Error) → (HasCleanDisk mid → FailsToQuery sql params old mid e ⊎ IsTooLate sql params old mid e) → StandsOn old new
+  unasked_stands e fails = stands_if old mid new first second (λ h. elim (fails h) [
+    | inl failed ↦ undisturbed_kept old mid (fails_undisturbed sql params old mid e failed)
+    | inr late ↦ undisturbed_kept old mid (inl late.5)
+  ]) undone
+
+-- what was gathered is of the records that the rows given so far show
+abbrev pub HasGathered : {X G : Type 0} → (G → List X → Type 0) → Table → (X → Type 0)
+    → (ℕ → X → List Cell) → (X → List Cell) → ℕ → List Row → G → Type 0
+HasGathered {X} holds t within key columns id given found =
+    (records : List X) × holds found records × AllByRecursion within records
+    × (map (stored_for key columns id) records ≡ map (row_shown t) given)
+
+same_self : (s : State) → IsTrue s.is_open → IsUnchanged s s
+same_self s opened = (record { was_open = opened; is_open = opened; now_is = refl; committed_is = refl; mode = refl }, record { changes = refl; last_rowid = refl }, refl)
+
+pub one_more : {X Y Z : Type 0} (f : X → Z) (h : Y → Z) (xs : List X) (ys : List Y) (x : X) (y : Y) → map f xs ≡ map h ys → f x ≡ h y → map f (xs ++ x ∷ []) ≡ map h (ys ++ y ∷ [])
+one_more f h xs ys x y same one = map-append f xs (x ∷ []) ∙ (λ i. same i ++ one i ∷ []) ∙ sym (map-append h ys (y ∷ []))
+
+pub has_mid : {X : Type 0} (front : List X) (x : X) (tail : List X) → Has ((front ++ x ∷ []) ++ tail) x
+has_mid front x tail = has_left (front ++ x ∷ []) tail x (has_right front (x ∷ []) x (inl refl))
+
+-- at some row
+module _ (sql : List ℕ) (query : IsQuery sql) (old : State) (office : IsOffice old) (mid : State) (survives : Survives old mid (λ _. ⊥)) (mode : mid.in_transaction ≡ false) (same : HasCleanDisk mid → IsUnchanged old mid) where
+  pub still_keeps : Keeps old mid
+  still_keeps = prepared_keeps sql sql old mid query office survives mode (λ clean. (refl, same clean))
+
+  pub broken_keeps : (new : State) → doubt mid.is_clean ≤ doubt new.is_clean → new.in_transaction ≡ false → (e : Error) → (HasCleanDisk new → Fails mid new ⊥ e ⊎ IsUnchanged mid new) → Keeps old new
+  broken_keeps new clean after e kept =
+      keeps_then old mid new still_keeps (keeps mid new still_keeps.office clean after (λ honest. was honest.1 (kept honest.0)) (λ honest has. undisturbed (kept honest.0)))
+    where
+      was : IsTrue new.is_open → Fails mid new ⊥ e ⊎ IsUnchanged mid new → IsTrue mid.is_open
+      was up (inl failed) = failed.3.was_open up
+      was up (inr kept) = kept.0.was_open
+
+      undisturbed : Fails mid new ⊥ e ⊎ IsUnchanged mid new → IsUnchanged mid new ⊎ IsRolledBack mid new
+      undisturbed (inl failed) = inr failed.3
+      undisturbed (inr kept) = inl kept
+
+  -- at the next row
+  module _ (new : State) (then : Survives mid new (λ _. ⊥)) (after : mid.in_transaction ≡ false → new.in_transaction ≡ false) (step : HasCleanDisk new → IsUnchanged mid new) where
+    next_unchanged : HasCleanDisk new → IsUnchanged old new
+    next_unchanged clean = unchanged_then old mid new (same (omega (arith, clean, then.clean))) (step clean)
+
+    pub next_keeps : Keeps old new
+    next_keeps = prepared_keeps sql sql old new query office (survives_on old mid new survives then) (after mode) (λ clean. (refl, next_unchanged clean))
+
+    pub next_honest : HasCleanDisk new → IsHonest new
+    next_honest clean = (clean, (next_unchanged clean).0.is_open)
+
+module _ (sql text : List ℕ) (params : Row) (query : IsQuery sql) (old : State) (office : IsOffice old) (opened : HasCleanDisk old → IsTrue old.is_open) (is_text : HasCleanDisk old → text ≡ sql) where
+  ready : HasCleanDisk old → (text ≡ sql) × IsUnchanged old old
+  ready clean = (is_text clean, same_self old (opened clean))
+
+  pub plain_at : HasCleanDisk old → IsPlain (understood old.now.schema text)
+  plain_at clean = subst (λ t. IsPlain (understood old.now.schema t)) (sym (is_text clean)) (subst (λ s. IsPlain (understood s sql)) (sym (office.schema (clean, opened clean))) query.plain)
+
+  self : Survives old old (λ _. ⊥)
+  self = survives_self old (λ _. ⊥)
+
+  module _ (new : State) (survives : Survives old new (CommitsShowing text params old)) (mode : new.in_transaction ≡ false) where
+    pub began_survives : Survives old new (λ _. ⊥)
+    began_survives = prepared_survives sql text old old query office self office.autocommit ready params new survives mode
+
+    pub refused_keeps : (e : Error) → (HasCleanDisk new → FailsToQuery text params old new e) → Keeps old new
+    refused_keeps e fails = unqueried_keeps sql text old old query office self office.autocommit ready params new survives mode e fails
+
+  module _ (mid : State) (survives : Survives old mid (λ _. ⊥)) (mode : mid.in_transaction ≡ false) (same : HasCleanDisk mid → IsUnchanged old mid) where
+    -- at the end
+    pub all_read : (new : State) → Survives mid new (λ _. ⊥) → new.in_transaction ≡ false → (rows : List Row) → (HasCleanDisk new → Shown text params mid new rows) → IsHonest new → Reads sql params old.now rows
+    all_read new then after rows shown honest =
+        queried_reads sql text old mid query office survives mode (λ clean. (is_text (omega (arith, clean, survives.clean)), same clean)) params new (survives_weaker mid new (λ _. ⊥) (CommitsShowing text params mid) (λ _ db none. absurd none) then) after rows shown honest
+
+    -- the rows so far are the first of an answer
+    pub some_read : (t : Table) → IsListText t sql → IsHonest mid → (rows : List Row) → Begins text params mid rows → (tail : List Row) × Reads sql params old.now (rows ++ tail)
+    some_read t means honest rows begins =
+        let now = (same honest.0).0.now_is in
+        let kept = still_keeps sql query old office mid survives mode same in
+        let has : mid.now.schema ≡ office_schema = kept.office.schema honest in
+        let whole = begins_shown sql params mid mid rows (subst (λ t. Begins t params mid rows) (is_text (kept.honest honest).0) begins) (same_self mid honest.1) (λ c db it source.
+        let is : Ok c ≡ understood office_schema sql = sym it.is ∙ ap (λ s. understood s sql) has in
+        let command : c.command ≡ _ = ap command_of is ∙ means.is in
+        subst (λ k. EndsIn k db (timed params c.formats it.now)) (sym command) tt) in
+        (whole.0, subst (λ (d : Database). Reads sql params d (rows ++ whole.0)) now (reads_as sql params mid mid office_schema has _ refl query.plain query.unlisted (rows ++ whole.0) whole.1))

@@ -1,0 +1,16 @@
+pub mod StoredLemmas
+pub mod QueryLemmas
+pub mod SoundLemmas
+pub mod CallLemmas
+pub mod WriteLemmas
+pub mod ContentLemmas
+pub mod RemoveLemmas
+mod BodyLemmas
+pub mod BodyReading
+pub mod KeyReading
+pub mod ListedLemmas
+pub mod TableLemmas
+pub mod Casts
+mod UpdateLemmas
+pub mod StoredLists
+pub mod StoredPuts

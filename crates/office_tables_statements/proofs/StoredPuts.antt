@@ -1,0 +1,127 @@
+-- The statements that put and remove rows, and what they make of the tables.
+use Rattle.std.proofs.Common.{◌≡◌, ◌≢◌, ℕ, List, [], ◌∷◌, ◌++◌, map, filter, length, not, refl, sym, ap, subst, ◌∙◌}
+use Rattle.std.specs.{FinMap.insert, FinMap.remove, FinMap.retain_keys, Cmp.eq_by_cmp_equiv}
+use Rattle.std.specs.{List.IsDistinct, List.Sorted.IsPermutation, Ordering.eq_by_cmp}
+use Rattle.sqlite.specs.{declared.types.Value.TheVariants.Null, Cast.cast_row, Edit.with_rowid, Rowids.TheVariants.Chosen, Order.Row}
+use Rattle.sqlite.specs.{Program.overlay, Query.IsAnswer, Rows.Written, State.State, Term.col, Term.eval_all}
+use Rattle.sqlite.specs.Kind.TheVariants as kind
+use Rattle.sqlite_rules.specs.Lists.{Has}
+use Rattle.office_tables_shelf.specs.{Cells.Cell, Cells.cells_cmp, Cells.null, Content.Content, declared.rows.Table.Table}
+use Rattle.office_tables_shelf.proofs.CellLemmas.{cells_total}
+use Rattle.office_tables_statements.specs.{Calls.IsReady, Calls.Ran, Layout.has_key, Layout.values_at}
+use Rattle.office_tables_statements.specs.Stored.{cells_at, content_now, rows_in}
+use Rattle.office_tables_statements.specs.Tables.{beside_rowid, id_given, row_given, source_at, rows_at, with_rows, layout_at, schema_at, place_at, renewed_at, put_in, remove_in, key_given, values_of, IsKeyOf, IsUpdateText, IsInsertText, IsRemoveText, Fits}
+use Rattle.office_tables_statements.specs.Tables.{filter_of, is_among, params_of, picked_where, IsDropText}
+use Rattle.office_tables_schema.specs.Schema.{office_schema}
+use Rattle.office_tables_statements.proofs.{Casts.cast_one, Casts.cast_suited, ContentLemmas.put_at, ContentLemmas.put_apart, WriteLemmas.Added}
+use Rattle.office_tables_statements.proofs.{WriteLemmas.adds, WriteLemmas.went_on, WriteLemmas.same_value, WriteLemmas.wrote, QueryLemmas.picked}
+use Rattle.office_tables_statements.proofs.{QueryLemmas.where_picked, RemoveLemmas.dropped_rows, RemoveLemmas.loses, RemoveLemmas.remove_keyed}
+use Rattle.office_tables_statements.proofs.{UpdateLemmas.Renewed, UpdateLemmas.renews, TableLemmas.each, TableLemmas.is_placed, TableLemmas.is_low}
+use Rattle.office_tables_statements.proofs.TableLemmas.{is_uncounted, is_idle, facts, in_tree, same_tree, only_in}
+use Rattle.office_tables_statements.proofs.StoredLists.{distinct, shaped, own_keys, seen}
+
+-- the content with the rows that it has
+with_same : (t : Table) (tables : Content) → with_rows tables t (rows_at tables t) ≡ tables
+with_same t tables = each (λ t. with_rows tables t (rows_at tables t) ≡ tables) refl refl refl refl refl refl refl refl t
+
+module _ (t : Table) (key columns : List Cell) (fits : Fits t key columns) where
+  abbrev tree : ℕ
+  tree = (schema_at t).tree
+
+  abbrev params : Row
+  params = values_of (key ++ columns)
+
+  -- The row under the key has the other cells, or there is none and all is as it was.
+  pub record Updated (count : ℕ) (old new : State) : Type 0 where
+    pub ready : IsReady new
+    pub none : count ≡ 0 → content_now new ≡ content_now old
+    pub some : count ≢ 0 → content_now new ≡ put_in (content_now old) t key columns
+
+  pub updates : (sql : List ℕ) → IsUpdateText t sql → (old new : State) (count : ℕ) → IsReady old → Ran sql params old new count → Updated count old new
+  updates sql means old new count ready did =
+      let did_write = wrote sql _ (record { is = means.is; plain = means.plain }) (place_at t) (schema_at t) (is_placed t) params old new count (record { runs = λ w. w; does = λ db out d. d }) ready did in
+      let asked = went_on did_write.rows in
+      let edited = went_on asked.2 in
+      let hits = picked (layout_at t) (facts t).paired (renewed_at t) params (λ row. eval_all (renewed_at t) (params ∷ row ∷ [])) (λ row. refl) (overlay old.now.trees []) asked.0 (asked.1.answer Null) in
+      let found = subst (λ rows. IsPermutation (map (λ row. eval_all (renewed_at t) (params ∷ row ∷ [])) (filter (has_key (layout_at t) params) rows)) asked.0) (seen t old.now ready.schema ready.sound ready.ordered) hits in
+      let next : new.now.trees ≡ edited.0 = did_write.trees ∙ ap (λ (w : Written). w.trees) (same_value edited.2) in
+      let told = did_write.counted ∙ ap (λ (w : Written). length w.rows) (same_value edited.2) in
+      let it = subst (Renewed t key columns fits old.now ready.schema ready.sound ready.ordered count) (sym next) (renews t key columns fits old.now ready.schema ready.sound ready.ordered count edited.0 asked.0 found edited.1 told) in
+      record {
+        ready = did_write.goes_on it.others it.shapes;
+        none = λ none. only_in old.now.trees new.now.trees t _ it.others (ap (rows_in (layout_at t)) (it.none none) ∙ sym (in_tree t old.now.trees)) ∙ with_same t (content_now old);
+        some = λ some. only_in old.now.trees new.now.trees t _ it.others (it.some some ∙ ap (λ rows. insert rows key columns) (sym (in_tree t old.now.trees)));
+      }
+
+  -- an INSERT that was accepted added the row, and no other had its key
+  pub inserts : (sql : List ℕ) → IsInsertText t sql → (old new : State) (count : ℕ) → IsReady old → Ran sql params old new count → IsReady new × (content_now new ≡ put_in (content_now old) t key columns)
+  inserts sql means old new count ready did =
+      let rows = old.now.trees tree in
+      let did_write = wrote sql _ (record { is = means.is; plain = means.plain }) (place_at t) (schema_at t) (is_placed t) params old new count (record { runs = λ w. w; does = λ db out d. d }) ready did in
+      let given = row_given t key columns in
+      let casts : cast_row (schema_at t) given ≡ given = λ i. cast_one kind.Integer (id_given t key) fits.numbered i ∷ cast_suited (schema_at t).columns (beside_rowid t null key ++ columns) fits.suits i in
+      let it = subst (Added (schema_at t) (is_uncounted t) (is_idle t) (source_at t) params given old.step_limit old.now.trees) (sym did_write.trees)
+      (adds (schema_at t) (is_uncounted t) (is_idle t) (source_at t) params given old.step_limit old.now.trees (fits.given old.step_limit (record { schema = office_schema; trees = old.now.trees })) casts
+      (shaped t old.now ready.schema ready.sound ready.ordered) did_write.written did_write.rows) in
+      let placed = fits.placed rows in
+      let now = did_write.goes_on it.others it.shapes in
+      let stored = with_rowid Chosen rows given in
+      let apart = subst (λ (all : List Row). IsDistinct (eq_by_cmp cells_cmp)
+      (map (cells_at (layout_at t).keys) all)) it.rows
+      (distinct t new.now now.schema now.sound now.ordered) in
+      let at = put_at (layout_at t) rows [] stored (λ r id there among at_id. absurd among)
+      (put_apart (eq_by_cmp cells_cmp) (eq_by_cmp_equiv cells_total).symm
+      (cells_at (layout_at t).keys) stored rows it.fresh apart) it.fresh in
+      let put : rows_in (layout_at t) (new.now.trees tree) ≡ insert (rows_in (layout_at t) rows) key columns = ap (rows_in (layout_at t)) it.rows ∙ at ∙ (λ i. insert (rows_in (layout_at t) rows) (placed.0 i) (placed.1 i)) in (
+        now,
+        only_in old.now.trees new.now.trees t _ it.others (put ∙ ap (λ rows. insert rows key columns) (sym (in_tree t old.now.trees))),
+      )
+
+  -- One statement put the row, or the two together.
+  pub one_put : (sql : List ℕ) → IsUpdateText t sql → (old new : State) (count : ℕ) → count ≢ 0 → IsReady old → Ran sql params old new count → IsReady new × (content_now new ≡ put_in (content_now old) t key columns)
+  one_put sql means old new count some ready did = let it = updates sql means old new count ready did in (it.ready, it.some some)
+
+  pub two_put : (update insert : List ℕ) → IsUpdateText t update → IsInsertText t insert → (old mid new : State) (count added : ℕ) → count ≡ 0 → IsReady old → Ran update params old mid count → Ran insert params mid new added
+      → IsReady new × (content_now new ≡ put_in (content_now old) t key columns)
+  two_put update insert changes adds old mid new count added none ready first second =
+      let it = updates update changes old mid count ready first in
+      let then = inserts insert adds mid new added it.ready second in
+      (then.0, then.1 ∙ ap (λ tables. put_in tables t key columns) (it.none none))
+
+pub removes : (t : Table) (sql : List ℕ) (means : IsRemoveText t sql) (key : Row) (given : IsKeyOf t key) (old new : State) (count : ℕ) → IsReady old → Ran sql key old new count
+    → IsReady new × (content_now new ≡ remove_in (content_now old) t (key_given t key))
+removes t sql means key given old new count ready did =
+    let it = remove_keyed (layout_at t) (facts t).paired (schema_at t) (place_at t) (is_placed t) (λ trees. is_low t trees ∙ ap trees (same_tree t)) (is_idle t) sql (record { is = means.is; plain = means.plain }) key given
+    old new count (shaped t old.now ready.schema ready.sound ready.ordered) (own_keys t old.now ready.schema ready.sound ready.ordered) ready did in (
+      it.0,
+      only_in old.now.trees new.now.trees t _ it.1.others (it.1.at ∙ ap (λ rows. remove rows (key_given t key)) (sym (in_tree t old.now.trees))),
+    )
+
+pub drops : (t : Table) (sql : List ℕ) (means : IsDropText t sql) (id : ℕ) (old new : State)
+    (count : ℕ) → IsReady old → Ran sql (params_of t id) old new count
+    → IsReady new × (content_now new ≡ with_rows (content_now old) t
+    (retain_keys (rows_at (content_now old) t) (λ key. not (is_among t id key))))
+drops t sql means id old new count ready did =
+    let db = old.now.trees in
+    let rows = db (schema_at t).tree in
+    let test = λ (r : Row). is_among t id (cells_at (layout_at t).keys r) in
+    let whole = shaped t old.now ready.schema ready.sound ready.ordered in
+    let keys = own_keys t old.now ready.schema ready.sound ready.ordered in
+    let low = seen t old.now ready.schema ready.sound ready.ordered in
+    let shows = λ (found : List Row)
+    (answer : IsAnswer (picked_where (layout_at t) (filter_of t) (col 1 0 ∷ [])) (overlay db [])
+    (params_of t id) found).
+    subst (λ all. IsPermutation (map (values_at (0 ∷ [])) (filter test all)) found) low
+    (where_picked (layout_at t) (filter_of t) (col 1 0 ∷ []) (params_of t id) test
+    (values_at (0 ∷ [])) (λ row. refl) (overlay db []) found
+    (λ row there. (facts t).first id row (keys row (subst (λ all. Has all row) low there)))
+    answer) in
+    let it = loses (schema_at t) (place_at t) (is_placed t) (is_idle t) sql
+    (picked_where (layout_at t) (filter_of t) (col 1 0 ∷ []))
+    (record { is = means.is; plain = means.plain }) (params_of t id) old new count test shows whole
+    ready did in
+    let left = dropped_rows (layout_at t) rows (is_among t id) it.1.found it.1.hits whole in (
+      it.0,
+      only_in db new.now.trees t _ it.1.others (ap (rows_in (layout_at t)) it.1.left ∙ left
+          ∙ ap (λ all. retain_keys all (λ key. not (is_among t id key))) (sym (in_tree t db))),
+    )

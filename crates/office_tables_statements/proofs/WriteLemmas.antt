@@ -1,0 +1,134 @@
+-- What a write on one table did, in a transaction over the office's tables, and what it leaves: so an INSERT the rows that there were, and its row beside them.
+use Rattle.std.proofs.Common.{◌≡◌, ◌≢◌, ◌⊎◌, inl, inr, ℕ, ℤ, ◌==◌, List, [], ◌∷◌, length, slice_get, unwrap_or, not, true, false, Option, None, Some, Result, Ok, Err, sym, ap, subst, ◌∙◌, true≢false, eq-eqb, Bool, cond, MatchBool}
+use Rattle.std.proofs.lemmas.Bool.{cases_Bool, eqb-true, not-true, and_parts}
+use Rattle.std.specs.List.{AllByRecursion}
+use Rattle.sqlite.specs.{Command.Command, declared.error.Error.Error, Effect.Database, Order.Row, Does.Tally, Does.Does, Does.AtPlace}
+use Rattle.sqlite.specs.{Does.OnRows, Does.WritesRows, Edit.without_all, Edit.edit_of, Edit.with_rowid, Edit.is_taken, Edit.are_fresh}
+use Rattle.sqlite.specs.{Edit.put_all, Edit.have_rowids, Edit.taken_by, Listing.understood, Schema.Schema, Table.Table, View.IsShaped}
+use Rattle.sqlite.specs.{View.is_int, Rows.Task, Rows.Written, Rows.Part, Rows.Gives, Rows.Inserts, Rows.CountsIn, Rows.Sourced}
+use Rattle.sqlite.specs.{Rows.sequence, Rows.stamped, Rows.count_of, Rows.rowids_for, State.State, State.Runs, State.Writes, State.mode_of}
+use Rattle.sqlite.specs.{Cast.cast_row, Tree.Trees, Tree.has_rowid, Tree.without_rowid, Tree.rowid, Tree.put_row, Rowids.TheVariants.Above}
+use Rattle.sqlite.specs.{Rowids.TheVariants.Chosen, Source.Source}
+use Rattle.sqlite_rules.specs.Action.{works}
+use Rattle.sqlite_schema.specs.declared.schema.Keys.TheVariants.{Enforced}
+use Rattle.sqlite_trees.specs.declared.store.Shape.TheVariants as shape
+use Rattle.sqlite_trees.proofs.{ListLemmas.all_both, TreeLemmas.IsShaped-filter, TreeLemmas.IsShaped-put_row}
+use Rattle.office_tables_statements.specs.Calls.{IsReady, Ran, statement_of}
+use Rattle.office_tables_schema.specs.Schema.{office_schema}
+use Rattle.office_tables_statements.proofs.QueryLemmas.{IsWrite}
+use Rattle.sqlite.proofs.Callers.{one_step}
+
+-- no foreign key acts on what a table loses
+pub record IsIdle (schema : Schema) (table : Table) : Type 0 where
+  pub on_change : (olds : List Row) (new : Row) → works schema Enforced 0 table.tree olds (new ∷ []) ≡ []
+  pub on_delete : (olds : List Row) → works schema Enforced 0 table.tree olds [] ≡ []
+
+-- a part that gave a value did not stop on the way
+pub went_on : {B E R : Type 0} {b : B} {Stops : E → Type 0} → ((stop : E) × Stops stop × (Ok b ≡ Err stop)) ⊎ R → R
+went_on (inl stopped) = absurd (let e = stopped.2 in cc)
+went_on (inr on) = on
+
+pub same_value : {B E : Type 0} {a b : B} → ◌≡◌ {A = Result B E} (Ok a) (Ok b) → a ≡ b
+same_value e = cc
+
+-- ---- the order of rows
+
+pub shaped_without : (ids : List ℤ) (rows : List Row) → IsShaped shape.Table rows → IsShaped shape.Table (without_all rows ids)
+shaped_without [] rows h = h
+shaped_without (id ∷ ids) rows h = shaped_without ids (without_rowid id rows) (IsShaped-filter shape.Table (λ r. not (has_rowid id r)) rows h)
+
+-- one table is written, and those beside it are as they were
+still_ordered : (tables : List Table) (tree : ℕ) (db next : Trees) → AllByRecursion (λ t. IsShaped shape.Table (db t.tree)) tables
+    → AllByRecursion (λ t. t.tree ≢ tree → next t.tree ≡ db t.tree) tables → IsShaped shape.Table (next tree) → AllByRecursion (λ t. IsShaped shape.Table (next t.tree)) tables
+still_ordered tables tree db next was others now = all_both _ _ _ (λ t old same. go t old same (cases_Bool (t.tree == tree))) tables was others
+  where
+    go : (t : Table) → IsShaped shape.Table (db t.tree) → (t.tree ≢ tree → next t.tree ≡ db t.tree) → ((t.tree == tree) ≡ true) ⊎ ((t.tree == tree) ≡ false) → IsShaped shape.Table (next t.tree)
+    go t old same (inl is) = subst (λ n. IsShaped shape.Table (next n)) (sym (eqb-true t.tree tree is)) now
+    go t old same (inr apart) = subst (IsShaped shape.Table) (sym (same (λ e. true≢false (sym (eq-eqb t.tree tree e) ∙ apart)))) old
+
+-- ---- a write
+
+module _ (sql : List ℕ) (command : Command) (is : IsWrite sql command) (at : ℕ) (table : Table) (place : slice_get office_schema.tables at ≡ Some table) (params : Row) (old new : State) (count : ℕ) where
+  abbrev text : List ℕ
+  text = statement_of sql (understood office_schema sql)
+
+  abbrev pub task : Table → Database → Task
+  task x db = record { limit = old.step_limit; keys = Enforced; schema = db.schema; table = x; params = params }
+
+  -- a write of rows of the table at that place
+  pub record IsOnRows : Type 0 where
+    pub runs : Runs old new None command text params count → Writes old new None command text params count
+    pub does : (db : Database) (out : Result (Tally × Database) (Option Error))
+        → Does old.step_limit (mode_of old) params db text None command out
+        → AtPlace (λ x. OnRows (task x db) (mode_of old) None command db.trees) (slice_get db.schema.tables at) out
+
+  pub record Wrote : Type 0 where
+    -- it wrote those rows, and tells how many
+    pub written : Written
+    pub rows : WritesRows (task table (record { schema = office_schema; trees = old.now.trees })) old.now.trees command (Ok written)
+    pub trees : new.now.trees ≡ written.trees
+    pub counted : count ≡ length written.rows
+    -- the transaction goes on, where the rows of the table are in order and the other tables as they were
+    pub goes_on : AllByRecursion (λ x. x.tree ≢ table.tree → new.now.trees x.tree ≡ old.now.trees x.tree) office_schema.tables
+        → IsShaped shape.Table (new.now.trees table.tree) → IsReady new
+
+  pub wrote : IsOnRows → IsReady old → Ran sql params old new count → Wrote
+  wrote on ready did =
+      let writes = on.runs (subst (λ c. Runs old new None c text params count) is.is (did.runs ready.schema)) in
+      let does = subst (λ s. Does old.step_limit (mode_of old) params (record old.now { schema = s }) text None command (Ok (writes.tally, new.now))) ready.schema writes.changed in
+      let db : Database = record { schema = office_schema; trees = old.now.trees } in
+      let went = went_on (subst (λ o. AtPlace (λ x. OnRows (task x db) (mode_of old) None command db.trees) o (Ok (writes.tally, new.now))) place (on.does db _ does)) in
+      let told = same_value (went_on (went_on went.2).2).2 in
+      record {
+        written = went.0;
+        rows = went.1;
+        trees = ap (λ (p : Tally × Database). p.1.trees) told;
+        counted = writes.counted ∙ ap (λ (p : Tally × Database). unwrap_or p.0.rows 0) told;
+        goes_on = λ others shapes. record {
+          inside = did.inside;
+          schema = ap (λ (p : Tally × Database). p.1.schema) told;
+          sound = writes.sound;
+          ordered = still_ordered office_schema.tables table.tree old.now.trees new.now.trees ready.ordered others shapes;
+        };
+      }
+
+-- a table whose rowids are not counted
+count_stays : (b : Bool) (db next : Trees) (top : Bool) (Other : Part Trees) → b ≡ false → MatchBool (cond b top false) (Other (Ok next)) (Gives db (Ok next)) → next ≡ db
+count_stays true db next top Other e h = absurd (true≢false e)
+count_stays false db next top Other e h = same_value h
+
+module _ (table : Table) (uncounted : table.is_counted ≡ false) (idle : IsIdle office_schema table) (from : Source) (params given : Row) (limit : Option ℕ) (db : Trees) where
+  abbrev inserting : Task
+  inserting = record { limit = limit; keys = Enforced; schema = office_schema; table = table; params = params }
+
+  abbrev pub added : Row
+  added = with_rowid Chosen (db table.tree) given
+
+  pub record Added (next : Trees) : Type 0 where
+    pub shapes : IsShaped shape.Table (next table.tree)
+    pub rows : next table.tree ≡ put_row added (db table.tree)
+    pub fresh : is_taken (db table.tree) added ≡ false
+    pub others : AllByRecursion (λ x. x.tree ≢ table.tree → next x.tree ≡ db x.tree) office_schema.tables
+
+  pub adds : ((rows : List Row) → Sourced limit (record { schema = office_schema; trees = db }) (stamped table params) from (Ok rows) → rows ≡ given ∷ []) → cast_row table given ≡ given
+      → IsShaped shape.Table (db table.tree) → (w : Written) → Inserts inserting from db (Ok w) → Added w.trees
+  adds one casts was w h =
+      let sourced = went_on h in
+      let counted = went_on sourced.2 in
+      let put = went_on counted.2 in
+      let ended = went_on put.2 in
+      let rows : sourced.0 ≡ given ∷ [] = one sourced.0 sourced.1 in
+      let chosen : rowids_for table (count_of counted.0) ≡ Chosen = ap (λ b. cond b (Above (count_of counted.0)) Chosen) uncounted in
+      let edit = edit_of db table [] (rowids_for table (count_of counted.0)) 0 sourced.0 in
+      let shown : edit.news ≡ with_rowid Chosen (db table.tree) (cast_row table given) ∷ [] = λ i. (edit_of db table [] (chosen i) 0 (rows i)).news in
+      let made : edit.news ≡ added ∷ [] = shown ∙ ap (λ row. with_rowid Chosen (db table.tree) row ∷ []) casts in
+      let it = one_step office_schema Enforced db put.0 edit (subst (λ news. works office_schema Enforced 0 table.tree (taken_by db edit) news ≡ []) (sym made) (idle.on_change (taken_by db edit) added)) put.1 in
+      let same : w.trees ≡ put.0 = ap (λ (x : Written). x.trees) (same_value ended.2) ∙ count_stays table.is_counted put.0 ended.0 _ (CountsIn inserting put.0 counted.0 _ (sequence office_schema)) uncounted ended.1 in
+      let now : w.trees table.tree ≡ put_row added (db table.tree) = ap (λ (x : Trees). x table.tree) same ∙ it.rows ∙ ap (put_all (db table.tree)) made in
+      let numbered : is_int (rowid added) ≡ true = (and_parts _ _ (subst (λ news. have_rowids news ≡ true) made it.keyed)).0 in
+      record {
+        shapes = subst (IsShaped shape.Table) (sym now) (IsShaped-put_row added (db table.tree) numbered was);
+        rows = now;
+        fresh = not-true _ (and_parts _ _ (subst (λ news. are_fresh (db table.tree) news ≡ true) made it.fresh)).0;
+        others = subst (λ (x : Trees). AllByRecursion (λ (y : Table). y.tree ≢ table.tree → x y.tree ≡ db y.tree) office_schema.tables) (sym same) it.tables;
+      }

@@ -1,0 +1,5 @@
+pub mod Layout
+pub mod Stored
+pub mod Calls
+pub mod Listed
+pub mod Tables

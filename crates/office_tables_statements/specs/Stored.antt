@@ -1,0 +1,65 @@
+-- The trees of a database as the content of a shelf.
+use Rattle.std.specs.Prelude.{ℕ, Bool, true, false, List, map, Option, None, Some}
+use Rattle.std.specs.List.{list_all}
+use Rattle.sqlite.specs.declared.types.Value.{Value}
+use Rattle.sqlite.specs.declared.types.Value.TheVariants.{Null, Int, Real, Text, Blob}
+use Rattle.sqlite.specs.Order.{Row, column}
+use Rattle.sqlite.specs.State.{State}
+use Rattle.sqlite.specs.Tree.{Trees}
+use Rattle.office_tables_shelf.specs.Cells.{Cell, Rows, rows_by, null, number, text, odd}
+use Rattle.office_tables_shelf.specs.Content.{Content}
+use Rattle.office_tables_statements.specs.Layout as layout
+use Rattle.office_tables_statements.specs.Layout.{Layout, values_at}
+
+abbrev pub cell_of : Value → Cell
+cell_of Null = null
+cell_of (Int n) = number n
+cell_of (Real x) = odd
+cell_of (Text t) = text t
+cell_of (Blob b) = odd
+
+abbrev pub text_or_null : Option (List ℕ) → Cell
+text_or_null None = null
+text_or_null (Some t) = text t
+
+abbrev pub cells : Row → List Cell
+cells values = map cell_of values
+
+abbrev pub cells_at : List ℕ → Row → List Cell
+cells_at places row = cells (values_at places row)
+
+-- the rows of a table, by the cells of their keys
+abbrev pub rows_in : Layout → List Row → Rows
+rows_in t = rows_by (cells_at t.keys) (cells_at t.columns)
+
+abbrev pub rows_of : Layout → Trees → Rows
+rows_of t trees = rows_in t (trees t.tree)
+
+-- what the trees of the eight tables hold
+abbrev pub content_of : Trees → Content
+content_of trees = record {
+  intersection = rows_of layout.intersection trees;
+  timing = rows_of layout.timing trees;
+  draft = rows_of layout.draft trees;
+  inspection = rows_of layout.inspection trees;
+  work_order = rows_of layout.work_order trees;
+  part = rows_of layout.part trees;
+  delivery = rows_of layout.delivery trees;
+  used_part = rows_of layout.used_part trees;
+}
+
+-- what the tables of a connection hold now
+abbrev pub content_now : State → Content
+content_now s = content_of s.now.trees
+
+-- a number or a text
+abbrev pub is_sound : Value → Bool
+is_sound Null = false
+is_sound (Int n) = true
+is_sound (Real x) = false
+is_sound (Text t) = true
+is_sound (Blob b) = false
+
+-- so are the values of the row at these places
+abbrev pub are_sound : List ℕ → Row → Bool
+are_sound places row = list_all (λ at. is_sound (column row at)) places

@@ -1,0 +1,350 @@
+-- The eight tables by their names: where each keeps its rows, and what its statements mean.
+use Rattle.std.specs.Prelude.{◌≡◌, ◌≢◌, ℕ, suc, ℤ, pos, negsuc, Bool, true, false, ◌&&◌, cond, List, [], ◌∷◌, ◌++◌, map, length, Option, Some, None, IfSome, Ok, slice_get, unwrap_or}
+use Rattle.std.specs.Option.{option_map}
+use Rattle.std.specs.FinMap.{get, entries}
+use Rattle.std.specs.FinMap.Entries.{where_key}
+use Rattle.sqlite.specs.Command.TheVariants.{Select, Insert, Update, Delete}
+use Rattle.sqlite.specs.Kind.{Kind}
+use Rattle.sqlite.specs.Kind.TheVariants as kind
+use Rattle.sqlite.specs.declared.types.Value.{Value}
+use Rattle.sqlite.specs.declared.types.Value.TheVariants.{Null, Int, Text}
+use Rattle.sqlite.specs.Edit.{with_rowid}
+use Rattle.sqlite.specs.Effect.{Database}
+use Rattle.sqlite.specs.Listing.{understood}
+use Rattle.sqlite.specs.Order.{Row}
+use Rattle.sqlite.specs.Query.{Query, inner, end}
+use Rattle.sqlite.specs.Rowids.TheVariants.{Chosen}
+use Rattle.sqlite.specs.Rows.{Sourced, stamped}
+use Rattle.sqlite.specs.Source.{Source}
+use Rattle.sqlite.specs.Source.TheVariants.{Values}
+use Rattle.sqlite.specs.Table.{Table as SqlTable}
+use Rattle.sqlite.specs.Term.{Term, lit, col, op2, eval_all}
+use Rattle.sqlite.specs.Collation.TheVariants.{Binary}
+use Rattle.sqlite_schema.specs.declared.schema.Column.{Column}
+use Rattle.sqlite_sql.specs.Group.{Grouping}
+use Rattle.sqlite_sql.specs.declared.aggregate.AggregateOp.TheVariants.{CountRows}
+use Rattle.sqlite_sql.specs.declared.ops.BinaryOp.TheVariants.{Compare}
+use Rattle.sqlite_sql.specs.declared.ops.CompareOp.TheVariants.{Eq}
+use Rattle.sqlite_value.specs.Keys.{ascending}
+use Rattle.signal_records.specs.Key.{kind_of, first_of, second_of}
+use Rattle.signal_records.specs.declared.key.Key.{Key}
+use Rattle.office_tables_shelf.specs.Cells.{Cell, Rows, cells_cmp, null, number, text, odd}
+use Rattle.office_tables_shelf.specs.Content.{Content}
+pub use Rattle.office_tables_shelf.specs.Content.{rows_at, place_at, with_rows, put_in, remove_in}
+pub use Rattle.office_tables_shelf.specs.Content.{drop_in}
+use Rattle.office_tables_shelf.specs.Shelf.{is_of}
+use Rattle.office_tables_shelf.specs.declared.rows.Table.{Table}
+use Rattle.office_tables_shelf.specs.declared.rows.Table.TheVariants as table
+use Rattle.office_tables_statements.specs.Calls.{IsQuery, IsWriting, command_of}
+use Rattle.office_tables_statements.specs.Layout as layout
+use Rattle.office_tables_statements.specs.Layout.{Layout}
+use Rattle.office_tables_schema.specs.Schema as schema
+use Rattle.office_tables_schema.specs.Schema.{office_schema}
+use Rattle.office_tables_statements.specs.Stored.{cells_at, are_sound}
+
+-- ---- where each table is
+
+abbrev pub layout_at : Table → Layout
+layout_at table.Intersection = layout.intersection
+layout_at table.Timing = layout.timing
+layout_at table.Draft = layout.draft
+layout_at table.Inspection = layout.inspection
+layout_at table.WorkOrder = layout.work_order
+layout_at table.Part = layout.part
+layout_at table.Delivery = layout.delivery
+layout_at table.UsedPart = layout.used_part
+
+abbrev pub schema_at : Table → SqlTable
+schema_at table.Intersection = schema.intersection_table
+schema_at table.Timing = schema.timing_table
+schema_at table.Draft = schema.draft_table
+schema_at table.Inspection = schema.inspection_table
+schema_at table.WorkOrder = schema.work_order_table
+schema_at table.Part = schema.part_table
+schema_at table.Delivery = schema.delivery_table
+schema_at table.UsedPart = schema.used_part_table
+
+-- it has a PRIMARY KEY of its own, and does not keep its key as the rowid
+abbrev pub is_keyed : Table → Bool
+is_keyed table.Intersection = false
+is_keyed table.Timing = true
+is_keyed table.Draft = true
+is_keyed table.Inspection = true
+is_keyed table.WorkOrder = true
+is_keyed table.Part = true
+is_keyed table.Delivery = true
+is_keyed table.UsedPart = true
+
+-- ---- the rows of a list: those of an intersection, or all where a table is not parted by intersections
+
+abbrev pub is_parted : Table → Bool
+is_parted table.Intersection = false
+is_parted table.Timing = true
+is_parted table.Draft = true
+is_parted table.Inspection = true
+is_parted table.WorkOrder = true
+is_parted table.Part = false
+is_parted table.Delivery = false
+is_parted table.UsedPart = true
+
+-- the rows whose first key column is the parameter
+abbrev pub of_parameter : List Term
+of_parameter = op2 (Compare Eq Binary) (col 1 1) (col 0 0) ∷ []
+
+abbrev pub filter_of : Table → List Term
+filter_of t = cond (is_parted t) of_parameter []
+
+abbrev pub params_of : Table → ℕ → Row
+params_of t id = cond (is_parted t) (Int (pos id) ∷ []) []
+
+abbrev pub is_among : Table → ℕ → List Cell → Bool
+is_among t id = cond (is_parted t) (is_of id) (λ _. true)
+
+abbrev pub rows_among : Table → ℕ → Rows → List (List Cell × List Cell)
+rows_among t id rows = where_key cells_cmp (is_among t id) (entries rows)
+
+-- ---- a row as a list shows it: the columns of the key, and then the others
+
+abbrev pub places_from : ℕ → List ℕ → List ℕ
+places_from n [] = []
+places_from n (p ∷ ps) = n ∷ places_from (suc n) ps
+
+abbrev pub places_of : Table → List ℕ
+places_of t = (layout_at t).keys ++ (layout_at t).columns
+
+abbrev pub width_of : Table → ℕ
+width_of t = length (places_of t)
+
+abbrev pub key_shown : Table → Row → List Cell
+key_shown t = cells_at (places_from 0 (layout_at t).keys)
+
+abbrev pub columns_shown : Table → Row → List Cell
+columns_shown t = cells_at (places_from (length (layout_at t).keys) (layout_at t).columns)
+
+abbrev pub row_shown : Table → Row → List Cell × List Cell
+row_shown t row = (key_shown t row, columns_shown t row)
+
+-- ---- what the contracts of a table's rows say
+
+-- what is stored for it
+abbrev pub stored_for : {X : Type 0} → (ℕ → X → List Cell) → (X → List Cell) → ℕ → X → List Cell × List Cell
+stored_for key columns id x = (key id x, columns x)
+
+-- the rows of the list in the table, in the order of their keys
+abbrev pub ListsRows : {X : Type 0} → Table → (ℕ → X → List Cell) → (X → List Cell) → Content → ℕ → List X → Type 0
+ListsRows t key columns tables id xs = map (stored_for key columns id) xs ≡ rows_among t id (rows_at tables t)
+
+-- nothing within its limits has these cells
+abbrev pub IsNoRow : {X : Type 0} → (X → Type 0) → (ℕ → X → List Cell) → (X → List Cell) → ℕ → List Cell → List Cell → Type 0
+IsNoRow {X} is_within key columns id stored others = (x : X) → is_within x → stored ≡ key id x → others ≢ columns x
+
+-- one of those rows is nothing within its limits
+pub record HasDamagedRow {X : Type 0} (t : Table) (is_within : X → Type 0) (key_of : ℕ → X → List Cell) (columns_of : X → List Cell) (tables : Content) (id : ℕ) : Type 0 where
+  pub key : List Cell
+  pub columns : List Cell
+  pub of : is_among t id key ≡ true
+  pub stored : get (rows_at tables t) key ≡ Some columns
+  pub no_row : IsNoRow is_within key_of columns_of id key columns
+
+-- what is stored under the key is the row that is found, if one is
+pub record ReadsRow {X : Type 0} (t : Table) (key_of : ℕ → X → List Cell) (columns_of : X → List Cell) (tables : Content) (id : ℕ) (key : List Cell) (found : Option X) : Type 0 where
+  pub stored : get (rows_at tables t) key ≡ option_map columns_of found
+  pub keyed : IfSome found (λ x. key_of id x ≡ key)
+
+-- what stands under the key is nothing within its limits
+pub record HasDamagedUnder {X : Type 0} (t : Table) (is_within : X → Type 0) (key_of : ℕ → X → List Cell) (columns_of : X → List Cell) (tables : Content) (id : ℕ) (key : List Cell) : Type 0 where
+  pub columns : List Cell
+  pub stored : get (rows_at tables t) key ≡ Some columns
+  pub no_row : IsNoRow is_within key_of columns_of id key columns
+
+-- the row shows what stands under the key, if anything does
+pub record IsUnder (t : Table) (tables : Content) (key : List Cell) (found : Option Row) : Type 0 where
+  pub stored : option_map (columns_shown t) found ≡ get (rows_at tables t) key
+  pub keyed : IfSome found (λ row. key_shown t row ≡ key)
+  pub wide : IfSome found (λ row. length row ≡ width_of t)
+
+-- ---- the statements
+
+abbrev pub listed_by : Layout → List Term → Query
+listed_by t filter = record {
+  from = inner t.tree end;
+  filter = filter;
+  group = None;
+  project = map (col 1) (t.keys ++ t.columns);
+  distinct = false;
+  collations = [];
+  order = map (λ p. (col 1 p, ascending Binary)) t.keys;
+  limit = lit (Int (negsuc 0));
+  offset = lit (Int (pos 0));
+}
+
+-- the text lists the rows, in the order of their keys
+pub record IsListText (t : Table) (sql : List ℕ) : Type 0 where
+  pub names : List (List ℕ)
+  pub is : command_of (understood office_schema sql) ≡ Select (record { lets = []; body = listed_by (layout_at t) (filter_of t) }) names
+  pub query : IsQuery sql
+
+-- how many rows pass
+abbrev pub counting : Grouping
+counting = record { keys = []; collations = []; aggregates = record { op = CountRows; distinct = false; collation = Binary; argument = lit Null } ∷ []; having = [] }
+
+abbrev pub counted_by : Layout → List Term → Query
+counted_by t filter = record {
+  from = inner t.tree end;
+  filter = filter;
+  group = Some counting;
+  project = col 1 0 ∷ [];
+  distinct = false;
+  collations = [];
+  order = [];
+  limit = lit (Int (negsuc 0));
+  offset = lit (Int (pos 0));
+}
+
+-- the text counts those rows
+pub record IsCountText (t : Table) (sql : List ℕ) : Type 0 where
+  pub names : List (List ℕ)
+  pub is : command_of (understood office_schema sql) ≡ Select (record { lets = []; body = counted_by (layout_at t) (filter_of t) }) names
+  pub query : IsQuery sql
+
+-- the rows whose key columns are the parameters
+abbrev pub of_key : List ℕ → List ℕ → List Term
+of_key [] at = []
+of_key (p ∷ ps) [] = []
+of_key (p ∷ ps) (q ∷ qs) = op2 (Compare Eq Binary) (col 1 p) (col 0 q) ∷ of_key ps qs
+
+-- these terms of the rows that pass the filter
+abbrev pub picked_where : Layout → List Term → List Term → Query
+picked_where t filter shown = record {
+  from = inner t.tree end;
+  filter = filter;
+  group = None;
+  project = shown;
+  distinct = false;
+  collations = [];
+  order = [];
+  limit = lit (Int (negsuc 0));
+  offset = lit (Int (pos 0));
+}
+
+-- these terms of the rows whose key columns are the parameters
+abbrev pub picked_by : Layout → List Term → Query
+picked_by t = picked_where t (of_key t.keys t.places)
+
+abbrev pub found_by : Layout → List ℕ → Query
+found_by t shown = picked_by t (map (col 1) shown)
+
+-- the text finds the row whose key is the parameters
+pub record IsFindText (t : Table) (sql : List ℕ) : Type 0 where
+  pub names : List (List ℕ)
+  pub is : command_of (understood office_schema sql) ≡ Select (record { lets = []; body = found_by (layout_at t) (places_of t) }) names
+  pub query : IsQuery sql
+
+-- values for the columns of a key, each a number or a text
+abbrev pub IsKeyOf : Table → Row → Type 0
+IsKeyOf t values = are_sound (layout_at t).places values ≡ true
+
+-- the key of these values
+abbrev pub key_given : Table → Row → List Cell
+key_given t = cells_at (layout_at t).places
+
+-- What a stored row has between its rowid and its other columns: its key, or, where the rowid is the key, nothing in the key's own column.
+abbrev pub beside_rowid : {X : Type 0} → Table → X → List X → List X
+beside_rowid t nothing key = cond (is_keyed t) key (nothing ∷ [])
+
+-- the parameters that follow the key
+abbrev pub others_given : Table → List Term
+others_given t = map (col 0) (places_from (length (layout_at t).keys) (layout_at t).columns)
+
+-- a row of the parameters, its rowid to be chosen where it is not the key
+abbrev pub source_at : Table → Source
+source_at t = Values (cond (is_keyed t) (lit Null) (col 0 0) ∷ (beside_rowid t (lit Null) (map (col 0) (layout_at t).places) ++ others_given t)) (suc (length (schema_at t).columns))
+
+-- the row as it stands, but for the columns beside the key, which the parameters give
+abbrev pub renewed_at : Table → List Term
+renewed_at t = col 1 0 ∷ col 1 0 ∷ (beside_rowid t (lit Null) (map (col 1) (layout_at t).keys) ++ others_given t)
+
+-- the text gives the row under the key of the parameters the other columns of the parameters
+pub record IsUpdateText (t : Table) (sql : List ℕ) : Type 0 where
+  pub is : command_of (understood office_schema sql) ≡ Update (place_at t) (record { lets = []; body = picked_by (layout_at t) (renewed_at t) })
+  pub plain : IsWriting sql
+
+-- the text adds a row of the parameters
+pub record IsInsertText (t : Table) (sql : List ℕ) : Type 0 where
+  pub is : command_of (understood office_schema sql) ≡ Insert (place_at t) (source_at t)
+  pub plain : IsWriting sql
+
+-- the text removes the row whose key is the parameters
+pub record IsRemoveText (t : Table) (sql : List ℕ) : Type 0 where
+  pub is : command_of (understood office_schema sql) ≡ Delete (place_at t) (record { lets = []; body = found_by (layout_at t) (0 ∷ []) })
+  pub plain : IsWriting sql
+
+-- the text removes the rows of a list
+pub record IsDropText (t : Table) (sql : List ℕ) : Type 0 where
+  pub is : command_of (understood office_schema sql)
+      ≡ Delete (place_at t) (record {
+        lets = [];
+        body = picked_where (layout_at t) (filter_of t) (col 1 0 ∷ []);
+      })
+  pub plain : IsWriting sql
+
+-- a key of timing as its columns are bound
+abbrev pub key_values : ℕ → Key → Row
+key_values id key = Int (pos id) ∷ Int (pos (kind_of key)) ∷ Int (pos (first_of key)) ∷ Int (pos (second_of key)) ∷ []
+
+-- ---- what is bound for cells
+
+abbrev pub value_of : Cell → Value
+value_of null = Null
+value_of (number n) = Int n
+value_of (text t) = Text t
+value_of odd = Null
+
+abbrev pub values_of : List Cell → Row
+values_of = map value_of
+
+-- a column of this kind takes the cell as it is
+abbrev pub suits_kind : Kind → Cell → Bool
+suits_kind kind.Integer null = true
+suits_kind kind.Integer (number n) = true
+suits_kind kind.Integer (text t) = false
+suits_kind kind.Integer odd = false
+suits_kind kind.Text null = true
+suits_kind kind.Text (number n) = false
+suits_kind kind.Text (text t) = true
+suits_kind kind.Text odd = false
+suits_kind kind.Real c = false
+suits_kind kind.Blob c = false
+suits_kind kind.Any c = false
+
+abbrev pub suit : List Column → List Cell → Bool
+suit [] cells = true
+suit (c ∷ cs) [] = true
+suit (c ∷ cs) (x ∷ xs) = suits_kind c.kind x && suit cs xs
+
+-- the rowid that is given for a row: its key, or none
+abbrev pub id_given : Table → List Cell → Cell
+id_given t key = cond (is_keyed t) null (unwrap_or (slice_get key 0) null)
+
+-- what is stored beside the rowid
+abbrev pub stored_beside : Table → List Cell → List Cell → Row
+stored_beside t key columns = values_of (beside_rowid t null key ++ columns)
+
+-- the row that is given for the cells
+abbrev pub row_given : Table → List Cell → List Cell → Row
+row_given t key columns = value_of (id_given t key) ∷ stored_beside t key columns
+
+-- the table takes the cells as they are
+pub record Fits (t : Table) (key columns : List Cell) : Type 0 where
+  -- they are what the statements read of the parameters
+  pub whole : IsKeyOf t (values_of (key ++ columns))
+  pub named : key_given t (values_of (key ++ columns)) ≡ key
+  pub given : (limit : Option ℕ) (db : Database) (rows : List Row) → Sourced limit db (stamped (schema_at t) (values_of (key ++ columns))) (source_at t) (Ok rows) → rows ≡ row_given t key columns ∷ []
+  pub rest : (row : Row) → eval_all (others_given t) (values_of (key ++ columns) ∷ row ∷ []) ≡ values_of columns
+  -- the columns take them
+  pub numbered : suits_kind kind.Integer (id_given t key) ≡ true
+  pub suits : suit (schema_at t).columns (beside_rowid t null key ++ columns) ≡ true
+  -- a row of them that is added, and one that took them, show them
+  pub placed : (rows : List Row) → (cells_at (layout_at t).keys (with_rowid Chosen rows (row_given t key columns)) ≡ key) × (cells_at (layout_at t).columns (with_rowid Chosen rows (row_given t key columns)) ≡ columns)
+  pub kept : (n : ℤ) (row : Row) → cells_at (layout_at t).keys (Int n ∷ row) ≡ key → cells_at (layout_at t).keys (Int n ∷ stored_beside t key columns) ≡ key
+  pub shows : (n : ℤ) → cells_at (layout_at t).columns (Int n ∷ stored_beside t key columns) ≡ columns

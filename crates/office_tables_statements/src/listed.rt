@@ -1,0 +1,92 @@
+//! The columns of a shown timing or draft row: intersection, kind, the two numbers of the key, and
+//! the body.
+
+ghost use Rattle.std.specs.Prelude.{◌≡◌, ◌≢◌, ◌<◌, ◌≤◌, pos, length, Option, None, Some, IfOk};
+ghost use Rattle.std.specs.Prelude.{IfSome, OnOk, Ok};
+ghost use Rattle.sqlite.specs.Order.{column};
+ghost use Rattle.signal_records.specs.Key.{kind_of, first_of, second_of};
+ghost use Rattle.signal_records.specs.KeyOrder.{key_at};
+ghost use Rattle.signal_records.specs.Within.{IsRowWithin, IsKeyWithin, current_limits};
+ghost use Rattle.signal_records.specs.declared.key.Key.{Key};
+ghost use Rattle.signal_records.specs.declared.record.Row.{Row};
+ghost use Rattle.office_tables_shelf.specs.Cells.{number, text, null};
+ghost use Rattle.office_tables_shelf.specs.Rows.{body_of, timing_key};
+ghost use Rattle.office_tables_statements.specs.Stored.{cell_of};
+ghost use Rattle.office_tables_statements.specs.Listed.{shown_key};
+
+use crate::body_reading::row_of_body;
+use crate::value::{number_at, text_or_null_at};
+use office_tables_shelf::shelf::ShelfFault;
+use signal_records::{InterId, Key, PatternNo, PhaseNo, RingNo, Row, SeqNo, SplitNo};
+use sqlite::Row as SqlRow;
+use std::alloc::Global;
+
+/// The row in the column of the bodies, where it is not NULL.
+pub fn body_at(alloc: Global, row: &SqlRow, at: usize) -> Result<Option<Row>, ShelfFault>
+    ensures row { IfOk result (λ found. IfSome found (λ r. (cell_of (column row.now at) ≡ text (body_of r)) × IsRowWithin current_limits r)) }
+    ensures null { result ≡ Ok None → cell_of (column row.now at) ≡ null }
+    ensures damaged { result ≡ Err ShelfFault.Damaged → at < length row.now → (r : Row) → IsRowWithin current_limits r → cell_of (column row.now at) ≢ text (body_of r) }
+    ensures damaged_null { result ≡ Err ShelfFault.Damaged → at < length row.now → cell_of (column row.now at) ≢ null }
+{
+    let Some(body) = text_or_null_at(row, at)? else {
+        return Ok(None);
+    };
+    match row_of_body(alloc, body)? {
+        Some(found) => Ok(Some(found)),
+        None => Err(ShelfFault::Damaged),
+    }
+}
+
+/// Tests that the column has this number.
+pub fn check_number(row: &SqlRow, at: usize, n: u32) -> Result<(), ShelfFault>
+    ensures ok { OnOk result (cell_of (column row.now at) ≡ number (pos n)) }
+    ensures damaged { result ≡ Err ShelfFault.Damaged → at < length row.now → cell_of (column row.now at) ≢ number (pos n) }
+{
+    if number_at(row, at)? == n {
+        Ok(())
+    } else {
+        Err(ShelfFault::Damaged)
+    }
+}
+
+/// Tests that the first columns are those of the key.
+pub fn check_key(row: &SqlRow, id: InterId, key: &Key) -> Result<(), ShelfFault>
+    ensures ok { OnOk result (shown_key row.now ≡ timing_key id key.now) }
+    ensures damaged { result ≡ Err ShelfFault.Damaged → 4 ≤ length row.now → shown_key row.now ≢ timing_key id key.now }
+{
+    check_number(row, 0, id.get())?;
+    check_number(row, 1, key.kind())?;
+    check_number(row, 2, key.first())?;
+    check_number(row, 3, key.second())
+}
+
+/// The key in the first columns.
+pub fn read_key(row: &SqlRow, id: InterId) -> Result<Key, ShelfFault>
+    ensures ok { IfOk result (λ key. shown_key row.now ≡ timing_key id key) }
+    ensures within { IfOk result (IsKeyWithin current_limits) }
+    ensures damaged { result ≡ Err ShelfFault.Damaged → 4 ≤ length row.now → (key : Key) → IsKeyWithin current_limits key → shown_key row.now ≢ timing_key id key }
+{
+    let kind = number_at(row, 1)?;
+    let first = number_at(row, 2)?;
+    let second = number_at(row, 3)?;
+    let Some(key) = key_of_numbers(kind, first, second) else {
+        return Err(ShelfFault::Damaged);
+    };
+    check_key(row, id, &key)?;
+    Ok(key)
+}
+
+/// The key of a kind with these numbers; a kind with one number passes over the second.
+fn key_of_numbers(kind: u32, first: u32, second: u32) -> Option<Key>
+    ensures some { IfSome result (λ key. key ≡ key_at kind first second) }
+    ensures within { IfSome result (IsKeyWithin current_limits) }
+    ensures none { result ≡ None → (key : Key) → IsKeyWithin current_limits key → kind_of key ≡ kind → first_of key ≡ first → second_of key ≢ second }
+{
+    match kind {
+        1 => Some(Key::Phase(PhaseNo::new(first)?)),
+        2 => Some(Key::Seq(SeqNo::new(first)?, RingNo::new(second)?)),
+        3 => Some(Key::Split(SplitNo::new(first)?, PhaseNo::new(second)?)),
+        4 => Some(Key::Pattern(PatternNo::new(first)?)),
+        _ => None,
+    }
+}

@@ -1,0 +1,167 @@
+//! The values of a stored row, as what they stand for.
+
+ghost use Rattle.std.specs.Prelude.{◌≡◌, ◌≢◌, ◌≤◌, ◌<◌, ◌^◌, ℕ, pos, length, List, Option};
+ghost use Rattle.std.specs.Prelude.{option_map, IfOk, IfSome, OnOk};
+ghost use Rattle.sqlite.specs.Order.{column};
+ghost use Rattle.std.specs.Int.{IsInRange};
+ghost use Rattle.signal_records.specs.Words.{AreWords};
+ghost use Rattle.cabinet_core.specs.Day.{IsDay};
+ghost use Rattle.cabinet_core.specs.Part.{IsPartCode};
+ghost use Rattle.office_tables_shelf.specs.Cells.{null, number, text};
+ghost use Rattle.office_tables_statements.specs.Stored.{cell_of, text_or_null};
+ghost use Rattle.draft_state.specs.declared.revision.TheConstants.{LAST_REVISION};
+
+use cabinet_core::{Day, PartCode};
+use draft_state::revision::Revision;
+use office_tables_shelf::shelf::ShelfFault;
+use signal_records::{Number, Words};
+use sqlite::types::{FromSql, ValueRef};
+use sqlite::{Error, ErrorCode, Row};
+use std::alloc::Global;
+
+/// The value of a column, as a `T`.
+pub fn value_at<T: FromSql>(row: &Row, at: usize) -> Result<T, ShelfFault>
+    ensures ok { IfOk result (λ x. T.FromSql.reads_as (column row.now at) x) }
+    ensures damaged { result ≡ Err ShelfFault.Damaged → at < length row.now → ¬ T.FromSql.is_readable (column row.now at) }
+{
+    match row.get(at) {
+        Ok(value) => Ok(value),
+        Err(Error::SqliteFailure(ErrorCode::OutOfMemory)) => Err(ShelfFault::NoMemory),
+        Err(_) => Err(ShelfFault::Damaged),
+    }
+}
+
+/// The number in a column.
+pub fn number_at(row: &Row, at: usize) -> Result<u32, ShelfFault>
+    ensures ok { IfOk result (λ n. cell_of (column row.now at) ≡ number (pos n)) }
+    ensures damaged { result ≡ Err ShelfFault.Damaged → at < length row.now → (n : ℕ) → n < 2 ^ 32 → cell_of (column row.now at) ≢ number (pos n) }
+{
+    value_at(row, at)
+}
+
+/// The number in a column, which has to be in the range.
+pub fn ranged_at<Of, const LOW: u32, const HIGH: u32>(
+    row: &Row,
+    at: usize,
+) -> Result<Number<Of, LOW, HIGH>, ShelfFault>
+    ensures ok { IfOk result (λ n. cell_of (column row.now at) ≡ number (pos n)) }
+    ensures range { IfOk result (IsInRange LOW HIGH) }
+    ensures damaged { result ≡ Err ShelfFault.Damaged → at < length row.now → (n : ℕ) → LOW ≤ n → n ≤ HIGH → cell_of (column row.now at) ≢ number (pos n) }
+{
+    let n = number_at(row, at)?;
+    match Number::new(n) {
+        Some(number) => Ok(number),
+        None => Err(ShelfFault::Damaged),
+    }
+}
+
+/// The revision in a column.
+pub fn revision_at(row: &Row, at: usize) -> Result<Revision, ShelfFault>
+    ensures ok { IfOk result (λ n. cell_of (column row.now at) ≡ number (pos n)) }
+    ensures range { IfOk result (λ n. n ≤ LAST_REVISION) }
+    ensures damaged { result ≡ Err ShelfFault.Damaged → at < length row.now → (n : ℕ) → n ≤ LAST_REVISION → cell_of (column row.now at) ≢ number (pos n) }
+{
+    let n = number_at(row, at)?;
+    match Revision::new(n) {
+        Some(revision) => Ok(revision),
+        None => Err(ShelfFault::Damaged),
+    }
+}
+
+/// The text in a column.
+pub fn text_at(row: &Row, at: usize) -> Result<&[u8], ShelfFault>
+    ensures ok { IfOk result (λ found. cell_of (column row.now at) ≡ text found.now) }
+    ensures damaged { result ≡ Err ShelfFault.Damaged → at < length row.now →
+        (t : List ℕ) → cell_of (column row.now at) ≢ text t }
+{
+    match row.get_ref(at) {
+        Ok(ValueRef::Text(found)) => Ok(found),
+        _ => Err(ShelfFault::Damaged),
+    }
+}
+
+/// The text in a column, where it is not NULL.
+pub fn text_or_null_at(row: &Row, at: usize) -> Result<Option<&[u8]>, ShelfFault>
+    ensures ok { IfOk result (λ found. cell_of (column row.now at)
+        ≡ text_or_null (option_map (λ t. t.now) found)) }
+    ensures damaged { result ≡ Err ShelfFault.Damaged → at < length row.now →
+        (t : Option (List ℕ)) → cell_of (column row.now at) ≢ text_or_null t }
+{
+    match row.get_ref(at) {
+        Ok(ValueRef::Null) => Ok(None),
+        Ok(ValueRef::Text(found)) => Ok(Some(found)),
+        _ => Err(ShelfFault::Damaged),
+    }
+}
+
+/// The words in a column.
+pub fn words_at<const MAX: usize>(
+    alloc: Global,
+    row: &Row,
+    at: usize,
+) -> Result<Words<MAX>, ShelfFault>
+    ensures ok { IfOk result (λ words. cell_of (column row.now at) ≡ text words) }
+    ensures words { IfOk result (AreWords MAX) }
+    ensures damaged { result ≡ Err ShelfFault.Damaged → at < length row.now → (words : List ℕ) → AreWords MAX words → cell_of (column row.now at) ≢ text words }
+{
+    match Words::new(alloc, text_at(row, at)?)? {
+        Some(words) => Ok(words),
+        None => Err(ShelfFault::Damaged),
+    }
+}
+
+/// The words in a column, where it is not NULL.
+pub fn words_or_null_at<const MAX: usize>(
+    alloc: Global,
+    row: &Row,
+    at: usize,
+) -> Result<Option<Words<MAX>>, ShelfFault>
+    ensures ok { IfOk result (λ words. cell_of (column row.now at) ≡ text_or_null words) }
+    ensures words { IfOk result (λ words. IfSome words (AreWords MAX)) }
+    ensures damaged { result ≡ Err ShelfFault.Damaged → at < length row.now → (words : Option (List ℕ)) → IfSome words (AreWords MAX) → cell_of (column row.now at) ≢ text_or_null words }
+{
+    let Some(found) = text_or_null_at(row, at)? else {
+        return Ok(None);
+    };
+    match Words::new(alloc, found)? {
+        Some(words) => Ok(Some(words)),
+        None => Err(ShelfFault::Damaged),
+    }
+}
+
+/// The day in a column.
+pub fn day_at(row: &Row, at: usize) -> Result<Day, ShelfFault>
+    ensures ok { IfOk result (λ day. cell_of (column row.now at) ≡ number (pos day)) }
+    ensures day { IfOk result IsDay }
+    ensures damaged { result ≡ Err ShelfFault.Damaged → at < length row.now → (n : ℕ) → IsDay n → cell_of (column row.now at) ≢ number (pos n) }
+{
+    let n = number_at(row, at)?;
+    match Day::new(n) {
+        Some(day) => Ok(day),
+        None => Err(ShelfFault::Damaged),
+    }
+}
+
+/// The code of a part in a column.
+pub fn code_at(alloc: Global, row: &Row, at: usize) -> Result<PartCode, ShelfFault>
+    ensures ok { IfOk result (λ code. cell_of (column row.now at) ≡ text code) }
+    ensures code { IfOk result IsPartCode }
+    ensures damaged { result ≡ Err ShelfFault.Damaged → at < length row.now → (code : List ℕ) → IsPartCode code → cell_of (column row.now at) ≢ text code }
+{
+    match PartCode::new(alloc, text_at(row, at)?)? {
+        Some(code) => Ok(code),
+        None => Err(ShelfFault::Damaged),
+    }
+}
+
+/// Tests that the column is NULL.
+pub fn check_null(row: &Row, at: usize) -> Result<(), ShelfFault>
+    ensures ok { OnOk result (cell_of (column row.now at) ≡ null) }
+    ensures damaged { result ≡ Err ShelfFault.Damaged → at < length row.now → cell_of (column row.now at) ≢ null }
+{
+    let stored: Option<u32> = value_at(row, at)?;
+    match stored {
+        Some(_) => Err(ShelfFault::Damaged),
+        None => Ok(()),
+    }
+}
