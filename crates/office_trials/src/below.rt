@@ -1,23 +1,29 @@
 //! Calls below the wire: a decision and its changes, and the first that is overdue.
 
 use crate::running::{answers, asked, does};
-use crate::script::{UNKNOWN, commands};
+use crate::script::{Line, UNKNOWN, commands};
 use crate::talking::{told_answer, words};
 use cabinet_core::read_day;
 use office_desk::office::Office;
-use office_http::{Asked, answer_of};
+use office_http::{Asked, Form, answer_of};
+use office_machine::reply::Reply;
 use office_row_files::trouble::{Trouble, compare, holds};
 use office_tables_shelf::shelf::Shelf;
 use std::alloc::Global;
+
+/// A reply is answered as its line tells.
+fn tells(alloc: Global, line: &Line, reply: &Reply, form: Form) -> Result<(), Trouble> {
+    let told = told_answer(alloc, line.1, line.2)?;
+    let came = answer_of(alloc, reply, form)?;
+    compare(alloc, line.0, told.as_bytes(), &came)
+}
 
 /// A decision changes nothing, and its changes make what the command asks.
 fn decide_first<S: Shelf>(alloc: Global, office: &mut Office<S>) -> Result<(), Trouble> {
     let [add, shown, ..] = commands();
     let Asked { command, form } = asked(alloc, words(add))?;
     let decided = office.decide(alloc, &command);
-    let told = told_answer(alloc, add.1, add.2)?;
-    let came = answer_of(alloc, &decided.reply, form)?;
-    compare(alloc, add.0, told.as_bytes(), &came)?;
+    tells(alloc, add, &decided.reply, form)?;
     answers(alloc, office, words(shown), ("a decision", UNKNOWN))?;
     let is_applied = office.apply(alloc, &decided.changes).is_ok();
     holds(is_applied, "the changes of a decision")?;
