@@ -5,8 +5,8 @@ use Rattle.std.specs.{Cmp.IsTotalOrder, Cmp.tied_itself, List.AllByRecursion, Li
 use Rattle.std.specs.{FinMap.entries_sorted, FinMap.get-entries, FinMap.Entries.is_sorted, FinMap.Entries.below_all, Option.IfSome}
 use Rattle.std.specs.Ordering.{is_eq, eq_by_cmp}
 use Rattle.std.specs.FinMap as finite
-use Rattle.signal_records.proofs.Sets.{is_less, parts}
-pub use Rattle.signal_records.proofs.Sets.{tied}
+use Rattle.signal_values.proofs.Ties.{is_less, parts}
+pub use Rattle.signal_values.proofs.Ties.{tied}
 
 module _ {K X : Type 0} {R : K → K → Ordering} (total : IsTotalOrder R) (Stands : K → X → Type 0) where
   -- nothing stands at a key that ties with one below all others

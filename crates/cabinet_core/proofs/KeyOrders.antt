@@ -6,7 +6,7 @@ use Rattle.std.proofs.{lemmas.Map.Text.is_eq-slice_cmp, lemmas.Slice.Eq.bytes_eq
 use Rattle.std.specs.{Cmp.IsTotalOrder, Cmp.Lexicographic.slice_cmp, Ordering.eq_by_cmp, FinMap.IsAntisymmetric}
 use Rattle.std.specs.{FinMap.nat_cmp-IsAntisymmetric, FinMap.slice_cmp-IsAntisymmetric, Str.bytes_eq}
 use Rattle.cabinet_core.specs.Register.{pair_cmp, record_cmp, line_cmp, delivery_cmp}
-pub use Rattle.signal_records.proofs.Sets.{numbers_tie, then_ties}
+pub use Rattle.signal_values.proofs.Ties.{numbers_tie, then_ties}
 
 pairs_total : {A B : Type 0} {P : A → A → Ordering} {Q : B → B → Ordering} → IsTotalOrder P → IsTotalOrder Q → IsTotalOrder (pair_cmp P Q)
 pairs_total {A} {B} first second = then_total (on_total (λ (p : A × B). p.0) first) (on_total (λ (p : A × B). p.1) second)

@@ -1,7 +1,7 @@
 -- Records, and commands that bring them, within their limits.
 use Rattle.std.specs.Prelude.{IfSome}
 use Rattle.std.specs.Int.{IsInRange}
-use Rattle.signal_records.specs.Words.{AreWords}
+use Rattle.signal_values.specs.Words.{AreWords}
 use Rattle.cabinet_core.specs.Day.{IsDay}
 use Rattle.cabinet_core.specs.Part.{IsPartCode}
 use Rattle.cabinet_core.specs.declared.record.Inspection.{Inspection}

@@ -3,7 +3,7 @@
 ghost use Rattle.std.specs.Prelude.{◌≡◌};
 
 use crate::record::{Closing, Delivery, Inspection, Opening, UsedLine};
-use signal_records::{InterId, RecordNo};
+use signal_values::{InterId, RecordNo};
 use std::alloc::AllocError;
 
 /// A command of the register; `id` is the intersection whose cabinet it is about.

@@ -8,7 +8,7 @@ ghost use Rattle.cabinet_core.specs.Day.{day_text, IsDay, SpellsDay};
 
 use jiff::civil::Date as CivilDate;
 use jiff_core::civil;
-use signal_records::{Interval, NoMemory};
+use signal_values::{Interval, NoMemory};
 use std::alloc::{AllocError, Global};
 use std::fmt::Write;
 use std::marker::Model;

@@ -20,7 +20,7 @@ use crate::bounds::{
 use crate::part::{Hand, PartCode};
 use crate::record::{Closing, Delivery, Inspection, Opening, Order, UsedLine};
 use crate::refusal::CabinetRefusal;
-use signal_records::Amount;
+use signal_values::Amount;
 use std::alloc::{AllocError, Global};
 
 /// A row of the register to be written, in place of the one under its key.

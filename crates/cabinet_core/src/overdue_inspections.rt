@@ -5,7 +5,7 @@ ghost use Rattle.cabinet_core.specs.Overdue.{greater, latest_day, overdue_list, 
 
 use crate::day::{Date, Day, due};
 use crate::record::Inspection;
-use signal_records::{InterId, Interval, NoMemory, Words};
+use signal_values::{InterId, Interval, NoMemory, Words};
 use std::alloc::Global;
 
 /// What is known of an intersection's inspections.

@@ -3,7 +3,7 @@
 ghost use Rattle.std.specs.Prelude.{◌≡◌, ◌↔◌, IsSome, IfSome, IfOk, IfErr};
 ghost use Rattle.cabinet_core.specs.Part.{IsPartCode, is_code_byte};
 
-use signal_records::{NoMemory, Number};
+use signal_values::{NoMemory, Number};
 use std::alloc::{AllocError, Global};
 use std::cmp::Ordering;
 use std::marker::Model;

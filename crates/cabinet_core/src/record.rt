@@ -5,7 +5,7 @@ ghost use Rattle.std.specs.Prelude.{◌≡◌, option_map};
 use crate::day::Day;
 use crate::ordered::{Ordered, Placed};
 use crate::part::PartCode;
-use signal_records::{Amount, LineNo, RecordNo, Words};
+use signal_values::{Amount, LineNo, RecordNo, Words};
 use std::alloc::AllocError;
 
 /// An inspection of a cabinet.

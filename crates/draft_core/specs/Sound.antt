@@ -4,7 +4,7 @@ use Rattle.std.specs.FinMap.{get, empty}
 use Rattle.signal_records.specs.Row.{key_of}
 use Rattle.signal_records.specs.TimingSet.{Rows}
 use Rattle.signal_records.specs.Within.{IsRowWithin, current_limits, version_1_limits}
-use Rattle.signal_records.specs.Words.{AreWords}
+use Rattle.signal_values.specs.Words.{AreWords}
 use Rattle.signal_records.specs.declared.key.Key.{Key}
 use Rattle.signal_records.specs.declared.limits.Limits.{Limits}
 use Rattle.signal_rules.specs.Violations.{violations_of}

@@ -4,7 +4,8 @@ use Rattle.std.proofs.lemmas.Bool.Decides.{nat_tests}
 use Rattle.std.specs.{Prelude.IfSome, Ordering.eq_by_cmp, FinMap.get, FinMap.get-remove}
 use Rattle.cabinet_core.proofs.Puts.{all_put}
 use Rattle.signal_records.specs.{Key.key_cmp, KeyOrder.key_total, KeyOrder.key_exact, Row.key_of, Within.IsRowWithin, Within.current_limits}
-use Rattle.signal_records.specs.{TimingSet.Rows, TimingSet.after_change, TimingSet.after_changes, Words.AreWords}
+use Rattle.signal_records.specs.{TimingSet.Rows, TimingSet.after_change, TimingSet.after_changes}
+use Rattle.signal_values.specs.Words.{AreWords}
 use Rattle.signal_records.specs.declared.{key.Key.Key, record.Row.Row, record.Change.Change}
 use Rattle.signal_records.specs.declared.record.Change.TheVariants.{Put, Remove}
 use Rattle.signal_rules.specs.Violations.{violations_of}

@@ -4,7 +4,8 @@ use Rattle.std.proofs.lemmas.Bool.Decides.{nat_tests}
 use Rattle.std.specs.FinMap.{get, insert, get-insert, nat_cmp-IsAntisymmetric}
 use Rattle.std.specs.{Cmp.nat_cmp_total, Int.IsInRange, Ordering.nat_cmp, Ordering.eq_by_cmp}
 use Rattle.cabinet_core.proofs.Puts.{all_put}
-use Rattle.signal_records.specs.{Row.key_of, Within.IsRowWithin, Within.current_limits, Words.AreWords}
+use Rattle.signal_records.specs.{Row.key_of, Within.IsRowWithin, Within.current_limits}
+use Rattle.signal_values.specs.Words.{AreWords}
 use Rattle.signal_records.specs.declared.{key.Key.Key, record.Row.Row, record.Change.TheVariants.Put, record.Change.TheVariants.Remove}
 use Rattle.draft_core.specs.{DraftRows.Said, DraftRows.silent, DraftRows.leaves, DraftRows.removes, DraftRows.RowStands, Transaction.Draft}
 use Rattle.draft_core.specs.{Transaction.TimingSide, Transaction.holder_of, declared.timing.Reach.Reach}

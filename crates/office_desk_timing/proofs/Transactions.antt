@@ -3,7 +3,8 @@ use Rattle.std.proofs.Common.{◌≡◌, ◌≢◌, ◌+◌, ◌≤◌, ℕ, Boo
 use Rattle.std.proofs.lemmas.List.{length-map}
 use Rattle.std.specs.Prelude.{IfSome, IfOk, OnErr, if◌then◌else◌, not}
 use Rattle.std.specs.{FinMap.get, Int.IsInRange, Result.result_err, Str.bytes_eq}
-use Rattle.signal_records.specs.{Words.AreWords, declared.record.Change.Change, declared.record.Change.TheVariants.Put}
+use Rattle.signal_records.specs.{declared.record.Change.Change, declared.record.Change.TheVariants.Put}
+use Rattle.signal_values.specs.Words.{AreWords}
 use Rattle.draft_core.specs.Moves.{Follows, FollowsSoundLine, IsUnsettled, Makes, RefusesFirst, drafted_in, timing_writes, draft_writes}
 use Rattle.draft_core.specs.{News.AddsOnlyNew, Transaction.TimingSide, Transaction.is_stage, Transaction.refused_by}
 use Rattle.draft_core.specs.{Within.AreChangesWithin, declared.refusal.DraftRefusal.DraftRefusal, declared.timing.Move.Move}

@@ -5,7 +5,8 @@ use Rattle.std.specs.Prelude.{IsTrue, if◌then◌else◌}
 use Rattle.std.proofs.lemmas.Bool.{leb-true, le-leb, cases_Bool, cases_lt}
 use Rattle.std.proofs.lemmas.Bool.Decides.{Decides-and, Decides-not, Decides-eqb, Decides-like, Decides-by_and}
 use Rattle.std.proofs.{lemmas.Slice.Eq.bytes_eq-Decides, lemmas.Str.is_utf8-from_IsUtf8, lemmas.Str.IsUtf8-from_is_utf8}
-use Rattle.signal_records.specs.{Words.AreWords, declared.fault.RowFault.RowFault}
+use Rattle.signal_records.specs.declared.fault.RowFault.{RowFault}
+use Rattle.signal_values.specs.Words.{AreWords}
 use Rattle.signal_records.proofs.RowLaws.{same_bytes}
 use Rattle.cabinet_core.specs.{Day.civil_day, Day.day_text, Day.IsDay, Day.SpellsDay, Part.IsPartCode, Part.is_code_byte}
 use Rattle.cabinet_core.proofs.DayLemmas.{civil_day_is_dated, civil_day_is_short, spelt_digits, digits_same}

@@ -7,7 +7,8 @@ use Rattle.std.specs.FinMap.Entries.{below_all, is_sorted}
 use Rattle.signal_records.specs.declared.{key.Key.Key, record.Row.Row, record.Change.Change}
 use Rattle.signal_records.specs.{declared.record.Change.TheVariants.Put, Key.key_cmp, Row.key_of, KeyOrder.key_total, KeyOrder.key_exact}
 use Rattle.signal_records.specs.TimingSet.{Rows, AreKeyed, after_changes}
-use Rattle.signal_records.proofs.Sets.{not_found, parts}
+use Rattle.signal_records.proofs.Sets.{not_found}
+use Rattle.signal_values.proofs.Ties.{parts}
 use Rattle.office_files.specs.Timing.{puts_of}
 
 -- the first of two, or else the second

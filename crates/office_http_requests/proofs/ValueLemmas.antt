@@ -1,7 +1,7 @@
 -- The words and the codes of parts that texts are.
 use Rattle.std.proofs.Common.{◌≡◌, ◌↔◌, ℕ, List, Option, Some, None, IsSome, IfSome, Ok}
 use Rattle.std.specs.{Borrow.Bor, Prelude.option_map}
-use Rattle.signal_records.specs.Words.{AreWords}
+use Rattle.signal_values.specs.Words.{AreWords}
 use Rattle.cabinet_core.specs.Part.{IsPartCode}
 use Rattle.office_files.specs.RecordReading.{part_of, words_of}
 use Rattle.office_files.proofs.RecordFieldLemmas.{given_part, given_words}

@@ -5,7 +5,7 @@ ghost use Rattle.json.specs.Word.{is_space as space_byte};
 ghost use Rattle.office_http_requests.specs.Asks.{Gives, WantsMemoryOnlyIf, lent};
 ghost use Rattle.office_http_requests.specs.Bodies.{number_in, text_in, ranged_in, words_in, day_in, part_in, body_of, data_of, opens_object as opens, IsTold, MayBeObject};
 ghost use Rattle.cabinet_core.specs.Part.{IsPartCode};
-ghost use Rattle.signal_records.specs.Words.{AreWords};
+ghost use Rattle.signal_values.specs.Words.{AreWords};
 
 use crate::value::{day_spelled, number_within, part_parsed, words_parsed};
 use cabinet_core::{Day, PartCode};

@@ -3,7 +3,7 @@ ghost use Rattle.std.specs.Prelude.{◌≡◌, IfSome, option_map};
 ghost use Rattle.cabinet_core.specs.Part.{IsPartCode};
 ghost use Rattle.office_files.specs.RecordReading.{day_of, part_of, words_of};
 ghost use Rattle.signal_records.specs.Reading.{within};
-ghost use Rattle.signal_records.specs.Words.{AreWords};
+ghost use Rattle.signal_values.specs.Words.{AreWords};
 
 use cabinet_core::{Day, PartCode, read_day};
 use signal_records::{Number, Words};

@@ -3,7 +3,7 @@ use Rattle.std.specs.Prelude.{◌≡◌, ℕ, ◌≤◌, List, [], Option, Some,
 use Rattle.std.specs.Int.{IsInRange}
 use Rattle.std.specs.Ordering.{nat_cmp}
 use Rattle.std.specs.FinMap.{FinMap, get}
-use Rattle.signal_records.specs.Words.{AreWords}
+use Rattle.signal_values.specs.Words.{AreWords}
 use Rattle.draft_core.specs.Transaction.{TimingSide}
 pub use Rattle.draft_core.specs.Sound.{no_timing, Version, today, version_1, AreRecordsIn, AreRecords, IsSoundDraftIn, IsSoundDraft}
 use Rattle.cabinet_core.specs.Register.{Register}

@@ -15,7 +15,8 @@ use Rattle.signal_records.specs.declared.record.SplitMode.TheVariants.{Pedestria
 use Rattle.signal_records.specs.{declared.record.Row.Row, PhaseList.is_phase, PhaseList.is_phase_list, PhaseList.is_distinct}
 use Rattle.signal_records.specs.{Reading.is_numeral, Reading.row_at, Spelling.list, Spelling.flag, Spelling.lead_field, Spelling.ped_fields}
 use Rattle.signal_records.specs.{Spelling.phase_front, Spelling.phase_fields, Spelling.spelling, SplitMode.mode_code}
-use Rattle.signal_records.specs.{declared.limits.Limits.Limits, declared.number.TheConstants.PHASES, Within.AreLimits}
+use Rattle.signal_records.specs.{declared.limits.Limits.Limits, Within.AreLimits}
+use Rattle.signal_values.specs.declared.number.TheConstants.{PHASES}
 use Rattle.signal_records.specs.Within.{current_limits, most_lead, IsAnyPedWithin, IsPhaseWithin, IsRowWithin}
 use Rattle.signal_records.specs.declared.record.Row.TheVariants as row
 use Rattle.signal_records.proofs.{FieldLaws.numeral_decimal, FieldLaws.in_range, FieldLaws.same_ok, RowLaws.row_only, RowLaws.are_current}

@@ -4,7 +4,7 @@ use Rattle.std.specs.List.{join_with_byte}
 use Rattle.signal_records.specs.Key.{kind_of, first_of, second_of}
 use Rattle.signal_records.specs.Spelling.{spelling}
 use Rattle.signal_records.specs.Within.{current_limits}
-use Rattle.signal_records.specs.Words.{AreWords}
+use Rattle.signal_values.specs.Words.{AreWords}
 use Rattle.signal_records.specs.declared.key.Key.{Key}
 use Rattle.signal_records.specs.declared.limits.Limits.{Limits}
 use Rattle.signal_records.specs.declared.record.Row.{Row}

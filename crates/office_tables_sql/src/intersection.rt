@@ -6,7 +6,7 @@ ghost use Rattle.sqlite.specs.State.{HasCleanDisk, Survives};
 ghost use Rattle.sqlite.specs.Held.{state};
 ghost use Rattle.sqlite.specs.Values.{bound_value};
 ghost use Rattle.sqlite_value.specs.Value.{owned};
-ghost use Rattle.signal_records.specs.Words.{AreWords};
+ghost use Rattle.signal_values.specs.Words.{AreWords};
 ghost use Rattle.draft_state.specs.declared.state.Holder.{Holder};
 ghost use Rattle.draft_state.specs.declared.state.Stage.{Stage};
 ghost use Rattle.office_tables_shelf.specs.Cells.{number};

@@ -4,7 +4,7 @@ ghost use Rattle.std.specs.Prelude.{◌≡◌, ◌≢◌, ◌≤◌, ◌<◌, �
 ghost use Rattle.std.specs.Prelude.{option_map, IfOk, IfSome, OnOk};
 ghost use Rattle.sqlite.specs.Order.{column};
 ghost use Rattle.std.specs.Int.{IsInRange};
-ghost use Rattle.signal_records.specs.Words.{AreWords};
+ghost use Rattle.signal_values.specs.Words.{AreWords};
 ghost use Rattle.cabinet_core.specs.Day.{IsDay};
 ghost use Rattle.cabinet_core.specs.Part.{IsPartCode};
 ghost use Rattle.office_tables_shelf.specs.Cells.{null, number, text};

@@ -7,7 +7,8 @@ use Rattle.std.specs.{declared.cmp.Ordering.TheVariants.Greater, Ordering.is_lt,
 use Rattle.std.specs.FinMap.Entries.{below_all}
 use Rattle.signal_records.specs.{declared.key.Key.Key, declared.record.Row.Row, Key.key_cmp, KeyOrder.key_total, KeyOrder.key_exact}
 use Rattle.signal_records.specs.Row.{key_of}
-use Rattle.signal_records.proofs.Sets.{both, is_less, not_found, parts, tied}
+use Rattle.signal_records.proofs.Sets.{not_found}
+use Rattle.signal_values.proofs.Ties.{both, is_less, parts, tied}
 use Rattle.signal_compare.specs.{declared.difference.Difference.Difference, declared.difference.Difference.TheVariants.Added}
 use Rattle.signal_compare.specs.declared.difference.Difference.TheVariants.{Removed, Changed}
 use Rattle.signal_compare.specs.{Difference.difference_at, Difference.Explains, Merging.keyed, Merging.placed, Merging.AreInOrder}

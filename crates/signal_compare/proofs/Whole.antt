@@ -12,7 +12,8 @@ use Rattle.signal_compare.specs.{declared.difference.Difference.Difference, decl
 use Rattle.signal_compare.specs.declared.difference.Difference.TheVariants.{Removed, Changed}
 use Rattle.signal_compare.specs.Difference.{place_of, change_of, changes_of, difference_at, Explains}
 use Rattle.signal_compare.specs.Merging.{keyed, placed, AreInOrder, AreDifferences}
-use Rattle.signal_records.proofs.Sets.{is_less, keyed_values, parts}
+use Rattle.signal_records.proofs.Sets.{keyed_values}
+use Rattle.signal_values.proofs.Ties.{is_less, parts}
 use Rattle.signal_compare.proofs.Steps.{found_nowhere}
 
 -- the rows of a set, in the order of their keys

@@ -4,7 +4,8 @@ use Rattle.std.proofs.{Common.length, Common.arith, Common.inl, Common.inr, lemm
 use Rattle.std.proofs.{lemmas.Bool.or_parts, lemmas.Bool.not-true, lemmas.Bool.eqb-true, lemmas.Bool.Decides.nat_tests}
 use Rattle.std.proofs.lemmas.Map.Steps.{length-le_from_distinct_below}
 use Rattle.std.specs.{Prelude.IsTrue, List.list_any, List.list_all, List.IsDistinct, List.AllByRecursion}
-use Rattle.signal_records.specs.{declared.number.TheConstants.PHASES, PhaseList.is_phase, PhaseList.is_phase_list, PhaseList.is_distinct}
+use Rattle.signal_records.specs.{PhaseList.is_phase, PhaseList.is_phase_list, PhaseList.is_distinct}
+use Rattle.signal_values.specs.declared.number.TheConstants.{PHASES}
 
 -- two numbers are told apart in either order
 apart : (m n : ℕ) → eqb m n ≡ false → eqb n m ≡ false

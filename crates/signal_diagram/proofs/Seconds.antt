@@ -1,7 +1,7 @@
 -- One second more of a cycle: the lines that were drawn and those that are left.
 use Rattle.std.proofs.Common.{◌≡◌, ℕ, suc, ◌+◌, ◌-◌, ◌<◌, ◌≤◌, Bool, true, false, List, [], ◌∷◌, ◌++◌}
 use Rattle.std.proofs.Common.{flat_map, filter, ◌⊎◌, inl, inr, refl, append_assoc, arith}
-use Rattle.signal_records.specs.Numbers.{numbers}
+use Rattle.signal_values.specs.Numbers.{numbers}
 
 next_number : (cycle second : ℕ) → second < cycle
     → numbers (cycle - second) second ≡ second ∷ numbers (cycle - (second + 1)) (second + 1)

@@ -3,7 +3,7 @@ use Rattle.std.specs.Prelude.{ℕ, ◌-◌, ◌*◌, Bool, false, List, [], ◌�
 use Rattle.std.specs.Prelude.{length}
 use Rattle.std.specs.List.{list_all}
 use Rattle.signal_records.specs.declared.record.Pattern.{Pattern}
-use Rattle.signal_records.specs.Numbers.{numbers}
+use Rattle.signal_values.specs.Numbers.{numbers}
 use Rattle.signal_records.specs.TimingSet.{Rows}
 use Rattle.signal_rules.specs.Lookup.{is_in}
 use Rattle.signal_rules.specs.SequenceRule.{ring_row}

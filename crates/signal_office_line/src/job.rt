@@ -11,7 +11,7 @@ use crate::command_line::command_line;
 use crate::jobs::job_at;
 use clap::error::ErrorKind;
 use clap::{Command, Error};
-use signal_records::{InterId, Interval, PatternNo};
+use signal_values::{InterId, Interval, PatternNo};
 use std::alloc::{AllocError, Global};
 
 /// What of an intersection is exported as CSV.

@@ -12,7 +12,7 @@ use crate::job::{Edit, Job, Plan, Plans, View};
 use crate::kept::{add, cabinet, list, orders, stock};
 use crate::values::{choice, flag, intersection, number, word};
 use clap::ArgMatches;
-use signal_records::PatternNo;
+use signal_values::PatternNo;
 
 /// The most connections that a server serves.
 const MOST_CONNECTIONS: u32 = 1_000_000;

@@ -9,7 +9,7 @@ ghost use Rattle.signal_office_line.specs.Job.{number_at, orders_at, stock_at};
 use crate::job::Job;
 use crate::values::{flag, intersection, number, word};
 use clap::ArgMatches;
-use signal_records::{InterId, Interval};
+use signal_values::{InterId, Interval};
 
 /// The days from one inspection to the next.
 fn interval(matches: &ArgMatches<'_>, id: &str) -> Option<Interval>

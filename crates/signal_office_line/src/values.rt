@@ -6,7 +6,7 @@ ghost use Rattle.clap.specs.Walk.{first_of, rows_of};
 ghost use Rattle.signal_office_line.specs.Job.{choice_at, flag_at, number_at};
 
 use clap::ArgMatches;
-use signal_records::InterId;
+use signal_values::InterId;
 
 /// The word of an argument, where it was given.
 pub(crate) fn word<'a>(matches: &ArgMatches<'a>, id: &str) -> Option<&'a str>

@@ -7,7 +7,8 @@ use Rattle.std.specs.List.{list_any}
 use Rattle.std.proofs.{lemmas.Bool.cases_eq, lemmas.Bool.ne_eqb, lemmas.Bool.or_right, lemmas.Bool.Decides.nat_tests}
 use Rattle.std.proofs.lemmas.List.{length-set, get_or-replicate, get_or-set_same, get_or-set_other}
 use Rattle.std.proofs.lemmas.List.Folds.{list_any-append}
-use Rattle.signal_records.specs.{declared.number.TheConstants.PHASES, PhaseList.is_phase}
+use Rattle.signal_records.specs.PhaseList.{is_phase}
+use Rattle.signal_values.specs.declared.number.TheConstants.{PHASES}
 use Rattle.signal_records.proofs.Lists.{may_follow, and_parts}
 
 -- whether a list has a number

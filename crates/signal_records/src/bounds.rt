@@ -11,8 +11,8 @@ ghost use Rattle.signal_records.specs.Within.{IsRowWithin, IsKeyWithin, IsChange
 
 use crate::key::Key;
 use crate::limits::VERSION_1_LIMITS;
-use crate::number::{PatternNo, PhaseNo, RingNo, SeqNo, SplitNo};
 use crate::record::{Change, Pattern, Ped, Phase, Row, SeqRow, Split};
+use signal_values::{PatternNo, PhaseNo, RingNo, SeqNo, SplitNo};
 
 /// Every row is within today's limits.
 pub fn row_is_within(row: &Row)

@@ -3,7 +3,7 @@
 ghost use Rattle.std.specs.Prelude.{◌≡◌};
 ghost use Rattle.signal_records.specs.Reading.{ped_width};
 
-use crate::number::{PHASES, RINGS};
+use signal_values::{PHASES, RINGS};
 
 /// The limits of a version of the rows.
 #[derive(Clone, Copy)]

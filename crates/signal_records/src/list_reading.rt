@@ -1,13 +1,12 @@
 //! A field of a row that spells a list of phases.
 
 ghost use Rattle.std.specs.Prelude.{◌≡◌, ◌≤◌, length, IfOk, IfErr};
-ghost use Rattle.signal_records.specs.declared.number.TheConstants.{PHASES};
+ghost use Rattle.signal_values.specs.declared.number.TheConstants.{PHASES};
 ghost use Rattle.signal_records.specs.Reading.{parts, phase_in, phases_in, spells_phases};
 
 use crate::NoMemory;
-use crate::field_reading::numeral;
-use crate::number::PhaseNo;
 use crate::phase_list::{MetPhases, PhaseList};
+use signal_values::{PhaseNo, numeral};
 use std::alloc::Global;
 use std::marker::Model;
 
@@ -20,7 +19,7 @@ pub(crate) struct SpelledPhases<'a> {
 
 impl<'a> Model for SpelledPhases<'a> {
     ghost use Rattle.std.specs.Prelude.{List, ℕ, IsTrue};
-    ghost use Rattle.signal_records.specs.declared.number.TheConstants.{PHASES};
+    ghost use Rattle.signal_values.specs.declared.number.TheConstants.{PHASES};
     ghost use Rattle.signal_records.specs.Reading.{spelled_numbers, spells_phases};
 
     ghost Value = { List ℕ };

@@ -1,7 +1,7 @@
 //! Rows from their fields.
 
 ghost use Rattle.std.specs.Prelude.{◌≡◌, ◌≤◌, ◌+◌, length};
-ghost use Rattle.signal_records.specs.declared.number.TheConstants.{PHASES, RINGS};
+ghost use Rattle.signal_values.specs.declared.number.TheConstants.{PHASES, RINGS};
 ghost use Rattle.signal_records.specs.Reading.{Gives, WantsOnlyFor, HasList, texts};
 ghost use Rattle.signal_records.specs.Reading.{ped_width, lead_in, ped_record, ped_at};
 ghost use Rattle.signal_records.specs.Reading.{phase_record, seq_record, split_record};
@@ -10,8 +10,8 @@ ghost use Rattle.signal_records.specs.Reading.{pattern_record, row_at};
 use crate::fault::RowFault;
 use crate::field_reading::{byte, flag, mode, number, number_up_to, phases};
 use crate::limits::Limits;
-use crate::number::{Lead, no_lead};
 use crate::record::{Pattern, Ped, Phase, Row, SeqRow, Split};
+use signal_values::{Lead, no_lead};
 use std::alloc::Global;
 
 /// The lead at its place; without a field for it, it is 0.

@@ -4,7 +4,7 @@ use Rattle.std.proofs.Common.{List, [], ◌∷◌, filter, Contains, inl, inr, s
 use Rattle.std.proofs.lemmas.Bool.{and_from, and_parts, eqb-true, false≢true, le-leb, lt-ltb, or_cases}
 use Rattle.std.proofs.{lemmas.Bool.Decides.nat_tests, lemmas.List.Folds.list_any_at, lemmas.Map.Views.any-filter_same}
 use Rattle.std.specs.{Prelude.◌||◌, List.list_all, List.list_any}
-use Rattle.signal_records.specs.Numbers.{numbers}
+use Rattle.signal_values.specs.Numbers.{numbers}
 use Rattle.signal_rules.specs.Lookup.{is_in}
 
 -- the numbers that follow each other

@@ -4,7 +4,7 @@ use Rattle.std.proofs.lemmas.Bool.Decides.{nat_tests}
 use Rattle.std.specs.{declared.cmp.Ordering.Ordering, FinMap.nat_cmp-IsAntisymmetric}
 use Rattle.std.specs.declared.cmp.Ordering.TheVariants.{Less, Equal, Greater}
 use Rattle.std.specs.Ordering.{nat_cmp, ordering_then, is_eq}
-use Rattle.signal_records.proofs.Sets.{numbers_tie, then_ties}
+use Rattle.signal_values.proofs.Ties.{numbers_tie, then_ties}
 
 pub number_less : (a b : ℕ) → nat_cmp a b ≡ Less → a < b
 number_less a b e = grind (arith, nat_tests)

@@ -3,8 +3,9 @@ use Rattle.std.proofs.Common.{◌≡◌, ℕ, ◌+◌, ◌<◌, ◌≤◌, Bool,
 use Rattle.std.proofs.lemmas.Bool.{and_parts, and_from, eqb-true, eq-eqb, both_ways, false_from_ne_true}
 use Rattle.std.proofs.lemmas.List.Elements.{filter_agree}
 use Rattle.std.specs.{Prelude.◌||◌, Prelude.count_by, List.list_any, List.list_all}
-use Rattle.signal_records.specs.{declared.record.Phase.Phase, Numbers.numbers, TimingSet.Rows}
-use Rattle.signal_records.specs.declared.number.TheConstants.{PHASES, RINGS}
+use Rattle.signal_records.specs.{declared.record.Phase.Phase, TimingSet.Rows}
+use Rattle.signal_values.specs.Numbers.{numbers}
+use Rattle.signal_values.specs.declared.number.TheConstants.{PHASES, RINGS}
 use Rattle.signal_rules.specs.Lookup.{phase_at, phases, phase_numbers, ring_numbers, is_in}
 use Rattle.signal_rules.specs.PatternRules.{is_used, used_rings}
 use Rattle.signal_rules.specs.SequenceRule.{in_ring, ring_row, has_each_once, has_no_other, rows_are_right}

@@ -5,7 +5,7 @@ use Rattle.std.specs.{Prelude.◌||◌, FinMap.find, Option.unwrap_or}
 use Rattle.std.specs.{declared.cmp.Ordering.TheVariants.Less, declared.cmp.Ordering.TheVariants.Equal, List.list_any, List.list_all}
 use Rattle.std.specs.{List.filter_map, List.flat_map, List.cons_option, Ordering.nat_cmp, Ordering.eq_by_cmp}
 use Rattle.signal_records.specs.declared.key.Key.TheVariants as key
-use Rattle.signal_records.specs.declared.number.TheConstants.{PHASES, RINGS}
+use Rattle.signal_values.specs.declared.number.TheConstants.{PHASES, RINGS}
 use Rattle.signal_records.specs.{declared.record.Row.Row, Key.key_cmp, Row.key_of}
 use Rattle.signal_records.specs.declared.record.Row.TheVariants as row
 use Rattle.signal_rules.specs.declared.violation.Subject.TheVariants as subject
@@ -14,7 +14,7 @@ use Rattle.signal_rules.specs.RowWalk.{keyed, of_kind, sequence_of, sequences_af
 use Rattle.signal_rules.proofs.{Among.any_at, Among.in_numbers, InOrder.firsts, InOrder.second_at, KeyOrder.number_less, KeyOrder.pair_less}
 use Rattle.signal_rules.proofs.{KeyOrder.pair_tied, KeyOrder.tied_alone, RowNumbers.within_bounds, RowNumbers.found_or}
 use Rattle.signal_rules.proofs.Unreached.{list_any_same}
-use Rattle.signal_records.proofs.Sets.{numbers_tie}
+use Rattle.signal_values.proofs.Ties.{numbers_tie}
 
 -- ---- phases
 

@@ -8,7 +8,8 @@ use Rattle.std.specs.List.{AllByRecursion, list_all, filter_map, cons_option}
 use Rattle.signal_records.specs.{declared.key.Key.Key, declared.record.Row.Row, Key.key_cmp, Row.key_of, TimingSet.Rows, TimingSet.AreKeyed}
 use Rattle.signal_rules.specs.RowWalk.{keyed, is_from_to, is_within}
 use Rattle.signal_rules.proofs.InOrder.{Rising}
-use Rattle.signal_records.proofs.Sets.{is_less, keyed_values, parts}
+use Rattle.signal_records.proofs.Sets.{keyed_values}
+use Rattle.signal_values.proofs.Ties.{is_less, parts}
 
 -- ---- the rows of a set
 

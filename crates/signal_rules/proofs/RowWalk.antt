@@ -3,7 +3,8 @@ use Rattle.std.proofs.Common.{◌≡◌, ℕ, List, [], ◌++◌, map, filter, i
 use Rattle.std.proofs.lemmas.Bool.{ne_eqb}
 use Rattle.std.specs.{FinMap.find, List.filter_map, List.flat_map}
 use Rattle.signal_records.specs.declared.key.Key.TheVariants as key
-use Rattle.signal_records.specs.{declared.number.TheConstants.PHASES, declared.record.Row.Row, Key.key_cmp, TimingSet.Rows}
+use Rattle.signal_records.specs.{declared.record.Row.Row, Key.key_cmp, TimingSet.Rows}
+use Rattle.signal_values.specs.declared.number.TheConstants.{PHASES}
 use Rattle.signal_rules.specs.declared.violation.Subject.{Subject}
 use Rattle.signal_rules.specs.Lookup.{the_phase, the_list, the_split, the_pattern, phase_at, sequence_at, split_at, pattern_at, last_sequence, last_split, last_pattern, phases, ring_numbers, sequence_numbers, split_numbers, pattern_numbers, has_sequence}
 use Rattle.signal_rules.specs.RowWalk.{keyed, of_kind, sequence_of, sequences_after}

@@ -6,7 +6,8 @@ use Rattle.std.specs.Prelude.{Contains, count_by, if◌then◌else◌, replicate
 use Rattle.std.specs.{FinMap.get, List.list_all, List.list_any, List.flat_map}
 use Rattle.signal_records.specs.declared.{key.Key.Key, record.Phase.Phase, record.Split.Split}
 use Rattle.signal_records.specs.declared.key.Key.TheVariants as key
-use Rattle.signal_records.specs.{TimingSet.Rows, declared.record.Pattern.Pattern, Numbers.numbers}
+use Rattle.signal_records.specs.{TimingSet.Rows, declared.record.Pattern.Pattern}
+use Rattle.signal_values.specs.Numbers.{numbers}
 use Rattle.signal_rules.specs.{declared.violation.Subject.Subject, Difference.DiffersAtMost}
 use Rattle.signal_rules.specs.declared.violation.Subject.TheVariants as subject
 use Rattle.signal_rules.specs.declared.violation.Rule.TheVariants as rule

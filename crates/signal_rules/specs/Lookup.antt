@@ -8,8 +8,8 @@ use Rattle.signal_records.specs.declared.record.Split.{Split}
 use Rattle.signal_records.specs.declared.record.Pattern.{Pattern}
 use Rattle.signal_records.specs.declared.record.Row.{Row}
 use Rattle.signal_records.specs.declared.record.Row.TheVariants as row
-use Rattle.signal_records.specs.Numbers.{numbers}
-use Rattle.signal_records.specs.declared.number.TheConstants.{PHASES, RINGS}
+use Rattle.signal_values.specs.Numbers.{numbers}
+use Rattle.signal_values.specs.declared.number.TheConstants.{PHASES, RINGS}
 use Rattle.signal_records.specs.TimingSet.{Rows}
 
 -- a row under a key of its own kind holds the record of that kind

@@ -3,7 +3,7 @@ use Rattle.std.specs.Prelude.{◌==◌, ℕ, nat_lt, Bool, true, false, ◌&&◌
 use Rattle.std.specs.List.{list_any, list_all, flat_map}
 use Rattle.signal_records.specs.declared.record.Split.{Split}
 use Rattle.signal_records.specs.declared.record.Pattern.{Pattern}
-use Rattle.signal_records.specs.Numbers.{numbers}
+use Rattle.signal_values.specs.Numbers.{numbers}
 use Rattle.signal_records.specs.TimingSet.{Rows}
 use Rattle.signal_rules.specs.Lookup.{phase_at, split_at, phases, phase_numbers, ring_numbers, has_sequence, lists}
 use Rattle.signal_rules.specs.SequenceRule.{in_ring, ring_row}

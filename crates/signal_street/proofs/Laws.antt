@@ -2,7 +2,8 @@
 use Rattle.std.proofs.Common.{◌≡◌, ◌↔◌, ℕ, ◌+◌, ◌*◌, ◌<◌, ◌≤◌, true, [], Option, Some, None, IfSome, ◌⊎◌, inl, inr, refl, sym, ap, subst, ◌∙◌, arith}
 use Rattle.std.proofs.lemmas.Bool.{cases_eq, cases_lt}
 use Rattle.std.specs.Int.{IsInRange}
-use Rattle.signal_records.specs.{declared.number.TheConstants.RINGS, declared.record.Pattern.Pattern, declared.record.Ped.Ped}
+use Rattle.signal_records.specs.{declared.record.Pattern.Pattern, declared.record.Ped.Ped}
+use Rattle.signal_values.specs.declared.number.TheConstants.{RINGS}
 use Rattle.signal_records.specs.{declared.record.Phase.Phase, declared.record.Split.Split, TimingSet.Rows}
 use Rattle.signal_rules.specs.{Lookup.phase_at, Lookup.split_at, SplitRule.time_is_right, Violations.violations_of}
 use Rattle.signal_street.specs.Timing.{HasPhase, HasPattern, order, time_or_none, split_time, BeginsIn, TimesIn, IsTiming}

@@ -3,8 +3,10 @@ use Rattle.std.proofs.Common.{◌≡◌, ◌≢◌, ℕ, ◌+◌, ◌<◌, ◌�
 use Rattle.std.proofs.lemmas.Bool.{false≢true, and_parts, eq-eqb, eqb-true}
 use Rattle.std.proofs.lemmas.List.Folds.{list_all-map}
 use Rattle.std.specs.{Int.IsInRange, List.list_all}
-use Rattle.signal_records.specs.{declared.number.TheConstants.PHASES, declared.number.TheConstants.RINGS, declared.record.Pattern.Pattern}
-use Rattle.signal_records.specs.{declared.record.Phase.Phase, declared.record.Split.Split, Numbers.numbers, TimingSet.Rows}
+use Rattle.signal_records.specs.declared.record.Pattern.{Pattern}
+use Rattle.signal_values.specs.{declared.number.TheConstants.PHASES, declared.number.TheConstants.RINGS}
+use Rattle.signal_records.specs.{declared.record.Phase.Phase, declared.record.Split.Split, TimingSet.Rows}
+use Rattle.signal_values.specs.Numbers.{numbers}
 use Rattle.signal_rules.specs.{CutPoints.timed, Lookup.phase_at, Lookup.sequence_at, Lookup.split_at, Lookup.phases, Lookup.has_sequence}
 use Rattle.signal_rules.specs.Lookup.{is_in, lists, the_mates, phase_numbers, ring_numbers, last_sequence, last_split, last_pattern}
 use Rattle.signal_rules.specs.{Lookup.sequence_numbers, Lookup.split_numbers, Lookup.pattern_numbers, PatternRules.has_splits}

@@ -1,7 +1,7 @@
 -- What a timing set without violations means on the street.
 use Rattle.std.specs.Prelude.{◌≡◌, ◌≢◌, ◌↔◌, ℕ, ◌+◌, ◌*◌, ◌<◌, ◌≤◌, Contains, Some, IfSome}
 use Rattle.std.specs.Int.{IsInRange}
-use Rattle.signal_records.specs.declared.number.TheConstants.{PHASES, RINGS}
+use Rattle.signal_values.specs.declared.number.TheConstants.{PHASES, RINGS}
 use Rattle.signal_records.specs.declared.record.Pattern.{Pattern}
 use Rattle.signal_records.specs.declared.record.Ped.{Ped}
 use Rattle.signal_records.specs.declared.record.Phase.{Phase}

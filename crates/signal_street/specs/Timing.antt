@@ -1,7 +1,7 @@
 -- When the phases of a pattern time, in seconds of its cycle, which count from 0.
 use Rattle.std.specs.Prelude.{◌≡◌, ℕ, ◌+◌, ◌<◌, ◌≤◌, List, [], ◌∷◌, ◌++◌, sum_by, Option, Some, None}
 use Rattle.std.specs.Int.{IsInRange}
-use Rattle.signal_records.specs.declared.number.TheConstants.{PHASES, RINGS}
+use Rattle.signal_values.specs.declared.number.TheConstants.{PHASES, RINGS}
 use Rattle.signal_records.specs.declared.record.Pattern.{Pattern}
 use Rattle.signal_records.specs.declared.record.Phase.{Phase}
 use Rattle.signal_records.specs.declared.record.Split.{Split}

@@ -1,5 +1,5 @@
 use Rattle.std.proofs.Common.{◌≡◌, ◌-◌, ◌++◌, flat_map, filter, length, string_bytes}
-use Rattle.signal_records.specs.Numbers.{numbers}
+use Rattle.signal_values.specs.Numbers.{numbers}
 use Rattle.signal_diagram.specs.Barriers.{all_start, barrier, barriers_within}
 use Rattle.signal_diagram.proofs.barriers.push_barriers_within.Given as goal
 

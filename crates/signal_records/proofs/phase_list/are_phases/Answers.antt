@@ -1,7 +1,8 @@
 use Rattle.std.proofs.Common.{◌≡◌, ◌+◌, ◌++◌, ◌∷◌, [], true, false, take, drop}
 use Rattle.std.proofs.Common.{refl, sym, ap, subst, ◌∙◌, arith}
 use Rattle.std.proofs.lemmas.List.{take_more}
-use Rattle.signal_records.specs.{declared.number.TheConstants.PHASES, PhaseList.is_phase_list}
+use Rattle.signal_records.specs.PhaseList.{is_phase_list}
+use Rattle.signal_values.specs.declared.number.TheConstants.{PHASES}
 use Rattle.signal_records.proofs.Lists.{may_follow, refused, followed, at_place}
 use Rattle.signal_records.proofs.Marks.{AreMet, none_met, met_tells, met_more}
 use Rattle.signal_records.proofs.phase_list.are_phases.Goals as goal

@@ -1,7 +1,7 @@
 //! Short texts.
 
 ghost use Rattle.std.specs.Prelude.{◌≡◌, ◌↔◌, IsSome, IfSome, IfOk, IfErr};
-ghost use Rattle.signal_records.specs.Words.{AreWords};
+ghost use Rattle.signal_values.specs.Words.{AreWords};
 
 use crate::NoMemory;
 use std::alloc::{AllocError, Global};
@@ -16,7 +16,7 @@ pub struct Words<const MAX: usize> {
 
 impl<const MAX: usize> Model for Words<MAX> {
     ghost use Rattle.std.specs.Prelude.{List, ℕ, string_bytes};
-    ghost use Rattle.signal_records.specs.Words.{AreWords};
+    ghost use Rattle.signal_values.specs.Words.{AreWords};
 
     ghost Value = { List ℕ };
 

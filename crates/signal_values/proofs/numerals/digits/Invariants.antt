@@ -1,6 +1,6 @@
 use Rattle.std.proofs.Common.{◌≡◌, ◌-◌, ◌^◌, min, take, true}
 use Rattle.std.specs.{Char.is_ascii_digit, List.list_all, Str.Parse.digits_value}
-use Rattle.signal_records.proofs.field_reading.digits.Given as goal
+use Rattle.signal_values.proofs.numerals.digits.Given as goal
 
 abbrev pub invariant-loop-b : goal.invariant-loop-b
 invariant-loop-b l = record {

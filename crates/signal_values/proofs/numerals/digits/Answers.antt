@@ -2,7 +2,7 @@ use Rattle.std.proofs.Common.{◌≡◌, ◌-◌, true, get_or, sym, ◌∙◌, 
 use Rattle.std.specs.Char.{is_ascii_digit, digit_value}
 use Rattle.std.proofs.{lemmas.Bool.and_from, lemmas.Bool.Decides.nat_tests, lemmas.Int.Digits.digits_value_more}
 use Rattle.std.proofs.lemmas.List.Folds.{list_all_more}
-use Rattle.signal_records.proofs.field_reading.digits.Goals as goal
+use Rattle.signal_values.proofs.numerals.digits.Goals as goal
 
 -- one more digit, where a number past the greatest stays the greatest
 pub loop-b-preserved : goal.loop-b-preserved

@@ -1,0 +1,18 @@
+-- Numbers that decimal digits spell.
+use Rattle.std.specs.Prelude.{ℕ, ◌==◌, Bool, false, not, ◌&&◌, ◌||◌, nat_le, if◌then◌else◌, List, [], ◌∷◌, length, Option, Some, None}
+use Rattle.std.specs.Char.{is_ascii_digit}
+use Rattle.std.specs.List.{list_all}
+use Rattle.std.specs.Str.Parse.{digits_value}
+
+-- decimal digits without a leading zero; `0` is zero
+abbrev pub is_numeral : List ℕ → Bool
+is_numeral [] = false
+is_numeral (b ∷ bs) = list_all is_ascii_digit (b ∷ bs) && (not (b == 48) || length bs == 0)
+
+-- the number, where it is in the range
+abbrev pub within : ℕ → ℕ → ℕ → Option ℕ
+within low high n = if nat_le low n && nat_le n high then Some n else None
+
+-- the number of the range that a text spells: decimal digits without a leading zero
+unfoldable pub number_spelled : ℕ → ℕ → List ℕ → Option ℕ
+number_spelled low high text = if is_numeral text then within low high (digits_value 10 text) else None
