@@ -18,7 +18,8 @@ ghost use Rattle.office_tables_shelf.specs.Damage.{HasDamagedIntersection};
 ghost use Rattle.office_tables_shelf.specs.declared.rows.IntersectionRow.{IntersectionRow};
 ghost use Rattle.office_tables_shelf.specs.declared.rows.Table.TheVariants as table;
 ghost use Rattle.office_tables_statements.specs.Stored.{cell_of, content_now};
-ghost use Rattle.office_tables_statements.specs.Calls.{IsHonest, IsOffice, IsReady, Keeps, StandsOn};
+ghost use Rattle.office_tables_statements.specs.Calls.{IsHonest, IsOffice, IsReady, Keeps};
+ghost use Rattle.office_tables_statements.specs.Calls.{StandsOn};
 ghost use Rattle.office_tables_statements.specs.Calls.{TellsOpen};
 ghost use Rattle.office_tables_statements.specs.Tables.{value_of};
 

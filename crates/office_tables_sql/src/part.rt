@@ -7,7 +7,8 @@ ghost use Rattle.sqlite.specs.Held.{state};
 ghost use Rattle.office_tables_shelf.specs.CabinetReads.{ReadsHand, HasDamagedHand};
 ghost use Rattle.office_tables_shelf.specs.CabinetRows.{part_key, part_columns};
 ghost use Rattle.office_tables_statements.specs.Stored.{content_now};
-ghost use Rattle.office_tables_statements.specs.Calls.{IsHonest, IsOffice, IsReady, Keeps, StandsOn};
+ghost use Rattle.office_tables_statements.specs.Calls.{IsHonest, IsOffice, IsReady, Keeps};
+ghost use Rattle.office_tables_statements.specs.Calls.{StandsOn};
 ghost use Rattle.office_tables_statements.specs.Calls.{TellsOpen};
 
 use crate::stored_row::{self, StoredRow};
