@@ -24,6 +24,11 @@ from model.wire import answer
 SHARES = {"transactions": 22, "plans": 30, "registers": 22, "days": 8, "faults": 18}
 STREAM, OPENED = 50, 3  # requests of a stream, and streams after which the tables are opened again
 
+# The requests of a stream that breaks off.
+CUT = [("POST", "/intersections", '{"id":12,"interval":365,"name":"Main St"}'),
+       ("GET", "/intersections/12", None),
+       ("POST", "/intersections/12/begin", '{"clerk":"Ana"}')]
+
 
 def drawn(name, seed, count):
     """The requests of a theme with their answers."""
@@ -32,6 +37,12 @@ def drawn(name, seed, count):
     for method, target, keys in itertools.islice(theme, count):
         body = requests.body_of(keys)
         yield (method, target, body), answer(office, method, target, (body or "").encode())
+
+
+def sent(method, target, body):
+    """The bytes of a request, as the rows have it, in ASCII."""
+    length = f"Content-Length: {len(body)}\r\n" if body else ""
+    return f"{method} {target} HTTP/1.1\r\n{length}\r\n{body or ''}"
 
 
 def row(name, seed, count, tally):
@@ -49,11 +60,30 @@ def row(name, seed, count, tally):
             yield "opens"
 
 
+def cuts(seed, count):
+    """The text of a row file: a stream, sent again and again, breaks off one byte later each time.
+    So much of it is answered as is whole."""
+    yield (f"# Drawn by tests/draw_rows.py {seed} {count}, and not written by hand. Requests of "
+           f"{', '.join(str(len(sent(*it))) for it in CUT)} bytes in a stream that breaks off.")
+    office, stream = Office(), "".join(sent(*it) for it in CUT)
+    ends = list(itertools.accumulate(len(sent(*it)) for it in CUT))
+    for at in range(len(stream) + 1):
+        whole = sum(end <= at for end in ends)
+        for method, target, body in CUT[:whole]:
+            yield f"> {written(method, target, body)}"
+            yield f"< {' '.join(answer(office, method, target, (body or '').encode()))}"
+        rest = stream[[0, *ends][whole]:at]
+        if rest:
+            yield ">> " + rest.replace("\r", "\\r").replace("\n", "\\n")
+        yield f"served {whole}"
+
+
 def rows(seed, count):
     """Each row file's name and text, and the tally of all."""
     tally = Tally()
     texts = {DATA / f"drawn_{name}.row": "\n".join([*row(name, seed, count, tally), ""])
              for name in SHARES}
+    texts[DATA / "drawn_cuts.row"] = "\n".join([*cuts(seed, count), ""])
     return texts, tally
 
 
@@ -61,7 +91,7 @@ def stored():
     """The seed and the count by which the stored rows were drawn."""
     told = [re.match(r"# Drawn by tests/draw_rows.py (\d+) (\d+),", path.read_text())
             for path in sorted(DATA.glob("drawn_*.row"))]
-    if len(told) != len(SHARES) or not all(told) or len({it.groups() for it in told}) != 1:
+    if len(told) != len(SHARES) + 1 or not all(told) or len({it.groups() for it in told}) != 1:
         sys.exit("draw_rows.py: the stored rows are not those of one seed and count")
     return map(int, told[0].groups())
 

@@ -14,7 +14,7 @@ import sys
 TOP = pathlib.Path(__file__).resolve().parent.parent
 PICTURE = TOP / "docs" / "crates.svg"
 TESTS = {"signal_core_tests", "office_row_files", "office_trial_files", "office_row_tables"}
-TESTS |= {"office_trials", "office_hostile_trials", "office_file_trials", "office_rows"}
+TESTS |= {"office_trials", "office_file_trials", "office_rows"}
 MOST = 4  # crates side by side
 LETTER, EDGE, HEIGHT, STEP = 7.3, 9, 26, 58  # of a name, beside it, of a box, of a layer, in pixels
 APART, NEAR, MARGIN = 22, 12, 10  # between boxes, beside a line, around all

@@ -1,33 +1,19 @@
 //! The records that stand under a command's keys once the pending rows are written.
-ghost use Rattle.std.specs.Prelude.{◌≡◌, IfOk, IfSome, []};
-ghost use Rattle.cabinet_core.specs.Within.{IsInspectionWithin, IsOrderWithin};
-ghost use Rattle.cabinet_core.specs.Within.{IsUsedLineWithin, IsDeliveryWithin};
+ghost use Rattle.std.specs.Prelude.{◌≡◌, IfOk, []};
 ghost use Rattle.office_tables_shelf.specs.CabinetReads.{ReadsInspection, HasDamagedInspectionAt};
 ghost use Rattle.office_tables_shelf.specs.CabinetReads.{ReadsOrder, HasDamagedOrderAt};
 ghost use Rattle.office_tables_shelf.specs.CabinetReads.{ReadsUsed, HasDamagedUsedAt};
-ghost use Rattle.office_tables_shelf.specs.CabinetReads.{IsHand, ReadsHand, HasDamagedHand};
+ghost use Rattle.office_tables_shelf.specs.CabinetReads.{ReadsHand, HasDamagedHand};
 ghost use Rattle.office_tables_shelf.specs.CabinetReads.{ReadsDelivery, HasDamagedDelivery};
 ghost use Rattle.office_tables_shelf.specs.Change.{changed_by};
 ghost use Rattle.office_tables_shelf.specs.Keeps.{KeepsShelf};
 ghost use Rattle.office_desk_cabinet.specs.Open.{StaysOpen};
 
 use crate::pending::Pending;
-use cabinet_core::{
-    Delivery, Hand, Inspection, Order, PartCode, UsedLine, delivery_is_within,
-    inspection_is_within, order_is_within, used_line_is_within,
-};
+use cabinet_core::{Delivery, Hand, Inspection, Order, PartCode, UsedLine};
 use office_tables_shelf::shelf::{Shelf, ShelfFault};
 use signal_records::{InterId, LineNo, RecordNo};
 use std::alloc::Global;
-
-/// An inspection that was read is within its limits, as its type says.
-fn any_inspection_is_within(there: &Option<Inspection>)
-    ensures { IfSome there.now IsInspectionWithin }
-{
-    if let Some(found) = there {
-        inspection_is_within(found);
-    }
-}
 
 /// The inspection of a number once the pending rows are written, if there is one.
 pub(crate) fn inspection_at<S: Shelf>(
@@ -46,21 +32,10 @@ pub(crate) fn inspection_at<S: Shelf>(
         result shelf.old shelf.new }
 {
     if let Some(put) = pending.inspection(id, number)? {
-        inspection_is_within(&put);
         return Ok(Some(put));
     }
     let before = shelf.inspection(alloc, id, number)?;
-    any_inspection_is_within(&before);
     Ok(before)
-}
-
-/// An order that was read is within its limits, as its type says.
-fn any_order_is_within(there: &Option<Order>)
-    ensures { IfSome there.now IsOrderWithin }
-{
-    if let Some(found) = there {
-        order_is_within(found);
-    }
 }
 
 /// The order of a number once the pending rows are written, if there is one.
@@ -80,21 +55,10 @@ pub(crate) fn order_at<S: Shelf>(
         result shelf.old shelf.new }
 {
     if let Some(put) = pending.order(id, number)? {
-        order_is_within(&put);
         return Ok(Some(put));
     }
     let before = shelf.order(alloc, id, number)?;
-    any_order_is_within(&before);
     Ok(before)
-}
-
-/// A line that was read is within its limits, as its type says.
-fn any_line_is_within(there: &Option<UsedLine>)
-    ensures { IfSome there.now IsUsedLineWithin }
-{
-    if let Some(found) = there {
-        used_line_is_within(found);
-    }
 }
 
 /// The line of an order and a number once the pending rows are written, if there is one.
@@ -115,21 +79,10 @@ pub(crate) fn line_at<S: Shelf>(
         result shelf.old shelf.new }
 {
     if let Some(put) = pending.line(id, order, line)? {
-        used_line_is_within(&put);
         return Ok(Some(put));
     }
     let before = shelf.used_line(alloc, id, order, line)?;
-    any_line_is_within(&before);
     Ok(before)
-}
-
-/// A count on hand that was read is within its limits, as its type says.
-fn any_hand_is_within(there: &Option<Hand>)
-    ensures { IfSome there.now IsHand }
-{
-    if let Some(hand) = there {
-        let _count = hand.get();
-    }
 }
 
 /// How many of a part are on hand once the pending rows are written, if there ever was a
@@ -149,22 +102,10 @@ pub(crate) fn hand_at<S: Shelf>(
         result shelf.old shelf.new }
 {
     if let Some(put) = pending.hand(part) {
-        let there = Some(put);
-        any_hand_is_within(&there);
-        return Ok(there);
+        return Ok(Some(put));
     }
     let before = shelf.hand(alloc, part)?;
-    any_hand_is_within(&before);
     Ok(before)
-}
-
-/// A delivery that was read is within its limits, as its type says.
-fn any_delivery_is_within(there: &Option<Delivery>)
-    ensures { IfSome there.now IsDeliveryWithin }
-{
-    if let Some(found) = there {
-        delivery_is_within(found);
-    }
 }
 
 /// The delivery of a part with a number once the pending rows are written, if there is one.
@@ -184,10 +125,8 @@ pub(crate) fn delivery_at<S: Shelf>(
         result shelf.old shelf.new }
 {
     if let Some(put) = pending.delivery(part, number)? {
-        delivery_is_within(&put);
         return Ok(Some(put));
     }
     let before = shelf.delivery(alloc, part, number)?;
-    any_delivery_is_within(&before);
     Ok(before)
 }

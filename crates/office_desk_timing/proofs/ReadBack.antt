@@ -148,9 +148,9 @@ pub finds_some : (reach : Reach) (tables : Content) (office : Office) (id : ℕ)
     (row : IntersectionRow) (rows : List Row) (changes : List Change) (found : Found)
     (stands : StandForSound tables office)
     → ReadsIntersection tables id (Some row) → ListsPlan reach tables id rows changes
-    → IsMadeOf row rows changes found
+    → AreWithin rows → IsMadeOf row rows changes found
     → Finds reach (drafts_at stands.stand id) (get office.intersections id) (Some found)
-finds_some reach tables office id row rows changes found stands reads lists made =
+finds_some reach tables office id row rows changes found stands reads lists rows_in made =
     elim (get office.intersections id) as (λ o. get office.intersections id ≡ o
     → Some row ≡ option_map row_of o → Finds reach (drafts_at stands.stand id) o (Some found)) [
       | None ↦ λ there e. absurd (let f : Some row ≡ None = e in cc)
@@ -169,7 +169,7 @@ finds_some reach tables office id row rows changes found stands reads lists made
               read = subst (IsRead reach found.timing (drafts_at stands.stand id)) side
                   (plan_read reach tables office id rows found.timing stands
                   (subst (ListsPlan reach tables id rows) (sym made.same_delta) lists)
-                  made.rows_within (subst AreChangesWithin
+                  rows_in (subst AreChangesWithin
                   (sym made.same_delta) made.changes_within) made.same_committed);
             };
           }

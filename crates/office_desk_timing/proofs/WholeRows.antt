@@ -1,5 +1,5 @@
 -- Rows that were read, or none, are no damaged ones.
-use Rattle.std.proofs.Common.{◌≡◌, ◌≢◌, ◌⊎◌, inl, inr, ℕ, true, false, List, Option, Some, None, is_some, refl, ap, sym, subst, ◌∙◌, IsSome}
+use Rattle.std.proofs.Common.{◌≡◌, ◌≢◌, ◌⊎◌, inl, inr, ℕ, true, false, List, Option, Some, None, is_some, refl, ap, sym, subst, ◌∙◌, IfSome, IsSome}
 use Rattle.signal_records.specs.{Row.key_of, Within.IsChangeWithin, Within.IsRowWithin, Within.current_limits}
 use Rattle.signal_records.specs.declared.record.{Change.Change, Row.Row}
 use Rattle.draft_core.specs.{Within.AreChangesWithin, declared.timing.Reach.Reach}
@@ -21,11 +21,15 @@ same_columns a b e = cc
 no_columns : (a : List Cell) → Some a ≢ None
 no_columns a e = cc
 
-pub none_whole : (tables : Content) (id : ℕ) → ReadsIntersection tables id None → ¬ HasDamagedIntersection tables id
+none_whole : (tables : Content) (id : ℕ) → ReadsIntersection tables id None → ¬ HasDamagedIntersection tables id
 none_whole tables id reads damaged = no_columns damaged.columns (sym damaged.stored ∙ reads)
 
-pub row_whole : (tables : Content) (id : ℕ) (row : IntersectionRow) → ReadsIntersection tables id (Some row) → IsIntersectionRow row → ¬ HasDamagedIntersection tables id
-row_whole tables id row reads within damaged = damaged.no_row row within (same_columns _ _ (sym damaged.stored ∙ reads))
+pub read_whole : (tables : Content) (id : ℕ) (row : Option IntersectionRow)
+    → ReadsIntersection tables id row → IfSome row IsIntersectionRow
+    → ¬ HasDamagedIntersection tables id
+read_whole tables id None reads within damaged = none_whole tables id reads damaged
+read_whole tables id (Some row) reads within damaged =
+    damaged.no_row row within (same_columns _ _ (sym damaged.stored ∙ reads))
 
 pub row_there : (tables : Content) (id : ℕ) (row : IntersectionRow) → ReadsIntersection tables id (Some row) → IsThere tables id
 row_there tables id row reads = subst (λ (o : Option (List Cell)). IsSome o) (sym reads) refl

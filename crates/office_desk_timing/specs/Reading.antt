@@ -29,7 +29,6 @@ pub record IsMadeOf (row : IntersectionRow) (rows : List Row) (changes : List Ch
   pub same_holder : found.timing.holder ≡ row.holder
   pub same_committed : found.timing.committed ≡ set_of_rows rows
   pub same_delta : found.timing.delta ≡ changes
-  pub rows_within : AreWithin rows
   pub changes_within : AreChangesWithin changes
 
 -- the rows of an intersection's plan are those of the lists, as far as they are read

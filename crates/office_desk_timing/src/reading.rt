@@ -5,11 +5,11 @@ ghost use Rattle.office_tables_shelf.specs.Keeps.{AnswersShelf, KeepsShelf};
 ghost use Rattle.office_tables_shelf.specs.Shelf.{ReadsIntersection};
 ghost use Rattle.office_desk_decisions.specs.Open.{StaysOpen};
 ghost use Rattle.office_desk_decisions.specs.Damage.{HasDamageIn, HasDamagedPlan};
-ghost use Rattle.office_desk_timing.specs.Reading.{FindsAny, IsMadeOf, ListsFound, ListsPlan};
+ghost use Rattle.office_desk_timing.specs.Reading.{AreWithin, FindsAny, IsMadeOf, ListsFound};
+ghost use Rattle.office_desk_timing.specs.Reading.{ListsPlan};
 
 use draft_core::changes::Changes;
 use draft_core::timing::{Reach, Timing};
-use office_tables_shelf::bounds::intersection_is_within;
 use office_tables_shelf::rows::IntersectionRow;
 use office_tables_shelf::shelf::{Shelf, ShelfFault};
 use signal_records::{Change, InterId, Interval, NoMemory, Row, TimingSet, Words};
@@ -65,11 +65,8 @@ pub fn intersection_row<S: Shelf>(
     ensures kept { KeepsShelf S.Shelf shelf.old shelf.new }
     ensures open { AnswersShelf S.Shelf result shelf.old shelf.new }
 {
-    let Some(row) = shelf.intersection(alloc, id)? else {
-        return Ok(None);
-    };
-    intersection_is_within(id, &row);
-    Ok(Some(row))
+    let row = shelf.intersection(alloc, id)?;
+    Ok(row)
 }
 
 /// The committed rows and the draft rows of an intersection, as far as is asked for; none past
@@ -82,6 +79,7 @@ fn plan_rows<S: Shelf>(
 ) -> Result<(Vec<Row>, Vec<Change>), ShelfFault>
     ensures lists { IfOk result (λ read. S.is_honest shelf.new →
         ListsPlan reach (S.content shelf.old) id read.0.items read.1.items) }
+    ensures within { IfOk result (λ read. S.is_honest shelf.new → AreWithin read.0.items) }
     ensures damaged { result ≡ Err ShelfFault.Damaged → S.is_honest shelf.new →
         HasDamagedPlan reach (S.content shelf.old) id }
     ensures kept { KeepsShelf S.Shelf shelf.old shelf.new }

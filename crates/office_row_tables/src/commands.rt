@@ -5,13 +5,14 @@ use office_desk::office::Office;
 use office_http::{Asked, Form, Front, Request, answer_of, command_of, next_request};
 use office_http_responses::ask_fault_answer;
 use office_machine::command::Command;
+use office_machine::reply::Reply;
 use office_row_files::comparing::compare;
 use office_row_files::row::{Act, Row, Talk};
 use office_row_files::trouble::Trouble;
 use office_tables::sql_shelf::SqlShelf;
 use office_tables_memory::memory_shelf::MemoryShelf;
 use office_tables_shelf::shelf::Shelf;
-use std::alloc::Global;
+use std::alloc::{AllocError, Global};
 
 /// How the names of drawn rows begin.
 const DRAWN: &str = "drawn_";
@@ -19,18 +20,27 @@ const DRAWN: &str = "drawn_";
 /// The row whose requests are run as one list.
 const LISTED: &str = "one_long_list_of_commands";
 
+/// The answer to a command. As in all that own a reply here, nothing is returned before its end:
+/// the reply would be dropped at each such place, and the proof of each is long.
+fn answer_to<S: Shelf>(
+    alloc: Global,
+    office: &mut Office<S>,
+    command: &Command,
+    form: Form,
+) -> Result<Vec<u8>, AllocError> {
+    let reply = office.run(alloc, command);
+    answer_of(alloc, &reply, form)
+}
+
 /// The answer to a request.
 fn answer<S: Shelf>(
     alloc: Global,
     office: &mut Office<S>,
     request: &Request<'_>,
-) -> Result<Vec<u8>, Trouble> {
+) -> Result<Vec<u8>, AllocError> {
     match command_of(alloc, request) {
-        Ok(Asked { command, form }) => {
-            let reply = office.run(alloc, &command);
-            Ok(answer_of(alloc, &reply, form)?)
-        }
-        Err(fault) => Ok(ask_fault_answer(alloc, fault)?),
+        Ok(asked) => answer_to(alloc, office, &asked.command, asked.form),
+        Err(fault) => ask_fault_answer(alloc, fault),
     }
 }
 
@@ -73,22 +83,39 @@ fn asked(alloc: Global, talk: &Talk<'_>) -> Result<(Vec<Command>, Vec<Form>), Tr
     Ok((commands, forms))
 }
 
+/// The answers that replies give in these forms.
+fn answers_of(alloc: Global, replies: &[Reply], forms: &[Form]) -> Result<Vec<u8>, Trouble> {
+    let mut answers = Vec::new(alloc);
+    for (reply, form) in replies.iter().zip(forms) {
+        let came = answer_of(alloc, reply, *form)?;
+        answers.extend_from_slice(&came)?;
+    }
+    Ok(answers)
+}
+
+/// The answers to commands, which are run as one list.
+fn list_answers<S: Shelf>(
+    alloc: Global,
+    office: &mut Office<S>,
+    commands: &[Command],
+    forms: &[Form],
+) -> Result<Vec<u8>, Trouble> {
+    match office.run_all(alloc, commands) {
+        Ok(replies) => answers_of(alloc, &replies, forms),
+        Err(_) => Err(Trouble::NoMemory),
+    }
+}
+
 /// The answers to the requests of a stream, which are run as one list.
 fn listed_answers<S: Shelf>(
     alloc: Global,
     office: &mut Office<S>,
     talk: &Talk<'_>,
 ) -> Result<Vec<u8>, Trouble> {
-    let (commands, forms) = asked(alloc, talk)?;
-    let Ok(replies) = office.run_all(alloc, &commands) else {
-        return Err(Trouble::NoMemory);
-    };
-    let mut answers = Vec::new(alloc);
-    for (reply, form) in replies.iter().zip(&forms) {
-        let came = answer_of(alloc, reply, *form)?;
-        answers.extend_from_slice(&came)?;
+    match asked(alloc, talk) {
+        Ok((commands, forms)) => list_answers(alloc, office, &commands, &forms),
+        Err(trouble) => Err(trouble),
     }
-    Ok(answers)
 }
 
 /// Plays a row by an office.

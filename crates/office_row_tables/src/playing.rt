@@ -1,6 +1,6 @@
 //! A row played over tables.
 
-use crate::tables::Tables;
+use crate::tables::{Tables, in_files, in_maps, in_memory};
 use office_http::{ServeFault, Served};
 use office_row_files::comparing::{compare, compare_texts};
 use office_row_files::ends::{Cut, Feed, Keep};
@@ -31,9 +31,9 @@ fn told_ending(alloc: Global, talk: &Talk<'_>) -> Result<String, AllocError> {
 }
 
 /// Serves a stream, and compares its answers.
-fn play_stream(
+fn play_stream<T: Tables>(
     alloc: Global,
-    tables: &mut Tables,
+    tables: &mut T,
     line: usize,
     talk: &Talk<'_>,
     cut: Cut,
@@ -48,7 +48,12 @@ fn play_stream(
 }
 
 /// Changes the tables by another hand.
-fn play_sql(alloc: Global, tables: &mut Tables, line: usize, sql: &str) -> Result<(), Trouble> {
+fn play_sql<T: Tables>(
+    alloc: Global,
+    tables: &mut T,
+    line: usize,
+    sql: &str,
+) -> Result<(), Trouble> {
     if tables.alter(sql) {
         return Ok(());
     }
@@ -56,9 +61,9 @@ fn play_sql(alloc: Global, tables: &mut Tables, line: usize, sql: &str) -> Resul
 }
 
 /// Tells how many rows were written since so many were, and compares it.
-fn play_counts(
+fn play_counts<T: Tables>(
     alloc: Global,
-    tables: &mut Tables,
+    tables: &mut T,
     line: usize,
     told: [u64; 2],
     before: &mut [u64; 2],
@@ -84,9 +89,9 @@ fn opening(outcome: Result<(), OpenFault>) -> &'static str {
 }
 
 /// Plays one step over tables, of which so many rows were written before.
-fn play_step(
+fn play_step<T: Tables>(
     alloc: Global,
-    tables: &mut Tables,
+    tables: &mut T,
     step: &Step<'_>,
     cut: Cut,
     before: &mut [u64; 2],
@@ -104,9 +109,9 @@ fn play_step(
     }
 }
 
-/// Plays a row over new tables.
-pub fn play_over(alloc: Global, row: &Row<'_>, kind: Kind, cut: Cut) -> Result<(), Trouble> {
-    let mut tables = Tables::new(alloc, kind);
+/// Plays a row over tables that are new.
+fn play<T: Tables + Drop>(alloc: Global, new: T, row: &Row<'_>, cut: Cut) -> Result<(), Trouble> {
+    let mut tables = new;
     if !row.is_bare {
         compare_texts(alloc, 1, "opened", opening(tables.open(alloc)))?;
     }
@@ -115,4 +120,13 @@ pub fn play_over(alloc: Global, row: &Row<'_>, kind: Kind, cut: Cut) -> Result<(
         play_step(alloc, &mut tables, step, cut, &mut before)?;
     }
     Ok(())
+}
+
+/// Plays a row over new tables of a kind.
+pub fn play_over(alloc: Global, row: &Row<'_>, kind: Kind, cut: Cut) -> Result<(), Trouble> {
+    match kind {
+        Kind::Maps => play(alloc, in_maps(alloc), row, cut),
+        Kind::Memory => play(alloc, in_memory(alloc), row, cut),
+        Kind::Files => play(alloc, in_files(alloc), row, cut),
+    }
 }

@@ -2,7 +2,6 @@
 
 use office_desk::office::Office;
 use office_http::{ServeFault, Served, Sink, Source, serve};
-use office_row_files::way::Kind;
 use office_tables::open::OpenFault;
 use office_tables::sql_shelf::SqlShelf;
 use office_tables_memory::memory_shelf::MemoryShelf;
@@ -17,11 +16,87 @@ use std::mem;
 /// The most requests of a stream.
 const STREAM_LIMIT: u32 = 10_000;
 
+/// Tables that a row is played over. What plays it is proved once for all of them.
+pub(crate) trait Tables {
+    /// Opens the tables as an office, again where they are open already.
+    fn open(&mut self, alloc: Global) -> Result<(), OpenFault>;
+
+    /// Changes the tables by another hand, and tells whether that was allowed. They are no office
+    /// then, until they are opened again.
+    fn alter(&mut self, sql: &str) -> bool;
+
+    /// How often committed rows and draft rows were written since the tables were opened.
+    fn written(&mut self, alloc: Global) -> [u64; 2];
+
+    /// Serves a stream by the office, or tells that there is none.
+    fn serve<R: Source, W: Sink>(
+        &mut self,
+        alloc: Global,
+        source: &mut R,
+        sink: &mut W,
+    ) -> Option<Result<Served, ServeFault>>;
+}
+
 /// How often committed rows and draft rows were written by an office, which is given back.
 fn counted<S: Shelf>(office: Office<S>) -> (Office<S>, [u64; 2]) {
     let shelf = office.into_shelf();
     let written = [shelf.writes(Table::Timing), shelf.writes(Table::Draft)];
     (Office::new(shelf), written)
+}
+
+/// Maps, which no other hand changes.
+#[derive(Drop)]
+pub(crate) struct Maps {
+    office: Office<MemoryShelf>,
+}
+
+impl Tables for Maps {
+    fn open(&mut self, _alloc: Global) -> Result<(), OpenFault> {
+        Ok(())
+    }
+
+    fn alter(&mut self, _sql: &str) -> bool {
+        false
+    }
+
+    fn written(&mut self, alloc: Global) -> [u64; 2] {
+        let new = Office::new(MemoryShelf::new(alloc));
+        let (office, written) = counted(mem::replace(&mut self.office, new));
+        self.office = office;
+        written
+    }
+
+    fn serve<R: Source, W: Sink>(
+        &mut self,
+        alloc: Global,
+        source: &mut R,
+        sink: &mut W,
+    ) -> Option<Result<Served, ServeFault>> {
+        Some(serve(alloc, &mut self.office, source, sink, STREAM_LIMIT))
+    }
+}
+
+/// A store of a database, and what is found of it again.
+pub(crate) trait Again: Alter + Sized {
+    /// The database once it was left.
+    fn again(alloc: Global, conn: Connection<Self>) -> Option<Connection<Self>>;
+}
+
+/// Nothing is left of a database in memory once it is left, so it is kept.
+impl Again for MemStore {
+    fn again(_alloc: Global, conn: Connection<MemStore>) -> Option<Connection<MemStore>> {
+        Some(conn)
+    }
+}
+
+/// One in files is found in them.
+impl<D: Disk + Drop> Again for FileStore<D> {
+    fn again(alloc: Global, conn: Connection<FileStore<D>>) -> Option<Connection<FileStore<D>>> {
+        match conn.close_files() {
+            Ok(files) => connect(alloc, files),
+            Err(_) => None,
+        }
+    }
 }
 
 /// A database, open as an office or not.
@@ -33,7 +108,15 @@ pub(crate) enum Base<S: Alter> {
     Lost,
 }
 
-impl<S: Alter + Drop> Base<S> {
+impl<S: Again + Drop> Base<S> {
+    /// A database that is there, or none.
+    fn new(conn: Option<Connection<S>>) -> Base<S> {
+        match conn {
+            Some(conn) => Base::Closed(conn),
+            None => Base::Lost,
+        }
+    }
+
     /// The database, which is closed as an office.
     fn into_conn(self) -> Option<Connection<S>> {
         match self {
@@ -48,26 +131,33 @@ impl<S: Alter + Drop> Base<S> {
         mem::replace(self, Base::Lost).into_conn()
     }
 
-    /// Opens the database as an office, again where it is open already.
-    fn open(&mut self, alloc: Global) -> Result<(), OpenFault> {
-        let Some(conn) = self.take() else {
-            return Err(OpenFault::Store);
-        };
-        match SqlShelf::open_returning(alloc, conn) {
-            Ok(shelf) => {
-                *self = Base::Open(Office::new(shelf));
-                Ok(())
-            }
-            Err((fault, left)) => {
-                if let Ok(conn) = left {
-                    *self = Base::Closed(conn);
-                }
-                Err(fault)
-            }
+    /// The database, which is left and found again where it is open as an office.
+    fn closed(self, alloc: Global) -> Option<Connection<S>> {
+        match self {
+            Base::Open(office) => S::again(alloc, office.into_shelf().into_conn()),
+            base => base.into_conn(),
         }
     }
 
-    /// Changes the database by another hand. It is no office then, until it is opened again.
+    /// The database opened as an office, or what is left of it, and why.
+    fn opened(alloc: Global, conn: Connection<S>) -> (Base<S>, Result<(), OpenFault>) {
+        match SqlShelf::open_returning(alloc, conn) {
+            Ok(shelf) => (Base::Open(Office::new(shelf)), Ok(())),
+            Err((fault, left)) => (Base::new(left.ok()), Err(fault)),
+        }
+    }
+}
+
+impl<S: Again + Drop> Tables for Base<S> {
+    fn open(&mut self, alloc: Global) -> Result<(), OpenFault> {
+        let Some(conn) = mem::replace(self, Base::Lost).closed(alloc) else {
+            return Err(OpenFault::Store);
+        };
+        let (base, outcome) = Base::opened(alloc, conn);
+        *self = base;
+        outcome
+    }
+
     fn alter(&mut self, sql: &str) -> bool {
         let Some(mut conn) = self.take() else {
             return false;
@@ -77,8 +167,7 @@ impl<S: Alter + Drop> Base<S> {
         is_done
     }
 
-    /// How often committed rows and draft rows were written since the office was opened.
-    fn written(&mut self) -> [u64; 2] {
+    fn written(&mut self, _alloc: Global) -> [u64; 2] {
         match mem::replace(self, Base::Lost) {
             Base::Open(office) => {
                 let (office, written) = counted(office);
@@ -92,7 +181,6 @@ impl<S: Alter + Drop> Base<S> {
         }
     }
 
-    /// Serves a stream by the office, which is opened if it is not open.
     fn serve<R: Source, W: Sink>(
         &mut self,
         alloc: Global,
@@ -109,122 +197,24 @@ impl<S: Alter + Drop> Base<S> {
     }
 }
 
-/// Two files in memory. They could be stopped, and never are: so the rows and the files that stop
-/// are one type, which the compilers build once.
-type InFiles = FileStore<Fuse<Memory>>;
-
-/// A database that is there, or none.
-fn based<S: Alter>(conn: Option<Connection<S>>) -> Base<S> {
-    match conn {
-        Some(conn) => Base::Closed(conn),
-        None => Base::Lost,
+/// New maps.
+pub(crate) fn in_maps(alloc: Global) -> Maps {
+    Maps {
+        office: Office::new(MemoryShelf::new(alloc)),
     }
-}
-
-/// A database that is left, and found again in its files.
-fn found_again<D: Disk + Drop>(
-    alloc: Global,
-    conn: Connection<FileStore<D>>,
-) -> Base<FileStore<D>> {
-    match conn.close_files().ok() {
-        Some(files) => based(connect(alloc, files)),
-        None => Base::Lost,
-    }
-}
-
-/// Opens a database in files as an office. Where it is one already, it is left and found again.
-fn open_again<D: Disk + Drop>(
-    alloc: Global,
-    base: &mut Base<FileStore<D>>,
-) -> Result<(), OpenFault> {
-    if matches!(&*base, Base::Open(_)) {
-        let Some(conn) = base.take() else {
-            return Err(OpenFault::Store);
-        };
-        *base = found_again(alloc, conn);
-    }
-    base.open(alloc)
-}
-
-/// The tables that a row is played over.
-#[derive(Drop)]
-pub(crate) enum Tables {
-    /// Maps, which no other hand changes.
-    Maps(Office<MemoryShelf>),
-    /// A database in memory. Nothing is left of it once it is left, so it is kept.
-    Memory(Base<MemStore>),
-    /// A database in files, which are left and found again where it is opened again.
-    Files(Base<InFiles>),
 }
 
 /// A new database in memory.
-fn in_memory(alloc: Global) -> Base<MemStore> {
-    based(Connection::open_in_memory(alloc).ok())
+pub(crate) fn in_memory(alloc: Global) -> Base<MemStore> {
+    Base::new(Connection::open_in_memory(alloc).ok())
 }
 
-/// A new database in files.
-fn in_files(alloc: Global) -> Base<InFiles> {
+/// A new database in two files in memory. They could be stopped, and never are: so the rows and the
+/// files that stop are one type, which the compilers build once.
+pub(crate) fn in_files(alloc: Global) -> Base<FileStore<Fuse<Memory>>> {
     let files = Files {
         log: Fuse::new(Memory::new(alloc), u64::MAX),
         db: Fuse::new(Memory::new(alloc), u64::MAX),
     };
-    based(connect(alloc, files))
-}
-
-impl Tables {
-    /// New tables.
-    pub(crate) fn new(alloc: Global, kind: Kind) -> Tables {
-        match kind {
-            Kind::Maps => Tables::Maps(Office::new(MemoryShelf::new(alloc))),
-            Kind::Memory => Tables::Memory(in_memory(alloc)),
-            Kind::Files => Tables::Files(in_files(alloc)),
-        }
-    }
-
-    /// Opens the tables as an office, again where they are open already.
-    pub(crate) fn open(&mut self, alloc: Global) -> Result<(), OpenFault> {
-        match self {
-            Tables::Maps(_) => Ok(()),
-            Tables::Memory(base) => base.open(alloc),
-            Tables::Files(base) => open_again(alloc, base),
-        }
-    }
-
-    /// Changes the tables by another hand, and tells whether that was allowed. They are no office
-    /// then, until they are opened again.
-    pub(crate) fn alter(&mut self, sql: &str) -> bool {
-        match self {
-            Tables::Maps(_) => false,
-            Tables::Memory(base) => base.alter(sql),
-            Tables::Files(base) => base.alter(sql),
-        }
-    }
-
-    /// How often committed rows and draft rows were written since the tables were opened.
-    pub(crate) fn written(&mut self, alloc: Global) -> [u64; 2] {
-        match self {
-            Tables::Maps(office) => {
-                let new = Office::new(MemoryShelf::new(alloc));
-                let (kept, written) = counted(mem::replace(office, new));
-                *office = kept;
-                written
-            }
-            Tables::Memory(base) => base.written(),
-            Tables::Files(base) => base.written(),
-        }
-    }
-
-    /// Serves a stream by the office, or tells that there is none.
-    pub(crate) fn serve<R: Source, W: Sink>(
-        &mut self,
-        alloc: Global,
-        source: &mut R,
-        sink: &mut W,
-    ) -> Option<Result<Served, ServeFault>> {
-        match self {
-            Tables::Maps(office) => Some(serve(alloc, office, source, sink, STREAM_LIMIT)),
-            Tables::Memory(base) => base.serve(alloc, source, sink),
-            Tables::Files(base) => base.serve(alloc, source, sink),
-        }
-    }
+    Base::new(connect(alloc, files))
 }

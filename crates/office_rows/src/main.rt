@@ -9,7 +9,6 @@ mod playing;
 use crate::playing::{play_runs, play_want_of_memory};
 use office_file_trials::calls::try_below;
 use office_file_trials::stops::try_stops;
-use office_hostile_trials::calls::try_calls;
 use office_row_files::folder::{names, remove_others, row_name};
 use office_row_files::reading::read_row;
 use office_row_files::row::Row;
@@ -17,6 +16,7 @@ use office_row_files::trouble::Trouble;
 use office_row_files::way::Way;
 use office_row_tables::commands::play_commands;
 use office_row_tables::playing::play_over;
+use office_trials::calls::try_calls;
 use std::process::ExitCode;
 use std::{fs, io};
 

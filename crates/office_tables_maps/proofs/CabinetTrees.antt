@@ -1,22 +1,22 @@
 -- Trees of the cabinet's records: each stays under its own key, and those of an intersection are listed in order.
-use Rattle.std.proofs.Common.{◌≡◌, ℕ, List, [], map, Option, Some, None, option_map, Ordering, refl, ap, ◌∙◌}
+use Rattle.std.proofs.Common.{◌≡◌, ◌==◌, ℕ, true, false, List, [], ◌∷◌, map, if◌then◌else◌, Option, Some, None, option_map, Ordering, refl, ap, ◌∙◌}
 use Rattle.std.specs.{BTreeMap.is_at, FinMap.get, List.AllByRecursion, List.Sorted.IsStrictlySortedBy, Map.keys_of, Map.lookup}
 use Rattle.std.specs.{Ordering.is_eq, Ordering.ordering_then, Prelude.IfSome, declared.cmp.Ordering.TheVariants.Equal}
-use Rattle.cabinet_core.specs.{Overdue.greater, Within.IsInspectionWithin, Within.IsOrderWithin, Within.IsUsedLineWithin}
+use Rattle.cabinet_core.specs.{Overdue.greater, Within.IsInspectionWithin, Within.IsOrderWithin, Within.IsUsedLineWithin, Within.IsDeliveryWithin}
 use Rattle.cabinet_core.specs.{declared.record.Inspection.Inspection, declared.record.Order.Order, declared.record.UsedLine.UsedLine}
 use Rattle.cabinet_core.specs.declared.record.Delivery.{Delivery}
 use Rattle.office_tables_shelf.specs.{Cells.Cell, Cells.cells_cmp, Cells.tree_rows, CabinetRows.inspection_key}
-use Rattle.office_tables_shelf.specs.CabinetRows.{inspection_columns, order_key, order_columns, used_key, used_columns, delivery_columns}
+use Rattle.office_tables_shelf.specs.CabinetRows.{inspection_columns, order_key, order_columns, used_key, used_columns, part_key, delivery_columns}
 use Rattle.office_tables_shelf.specs.CabinetReads.{ReadsInspection, ReadsOrder, ReadsUsed, ReadsDelivery}
 use Rattle.office_tables_shelf.specs.{Content.no_content, Shelf.rows_of}
 use Rattle.office_tables_maps.specs.MapCabinet.{inspection_place_key, order_place_key, line_place_key, delivery_place_key, inspection_rows, order_rows, used_rows, delivery_rows, IsInspectionAt, IsOrderAt, IsUsedAt, IsDeliveryAt, AreInspectionsPlaced, AreOrdersPlaced, AreUsedPlaced, AreDeliveriesPlaced}
 use Rattle.office_tables_maps.specs.declared.place.RecordPlace.{RecordPlace}
 use Rattle.office_tables_maps.specs.declared.place.LinePlace.{LinePlace}
 use Rattle.office_tables_maps.specs.declared.place.DeliveryPlace.{DeliveryPlace}
-use Rattle.office_tables_shelf.proofs.{CellLemmas.cells_exact, CabinetLemmas.of_number, CabinetLemmas.part_cmp, CabinetLemmas.text_order}
+use Rattle.office_tables_shelf.proofs.{CellLemmas.cells_exact, CabinetLemmas.of_number, CabinetLemmas.part_cmp, CabinetLemmas.part_order, CabinetLemmas.text_order}
 use Rattle.office_tables_shelf.proofs.TreeLemmas.{ranged_cmp, entry_at, get_tree}
 use Rattle.office_tables_maps.proofs.PlaceLemmas.{under_by, under_listed}
-use Rattle.office_tables_maps.proofs.TreeRows.{ranged_order, last_order, standing_found}
+use Rattle.office_tables_maps.proofs.TreeRows.{ranged_order, last_order, standing_at, both_of}
 
 -- ---- how places compare, as their cells do
 
@@ -50,6 +50,9 @@ record_exact a b tie =
     let n : a.number ≡ b.number = cc in
     λ i. record { inter = inter i; number = n i }
 
+pub part_exact : (a b : List ℕ) → part_cmp a b ≡ Equal → a ≡ b
+part_exact a b tie = let same = cells_exact (part_key a) (part_key b) (part_order a b ∙ tie) in cc
+
 pub line_exact : (a b : LinePlace) → line_cmp a b ≡ Equal → a ≡ b
 line_exact a b tie =
     let same = cells_exact (line_place_key a) (line_place_key b) (line_order a b ∙ tie) in
@@ -71,51 +74,46 @@ module _ {K X : Type 0} (R : K → K → Ordering) (exact : (a b : K) → R a b 
   -- what a tree of such records has at a place are the cells of the place's own record
   pub stands_under : (es : List (K × X)) (place : K) (found : Option X) → AllByRecursion (λ e. Stands e.0 e.1) es → entry_at R key columns es place ≡ found
       → (get (tree_rows key columns es) (key place) ≡ option_map columns found) × IfSome found (Stands place)
-  stands_under es place found placed here =
-      (get_tree R key columns (λ a b. ap is_eq (order a b)) es place ∙ ap (option_map columns) here, own found here)
-    where
-      own : (o : Option X) → lookup (is_at (R place)) es ≡ o → IfSome o (Stands place)
-      own None there = tt
-      own (Some x) there = standing_found R exact Stands es place x placed there
+  stands_under es place found placed here = (
+    get_tree R key columns (λ a b. ap is_eq (order a b)) es place ∙ ap (option_map columns) here,
+    standing_at R exact Stands es place found placed here,
+  )
 
--- both of two facts on what is there
-both_of : {X : Type 0} (P Q : X → Type 0) (found : Option X) → IfSome found (λ x. P x × Q x) → IfSome found P × IfSome found Q
-both_of P Q None h = (tt, tt)
-both_of P Q (Some x) h = h
-
--- what a tree of inspections has under an intersection and a number
+-- what a tree of inspections has under an intersection and a number, within its limits
 pub reads_inspection : (es : List (RecordPlace × Inspection)) (place : RecordPlace) (found : Option Inspection) → AreInspectionsPlaced es → entry_at record_cmp inspection_place_key inspection_columns es place ≡ found
-    → ReadsInspection (record no_content { inspection = inspection_rows es }) place.inter place.number found
+    → ReadsInspection (record no_content { inspection = inspection_rows es }) place.inter place.number found × IfSome found IsInspectionWithin
 reads_inspection es place found placed here =
     let stands = stands_under record_cmp record_exact IsInspectionAt inspection_place_key inspection_columns inspection_order es place found placed here in
     let named = both_of (λ i. i.number ≡ place.number) IsInspectionWithin found stands.1 in
-    record { stored = stands.0; number = named.0 }
+    (record { stored = stands.0; number = named.0 }, named.1)
 
 -- an order
 pub reads_order : (es : List (RecordPlace × Order)) (place : RecordPlace) (found : Option Order) → AreOrdersPlaced es → entry_at record_cmp order_place_key order_columns es place ≡ found
-    → ReadsOrder (record no_content { work_order = order_rows es }) place.inter place.number found
+    → ReadsOrder (record no_content { work_order = order_rows es }) place.inter place.number found × IfSome found IsOrderWithin
 reads_order es place found placed here =
     let stands = stands_under record_cmp record_exact IsOrderAt order_place_key order_columns order_order es place found placed here in
     let named = both_of (λ o. o.number ≡ place.number) IsOrderWithin found stands.1 in
-    record { stored = stands.0; number = named.0 }
+    (record { stored = stands.0; number = named.0 }, named.1)
 
 -- a used part, under an intersection, an order and a line
 pub reads_used : (es : List (LinePlace × UsedLine)) (place : LinePlace) (found : Option UsedLine) → AreUsedPlaced es → entry_at line_cmp line_place_key used_columns es place ≡ found
-    → ReadsUsed (record no_content { used_part = used_rows es }) place.inter place.order place.line found
+    → ReadsUsed (record no_content { used_part = used_rows es }) place.inter place.order place.line found × IfSome found IsUsedLineWithin
 reads_used es place found placed here =
     let stands = stands_under line_cmp line_exact IsUsedAt line_place_key used_columns line_order es place found placed here in
     let named = both_of (λ u. u.order ≡ place.order)
     (λ u. (u.line ≡ place.line) × IsUsedLineWithin u) found stands.1 in
     let numbered = both_of (λ u. u.line ≡ place.line) IsUsedLineWithin found named.1 in
-    record { stored = stands.0; of = named.0; number = numbered.0 }
+    (record { stored = stands.0; of = named.0; number = numbered.0 }, numbered.1)
 
 -- a delivery, under a part and a number
 pub reads_delivery : (es : List (DeliveryPlace × Delivery)) (place : DeliveryPlace) (found : Option Delivery) → AreDeliveriesPlaced es → entry_at delivery_cmp delivery_place_key delivery_columns es place ≡ found
-    → ReadsDelivery (record no_content { delivery = delivery_rows es }) place.part place.number found
+    → ReadsDelivery (record no_content { delivery = delivery_rows es }) place.part place.number found × IfSome found IsDeliveryWithin
 reads_delivery es place found placed here =
     let stands = stands_under delivery_cmp delivery_exact IsDeliveryAt delivery_place_key delivery_columns delivery_order es place found placed here in
-    let named = both_of (λ d. d.part ≡ place.part) (λ d. d.number ≡ place.number) found stands.1 in
-    record { stored = stands.0; part = named.0; number = named.1 }
+    let named = both_of (λ d. d.part ≡ place.part)
+    (λ d. (d.number ≡ place.number) × IsDeliveryWithin d) found stands.1 in
+    let numbered = both_of (λ d. d.number ≡ place.number) IsDeliveryWithin found named.1 in
+    (record { stored = stands.0; part = named.0; number = numbered.0 }, numbered.1)
 
 -- ---- the records of an intersection
 
@@ -128,6 +126,16 @@ record_inter place = place.inter
 
 abbrev pub line_inter : LinePlace → ℕ
 line_inter place = place.inter
+
+-- what each tells at its place
+pub all_under : {K X : Type 0} (inter : K → ℕ) (Stands : K → X → Type 0) (Told : X → Type 0) → ((k : K) (x : X) → Stands k x → Told x) → (id : ℕ) (es : List (K × X)) → AllByRecursion (λ e. Stands e.0 e.1) es → AllByRecursion Told (records_under inter id es)
+all_under inter Stands Told tells id [] placed = tt
+all_under inter Stands Told tells id (e ∷ es) placed =
+    let rest = all_under inter Stands Told tells id es placed.1 in
+    elim (inter e.0 == id) as (λ b. AllByRecursion Told (if b then e.1 ∷ records_under inter id es else records_under inter id es)) [
+      | true ↦ (tells e.0 e.1 placed.0, rest)
+      | false ↦ rest
+    ]
 
 pub inspections_listed : (id : ℕ) (es : List (RecordPlace × Inspection)) → IsStrictlySortedBy record_cmp (keys_of es) → AreInspectionsPlaced es
     → map (λ inspection. (inspection_key id inspection.number, inspection_columns inspection)) (records_under record_inter id es) ≡ rows_of id (inspection_rows es)

@@ -109,7 +109,7 @@ module _ {K X Y : Type 0} (inter : K → ℕ) (f : K × X → Y) (R : K → K �
   pub under_listed : (id : ℕ) (es : List (K × X)) → IsStrictlySortedBy R (keys_of es) → AllByRecursion (λ e. Stands e.0 e.1) es → map (shown id) (under_by inter f id es) ≡ rows_of id (tree_rows key columns es)
   under_listed id es sorted h = under_where id es h ∙ ap (where_key cells_cmp (is_of id)) (sym (tree_entries R key columns order es sorted))
 
-abbrev place_inter : Place → ℕ
+abbrev pub place_inter : Place → ℕ
 place_inter place = place.inter
 
 abbrev pub under : {X Y : Type 0} → (Place × X → Y) → ℕ → List (Place × X) → List Y

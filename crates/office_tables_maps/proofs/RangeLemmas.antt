@@ -1,6 +1,6 @@
 -- What a walk over the places of an intersection finds is what it finds in the whole tree.
-use Rattle.std.proofs.Common.{◌≡◌, ◌≤◌, ℕ, ◌==◌, Bool, true, false, eqb-true, true≢false, not, ◌&&◌, List, [], ◌∷◌, filter, cond, if◌then◌else◌, Option, Ordering, nat_cmp, refl, sym, ap, subst, ◌∙◌, arith}
-use Rattle.std.proofs.lemmas.Bool.Decides.{nat_tests}
+use Rattle.std.proofs.Common.{◌≡◌, ◌≤◌, ℕ, ◌==◌, Bool, true, false, eqb-true, true≢false, not, ◌&&◌, List, [], ◌∷◌, ◌++◌, filter, cond, if◌then◌else◌, Option, Ordering, nat_cmp, refl, sym, ap, subst, ◌∙◌, arith}
+use Rattle.std.proofs.lemmas.{Bool.Decides.nat_tests, List.append-nil}
 use Rattle.std.specs.{BTreeMap.Range.range_contains, BTreeMap.Range.entries_between, Int.IsInRange, List.AllByRecursion, Ordering.is_gt}
 use Rattle.std.specs.{Ordering.is_le, Ordering.is_lt, Ordering.ordering_then, declared.cmp.Ordering.TheVariants.Less}
 use Rattle.std.specs.declared.cmp.Ordering.TheVariants.{Equal, Greater}
@@ -44,6 +44,15 @@ module _ {E Y : Type 0} (test between : E → Bool) (f : E → Y) (walk : List E
             ∙ sym (steps e es
             ∙ passed (test e) e es (λ hit. true≢false (sym (lies e all.0 hit) ∙ is)))
       ] refl
+
+-- What a walk found is all that it finds of a tree, once none of the entries is left that it began
+-- with, and these lie between.
+pub walked : {E Y : Type 0} (walk : List E → List Y) (found : List Y) (left begun between : List E)
+    (all : List Y) → [] ≡ walk [] → left ≡ [] → found ++ walk left ≡ walk begun → begun ≡ between
+    → walk between ≡ all → found ≡ all
+walked walk found left begun between all none ended so_far range whole =
+    sym (append-nil found) ∙ ap (λ ys. found ++ ys) none
+    ∙ ap (λ rest. found ++ walk rest) (sym ended) ∙ so_far ∙ ap walk range ∙ whole
 
 -- ---- where the places of an intersection lie
 
@@ -148,7 +157,7 @@ pub timing_between : (id : ℕ) (es : List (Place × Row)) → AreRowsPlaced es
 timing_between id = walk_between (λ (e : Place × Row). e.0.inter == id)
     (λ e. range_contains place_cmp (all_places id).0 (all_places id).1 e.0) row_of (under row_of id)
     (λ e es. refl) (λ e. IsRowAt e.0.key e.1)
-    (λ e here hit. place_between id e.0 (eqb-true e.0.inter id hit) here.1)
+    (λ e here hit. place_between id e.0 (eqb-true e.0.inter id hit) here.1.0)
 
 pub draft_between : (id : ℕ) (es : List (Place × Option Row)) → AreLeftPlaced es
     → under change_of id (entries_between place_cmp (all_places id).0 (all_places id).1 es)

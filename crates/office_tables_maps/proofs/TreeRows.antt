@@ -1,5 +1,5 @@
 -- Trees of records: how the numbers of their keys compare, the rows in their order, those that pass a test, and each under its own key.
-use Rattle.std.proofs.Common.{◌≡◌, inl, inr, ℕ, pos, Bool, List, [], ◌∷◌, map, filter, cond, Some, None, Ordering, T, nat_cmp, refl, sym, ap, subst, subst₂, ◌∙◌}
+use Rattle.std.proofs.Common.{◌≡◌, inl, inr, ℕ, pos, Bool, List, [], ◌∷◌, map, filter, cond, Option, Some, None, IfSome, Ordering, T, nat_cmp, refl, sym, ap, subst, subst₂, ◌∙◌}
 use Rattle.std.proofs.{lemmas.Bool.cases_Bool, lemmas.Map.Entries.entries_from_clone}
 use Rattle.std.specs.{BTreeMap.insert_entry, BTreeMap.is_at, FinMap.entries, FinMap.retain_keys, FinMap.get-retain_keys, FinMap.same_map}
 use Rattle.std.specs.{FinMap.Entries.is_sorted, FinMap.Entries.below_all, FinMap.Entries.find-where_key, List.AllByRecursion, List.AllZip}
@@ -20,6 +20,10 @@ ranged_order a b = number_order a b ∙ sym (then_last (nat_cmp a b))
 -- one that is the last or the only one of its key
 pub last_order : (a b : ℕ) → cells_cmp (number (pos a) ∷ []) (number (pos b) ∷ []) ≡ ranged_cmp a b
 last_order a b = λ i. ordering_then (number_order a b i) Equal
+
+pub number_exact : (a b : ℕ) → ranged_cmp a b ≡ Equal → a ≡ b
+number_exact a b tie =
+    let same = cells_exact (number (pos a) ∷ []) (number (pos b) ∷ []) (last_order a b ∙ tie) in cc
 
 pub last_ties : (a b : ℕ) → is_eq (cells_cmp (number (pos a) ∷ []) (number (pos b) ∷ [])) ≡ is_eq (ranged_cmp a b)
 last_ties a b = ap is_eq (last_order a b)
@@ -69,6 +73,16 @@ module _ {K X : Type 0} (R : K → K → Ordering) (exact : (a b : K) → R a b 
         subst₂ Stands (sym (exact k e.0 (tied _ hit))) same h.0
     | inr miss ↦ standing_found es k x h.1 (rw miss at found)
   ]
+
+  -- if anything stands there
+  pub standing_at : (es : List (K × X)) (k : K) (found : Option X) → AreStanding es → lookup (is_at (R k)) es ≡ found → IfSome found (Stands k)
+  standing_at es k None h here = tt
+  standing_at es k (Some x) h here = standing_found es k x h here
+
+-- both of two facts on what is there
+pub both_of : {X : Type 0} (P Q : X → Type 0) (found : Option X) → IfSome found (λ x. P x × Q x) → IfSome found P × IfSome found Q
+both_of P Q None h = (tt, tt)
+both_of P Q (Some x) h = h
 
 -- ---- the rows that pass a test
 

@@ -1,3 +1,4 @@
 pub mod MapShelf
 pub mod MapCabinet
 pub mod Places
+pub mod Placed

@@ -1,13 +1,14 @@
 -- The cabinet's tables that records in memory stand for.
 use Rattle.std.specs.Prelude.{◌≡◌, ℕ, List}
 use Rattle.std.specs.List.{AllByRecursion}
-use Rattle.cabinet_core.specs.Within.{IsInspectionWithin, IsOrderWithin, IsUsedLineWithin}
+use Rattle.cabinet_core.specs.Within.{IsInspectionWithin, IsOrderWithin, IsUsedLineWithin, IsDeliveryWithin}
 use Rattle.cabinet_core.specs.declared.record.Inspection.{Inspection}
 use Rattle.cabinet_core.specs.declared.record.Order.{Order}
 use Rattle.cabinet_core.specs.declared.record.UsedLine.{UsedLine}
 use Rattle.cabinet_core.specs.declared.record.Delivery.{Delivery}
 use Rattle.office_tables_shelf.specs.Cells.{Cell, Rows, tree_rows}
 use Rattle.office_tables_shelf.specs.Content.{Content, no_content}
+use Rattle.office_tables_shelf.specs.CabinetReads.{IsPartWithin}
 use Rattle.office_tables_maps.specs.MapShelf.{intersection_rows}
 use Rattle.office_tables_shelf.specs.declared.rows.IntersectionRow.{IntersectionRow}
 use Rattle.office_tables_shelf.specs.CabinetRows.{inspection_key, inspection_columns, order_key, order_columns, used_key, used_columns, part_key, part_columns, delivery_key, delivery_columns}
@@ -83,7 +84,9 @@ IsUsedAt place used =
     (used.order ≡ place.order) × ((used.line ≡ place.line) × IsUsedLineWithin used)
 
 abbrev pub IsDeliveryAt : DeliveryPlace → Delivery → Type 0
-IsDeliveryAt place delivery = (delivery.part ≡ place.part) × (delivery.number ≡ place.number)
+IsDeliveryAt place delivery =
+    (delivery.part ≡ place.part)
+    × ((delivery.number ≡ place.number) × IsDeliveryWithin delivery)
 
 abbrev pub AreInspectionsPlaced : List (RecordPlace × Inspection) → Type 0
 AreInspectionsPlaced = AllByRecursion (λ e. IsInspectionAt e.0 e.1)
@@ -93,6 +96,10 @@ AreOrdersPlaced = AllByRecursion (λ e. IsOrderAt e.0 e.1)
 
 abbrev pub AreUsedPlaced : List (LinePlace × UsedLine) → Type 0
 AreUsedPlaced = AllByRecursion (λ e. IsUsedAt e.0 e.1)
+
+-- each code, and how many are on hand, is within its limits
+abbrev pub ArePartsWithin : List (List ℕ × ℕ) → Type 0
+ArePartsWithin = AllByRecursion IsPartWithin
 
 abbrev pub AreDeliveriesPlaced : List (DeliveryPlace × Delivery) → Type 0
 AreDeliveriesPlaced = AllByRecursion (λ e. IsDeliveryAt e.0 e.1)

@@ -3,7 +3,7 @@ use Rattle.std.specs.Prelude.{◌≡◌, ◌≢◌, ℕ, List, Option, Some, Non
 use Rattle.std.specs.List.{AllByRecursion}
 use Rattle.std.specs.Coded.{Coded, code_by, coded×}
 use Rattle.signal_records.specs.Row.{key_of}
-use Rattle.signal_records.specs.Within.{current_limits, IsKeyWithin}
+use Rattle.signal_records.specs.Within.{current_limits, IsKeyWithin, IsRowWithin}
 use Rattle.signal_records.specs.declared.key.Key.{Key}
 use Rattle.signal_records.specs.declared.record.Row.{Row}
 use Rattle.signal_records.specs.declared.record.Change.{Change}
@@ -12,6 +12,7 @@ use Rattle.office_tables_shelf.specs.Cells.{Cell, Rows, tree_rows}
 use Rattle.office_tables_shelf.specs.Content.{Content, content_code, no_content}
 use Rattle.office_tables_shelf.specs.Counts.{counts_code}
 use Rattle.office_tables_shelf.specs.Rows.{intersection_key, intersection_columns, timing_key, timing_columns, left_columns}
+use Rattle.office_tables_shelf.specs.Shelf.{IsIntersectionWithin}
 use Rattle.office_tables_shelf.specs.declared.counts.WriteCounts.{WriteCounts}
 use Rattle.office_tables_maps.specs.declared.place.Place.{Place}
 use Rattle.office_tables_shelf.specs.declared.rows.IntersectionRow.{IntersectionRow}
@@ -47,15 +48,20 @@ with_timing es = record no_content { timing = timing_rows es }
 abbrev pub with_drafts : List (Place × Option Row) → Content
 with_drafts es = record no_content { draft = draft_rows es }
 
--- a row stands under its own key, which is one of today's
-abbrev pub IsRowAt : Key → Row → Type 0
-IsRowAt key row = (key_of row ≡ key) × IsKeyWithin current_limits key
+-- each number and row of intersections is within its limits
+abbrev pub AreIntersectionsWithin : List (ℕ × IntersectionRow) → Type 0
+AreIntersectionsWithin = AllByRecursion IsIntersectionWithin
 
--- and so does a row that a draft row leaves, if it leaves one
+-- a row stands under its own key, both within today's limits
+abbrev pub IsRowAt : Key → Row → Type 0
+IsRowAt key row =
+    (key_of row ≡ key) × (IsKeyWithin current_limits key × IsRowWithin current_limits row)
+
+-- a row that a draft row leaves, if it leaves one, stands under its own key, which is one of today's
 abbrev pub IsLeftAt : Key → Option Row → Type 0
 IsLeftAt key left = IfSome left (λ row. key_of row ≡ key) × IsKeyWithin current_limits key
 
--- each row stands under its own key
+-- each row stands so
 abbrev pub AreRowsPlaced : List (Place × Row) → Type 0
 AreRowsPlaced = AllByRecursion (λ e. IsRowAt e.0.key e.1)
 

@@ -1,10 +1,10 @@
 //! The cabinet's tables in memory as trees of records: a row put, found, and the rows listed.
-ghost use Rattle.std.specs.Prelude.{◌≡◌, OnOk, IfOk};
+ghost use Rattle.std.specs.Prelude.{◌≡◌, OnOk, IfOk, IfSome};
 ghost use Rattle.std.specs.FinMap as finite;
 ghost use Rattle.std.specs.List.{AllByRecursion};
 ghost use Rattle.std.specs.Option.{option_map};
 ghost use Rattle.cabinet_core.specs.Within.{IsInspectionWithin, IsOrderWithin};
-ghost use Rattle.cabinet_core.specs.Within.{IsUsedLineWithin};
+ghost use Rattle.cabinet_core.specs.Within.{IsUsedLineWithin, IsDeliveryWithin};
 ghost use Rattle.office_tables_shelf.specs.CabinetRows.{inspection_key, inspection_columns};
 ghost use Rattle.office_tables_shelf.specs.CabinetRows.{order_key, order_columns, used_key};
 ghost use Rattle.office_tables_shelf.specs.CabinetRows.{used_columns, part_key, part_columns};
@@ -12,18 +12,19 @@ ghost use Rattle.office_tables_shelf.specs.CabinetRows.{delivery_key, delivery_c
 ghost use Rattle.office_tables_shelf.specs.CabinetReads.{ReadsInspection, ListsInspections};
 ghost use Rattle.office_tables_shelf.specs.CabinetReads.{ReadsOrder, ListsOrders, ReadsUsed};
 ghost use Rattle.office_tables_shelf.specs.CabinetReads.{ListsUsed, ListsParts, ReadsDelivery};
-ghost use Rattle.office_tables_shelf.specs.CabinetReads.{IsPartWithin};
+ghost use Rattle.office_tables_shelf.specs.CabinetReads.{IsHand, IsPartWithin};
 ghost use Rattle.office_tables_maps.specs.MapCabinet.{inspection_rows, order_rows, used_rows};
 ghost use Rattle.office_tables_maps.specs.MapCabinet.{part_rows, delivery_rows};
 ghost use Rattle.office_tables_maps.specs.MapCabinet.{with_inspections, with_orders, with_used};
 ghost use Rattle.office_tables_maps.specs.MapCabinet.{with_parts, with_deliveries};
 ghost use Rattle.office_tables_maps.specs.MapCabinet.{AreInspectionsPlaced, AreOrdersPlaced};
 ghost use Rattle.office_tables_maps.specs.MapCabinet.{AreUsedPlaced, AreDeliveriesPlaced};
+ghost use Rattle.office_tables_maps.specs.MapCabinet.{ArePartsWithin};
 
 use crate::place::{DeliveryPlace, LinePlace, RecordPlace};
 use cabinet_core::{
-    Delivery, Hand, Inspection, Order, PartCode, UsedLine, inspection_is_within, order_is_within,
-    used_line_is_within,
+    Delivery, Hand, Inspection, Order, PartCode, UsedLine, delivery_is_within,
+    inspection_is_within, order_is_within, used_line_is_within,
 };
 use office_tables_shelf::bounds::part_is_within;
 use signal_records::{InterId, LineNo, NoMemory, RecordNo};
@@ -51,8 +52,10 @@ pub(crate) fn inspection_at(
     inter: InterId,
     number: RecordNo,
 ) -> Result<Option<Inspection>, NoMemory>
-    ensures { IfOk result (λ found. AreInspectionsPlaced rows.now.entries →
+    ensures row { IfOk result (λ found. AreInspectionsPlaced rows.now.entries →
         ReadsInspection (with_inspections rows.now.entries) inter number found) }
+    ensures within { IfOk result (λ found. AreInspectionsPlaced rows.now.entries →
+        IfSome found IsInspectionWithin) }
 {
     match rows.get(&RecordPlace { inter, number }) {
         Some(inspection) => Ok(Some(inspection.clone()?)),
@@ -68,12 +71,12 @@ pub(crate) fn inspections_of(
 ) -> Result<Vec<Inspection>, NoMemory>
     ensures rows { IfOk result (λ list. AreInspectionsPlaced rows.now.entries →
         ListsInspections (with_inspections rows.now.entries) inter list.items) }
-    ensures within { IfOk result (λ list. AllByRecursion IsInspectionWithin list.items) }
+    ensures within { IfOk result (λ list. AreInspectionsPlaced rows.now.entries →
+        AllByRecursion IsInspectionWithin list.items) }
 {
     let mut list = Vec::new(alloc);
     for (place, inspection) in rows.range(RecordPlace::all_of(inter)) {
         if place.inter == inter {
-            inspection_is_within(inspection);
             list.push(inspection.clone()?)?;
         }
     }
@@ -101,8 +104,10 @@ pub(crate) fn order_at(
     inter: InterId,
     number: RecordNo,
 ) -> Result<Option<Order>, NoMemory>
-    ensures { IfOk result (λ found. AreOrdersPlaced rows.now.entries →
+    ensures row { IfOk result (λ found. AreOrdersPlaced rows.now.entries →
         ReadsOrder (with_orders rows.now.entries) inter number found) }
+    ensures within { IfOk result (λ found. AreOrdersPlaced rows.now.entries →
+        IfSome found IsOrderWithin) }
 {
     match rows.get(&RecordPlace { inter, number }) {
         Some(order) => Ok(Some(order.clone()?)),
@@ -118,12 +123,12 @@ pub(crate) fn orders_of(
 ) -> Result<Vec<Order>, NoMemory>
     ensures rows { IfOk result (λ list. AreOrdersPlaced rows.now.entries →
         ListsOrders (with_orders rows.now.entries) inter list.items) }
-    ensures within { IfOk result (λ list. AllByRecursion IsOrderWithin list.items) }
+    ensures within { IfOk result (λ list. AreOrdersPlaced rows.now.entries →
+        AllByRecursion IsOrderWithin list.items) }
 {
     let mut list = Vec::new(alloc);
     for (place, order) in rows.range(RecordPlace::all_of(inter)) {
         if place.inter == inter {
-            order_is_within(order);
             list.push(order.clone()?)?;
         }
     }
@@ -152,8 +157,10 @@ pub(crate) fn line_at(
     order: RecordNo,
     line: LineNo,
 ) -> Result<Option<UsedLine>, NoMemory>
-    ensures { IfOk result (λ found. AreUsedPlaced rows.now.entries →
+    ensures row { IfOk result (λ found. AreUsedPlaced rows.now.entries →
         ReadsUsed (with_used rows.now.entries) inter order line found) }
+    ensures within { IfOk result (λ found. AreUsedPlaced rows.now.entries →
+        IfSome found IsUsedLineWithin) }
 {
     match rows.get(&LinePlace { inter, order, line }) {
         Some(used) => Ok(Some(used.clone()?)),
@@ -169,12 +176,12 @@ pub(crate) fn lines_of(
 ) -> Result<Vec<UsedLine>, NoMemory>
     ensures rows { IfOk result (λ list. AreUsedPlaced rows.now.entries →
         ListsUsed (with_used rows.now.entries) inter list.items) }
-    ensures within { IfOk result (λ list. AllByRecursion IsUsedLineWithin list.items) }
+    ensures within { IfOk result (λ list. AreUsedPlaced rows.now.entries →
+        AllByRecursion IsUsedLineWithin list.items) }
 {
     let mut list = Vec::new(alloc);
     for (place, used) in rows.range(LinePlace::all_of(inter)) {
         if place.inter == inter {
-            used_line_is_within(used);
             list.push(used.clone()?)?;
         }
     }
@@ -187,15 +194,20 @@ pub(crate) fn put_part(
     part: PartCode,
     hand: Hand,
 ) -> Result<(), NoMemory>
-    ensures { OnOk result (part_rows rows.new.entries ≡ finite.insert (part_rows rows.old.entries) (part_key part) (part_columns hand)) }
+    ensures rows { OnOk result (part_rows rows.new.entries
+        ≡ finite.insert (part_rows rows.old.entries) (part_key part) (part_columns hand)) }
+    ensures within { ArePartsWithin rows.old.entries → ArePartsWithin rows.new.entries }
 {
+    part_is_within(&part, hand);
     rows.insert(part, hand)?;
     Ok(())
 }
 
 /// How many of a part are on hand, if there ever was a delivery of it.
 pub(crate) fn hand_of(rows: &BTreeMap<PartCode, Hand>, part: &PartCode) -> Option<Hand>
-    ensures { finite.get (part_rows rows.now.entries) (part_key part.now) ≡ option_map part_columns result }
+    ensures row { finite.get (part_rows rows.now.entries) (part_key part.now)
+        ≡ option_map part_columns result }
+    ensures within { ArePartsWithin rows.now.entries → IfSome result IsHand }
 {
     rows.get(part).copied()
 }
@@ -206,11 +218,11 @@ pub(crate) fn all_parts(
     rows: &BTreeMap<PartCode, Hand>,
 ) -> Result<Vec<(PartCode, Hand)>, NoMemory>
     ensures rows { IfOk result (λ list. ListsParts (with_parts rows.now.entries) list.items) }
-    ensures within { IfOk result (λ list. AllByRecursion IsPartWithin list.items) }
+    ensures within { IfOk result (λ list. ArePartsWithin rows.now.entries →
+        AllByRecursion IsPartWithin list.items) }
 {
     let mut list = Vec::new(alloc);
     for (part, hand) in rows {
-        part_is_within(part, *hand);
         list.push((part.clone()?, *hand))?;
     }
     Ok(list)
@@ -233,6 +245,7 @@ pub(crate) fn put_delivery(
     ensures rows { OnOk result (delivery_rows rows.new.entries ≡ finite.insert (delivery_rows rows.old.entries) (delivery_key delivery.part delivery.number) (delivery_columns delivery)) }
     ensures placed { AreDeliveriesPlaced rows.old.entries → AreDeliveriesPlaced rows.new.entries }
 {
+    delivery_is_within(&delivery);
     let part = delivery.part.clone()?;
     let number = delivery.number;
     rows.insert(DeliveryPlace { part, number }, delivery)?;
@@ -245,8 +258,10 @@ pub(crate) fn delivery_at(
     part: &PartCode,
     number: RecordNo,
 ) -> Result<Option<Delivery>, NoMemory>
-    ensures { IfOk result (λ found. AreDeliveriesPlaced rows.now.entries →
+    ensures row { IfOk result (λ found. AreDeliveriesPlaced rows.now.entries →
         ReadsDelivery (with_deliveries rows.now.entries) part.now number found) }
+    ensures within { IfOk result (λ found. AreDeliveriesPlaced rows.now.entries →
+        IfSome found IsDeliveryWithin) }
 {
     let part = part.clone()?;
     match rows.get(&DeliveryPlace { part, number }) {

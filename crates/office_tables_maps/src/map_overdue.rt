@@ -2,11 +2,12 @@
 ghost use Rattle.std.specs.Prelude.{◌<◌, IfOk, vec_len};
 ghost use Rattle.office_tables_maps.specs.MapCabinet.{AreInspectionsPlaced, OfTables};
 ghost use Rattle.office_tables_maps.specs.MapCabinet.{with_inspections};
+ghost use Rattle.office_tables_maps.specs.MapShelf.{AreIntersectionsWithin};
 ghost use Rattle.office_tables_shelf.specs.Overdue.{ReadsLast, ListsOverdue, HasOverdueDamage};
 
 use crate::map_rows::all_intersections;
 use crate::place::RecordPlace;
-use cabinet_core::{Day, Inspection, OverdueRow, inspection_is_within, later};
+use cabinet_core::{Day, Inspection, OverdueRow, later};
 use office_tables_shelf::overdue::add_overdue;
 use office_tables_shelf::rows::IntersectionRow;
 use signal_records::{InterId, NoMemory};
@@ -21,7 +22,6 @@ pub(crate) fn last_of(rows: &BTreeMap<RecordPlace, Inspection>, inter: InterId) 
     let mut last = None;
     for (place, inspection) in rows.range(RecordPlace::all_of(inter)) {
         if place.inter == inter {
-            inspection_is_within(inspection);
             last = Some(later(inspection.day, last));
         }
     }
@@ -40,6 +40,7 @@ pub(crate) fn overdue_of(
         OfTables rows.now.entries inspections.now.entries
         (λ tables. ListsOverdue tables day most found.items)) }
     ensures whole { IfOk result (λ found. AreInspectionsPlaced inspections.now.entries →
+        AreIntersectionsWithin rows.now.entries →
         OfTables rows.now.entries inspections.now.entries
         (λ tables. vec_len found < most → ¬ HasOverdueDamage tables)) }
 {

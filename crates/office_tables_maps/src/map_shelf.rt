@@ -1,6 +1,6 @@
 //! The tables in memory: what pending rows make of the register, and the reference shelf of tests,
 //! which copies itself at each apply.
-ghost use Rattle.std.specs.Prelude.{◌≡◌, OnOk, OnErr, IfOk};
+ghost use Rattle.std.specs.Prelude.{◌≡◌, OnOk, OnErr, IfOk, IfSome};
 ghost use Rattle.office_tables_maps.specs.MapShelf.{IsFreeOfStore};
 
 use crate::map_cabinet::{
@@ -23,7 +23,8 @@ use std::alloc::Global;
 use std::collections::BTreeMap;
 use std::marker::Model;
 
-/// Rows in memory, and how often those of each table were written.
+/// Rows in memory, and how often those of each table were written. Each row is a record within its
+/// limits, as it was when it was put.
 #[derive(Drop)]
 pub struct MapShelf {
     intersection: BTreeMap<InterId, IntersectionRow>,
@@ -41,8 +42,11 @@ pub struct MapShelf {
 }
 
 impl Model for MapShelf {
-    ghost use Rattle.office_tables_maps.specs.MapCabinet.{inspection_rows, order_rows, used_rows, part_rows, delivery_rows, AreInspectionsPlaced, AreOrdersPlaced, AreUsedPlaced, AreDeliveriesPlaced};
-    ghost use Rattle.office_tables_maps.specs.MapShelf.{ShelfView, view_code, intersection_rows, timing_rows, draft_rows, AreRowsPlaced, AreLeftPlaced};
+    ghost use Rattle.office_tables_maps.specs.MapCabinet.{inspection_rows, order_rows, used_rows};
+    ghost use Rattle.office_tables_maps.specs.MapCabinet.{part_rows, delivery_rows};
+    ghost use Rattle.office_tables_maps.specs.MapShelf.{ShelfView, view_code, intersection_rows};
+    ghost use Rattle.office_tables_maps.specs.MapShelf.{timing_rows, draft_rows};
+    ghost use Rattle.office_tables_maps.specs.Placed.{AreTreesPlaced};
 
     ghost Value = { ShelfView };
 
@@ -62,11 +66,16 @@ impl Model for MapShelf {
       counts = s.counts;
     } };
 
-    ghost invariant = { λ s. AreRowsPlaced s.timing.entries × (AreLeftPlaced s.draft.entries × (AreInspectionsPlaced s.inspection.entries × (AreOrdersPlaced s.work_order.entries × (AreUsedPlaced s.used_part.entries × AreDeliveriesPlaced s.delivery.entries)))) };
+    ghost invariant = { λ s. AreTreesPlaced s.intersection.entries s.timing.entries
+        s.draft.entries s.inspection.entries s.work_order.entries s.used_part.entries
+        s.part.entries s.delivery.entries };
 }
 
 impl MapShelf {
+    ghost use Rattle.cabinet_core.specs.Within.{IsInspectionWithin, IsOrderWithin};
+    ghost use Rattle.cabinet_core.specs.Within.{IsUsedLineWithin, IsDeliveryWithin};
     ghost use Rattle.office_tables_shelf.specs.CabinetReads.{ReadsInspection, ReadsOrder, ReadsUsed, ReadsDelivery, ReadsHand};
+    ghost use Rattle.office_tables_shelf.specs.CabinetReads.{IsHand};
     ghost use Rattle.office_tables_shelf.specs.Content.{no_content};
     ghost use Rattle.office_tables_shelf.specs.Change.{changed, changed_by};
     ghost use Rattle.office_tables_shelf.specs.Counts.{no_writes, counts_after};
@@ -165,14 +174,16 @@ impl MapShelf {
         id: InterId,
         number: RecordNo,
     ) -> Result<Option<Inspection>, NoMemory>
-        ensures { IfOk result (λ found. ReadsInspection self.now.tables id number found) }
+        ensures row { IfOk result (λ found. ReadsInspection self.now.tables id number found) }
+        ensures within { IfOk result (λ found. IfSome found IsInspectionWithin) }
     {
         inspection_at(&self.inspection, id, number)
     }
 
     /// The order on an intersection with a number, if there is one.
     pub fn order_at(&self, id: InterId, number: RecordNo) -> Result<Option<Order>, NoMemory>
-        ensures { IfOk result (λ found. ReadsOrder self.now.tables id number found) }
+        ensures row { IfOk result (λ found. ReadsOrder self.now.tables id number found) }
+        ensures within { IfOk result (λ found. IfSome found IsOrderWithin) }
     {
         order_at(&self.work_order, id, number)
     }
@@ -184,7 +195,8 @@ impl MapShelf {
         order: RecordNo,
         line: LineNo,
     ) -> Result<Option<UsedLine>, NoMemory>
-        ensures { IfOk result (λ found. ReadsUsed self.now.tables id order line found) }
+        ensures row { IfOk result (λ found. ReadsUsed self.now.tables id order line found) }
+        ensures within { IfOk result (λ found. IfSome found IsUsedLineWithin) }
     {
         line_at(&self.used_part, id, order, line)
     }
@@ -195,14 +207,16 @@ impl MapShelf {
         part: &PartCode,
         number: RecordNo,
     ) -> Result<Option<Delivery>, NoMemory>
-        ensures { IfOk result (λ found. ReadsDelivery self.now.tables part.now number found) }
+        ensures row { IfOk result (λ found. ReadsDelivery self.now.tables part.now number found) }
+        ensures within { IfOk result (λ found. IfSome found IsDeliveryWithin) }
     {
         delivery_at(&self.delivery, part, number)
     }
 
     /// How many of a part are on hand, if there ever was a delivery of it.
     pub fn hand_of(&self, part: &PartCode) -> Option<Hand>
-        ensures { ReadsHand self.now.tables part.now result }
+        ensures row { ReadsHand self.now.tables part.now result }
+        ensures within { IfSome result IsHand }
     {
         hand_of(&self.part, part)
     }
@@ -241,14 +255,16 @@ impl MapShelf {
 }
 
 impl Shelf for MapShelf {
-    ghost use Rattle.std.specs.Prelude.{◌≡◌, ◌<◌, OnOk, OnErr, IfOk, vec_len};
+    ghost use Rattle.std.specs.Prelude.{◌≡◌, ◌<◌, OnOk, OnErr, IfOk, IfSome, vec_len};
     ghost use Rattle.std.specs.List.{AllByRecursion};
     ghost use Rattle.cabinet_core.specs.Within.{IsInspectionWithin, IsOrderWithin};
-    ghost use Rattle.cabinet_core.specs.Within.{IsUsedLineWithin};
+    ghost use Rattle.cabinet_core.specs.Within.{IsUsedLineWithin, IsDeliveryWithin};
+    ghost use Rattle.signal_records.specs.Within.{IsRowWithin, current_limits};
     ghost use Rattle.office_tables_shelf.specs.Change.{changed_by};
     ghost use Rattle.office_tables_shelf.specs.Counts.{count_of, counts_after};
+    ghost use Rattle.office_tables_shelf.specs.Rows.{IsIntersectionRow};
     ghost use Rattle.office_tables_shelf.specs.CabinetReads.{ReadsInspection, ListsInspections, ReadsOrder, ListsOrders, ReadsUsed, ListsUsed, ReadsDelivery, ReadsHand, ListsParts};
-    ghost use Rattle.office_tables_shelf.specs.CabinetReads.{IsPartWithin};
+    ghost use Rattle.office_tables_shelf.specs.CabinetReads.{IsHand, IsPartWithin};
     ghost use Rattle.office_tables_shelf.specs.Shelf.{ReadsIntersection, ListsIntersections, ListsTiming, CountsTiming, ListsDraft};
     ghost use Rattle.office_tables_shelf.specs.Shelf.{IsIntersectionWithin};
     ghost use Rattle.office_tables_shelf.specs.Overdue.{ReadsLast, ListsOverdue, HasOverdueDamage};
@@ -270,6 +286,7 @@ impl Shelf for MapShelf {
         id: InterId,
     ) -> Result<Option<IntersectionRow>, ShelfFault>
         ensures row { IfOk result (λ row. ReadsIntersection self.old.tables id row) }
+        ensures within { IfOk result (λ row. IfSome row IsIntersectionRow) }
         ensures unchanged { self.new ≡ self.old }
         ensures sound { IsFreeOfStore result }
     {
@@ -290,6 +307,8 @@ impl Shelf for MapShelf {
 
     fn timing_rows(&mut self, alloc: Global, id: InterId) -> Result<Vec<Row>, ShelfFault>
         ensures rows { IfOk result (λ rows. ListsTiming self.old.tables id rows.items) }
+        ensures within { IfOk result (λ rows.
+            AllByRecursion (IsRowWithin current_limits) rows.items) }
         ensures unchanged { self.new ≡ self.old }
         ensures sound { IsFreeOfStore result }
     {
@@ -319,6 +338,7 @@ impl Shelf for MapShelf {
         number: RecordNo,
     ) -> Result<Option<Inspection>, ShelfFault>
         ensures row { IfOk result (λ found. ReadsInspection self.old.tables id number found) }
+        ensures within { IfOk result (λ found. IfSome found IsInspectionWithin) }
         ensures unchanged { self.new ≡ self.old }
         ensures sound { IsFreeOfStore result }
     {
@@ -365,6 +385,7 @@ impl Shelf for MapShelf {
         number: RecordNo,
     ) -> Result<Option<Order>, ShelfFault>
         ensures row { IfOk result (λ found. ReadsOrder self.old.tables id number found) }
+        ensures within { IfOk result (λ found. IfSome found IsOrderWithin) }
         ensures unchanged { self.new ≡ self.old }
         ensures sound { IsFreeOfStore result }
     {
@@ -388,6 +409,7 @@ impl Shelf for MapShelf {
         line: LineNo,
     ) -> Result<Option<UsedLine>, ShelfFault>
         ensures row { IfOk result (λ found. ReadsUsed self.old.tables id order line found) }
+        ensures within { IfOk result (λ found. IfSome found IsUsedLineWithin) }
         ensures unchanged { self.new ≡ self.old }
         ensures sound { IsFreeOfStore result }
     {
@@ -410,6 +432,7 @@ impl Shelf for MapShelf {
         number: RecordNo,
     ) -> Result<Option<Delivery>, ShelfFault>
         ensures row { IfOk result (λ found. ReadsDelivery self.old.tables part.now number found) }
+        ensures within { IfOk result (λ found. IfSome found IsDeliveryWithin) }
         ensures unchanged { self.new ≡ self.old }
         ensures sound { IsFreeOfStore result }
     {
@@ -418,6 +441,7 @@ impl Shelf for MapShelf {
 
     fn hand(&mut self, _alloc: Global, part: &PartCode) -> Result<Option<Hand>, ShelfFault>
         ensures row { IfOk result (λ found. ReadsHand self.old.tables part.now found) }
+        ensures within { IfOk result (λ found. IfSome found IsHand) }
         ensures unchanged { self.new ≡ self.old }
         ensures sound { IsFreeOfStore result }
     {

@@ -1,11 +1,13 @@
 //! The tables of the office as a trait.
-ghost use Rattle.std.specs.Prelude.{◌≡◌, ◌≢◌, ◌<◌, ◌⊎◌, [], IfOk, OnOk, OnErr, vec_len};
+ghost use Rattle.std.specs.Prelude.{◌≡◌, ◌≢◌, ◌<◌, ◌⊎◌, [], IfOk, IfSome, OnOk, OnErr, vec_len};
 ghost use Rattle.std.specs.List.{AllByRecursion};
 ghost use Rattle.cabinet_core.specs.Within.{IsInspectionWithin, IsOrderWithin};
-ghost use Rattle.cabinet_core.specs.Within.{IsUsedLineWithin};
+ghost use Rattle.cabinet_core.specs.Within.{IsUsedLineWithin, IsDeliveryWithin};
+ghost use Rattle.signal_records.specs.Within.{IsRowWithin, current_limits};
 ghost use Rattle.office_tables_shelf.specs.Content.{Content};
 ghost use Rattle.office_tables_shelf.specs.Change.{changed_by};
 ghost use Rattle.office_tables_shelf.specs.Counts.{count_of, counts_after};
+ghost use Rattle.office_tables_shelf.specs.Rows.{IsIntersectionRow};
 ghost use Rattle.office_tables_shelf.specs.Shelf.{AnswersOpen, IsKept};
 ghost use Rattle.office_tables_shelf.specs.Shelf.{ReadsIntersection, ListsIntersections};
 ghost use Rattle.office_tables_shelf.specs.Shelf.{IsIntersectionWithin, ListsTiming};
@@ -19,7 +21,7 @@ ghost use Rattle.office_tables_shelf.specs.CabinetReads.{ReadsOrder, HasDamagedO
 ghost use Rattle.office_tables_shelf.specs.CabinetReads.{ListsOrders, HasDamagedOrder, ReadsUsed};
 ghost use Rattle.office_tables_shelf.specs.CabinetReads.{HasDamagedUsedAt, ListsUsed};
 ghost use Rattle.office_tables_shelf.specs.CabinetReads.{HasDamagedUsed, ReadsDelivery};
-ghost use Rattle.office_tables_shelf.specs.CabinetReads.{HasDamagedDelivery, ReadsHand};
+ghost use Rattle.office_tables_shelf.specs.CabinetReads.{HasDamagedDelivery, IsHand, ReadsHand};
 ghost use Rattle.office_tables_shelf.specs.CabinetReads.{HasDamagedHand, ListsParts};
 ghost use Rattle.office_tables_shelf.specs.CabinetReads.{IsPartWithin, HasDamagedPart};
 ghost use Rattle.office_tables_shelf.specs.Overdue.{ReadsLast, ListsOverdue, HasOverdueDamage};
@@ -82,6 +84,7 @@ pub trait Shelf {
         id: InterId,
     ) -> Result<Option<IntersectionRow>, ShelfFault>
         ensures row { IfOk result (λ row. is_honest self.new → ReadsIntersection (content self.old) id row) }
+        ensures within { IfOk result (λ row. IfSome row IsIntersectionRow) }
         ensures damaged { result ≡ Err ShelfFault.Damaged → is_honest self.new → HasDamagedIntersection (content self.old) id }
         ensures kept { IsKept is_honest content written may_leave self.old self.new }
         ensures open { AnswersOpen is_clean is_honest result self.old self.new };
@@ -101,6 +104,8 @@ pub trait Shelf {
     /// The committed rows of an intersection, in the order of their keys.
     fn timing_rows(&mut self, alloc: Global, id: InterId) -> Result<Vec<Row>, ShelfFault>
         ensures rows { IfOk result (λ rows. is_honest self.new → ListsTiming (content self.old) id rows.items) }
+        ensures within { IfOk result (λ rows. is_honest self.new →
+            AllByRecursion (IsRowWithin current_limits) rows.items) }
         ensures damaged { result ≡ Err ShelfFault.Damaged → is_honest self.new → HasDamagedTiming (content self.old) id }
         ensures kept { IsKept is_honest content written may_leave self.old self.new }
         ensures open { AnswersOpen is_clean is_honest result self.old self.new };
@@ -127,6 +132,7 @@ pub trait Shelf {
         number: RecordNo,
     ) -> Result<Option<Inspection>, ShelfFault>
         ensures row { IfOk result (λ found. is_honest self.new → ReadsInspection (content self.old) id number found) }
+        ensures within { IfOk result (λ found. IfSome found IsInspectionWithin) }
         ensures damaged { result ≡ Err ShelfFault.Damaged → is_honest self.new → HasDamagedInspectionAt (content self.old) id number }
         ensures kept { IsKept is_honest content written may_leave self.old self.new }
         ensures open { AnswersOpen is_clean is_honest result self.old self.new };
@@ -187,6 +193,7 @@ pub trait Shelf {
         number: RecordNo,
     ) -> Result<Option<Order>, ShelfFault>
         ensures row { IfOk result (λ found. is_honest self.new → ReadsOrder (content self.old) id number found) }
+        ensures within { IfOk result (λ found. IfSome found IsOrderWithin) }
         ensures damaged { result ≡ Err ShelfFault.Damaged → is_honest self.new → HasDamagedOrderAt (content self.old) id number }
         ensures kept { IsKept is_honest content written may_leave self.old self.new }
         ensures open { AnswersOpen is_clean is_honest result self.old self.new };
@@ -209,6 +216,7 @@ pub trait Shelf {
         line: LineNo,
     ) -> Result<Option<UsedLine>, ShelfFault>
         ensures row { IfOk result (λ found. is_honest self.new → ReadsUsed (content self.old) id order line found) }
+        ensures within { IfOk result (λ found. IfSome found IsUsedLineWithin) }
         ensures damaged { result ≡ Err ShelfFault.Damaged → is_honest self.new → HasDamagedUsedAt (content self.old) id order line }
         ensures kept { IsKept is_honest content written may_leave self.old self.new }
         ensures open { AnswersOpen is_clean is_honest result self.old self.new };
@@ -230,6 +238,7 @@ pub trait Shelf {
         number: RecordNo,
     ) -> Result<Option<Delivery>, ShelfFault>
         ensures row { IfOk result (λ found. is_honest self.new → ReadsDelivery (content self.old) part.now number found) }
+        ensures within { IfOk result (λ found. IfSome found IsDeliveryWithin) }
         ensures damaged { result ≡ Err ShelfFault.Damaged → is_honest self.new → HasDamagedDelivery (content self.old) part.now number }
         ensures kept { IsKept is_honest content written may_leave self.old self.new }
         ensures open { AnswersOpen is_clean is_honest result self.old self.new };
@@ -237,6 +246,7 @@ pub trait Shelf {
     /// How many of a part are on hand, if there ever was a delivery of it.
     fn hand(&mut self, alloc: Global, part: &PartCode) -> Result<Option<Hand>, ShelfFault>
         ensures row { IfOk result (λ found. is_honest self.new → ReadsHand (content self.old) part.now found) }
+        ensures within { IfOk result (λ found. IfSome found IsHand) }
         ensures damaged { result ≡ Err ShelfFault.Damaged → is_honest self.new → HasDamagedHand (content self.old) part.now }
         ensures kept { IsKept is_honest content written may_leave self.old self.new }
         ensures open { AnswersOpen is_clean is_honest result self.old self.new };

@@ -13,6 +13,7 @@ ghost use Rattle.office_tables_shelf.specs.Cells.{number};
 ghost use Rattle.office_tables_shelf.specs.Content.{put_in};
 ghost use Rattle.office_tables_shelf.specs.Rows.{stage_number, state_number, owner_cell};
 ghost use Rattle.office_tables_shelf.specs.Rows.{intersection_key, intersection_columns};
+ghost use Rattle.office_tables_shelf.specs.Rows.{IsIntersectionRow};
 ghost use Rattle.office_tables_shelf.specs.Shelf.{ReadsIntersection};
 ghost use Rattle.office_tables_shelf.specs.Damage.{HasDamagedIntersection};
 ghost use Rattle.office_tables_shelf.specs.declared.rows.IntersectionRow.{IntersectionRow};
@@ -140,6 +141,7 @@ pub fn read<S: Alter>(
 ) -> Result<Option<IntersectionRow>, ShelfFault>
     requires { IsOffice (state S.Store conn.old) }
     ensures row { IfOk result (λ row. IsHonest (state S.Store conn.new) → ReadsIntersection (content_now (state S.Store conn.old)) id row) }
+    ensures within { IfOk result (λ row. IfSome row IsIntersectionRow) }
     ensures damaged { result ≡ Err ShelfFault.Damaged → IsHonest (state S.Store conn.new) → HasDamagedIntersection (content_now (state S.Store conn.old)) id }
     ensures kept { Keeps (state S.Store conn.old) (state S.Store conn.new) }
     ensures crash { Survives (state S.Store conn.old) (state S.Store conn.new) (λ _. ⊥) }

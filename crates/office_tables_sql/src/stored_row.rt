@@ -1,6 +1,6 @@
 //! Rows that a table of the office keeps, found and put by one text each.
 
-ghost use Rattle.std.specs.Prelude.{◌≡◌, ◌++◌, ℕ, List, length, IfOk, OnOk};
+ghost use Rattle.std.specs.Prelude.{◌≡◌, ◌++◌, ℕ, List, length, IfOk, IfSome, OnOk};
 ghost use Rattle.sqlite.specs.State.{HasCleanDisk, Survives};
 ghost use Rattle.sqlite.specs.Held.{state};
 ghost use Rattle.sqlite.specs.Values.{bound};
@@ -111,6 +111,7 @@ pub fn find<T: StoredRow, S: Alter>(
     requires office { IsOffice (state S.Store conn.old) }
     requires key { IsKeyOf T.table (bound key.now) }
     ensures row { IfOk result (λ found. IsHonest (state S.Store conn.new) → ReadsRow T.table T.key T.columns (content_now (state S.Store conn.old)) (T.number of) (key_given T.table (bound key.now)) found) }
+    ensures within { IfOk result (λ found. IfSome found T.is_within) }
     ensures damaged { result ≡ Err ShelfFault.Damaged → IsHonest (state S.Store conn.new) → HasDamagedUnder T.table T.is_within T.key T.columns (content_now (state S.Store conn.old)) (T.number of) (key_given T.table (bound key.now)) }
     ensures kept { Keeps (state S.Store conn.old) (state S.Store conn.new) }
     ensures crash { Survives (state S.Store conn.old) (state S.Store conn.new) (λ _. ⊥) }

@@ -4,6 +4,7 @@ use crate::running::{answers, asked, does};
 use crate::script::{Line, UNKNOWN, commands};
 use crate::talking::{told_answer, words};
 use cabinet_core::read_day;
+use office_desk::decided::Decided;
 use office_desk::office::Office;
 use office_http::{Asked, Form, answer_of};
 use office_machine::reply::Reply;
@@ -18,16 +19,34 @@ fn tells(alloc: Global, line: &Line, reply: &Reply, form: Form) -> Result<(), Tr
     compare(alloc, line.0, told.as_bytes(), &came)
 }
 
-/// A decision changes nothing, and its changes make what the command asks.
-fn decide_first<S: Shelf>(alloc: Global, office: &mut Office<S>) -> Result<(), Trouble> {
+/// A decision on the first command changes nothing, and its changes make what that asks.
+fn try_decision<S: Shelf>(
+    alloc: Global,
+    office: &mut Office<S>,
+    decided: &Decided,
+    form: Form,
+) -> Result<(), Trouble> {
     let [add, shown, ..] = commands();
-    let Asked { command, form } = asked(alloc, words(add))?;
-    let decided = office.decide(alloc, &command);
     tells(alloc, add, &decided.reply, form)?;
     answers(alloc, office, words(shown), ("a decision", UNKNOWN))?;
     let is_applied = office.apply(alloc, &decided.changes).is_ok();
     holds(is_applied, "the changes of a decision")?;
     does(alloc, office, shown)
+}
+
+/// Decides what is asked, and tries the decision.
+fn decide<S: Shelf>(alloc: Global, office: &mut Office<S>, asked: &Asked) -> Result<(), Trouble> {
+    let decided = office.decide(alloc, &asked.command);
+    try_decision(alloc, office, &decided, asked.form)
+}
+
+/// Decides the first command.
+fn decide_first<S: Shelf>(alloc: Global, office: &mut Office<S>) -> Result<(), Trouble> {
+    let [add, ..] = commands();
+    match asked(alloc, words(add)) {
+        Ok(asked) => decide(alloc, office, &asked),
+        Err(trouble) => Err(trouble),
+    }
 }
 
 /// The first intersection that is overdue is asked for, and then none.

@@ -6,7 +6,7 @@ use office_desk::office::Office;
 use office_http::{AskFault, Asked, Request, answer_of, command_of};
 use office_row_files::trouble::{Trouble, compare};
 use office_tables_shelf::shelf::Shelf;
-use std::alloc::Global;
+use std::alloc::{AllocError, Global};
 
 /// What a request asks for.
 pub fn asked(alloc: Global, (method, path, body): Words<'_>) -> Result<Asked, Trouble> {
@@ -23,15 +23,27 @@ pub fn asked(alloc: Global, (method, path, body): Words<'_>) -> Result<Asked, Tr
     }
 }
 
+/// The answer to what is asked. As in all that own a reply here, nothing is returned before its
+/// end: the reply would be dropped at each such place, and the proof of each is long.
+fn answer_to<S: Shelf>(
+    alloc: Global,
+    office: &mut Office<S>,
+    asked: &Asked,
+) -> Result<Vec<u8>, AllocError> {
+    let reply = office.run(alloc, &asked.command);
+    answer_of(alloc, &reply, asked.form)
+}
+
 /// Runs what a request asks for, and gives the answer to it.
 pub fn run<S: Shelf>(
     alloc: Global,
     office: &mut Office<S>,
     words: Words<'_>,
 ) -> Result<Vec<u8>, Trouble> {
-    let Asked { command, form } = asked(alloc, words)?;
-    let reply = office.run(alloc, &command);
-    Ok(answer_of(alloc, &reply, form)?)
+    match asked(alloc, words) {
+        Ok(asked) => answer_to(alloc, office, &asked).map_err(Trouble::from),
+        Err(trouble) => Err(trouble),
+    }
 }
 
 /// Runs what a request asks for, which must be answered this.

@@ -15,7 +15,8 @@ returns-clause-found g c = λ honest office stands.
     let first = c.plan_rows.ensures.kept.honest_before honest in
     finds_some c.args.reach _ office c.args.id c.in-Some.row _ _ c.in_ok-found.found stands
     (rw c.in-Some.is at (c.in_ok-row.ensures.row first))
-    (rw (c.intersection_row.ensures.kept.same_content first) at (c.in_ok-rows.ensures.lists honest)) c.in_ok-found.ensures
+    (rw (c.intersection_row.ensures.kept.same_content first) at (c.in_ok-rows.ensures.lists honest))
+    (c.in_ok-rows.ensures.within honest) c.in_ok-found.ensures
 
 pub returns-clause-listed : goal.returns-clause-listed
 returns-clause-listed g c = λ honest.
@@ -31,4 +32,4 @@ returns-clause-whole g c = λ honest.
     row_after _ c.args.id _ (c.in_ok-row.ensures.whole first)
     (plan_whole c.args.reach _ c.args.id _ _
     (rw (c.intersection_row.ensures.kept.same_content first) at (c.in_ok-rows.ensures.lists honest))
-    c.in_ok-found.ensures.rows_within c.in_ok-found.ensures.changes_within)
+    (c.in_ok-rows.ensures.within honest) c.in_ok-found.ensures.changes_within)

@@ -13,16 +13,16 @@ returns-in_default-clause-decides g c =
 pub returns-clause-decides : goal.returns-clause-decides
 returns-clause-decides g c =
     let row = c.in_ok-row.ensures in
-    let set = c.in_ok-set.ensures in
     told_decides _ _ _ _ _ c.unchanged.ensures.reply (λ e. cc) (λ why e. absurd cc) c.unchanged.ensures.no_changes
     (λ honest.
     let first = c.timing_rows.ensures.kept.honest_before honest in
     let rows = rw (c.intersection_row.ensures.kept.same_content first) at (c.in_ok-rows.ensures.rows honest) in
-    row_after _ c.args.id _ (row.whole first) (timing_whole _ c.args.id _ rows set.within))
+    row_after _ c.args.id _ (row.whole first) (timing_whole _ c.args.id _ rows (c.in_ok-rows.ensures.within honest)))
     (λ honest office stands.
     let first = c.timing_rows.ensures.kept.honest_before honest in
     let rows = rw (c.intersection_row.ensures.kept.same_content first) at (c.in_ok-rows.ensures.rows honest) in
-    timing_shows _ office c.args.id c.in-Some.row _ _ stands (rw c.in-Some.is at (row.row first)) rows set.within set.set)
+    timing_shows _ office c.args.id c.in-Some.row _ _ stands (rw c.in-Some.is at (row.row first)) rows
+    (c.in_ok-rows.ensures.within honest) c.in_ok-set.ensures)
 
 pub returns-in_err-rows-clause-decides : goal.returns-in_err-rows-clause-decides
 returns-in_err-rows-clause-decides g c =

@@ -2,14 +2,20 @@ use Rattle.std.proofs.Common.{rules, None, Some}
 use Rattle.office_tables_maps.proofs.CabinetTrees.{reads_inspection}
 use Rattle.office_tables_maps.proofs.map_cabinet.inspection_at.Goals as goal
 
-pub returns-in_ok-clone-in-Some : goal.returns-in_ok-clone-in-Some
-returns-in_ok-clone-in-Some c = λ placed.
-    reads_inspection c.args.rows.now.entries
+pub returns-in_ok-clone-in-Some-clause-row : goal.returns-in_ok-clone-in-Some-clause-row
+returns-in_ok-clone-in-Some-clause-row c = λ placed.
+    (reads_inspection c.args.rows.now.entries
     (record { inter = c.args.inter; number = c.args.number })
-    (Some c.in_ok-clone-in-Some.field-0) placed (search rules)
+    (Some c.in_ok-clone-in-Some.field-0) placed (search rules)).0
 
-pub returns-in-None : goal.returns-in-None
-returns-in-None c = λ placed.
-    reads_inspection c.args.rows.now.entries
+pub returns-in_ok-clone-in-Some-clause-within : goal.returns-in_ok-clone-in-Some-clause-within
+returns-in_ok-clone-in-Some-clause-within c = λ placed.
+    (reads_inspection c.args.rows.now.entries
+    (record { inter = c.args.inter; number = c.args.number })
+    (Some c.in_ok-clone-in-Some.field-0) placed (search rules)).1
+
+pub returns-in-None-clause-row : goal.returns-in-None-clause-row
+returns-in-None-clause-row c = λ placed.
+    (reads_inspection c.args.rows.now.entries
     (record { inter = c.args.inter; number = c.args.number }) None placed
-    (search rules)
+    (search rules)).0

@@ -1,13 +1,9 @@
 use Rattle.std.proofs.Common.{◌≡◌, ◌++◌}
-use Rattle.std.specs.List.{AllByRecursion}
-use Rattle.cabinet_core.specs.Within.{IsInspectionWithin}
 use Rattle.office_tables_maps.proofs.CabinetTrees.{records_under, record_inter}
 use Rattle.office_tables_maps.proofs.map_cabinet.inspections_of.Given as goal
 
--- the inspections so far, each within its limits, and those of the entries that are left
+-- the inspections so far, and those of the entries that are left
 abbrev pub invariant-loop-place : goal.invariant-loop-place
-invariant-loop-place l = record {
-  so_far : l.list.items ++ records_under record_inter l.inter l.place-iterator
-      ≡ records_under record_inter l.inter l.initial.place-iterator;
-  within : AllByRecursion IsInspectionWithin l.list.items;
-}
+invariant-loop-place l =
+    l.list.items ++ records_under record_inter l.inter l.place-iterator
+    ≡ records_under record_inter l.inter l.initial.place-iterator

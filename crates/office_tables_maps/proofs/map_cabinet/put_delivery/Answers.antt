@@ -17,4 +17,4 @@ pub returns-clause-placed : goal.returns-clause-placed
 returns-clause-placed c = λ placed.
     let same : c.in_ok-part.part ≡ c.args.delivery.part = search rules in
     rw c.in_ok-insert.ensures.entries
-    (standing_put delivery_cmp delivery_exact IsDeliveryAt c.args.rows.now.entries (record { part = c.in_ok-part.part; number = c.args.delivery.number }) c.args.delivery (sym same, refl) placed)
+    (standing_put delivery_cmp delivery_exact IsDeliveryAt c.args.rows.now.entries (record { part = c.in_ok-part.part; number = c.args.delivery.number }) c.args.delivery (sym same, (refl, c.delivery_is_within.ensures)) placed)

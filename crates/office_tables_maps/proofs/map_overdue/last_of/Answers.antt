@@ -1,7 +1,8 @@
-use Rattle.std.proofs.Common.{◌∙◌, sym, ap, subst}
-use Rattle.std.specs.{BTreeMap.Range.entries_between, List.AllByRecursion}
+use Rattle.std.proofs.Common.{◌∙◌, sym, ap}
+use Rattle.std.specs.BTreeMap.Range.{entries_between}
 use Rattle.cabinet_core.specs.{Overdue.latest_day, Within.IsInspectionWithin}
-use Rattle.office_tables_maps.proofs.CabinetTrees.{records_under, record_inter, record_cmp, inspections_listed, latest_with}
+use Rattle.office_tables_maps.specs.MapCabinet.{IsInspectionAt}
+use Rattle.office_tables_maps.proofs.CabinetTrees.{records_under, record_inter, record_cmp, inspections_listed, all_under, latest_with}
 use Rattle.office_tables_maps.proofs.{CabinetTrees.latest_with_none, RangeLemmas.records_forward, RangeLemmas.inspections_between}
 use Rattle.office_tables_maps.proofs.map_overdue.last_of.Goals as goal
 
@@ -21,9 +22,9 @@ returns c = λ placed.
     record {
       inspections = records_under record_inter c.args.inter es;
       lists = inspections_listed c.args.inter es c.range-place-items.ensures.ordered placed;
-      within = subst (AllByRecursion IsInspectionWithin) all
-          (c.loop-place.invariant.within (subst (AllByRecursion IsInspectionWithin) ended tt));
+      within = all_under record_inter IsInspectionAt IsInspectionWithin (λ place x at. at.1)
+          c.args.inter es placed;
       latest = sym (latest_with_none last)
-          ∙ ap (λ rest. latest_with last (latest_day rest)) ended ∙ c.loop-place.invariant.latest
+          ∙ ap (λ rest. latest_with last (latest_day rest)) ended ∙ c.loop-place.invariant
           ∙ ap latest_day all;
     }

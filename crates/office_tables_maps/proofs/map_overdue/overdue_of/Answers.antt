@@ -63,12 +63,12 @@ returns-clause-rows c = λ placed tables stored held seen all.
     ]
 
 pub returns-clause-whole : goal.returns-clause-whole
-returns-clause-whole c = λ placed tables stored held fewer.
+returns-clause-whole c = λ placed every tables stored held fewer.
     let rows = c.as_slice-id-items.result.now in
     let read = sym c.as_slice-id-items.ensures.value in
     let lists = subst (ListsIntersections tables) read
     (c.in_ok-list.ensures.rows ∙ ap entries (sym stored)) in
-    let within = subst (AllByRecursion IsIntersectionWithin) read c.in_ok-list.ensures.within in
+    let within = subst (AllByRecursion IsIntersectionWithin) read (c.in_ok-list.ensures.within every) in
     let whole = c.loop-id.invariant.whole placed tables held in
     elim c.loop-id-test.branch [
       | else-loop-id-test w ↦

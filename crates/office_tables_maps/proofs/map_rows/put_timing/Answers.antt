@@ -15,4 +15,4 @@ returns-clause-rows c =
 pub returns-clause-placed : goal.returns-clause-placed
 returns-clause-placed c = λ placed.
     rw c.in_ok-insert.ensures.entries
-    (standing_put place_cmp place_exact (λ place row. IsRowAt place.key row) c.args.rows.now.entries (record { inter = c.args.inter; key = c.key-key.result }) c.args.row (sym c.key-key.ensures, subst (IsKeyWithin current_limits) (c.key.ensures ∙ sym c.key-key.ensures) c.key_is_within.ensures) placed)
+    (standing_put place_cmp place_exact (λ place row. IsRowAt place.key row) c.args.rows.now.entries (record { inter = c.args.inter; key = c.key-key.result }) c.args.row (sym c.key-key.ensures, (subst (IsKeyWithin current_limits) (c.key.ensures ∙ sym c.key-key.ensures) c.key_is_within.ensures, c.row_is_within.ensures)) placed)

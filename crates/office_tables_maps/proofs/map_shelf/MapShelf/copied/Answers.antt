@@ -7,13 +7,15 @@ use Rattle.office_tables_maps.proofs.map_shelf.MapShelf.copied.Goals as goal
 
 pub invariant_of-result : goal.invariant_of-result
 invariant_of-result c =
+    let intersection : c.in_ok-intersection.intersection.entries ≡ c.self.inside.intersection.entries = c.in_ok-intersection.ensures in
+    let part : c.in_ok-part.part.entries ≡ c.self.inside.part.entries = c.in_ok-part.ensures in
     let timing : c.in_ok-timing.timing.entries ≡ c.self.inside.timing.entries = same_clones c.self.inside.timing.entries c.in_ok-timing.timing.entries c.in_ok-timing.ensures.cases in
     let draft : c.in_ok-draft.draft.entries ≡ c.self.inside.draft.entries = c.in_ok-draft.ensures in
     let inspection : c.in_ok-inspection.inspection.entries ≡ c.self.inside.inspection.entries = same_clones c.self.inside.inspection.entries c.in_ok-inspection.inspection.entries c.in_ok-inspection.ensures.cases in
     let work_order : c.in_ok-work_order.work_order.entries ≡ c.self.inside.work_order.entries = same_clones c.self.inside.work_order.entries c.in_ok-work_order.work_order.entries c.in_ok-work_order.ensures.cases in
     let used_part : c.in_ok-used_part.used_part.entries ≡ c.self.inside.used_part.entries = same_clones c.self.inside.used_part.entries c.in_ok-used_part.used_part.entries c.in_ok-used_part.ensures.cases in
     let delivery : c.in_ok-delivery.delivery.entries ≡ c.self.inside.delivery.entries = same_clones c.self.inside.delivery.entries c.in_ok-delivery.delivery.entries c.in_ok-delivery.ensures.cases in
-    rw (timing, draft, inspection, work_order, used_part, delivery) c.self.invariant
+    rw (intersection, timing, draft, inspection, work_order, used_part, part, delivery) c.self.invariant
 
 pub returns : goal.returns
 returns c =

@@ -7,11 +7,12 @@ returns-clause-rows c =
     let viewed : the_view c.self.inside ≡ c.args.self.now = search rules in
     let stored = sym (ap (λ (v : ShelfView). v.tables.intersection) viewed) in
     let held = sym (ap (λ (v : ShelfView). v.tables.inspection) viewed) in
-    c.in_ok-found.ensures.rows c.self.invariant.1.1.0 c.args.self.now.tables stored held
+    c.in_ok-found.ensures.rows c.self.invariant.inspections c.args.self.now.tables stored held
 
 pub returns-clause-whole : goal.returns-clause-whole
 returns-clause-whole c =
     let viewed : the_view c.self.inside ≡ c.args.self.now = search rules in
     let stored = sym (ap (λ (v : ShelfView). v.tables.intersection) viewed) in
     let held = sym (ap (λ (v : ShelfView). v.tables.inspection) viewed) in
-    c.in_ok-found.ensures.whole c.self.invariant.1.1.0 c.args.self.now.tables stored held
+    c.in_ok-found.ensures.whole c.self.invariant.inspections c.self.invariant.intersections
+    c.args.self.now.tables stored held

@@ -1,11 +1,11 @@
 //! The office at ends that wait for one another or never stop, and on two connections.
 
+use crate::script::{sent, told};
 use office_desk::office::Office;
 use office_http::{Served, Sink, ToWrite, WaitsOnce, serve, serve_on};
 use office_row_files::trouble::{Trouble, compare, holds};
 use office_row_files::waiting::{Endless, Patient, Telling};
 use office_tables_memory::memory_shelf::MemoryShelf;
-use office_trials::script::{sent, told};
 use std::alloc::Global;
 use std::cell::Cell;
 use std::io;

@@ -1,7 +1,6 @@
 //! What is tried with an office over maps, or with none: ends that wait, the front of a stream, and
 //! hostile use. A line is printed for each kind of it.
 
-use crate::cuts::cut_everywhere;
 use crate::fronts::{answer_faults, read_front};
 use crate::refusing::refuse_everywhere;
 use crate::waits::{serve_in_turn, serve_two_connections, serve_without_end, wait_once};
@@ -19,10 +18,8 @@ fn try_ends(rt: &HostRuntime) -> Result<(), Trouble> {
     Ok(())
 }
 
-/// Cuts a stream, and has a shelf refuse.
+/// Has a shelf refuse.
 fn try_hostile(rt: &HostRuntime) -> Result<(), Trouble> {
-    cut_everywhere(rt.alloc())?;
-    println!(rt; "a stream of 203 bytes, cut in 204 places: the whole requests were answered")?;
     let calls = refuse_everywhere(rt.alloc())?;
     println!(rt;
         "12 commands, each of their {calls} calls of the shelf refused: unavailable, all as it was"

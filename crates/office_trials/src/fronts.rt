@@ -1,10 +1,10 @@
 //! The front of a stream, and the answers to faults.
 
+use crate::script::UNAVAILABLE;
+use crate::talking::told_answer;
 use office_http::{Fault, Field, Front, More, fault_answer, next_request, unavailable};
 use office_http_framing::laws::{one_front, one_list_of_requests};
 use office_row_files::trouble::{Trouble, compare, holds};
-use office_trials::script::UNAVAILABLE;
-use office_trials::talking::told_answer;
 use std::alloc::Global;
 
 /// The front of a stream: a request, a part of one, or a fault.
