@@ -2,16 +2,14 @@
 
     python3 bench/gate.py RECORD [--write]
 
-Where there is no file RECORD, `rt ci` is run at the top of the repository, what it prints is handed
-on, and RECORD is made: a line for each crate with the seconds of its proofs, with its tests and its
-programs, and of its must-fail edits. With --write the table of RECORD is put into
-docs/MEASUREMENTS.md. What an earlier run on the machine kept costs nothing and is told as such: for
-the whole cost, run it where none was. Needs /proc, as Linux has it.
+Where there is no file RECORD, `rt ci --anew` is run at the top of the repository, which takes
+nothing from earlier runs; what it prints is handed on, and RECORD is made: a line for each crate
+with the seconds of its proofs, with its tests and its programs, and of its must-fail edits. With
+--write the table of RECORD is put into docs/MEASUREMENTS.md. Needs /proc, as Linux has it.
 """
 import collections
 import os
 import pathlib
-import re
 import subprocess
 import sys
 import threading
@@ -82,15 +80,14 @@ def watch(top, known, seconds, is_over):
 
 def run(path):
     """Runs the gate and writes the record."""
-    known, seconds, kept = {}, collections.Counter(), []
+    known, seconds = {}, collections.Counter()
     is_over, begun, ticks = threading.Event(), time.monotonic(), measured.ticks()
-    gate = subprocess.Popen(["rt", "ci"], cwd=TOP, stdout=subprocess.PIPE, text=True)
+    gate = subprocess.Popen(["rt", "ci", "--anew"], cwd=TOP, stdout=subprocess.PIPE, text=True)
     watcher = threading.Thread(target=watch, args=(gate.pid, known, seconds, is_over))
     watcher.start()
     last = ""
     for line in gate.stdout:
         print(line, end="", flush=True)
-        kept += re.findall(r"(\w+) is kept: an earlier run", line)
         last = line.strip() or last
     _, status, usage = os.wait4(gate.pid, 0)
     gate.returncode = os.waitstatus_to_exitcode(status)
@@ -106,18 +103,15 @@ def run(path):
         for name in dict.fromkeys(name for name, _ in sums):
             print(f"{name} {sums[name, False]:.0f} {sums[name, True]:.0f}", file=record)
         print(f"{REST.replace(' ', '_')} {whole - sum(sums.values()):.0f} 0", file=record)
-        for name in kept:
-            print(f"# kept {name}", file=record)
 
 
 def of_record(text):
-    """The heading of a record, its rows, and the crates that were kept."""
+    """The heading of a record, and its rows."""
     lines = text.splitlines()
     rows = [line.split() for line in lines if line and not line.startswith("#")]
     rows = [(name.replace("_", " ") if "," in name else f"`{name}`", int(proof), int(edits))
             for name, proof, edits in rows]
-    kept = [line.split()[2] for line in lines if line.startswith("# kept ")]
-    return lines[0][2:].split("; "), rows, kept
+    return lines[0][2:].split("; "), rows
 
 
 def below():
@@ -141,7 +135,7 @@ def main():
         sys.exit("usage: python3 bench/gate.py RECORD [--write]")
     if not os.path.exists(words[0]):
         run(words[0])
-    heading, rows, kept = of_record(pathlib.Path(words[0]).read_text())
+    heading, rows = of_record(pathlib.Path(words[0]).read_text())
     state, machine, clock, last = heading
     order = [f"`{name}`" for name in below()]
     rows.sort(key=lambda it: order.index(it[0]) if it[0] in order else len(order))
@@ -153,9 +147,6 @@ def main():
     names = ", ".join(f"`{it}`" for it in chain)
     told = f"The longest chain of crates takes {took / 60:.0f} minutes by itself: {names}."
     text += "\n" + measured.paragraph(told)
-    if kept:
-        names = ", ".join(kept)
-        text += "\n" + measured.paragraph(f"Kept by an earlier run, and not measured: {names}.")
     print(text, end="")
     if "--write" in sys.argv:
         measured.written("gate", text)

@@ -4,7 +4,7 @@ use office_row_files::trouble::Trouble;
 use office_tables::Migrated;
 use office_tables::open::OpenFault;
 use office_tables::sql_shelf::SqlShelf;
-use office_trial_files::{close, connect, crashed, found, stopping};
+use office_trial_files::{Pair, close, connect, crashed, found, stopping};
 use sqlite::{Alter, Connection, Options};
 use sqlite_disk::{Disk, Files};
 use std::alloc::Global;
@@ -113,29 +113,55 @@ fn with_former<S: Alter + Drop>(alloc: Global, conn: Connection<S>) -> Option<Co
 
 /// Puts tables of version 1 into these files.
 fn former<D: Disk + Drop>(alloc: Global, files: Files<D>) -> Option<Files<D>> {
-    let conn = with_former(alloc, connect(alloc, files)?)?;
-    conn.close_files().ok()
+    match with_former(alloc, connect(alloc, files)?) {
+        Some(conn) => Some(close(conn).0),
+        None => None,
+    }
+}
+
+/// Opens files that were left again: with all that was written, and with what was synced.
+fn are_both_whole(alloc: Global, left: Pair, is_done: bool) -> Result<(), Trouble> {
+    let whole = match found(alloc, &left) {
+        Ok(files) => are_whole(alloc, files, is_done),
+        Err(trouble) => Err(trouble),
+    };
+    let synced = are_whole(alloc, crashed(left), is_done);
+    whole?;
+    synced
+}
+
+/// A migration of these files, which are opened again after it. Tells whether it was done, and the
+/// closing too; None where the opening was stopped.
+fn run(alloc: Global, files: Pair) -> Result<Option<bool>, Trouble> {
+    match migrate(alloc, files) {
+        Some((left, is_done, is_closed)) => {
+            are_both_whole(alloc, left, is_done)?;
+            Ok(Some(is_done && is_closed))
+        }
+        None => Ok(None),
+    }
 }
 
 /// Stops the log or the database at each of its calls in turn, until the migration and the closing
-/// are done before it. Both files are opened again: with all that was written, and with what was
-/// synced. Tells how many migrations were stopped.
-pub(crate) fn stop_migration(alloc: Global, is_log: bool) -> Result<usize, Trouble> {
-    let Some(start) = former(alloc, stopping(alloc, &[], true, u64::MAX)?) else {
-        return Err(Trouble::Unprepared("the tables of version 1"));
-    };
+/// are done before it. The database begins with these bytes. Tells how many migrations were
+/// stopped.
+fn stop_each(alloc: Global, start: &[u8], is_log: bool) -> Result<usize, Trouble> {
     let mut stopped: usize = 0;
     for calls in 0..10_000 {
-        let files = stopping(alloc, start.db.inner().bytes(), is_log, calls)?;
-        let Some((left, is_done, is_closed)) = migrate(alloc, files) else {
-            continue;
-        };
-        are_whole(alloc, found(alloc, &left)?, is_done)?;
-        are_whole(alloc, crashed(left), is_done)?;
-        if is_done && is_closed {
-            return Ok(stopped);
+        let files = stopping(alloc, start, is_log, calls)?;
+        match run(alloc, files)? {
+            Some(true) => return Ok(stopped),
+            Some(false) => stopped = stopped.saturating_add(1),
+            None => {}
         }
-        stopped = stopped.saturating_add(1);
     }
     Err(Trouble::Unprepared("a migration without an end"))
+}
+
+/// The same, from tables of version 1.
+pub(crate) fn stop_migration(alloc: Global, is_log: bool) -> Result<usize, Trouble> {
+    match former(alloc, stopping(alloc, &[], true, u64::MAX)?) {
+        Some(start) => stop_each(alloc, start.db.inner().bytes(), is_log),
+        None => Err(Trouble::Unprepared("the tables of version 1")),
+    }
 }

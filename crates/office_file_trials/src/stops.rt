@@ -7,7 +7,7 @@ use office_row_files::trouble::Trouble;
 use office_tables::sql_shelf::SqlShelf;
 use office_tables_memory::memory_shelf::MemoryShelf;
 use office_tables_shelf::shelf::Shelf;
-use office_trial_files::{close, connect, crashed, found, stopping};
+use office_trial_files::{Pair, close, connect, crashed, found, stopping};
 use office_trials::script::{UNAVAILABLE, UNKNOWN, commands, sent, told};
 use office_trials::state::shown;
 use office_trials::talking::{is_done, serve_all};
@@ -102,22 +102,20 @@ fn worked<S: Alter + Drop>(
     Ok(Some((shelf.into_conn(), done)))
 }
 
-/// What the office over a database shows; None where its tables were not opened.
-fn shown_in<S: Alter + Drop>(
-    alloc: Global,
-    conn: Connection<S>,
-) -> Result<Option<Vec<u8>>, Trouble> {
-    let Ok(shelf) = SqlShelf::open(alloc, conn) else {
-        return Ok(None);
-    };
-    let seen = shown(alloc, &mut Office::new(shelf))?;
-    Ok(Some(seen))
+/// What the office over a database shows.
+fn shown_in<S: Alter + Drop>(alloc: Global, conn: Connection<S>) -> Result<Vec<u8>, Trouble> {
+    match SqlShelf::open(alloc, conn) {
+        Ok(shelf) => shown(alloc, &mut Office::new(shelf)),
+        Err(_) => Err(Trouble::Unprepared("the opening after a stop")),
+    }
 }
 
 /// Puts the tables of a new office into these files.
 fn prepare<D: Disk + Drop>(alloc: Global, files: Files<D>) -> Option<Files<D>> {
-    let conn = with_tables(alloc, connect(alloc, files)?)?;
-    conn.close_files().ok()
+    match with_tables(alloc, connect(alloc, files)?) {
+        Some(conn) => Some(close(conn).0),
+        None => None,
+    }
 }
 
 /// Has an office over these files do its work, and closes them. Gives the files as they were left,
@@ -139,12 +137,10 @@ fn stop<D: Disk + Drop>(
 
 /// What the office over these files shows.
 fn seen_after<D: Disk + Drop>(alloc: Global, files: Files<D>) -> Result<Vec<u8>, Trouble> {
-    if let Some(conn) = connect(alloc, files) {
-        if let Some(seen) = shown_in(alloc, conn)? {
-            return Ok(seen);
-        }
+    match connect(alloc, files) {
+        Some(conn) => shown_in(alloc, conn),
+        None => Err(Trouble::Unprepared("a database after a stop")),
     }
-    Err(Trouble::Unprepared("the opening after a stop"))
 }
 
 /// The office over these files shows what it did before the command that was stopped, or after it.
@@ -163,29 +159,58 @@ fn reopens<D: Disk + Drop>(
     Err(Trouble::wrong(alloc, "an office after a stop", b"before or after", &seen))
 }
 
-/// Stops the log or the database at each of its calls in turn, until all commands, or the stream,
-/// and the closing are done before it. Both files are opened again: with all that was written, and
-/// with what was synced. Tells how many runs were stopped.
-fn stop_everywhere(alloc: Global, is_stream: bool, is_log: bool) -> Result<usize, Trouble> {
-    let states = states(alloc)?;
-    let Some(start) = prepare(alloc, stopping(alloc, &[], true, u64::MAX)?) else {
-        return Err(Trouble::Unprepared("the tables of a new office"));
+/// Opens files that were left again: with all that was written, and with what was synced.
+fn reopens_both(alloc: Global, left: Pair, states: &[Vec<u8>], done: usize) -> Result<(), Trouble> {
+    let whole = match found(alloc, &left) {
+        Ok(files) => reopens(alloc, files, states, done),
+        Err(trouble) => Err(trouble),
     };
+    let synced = reopens(alloc, crashed(left), states, done);
+    whole?;
+    synced
+}
+
+/// A run over these files, which are opened again after it. Tells how much was done in it, and
+/// whether the closing was; None where the opening was stopped.
+fn run(
+    alloc: Global,
+    files: Pair,
+    is_stream: bool,
+    states: &[Vec<u8>],
+) -> Result<Option<(usize, bool)>, Trouble> {
+    match stop(alloc, files, is_stream)? {
+        Some((left, done, is_closed)) => {
+            reopens_both(alloc, left, states, done)?;
+            Ok(Some((done, is_closed)))
+        }
+        None => Ok(None),
+    }
+}
+
+/// Stops the log or the database at each of its calls in turn, until all commands, or the stream,
+/// and the closing are done before it. The database begins with these bytes. Tells how many runs
+/// were stopped.
+fn stop_each(alloc: Global, start: &[u8], is_stream: bool, is_log: bool) -> Result<usize, Trouble> {
+    let states = states(alloc)?;
     let all = if is_stream { 3 } else { commands().len() };
     let mut stopped: usize = 0;
     for calls in 0..10_000 {
-        let files = stopping(alloc, start.db.inner().bytes(), is_log, calls)?;
-        let Some((left, done, is_closed)) = stop(alloc, files, is_stream)? else {
-            continue;
-        };
-        reopens(alloc, found(alloc, &left)?, &states, done)?;
-        reopens(alloc, crashed(left), &states, done)?;
-        if done == all && is_closed {
-            return Ok(stopped);
+        let files = stopping(alloc, start, is_log, calls)?;
+        match run(alloc, files, is_stream, &states)? {
+            Some((done, true)) if done == all => return Ok(stopped),
+            Some(_) => stopped = stopped.saturating_add(1),
+            None => {}
         }
-        stopped = stopped.saturating_add(1);
     }
     Err(Trouble::Unprepared("a run without an end"))
+}
+
+/// The same, from the tables of a new office.
+fn stop_everywhere(alloc: Global, is_stream: bool, is_log: bool) -> Result<usize, Trouble> {
+    match prepare(alloc, stopping(alloc, &[], true, u64::MAX)?) {
+        Some(start) => stop_each(alloc, start.db.inner().bytes(), is_stream, is_log),
+        None => Err(Trouble::Unprepared("the tables of a new office")),
+    }
 }
 
 /// Stops a migration at each call of a file, of which there are some.

@@ -70,17 +70,20 @@ pub fn unescaped(alloc: Global, text: &str) -> Result<Option<Vec<u8>>, AllocErro
     Ok(Some(bytes))
 }
 
+/// The text of a request with a body.
+fn with_body(alloc: Global, method: &str, path: &str, body: &str) -> Result<String, AllocError> {
+    let length = body.len();
+    format!(in alloc; "{method} {path} HTTP/1.1\r\nContent-Length: {length}\r\n\r\n{body}")
+}
+
 /// The bytes of a request, of its method, its path, and its body if it has one.
 pub fn request(alloc: Global, text: &str) -> Result<Vec<u8>, AllocError> {
     let (method, target) = text.split_once(' ').unwrap_or((text, ""));
     let whole = match target.split_once(' ') {
-        None => format!(in alloc; "{method} {target} HTTP/1.1\r\n\r\n")?,
-        Some((path, body)) => {
-            let length = body.len();
-            format!(in alloc; "{method} {path} HTTP/1.1\r\nContent-Length: {length}\r\n\r\n{body}")?
-        }
+        None => format!(in alloc; "{method} {target} HTTP/1.1\r\n\r\n"),
+        Some((path, body)) => with_body(alloc, method, path, body),
     };
-    Ok(whole.into_bytes())
+    Ok(whole?.into_bytes())
 }
 
 /// The bytes of an answer, of its status, its reason and its body.

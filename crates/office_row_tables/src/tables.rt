@@ -7,7 +7,7 @@ use office_tables::sql_shelf::SqlShelf;
 use office_tables_memory::memory_shelf::MemoryShelf;
 use office_tables_shelf::rows::Table;
 use office_tables_shelf::shelf::Shelf;
-use office_trial_files::connect;
+use office_trial_files::{close, connect};
 use sqlite::{Alter, Connection, FileStore, MemStore};
 use sqlite_disk::{Disk, Files, Fuse, Memory};
 use std::alloc::Global;
@@ -92,10 +92,7 @@ impl Again for MemStore {
 /// One in files is found in them.
 impl<D: Disk + Drop> Again for FileStore<D> {
     fn again(alloc: Global, conn: Connection<FileStore<D>>) -> Option<Connection<FileStore<D>>> {
-        match conn.close_files() {
-            Ok(files) => connect(alloc, files),
-            Err(_) => None,
-        }
+        connect(alloc, close(conn).0)
     }
 }
 

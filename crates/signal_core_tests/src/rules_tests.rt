@@ -1,6 +1,8 @@
-//! What is judged after changes of a plan, and at how many seconds phases are compared for it.
+//! What is judged after changes of a plan, at how many seconds phases are compared for it, and what
+//! changes make of a plan.
 
 use crate::spelling::{changes, plan};
+use draft_core::overlay;
 use signal_records::{Change, Key, TimingSet};
 use signal_rules::*;
 use std::alloc::Global;
@@ -143,5 +145,23 @@ fn touched_subjects_give_all_violations(rt: HostRuntime) -> Result<(), Fail> {
         let came = report(alloc, &changes(alloc, text)?)?;
         assert_eq!(rt; came.as_str(), wanted.as_str(), "{text}");
     }
+    Ok(())
+}
+
+/// Changes lie over a plan, which stays as it was.
+#[test]
+fn changes_lie_over_a_plan(rt: HostRuntime) -> Result<(), Fail> {
+    let alloc = rt.alloc();
+    let base = plan(alloc, &[])?;
+    for (text, rows) in [
+        ("", 11),
+        ("remove,pattern,1", 10),
+        ("pattern,2,60,0,1,1", 12),
+    ] {
+        let whole = overlay(alloc, &base, &changes(alloc, text)?)?;
+        let came = whole.rows(alloc)?.len();
+        assert_eq!(rt; came, rows, "{text}");
+    }
+    assert_eq!(rt; base.rows(alloc)?.len(), 11);
     Ok(())
 }
