@@ -76,27 +76,8 @@ impl Tables for Maps {
     }
 }
 
-/// A store of a database, and what is found of it again.
-pub(crate) trait Again: Alter + Sized {
-    /// The database once it was left.
-    fn again(alloc: Global, conn: Connection<Self>) -> Option<Connection<Self>>;
-}
-
-/// Nothing is left of a database in memory once it is left, so it is kept.
-impl Again for MemStore {
-    fn again(_alloc: Global, conn: Connection<MemStore>) -> Option<Connection<MemStore>> {
-        Some(conn)
-    }
-}
-
-/// One in files is found in them.
-impl<D: Disk + Drop> Again for FileStore<D> {
-    fn again(alloc: Global, conn: Connection<FileStore<D>>) -> Option<Connection<FileStore<D>>> {
-        connect(alloc, close(conn).0)
-    }
-}
-
-/// A database, open as an office or not.
+/// A database, open as an office or not. One in memory is kept where it is opened again, since
+/// nothing is left of it once it is left.
 #[derive(Drop)]
 pub(crate) enum Base<S: Alter> {
     Closed(Connection<S>),
@@ -105,7 +86,7 @@ pub(crate) enum Base<S: Alter> {
     Lost,
 }
 
-impl<S: Again + Drop> Base<S> {
+impl<S: Alter + Drop> Base<S> {
     /// A database that is there, or none.
     fn new(conn: Option<Connection<S>>) -> Base<S> {
         match conn {
@@ -128,14 +109,6 @@ impl<S: Again + Drop> Base<S> {
         mem::replace(self, Base::Lost).into_conn()
     }
 
-    /// The database, which is left and found again where it is open as an office.
-    fn closed(self, alloc: Global) -> Option<Connection<S>> {
-        match self {
-            Base::Open(office) => S::again(alloc, office.into_shelf().into_conn()),
-            base => base.into_conn(),
-        }
-    }
-
     /// The database opened as an office, or what is left of it, and why.
     fn opened(alloc: Global, conn: Connection<S>) -> (Base<S>, Result<(), OpenFault>) {
         match SqlShelf::open_returning(alloc, conn) {
@@ -145,9 +118,9 @@ impl<S: Again + Drop> Base<S> {
     }
 }
 
-impl<S: Again + Drop> Tables for Base<S> {
+impl<S: Alter + Drop> Tables for Base<S> {
     fn open(&mut self, alloc: Global) -> Result<(), OpenFault> {
-        let Some(conn) = mem::replace(self, Base::Lost).closed(alloc) else {
+        let Some(conn) = self.take() else {
             return Err(OpenFault::Store);
         };
         let (base, outcome) = Base::opened(alloc, conn);
@@ -194,6 +167,55 @@ impl<S: Again + Drop> Tables for Base<S> {
     }
 }
 
+/// A database in files, which are left and found again where it is opened again.
+#[derive(Drop)]
+pub(crate) struct InFiles<D: Disk> {
+    base: Base<FileStore<D>>,
+}
+
+/// A database that is left, and found again in its files.
+fn found_again<D: Disk + Drop>(
+    alloc: Global,
+    conn: Connection<FileStore<D>>,
+) -> Base<FileStore<D>> {
+    Base::new(connect(alloc, close(conn).0))
+}
+
+impl<D: Disk + Drop> InFiles<D> {
+    /// The database is left, and found again.
+    fn find_again(&mut self, alloc: Global) {
+        if let Some(conn) = self.base.take() {
+            self.base = found_again(alloc, conn);
+        }
+    }
+}
+
+impl<D: Disk + Drop> Tables for InFiles<D> {
+    fn open(&mut self, alloc: Global) -> Result<(), OpenFault> {
+        if matches!(&self.base, Base::Open(_)) {
+            self.find_again(alloc);
+        }
+        self.base.open(alloc)
+    }
+
+    fn alter(&mut self, sql: &str) -> bool {
+        self.base.alter(sql)
+    }
+
+    fn written(&mut self, alloc: Global) -> [u64; 2] {
+        self.base.written(alloc)
+    }
+
+    fn serve<R: Source, W: Sink>(
+        &mut self,
+        alloc: Global,
+        source: &mut R,
+        sink: &mut W,
+    ) -> Option<Result<Served, ServeFault>> {
+        self.base.serve(alloc, source, sink)
+    }
+}
+
 /// New maps.
 pub(crate) fn in_maps(alloc: Global) -> Maps {
     Maps {
@@ -208,10 +230,12 @@ pub(crate) fn in_memory(alloc: Global) -> Base<MemStore> {
 
 /// A new database in two files in memory. They could be stopped, and never are: so the rows and the
 /// files that stop are one type, which the compilers build once.
-pub(crate) fn in_files(alloc: Global) -> Base<FileStore<Fuse<Memory>>> {
+pub(crate) fn in_files(alloc: Global) -> InFiles<Fuse<Memory>> {
     let files = Files {
         log: Fuse::new(Memory::new(alloc), u64::MAX),
         db: Fuse::new(Memory::new(alloc), u64::MAX),
     };
-    Base::new(connect(alloc, files))
+    InFiles {
+        base: Base::new(connect(alloc, files)),
+    }
 }
