@@ -2,10 +2,11 @@
 
     python3 bench/gate.py RECORD [--write]
 
-Where there is no file RECORD, `rt ci --anew` is run at the top of the repository, which takes
-nothing from earlier runs; what it prints is handed on, and RECORD is made: a line for each crate
-with the seconds of its proofs, with its tests and its programs, and of its must-fail edits. With
---write the table of RECORD is put into docs/MEASUREMENTS.md. Needs /proc, as Linux has it.
+Where there is no file RECORD, `rt ci` is run at the top of the repository, with --anew where the
+kit keeps work between runs, so that nothing is taken from earlier ones; what it prints is handed
+on, and RECORD is made: a line for each crate with the seconds of its proofs, with its tests and its
+programs, and of its must-fail edits. With --write the table of RECORD is put into
+docs/MEASUREMENTS.md. Needs /proc, as Linux has it.
 """
 import collections
 import os
@@ -78,11 +79,17 @@ def watch(top, known, seconds, is_over):
             seconds[place] = max(seconds[place], now[place])
 
 
+def words():
+    """The gate's command, by which it takes nothing from earlier runs."""
+    told = subprocess.run(["rt", "help"], capture_output=True, text=True)
+    return ["rt", "ci", *(["--anew"] if "--anew" in told.stdout + told.stderr else [])]
+
+
 def run(path):
     """Runs the gate and writes the record."""
     known, seconds = {}, collections.Counter()
     is_over, begun, ticks = threading.Event(), time.monotonic(), measured.ticks()
-    gate = subprocess.Popen(["rt", "ci", "--anew"], cwd=TOP, stdout=subprocess.PIPE, text=True)
+    gate = subprocess.Popen(words(), cwd=TOP, stdout=subprocess.PIPE, text=True)
     watcher = threading.Thread(target=watch, args=(gate.pid, known, seconds, is_over))
     watcher.start()
     last = ""
