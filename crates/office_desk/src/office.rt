@@ -60,6 +60,13 @@ impl<S: Shelf> Office<S> {
         Office { shelf }
     }
 
+    /// The shelf, to be looked at.
+    pub fn shelf(&self) -> &S
+        ensures { result.now ≡ self.now }
+    {
+        &self.shelf
+    }
+
     /// Gives the shelf back.
     pub fn into_shelf(self) -> S
         ensures { result ≡ self }

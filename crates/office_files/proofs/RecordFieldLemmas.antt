@@ -6,11 +6,13 @@ use Rattle.std.proofs.lemmas.Bool.{leb-true, le-leb, cases_Bool, cases_lt}
 use Rattle.std.proofs.lemmas.Bool.Decides.{Decides-and, Decides-not, Decides-eqb, Decides-like, Decides-by_and}
 use Rattle.std.proofs.{lemmas.Slice.Eq.bytes_eq-Decides, lemmas.Str.is_utf8-from_IsUtf8, lemmas.Str.IsUtf8-from_is_utf8}
 use Rattle.signal_records.specs.declared.fault.RowFault.{RowFault}
+use Rattle.signal_records.specs.declared.fault.RowFault.TheVariants as fault
+use Rattle.signal_records.specs.Reading.{◌>>=◌, text_at}
 use Rattle.signal_values.specs.Words.{AreWords}
-use Rattle.signal_records.proofs.RowLaws.{same_bytes}
+use Rattle.signal_records.proofs.RowLaws.{IsRead, same_bytes, step}
 use Rattle.cabinet_core.specs.{Day.civil_day, Day.day_text, Day.IsDay, Day.SpellsDay, Part.IsPartCode, Part.is_code_byte}
 use Rattle.cabinet_core.proofs.DayLemmas.{civil_day_is_dated, civil_day_is_short, spelt_digits, digits_same}
-use Rattle.office_files.specs.RecordReading.{day_among, day_of, is_printed, is_words, words_of, is_part_code, part_of}
+use Rattle.office_files.specs.RecordReading.{day_among, day_of, day_at, is_printed, is_words, words_of, words_at, is_part_code, part_of, part_at}
 
 -- tests of words and of codes
 
@@ -123,7 +125,7 @@ ok_or_ok : {X : Type 0} (found : Option X) (e : RowFault) (x : X) → ok_or foun
 ok_or_ok None e x h = absurd cc
 ok_or_ok (Some y) e x h = cc
 
-pub day_found : (text : List ℕ) (e : RowFault) (n : ℕ) → ok_or (day_of text) e ≡ Ok n → (text ≡ day_text n) × IsDay n
+day_found : (text : List ℕ) (e : RowFault) (n : ℕ) → ok_or (day_of text) e ≡ Ok n → (text ≡ day_text n) × IsDay n
 unfolding day_of
 day_found text e n h =
     let one = among_found 84_006 text n (ok_or_ok (day_among 84_006 text) e n h) in
@@ -146,7 +148,7 @@ passed text x e false d h = absurd cc
 passes : {P : Type 0} (text : List ℕ) (e : RowFault) (b : Bool) → Decides b P → P → ok_or (if b then Some text else None) e ≡ Ok text
 passes text e b d p = rw (d.1 p) refl
 
-pub words_found : (max : ℕ) (text : List ℕ) (e : RowFault) (x : List ℕ) → ok_or (words_of max text) e ≡ Ok x → (text ≡ x) × AreWords max x
+words_found : (max : ℕ) (text : List ℕ) (e : RowFault) (x : List ℕ) → ok_or (words_of max text) e ≡ Ok x → (text ≡ x) × AreWords max x
 unfolding words_of
 words_found max text e x h =
     let both = passed text x e (is_words max text) (words-decided max text) h in
@@ -156,7 +158,7 @@ pub words_only : (max : ℕ) (text : List ℕ) (e : RowFault) → AreWords max t
 unfolding words_of
 words_only max text e words = passes text e (is_words max text) (words-decided max text) words
 
-pub part_found : (text : List ℕ) (e : RowFault) (x : List ℕ) → ok_or (part_of text) e ≡ Ok x → (text ≡ x) × IsPartCode x
+part_found : (text : List ℕ) (e : RowFault) (x : List ℕ) → ok_or (part_of text) e ≡ Ok x → (text ≡ x) × IsPartCode x
 unfolding part_of
 part_found text e x h =
     let both = passed text x e (is_part_code text) (part-decided text) h in
@@ -165,3 +167,17 @@ part_found text e x h =
 pub part_only : (text : List ℕ) (e : RowFault) → IsPartCode text → ok_or (part_of text) e ≡ Ok text
 unfolding part_of
 part_only text e code = passes text e (is_part_code text) (part-decided text) code
+
+-- fields that were read
+
+pub day_step : {B : Type 0} (place : ℕ) (fields : List (List ℕ)) (f : ℕ → Result B RowFault) (y : B) → (day_at place fields >>= f) ≡ Ok y → IsRead (text_at place fields) day_text IsDay f y
+unfolding day_at
+day_step place fields f y h = step (ok_or (day_of (text_at place fields)) (fault.Day place)) (day_found (text_at place fields) (fault.Day place)) f y h
+
+pub words_step : {B : Type 0} (max place : ℕ) (fields : List (List ℕ)) (f : List ℕ → Result B RowFault) (y : B) → (words_at max place fields >>= f) ≡ Ok y → IsRead (text_at place fields) (λ text. text) (AreWords max) f y
+unfolding words_at
+words_step max place fields f y h = step (ok_or (words_of max (text_at place fields)) (fault.Text place)) (words_found max (text_at place fields) (fault.Text place)) f y h
+
+pub part_step : {B : Type 0} (place : ℕ) (fields : List (List ℕ)) (f : List ℕ → Result B RowFault) (y : B) → (part_at place fields >>= f) ≡ Ok y → IsRead (text_at place fields) (λ text. text) IsPartCode f y
+unfolding part_at
+part_step place fields f y h = step (ok_or (part_of (text_at place fields)) (fault.Text place)) (part_found (text_at place fields) (fault.Text place)) f y h

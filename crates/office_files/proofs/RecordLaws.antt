@@ -3,8 +3,8 @@ use Rattle.std.proofs.Common.{◌≡◌, ℕ, List, [], ◌∷◌, length, Resul
 use Rattle.std.specs.{Prelude.codes, Prelude.IfOk, Prelude.OnOk, Fmt.decimal, Option.ok_or}
 use Rattle.signal_records.specs.declared.fault.RowFault.TheVariants as fault
 use Rattle.signal_records.specs.Reading.{text_at, number_of, number_at}
-use Rattle.signal_records.proofs.FieldLaws.{same_ok, number_found, number_only}
-use Rattle.signal_records.proofs.RowLaws.{bind_ok, bind_only, cons_is, places_all, by_kind}
+use Rattle.signal_records.proofs.FieldLaws.{same_ok, number_only}
+use Rattle.signal_records.proofs.RowLaws.{number_step, bind_only, cons_is, places_all, by_kind}
 use Rattle.cabinet_core.specs.{Day.day_text, declared.record.Inspection.Inspection, declared.record.Opening.Opening}
 use Rattle.cabinet_core.specs.{declared.record.UsedLine.UsedLine, declared.record.Closing.Closing, declared.record.Delivery.Delivery}
 use Rattle.cabinet_core.specs.{declared.command.RecordCommand.RecordCommand, Within.IsDeliveryWithin, Within.IsRecordWithin}
@@ -14,7 +14,7 @@ use Rattle.office_files.specs.{RecordSpelling.record_spelling, Csv.csv_records, 
 use Rattle.office_files.specs.Records.{commands_of}
 use Rattle.office_files.proofs.FileLaws.{AreRowLaws, file_only}
 use Rattle.office_files.proofs.WritingLemmas.{BeginsWithLetter, csv_records-spellings}
-use Rattle.office_files.proofs.RecordFieldLemmas.{day_found, day_only, words_found, words_only, part_found, part_only}
+use Rattle.office_files.proofs.RecordFieldLemmas.{day_step, day_only, words_step, words_only, part_step, part_only}
 
 abbrev IsFound : List (List ℕ) → RecordCommand → Type 0
 IsFound fields c = (fields ≡ record_spelling c) × IsRecordWithin c
@@ -22,20 +22,15 @@ IsFound fields c = (fields ≡ record_spelling c) × IsRecordWithin c
 -- inspections
 
 inspection_found : (fields : List (List ℕ)) (c : RecordCommand) → text_at 1 fields ≡ codes "inspection" → length fields ≡ 6 → inspection_at fields ≡ Ok c → IsFound fields c
-unfolding inspection_at number_at day_at words_at
+unfolding inspection_at
 inspection_found fields c kind six h =
-    let id = bind_ok (number_of 1 9999 2 (text_at 2 fields)) _ c h in
-    let number = bind_ok (number_of 1 999_999 3 (text_at 3 fields)) _ c id.1.1 in
-    let day = bind_ok (ok_or (day_of (text_at 4 fields)) (fault.Day 4)) _ c number.1.1 in
-    let clerk = bind_ok (ok_or (words_of 40 (text_at 5 fields)) (fault.Text 5)) _ c day.1.1 in
-    let text = bind_ok (ok_or (words_of 500 (text_at 6 fields)) (fault.Text 6)) _ c clerk.1.1 in
-    let id_is = number_found 1 9999 2 (text_at 2 fields) id.0 (omega arith) id.1.0 in
-    let number_is = number_found 1 999_999 3 (text_at 3 fields) number.0 (omega arith) number.1.0 in
-    let day_is = day_found (text_at 4 fields) (fault.Day 4) day.0 day.1.0 in
-    let clerk_is = words_found 40 (text_at 5 fields) (fault.Text 5) clerk.0 clerk.1.0 in
-    let text_is = words_found 500 (text_at 6 fields) (fault.Text 6) text.0 text.1.0 in
-    let spelled = places_all 6 fields six ∙ cons_is kind (cons_is id_is.0 (cons_is number_is.0 (cons_is day_is.0 (cons_is clerk_is.0 (cons_is text_is.0 refl))))) in
-    subst (IsFound fields) (same_ok _ c text.1.1) (spelled, (id_is.1, record { number = number_is.1; day = day_is.1; clerk = clerk_is.1; text = text_is.1 }))
+    let id = number_step 1 9999 2 fields _ c (omega arith) h in
+    let number = number_step 1 999_999 3 fields _ c (omega arith) id.rest in
+    let day = day_step 4 fields _ c number.rest in
+    let clerk = words_step 40 5 fields _ c day.rest in
+    let text = words_step 500 6 fields _ c clerk.rest in
+    let spelled = places_all 6 fields six ∙ cons_is kind (cons_is id.spelt (cons_is number.spelt (cons_is day.spelt (cons_is clerk.spelt (cons_is text.spelt refl))))) in
+    subst (IsFound fields) (same_ok _ c text.rest) (spelled, (id.within, record { number = number.within; day = day.within; clerk = clerk.within; text = text.within }))
 
 inspection_only : (id : ℕ) (r : Inspection) → IsRecordWithin (command.Inspect id r) → inspection_at (record_spelling (command.Inspect id r)) ≡ Ok (command.Inspect id r)
 unfolding inspection_at number_at day_at words_at
@@ -49,20 +44,15 @@ inspection_only id r within =
 -- orders
 
 opening_found : (fields : List (List ℕ)) (c : RecordCommand) → text_at 1 fields ≡ codes "order" → length fields ≡ 6 → opening_at fields ≡ Ok c → IsFound fields c
-unfolding opening_at number_at day_at words_at
+unfolding opening_at
 opening_found fields c kind six h =
-    let id = bind_ok (number_of 1 9999 2 (text_at 2 fields)) _ c h in
-    let number = bind_ok (number_of 1 999_999 3 (text_at 3 fields)) _ c id.1.1 in
-    let day = bind_ok (ok_or (day_of (text_at 4 fields)) (fault.Day 4)) _ c number.1.1 in
-    let clerk = bind_ok (ok_or (words_of 40 (text_at 5 fields)) (fault.Text 5)) _ c day.1.1 in
-    let text = bind_ok (ok_or (words_of 500 (text_at 6 fields)) (fault.Text 6)) _ c clerk.1.1 in
-    let id_is = number_found 1 9999 2 (text_at 2 fields) id.0 (omega arith) id.1.0 in
-    let number_is = number_found 1 999_999 3 (text_at 3 fields) number.0 (omega arith) number.1.0 in
-    let day_is = day_found (text_at 4 fields) (fault.Day 4) day.0 day.1.0 in
-    let clerk_is = words_found 40 (text_at 5 fields) (fault.Text 5) clerk.0 clerk.1.0 in
-    let text_is = words_found 500 (text_at 6 fields) (fault.Text 6) text.0 text.1.0 in
-    let spelled = places_all 6 fields six ∙ cons_is kind (cons_is id_is.0 (cons_is number_is.0 (cons_is day_is.0 (cons_is clerk_is.0 (cons_is text_is.0 refl))))) in
-    subst (IsFound fields) (same_ok _ c text.1.1) (spelled, (id_is.1, record { number = number_is.1; day = day_is.1; clerk = clerk_is.1; text = text_is.1 }))
+    let id = number_step 1 9999 2 fields _ c (omega arith) h in
+    let number = number_step 1 999_999 3 fields _ c (omega arith) id.rest in
+    let day = day_step 4 fields _ c number.rest in
+    let clerk = words_step 40 5 fields _ c day.rest in
+    let text = words_step 500 6 fields _ c clerk.rest in
+    let spelled = places_all 6 fields six ∙ cons_is kind (cons_is id.spelt (cons_is number.spelt (cons_is day.spelt (cons_is clerk.spelt (cons_is text.spelt refl))))) in
+    subst (IsFound fields) (same_ok _ c text.rest) (spelled, (id.within, record { number = number.within; day = day.within; clerk = clerk.within; text = text.within }))
 
 opening_only : (id : ℕ) (r : Opening) → IsRecordWithin (command.OpenOrder id r) → opening_at (record_spelling (command.OpenOrder id r)) ≡ Ok (command.OpenOrder id r)
 unfolding opening_at number_at day_at words_at
@@ -76,20 +66,15 @@ opening_only id r within =
 -- used parts
 
 use_found : (fields : List (List ℕ)) (c : RecordCommand) → text_at 1 fields ≡ codes "use" → length fields ≡ 6 → use_at fields ≡ Ok c → IsFound fields c
-unfolding use_at number_at part_at
+unfolding use_at
 use_found fields c kind six h =
-    let id = bind_ok (number_of 1 9999 2 (text_at 2 fields)) _ c h in
-    let order = bind_ok (number_of 1 999_999 3 (text_at 3 fields)) _ c id.1.1 in
-    let line = bind_ok (number_of 1 99 4 (text_at 4 fields)) _ c order.1.1 in
-    let part = bind_ok (ok_or (part_of (text_at 5 fields)) (fault.Text 5)) _ c line.1.1 in
-    let count = bind_ok (number_of 1 999_999_999 6 (text_at 6 fields)) _ c part.1.1 in
-    let id_is = number_found 1 9999 2 (text_at 2 fields) id.0 (omega arith) id.1.0 in
-    let order_is = number_found 1 999_999 3 (text_at 3 fields) order.0 (omega arith) order.1.0 in
-    let line_is = number_found 1 99 4 (text_at 4 fields) line.0 (omega arith) line.1.0 in
-    let part_is = part_found (text_at 5 fields) (fault.Text 5) part.0 part.1.0 in
-    let count_is = number_found 1 999_999_999 6 (text_at 6 fields) count.0 (omega arith) count.1.0 in
-    let spelled = places_all 6 fields six ∙ cons_is kind (cons_is id_is.0 (cons_is order_is.0 (cons_is line_is.0 (cons_is part_is.0 (cons_is count_is.0 refl))))) in
-    subst (IsFound fields) (same_ok _ c count.1.1) (spelled, (id_is.1, record { order = order_is.1; line = line_is.1; part = part_is.1; count = count_is.1 }))
+    let id = number_step 1 9999 2 fields _ c (omega arith) h in
+    let order = number_step 1 999_999 3 fields _ c (omega arith) id.rest in
+    let line = number_step 1 99 4 fields _ c (omega arith) order.rest in
+    let part = part_step 5 fields _ c line.rest in
+    let count = number_step 1 999_999_999 6 fields _ c (omega arith) part.rest in
+    let spelled = places_all 6 fields six ∙ cons_is kind (cons_is id.spelt (cons_is order.spelt (cons_is line.spelt (cons_is part.spelt (cons_is count.spelt refl))))) in
+    subst (IsFound fields) (same_ok _ c count.rest) (spelled, (id.within, record { order = order.within; line = line.within; part = part.within; count = count.within }))
 
 use_only : (id : ℕ) (r : UsedLine) → IsRecordWithin (command.UsePart id r) → use_at (record_spelling (command.UsePart id r)) ≡ Ok (command.UsePart id r)
 unfolding use_at number_at part_at
@@ -103,18 +88,14 @@ use_only id r within =
 -- closings
 
 close_found : (fields : List (List ℕ)) (c : RecordCommand) → text_at 1 fields ≡ codes "close" → length fields ≡ 5 → close_at fields ≡ Ok c → IsFound fields c
-unfolding close_at number_at day_at words_at
+unfolding close_at
 close_found fields c kind five h =
-    let id = bind_ok (number_of 1 9999 2 (text_at 2 fields)) _ c h in
-    let order = bind_ok (number_of 1 999_999 3 (text_at 3 fields)) _ c id.1.1 in
-    let day = bind_ok (ok_or (day_of (text_at 4 fields)) (fault.Day 4)) _ c order.1.1 in
-    let closer = bind_ok (ok_or (words_of 40 (text_at 5 fields)) (fault.Text 5)) _ c day.1.1 in
-    let id_is = number_found 1 9999 2 (text_at 2 fields) id.0 (omega arith) id.1.0 in
-    let order_is = number_found 1 999_999 3 (text_at 3 fields) order.0 (omega arith) order.1.0 in
-    let day_is = day_found (text_at 4 fields) (fault.Day 4) day.0 day.1.0 in
-    let closer_is = words_found 40 (text_at 5 fields) (fault.Text 5) closer.0 closer.1.0 in
-    let spelled = places_all 5 fields five ∙ cons_is kind (cons_is id_is.0 (cons_is order_is.0 (cons_is day_is.0 (cons_is closer_is.0 refl)))) in
-    subst (IsFound fields) (same_ok _ c closer.1.1) (spelled, (id_is.1, (order_is.1, record { day = day_is.1; closer = closer_is.1 })))
+    let id = number_step 1 9999 2 fields _ c (omega arith) h in
+    let order = number_step 1 999_999 3 fields _ c (omega arith) id.rest in
+    let day = day_step 4 fields _ c order.rest in
+    let closer = words_step 40 5 fields _ c day.rest in
+    let spelled = places_all 5 fields five ∙ cons_is kind (cons_is id.spelt (cons_is order.spelt (cons_is day.spelt (cons_is closer.spelt refl)))) in
+    subst (IsFound fields) (same_ok _ c closer.rest) (spelled, (id.within, (order.within, record { day = day.within; closer = closer.within })))
 
 close_only : (id order : ℕ) (r : Closing) → IsRecordWithin (command.CloseOrder id order r) → close_at (record_spelling (command.CloseOrder id order r)) ≡ Ok (command.CloseOrder id order r)
 unfolding close_at number_at day_at words_at
@@ -127,18 +108,14 @@ close_only id order r within =
 -- deliveries
 
 delivery_found : (fields : List (List ℕ)) (c : RecordCommand) → text_at 1 fields ≡ codes "delivery" → length fields ≡ 5 → delivery_at fields ≡ Ok c → IsFound fields c
-unfolding delivery_at number_at day_at part_at
+unfolding delivery_at
 delivery_found fields c kind five h =
-    let part = bind_ok (ok_or (part_of (text_at 2 fields)) (fault.Text 2)) _ c h in
-    let number = bind_ok (number_of 1 999_999 3 (text_at 3 fields)) _ c part.1.1 in
-    let day = bind_ok (ok_or (day_of (text_at 4 fields)) (fault.Day 4)) _ c number.1.1 in
-    let count = bind_ok (number_of 1 999_999_999 5 (text_at 5 fields)) _ c day.1.1 in
-    let part_is = part_found (text_at 2 fields) (fault.Text 2) part.0 part.1.0 in
-    let number_is = number_found 1 999_999 3 (text_at 3 fields) number.0 (omega arith) number.1.0 in
-    let day_is = day_found (text_at 4 fields) (fault.Day 4) day.0 day.1.0 in
-    let count_is = number_found 1 999_999_999 5 (text_at 5 fields) count.0 (omega arith) count.1.0 in
-    let spelled = places_all 5 fields five ∙ cons_is kind (cons_is part_is.0 (cons_is number_is.0 (cons_is day_is.0 (cons_is count_is.0 refl)))) in
-    subst (IsFound fields) (same_ok _ c count.1.1) (spelled, record { part = part_is.1; number = number_is.1; day = day_is.1; count = count_is.1 })
+    let part = part_step 2 fields _ c h in
+    let number = number_step 1 999_999 3 fields _ c (omega arith) part.rest in
+    let day = day_step 4 fields _ c number.rest in
+    let count = number_step 1 999_999_999 5 fields _ c (omega arith) day.rest in
+    let spelled = places_all 5 fields five ∙ cons_is kind (cons_is part.spelt (cons_is number.spelt (cons_is day.spelt (cons_is count.spelt refl)))) in
+    subst (IsFound fields) (same_ok _ c count.rest) (spelled, record { part = part.within; number = number.within; day = day.within; count = count.within })
 
 delivery_only : (r : Delivery) → IsDeliveryWithin r → delivery_at (record_spelling (command.Receive r)) ≡ Ok (command.Receive r)
 unfolding delivery_at number_at day_at part_at

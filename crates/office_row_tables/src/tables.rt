@@ -1,47 +1,29 @@
 //! The tables that a row is played over.
 
 use office_desk::office::Office;
-use office_http::{ServeFault, Served, Sink, Source, serve};
 use office_tables::open::OpenFault;
 use office_tables::sql_shelf::SqlShelf;
 use office_tables_memory::memory_shelf::MemoryShelf;
-use office_tables_shelf::rows::Table;
 use office_tables_shelf::shelf::Shelf;
 use office_trial_files::{close, connect};
 use sqlite::{Alter, Connection, FileStore, MemStore};
 use sqlite_disk::{Disk, Files, Fuse, Memory};
 use std::alloc::Global;
-use std::mem;
 
-/// The most requests of a stream.
-const STREAM_LIMIT: u32 = 10_000;
+/// Tables that a row is played over. What plays it is proved once for all of them, and they are
+/// handed through it by value: what owns a database is dropped in few places so.
+pub(crate) trait Tables: Sized + Drop {
+    type Shelf: Shelf;
 
-/// Tables that a row is played over. What plays it is proved once for all of them.
-pub(crate) trait Tables {
-    /// Opens the tables as an office, again where they are open already.
-    fn open(&mut self, alloc: Global) -> Result<(), OpenFault>;
+    /// The tables opened as an office, again where they are open already.
+    fn opened(self, alloc: Global) -> (Self, Result<(), OpenFault>);
 
-    /// Changes the tables by another hand, and tells whether that was allowed. They are no office
+    /// The tables as another hand changed them, and whether that was allowed. They are no office
     /// then, until they are opened again.
-    fn alter(&mut self, sql: &str) -> bool;
+    fn altered(self, sql: &str) -> (Self, bool);
 
-    /// How often committed rows and draft rows were written since the tables were opened.
-    fn written(&mut self, alloc: Global) -> [u64; 2];
-
-    /// Serves a stream by the office, or tells that there is none.
-    fn serve<R: Source, W: Sink>(
-        &mut self,
-        alloc: Global,
-        source: &mut R,
-        sink: &mut W,
-    ) -> Option<Result<Served, ServeFault>>;
-}
-
-/// How often committed rows and draft rows were written by an office, which is given back.
-fn counted<S: Shelf>(office: Office<S>) -> (Office<S>, [u64; 2]) {
-    let shelf = office.into_shelf();
-    let written = [shelf.writes(Table::Timing), shelf.writes(Table::Draft)];
-    (Office::new(shelf), written)
+    /// The office, where they are open.
+    fn office(&mut self) -> Option<&mut Office<Self::Shelf>>;
 }
 
 /// Maps, which no other hand changes.
@@ -51,28 +33,18 @@ pub(crate) struct Maps {
 }
 
 impl Tables for Maps {
-    fn open(&mut self, _alloc: Global) -> Result<(), OpenFault> {
-        Ok(())
+    type Shelf = MemoryShelf;
+
+    fn opened(self, _alloc: Global) -> (Maps, Result<(), OpenFault>) {
+        (self, Ok(()))
     }
 
-    fn alter(&mut self, _sql: &str) -> bool {
-        false
+    fn altered(self, _sql: &str) -> (Maps, bool) {
+        (self, false)
     }
 
-    fn written(&mut self, alloc: Global) -> [u64; 2] {
-        let new = Office::new(MemoryShelf::new(alloc));
-        let (office, written) = counted(mem::replace(&mut self.office, new));
-        self.office = office;
-        written
-    }
-
-    fn serve<R: Source, W: Sink>(
-        &mut self,
-        alloc: Global,
-        source: &mut R,
-        sink: &mut W,
-    ) -> Option<Result<Served, ServeFault>> {
-        Some(serve(alloc, &mut self.office, source, sink, STREAM_LIMIT))
+    fn office(&mut self) -> Option<&mut Office<MemoryShelf>> {
+        Some(&mut self.office)
     }
 }
 
@@ -103,65 +75,42 @@ impl<S: Alter + Drop> Base<S> {
             Base::Lost => None,
         }
     }
+}
 
-    /// The database is taken, and `Lost` stands in its place.
-    fn take(&mut self) -> Option<Connection<S>> {
-        mem::replace(self, Base::Lost).into_conn()
-    }
-
-    /// The database opened as an office, or what is left of it, and why.
-    fn opened(alloc: Global, conn: Connection<S>) -> (Base<S>, Result<(), OpenFault>) {
-        match SqlShelf::open_returning(alloc, conn) {
-            Ok(shelf) => (Base::Open(Office::new(shelf)), Ok(())),
-            Err((fault, left)) => (Base::new(left.ok()), Err(fault)),
-        }
+/// A database opened as an office, or what is left of it, and why.
+fn opened<S: Alter + Drop>(alloc: Global, conn: Connection<S>) -> (Base<S>, Result<(), OpenFault>) {
+    match SqlShelf::open_returning(alloc, conn) {
+        Ok(shelf) => (Base::Open(Office::new(shelf)), Ok(())),
+        Err((fault, left)) => (Base::new(left.ok()), Err(fault)),
     }
 }
 
+/// A database that another hand changed, and whether that was allowed.
+fn altered<S: Alter + Drop>(mut conn: Connection<S>, sql: &str) -> (Base<S>, bool) {
+    let is_done = conn.execute_batch(sql).is_ok();
+    (Base::Closed(conn), is_done)
+}
+
 impl<S: Alter + Drop> Tables for Base<S> {
-    fn open(&mut self, alloc: Global) -> Result<(), OpenFault> {
-        let Some(conn) = self.take() else {
-            return Err(OpenFault::Store);
-        };
-        let (base, outcome) = Base::opened(alloc, conn);
-        *self = base;
-        outcome
-    }
+    type Shelf = SqlShelf<S>;
 
-    fn alter(&mut self, sql: &str) -> bool {
-        let Some(mut conn) = self.take() else {
-            return false;
-        };
-        let is_done = conn.execute_batch(sql).is_ok();
-        *self = Base::Closed(conn);
-        is_done
-    }
-
-    fn written(&mut self, _alloc: Global) -> [u64; 2] {
-        match mem::replace(self, Base::Lost) {
-            Base::Open(office) => {
-                let (office, written) = counted(office);
-                *self = Base::Open(office);
-                written
-            }
-            base => {
-                *self = base;
-                [0; 2]
-            }
+    fn opened(self, alloc: Global) -> (Base<S>, Result<(), OpenFault>) {
+        match self.into_conn() {
+            Some(conn) => opened(alloc, conn),
+            None => (Base::Lost, Err(OpenFault::Store)),
         }
     }
 
-    fn serve<R: Source, W: Sink>(
-        &mut self,
-        alloc: Global,
-        source: &mut R,
-        sink: &mut W,
-    ) -> Option<Result<Served, ServeFault>> {
-        if !matches!(&*self, Base::Open(_)) && self.open(alloc).is_err() {
-            return None;
+    fn altered(self, sql: &str) -> (Base<S>, bool) {
+        match self.into_conn() {
+            Some(conn) => altered(conn, sql),
+            None => (Base::Lost, false),
         }
+    }
+
+    fn office(&mut self) -> Option<&mut Office<SqlShelf<S>>> {
         match self {
-            Base::Open(office) => Some(serve(alloc, office, source, sink, STREAM_LIMIT)),
+            Base::Open(office) => Some(office),
             _ => None,
         }
     }
@@ -173,46 +122,34 @@ pub(crate) struct InFiles<D: Disk> {
     base: Base<FileStore<D>>,
 }
 
-/// A database that is left, and found again in its files.
-fn found_again<D: Disk + Drop>(
-    alloc: Global,
-    conn: Connection<FileStore<D>>,
-) -> Base<FileStore<D>> {
-    Base::new(connect(alloc, close(conn).0))
+/// A database in these files.
+fn found<D: Disk + Drop>(alloc: Global, files: Files<D>) -> Base<FileStore<D>> {
+    Base::new(connect(alloc, files))
 }
 
-impl<D: Disk + Drop> InFiles<D> {
-    /// The database is left, and found again.
-    fn find_again(&mut self, alloc: Global) {
-        if let Some(conn) = self.base.take() {
-            self.base = found_again(alloc, conn);
-        }
+/// A database that is left, and found again in its files where it was open as an office.
+fn found_again<D: Disk + Drop>(alloc: Global, base: Base<FileStore<D>>) -> Base<FileStore<D>> {
+    match base {
+        Base::Open(office) => found(alloc, close(office.into_shelf().into_conn()).0),
+        base => base,
     }
 }
 
 impl<D: Disk + Drop> Tables for InFiles<D> {
-    fn open(&mut self, alloc: Global) -> Result<(), OpenFault> {
-        if matches!(&self.base, Base::Open(_)) {
-            self.find_again(alloc);
-        }
-        self.base.open(alloc)
+    type Shelf = SqlShelf<FileStore<D>>;
+
+    fn opened(self, alloc: Global) -> (InFiles<D>, Result<(), OpenFault>) {
+        let (base, outcome) = found_again(alloc, self.base).opened(alloc);
+        (InFiles { base }, outcome)
     }
 
-    fn alter(&mut self, sql: &str) -> bool {
-        self.base.alter(sql)
+    fn altered(self, sql: &str) -> (InFiles<D>, bool) {
+        let (base, is_done) = self.base.altered(sql);
+        (InFiles { base }, is_done)
     }
 
-    fn written(&mut self, alloc: Global) -> [u64; 2] {
-        self.base.written(alloc)
-    }
-
-    fn serve<R: Source, W: Sink>(
-        &mut self,
-        alloc: Global,
-        source: &mut R,
-        sink: &mut W,
-    ) -> Option<Result<Served, ServeFault>> {
-        self.base.serve(alloc, source, sink)
+    fn office(&mut self) -> Option<&mut Office<SqlShelf<FileStore<D>>>> {
+        self.base.office()
     }
 }
 
@@ -228,14 +165,18 @@ pub(crate) fn in_memory(alloc: Global) -> Base<MemStore> {
     Base::new(Connection::open_in_memory(alloc).ok())
 }
 
-/// A new database in two files in memory. They could be stopped, and never are: so the rows and the
-/// files that stop are one type, which the compilers build once.
-pub(crate) fn in_files(alloc: Global) -> InFiles<Fuse<Memory>> {
-    let files = Files {
+/// A database in these files, which are new.
+pub(crate) fn in_files<D: Disk + Drop>(alloc: Global, files: Files<D>) -> InFiles<D> {
+    InFiles {
+        base: found(alloc, files),
+    }
+}
+
+/// Two new files in memory. They could be stopped, and never are: so the rows and the files that
+/// stop are one type, which the compilers build once.
+pub(crate) fn new_files(alloc: Global) -> Files<Fuse<Memory>> {
+    Files {
         log: Fuse::new(Memory::new(alloc), u64::MAX),
         db: Fuse::new(Memory::new(alloc), u64::MAX),
-    };
-    InFiles {
-        base: Base::new(connect(alloc, files)),
     }
 }

@@ -1,7 +1,6 @@
 //! The tables of the office in SQL as a shelf, beside the trait, which this crate hands on.
 #![tactic(auto)]
 
-mod change;
 mod migrate;
 pub mod sql_shelf;
 

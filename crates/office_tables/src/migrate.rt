@@ -14,7 +14,7 @@ ghost use Rattle.office_tables_open.specs.Promises.{KeepsTrees};
 ghost use Rattle.office_tables_open.specs.Promises.{KeepsCommitted, Commits, EndsToday};
 ghost use Rattle.office_tables_open.specs.Promises.{IsArrangedIfClean};
 
-use crate::change::change_rows;
+use office_tables_changes::change::change_rows;
 use office_tables_migration::listing::{draft_rows, timing_rows};
 use office_tables_migration::puts::{Migrated, draft_changes, timing_changes};
 use office_tables_open::open::OpenFault;

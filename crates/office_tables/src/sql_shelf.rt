@@ -18,9 +18,9 @@ ghost use Rattle.office_tables_shelf.specs.Counts.{no_writes};
 ghost use Rattle.office_tables_statements.specs.Stored.{content_now};
 ghost use Rattle.office_tables_schema.specs.Schema.{office_schema};
 
-use crate::change;
 use crate::migrate::migrate;
 use cabinet_core::{Day, Delivery, Hand, Inspection, Order, PartCode, UsedLine};
+use office_tables_changes::change;
 use office_tables_migration::puts::Migrated;
 use office_tables_open::found::checked;
 use office_tables_open::open::{Left, OpenFault, claim, has_only_ours, prepared};

@@ -1,4 +1,4 @@
--- Trees of the cabinet's records: each stays under its own key, and those of an intersection are listed in order.
+-- Trees of the cabinet's records: how their places compare, and that each stays under its own key.
 use Rattle.std.proofs.Common.{◌≡◌, ◌==◌, ℕ, true, false, List, [], ◌∷◌, map, if◌then◌else◌, Option, Some, None, option_map, Ordering, refl, ap, ◌∙◌}
 use Rattle.std.specs.{BTreeMap.is_at, FinMap.get, List.AllByRecursion, List.Sorted.IsStrictlySortedBy, Map.keys_of, Map.lookup}
 use Rattle.std.specs.{Ordering.is_eq, Ordering.ordering_then, Prelude.IfSome, declared.cmp.Ordering.TheVariants.Equal}
@@ -15,7 +15,6 @@ use Rattle.office_tables_maps.specs.declared.place.LinePlace.{LinePlace}
 use Rattle.office_tables_maps.specs.declared.place.DeliveryPlace.{DeliveryPlace}
 use Rattle.office_tables_shelf.proofs.{CellLemmas.cells_exact, CabinetLemmas.of_number, CabinetLemmas.part_cmp, CabinetLemmas.part_order, CabinetLemmas.text_order}
 use Rattle.office_tables_shelf.proofs.TreeLemmas.{ranged_cmp, entry_at, get_tree}
-use Rattle.office_tables_maps.proofs.PlaceLemmas.{under_by, under_listed}
 use Rattle.office_tables_maps.proofs.TreeRows.{ranged_order, last_order, standing_at, both_of}
 
 -- ---- how places compare, as their cells do
@@ -117,40 +116,11 @@ reads_delivery es place found placed here =
 
 -- ---- the records of an intersection
 
--- the records of the entries of an intersection, in their order
-abbrev pub records_under : {K X : Type 0} → (K → ℕ) → ℕ → List (K × X) → List X
-records_under inter = under_by inter (λ e. e.1)
-
 abbrev pub record_inter : RecordPlace → ℕ
 record_inter place = place.inter
 
 abbrev pub line_inter : LinePlace → ℕ
 line_inter place = place.inter
-
--- what each tells at its place
-pub all_under : {K X : Type 0} (inter : K → ℕ) (Stands : K → X → Type 0) (Told : X → Type 0) → ((k : K) (x : X) → Stands k x → Told x) → (id : ℕ) (es : List (K × X)) → AllByRecursion (λ e. Stands e.0 e.1) es → AllByRecursion Told (records_under inter id es)
-all_under inter Stands Told tells id [] placed = tt
-all_under inter Stands Told tells id (e ∷ es) placed =
-    let rest = all_under inter Stands Told tells id es placed.1 in
-    elim (inter e.0 == id) as (λ b. AllByRecursion Told (if b then e.1 ∷ records_under inter id es else records_under inter id es)) [
-      | true ↦ (tells e.0 e.1 placed.0, rest)
-      | false ↦ rest
-    ]
-
-pub inspections_listed : (id : ℕ) (es : List (RecordPlace × Inspection)) → IsStrictlySortedBy record_cmp (keys_of es) → AreInspectionsPlaced es
-    → map (λ inspection. (inspection_key id inspection.number, inspection_columns inspection)) (records_under record_inter id es) ≡ rows_of id (inspection_rows es)
-inspections_listed = under_listed record_inter (λ e. e.1) record_cmp IsInspectionAt inspection_place_key inspection_columns (λ id inspection. (inspection_key id inspection.number, inspection_columns inspection))
-    inspection_order (λ id place. of_number id place.inter []) (λ e here i. (inspection_key e.0.inter (here.0 i), inspection_columns e.1))
-
-pub orders_listed : (id : ℕ) (es : List (RecordPlace × Order)) → IsStrictlySortedBy record_cmp (keys_of es) → AreOrdersPlaced es
-    → map (λ order. (order_key id order.number, order_columns order)) (records_under record_inter id es) ≡ rows_of id (order_rows es)
-orders_listed = under_listed record_inter (λ e. e.1) record_cmp IsOrderAt order_place_key order_columns (λ id order. (order_key id order.number, order_columns order))
-    order_order (λ id place. of_number id place.inter []) (λ e here i. (order_key e.0.inter (here.0 i), order_columns e.1))
-
-pub used_listed : (id : ℕ) (es : List (LinePlace × UsedLine)) → IsStrictlySortedBy line_cmp (keys_of es) → AreUsedPlaced es
-    → map (λ used. (used_key id used.order used.line, used_columns used)) (records_under line_inter id es) ≡ rows_of id (used_rows es)
-used_listed = under_listed line_inter (λ e. e.1) line_cmp IsUsedAt line_place_key used_columns (λ id used. (used_key id used.order used.line, used_columns used))
-    line_order (λ id place. of_number id place.inter []) (λ e here i. (used_key e.0.inter (here.0 i) (here.1.0 i), used_columns e.1))
 
 -- ---- the latest day
 

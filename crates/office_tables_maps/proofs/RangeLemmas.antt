@@ -1,49 +1,24 @@
--- What a walk over the places of an intersection finds is what it finds in the whole tree.
-use Rattle.std.proofs.Common.{◌≡◌, ◌≤◌, ℕ, ◌==◌, Bool, true, false, eqb-true, true≢false, not, ◌&&◌, List, [], ◌∷◌, ◌++◌, filter, cond, if◌then◌else◌, Option, Ordering, nat_cmp, refl, sym, ap, subst, ◌∙◌, arith}
-use Rattle.std.proofs.lemmas.{Bool.Decides.nat_tests, List.append-nil}
-use Rattle.std.specs.{BTreeMap.Range.range_contains, BTreeMap.Range.entries_between, Int.IsInRange, List.AllByRecursion, Ordering.is_gt}
-use Rattle.std.specs.{Ordering.is_le, Ordering.is_lt, Ordering.ordering_then, declared.cmp.Ordering.TheVariants.Less}
+-- What is found between the places of an intersection is what it has.
+use Rattle.std.proofs.Common.{◌≡◌, ◌≤◌, inl, inr, ℕ, ◌==◌, Bool, true, false, eqb-true, true≢false, not, ◌&&◌, List, [], ◌∷◌, ◌++◌, map, cond, if◌then◌else◌, Ordering, nat_cmp, refl, sym, ap, subst, ◌∙◌, arith}
+use Rattle.std.proofs.lemmas.{Bool.Decides.nat_tests, Bool.cases_Bool, List.append-nil}
+use Rattle.std.specs.{Bool.⊤, BTreeMap.Range.range_contains, BTreeMap.Range.entries_between, FinMap.Entries.where_key, Int.IsInRange}
+use Rattle.std.specs.{List.AllByRecursion, List.Sorted.IsStrictlySortedBy, Map.keys_of, Ordering.is_gt, Ordering.is_le, Ordering.is_lt}
+use Rattle.std.specs.{Ordering.ordering_then, declared.cmp.Ordering.TheVariants.Less, declared.ops.Bound.Bound}
 use Rattle.std.specs.declared.cmp.Ordering.TheVariants.{Equal, Greater}
-use Rattle.signal_records.specs.{Key.key_cmp, Within.current_limits, Within.IsKeyWithin, declared.key.Key.Key}
+use Rattle.signal_records.specs.{Key.key_cmp, Row.key_of, Within.current_limits, Within.IsKeyWithin, Within.IsRowWithin, declared.key.Key.Key}
 use Rattle.signal_records.specs.declared.key.Key.TheVariants.{Phase, Seq, Split, Pattern}
-use Rattle.signal_records.specs.declared.record.Row.{Row}
-use Rattle.cabinet_core.specs.{declared.record.Inspection.Inspection, declared.record.Order.Order, declared.record.UsedLine.UsedLine}
-use Rattle.office_tables_maps.specs.MapCabinet.{AreInspectionsPlaced, AreOrdersPlaced, AreUsedPlaced, IsInspectionAt, IsOrderAt, IsUsedAt}
-use Rattle.office_tables_maps.specs.MapShelf.{IsRowAt, IsLeftAt, AreRowsPlaced, AreLeftPlaced}
-use Rattle.office_tables_maps.specs.Places.{first_place, last_place, all_places, first_record, last_record, all_records, first_line}
-use Rattle.office_tables_maps.specs.{Places.last_line, Places.all_lines, declared.place.LinePlace.LinePlace, declared.place.Place.Place}
-use Rattle.office_tables_maps.specs.declared.place.RecordPlace.{RecordPlace}
-use Rattle.office_tables_maps.proofs.CabinetTrees.{record_cmp, line_cmp, records_under, record_inter, line_inter}
-use Rattle.office_tables_maps.proofs.PlaceLemmas.{under, row_of, change_of, place_cmp}
-use Rattle.office_tables_shelf.proofs.TreeLemmas.{ranged_cmp, then_last}
-
--- ---- a walk that takes what passes a test
-
--- Where all that passes the test lies between, to walk over what lies between is to walk over all.
-module _ {E Y : Type 0} (test between : E → Bool) (f : E → Y) (walk : List E → List Y)
-    (steps : (e : E) (es : List E)
-    → walk (e ∷ es) ≡ (if test e then f e ∷ walk es else walk es))
-    (Stands : E → Type 0)
-    (lies : (e : E) → Stands e → test e ≡ true → between e ≡ true) where
-  taken : (e : E) (xs ys : List E) → walk xs ≡ walk ys → walk (e ∷ xs) ≡ walk (e ∷ ys)
-  taken e xs ys same =
-      steps e xs ∙ ap (λ rest. if test e then f e ∷ rest else rest) same ∙ sym (steps e ys)
-
-  passed : (b : Bool) (e : E) (es : List E) → (b ≡ true → ⊥)
-      → (if b then f e ∷ walk es else walk es) ≡ walk es
-  passed true e es never = absurd (never refl)
-  passed false e es never = refl
-
-  pub walk_between : (es : List E) → AllByRecursion Stands es → walk (filter between es) ≡ walk es
-  walk_between [] all = refl
-  walk_between (e ∷ es) all =
-      elim (between e) as (λ b. between e ≡ b
-      → walk (cond b (e ∷ filter between es) (filter between es)) ≡ walk (e ∷ es)) [
-        | true ↦ λ is. taken e (filter between es) es (walk_between es all.1)
-        | false ↦ λ is. walk_between es all.1
-            ∙ sym (steps e es
-            ∙ passed (test e) e es (λ hit. true≢false (sym (lies e all.0 hit) ∙ is)))
-      ] refl
+use Rattle.cabinet_core.specs.Within.{IsInspectionWithin, IsOrderWithin, IsUsedLineWithin}
+use Rattle.office_tables_shelf.specs.{Cells.Cell, Cells.cells_cmp, Cells.tree_rows, Rows.timing_key, Rows.timing_columns, Rows.left_columns, Rows.draft_key, Rows.draft_columns}
+use Rattle.office_tables_shelf.specs.CabinetRows.{inspection_key, inspection_columns, order_key, order_columns, used_key, used_columns}
+use Rattle.office_tables_shelf.specs.{CabinetReads.ListsInspections, CabinetReads.ListsOrders, CabinetReads.ListsUsed, Shelf.ListsTiming, Shelf.ListsDraft, Shelf.is_of, Shelf.rows_of}
+use Rattle.office_tables_maps.specs.MapCabinet.{IsInspectionAt, IsOrderAt, IsUsedAt, inspection_place_key, order_place_key, line_place_key, with_inspections, with_orders, with_used}
+use Rattle.office_tables_maps.specs.MapShelf.{IsRowAt, IsLeftAt, place_key, with_timing, with_drafts}
+use Rattle.office_tables_maps.specs.Places.{first_place, last_place, all_places, first_record, last_record, all_records, first_line, last_line, all_lines, under_by}
+use Rattle.office_tables_maps.specs.declared.place.{LinePlace.LinePlace, Place.Place, RecordPlace.RecordPlace}
+use Rattle.office_tables_shelf.proofs.{CabinetLemmas.of_number, ListLemmas.cells_of, TreeLemmas.ranged_cmp, TreeLemmas.then_last}
+use Rattle.office_tables_maps.proofs.CabinetTrees.{record_cmp, line_cmp, record_inter, line_inter, inspection_order, order_order, line_order}
+use Rattle.office_tables_maps.proofs.PlaceLemmas.{row_of, change_of, place_cmp, place_inter, place_order, of_place, draft_shows}
+use Rattle.office_tables_maps.proofs.TreeRows.{tree_entries}
 
 -- What a walk found is all that it finds of a tree, once none of the entries is left that it began
 -- with, and these lie between.
@@ -149,50 +124,95 @@ lines_forward id =
     (not_after (ranged_cmp 1 999_999) (ranged_cmp 1 99) (number_up_to 1 999_999 (omega arith))
     (number_up_to 1 99 (omega arith))))
 
--- ---- the six walks
+-- ---- what stands between the places of an intersection
 
-pub timing_between : (id : ℕ) (es : List (Place × Row)) → AreRowsPlaced es
-    → under row_of id (entries_between place_cmp (all_places id).0 (all_places id).1 es)
-    ≡ under row_of id es
-timing_between id = walk_between (λ (e : Place × Row). e.0.inter == id)
-    (λ e. range_contains place_cmp (all_places id).0 (all_places id).1 e.0) row_of (under row_of id)
-    (λ e es. refl) (λ e. IsRowAt e.0.key e.1)
-    (λ e here hit. place_between id e.0 (eqb-true e.0.inter id hit) here.1.0)
+-- What is found between these places: the rows of the intersection, each of which tells something.
+abbrev pub FindsUnder : {K X Y : Type 0} → (K → ℕ) → (K × X → Y) → (K → K → Ordering) → (ℕ → Bound K × Bound K) → (K → X → Type 0) → (List (K × X) → ℕ → List Y → Type 0) → (Y → Type 0) → Type 0
+FindsUnder {K} {X} inter f R all Stands Lists Told =
+    (id : ℕ) (es entries : List (K × X)) (at : Bound K × Bound K) → IsStrictlySortedBy R (keys_of es)
+    → AllByRecursion (λ e. Stands e.0 e.1) es → at ≡ all id → entries ≡ entries_between R at.0 at.1 es
+    → Lists es id (under_by inter f id entries) × AllByRecursion Told (under_by inter f id entries)
 
-pub draft_between : (id : ℕ) (es : List (Place × Option Row)) → AreLeftPlaced es
-    → under change_of id (entries_between place_cmp (all_places id).0 (all_places id).1 es)
-    ≡ under change_of id es
-draft_between id = walk_between (λ (e : Place × Option Row). e.0.inter == id)
-    (λ e. range_contains place_cmp (all_places id).0 (all_places id).1 e.0) change_of
-    (under change_of id) (λ e es. refl) (λ e. IsLeftAt e.0.key e.1)
-    (λ e here hit. place_between id e.0 (eqb-true e.0.inter id hit) here.1)
+passed : {Y : Type 0} (b : Bool) (y : Y) (ys : List Y) → (b ≡ true → ⊥) → (if b then y ∷ ys else ys) ≡ ys
+passed true y ys never = absurd (never refl)
+passed false y ys never = refl
 
-pub inspections_between : (id : ℕ) (es : List (RecordPlace × Inspection)) → AreInspectionsPlaced es
-    → records_under record_inter id
-    (entries_between record_cmp (all_records id).0 (all_records id).1 es)
-    ≡ records_under record_inter id es
-inspections_between id = walk_between (λ (e : RecordPlace × Inspection). e.0.inter == id)
-    (λ e. range_contains record_cmp (all_records id).0 (all_records id).1 e.0) (λ e. e.1)
-    (records_under record_inter id) (λ e es. refl) (λ e. IsInspectionAt e.0 e.1)
-    (λ e here hit. record_between id e.0 (eqb-true e.0.inter id hit)
-    (subst (IsInRange 1 999_999) here.0 here.1.number))
+module _ {K X Y : Type 0} (inter : K → ℕ) (f : K × X → Y) (R : K → K → Ordering) (all : ℕ → Bound K × Bound K)
+    (Stands : K → X → Type 0) (Told : Y → Type 0) (key : K → List Cell) (columns : X → List Cell)
+    (shown : ℕ → Y → List Cell × List Cell)
+    (order : (a b : K) → cells_cmp (key a) (key b) ≡ R a b)
+    (begins : (id : ℕ) (k : K) → is_of id (key k) ≡ (inter k == id))
+    (lies : (id : ℕ) (k : K) (x : X) → Stands k x → inter k ≡ id → range_contains R (all id).0 (all id).1 k ≡ true)
+    (shows : (k : K) (x : X) → Stands k x → shown (inter k) (f (k, x)) ≡ (key k, columns x))
+    (tells : (k : K) (x : X) → Stands k x → Told (f (k, x))) where
+  abbrev AreStanding : List (K × X) → Type 0
+  AreStanding = AllByRecursion (λ e. Stands e.0 e.1)
 
-pub orders_between : (id : ℕ) (es : List (RecordPlace × Order)) → AreOrdersPlaced es
-    → records_under record_inter id
-    (entries_between record_cmp (all_records id).0 (all_records id).1 es)
-    ≡ records_under record_inter id es
-orders_between id = walk_between (λ (e : RecordPlace × Order). e.0.inter == id)
-    (λ e. range_contains record_cmp (all_records id).0 (all_records id).1 e.0) (λ e. e.1)
-    (records_under record_inter id) (λ e es. refl) (λ e. IsOrderAt e.0 e.1)
-    (λ e here hit. record_between id e.0 (eqb-true e.0.inter id hit)
-    (subst (IsInRange 1 999_999) here.0 here.1.number))
+  abbrev between : ℕ → List (K × X) → List (K × X)
+  between id = entries_between R (all id).0 (all id).1
 
-pub used_between : (id : ℕ) (es : List (LinePlace × UsedLine)) → AreUsedPlaced es
-    → records_under line_inter id (entries_between line_cmp (all_lines id).0 (all_lines id).1 es)
-    ≡ records_under line_inter id es
-used_between id = walk_between (λ (e : LinePlace × UsedLine). e.0.inter == id)
-    (λ e. range_contains line_cmp (all_lines id).0 (all_lines id).1 e.0) (λ e. e.1)
-    (records_under line_inter id) (λ e es. refl) (λ e. IsUsedAt e.0 e.1)
-    (λ e here hit. line_between id e.0 (eqb-true e.0.inter id hit)
-    (subst (IsInRange 1 999_999) here.0 here.1.1.order)
-    (subst (IsInRange 1 99) here.1.0 here.1.1.line))
+  -- all of an intersection lies between its first and its last place
+  under_between : (id : ℕ) (es : List (K × X)) → AreStanding es → under_by inter f id (between id es) ≡ under_by inter f id es
+  under_between id [] h = refl
+  under_between id (e ∷ es) h =
+      let lies_here = range_contains R (all id).0 (all id).1 e.0 in
+      elim lies_here as (λ b. lies_here ≡ b
+      → under_by inter f id (cond b (e ∷ between id es) (between id es)) ≡ under_by inter f id (e ∷ es)) [
+        | true ↦ λ is. ap (λ ys. if inter e.0 == id then f e ∷ ys else ys) (under_between id es h.1)
+        | false ↦ λ is. under_between id es h.1
+            ∙ sym (passed (inter e.0 == id) (f e) (under_by inter f id es) (λ hit. true≢false
+            (sym (lies id e.0 e.1 h.0 (eqb-true (inter e.0) id hit)) ∙ is)))
+      ] refl
+
+  under_where : (id : ℕ) (es : List (K × X)) → AreStanding es → map (shown id) (under_by inter f id es) ≡ where_key cells_cmp (is_of id) (map (cells_of key columns) es)
+  under_where id [] h = refl
+  under_where id (e ∷ es) h = elim (cases_Bool (inter e.0 == id)) [
+    | inl hit ↦
+        let rest = under_where id es h.1 in
+        let here : shown id (f e) ≡ cells_of key columns e = subst (λ n. shown n (f e) ≡ cells_of key columns e) (eqb-true (inter e.0) id hit) (shows e.0 e.1 h.0) in
+        rw (begins id e.0, hit) (λ i. here i ∷ rest i)
+    | inr miss ↦ rw (begins id e.0, miss) (under_where id es h.1)
+  ]
+
+  told_under : (id : ℕ) (es : List (K × X)) → AreStanding es → AllByRecursion Told (under_by inter f id es)
+  told_under id [] h = tt
+  told_under id (e ∷ es) h =
+      let rest = told_under id es h.1 in
+      elim (inter e.0 == id) as (λ b. AllByRecursion Told (if b then f e ∷ under_by inter f id es else under_by inter f id es)) [
+        | true ↦ (tells e.0 e.1 h.0, rest)
+        | false ↦ rest
+      ]
+
+  pub found_under : FindsUnder inter f R all Stands (λ es id ys. map (shown id) ys ≡ rows_of id (tree_rows key columns es)) Told
+  found_under id es entries at sorted h is found =
+      let whole : under_by inter f id es ≡ under_by inter f id entries = sym (ap (under_by inter f id) (found ∙ ap (λ b. entries_between R b.0 b.1 es) is) ∙ under_between id es h) in
+      subst (λ ys. (map (shown id) ys ≡ rows_of id (tree_rows key columns es)) × AllByRecursion Told ys) whole
+      (under_where id es h ∙ ap (where_key cells_cmp (is_of id)) (sym (tree_entries R key columns order es sorted)), told_under id es h)
+
+pub timing_found : FindsUnder place_inter row_of place_cmp all_places (λ place row. IsRowAt place.key row) (λ es. ListsTiming (with_timing es)) (IsRowWithin current_limits)
+timing_found = found_under place_inter row_of place_cmp all_places (λ place row. IsRowAt place.key row) (IsRowWithin current_limits) place_key timing_columns
+    (λ id row. (timing_key id (key_of row), timing_columns row)) place_order of_place (λ id place row here hit. place_between id place hit here.1.0)
+    (λ place row here i. (timing_key place.inter (here.0 i), timing_columns row)) (λ place row here. here.1.1)
+
+pub draft_found : FindsUnder place_inter change_of place_cmp all_places (λ place left. IsLeftAt place.key left) (λ es. ListsDraft (with_drafts es)) (λ _. ⊤)
+draft_found = found_under place_inter change_of place_cmp all_places (λ place left. IsLeftAt place.key left) (λ _. ⊤) place_key left_columns
+    (λ id change. (draft_key id change, draft_columns change)) place_order of_place (λ id place left here hit. place_between id place hit here.1)
+    (λ place left here. draft_shows place left here.0) (λ place left here. tt)
+
+pub inspections_found : FindsUnder record_inter (λ e. e.1) record_cmp all_records IsInspectionAt (λ es. ListsInspections (with_inspections es)) IsInspectionWithin
+inspections_found = found_under record_inter (λ e. e.1) record_cmp all_records IsInspectionAt IsInspectionWithin inspection_place_key inspection_columns
+    (λ id inspection. (inspection_key id inspection.number, inspection_columns inspection)) inspection_order (λ id place. of_number id place.inter [])
+    (λ id place inspection here hit. record_between id place hit (subst (IsInRange 1 999_999) here.0 here.1.number))
+    (λ place inspection here i. (inspection_key place.inter (here.0 i), inspection_columns inspection)) (λ place inspection here. here.1)
+
+pub orders_found : FindsUnder record_inter (λ e. e.1) record_cmp all_records IsOrderAt (λ es. ListsOrders (with_orders es)) IsOrderWithin
+orders_found = found_under record_inter (λ e. e.1) record_cmp all_records IsOrderAt IsOrderWithin order_place_key order_columns
+    (λ id order. (order_key id order.number, order_columns order)) order_order (λ id place. of_number id place.inter [])
+    (λ id place order here hit. record_between id place hit (subst (IsInRange 1 999_999) here.0 here.1.number))
+    (λ place order here i. (order_key place.inter (here.0 i), order_columns order)) (λ place order here. here.1)
+
+pub used_found : FindsUnder line_inter (λ e. e.1) line_cmp all_lines IsUsedAt (λ es. ListsUsed (with_used es)) IsUsedLineWithin
+used_found = found_under line_inter (λ e. e.1) line_cmp all_lines IsUsedAt IsUsedLineWithin line_place_key used_columns
+    (λ id used. (used_key id used.order used.line, used_columns used)) line_order (λ id place. of_number id place.inter [])
+    (λ id place used here hit. line_between id place hit (subst (IsInRange 1 999_999) here.0 here.1.1.order) (subst (IsInRange 1 99) here.1.0 here.1.1.line))
+    (λ place used here i. (used_key place.inter (here.0 i) (here.1.0 i), used_columns used)) (λ place used here. here.1.1)

@@ -1,5 +1,5 @@
--- The places that an intersection's rows may have in memory: from the first to the last.
-use Rattle.std.specs.Prelude.{ℕ}
+-- The places that an intersection's rows may have in memory, from the first to the last, and what stands there.
+use Rattle.std.specs.Prelude.{ℕ, ◌==◌, List, [], ◌∷◌, if◌then◌else◌}
 use Rattle.std.specs.declared.ops.Bound.{Bound}
 use Rattle.std.specs.declared.ops.Bound.TheVariants.{Included}
 use Rattle.signal_records.specs.declared.key.Key.TheVariants.{Phase, Pattern}
@@ -36,3 +36,15 @@ last_line id = record { inter = id; order = 999_999; line = 99 }
 
 abbrev pub all_lines : ℕ → Bound LinePlace × Bound LinePlace
 all_lines id = (Included (first_line id), Included (last_line id))
+
+-- ---- what stands at the places of an intersection
+
+-- what f makes of the entries of an intersection, in their order
+abbrev pub under_by : {K X Y : Type 0} → (K → ℕ) → (K × X → Y) → ℕ → List (K × X) → List Y
+under_by inter f id [] = []
+under_by inter f id (e ∷ es) =
+    if inter e.0 == id then f e ∷ under_by inter f id es else under_by inter f id es
+
+-- the records of these entries
+abbrev pub records_under : {K X : Type 0} → (K → ℕ) → ℕ → List (K × X) → List X
+records_under inter = under_by inter (λ e. e.1)

@@ -6,3 +6,4 @@ mod map_overdue;
 mod map_rows;
 pub mod map_shelf;
 mod place;
+mod under;

@@ -22,6 +22,7 @@ ghost use Rattle.office_tables_maps.specs.MapCabinet.{AreUsedPlaced, AreDeliveri
 ghost use Rattle.office_tables_maps.specs.MapCabinet.{ArePartsWithin};
 
 use crate::place::{DeliveryPlace, LinePlace, RecordPlace};
+use crate::under::copied_under;
 use cabinet_core::{
     Delivery, Hand, Inspection, Order, PartCode, UsedLine, delivery_is_within,
     inspection_is_within, order_is_within, used_line_is_within,
@@ -74,12 +75,8 @@ pub(crate) fn inspections_of(
     ensures within { IfOk result (λ list. AreInspectionsPlaced rows.now.entries →
         AllByRecursion IsInspectionWithin list.items) }
 {
-    let mut list = Vec::new(alloc);
-    for (place, inspection) in rows.range(RecordPlace::all_of(inter)) {
-        if place.inter == inter {
-            list.push(inspection.clone()?)?;
-        }
-    }
+    let entries = rows.range(RecordPlace::all_of(inter));
+    let list = copied_under(alloc, entries, inter)?;
     Ok(list)
 }
 
@@ -126,12 +123,8 @@ pub(crate) fn orders_of(
     ensures within { IfOk result (λ list. AreOrdersPlaced rows.now.entries →
         AllByRecursion IsOrderWithin list.items) }
 {
-    let mut list = Vec::new(alloc);
-    for (place, order) in rows.range(RecordPlace::all_of(inter)) {
-        if place.inter == inter {
-            list.push(order.clone()?)?;
-        }
-    }
+    let entries = rows.range(RecordPlace::all_of(inter));
+    let list = copied_under(alloc, entries, inter)?;
     Ok(list)
 }
 
@@ -179,12 +172,8 @@ pub(crate) fn lines_of(
     ensures within { IfOk result (λ list. AreUsedPlaced rows.now.entries →
         AllByRecursion IsUsedLineWithin list.items) }
 {
-    let mut list = Vec::new(alloc);
-    for (place, used) in rows.range(LinePlace::all_of(inter)) {
-        if place.inter == inter {
-            list.push(used.clone()?)?;
-        }
-    }
+    let entries = rows.range(LinePlace::all_of(inter));
+    let list = copied_under(alloc, entries, inter)?;
     Ok(list)
 }
 

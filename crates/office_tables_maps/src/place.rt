@@ -3,6 +3,7 @@
 ghost use Rattle.std.specs.Prelude.{◌≡◌};
 ghost use Rattle.office_tables_maps.specs.Places.{all_places, all_records, all_lines};
 
+use crate::under::OfIntersection;
 use cabinet_core::PartCode;
 use signal_records::{InterId, Key, LineNo, PatternNo, PhaseNo, RecordNo};
 use std::alloc::AllocError;
@@ -56,6 +57,14 @@ impl RecordPlace {
     }
 }
 
+impl OfIntersection for RecordPlace {
+    ghost inter = { λ place. place.inter };
+
+    fn inter(&self) -> InterId {
+        self.inter
+    }
+}
+
 /// The place of a used part: its intersection, the order, and the line of the order.
 #[derive(Clone, Copy, PartialEq, Eq, PartialOrd, Ord)]
 pub struct LinePlace {
@@ -74,6 +83,14 @@ impl LinePlace {
         let (order, line) = (RecordNo::new(999_999).unwrap(), LineNo::new(99).unwrap());
         let last = LinePlace { inter, order, line };
         (Bound::Included(first), Bound::Included(last))
+    }
+}
+
+impl OfIntersection for LinePlace {
+    ghost inter = { λ place. place.inter };
+
+    fn inter(&self) -> InterId {
+        self.inter
     }
 }
 

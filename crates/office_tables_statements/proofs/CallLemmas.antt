@@ -8,7 +8,7 @@ use Rattle.sqlite_schema.specs.declared.command.Returning.{Returning}
 use Rattle.sqlite.specs.{Steps.FailsToCommit, Held.Held, Held.state}
 use Rattle.sqlite_trees.specs.declared.store.Store as store
 use Rattle.office_tables_schema.specs.Schema.{office_schema}
-use Rattle.office_tables_statements.specs.Calls.{AreOrdered, IsHonest, IsOffice, Keeps, IsQuery, Reads, IsWriting, Ran, StandsOn, command_of}
+use Rattle.office_tables_statements.specs.Calls.{AreOrdered, IsHonest, IsOffice, IsReady, Keeps, IsQuery, Reads, IsWriting, Ran, StandsOn, command_of}
 use Rattle.sqlite.proofs.Callers.{reads_as, runs_as, never_commits, survives_begin, begins_shown, unchanged_then, EndsIn}
 use Rattle.sqlite.proofs.StateLemmas.{survives_then, survives_weaker}
 use Rattle.std.specs.List.{AllByRecursion}
@@ -166,7 +166,7 @@ module _ (old mid new : State) (office : IsOffice old) (stands : StandsOn old mi
   as_before : IsHonest new → new.now ≡ old.now
   as_before honest = (undone honest).0 ∙ stands.committed (back honest) ∙ sym (office.settled (stands.honest (back honest)))
 
-  pub undone_office : new.in_transaction ≡ false → IsOffice new
+  undone_office : new.in_transaction ≡ false → IsOffice new
   undone_office mode = record {
     autocommit = mode;
     schema = λ honest. ap (λ (d : Database). d.schema) (as_before honest) ∙ office.schema (stands.honest (back honest));
@@ -175,7 +175,7 @@ module _ (old mid new : State) (office : IsOffice old) (stands : StandsOn old mi
     sound = λ honest. subst IsDatabase (sym (as_before honest)) (office.sound (stands.honest (back honest)));
   }
 
-pub failed_commit : (mid new : State) (e : Error) → FailsToCommit mid new e → IsRolledBack mid new ⊎ ((mid.in_transaction ≡ false) × IsUnchanged mid new)
+failed_commit : (mid new : State) (e : Error) → FailsToCommit mid new e → IsRolledBack mid new ⊎ ((mid.in_transaction ≡ false) × IsUnchanged mid new)
 failed_commit mid new e (inl failed) = inl failed.3
 failed_commit mid new e (inr none) = inr (none.1, none.2)
 
@@ -193,6 +193,25 @@ ended_survives g old mid new P steps end holds =
     (λ _ db none. absurd none)
     (λ clean db is. subst P (sym is) (holds (omega (arith, clean, end.clean))))
     (survives_begin g old (state g mid) _ steps) end
+
+pub begun_ready : {S : Type 0} (g : store.Ghosts S) (old : Held S) → IsOffice (state g old) → IsHonest (state g old) → IsReady (state g (record old { in_transaction = true }))
+begun_ready g old office honest = record { inside = refl; schema = office.schema honest; ordered = office.ordered honest; sound = office.sound honest }
+
+-- a transaction over the office's tables whose steps leave it ready
+module _ {S : Type 0} (g : store.Ghosts S) (old mid : Held S) (new : State) (office : IsOffice (state g old)) where
+  abbrev begun : State
+  begun = state g (record old { in_transaction = true })
+
+  -- the office is as before where its commit fails
+  pub commit_undone : StandsOn begun (state g mid) → (HasCleanDisk (state g mid) → IsReady begun → IsReady (state g mid)) → doubt (state g mid).is_clean ≤ doubt new.is_clean → (e : Error) → (HasCleanDisk new → FailsToCommit (state g mid) new e) → new.in_transaction ≡ false → IsOffice new
+  commit_undone stands ready clean e fails =
+      undone_office (state g old) (state g mid) new office (begun_stands g old (state g mid) stands) clean (λ clean honest. (ready clean (begun_ready g old office honest)).inside) (λ clean. failed_commit (state g mid) new e (fails clean))
+
+  -- and a stop leaves what the tables then hold
+  pub commit_survives : (P : Trees → Type 0) → Survives begun (state g mid) (λ _. ⊥) → Survives (state g mid) new (λ db. db ≡ (state g mid).now.trees)
+      → (HasCleanDisk (state g mid) → IsHonest (state g old)) → (HasCleanDisk (state g mid) → IsReady begun → P (state g mid).now.trees)
+      → Survives (state g old) new (λ trees. IsHonest (state g old) × P trees)
+  commit_survives P steps end was holds = ended_survives g old mid new (λ trees. IsHonest (state g old) × P trees) steps end (λ clean. (was clean, holds clean (begun_ready g old office (was clean))))
 
 -- ---- a query on tables of whatever layout, in a transaction that is then undone
 

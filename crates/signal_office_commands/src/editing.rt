@@ -135,14 +135,12 @@ fn edit_draft<S: Shelf>(
     ensures does { S.is_honest office.new → Does edit_told (S.content office.old)
         (edit_commands id clerk.now changes) (S.content office.new) result }
 {
+    let (first, second) = (clerk.clone()?, clerk.clone()?);
     let commands = [
-        Command::Begin {
-            id,
-            clerk: clerk.clone()?,
-        },
+        Command::Begin { id, clerk: first },
         Command::Edit {
             id,
-            clerk: clerk.clone()?,
+            clerk: second,
             changes,
         },
         Command::Draft { id },
@@ -161,19 +159,11 @@ fn commit_draft<S: Shelf>(
     ensures does { S.is_honest office.new → Does commit_told (S.content office.old)
         (commit_commands id clerk.now) (S.content office.new) result }
 {
+    let (first, second, third) = (clerk.clone()?, clerk.clone()?, clerk.clone()?);
     let commands = [
-        Command::Verify {
-            id,
-            clerk: clerk.clone()?,
-        },
-        Command::Check {
-            id,
-            clerk: clerk.clone()?,
-        },
-        Command::Commit {
-            id,
-            clerk: clerk.clone()?,
-        },
+        Command::Verify { id, clerk: first },
+        Command::Check { id, clerk: second },
+        Command::Commit { id, clerk: third },
     ];
     run_commit(alloc, office, &commands)
 }

@@ -1,36 +1,25 @@
-use Rattle.std.proofs.Common.{◌≡◌, true, refl, subst, rules}
-use Rattle.sqlite.specs.{Tree.Trees, Held.state, State.HasCleanDisk, State.Survives}
+use Rattle.std.proofs.Common.{◌≡◌, subst, rules}
+use Rattle.sqlite.specs.{Tree.Trees, Held.state, State.Survives}
 use Rattle.office_tables_shelf.specs.Change.{changed_by}
-use Rattle.office_tables_statements.specs.{Calls.IsHonest, Calls.IsOffice, Calls.IsReady, Stored.content_now}
-use Rattle.office_tables_statements.proofs.CallLemmas.{ended_survives, undone_office, begun_stands, failed_commit}
+use Rattle.office_tables_statements.specs.{Calls.IsHonest, Calls.IsOffice, Stored.content_now}
+use Rattle.office_tables_statements.proofs.CallLemmas.{commit_undone, commit_survives}
 use Rattle.office_tables.specs.Migrate.{HoldsToday}
 use Rattle.office_tables.proofs.migrate.write_anew.Goals as goal
 
 pub returns-in_err-commit-clause-office : goal.returns-in_err-commit-clause-office
 returns-in_err-commit-clause-office g c =
-    let old = c.args.conn.now in
-    let mid = c.write_in.new.tx.conn.now in
     let begun = c.transaction-tx.ensures.begun in
     let it = c.in_ok-write_in.ensures in
-    let stands = begun_stands g.S.Store old (state g.S.Store mid) (rw begun at it.stands) in
-    let inside : HasCleanDisk (state g.S.Store mid) → IsHonest (state g.S.Store old) → (state g.S.Store mid).in_transaction ≡ true = λ clean honest.
-    let ready : IsReady (state g.S.Store (record old { in_transaction = true })) = record { inside = refl; schema = c.requires.schema honest; ordered = c.requires.ordered honest; sound = c.requires.sound honest } in
-    ((rw begun at (it.ready clean)) ready).inside in
-    let whole = undone_office (state g.S.Store old) (state g.S.Store mid) (state g.S.Store c.commit.new.self.0) c.requires stands c.commit.ensures.survives.clean inside (λ clean. failed_commit _ _ _ (c.in_err-commit.ensures.err clean)) c.commit.ensures.ended in
     let same : c.commit.new.self.0 ≡ c.conn-2-1.given.0 = search rules in
-    subst (λ h. IsOffice (state g.S.Store h)) same whole
+    subst (λ h. IsOffice (state g.S.Store h)) same (commit_undone g.S.Store c.args.conn.now c.write_in.new.tx.conn.now (state g.S.Store c.commit.new.self.0) c.requires
+    (rw begun at it.stands) (λ clean. rw begun at (it.ready clean)) c.commit.ensures.survives.clean _ c.in_err-commit.ensures.err c.commit.ensures.ended)
 
 pub returns-in_err-commit-clause-crash : goal.returns-in_err-commit-clause-crash
 returns-in_err-commit-clause-crash g c =
-    let old = c.args.conn.now in
-    let mid = c.write_in.new.tx.conn.now in
+    let old = state g.S.Store c.args.conn.now in
     let begun = c.transaction-tx.ensures.begun in
     let it = c.in_ok-write_in.ensures in
-    let P = λ (trees : Trees). IsHonest (state g.S.Store old) × HoldsToday (changed_by (content_now (state g.S.Store old)) c.args.changes.now) trees in
-    let whole = ended_survives g.S.Store old mid (state g.S.Store c.commit.new.self.0) P
-    (rw begun at it.crash) c.commit.ensures.survives (λ clean.
-    let honest : IsHonest (state g.S.Store old) = rw begun at (it.honest clean) in
-    let ready : IsReady (state g.S.Store (record old { in_transaction = true })) = record { inside = refl; schema = c.requires.schema honest; ordered = c.requires.ordered honest; sound = c.requires.sound honest } in
-    (honest, (rw begun at (it.written clean)) ready)) in
+    let P = λ (trees : Trees). HoldsToday (changed_by (content_now old) c.args.changes.now) trees in
     let same : c.commit.new.self.0 ≡ c.conn-2-1.given.0 = search rules in
-    subst (λ h. Survives (state g.S.Store old) (state g.S.Store h) P) same whole
+    subst (λ h. Survives old (state g.S.Store h) (λ trees. IsHonest old × P trees)) same (commit_survives g.S.Store c.args.conn.now c.write_in.new.tx.conn.now (state g.S.Store c.commit.new.self.0) c.requires
+    P (rw begun at it.crash) c.commit.ensures.survives (λ clean. rw begun at (it.honest clean)) (λ clean. rw begun at (it.written clean)))

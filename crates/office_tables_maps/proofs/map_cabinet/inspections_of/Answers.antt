@@ -1,33 +1,18 @@
-use Rattle.std.proofs.Common.{map, refl, sym, ap, subst, ◌∙◌}
-use Rattle.std.specs.{BTreeMap.Range.entries_between, List.AllByRecursion}
-use Rattle.cabinet_core.specs.Within.{IsInspectionWithin}
-use Rattle.office_tables_shelf.specs.CabinetRows.{inspection_key, inspection_columns}
-use Rattle.office_tables_maps.specs.MapCabinet.{IsInspectionAt}
-use Rattle.office_tables_maps.proofs.CabinetTrees.{records_under, record_inter, record_cmp, inspections_listed, all_under}
-use Rattle.office_tables_maps.proofs.RangeLemmas.{records_forward, inspections_between, walked}
+use Rattle.office_tables_maps.proofs.RangeLemmas.{records_forward, inspections_found}
 use Rattle.office_tables_maps.proofs.map_cabinet.inspections_of.Goals as goal
 
-pub range-place-items-requires : goal.range-place-items-requires
-range-place-items-requires c = rw c.all_of.ensures (records_forward c.args.inter)
+pub range-entries-requires : goal.range-entries-requires
+range-entries-requires c = rw c.all_of.ensures (records_forward c.args.inter)
+
+pub copied_under-requires : goal.copied_under-requires
+copied_under-requires c = λ there copy same. same
 
 pub returns-clause-rows : goal.returns-clause-rows
 returns-clause-rows c = λ placed.
-    let es = c.args.rows.now.entries in
-    let range = c.into_iter-place-iterator.ensures.into_iter_gives
-    ∙ c.range-place-items.ensures.between tt
-    ∙ ap (λ at. entries_between record_cmp at.0 at.1 es) c.all_of.ensures in
-    let items = walked (records_under record_inter c.args.inter) c.loop-place.list.items _ _ _ _ refl
-    c.in-None.ensures.steps.0 c.loop-place.invariant range (inspections_between c.args.inter es placed) in
-    ap (map (λ inspection. (inspection_key c.args.inter inspection.number, inspection_columns inspection))) items
-    ∙ inspections_listed c.args.inter es c.range-place-items.ensures.ordered placed
+    rw c.in_ok-list.ensures (inspections_found c.args.inter c.args.rows.now.entries _ _
+    c.range-entries.ensures.ordered placed c.all_of.ensures (c.range-entries.ensures.between tt)).0
 
 pub returns-clause-within : goal.returns-clause-within
 returns-clause-within c = λ placed.
-    let es = c.args.rows.now.entries in
-    let range = c.into_iter-place-iterator.ensures.into_iter_gives
-    ∙ c.range-place-items.ensures.between tt
-    ∙ ap (λ at. entries_between record_cmp at.0 at.1 es) c.all_of.ensures in
-    let items = walked (records_under record_inter c.args.inter) c.loop-place.list.items _ _ _ _ refl
-    c.in-None.ensures.steps.0 c.loop-place.invariant range (inspections_between c.args.inter es placed) in
-    subst (AllByRecursion IsInspectionWithin) (sym items)
-    (all_under record_inter IsInspectionAt IsInspectionWithin (λ place x at. at.1) c.args.inter es placed)
+    rw c.in_ok-list.ensures (inspections_found c.args.inter c.args.rows.now.entries _ _
+    c.range-entries.ensures.ordered placed c.all_of.ensures (c.range-entries.ensures.between tt)).1

@@ -4,7 +4,7 @@ use Rattle.office_tables_shelf.specs.Change.{changed, changed_by}
 use Rattle.office_tables_statements.specs.Stored.{content_now}
 use Rattle.sqlite.specs.Held.{state}
 use Rattle.office_tables_statements.proofs.CallLemmas.{stands_then, survives_on}
-use Rattle.office_tables.proofs.change.change_rows.Goals as goal
+use Rattle.office_tables_changes.proofs.change.change_rows.Goals as goal
 
 pub loop-change-preserved : goal.loop-change-preserved
 loop-change-preserved g c =

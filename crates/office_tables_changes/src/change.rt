@@ -52,7 +52,7 @@ fn change_row<S: Alter>(
 }
 
 /// Makes the changes one after another.
-pub(crate) fn change_rows<S: Alter>(
+pub fn change_rows<S: Alter>(
     alloc: Global,
     tx: &mut Transaction<'_, S>,
     changes: &[RowChange],
@@ -75,7 +75,7 @@ pub(crate) fn change_rows<S: Alter>(
 }
 
 /// Makes all changes in their order, or none.
-pub(crate) fn apply<S: Alter>(
+pub fn apply<S: Alter>(
     alloc: Global,
     conn: &mut Connection<S>,
     changes: &[RowChange],

@@ -2,7 +2,7 @@ use Rattle.std.proofs.Common.{◌≡◌, ◌⊎◌, drop}
 use Rattle.sqlite.specs.{State.HasCleanDisk, State.Survives, Held.state}
 use Rattle.office_tables_shelf.specs.Change.{changed_by}
 use Rattle.office_tables_statements.specs.{Calls.IsHonest, Calls.IsReady, Calls.StandsOn, Stored.content_now}
-use Rattle.office_tables.proofs.change.change_rows.Given as goal
+use Rattle.office_tables_changes.proofs.change.change_rows.Given as goal
 
 -- the changes that are left lead to the end, and the last commit stands; a change that was made found the database open
 abbrev pub invariant-loop-change : goal.invariant-loop-change

@@ -1,0 +1,35 @@
+//! Copies of what stands in memory at the places of an intersection.
+
+ghost use Rattle.std.specs.Prelude.{◌≡◌, ℕ, IfOk};
+ghost use Rattle.office_tables_maps.specs.Places.{records_under};
+
+use signal_records::{InterId, NoMemory};
+use std::alloc::Global;
+use std::collections::btree_map::Range;
+
+/// A place of an intersection.
+pub(crate) trait OfIntersection {
+    ghost inter: { Self → ℕ };
+
+    /// The intersection.
+    fn inter(&self) -> InterId
+        ensures { result ≡ inter self.now };
+}
+
+/// Copies of the records of an intersection among these entries, in their order.
+pub(crate) fn copied_under<P: OfIntersection, T: Clone + Drop>(
+    alloc: Global,
+    entries: Range<'_, P, T>,
+    inter: InterId,
+) -> Result<Vec<T>, NoMemory>
+    requires { (x copy : T) → T.is_clone x copy → copy ≡ x }
+    ensures { IfOk result (λ list. list.items ≡ records_under P.inter inter entries.entry) }
+{
+    let mut list = Vec::new(alloc);
+    for (place, record) in entries {
+        if place.inter() == inter {
+            list.push(record.clone()?)?;
+        }
+    }
+    Ok(list)
+}
