@@ -67,7 +67,7 @@ impl<S: Alter + Drop> Base<S> {
         }
     }
 
-    /// The database, which is closed as an office.
+    /// The database, which is no office then.
     fn into_conn(self) -> Option<Connection<S>> {
         match self {
             Base::Closed(conn) => Some(conn),
@@ -75,35 +75,32 @@ impl<S: Alter + Drop> Base<S> {
             Base::Lost => None,
         }
     }
-}
 
-/// A database opened as an office, or what is left of it, and why.
-fn opened<S: Alter + Drop>(alloc: Global, conn: Connection<S>) -> (Base<S>, Result<(), OpenFault>) {
-    match SqlShelf::open_returning(alloc, conn) {
-        Ok(shelf) => (Base::Open(Office::new(shelf)), Ok(())),
-        Err((fault, left)) => (Base::new(left.ok()), Err(fault)),
+    /// A database opened as an office, if it is there, or what is left of it, and why.
+    fn of(alloc: Global, conn: Option<Connection<S>>) -> (Base<S>, Result<(), OpenFault>) {
+        let Some(conn) = conn else {
+            return (Base::Lost, Err(OpenFault::Store));
+        };
+        match SqlShelf::open_returning(alloc, conn) {
+            Ok(shelf) => (Base::Open(Office::new(shelf)), Ok(())),
+            Err((fault, left)) => (Base::new(left.ok()), Err(fault)),
+        }
     }
-}
-
-/// A database that another hand changed, and whether that was allowed.
-fn altered<S: Alter + Drop>(mut conn: Connection<S>, sql: &str) -> (Base<S>, bool) {
-    let is_done = conn.execute_batch(sql).is_ok();
-    (Base::Closed(conn), is_done)
 }
 
 impl<S: Alter + Drop> Tables for Base<S> {
     type Shelf = SqlShelf<S>;
 
     fn opened(self, alloc: Global) -> (Base<S>, Result<(), OpenFault>) {
-        match self.into_conn() {
-            Some(conn) => opened(alloc, conn),
-            None => (Base::Lost, Err(OpenFault::Store)),
-        }
+        Base::of(alloc, self.into_conn())
     }
 
     fn altered(self, sql: &str) -> (Base<S>, bool) {
         match self.into_conn() {
-            Some(conn) => altered(conn, sql),
+            Some(mut conn) => {
+                let is_done = conn.execute_batch(sql).is_ok();
+                (Base::Closed(conn), is_done)
+            }
             None => (Base::Lost, false),
         }
     }
@@ -122,16 +119,15 @@ pub(crate) struct InFiles<D: Disk> {
     base: Base<FileStore<D>>,
 }
 
-/// A database in these files.
-fn found<D: Disk + Drop>(alloc: Global, files: Files<D>) -> Base<FileStore<D>> {
-    Base::new(connect(alloc, files))
-}
-
-/// A database that is left, and found again in its files where it was open as an office.
-fn found_again<D: Disk + Drop>(alloc: Global, base: Base<FileStore<D>>) -> Base<FileStore<D>> {
-    match base {
-        Base::Open(office) => found(alloc, close(office.into_shelf().into_conn()).0),
-        base => base,
+/// A database, found again in its files where it was open as an office.
+fn found_again<D: Disk + Drop>(
+    alloc: Global,
+    conn: Option<Connection<FileStore<D>>>,
+    was_open: bool,
+) -> Option<Connection<FileStore<D>>> {
+    match conn {
+        Some(conn) if was_open => connect(alloc, close(conn).0),
+        conn => conn,
     }
 }
 
@@ -139,7 +135,9 @@ impl<D: Disk + Drop> Tables for InFiles<D> {
     type Shelf = SqlShelf<FileStore<D>>;
 
     fn opened(self, alloc: Global) -> (InFiles<D>, Result<(), OpenFault>) {
-        let (base, outcome) = found_again(alloc, self.base).opened(alloc);
+        let was_open = matches!(&self.base, Base::Open(_));
+        let conn = found_again(alloc, self.base.into_conn(), was_open);
+        let (base, outcome) = Base::of(alloc, conn);
         (InFiles { base }, outcome)
     }
 
@@ -168,7 +166,7 @@ pub(crate) fn in_memory(alloc: Global) -> Base<MemStore> {
 /// A database in these files, which are new.
 pub(crate) fn in_files<D: Disk + Drop>(alloc: Global, files: Files<D>) -> InFiles<D> {
     InFiles {
-        base: found(alloc, files),
+        base: Base::new(connect(alloc, files)),
     }
 }
 

@@ -1,19 +1,19 @@
 -- Trees of the cabinet's records: how their places compare, and that each stays under its own key.
-use Rattle.std.proofs.Common.{◌≡◌, ◌==◌, ℕ, true, false, List, [], ◌∷◌, map, if◌then◌else◌, Option, Some, None, option_map, Ordering, refl, ap, ◌∙◌}
-use Rattle.std.specs.{BTreeMap.is_at, FinMap.get, List.AllByRecursion, List.Sorted.IsStrictlySortedBy, Map.keys_of, Map.lookup}
+use Rattle.std.proofs.Common.{◌≡◌, ℕ, List, Option, Some, None, option_map, Ordering, refl, ap, ◌∙◌}
+use Rattle.std.specs.{FinMap.get, List.AllByRecursion}
 use Rattle.std.specs.{Ordering.is_eq, Ordering.ordering_then, Prelude.IfSome, declared.cmp.Ordering.TheVariants.Equal}
 use Rattle.cabinet_core.specs.{Overdue.greater, Within.IsInspectionWithin, Within.IsOrderWithin, Within.IsUsedLineWithin, Within.IsDeliveryWithin}
 use Rattle.cabinet_core.specs.{declared.record.Inspection.Inspection, declared.record.Order.Order, declared.record.UsedLine.UsedLine}
 use Rattle.cabinet_core.specs.declared.record.Delivery.{Delivery}
-use Rattle.office_tables_shelf.specs.{Cells.Cell, Cells.cells_cmp, Cells.tree_rows, CabinetRows.inspection_key}
-use Rattle.office_tables_shelf.specs.CabinetRows.{inspection_columns, order_key, order_columns, used_key, used_columns, part_key, delivery_columns}
+use Rattle.office_tables_shelf.specs.{Cells.Cell, Cells.cells_cmp, Cells.tree_rows}
+use Rattle.office_tables_shelf.specs.CabinetRows.{inspection_columns, order_columns, used_columns, part_key, delivery_columns}
 use Rattle.office_tables_shelf.specs.CabinetReads.{ReadsInspection, ReadsOrder, ReadsUsed, ReadsDelivery}
-use Rattle.office_tables_shelf.specs.{Content.no_content, Shelf.rows_of}
+use Rattle.office_tables_shelf.specs.{Content.no_content}
 use Rattle.office_tables_maps.specs.MapCabinet.{inspection_place_key, order_place_key, line_place_key, delivery_place_key, inspection_rows, order_rows, used_rows, delivery_rows, IsInspectionAt, IsOrderAt, IsUsedAt, IsDeliveryAt, AreInspectionsPlaced, AreOrdersPlaced, AreUsedPlaced, AreDeliveriesPlaced}
 use Rattle.office_tables_maps.specs.declared.place.RecordPlace.{RecordPlace}
 use Rattle.office_tables_maps.specs.declared.place.LinePlace.{LinePlace}
 use Rattle.office_tables_maps.specs.declared.place.DeliveryPlace.{DeliveryPlace}
-use Rattle.office_tables_shelf.proofs.{CellLemmas.cells_exact, CabinetLemmas.of_number, CabinetLemmas.part_cmp, CabinetLemmas.part_order, CabinetLemmas.text_order}
+use Rattle.office_tables_shelf.proofs.{CellLemmas.cells_exact, CabinetLemmas.part_cmp, CabinetLemmas.part_order, CabinetLemmas.text_order}
 use Rattle.office_tables_shelf.proofs.TreeLemmas.{ranged_cmp, entry_at, get_tree}
 use Rattle.office_tables_maps.proofs.TreeRows.{ranged_order, last_order, standing_at, both_of}
 

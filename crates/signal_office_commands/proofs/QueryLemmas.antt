@@ -1,5 +1,5 @@
 -- What the queries State, Cabinet and Stock show.
-use Rattle.std.proofs.Common.{◌≡◌, ℕ, List, Option, Some, None, Result, Ok, Err, refl, sym, ap, subst, ◌∙◌}
+use Rattle.std.proofs.Common.{◌≡◌, ℕ, List, Option, Some, None, Result, Ok, Err, refl, sym, ap, ◌∙◌}
 use Rattle.std.specs.{FinMap.get, Option.IsSome, Result.IsErrAnd}
 use Rattle.cabinet_core.specs.Stock.{stock_of}
 use Rattle.office_tables_shelf.specs.Content.{Content}
