@@ -9,6 +9,7 @@ ghost use Rattle.office_tables.specs.Migrate.{Brings, StandsAnew, MayBecome};
 ghost use Rattle.office_tables.specs.Migrate.{TellsVersion, TellsDamage};
 ghost use Rattle.office_tables_open.specs.Promises.{KeepsCommitted, Settles, IsArrangedIfClean};
 ghost use Rattle.office_tables_open.specs.Arranged.{IsCheckedAgain};
+ghost use Rattle.office_tables_open.specs.SqlShelf.{IsCurrent};
 ghost use Rattle.office_tables_open.specs.Lacking.{Hold};
 ghost use Rattle.office_tables_open.specs.Opening.{HasOtherVersion, HasRowsAlone, StaysClean};
 ghost use Rattle.office_tables_open.specs.Opening.{IsAsFound, IsOpened, IsRefused};
@@ -42,8 +43,7 @@ pub struct SqlShelf<S: Alter> {
 
 impl<S: Alter> Model for SqlShelf<S> {
     ghost use Rattle.sqlite.specs.Held.{state};
-    ghost use Rattle.office_tables_statements.specs.Calls.{IsOffice};
-    ghost use Rattle.office_tables_open.specs.SqlShelf.{SqlView, view_code};
+    ghost use Rattle.office_tables_open.specs.SqlShelf.{IsCurrent, SqlView, view_code};
 
     ghost Value = { SqlView S };
 
@@ -51,7 +51,7 @@ impl<S: Alter> Model for SqlShelf<S> {
 
     ghost view = { λ s. record { conn = s.conn; counts = s.counts } };
 
-    ghost invariant = { λ s. IsOffice (state S.Store s.conn) };
+    ghost invariant = { λ s. IsCurrent (state S.Store s.conn) };
 }
 
 /// Why tables were refused. What is left of their database is dropped, and as it is: code over any
@@ -190,9 +190,17 @@ impl<S: Alter> SqlShelf<S> {
         migrate(alloc, conn)
     }
 
+    /// Shows what holds of the tables at any time.
+    pub fn known(&self)
+        ensures { IsCurrent (state S.Store self.now.conn) }
+    {
+        let _ = &self.conn;
+    }
+
     /// Gives the connection back with its rows, all of them committed.
     pub fn into_conn(self) -> Connection<S>
         ensures same { result ≡ self.conn }
+        ensures current { IsCurrent (state S.Store result) }
         ensures autocommit { (state S.Store result).in_transaction ≡ false }
         ensures committed { IsHonest (state S.Store result) →
             (state S.Store result).committed ≡ (state S.Store self.conn).now }

@@ -4,9 +4,10 @@ ghost use Rattle.std.specs.Prelude.{◌≡◌, ◌≢◌, [], OnOk, OnErr};
 ghost use Rattle.sqlite.specs.State.{HasCleanDisk, Survives};
 ghost use Rattle.sqlite.specs.Held.{state};
 ghost use Rattle.office_tables_shelf.specs.Change.{changed, changed_by};
-ghost use Rattle.office_tables_statements.specs.Stored.{content_now, content_of};
-ghost use Rattle.office_tables_statements.specs.Calls.{IsHonest, IsOffice, StandsOn};
-ghost use Rattle.office_tables_open.specs.Promises.{WasHonest, StaysReady, TurnsTo, LeavesNoMore};
+ghost use Rattle.office_tables_statements.specs.Stored.{content_now};
+ghost use Rattle.office_tables_statements.specs.Calls.{IsHonest, IsOffice, StandsOn, TurnsTo};
+ghost use Rattle.office_tables_open.specs.Promises.{WasHonest, KeepsVersion, LeavesNoMore};
+ghost use Rattle.office_tables_open.specs.Promises.{HoldUnder};
 
 use office_tables_shelf::rows::RowChange;
 use office_tables_sql::{draft, intersection, part, stored_row};
@@ -22,8 +23,6 @@ fn change_row<S: Alter>(
     change: &RowChange,
 ) -> Result<(), SqlFault>
     ensures same_reference { tx.new.conn.ghost_name ≡ tx.old.conn.ghost_name }
-    ensures ready { StaysReady result (state S.Store tx.old.conn.now)
-        (state S.Store tx.new.conn.now) }
     ensures changed { TurnsTo result
         (changed (content_now (state S.Store tx.old.conn.now)) change.now)
         (state S.Store tx.old.conn.now) (state S.Store tx.new.conn.now) }
@@ -58,8 +57,6 @@ pub fn change_rows<S: Alter>(
     changes: &[RowChange],
 ) -> Result<(), SqlFault>
     ensures same_reference { tx.new.conn.ghost_name ≡ tx.old.conn.ghost_name }
-    ensures ready { StaysReady result (state S.Store tx.old.conn.now)
-        (state S.Store tx.new.conn.now) }
     ensures changed { TurnsTo result
         (changed_by (content_now (state S.Store tx.old.conn.now)) changes.now)
         (state S.Store tx.old.conn.now) (state S.Store tx.new.conn.now) }
@@ -88,11 +85,13 @@ pub fn apply<S: Alter>(
         (content_now (state S.Store conn.old)) changes.now) }
     ensures unchanged { IsHonest (state S.Store conn.new) →
         OnErr result (content_now (state S.Store conn.new) ≡ content_now (state S.Store conn.old)) }
+    ensures version { KeepsVersion (state S.Store conn.old) (state S.Store conn.new) }
     ensures open { HasCleanDisk (state S.Store conn.new) → OnOk result (changes.now ≢ [] →
         IsHonest (state S.Store conn.new)) }
     ensures crash { Survives (state S.Store conn.old) (state S.Store conn.new) (λ trees.
-        IsHonest (state S.Store conn.old) × (content_of trees ≡ changed_by
-        (content_now (state S.Store conn.old)) changes.now)) }
+        IsHonest (state S.Store conn.old) × HoldUnder (changed_by
+        (content_now (state S.Store conn.old)) changes.now)
+        (state S.Store conn.old).now.trees trees) }
 {
     if changes.is_empty() {
         return Ok(());

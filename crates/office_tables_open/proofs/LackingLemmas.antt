@@ -14,11 +14,14 @@ use Rattle.sqlite_tied.specs.Compute.{everything}
 use Rattle.sqlite_trees.specs.Objects.{catalog_tree, number_in}
 use Rattle.sqlite_value.specs.Order.{bytes}
 use Rattle.office_tables_shelf.specs.Content.{Content, no_content}
-use Rattle.office_tables_schema.specs.Schema.{IsFront, front_schema, no_schema, office_schema, place_after}
+use Rattle.office_tables_schema.specs.Schema.{IsFront, front_schema, no_schema, office_schema, place_after, version_table}
 use Rattle.office_tables_statements.specs.{Calls.IsHonest, Calls.IsOffice, Stored.content_of}
 use Rattle.office_tables_open.specs.Lacking.{Hold, IsLacking, Lacks, content_before, emptied_from}
-use Rattle.office_tables_open.specs.Version.{AreEmpty, stored_trees, version_at, version_in, current_version}
-use Rattle.office_tables_open.specs.{Arranged.IsArranged, Found.IsFoundIn, Found.IsUnclaimed}
+use Rattle.office_tables_open.specs.Version.{AreEmpty, AreToday, stored_trees, version_at, version_in, current_version}
+use Rattle.office_tables_open.specs.{Arranged.IsArranged, Found.HasOtherVersion, Found.HasRowsAlone, Found.IsFoundIn, Found.IsUnclaimed}
+use Rattle.office_tables_open.specs.Found.{StoreNone, StoreOther}
+use Rattle.sqlite.specs.Order.{Row}
+use Rattle.office_tables_shelf.specs.Cells.{number}
 use Rattle.office_tables_open.specs.declared.{found.Found.TheVariants.Today, found.TheConstants.KEEPER}
 use Rattle.office_tables_open.proofs.FrontLemmas.{are_low, below_8, first_indexes, first_tables, last_table}
 use Rattle.office_tables_open.proofs.FoundLemmas.{empty_if_absent, low_trees, none_here}
@@ -106,6 +109,74 @@ listed_whole trees listed lacks =
 
 pub office_whole : (s : State) → IsOffice s → IsHonest s → IsLacking s.now.trees → ⊥
 office_whole s office honest = listed_whole s.now.trees (subst (AreListed (s.now.trees catalog_tree)) (office.schema honest) (office.sound honest).lists.listed)
+
+-- ---- the office's tables, with today's version
+
+other_name : (name : List ℕ) → same_name name KEEPER.now ≡ false → name ≡ KEEPER.now → ⊥
+other_name name other is = true≢false (sym (ap (λ n. same_name n KEEPER.now) is ∙ keeper_named) ∙ other)
+
+-- the ninth alone is that of the version
+office_keeper : (t : Table) → Has office_schema.tables t → t.name ≡ KEEPER.now → t.tree ≡ 15
+unfolding everything
+office_keeper t there named =
+    all_has (λ t. t.name ≡ KEEPER.now → t.tree ≡ 15) office_schema.tables t (
+      (λ is. absurd (other_name _ refl is)),
+      (
+        (λ is. absurd (other_name _ refl is)),
+        (
+          (λ is. absurd (other_name _ refl is)),
+          (
+            (λ is. absurd (other_name _ refl is)),
+            (
+              (λ is. absurd (other_name _ refl is)),
+              (
+                (λ is. absurd (other_name _ refl is)),
+                ((λ is. absurd (other_name _ refl is)), ((λ is. absurd (other_name _ refl is)), ((λ is. refl), tt))),
+              ),
+            ),
+          ),
+        ),
+      ),
+    )
+    there named
+
+module _ (trees : Trees) (it : AreToday trees) (schema : Schema) (listed : AreListed (trees catalog_tree) schema) where
+  abbrev rows : List Row
+  rows = filter is_table_row (trees catalog_tree)
+
+  abbrev ours : AreListed (trees catalog_tree) office_schema
+  ours = it.sound.lists.listed
+
+  keeper_tree : (table : Table) → Has schema.tables table → table.name ≡ KEEPER.now → table.tree ≡ 15
+  keeper_tree table has named =
+      let row = zipped_left IsTableRow rows schema.tables table listed.tables has in
+      let same = zipped_right IsTableRow rows office_schema.tables row.0 ours.tables row.1 in
+      let numbers : same.0.tree + 1 ≡ table.tree + 1 = ap number_in (sym same.2.described.id ∙ row.2.described.id) in
+      let names : same.0.name ≡ KEEPER.now = ap bytes (sym same.2.described.name_is ∙ row.2.described.name_is) ∙ named in
+      let place : same.0.tree ≡ 15 = office_keeper same.0 same.1 names in
+      omega (arith, numbers, place)
+
+  not_other : StoreOther schema.tables trees → ⊥
+  not_other (table, has, stores) =
+      let place = keeper_tree table has stores.keeps.named in
+      let same : Some current_version ≡ Some (number stores.version ∷ []) = sym it.stored ∙ ap (λ tree. version_at tree trees) (sym place) ∙ stores.stored in
+      stores.other (let e = same in cc)
+
+  not_alone : StoreNone schema.tables trees → ⊥
+  not_alone none =
+      let row = zipped_left IsTableRow rows office_schema.tables version_table ours.tables (inr (inr (inr (inr (inr (inr (inr (inr (inl refl))))))))) in
+      let same = zipped_right IsTableRow rows schema.tables row.0 listed.tables row.1 in
+      let named : same.0.name ≡ KEEPER.now = ap bytes (sym same.2.described.name_is ∙ row.2.described.name_is) in
+      let place = keeper_tree same.0 same.1 named in
+      let gone = all_has (λ (t : Table). t.name ≡ KEEPER.now → version_at t.tree trees ≡ None) schema.tables same.0 none same.1 named in
+      absurd (let e : Some current_version ≡ None = sym it.stored ∙ ap (λ tree. version_at tree trees) (sym place) ∙ gone in cc)
+
+-- an opening tells neither Version nor Damaged of them
+pub today_version : (trees : Trees) → AreToday trees → HasOtherVersion trees → ⊥
+today_version trees it (schema, listed, other) = not_other trees it schema listed other
+
+pub today_rows : (trees : Trees) → AreToday trees → HasRowsAlone trees → ⊥
+today_rows trees it (schema, listed, alone) = not_alone trees it schema listed alone.0
 
 -- no version is stored there
 pub unclaimed_whole : (trees : Trees) → IsUnclaimed trees → IsLacking trees → ⊥

@@ -17,7 +17,7 @@ use Rattle.office_tables_open.specs.Version.{AreEmpty, IsListing, ListsRows, sto
 use Rattle.office_tables_statements.proofs.QueryLemmas.{answers, IsRead, IsWrite, AreShaped, found_by_key, has_width}
 use Rattle.office_tables_statements.proofs.WriteLemmas.{Added, adds, IsIdle, wrote}
 use Rattle.office_tables_statements.proofs.{StoredLemmas.get_columns, StoredLemmas.sound_rowids, Casts.cast_int, Casts.cast_null, RemoveLemmas.remove_keyed}
-use Rattle.office_tables_statements.proofs.{ContentLemmas.tie_self, ContentLemmas.put_at, ContentLemmas.free_rowid, TableLemmas.each, TableLemmas.none_in}
+use Rattle.office_tables_statements.proofs.{ContentLemmas.tie_self, ContentLemmas.put_at, ContentLemmas.free_rowid, TableLemmas.apart, TableLemmas.none_in}
 use Rattle.sqlite_trees.specs.declared.store.Shape.TheVariants as shape
 use Rattle.office_tables_shelf.proofs.CellLemmas.{cells_total}
 use Rattle.office_tables_open.specs.declared.version.TheConstants.{FIND as FIND_VERSION, DROP as DROP_VERSION, PUT as PUT_VERSION}
@@ -101,6 +101,10 @@ same_eight a b e = λ i. record {
 pub empty_content : (trees : Trees) → AreEmpty trees → content_of trees ≡ no_content
 empty_content trees none = same_eight trees (λ _. []) none
 
+-- trees with the same table of the version store the same version
+pub same_version : (old new : Trees) → new 15 ≡ old 15 → version_in new ≡ version_in old
+same_version old new same = ap (λ rows. get (rows_in layout.office_version rows) (number (pos 1) ∷ [])) same
+
 pub find_version_is : IsRead FIND_VERSION.now (Select (record { lets = []; body = found_by office_version office_version.columns }) (codes "version" ∷ []))
 unfolding understood everything
 find_version_is = record { is = refl; query = record { plain = (refl, refl); unlisted = refl } }
@@ -138,11 +142,6 @@ version_source = Values (col 0 0 ∷ lit Null ∷ col 0 1 ∷ []) 3
 
 cast_version : cast_row version_table stored_version ≡ stored_version
 cast_version = λ i. cast_int (pos 1) i ∷ cast_null i ∷ cast_int (pos 2) i ∷ []
-
--- none of the eight tables is that of the version
-apart : (t : Table) → (schema_at t).tree ≢ 15
-apart = each (λ t. (schema_at t).tree ≢ 15) (λ e. cc) (λ e. cc) (λ e. cc) (λ e. cc) (λ e. cc)
-    (λ e. cc) (λ e. cc) (λ e. cc)
 
 pub put_version : (old new : State) (count : ℕ) → IsReady old → Ran PUT_VERSION.now (Int (pos 1) ∷ Int (pos 2) ∷ []) old new count
     → IsReady new × ((content_now new ≡ content_now old) × (version_in new.now.trees ≡ Some current_version))

@@ -1,9 +1,11 @@
 -- What a call that may fail promises of a connection, by the state that it found and the one that it left.
 use Rattle.std.specs.Prelude.{◌≡◌, Bool, Result, Some, IsTrue, IfOk, OnOk, OnErr}
+use Rattle.sqlite.specs.Effect.{IsDatabase}
 use Rattle.sqlite.specs.State.{State, HasCleanDisk, Survives}
 use Rattle.sqlite.specs.Tree.{Trees}
 use Rattle.office_tables_statements.specs.Calls.{IsHonest, IsReady}
 use Rattle.office_tables_shelf.specs.Content.{Content}
+use Rattle.office_tables_schema.specs.Schema.{office_schema}
 use Rattle.office_tables_statements.specs.Stored.{content_now, content_of}
 use Rattle.office_tables_open.specs.Arranged.{IsArranged}
 use Rattle.office_tables_open.specs.Version.{version_in, current_version}
@@ -24,10 +26,6 @@ StaysReady result old new = HasCleanDisk new → OnOk result (IsReady old → Is
 abbrev pub StaysSame : {A E : Type 0} → Result A E → State → State → Type 0
 StaysSame result old new = HasCleanDisk new → OnOk result (IsReady old → content_now new ≡ content_now old)
 
--- the eight tables then hold that
-abbrev pub TurnsTo : {A E : Type 0} → Result A E → Content → State → State → Type 0
-TurnsTo result tables old new = HasCleanDisk new → OnOk result (IsReady old → content_now new ≡ tables)
-
 -- today's version is stored
 abbrev pub StoresToday : {A E : Type 0} → Result A E → State → State → Type 0
 StoresToday result old new = HasCleanDisk new → OnOk result (IsReady old → version_in new.now.trees ≡ Some current_version)
@@ -39,6 +37,16 @@ LeavesNoMore old new = Survives old new (λ _. ⊥)
 -- a whole call keeps what the eight tables hold
 abbrev pub KeepsContent : State → State → Type 0
 KeepsContent old new = IsHonest new → content_now new ≡ content_now old
+
+-- and the version that is stored
+abbrev pub KeepsVersion : State → State → Type 0
+KeepsVersion old new = IsHonest new → version_in new.now.trees ≡ version_in old.now.trees
+
+-- trees are those of the office's tables and hold this, under the version that others store
+pub record HoldUnder (tables : Content) (old trees : Trees) : Type 0 where
+  pub sound : IsDatabase (record { schema = office_schema; trees = trees })
+  pub content : content_of trees ≡ tables
+  pub version : version_in trees ≡ version_in old
 
 -- and a stop may leave it with today's version stored
 abbrev pub LeavesToday : State → State → Type 0

@@ -1,9 +1,10 @@
 -- The stored version, and whether the tables have rows.
-use Rattle.std.specs.Prelude.{◌≡◌, ◌≢◌, ℕ, ℤ, false, List, [], ◌∷◌, map, pos, negsuc, Option, None}
+use Rattle.std.specs.Prelude.{◌≡◌, ◌≢◌, ℕ, ℤ, false, List, [], ◌∷◌, map, pos, negsuc, Option, None, Some}
 use Rattle.std.specs.FinMap.{get}
 use Rattle.std.specs.List.{AllByRecursion}
 use Rattle.sqlite.specs.declared.types.Value.TheVariants.{Int}
 use Rattle.sqlite.specs.Command.TheVariants.{Select}
+use Rattle.sqlite.specs.Effect.{IsDatabase}
 use Rattle.sqlite.specs.Listing.{understood}
 use Rattle.sqlite.specs.Order.{Row}
 use Rattle.sqlite.specs.Program.{overlay}
@@ -31,6 +32,11 @@ version_cells version = number (pos version) ∷ []
 -- version 2
 abbrev pub current_version : List Cell
 current_version = number (pos 2) ∷ []
+
+-- the trees are those of the office's tables, and store today's version
+pub record AreToday (trees : Trees) : Type 0 where
+  pub sound : IsDatabase (record { schema = office_schema; trees = trees })
+  pub stored : version_in trees ≡ Some current_version
 
 -- version 1, whose rows are those of the grammar without a lead
 abbrev pub first_version : List Cell

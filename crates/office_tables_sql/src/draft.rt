@@ -7,7 +7,7 @@ ghost use Rattle.sqlite.specs.Values.{bound_value};
 ghost use Rattle.sqlite_value.specs.Value.{owned};
 ghost use Rattle.draft_state.specs.ChangedRows.{changed_key};
 ghost use Rattle.office_tables_shelf.specs.Rows.{draft_columns};
-ghost use Rattle.office_tables_statements.specs.Calls.{IsHonest, IsReady, StandsOn};
+ghost use Rattle.office_tables_statements.specs.Calls.{IsHonest, StandsOn, TurnsTo};
 ghost use Rattle.office_tables_statements.specs.Stored.{content_now};
 ghost use Rattle.office_tables_statements.specs.Tables.{drop_in, values_of};
 
@@ -161,11 +161,9 @@ impl TimingKeyed for Change {
 /// Removes all draft rows of the intersection.
 pub fn drop_all<S: Alter>(tx: &mut Transaction<'_, S>, id: InterId) -> Result<(), SqlFault>
     ensures same_reference { tx.new.conn.ghost_name ≡ tx.old.conn.ghost_name }
-    ensures ready { HasCleanDisk (state S.Store tx.new.conn.now) → OnOk result
-        (IsReady (state S.Store tx.old.conn.now) → IsReady (state S.Store tx.new.conn.now)) }
-    ensures dropped { HasCleanDisk (state S.Store tx.new.conn.now) → OnOk result
-        (IsReady (state S.Store tx.old.conn.now) → content_now (state S.Store tx.new.conn.now)
-        ≡ drop_in (content_now (state S.Store tx.old.conn.now)) Table.Draft id) }
+    ensures dropped { TurnsTo result
+        (drop_in (content_now (state S.Store tx.old.conn.now)) Table.Draft id)
+        (state S.Store tx.old.conn.now) (state S.Store tx.new.conn.now) }
     ensures honest { HasCleanDisk (state S.Store tx.new.conn.now) →
         OnOk result (IsHonest (state S.Store tx.old.conn.now)) }
     ensures stands { StandsOn (state S.Store tx.old.conn.now) (state S.Store tx.new.conn.now) }

@@ -19,7 +19,7 @@ ghost use Rattle.office_tables_shelf.specs.Damage.{HasDamagedIntersection};
 ghost use Rattle.office_tables_shelf.specs.declared.rows.IntersectionRow.{IntersectionRow};
 ghost use Rattle.office_tables_shelf.specs.declared.rows.Table.TheVariants as table;
 ghost use Rattle.office_tables_statements.specs.Stored.{cell_of, content_now};
-ghost use Rattle.office_tables_statements.specs.Calls.{IsHonest, IsOffice, IsReady, Keeps};
+ghost use Rattle.office_tables_statements.specs.Calls.{IsHonest, IsOffice, Keeps, TurnsTo};
 ghost use Rattle.office_tables_statements.specs.Calls.{StandsOn};
 ghost use Rattle.office_tables_statements.specs.Calls.{TellsOpen};
 ghost use Rattle.office_tables_statements.specs.Tables.{value_of};
@@ -210,11 +210,10 @@ pub fn put<S: Alter>(
     row: &IntersectionRow,
 ) -> Result<(), SqlFault>
     ensures same_reference { tx.new.conn.ghost_name ≡ tx.old.conn.ghost_name }
-    ensures ready { HasCleanDisk (state S.Store tx.new.conn.now) → OnOk result (IsReady (state S.Store tx.old.conn.now) → IsReady (state S.Store tx.new.conn.now)) }
-    ensures put { HasCleanDisk (state S.Store tx.new.conn.now) → OnOk result
-        (IsReady (state S.Store tx.old.conn.now) → content_now (state S.Store tx.new.conn.now)
-        ≡ put_in (content_now (state S.Store tx.old.conn.now)) table.Intersection
-        (intersection_key id) (intersection_columns row.now)) }
+    ensures put { TurnsTo result
+        (put_in (content_now (state S.Store tx.old.conn.now)) table.Intersection
+        (intersection_key id) (intersection_columns row.now))
+        (state S.Store tx.old.conn.now) (state S.Store tx.new.conn.now) }
     ensures honest { HasCleanDisk (state S.Store tx.new.conn.now) → OnOk result (IsHonest (state S.Store tx.old.conn.now)) }
     ensures stands { StandsOn (state S.Store tx.old.conn.now) (state S.Store tx.new.conn.now) }
     ensures crash { Survives (state S.Store tx.old.conn.now) (state S.Store tx.new.conn.now) (λ _. ⊥) }
@@ -231,12 +230,10 @@ pub fn add<S: Alter>(
     row: &IntersectionRow,
 ) -> Result<(), SqlFault>
     ensures same_reference { tx.new.conn.ghost_name ≡ tx.old.conn.ghost_name }
-    ensures ready { HasCleanDisk (state S.Store tx.new.conn.now) → OnOk result
-        (IsReady (state S.Store tx.old.conn.now) → IsReady (state S.Store tx.new.conn.now)) }
-    ensures added { HasCleanDisk (state S.Store tx.new.conn.now) → OnOk result
-        (IsReady (state S.Store tx.old.conn.now) → content_now (state S.Store tx.new.conn.now)
-        ≡ put_in (content_now (state S.Store tx.old.conn.now)) table.Intersection
-        (intersection_key id) (intersection_columns row.now)) }
+    ensures added { TurnsTo result
+        (put_in (content_now (state S.Store tx.old.conn.now)) table.Intersection
+        (intersection_key id) (intersection_columns row.now))
+        (state S.Store tx.old.conn.now) (state S.Store tx.new.conn.now) }
     ensures honest { HasCleanDisk (state S.Store tx.new.conn.now) →
         OnOk result (IsHonest (state S.Store tx.old.conn.now)) }
     ensures stands { StandsOn (state S.Store tx.old.conn.now) (state S.Store tx.new.conn.now) }

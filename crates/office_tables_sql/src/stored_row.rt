@@ -9,7 +9,7 @@ ghost use Rattle.office_tables_shelf.specs.Cells.{Cell};
 ghost use Rattle.office_tables_shelf.specs.Rows.{timing_key};
 ghost use Rattle.office_tables_shelf.specs.declared.rows.Table.{Table};
 ghost use Rattle.office_tables_statements.specs.Stored.{content_now};
-ghost use Rattle.office_tables_statements.specs.Calls.{IsHonest, IsOffice, IsReady, Keeps};
+ghost use Rattle.office_tables_statements.specs.Calls.{IsHonest, IsOffice, Keeps, TurnsTo};
 ghost use Rattle.office_tables_statements.specs.Calls.{StandsOn};
 ghost use Rattle.office_tables_statements.specs.Calls.{StaysOpen, TellsOpen};
 ghost use Rattle.office_tables_statements.specs.Tables.{put_in, remove_in, key_values, key_shown};
@@ -146,8 +146,10 @@ pub fn put<T: StoredRow, S: Alter>(
     row: &T,
 ) -> Result<(), SqlFault>
     ensures same_reference { tx.new.conn.ghost_name ≡ tx.old.conn.ghost_name }
-    ensures ready { HasCleanDisk (state S.Store tx.new.conn.now) → OnOk result (IsReady (state S.Store tx.old.conn.now) → IsReady (state S.Store tx.new.conn.now)) }
-    ensures put { HasCleanDisk (state S.Store tx.new.conn.now) → OnOk result (IsReady (state S.Store tx.old.conn.now) → content_now (state S.Store tx.new.conn.now) ≡ put_in (content_now (state S.Store tx.old.conn.now)) T.table (T.key (T.number of) row.now) (T.columns row.now)) }
+    ensures put { TurnsTo result
+        (put_in (content_now (state S.Store tx.old.conn.now)) T.table
+        (T.key (T.number of) row.now) (T.columns row.now))
+        (state S.Store tx.old.conn.now) (state S.Store tx.new.conn.now) }
     ensures honest { HasCleanDisk (state S.Store tx.new.conn.now) → OnOk result (IsHonest (state S.Store tx.old.conn.now)) }
     ensures stands { StandsOn (state S.Store tx.old.conn.now) (state S.Store tx.new.conn.now) }
     ensures crash { Survives (state S.Store tx.old.conn.now) (state S.Store tx.new.conn.now) (λ _. ⊥) }
@@ -171,12 +173,10 @@ pub fn add<T: StoredRow, S: Alter>(
     row: &T,
 ) -> Result<(), SqlFault>
     ensures same_reference { tx.new.conn.ghost_name ≡ tx.old.conn.ghost_name }
-    ensures ready { HasCleanDisk (state S.Store tx.new.conn.now) → OnOk result
-        (IsReady (state S.Store tx.old.conn.now) → IsReady (state S.Store tx.new.conn.now)) }
-    ensures added { HasCleanDisk (state S.Store tx.new.conn.now) → OnOk result
-        (IsReady (state S.Store tx.old.conn.now) → content_now (state S.Store tx.new.conn.now)
-        ≡ put_in (content_now (state S.Store tx.old.conn.now)) T.table
-        (T.key (T.number of) row.now) (T.columns row.now)) }
+    ensures added { TurnsTo result
+        (put_in (content_now (state S.Store tx.old.conn.now)) T.table
+        (T.key (T.number of) row.now) (T.columns row.now))
+        (state S.Store tx.old.conn.now) (state S.Store tx.new.conn.now) }
     ensures honest { HasCleanDisk (state S.Store tx.new.conn.now) →
         OnOk result (IsHonest (state S.Store tx.old.conn.now)) }
     ensures stands { StandsOn (state S.Store tx.old.conn.now) (state S.Store tx.new.conn.now) }
@@ -198,8 +198,10 @@ pub fn remove<T: TimingKeyed, S: Alter>(
     key: &Key,
 ) -> Result<(), SqlFault>
     ensures same_reference { tx.new.conn.ghost_name ≡ tx.old.conn.ghost_name }
-    ensures ready { HasCleanDisk (state S.Store tx.new.conn.now) → OnOk result (IsReady (state S.Store tx.old.conn.now) → IsReady (state S.Store tx.new.conn.now)) }
-    ensures removed { HasCleanDisk (state S.Store tx.new.conn.now) → OnOk result (IsReady (state S.Store tx.old.conn.now) → content_now (state S.Store tx.new.conn.now) ≡ remove_in (content_now (state S.Store tx.old.conn.now)) T.table (timing_key id key.now)) }
+    ensures removed { TurnsTo result
+        (remove_in (content_now (state S.Store tx.old.conn.now)) T.table
+        (timing_key id key.now))
+        (state S.Store tx.old.conn.now) (state S.Store tx.new.conn.now) }
     ensures honest { HasCleanDisk (state S.Store tx.new.conn.now) → OnOk result (IsHonest (state S.Store tx.old.conn.now)) }
     ensures stands { StandsOn (state S.Store tx.old.conn.now) (state S.Store tx.new.conn.now) }
     ensures crash { Survives (state S.Store tx.old.conn.now) (state S.Store tx.new.conn.now) (λ _. ⊥) }

@@ -1,14 +1,14 @@
 -- The statements that put and remove rows, and what they make of the tables.
 use Rattle.std.proofs.Common.{◌≡◌, ◌≢◌, ℕ, List, [], ◌∷◌, ◌++◌, map, filter, length, not, refl, sym, ap, subst, ◌∙◌}
 use Rattle.std.specs.{FinMap.insert, FinMap.remove, FinMap.retain_keys, Cmp.eq_by_cmp_equiv}
-use Rattle.std.specs.{List.IsDistinct, List.Sorted.IsPermutation, Ordering.eq_by_cmp}
+use Rattle.std.specs.{List.AllByRecursion, List.IsDistinct, List.Sorted.IsPermutation, Ordering.eq_by_cmp}
 use Rattle.sqlite.specs.{declared.types.Value.TheVariants.Null, Cast.cast_row, Edit.with_rowid, Rowids.TheVariants.Chosen, Order.Row}
 use Rattle.sqlite.specs.{Program.overlay, Query.IsAnswer, Rows.Written, State.State, Term.col, Term.eval_all}
 use Rattle.sqlite.specs.Kind.TheVariants as kind
 use Rattle.sqlite_rules.specs.Lists.{Has}
-use Rattle.office_tables_shelf.specs.{Cells.Cell, Cells.cells_cmp, Cells.null, Content.Content, declared.rows.Table.Table}
+use Rattle.office_tables_shelf.specs.{Cells.Cell, Cells.Rows, Cells.cells_cmp, Cells.null, Content.Content, declared.rows.Table.Table}
 use Rattle.office_tables_shelf.proofs.CellLemmas.{cells_total}
-use Rattle.office_tables_statements.specs.{Calls.IsReady, Calls.Ran, Layout.has_key, Layout.values_at}
+use Rattle.office_tables_statements.specs.{Calls.IsReady, Calls.IsTurned, Calls.Ran, Layout.has_key, Layout.values_at}
 use Rattle.office_tables_statements.specs.Stored.{cells_at, content_now, rows_in}
 use Rattle.office_tables_statements.specs.Tables.{beside_rowid, id_given, row_given, source_at, rows_at, with_rows, layout_at, schema_at, place_at, renewed_at, put_in, remove_in, key_given, values_of, IsKeyOf, IsUpdateText, IsInsertText, IsRemoveText, Fits}
 use Rattle.office_tables_statements.specs.Tables.{filter_of, is_among, params_of, picked_where, IsDropText}
@@ -17,12 +17,23 @@ use Rattle.office_tables_statements.proofs.{Casts.cast_one, Casts.cast_suited, C
 use Rattle.office_tables_statements.proofs.{WriteLemmas.adds, WriteLemmas.went_on, WriteLemmas.same_value, WriteLemmas.wrote, QueryLemmas.picked}
 use Rattle.office_tables_statements.proofs.{QueryLemmas.where_picked, RemoveLemmas.dropped_rows, RemoveLemmas.loses, RemoveLemmas.remove_keyed}
 use Rattle.office_tables_statements.proofs.{UpdateLemmas.Renewed, UpdateLemmas.renews, TableLemmas.each, TableLemmas.is_placed, TableLemmas.is_low}
-use Rattle.office_tables_statements.proofs.TableLemmas.{is_uncounted, is_idle, facts, in_tree, same_tree, only_in}
+use Rattle.office_tables_statements.proofs.TableLemmas.{is_uncounted, is_idle, facts, in_tree, same_tree, only_in, apart}
 use Rattle.office_tables_statements.proofs.StoredLists.{distinct, shaped, own_keys, seen}
 
 -- the content with the rows that it has
 with_same : (t : Table) (tables : Content) → with_rows tables t (rows_at tables t) ≡ tables
 with_same t tables = each (λ t. with_rows tables t (rows_at tables t) ≡ tables) refl refl refl refl refl refl refl refl t
+
+-- one table has these rows, and the others are as they were, that of the version too
+turned : (old new : State) (t : Table) (rows : Rows) → IsReady new
+    → AllByRecursion (λ x. x.tree ≢ (schema_at t).tree → new.now.trees x.tree ≡ old.now.trees x.tree) office_schema.tables
+    → rows_in (layout_at t) (new.now.trees (schema_at t).tree) ≡ rows
+    → IsTurned (with_rows (content_now old) t rows) old new
+turned old new t rows ready others is = record {
+  ready = ready;
+  content = only_in old.now.trees new.now.trees t rows others is;
+  version = others.1.1.1.1.1.1.1.1.0 (λ e. apart t (sym e));
+}
 
 module _ (t : Table) (key columns : List Cell) (fits : Fits t key columns) where
   abbrev tree : ℕ
@@ -33,9 +44,8 @@ module _ (t : Table) (key columns : List Cell) (fits : Fits t key columns) where
 
   -- The row under the key has the other cells, or there is none and all is as it was.
   pub record Updated (count : ℕ) (old new : State) : Type 0 where
-    pub ready : IsReady new
-    pub none : count ≡ 0 → content_now new ≡ content_now old
-    pub some : count ≢ 0 → content_now new ≡ put_in (content_now old) t key columns
+    pub none : count ≡ 0 → IsTurned (content_now old) old new
+    pub some : count ≢ 0 → IsTurned (put_in (content_now old) t key columns) old new
 
   pub updates : (sql : List ℕ) → IsUpdateText t sql → (old new : State) (count : ℕ) → IsReady old → Ran sql params old new count → Updated count old new
   updates sql means old new count ready did =
@@ -47,14 +57,15 @@ module _ (t : Table) (key columns : List Cell) (fits : Fits t key columns) where
       let next : new.now.trees ≡ edited.0 = did_write.trees ∙ ap (λ (w : Written). w.trees) (same_value edited.2) in
       let told = did_write.counted ∙ ap (λ (w : Written). length w.rows) (same_value edited.2) in
       let it = subst (Renewed t key columns fits old.now ready.schema ready.sound ready.ordered count) (sym next) (renews t key columns fits old.now ready.schema ready.sound ready.ordered count edited.0 asked.0 found edited.1 told) in
+      let ready = did_write.goes_on it.others it.shapes in
       record {
-        ready = did_write.goes_on it.others it.shapes;
-        none = λ none. only_in old.now.trees new.now.trees t _ it.others (ap (rows_in (layout_at t)) (it.none none) ∙ sym (in_tree t old.now.trees)) ∙ with_same t (content_now old);
-        some = λ some. only_in old.now.trees new.now.trees t _ it.others (it.some some ∙ ap (λ rows. insert rows key columns) (sym (in_tree t old.now.trees)));
+        none = λ none. subst (λ tables. IsTurned tables old new) (with_same t (content_now old))
+            (turned old new t _ ready it.others (ap (rows_in (layout_at t)) (it.none none) ∙ sym (in_tree t old.now.trees)));
+        some = λ some. turned old new t _ ready it.others (it.some some ∙ ap (λ rows. insert rows key columns) (sym (in_tree t old.now.trees)));
       }
 
   -- an INSERT that was accepted added the row, and no other had its key
-  pub inserts : (sql : List ℕ) → IsInsertText t sql → (old new : State) (count : ℕ) → IsReady old → Ran sql params old new count → IsReady new × (content_now new ≡ put_in (content_now old) t key columns)
+  pub inserts : (sql : List ℕ) → IsInsertText t sql → (old new : State) (count : ℕ) → IsReady old → Ran sql params old new count → IsTurned (put_in (content_now old) t key columns) old new
   inserts sql means old new count ready did =
       let rows = old.now.trees tree in
       let did_write = wrote sql _ (record { is = means.is; plain = means.plain }) (place_at t) (schema_at t) (is_placed t) params old new count (record { runs = λ w. w; does = λ db out d. d }) ready did in
@@ -72,35 +83,35 @@ module _ (t : Table) (key columns : List Cell) (fits : Fits t key columns) where
       let at = put_at (layout_at t) rows [] stored (λ r id there among at_id. absurd among)
       (put_apart (eq_by_cmp cells_cmp) (eq_by_cmp_equiv cells_total).symm
       (cells_at (layout_at t).keys) stored rows it.fresh apart) it.fresh in
-      let put : rows_in (layout_at t) (new.now.trees tree) ≡ insert (rows_in (layout_at t) rows) key columns = ap (rows_in (layout_at t)) it.rows ∙ at ∙ (λ i. insert (rows_in (layout_at t) rows) (placed.0 i) (placed.1 i)) in (
-        now,
-        only_in old.now.trees new.now.trees t _ it.others (put ∙ ap (λ rows. insert rows key columns) (sym (in_tree t old.now.trees))),
-      )
+      let put : rows_in (layout_at t) (new.now.trees tree) ≡ insert (rows_in (layout_at t) rows) key columns = ap (rows_in (layout_at t)) it.rows ∙ at ∙ (λ i. insert (rows_in (layout_at t) rows) (placed.0 i) (placed.1 i)) in
+      turned old new t _ now it.others (put ∙ ap (λ rows. insert rows key columns) (sym (in_tree t old.now.trees)))
 
   -- One statement put the row, or the two together.
-  pub one_put : (sql : List ℕ) → IsUpdateText t sql → (old new : State) (count : ℕ) → count ≢ 0 → IsReady old → Ran sql params old new count → IsReady new × (content_now new ≡ put_in (content_now old) t key columns)
-  one_put sql means old new count some ready did = let it = updates sql means old new count ready did in (it.ready, it.some some)
+  pub one_put : (sql : List ℕ) → IsUpdateText t sql → (old new : State) (count : ℕ) → count ≢ 0 → IsReady old → Ran sql params old new count → IsTurned (put_in (content_now old) t key columns) old new
+  one_put sql means old new count some ready did = (updates sql means old new count ready did).some some
 
   pub two_put : (update insert : List ℕ) → IsUpdateText t update → IsInsertText t insert → (old mid new : State) (count added : ℕ) → count ≡ 0 → IsReady old → Ran update params old mid count → Ran insert params mid new added
-      → IsReady new × (content_now new ≡ put_in (content_now old) t key columns)
+      → IsTurned (put_in (content_now old) t key columns) old new
   two_put update insert changes adds old mid new count added none ready first second =
-      let it = updates update changes old mid count ready first in
+      let it = (updates update changes old mid count ready first).none none in
       let then = inserts insert adds mid new added it.ready second in
-      (then.0, then.1 ∙ ap (λ tables. put_in tables t key columns) (it.none none))
+      record {
+        ready = then.ready;
+        content = then.content ∙ ap (λ tables. put_in tables t key columns) it.content;
+        version = then.version ∙ it.version;
+      }
 
 pub removes : (t : Table) (sql : List ℕ) (means : IsRemoveText t sql) (key : Row) (given : IsKeyOf t key) (old new : State) (count : ℕ) → IsReady old → Ran sql key old new count
-    → IsReady new × (content_now new ≡ remove_in (content_now old) t (key_given t key))
+    → IsTurned (remove_in (content_now old) t (key_given t key)) old new
 removes t sql means key given old new count ready did =
     let it = remove_keyed (layout_at t) (facts t).paired (schema_at t) (place_at t) (is_placed t) (λ trees. is_low t trees ∙ ap trees (same_tree t)) (is_idle t) sql (record { is = means.is; plain = means.plain }) key given
-    old new count (shaped t old.now ready.schema ready.sound ready.ordered) (own_keys t old.now ready.schema ready.sound ready.ordered) ready did in (
-      it.0,
-      only_in old.now.trees new.now.trees t _ it.1.others (it.1.at ∙ ap (λ rows. remove rows (key_given t key)) (sym (in_tree t old.now.trees))),
-    )
+    old new count (shaped t old.now ready.schema ready.sound ready.ordered) (own_keys t old.now ready.schema ready.sound ready.ordered) ready did in
+    turned old new t _ it.0 it.1.others (it.1.at ∙ ap (λ rows. remove rows (key_given t key)) (sym (in_tree t old.now.trees)))
 
 pub drops : (t : Table) (sql : List ℕ) (means : IsDropText t sql) (id : ℕ) (old new : State)
     (count : ℕ) → IsReady old → Ran sql (params_of t id) old new count
-    → IsReady new × (content_now new ≡ with_rows (content_now old) t
-    (retain_keys (rows_at (content_now old) t) (λ key. not (is_among t id key))))
+    → IsTurned (with_rows (content_now old) t
+    (retain_keys (rows_at (content_now old) t) (λ key. not (is_among t id key)))) old new
 drops t sql means id old new count ready did =
     let db = old.now.trees in
     let rows = db (schema_at t).tree in
@@ -120,8 +131,6 @@ drops t sql means id old new count ready did =
     (picked_where (layout_at t) (filter_of t) (col 1 0 ∷ []))
     (record { is = means.is; plain = means.plain }) (params_of t id) old new count test shows whole
     ready did in
-    let left = dropped_rows (layout_at t) rows (is_among t id) it.1.found it.1.hits whole in (
-      it.0,
-      only_in db new.now.trees t _ it.1.others (ap (rows_in (layout_at t)) it.1.left ∙ left
-          ∙ ap (λ all. retain_keys all (λ key. not (is_among t id key))) (sym (in_tree t db))),
-    )
+    let left = dropped_rows (layout_at t) rows (is_among t id) it.1.found it.1.hits whole in
+    turned old new t _ it.0 it.1.others (ap (rows_in (layout_at t)) it.1.left ∙ left
+    ∙ ap (λ all. retain_keys all (λ key. not (is_among t id key))) (sym (in_tree t db)))

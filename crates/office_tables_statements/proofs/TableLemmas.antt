@@ -11,6 +11,7 @@ use Rattle.office_tables_shelf.specs.{Cells.Rows, Cells.number, Cells.cell_cmp, 
 use Rattle.office_tables_shelf.specs.declared.rows.Table.{Table}
 use Rattle.office_tables_shelf.specs.declared.rows.Table.TheVariants as table
 use Rattle.office_tables_schema.specs.Schema.{office_schema}
+use Rattle.office_tables_statements.specs.Layout.{office_version}
 use Rattle.office_tables_statements.specs.Stored.{cells_at, rows_in, content_of, are_sound, cell_of}
 use Rattle.office_tables_statements.specs.Tables.{rows_at, with_rows, layout_at, schema_at, place_at, key_shown, columns_shown, filter_of, params_of, is_among, of_key}
 use Rattle.office_tables_statements.proofs.{ListedLemmas.IsListing, QueryLemmas.ArePaired, SoundLemmas.has_key_at, WriteLemmas.IsIdle}
@@ -72,6 +73,11 @@ is_uncounted = each (λ t. (schema_at t).is_counted ≡ false) refl refl refl re
 pub is_idle : (t : Table) → IsIdle office_schema (schema_at t)
 is_idle table.Intersection = record { on_change = λ olds new. refl; on_delete = λ olds. refl }
 is_idle _ = record { on_change = λ olds new. refl; on_delete = λ olds. refl }
+
+-- none of the eight is that of the version
+pub apart : (t : Table) → (schema_at t).tree ≢ office_version.tree
+apart = each (λ t. (schema_at t).tree ≢ office_version.tree) (λ e. cc) (λ e. cc) (λ e. cc) (λ e. cc)
+    (λ e. cc) (λ e. cc) (λ e. cc) (λ e. cc)
 
 -- ---- keys
 

@@ -18,7 +18,10 @@ use Rattle.sqlite_resolve.specs.declared.compiled.Compiled.{Compiled}
 use Rattle.sqlite_resolve.specs.declared.error.CompileError.{CompileError}
 use Rattle.office_tables_shelf.specs.Shelf.{IsTold}
 use Rattle.office_tables_shelf.specs.declared.shelf.ShelfFault.{ShelfFault}
+use Rattle.office_tables_shelf.specs.Content.{Content}
 use Rattle.office_tables_schema.specs.Schema.{office_schema}
+use Rattle.office_tables_statements.specs.Layout as layout
+use Rattle.office_tables_statements.specs.Stored.{content_now}
 
 -- The disk has returned what was written, and no failure of it has shut the database.
 abbrev pub IsHonest : State → Type 0
@@ -88,6 +91,16 @@ pub record Ran (sql : List ℕ) (params : Row) (old new : State) (count : ℕ) :
   pub was_open : IsTrue old.is_open
   pub inside : IsTrue new.in_transaction
   pub runs : old.now.schema ≡ office_schema → Runs old new None (command_of (understood office_schema sql)) (statement_of sql (understood office_schema sql)) params count
+
+-- inside the transaction, the eight tables hold this now, and the version's is as it was
+pub record IsTurned (tables : Content) (old new : State) : Type 0 where
+  pub ready : IsReady new
+  pub content : content_now new ≡ tables
+  pub version : new.now.trees layout.office_version.tree ≡ old.now.trees layout.office_version.tree
+
+-- so a step of it does that succeeds on a clean disk
+abbrev pub TurnsTo : {A E : Type 0} → Result A E → Content → State → State → Type 0
+TurnsTo result tables old new = HasCleanDisk new → OnOk result (IsReady old → IsTurned tables old new)
 
 -- the last commit stands
 pub record StandsOn (old new : State) : Type 0 where

@@ -9,6 +9,7 @@ ghost use Rattle.sqlite.specs.WalFiles.{image_at};
 ghost use Rattle.sqlite.specs.WalReads.{AreClean};
 ghost use Rattle.office_tables_open.specs.Opening.{IsOpened};
 ghost use Rattle.office_tables_open.specs.Promises.{IsArrangedIfClean};
+ghost use Rattle.office_tables_open.specs.SqlShelf.{IsCurrent};
 ghost use Rattle.office_machine.specs.Office.{Office as OfficeState};
 ghost use Rattle.office_http_framing.specs.Asks.{OnlyAsks};
 ghost use Rattle.office_http_framing.specs.Limits.{longest_request};
@@ -130,6 +131,8 @@ pub fn serve_file<S: Start, R: Source, W: Sink>(
         (after : OfficeState) × Did office_protocol (ServesFiles file_state before served.0 after)
         max_requests (ends_of (R.told reader.old) (W.told writer.old))
         (ends_of (R.told reader.new) (W.told writer.new)) served.1) }
+    // Today's version is stored, also in whatever a crash may leave.
+    ensures current { IfOk result (λ served. IsCurrent (file_state served.0.conn)) }
     // Read and Write are answered only where that end told a fault.
     ensures fault { IfOk result (λ served. TellsFault
         (ends_of (R.told reader.old) (W.told writer.old))
@@ -141,7 +144,11 @@ pub fn serve_file<S: Start, R: Source, W: Sink>(
         ≤ (R.told reader.old).counts.calls + longest_request * (max_requests + 1) + 1 }
 {
     match opened_file(rt, alloc, path, start) {
-        Ok(office) => Ok(serve_by(alloc, office, reader, writer, max_requests)),
+        Ok(office) => {
+            let (office, outcome) = serve_by(alloc, office, reader, writer, max_requests);
+            office.shelf().known();
+            Ok((office, outcome))
+        }
         Err(fault) => Err(fault),
     }
 }

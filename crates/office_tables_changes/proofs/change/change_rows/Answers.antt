@@ -1,4 +1,4 @@
-use Rattle.std.proofs.Common.{arith, ◌+◌, drop, inl, inr, sym, ap, ◌∙◌}
+use Rattle.std.proofs.Common.{arith, ◌+◌, drop, inl, inr, refl, sym, ap, ◌∙◌}
 use Rattle.std.proofs.lemmas.List.{drop_more, nil_from_length}
 use Rattle.office_tables_shelf.specs.Change.{changed, changed_by}
 use Rattle.office_tables_statements.specs.Stored.{content_now}
@@ -20,9 +20,10 @@ loop-change-preserved g c =
       λ clean ready.
           let before = was.4 (omega (arith, clean, it.crash.clean)) ready in
           let rest = drop (c.loop-change.change-index + 1) c.args.changes.now in
-          let tables = content_now mid in (
-            it.ready clean before.0,
-            ap (λ t. changed_by t rest) (it.changed clean before.0) ∙ ap (λ x. changed_by (changed tables x) rest) c.change-item.is
+          let tables = content_now mid in
+          let then = it.changed clean before.0.ready in (
+            record { ready = then.ready; content = refl; version = then.version ∙ before.0.version },
+            ap (λ t. changed_by t rest) then.content ∙ ap (λ x. changed_by (changed tables x) rest) c.change-item.is
                 ∙ sym (ap (changed_by tables) (drop_more c.args.changes.now c.loop-change.change-index c.change-item.result c.loop-change-test.true)) ∙ before.1,
           ),
     )

@@ -7,12 +7,7 @@ use Rattle.office_tables_sql.proofs.draft.drop_all.Goals as goal
 pub write-requires : goal.write-requires
 write-requires g c = texts.drops.plain
 
-pub returns-clause-ready : goal.returns-clause-ready
-returns-clause-ready g c clean ready =
-    (drops Draft DROP.now texts.drops c.args.id _ _ _ ready
-    (rw (c.params-to_sql.ensures, c.get.ensures.value) at (c.in_ok-write.ensures.ran clean))).0
-
 pub returns-clause-dropped : goal.returns-clause-dropped
 returns-clause-dropped g c clean ready =
-    (drops Draft DROP.now texts.drops c.args.id _ _ _ ready
-    (rw (c.params-to_sql.ensures, c.get.ensures.value) at (c.in_ok-write.ensures.ran clean))).1
+    drops Draft DROP.now texts.drops c.args.id _ _ _ ready
+    (rw (c.params-to_sql.ensures, c.get.ensures.value) at (c.in_ok-write.ensures.ran clean))

@@ -1,12 +1,7 @@
 use Rattle.office_tables_statements.proofs.StoredPuts.{inserts}
 use Rattle.office_tables_sql.proofs.stored_row.add.Goals as goal
 
-pub returns-clause-ready : goal.returns-clause-ready
-returns-clause-ready g c clean ready =
-    (inserts _ _ _ (g.met.T.StoredRow.fits (g.T.StoredRow.number c.args.of) c.args.row.now) _ g.met.T.StoredRow.inserts _ _ _ ready
-    (rw (c.insert_text.ensures, c.as_slice.ensures.value, c.in-Ok.ensures) at (c.in_ok-write.ensures.ran clean))).0
-
 pub returns-clause-added : goal.returns-clause-added
 returns-clause-added g c clean ready =
-    (inserts _ _ _ (g.met.T.StoredRow.fits (g.T.StoredRow.number c.args.of) c.args.row.now) _ g.met.T.StoredRow.inserts _ _ _ ready
-    (rw (c.insert_text.ensures, c.as_slice.ensures.value, c.in-Ok.ensures) at (c.in_ok-write.ensures.ran clean))).1
+    inserts _ _ _ (g.met.T.StoredRow.fits (g.T.StoredRow.number c.args.of) c.args.row.now) _ g.met.T.StoredRow.inserts _ _ _ ready
+    (rw (c.insert_text.ensures, c.as_slice.ensures.value, c.in-Ok.ensures) at (c.in_ok-write.ensures.ran clean))

@@ -1,22 +1,23 @@
-use Rattle.std.proofs.Common.{refl}
+use Rattle.std.proofs.Common.{refl, subst}
 use Rattle.sqlite.specs.Files.{file_state}
 use Rattle.office_http.specs.Protocol.{office_protocol}
 use Rattle.office_http_framing.proofs.ServeLemmas.{Did-weaker}
 use Rattle.office_tables.specs.Stored.{content_now}
 use Rattle.office_http.proofs.ServedLemmas.{from_opened}
 use Rattle.office_tables_shelf.specs.Counts.{no_writes}
+use Rattle.office_tables_open.specs.SqlShelf.{IsCurrent}
 use Rattle.signal_office_file.specs.File.{sql_storage}
 use Rattle.signal_office_file.proofs.file.serve_file.Goals as goal
 
 -- what was opened is what the tables in the files stood for, and so is what a crash may leave of it
 pub returns-in-Ok-clause-did : goal.returns-in-Ok-clause-did
 returns-in-Ok-clause-did g c clean before stand =
-    let it = c.serve_by.ensures in
+    let it = c.serve_by-office.ensures in
     let office = c.in-Ok.office in
     let opened = c.in-Ok.ensures.opened (it.clean clean) before stand in
     let served = it.did clean before (content_now (file_state office.conn)) (record { stands = opened.stand; held = λ _. refl }) in (
       served.0,
-      Did-weaker office_protocol _ _ c.args.max_requests _ _ c.serve_by.result.1
+      Did-weaker office_protocol _ _ c.args.max_requests _ _ c.serve_by-office.result.1
           (λ requests answers serves. record {
             held = content_now (file_state office.conn);
             stands = opened.stand;
@@ -25,3 +26,6 @@ returns-in-Ok-clause-did g c clean before stand =
                 opened.unwritten opened.crash before _ served.1 served.0 requests answers serves;
           }) served.2,
     )
+
+pub returns-in-Ok-clause-current : goal.returns-in-Ok-clause-current
+returns-in-Ok-clause-current g c = subst (λ office. IsCurrent (file_state office.conn)) c.shelf.ensures c.known.ensures

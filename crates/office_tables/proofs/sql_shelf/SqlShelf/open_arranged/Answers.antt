@@ -1,12 +1,45 @@
-use Rattle.std.proofs.Common.{◌≡◌, ◌⊎◌, inl, inr, Err, refl, sym, ap, subst, ◌∙◌, true≢false}
-use Rattle.sqlite.specs.{Effect.Database, Held.state}
-use Rattle.office_tables_statements.specs.{Calls.IsHonest, Stored.content_now, Stored.content_of}
+use Rattle.std.proofs.Common.{◌≡◌, ◌⊎◌, inl, inr, Err, Some, IsTrue, refl, sym, ap, subst, ◌∙◌, true≢false}
+use Rattle.sqlite.specs.{Effect.Database, Effect.IsDatabase, Held.state, State.State, Tree.Trees}
+use Rattle.office_tables_statements.specs.{Calls.IsHonest, Calls.IsOffice, Stored.content_now, Stored.content_of}
 use Rattle.office_tables_open.specs.{Found.HasOtherVersion, Found.HasRowsAlone, Lacking.IsLacking, Opening.Claims, Opening.MayBeTaken}
+use Rattle.office_tables_open.specs.{Opening.IsOpenIfClean, SqlShelf.IsCurrent, Version.AreToday, Version.version_in, Version.current_version}
 use Rattle.office_tables_open.specs.{Opening.OnlyReads, declared.open.OpenFault.TheVariants.Version}
 use Rattle.office_tables_open.specs.declared.open.OpenFault.TheVariants.{Damaged}
 use Rattle.office_tables_open.proofs.{LackingLemmas.office_whole, LeftLemmas.refused_claimed, OpenLemmas.opened_looked}
 use Rattle.office_tables_open.proofs.OpenLemmas.{opened_made}
 use Rattle.office_tables.proofs.sql_shelf.SqlShelf.open_arranged.Goals as goal
+
+-- an office that was opened on a clean disk leaves the version that it sees
+current : (s : State) → IsOffice s → IsOpenIfClean s
+    → ((trees : Trees) → IsTrue s.is_open → s.may_leave trees → trees ≡ s.committed.trees)
+    → (IsHonest s → version_in s.now.trees ≡ Some current_version) → IsCurrent s
+current s office opened settled stored = record {
+  office = office;
+  stored = stored;
+  left = λ clean trees left.
+      let honest = opened clean in
+      let same = settled trees honest.1 left ∙ sym (ap (λ (d : Database). d.trees) (office.settled honest)) in
+      subst AreToday (sym same) (record {
+        sound = subst (λ schema. IsDatabase (record s.now { schema = schema })) (office.schema honest) (office.sound honest);
+        stored = stored honest;
+      });
+}
+
+pub invariant_of-result : goal.invariant_of-result
+invariant_of-result g c =
+    let new = c.in-Ok.found.0 in
+    let made = c.in-Ok.ensures.made c.if-is_new.true in
+    current (state g.S.Store new) c.in-Ok.ensures.office (c.in-Ok.ensures.open c.if-is_new.true)
+    (g.met.S.Store.settled new.store) (λ honest. elim (made honest) [
+      | inl all ↦ all.office.stored
+      | inr some ↦ some.completed.completes.stored
+    ])
+
+pub invariant_of-result-in-Ok-claim : goal.invariant_of-result-in-Ok-claim
+invariant_of-result-in-Ok-claim g c =
+    let it = c.in-Ok-claim.ensures in
+    let new = c.claim.new.conn in
+    current (state g.S.Store new) it.office it.open (g.met.S.Store.settled new.store) it.stored
 
 -- the tables were made
 pub returns-then-is_new-clause-opened : goal.returns-then-is_new-clause-opened
