@@ -28,7 +28,7 @@ changed_after tables (c ∷ first) second = changed_after (changed tables c) fir
 
 -- tables that were brought from version 1 stand for the office that they stood for
 pub brought_stands : (old new : Trees) (count : Migrated) → IsBrought old new count → (office : Office) → version_in old ≡ Some first_version → StandForSoundIn version_1 (content_of old) office → StandAnew (content_of new) office
-brought_stands old new count (inl is) office was before = absurd (let e : Some first_version ≡ Some current_version = sym was ∙ is.was in cc)
+brought_stands old new count (inl is) office was before = absurd (let e : Some first_version ≡ Some current_version = sym was ∙ is.was.stored in cc)
 brought_stands old new count (inr it) office was before = stand_anew (content_of old) (content_of new) count office it.migrated before
 
 -- ---- what the rows of version 1 tell

@@ -21,15 +21,15 @@ use Rattle.office_tables_migration.specs.declared.puts.Migrated.{Migrated}
 use Rattle.office_tables_open.specs.declared.open.OpenFault.{OpenFault}
 use Rattle.office_tables_open.specs.declared.open.OpenFault.TheVariants as fault
 use Rattle.office_tables_open.specs.declared.version.TheConstants.{FIND}
-use Rattle.office_tables_open.specs.Version.{version_in, current_version, first_version}
+use Rattle.office_tables_open.specs.Version.{AreToday, version_in, current_version, first_version}
 
 -- today's version is stored, and the tables hold this
 abbrev pub HoldsToday : Content → Trees → Type 0
-HoldsToday tables trees = (content_of trees ≡ tables) × (version_in trees ≡ Some current_version)
+HoldsToday tables trees = (content_of trees ≡ tables) × AreToday trees
 
 -- the tables are those of version 1, spelled anew and stored as today's version
 abbrev pub IsSpelledToday : Content → Trees → Type 0
-IsSpelledToday old trees = (count : Migrated) × IsMigrated old (content_of trees) count × (version_in trees ≡ Some current_version)
+IsSpelledToday old trees = (count : Migrated) × IsMigrated old (content_of trees) count × AreToday trees
 
 -- version 1 was stored, and this is what becomes of it
 abbrev pub MayBecome : Trees → Trees → Type 0
@@ -41,7 +41,7 @@ none_migrated = record { timing = 0; draft = 0 }
 
 -- today's version was stored, and nothing changed
 pub record IsToday (old new : Trees) (count : Migrated) : Type 0 where
-  pub was : version_in old ≡ Some current_version
+  pub was : AreToday old
   pub same : new ≡ old
   pub none : count ≡ none_migrated
 
@@ -49,7 +49,7 @@ pub record IsToday (old new : Trees) (count : Migrated) : Type 0 where
 pub record IsAnew (old new : Trees) (count : Migrated) : Type 0 where
   pub was : version_in old ≡ Some first_version
   pub migrated : IsMigrated (content_of old) (content_of new) count
-  pub stored : version_in new ≡ Some current_version
+  pub stored : AreToday new
 
 abbrev pub IsBrought : Trees → Trees → Migrated → Type 0
 IsBrought old new count = IsToday old new count ⊎ IsAnew old new count
@@ -114,10 +114,10 @@ StandsAnew result old new = IsHonest new → OnOk result ((office : Office) → 
 
 -- when Version is told, and when Damaged
 abbrev pub TellsVersion : {A S : Type 0} → Ghosts S → Result A OpenFault → Held S → Held S → Type 0
-TellsVersion g result old new = result ≡ Err fault.Version → IsHonest (state g new) → HasUnknownVersion g old
+TellsVersion g result old new = result ≡ Err fault.Version → HasCleanDisk (state g new) → HasUnknownVersion g old
 
 abbrev pub TellsFormerDamage : {A : Type 0} → Result A OpenFault → State → State → Type 0
-TellsFormerDamage result old new = result ≡ Err fault.Damaged → IsHonest new → HasFormerDamage (content_now old)
+TellsFormerDamage result old new = result ≡ Err fault.Damaged → HasCleanDisk new → HasFormerDamage (content_now old)
 
 abbrev pub TellsDamage : {A : Type 0} → Result A OpenFault → State → State → Type 0
-TellsDamage result old new = result ≡ Err fault.Damaged → IsHonest new → HasDamagedFormer old.committed.trees
+TellsDamage result old new = result ≡ Err fault.Damaged → HasCleanDisk new → HasDamagedFormer old.committed.trees

@@ -1,10 +1,10 @@
 //! Version 1 of the tables brought to today's version.
 
 ghost use Rattle.std.specs.Prelude.{◌≡◌, ◌≢◌, ◌++◌, false, IsTrue, IfOk, Err};
-ghost use Rattle.sqlite.specs.State.{Survives};
+ghost use Rattle.sqlite.specs.State.{HasCleanDisk, Survives};
 ghost use Rattle.sqlite.specs.Held.{state};
 ghost use Rattle.office_tables_statements.specs.Stored.{content_now};
-ghost use Rattle.office_tables_statements.specs.Calls.{IsHonest, IsOffice, StandsOn};
+ghost use Rattle.office_tables_statements.specs.Calls.{IsHonest, IsOffice, StandsOn, StaysOpen};
 ghost use Rattle.office_tables.specs.Migrate.{KeepNoVersion, IsChangedToday, IsSpelledToday};
 ghost use Rattle.office_tables.specs.Migrate.{MayBecome, WritesToday, WritesAllToday, Migrates};
 ghost use Rattle.office_tables.specs.Migrate.{AreNeither, Brings, ShowsNeither};
@@ -84,6 +84,7 @@ fn write_anew<S: Alter>(
     ensures crash { Survives (state S.Store conn.old) (state S.Store conn.new)
         (λ trees. IsHonest (state S.Store conn.old) ×
         IsChangedToday (state S.Store conn.old) changes.now trees) }
+    ensures open { StaysOpen result (state S.Store conn.new) }
 {
     let mut tx = conn.transaction();
     write_in(alloc, &mut tx, changes)?;
@@ -104,6 +105,7 @@ fn spell_anew<S: Alter>(alloc: Global, conn: &mut Connection<S>) -> Result<Migra
     ensures crash { Survives (state S.Store conn.old) (state S.Store conn.new)
         (λ trees. IsHonest (state S.Store conn.old) ×
         IsSpelledToday (content_now (state S.Store conn.old)) trees) }
+    ensures open { StaysOpen result (state S.Store conn.new) }
 {
     let kept = timing_rows(alloc, conn)?;
     let committed = timing_changes(alloc, kept)?;
@@ -132,7 +134,7 @@ fn are_neither(rows: &[SqlRow]) -> Result<bool, SqlFault>
 /// Whether SQL shows neither today's version nor version 1, in tables of whatever layout.
 fn shows_neither<S: Alter>(conn: &mut Connection<S>) -> Result<bool, SqlFault>
     requires { (state S.Store conn.old).in_transaction ≡ false }
-    ensures neither { IsHonest (state S.Store conn.new) →
+    ensures neither { HasCleanDisk (state S.Store conn.new) →
         IfOk result (λ neither. IsTrue neither → ShowsNeither S.Store conn.old) }
     ensures stands { StandsOn (state S.Store conn.old) (state S.Store conn.new) }
     ensures crash { LeavesNoMore (state S.Store conn.old) (state S.Store conn.new) }
@@ -147,7 +149,7 @@ fn shows_neither<S: Alter>(conn: &mut Connection<S>) -> Result<bool, SqlFault>
 /// nor version 1.
 fn fault_in<S: Alter>(conn: &mut Connection<S>) -> OpenFault
     requires { (state S.Store conn.old).in_transaction ≡ false }
-    ensures version { result ≡ OpenFault.Version → IsHonest (state S.Store conn.new) →
+    ensures version { result ≡ OpenFault.Version → HasCleanDisk (state S.Store conn.new) →
         ShowsNeither S.Store conn.old }
     ensures damaged { result ≢ OpenFault.Damaged }
     ensures stands { StandsOn (state S.Store conn.old) (state S.Store conn.new) }
@@ -173,6 +175,7 @@ pub(crate) fn migrate<S: Alter>(
     ensures committed { Commits result (state S.Store conn.new) }
     ensures crash { Survives (state S.Store conn.old) (state S.Store conn.new)
         (MayBecome (state S.Store conn.old).committed.trees) }
+    ensures open { StaysOpen result (state S.Store conn.new) }
 {
     if !conn.is_autocommit() {
         return Err(OpenFault::Store);

@@ -4,7 +4,7 @@ ghost use Rattle.std.specs.Prelude.{◌≡◌, ◌≢◌, true, false, Ok, Err, 
 ghost use Rattle.sqlite.specs.State.{Survives};
 ghost use Rattle.sqlite.specs.Held.{state};
 ghost use Rattle.sqlite.specs.Steps.{over_memory};
-ghost use Rattle.office_tables_statements.specs.Calls.{IsHonest};
+ghost use Rattle.office_tables_statements.specs.Calls.{IsHonest, StaysOpen};
 ghost use Rattle.office_tables.specs.Migrate.{Brings, StandsAnew, MayBecome};
 ghost use Rattle.office_tables.specs.Migrate.{TellsVersion, TellsDamage};
 ghost use Rattle.office_tables_open.specs.Promises.{KeepsCommitted, Settles, IsArrangedIfClean};
@@ -186,6 +186,7 @@ impl<S: Alter> SqlShelf<S> {
         ensures crash { Survives (state S.Store conn.old) (state S.Store conn.new)
             (MayBecome (state S.Store conn.old).committed.trees) }
         ensures settled { Settles result (state S.Store conn.new) }
+        ensures open { StaysOpen result (state S.Store conn.new) }
     {
         migrate(alloc, conn)
     }

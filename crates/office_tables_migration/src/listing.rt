@@ -3,7 +3,7 @@
 ghost use Rattle.std.specs.Prelude.{◌≡◌, map, IfOk};
 ghost use Rattle.sqlite.specs.State.{Survives};
 ghost use Rattle.sqlite.specs.Held.{state};
-ghost use Rattle.office_tables_statements.specs.Calls.{IsOffice, IsQuery, Keeps};
+ghost use Rattle.office_tables_statements.specs.Calls.{IsOffice, IsQuery, Keeps, TellsOpen};
 ghost use Rattle.office_tables_statements.specs.Stored.{content_now};
 ghost use Rattle.office_tables_statements.specs.Tables.{rows_at};
 ghost use Rattle.office_tables_migration.specs.Former.{former_cells, shown_cells, AreFormer};
@@ -50,6 +50,7 @@ fn list<S: Alter>(
         (rows_at (content_now (state S.Store conn.old))) }
     ensures damaged { TellsNoFormerOfEach result (state S.Store conn.new) sql.now
         (rows_at (content_now (state S.Store conn.old))) }
+    ensures open { TellsOpen result (state S.Store conn.new) }
     ensures kept { Keeps (state S.Store conn.old) (state S.Store conn.new) }
     ensures crash { Survives (state S.Store conn.old) (state S.Store conn.new) (λ _. ⊥) }
 {
@@ -67,6 +68,7 @@ pub fn timing_rows<S: Alter>(
         (content_now (state S.Store conn.old)).timing }
     ensures damaged { TellsNoFormer result (state S.Store conn.new)
         (content_now (state S.Store conn.old)).timing }
+    ensures open { TellsOpen result (state S.Store conn.new) }
     ensures kept { Keeps (state S.Store conn.old) (state S.Store conn.new) }
     ensures crash { Survives (state S.Store conn.old) (state S.Store conn.new) (λ _. ⊥) }
 {
@@ -83,6 +85,7 @@ pub fn draft_rows<S: Alter>(
         (content_now (state S.Store conn.old)).draft }
     ensures damaged { TellsNoFormer result (state S.Store conn.new)
         (content_now (state S.Store conn.old)).draft }
+    ensures open { TellsOpen result (state S.Store conn.new) }
     ensures kept { Keeps (state S.Store conn.old) (state S.Store conn.new) }
     ensures crash { Survives (state S.Store conn.old) (state S.Store conn.new) (λ _. ⊥) }
 {

@@ -178,6 +178,13 @@ today_version trees it (schema, listed, other) = not_other trees it schema liste
 pub today_rows : (trees : Trees) → AreToday trees → HasRowsAlone trees → ⊥
 today_rows trees it (schema, listed, alone) = not_alone trees it schema listed alone.0
 
+-- so it drops and makes no table there
+pub today_claimed : (trees : Trees) → AreToday trees → IsUnclaimed trees → ⊥
+today_claimed trees it (schema, listed, none) = not_alone trees it schema listed none.0
+
+pub today_whole : (trees : Trees) → AreToday trees → IsLacking trees → ⊥
+today_whole trees it = listed_whole trees it.sound.lists.listed
+
 -- no version is stored there
 pub unclaimed_whole : (trees : Trees) → IsUnclaimed trees → IsLacking trees → ⊥
 unclaimed_whole trees unclaimed lacks =

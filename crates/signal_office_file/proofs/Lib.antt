@@ -1,2 +1,4 @@
-pub mod MigratingLemmas
-mod FileLemmas
+pub mod FilesLemmas
+mod LeftLemmas
+mod MigratingLemmas
+mod InFileLemmas

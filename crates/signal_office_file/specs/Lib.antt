@@ -1,2 +1,6 @@
-pub mod File
+pub mod Told
+pub mod Files
+pub mod Left
+pub mod Serving
 pub mod Migrating
+pub mod InFile

@@ -1,101 +1,130 @@
--- The tables of version 1 in a file, and what becomes of them.
-use Rattle.std.specs.Prelude.{◌≡◌, ◌⊎◌, Result, Ok, Err, Some, IfOk, OnOk, OnErr, IsTrue}
-use Rattle.sqlite.specs.Files.{image_of, file_state, over_files}
+-- The tables of version 1 in files, and what becomes of them.
+use Rattle.std.specs.Prelude.{◌≡◌, ◌⊎◌, ℕ, ◌+◌, Result, Ok, Err, Some, IfOk, OnOk, OnErr, IsTrue}
+use Rattle.sqlite.specs.Files.{Finds, image_of, file_state, over_files}
 use Rattle.sqlite.specs.Held.{Held, state}
-use Rattle.sqlite.specs.Start.{FindsIn}
-use Rattle.sqlite.specs.declared.FileStore.{FileStore}
-use Rattle.sqlite_trees.specs.declared.store.Store.{Ghosts}
 use Rattle.sqlite.specs.Recovery.{Image}
 use Rattle.sqlite.specs.State.{State, HasCleanDisk}
 use Rattle.sqlite.specs.Tree.{Trees}
+use Rattle.sqlite.specs.WalReads.{AreClean}
+use Rattle.sqlite.specs.Closing.{HoldsAlone}
+use Rattle.sqlite.specs.declared.FileStore.{FileStore}
 use Rattle.sqlite_disk.specs.declared.Disk.{Ghosts as Disk}
 use Rattle.sqlite_disk.specs.declared.Files.{Files}
-use Rattle.sqlite.specs.WalFiles.{outcomes}
-use Rattle.sqlite.specs.WalReads.{AreClean}
+use Rattle.sqlite_trees.specs.declared.store.Store.{Ghosts}
 use Rattle.office_machine.specs.Office.{Office, version_1}
 use Rattle.office_tables_standing.specs.StandFor.{StandForSoundIn}
 use Rattle.office_tables.specs.Calls.{IsHonest}
 use Rattle.office_tables.specs.Stored.{content_of}
+use Rattle.office_tables.specs.Migrate.{HasDamagedFormer, HasUnknownVersion, IsBrought, MayBecome, TellsDamage, TellsVersion}
 use Rattle.office_tables_migration.specs.Migration.{StandAnew}
 use Rattle.office_tables_migration.specs.declared.puts.Migrated.{Migrated}
-use Rattle.office_tables.specs.Migrate.{HasDamagedFormer, HasUnknownVersion, IsBrought, MayBecome, TellsDamage, TellsVersion}
+use Rattle.office_tables_open.specs.Opening.{IsAsFound, IsCleanStore, store_left}
 use Rattle.office_tables_open.specs.Promises.{KeepsCommitted}
 use Rattle.office_tables_open.specs.declared.open.OpenFault.{OpenFault}
-use Rattle.office_tables_open.specs.declared.open.OpenFault.TheVariants as fault
-use Rattle.office_tables_open.specs.Version.{version_in, current_version, first_version}
-use Rattle.signal_office_file.specs.File.{AreThoseOf, StandInFiles}
+use Rattle.office_tables_open.specs.declared.open.OpenFault.TheVariants as why
+use Rattle.office_tables_open.specs.Version.{AreToday, version_in, first_version}
+use Rattle.signal_office_faults.specs.declared.fault.Fault.{Fault}
+use Rattle.signal_office_in_file.specs.declared.Ended.{Ended}
+use Rattle.signal_office_in_file.specs.declared.Ended.TheVariants.{Unopened, Refused, Closed, Unclosed}
+use Rattle.signal_office_file.specs.Files.{AreThoseOf, AreUsable, HoldToday, IsImageOf}
+use Rattle.signal_office_file.specs.Left.{IsOpenedIn, IsRefusedIn, IsUnclosed}
+use Rattle.signal_office_file.specs.Told.{told_of}
+use Rattle.signal_office_file.specs.declared.left.FileLeft.{FileLeft}
+use Rattle.signal_office_file.specs.declared.left.FileLeft.TheVariants as left
 
 -- version 1 is stored, and as it reads the tables they stand for the office, which is sound by its rules
 pub record StandFormerly (trees : Trees) (office : Office) : Type 0 where
   pub version : version_in trees ≡ Some first_version
   pub stand : StandForSoundIn version_1 (content_of trees) office
 
--- today's version is stored, and the tables stand for the office as they are spelled today
+-- the tables are today's, and stand for the office as they are spelled today
 pub record StandToday (trees : Trees) (office : Office) : Type 0 where
-  pub version : version_in trees ≡ Some current_version
+  pub today : AreToday trees
   pub stand : StandAnew (content_of trees) office
 
--- the same of the tables in the files
+-- the tables in the files stood formerly for the office
 abbrev pub StandFormerlyInFiles : Image → Office → Type 0
 StandFormerlyInFiles image office = (trees : Trees) → AreThoseOf image trees → StandFormerly trees office
 
-abbrev pub StandTodayInFiles : Image → Office → Type 0
-StandTodayInFiles image office = (trees : Trees) → AreThoseOf image trees → StandToday trees office
+-- a stop leaves tables as they were, or migrated
+abbrev pub LeavesEither : Trees → (Trees → Type 0) → Type 0
+LeavesEither was may_leave = (trees : Trees) → may_leave trees → (trees ≡ was) ⊎ MayBecome was trees
 
--- the two files as they read now, or after a stop
-abbrev pub IsImageOf : {D : Type 0} → Disk D → Files D → Image → Type 0
-IsImageOf g files image = (image ≡ image_of g files) ⊎ outcomes g files.log files.db image
-
--- the tables stand for the office as they did, or as today
-abbrev pub StandEither : Trees → Office → Type 0
-StandEither trees office = StandFormerly trees office ⊎ StandToday trees office
-
--- where a call succeeds, tables that stood formerly stand today
-abbrev pub BringsToday : {A E : Type 0} → Result A E → State → State → Type 0
-BringsToday result old new = IsHonest new → OnOk result ((office : Office) → StandFormerly old.committed.trees office → StandToday new.committed.trees office)
-
--- a stop leaves either, also where a failure has shut the database
-abbrev pub LeavesEither : State → State → Type 0
-LeavesEither old new = HasCleanDisk new → IsTrue old.is_open → (office : Office) → StandFormerly old.committed.trees office → (trees : Trees) → new.may_leave trees → StandEither trees office
-
--- What `SqlShelf::migrate` says of a call, with what it leaves committed. A stop leaves what was committed, or what becomes of it.
-pub record Migrates {S : Type 0} (g : Ghosts S) (result : Result Migrated OpenFault) (old new : Held S) : Type 0 where
-  pub brought : IsHonest (state g new) → IfOk result (IsBrought (state g old).committed.trees (state g new).committed.trees)
-  pub version : TellsVersion g result old new
-  pub damaged : TellsDamage result (state g old) (state g new)
-  pub unchanged : KeepsCommitted result (state g old) (state g new)
-  pub crash : HasCleanDisk (state g new) → IsTrue (state g old).is_open → (trees : Trees) → (state g new).may_leave trees → (trees ≡ (state g old).committed.trees) ⊎ MayBecome (state g old).committed.trees trees
-
--- the same of a connection that found its tables in files
-pub record MigratesFiles {D : Type 0} {g : Disk D} (image : Image) (outcome : Result Migrated OpenFault) (conn : Held (FileStore D g)) : Type 0 where
-  pub found : Held (FileStore D g)
-  pub finds : HasCleanDisk (file_state conn) → FindsIn image (file_state found) × IsTrue (file_state found).is_open
-  pub migrates : Migrates over_files outcome found conn
+-- What `SqlShelf::migrate` says of a database, with what it leaves committed, on a clean disk alone. A stop leaves what was committed, or what becomes of it.
+pub record Migrates {S : Type 0} (g : Ghosts S) (outcome : Result Migrated OpenFault) (old new : Held S) : Type 0 where
+  pub brought : HasCleanDisk (state g new) → IfOk outcome (IsBrought (state g old).committed.trees (state g new).committed.trees)
+  pub is_open : HasCleanDisk (state g new) → OnOk outcome (IsTrue (state g new).is_open)
+  pub version : TellsVersion g outcome old new
+  pub damaged : TellsDamage outcome (state g old) (state g new)
+  pub unchanged : KeepsCommitted outcome (state g old) (state g new)
+  pub crash : HasCleanDisk (state g new) → IsTrue (state g old).is_open → LeavesEither (state g old).committed.trees (state g new).may_leave
 
 -- what became of tables, or they are as they were where that was refused
 abbrev pub AreMigrated : Trees → Trees → Result Migrated OpenFault → Type 0
 AreMigrated was trees (Ok count) = IsBrought was trees count
-AreMigrated was trees (Err why) = trees ≡ was
+AreMigrated was trees (Err cause) = trees ≡ was
 
--- closed files hold what became of the tables that were found, or those tables
-abbrev pub HoldMigrated : {D : Type 0} → Image → Disk D → Files D → Result Migrated OpenFault → Type 0
-HoldMigrated image g files outcome = AreClean g files.log files.db → (was : Trees) × AreThoseOf image was × ((left : Image) → IsImageOf g files left → (trees : Trees) → AreThoseOf left trees → AreMigrated was trees outcome)
+-- the fault of a migration, or what it counted
+abbrev pub told_of_outcome : Result Migrated OpenFault → Result Migrated Fault
+told_of_outcome (Ok count) = Ok count
+told_of_outcome (Err cause) = Err (told_of cause)
 
--- when Version is told, and when Damaged
-pub record TellsOfFiles {D : Type 0} (image : Image) (g : Disk D) (files : Files D) (outcome : Result Migrated OpenFault) : Type 0 where
-  pub version : AreClean g files.log files.db → outcome ≡ Err fault.Version → (conn : Held (FileStore D g)) × FindsIn image (file_state conn) × HasUnknownVersion over_files conn
-  pub damaged : AreClean g files.log files.db → outcome ≡ Err fault.Damaged → (was : Trees) × AreThoseOf image was × HasDamagedFormer was
+-- the same where the files could not be closed
+abbrev pub told_unclosed : Fault → Result Migrated OpenFault → Fault
+told_unclosed closing (Ok count) = closing
+told_unclosed closing (Err cause) = told_of cause
 
--- tables of an office that were found in files
-abbrev pub BringsFilesToday : {A E : Type 0} → Image → Result A E → State → Type 0
-BringsFilesToday image outcome s = IsHonest s → OnOk outcome ((before : Office) → StandFormerlyInFiles image before → StandToday s.committed.trees before)
+module _ {D : Type 0} (g : Disk D) where
+  -- Version and Damaged are told of what the files held.
+  pub record TellsOfFiles (files : Files D) (outcome : Result Migrated OpenFault) : Type 0 where
+    pub version : outcome ≡ Err why.Version → (conn : Held (FileStore D g)) × HasCleanDisk (file_state conn) × IsOpenedIn {g = g} files conn × HasUnknownVersion over_files conn
+    pub damaged : outcome ≡ Err why.Damaged → (was : Trees) × AreThoseOf (image_of g files) was × HasDamagedFormer was
 
-abbrev pub KeepsFiles : {A E : Type 0} → Image → Result A E → State → Type 0
-KeepsFiles image outcome s = IsHonest s → OnErr outcome (AreThoseOf image s.committed.trees)
+  -- The files are closed, and hold what became of the tables that were found in them, as they read now and after a stop; or those tables, where the migration
+  -- was refused.
+  pub record ClosedMigrated (files : Files D) (outcome : Result Migrated OpenFault) (back : Files D) : Type 0 where
+    pub was : Trees
+    pub those : AreThoseOf (image_of g files) was
+    pub trees : Trees
+    pub alone : (image : Image) → IsImageOf g back image → HoldsAlone image trees
+    pub migrated : AreMigrated was trees outcome
+    pub told : TellsOfFiles files outcome
 
-abbrev pub LeavesEitherOfFiles : Image → State → Type 0
-LeavesEitherOfFiles image s = HasCleanDisk s → (before : Office) → StandFormerlyInFiles image before → (trees : Trees) → s.may_leave trees → StandEither trees before
+module _ {D : Type 0} {g : Disk D} where
+  -- the same of a connection that found its tables in files
+  pub record MigratesIn (files : Files D) (outcome : Result Migrated OpenFault) (conn : Held (FileStore D g)) : Type 0 where
+    pub found : Held (FileStore D g)
+    pub finds : IsOpenedIn files found
+    pub clean : HasCleanDisk (file_state conn) → HasCleanDisk (file_state found)
+    pub migrates : Migrates over_files outcome found conn
 
--- the tables stand today in the two files as they read now and after a stop, and so does the office
-abbrev pub StandTodayInBoth : {D A E : Type 0} → Image → Disk D → Files D → Result A E → Type 0
-StandTodayInBoth image g files outcome = AreClean g files.log files.db → OnOk outcome ((before : Office) → StandFormerlyInFiles image before → (left : Image) → IsImageOf g files left → StandTodayInFiles left before × StandInFiles left before)
+  -- They could not be closed. A fault from before comes first.
+  pub record FailedToClose (files : Files D) (told : Fault) (back : FileLeft D g) : Type 0 where
+    pub outcome : Result Migrated OpenFault
+    pub conn : Held (FileStore D g)
+    pub migrates : MigratesIn files outcome conn
+    pub closing : Fault
+    pub unclosed : IsUnclosed conn closing back
+    pub told_is : told ≡ told_unclosed closing outcome
+
+  -- They are closed, and hold what became of their tables.
+  abbrev pub IsClosedMigrated : Files D → Result Migrated Fault → FileLeft D g → Type 0
+  IsClosedMigrated files told (left.Closed back) = (outcome : Result Migrated OpenFault) × (told ≡ told_of_outcome outcome) × AreUsable g back × (AreClean g back.log back.db → ClosedMigrated g files outcome back)
+  IsClosedMigrated files told _ = ⊥
+
+  -- how a migration of files ended
+  abbrev pub EndsMigration : Files D → Ended (Result Migrated Fault) (FileLeft D g) → Type 0
+  EndsMigration files (Unopened told) = ⊥
+  EndsMigration files (Refused told back) = IsRefusedIn files told back
+  EndsMigration files (Closed told back) = IsClosedMigrated files told back
+  EndsMigration files (Unclosed told back) = FailedToClose files told back
+
+  -- So tables that stood formerly for an office stand for it today.
+  abbrev pub StandAnewIn : Files D → FileLeft D g → Type 0
+  StandAnewIn files (left.Closed back) =
+      AreClean g back.log back.db → (before : Office) → StandFormerlyInFiles (image_of g files) before → (trees : Trees) × HoldToday g back trees × StandAnew (content_of trees) before
+  StandAnewIn files _ = ⊥
+
+  abbrev pub BringsToday : Files D → Ended (Result Migrated Fault) (FileLeft D g) → Type 0
+  BringsToday files (Closed (Ok count) back) = StandAnewIn files back
+  BringsToday files _ = Unit {0}

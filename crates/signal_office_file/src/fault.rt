@@ -1,6 +1,7 @@
 //! How a file that the database or its tables refused is told.
 
-ghost use Rattle.std.specs.Prelude.{◌≡◌, ◌≢◌, ◌↔◌};
+ghost use Rattle.std.specs.Prelude.{◌≡◌};
+ghost use Rattle.signal_office_file.specs.Told.{told_of_error, told_of};
 
 use office_tables::open::OpenFault;
 use signal_office_faults::Fault;
@@ -8,7 +9,7 @@ use sqlite::{Error, ErrorCode};
 
 /// The fault that is told of an error of the database.
 pub(crate) fn fault_of_database(error: Error) -> Fault
-    ensures { (result ≢ Fault.Version) × (result ≢ Fault.Damaged) }
+    ensures { result ≡ told_of_error error }
 {
     match error {
         Error::SqliteFailure(ErrorCode::OutOfMemory) => Fault::Memory,
@@ -18,8 +19,7 @@ pub(crate) fn fault_of_database(error: Error) -> Fault
 
 /// The fault that is told of tables that were refused.
 pub(crate) fn fault_of_opening(fault: OpenFault) -> Fault
-    ensures { ((result ≡ Fault.Version) ↔ (fault ≡ OpenFault.Version))
-        × ((result ≡ Fault.Damaged) ↔ (fault ≡ OpenFault.Damaged)) }
+    ensures { result ≡ told_of fault }
 {
     match fault {
         OpenFault::Version => Fault::Version,

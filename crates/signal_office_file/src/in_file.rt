@@ -1,36 +1,162 @@
 //! The office of a file, for the jobs of the program: opened, used and closed again.
 
-use crate::fault::fault_of_opening;
-use crate::file::{close_office, opened_file, serve_file};
+ghost use Rattle.std.specs.Prelude.{◌≡◌};
+ghost use Rattle.office_http_framing.specs.Serve.{ends_of};
+ghost use Rattle.signal_office_in_file.specs.Ended.{Answers, EndsOver, IsCounted};
+ghost use Rattle.signal_office_file.specs.InFile.{IsMigrated, IsRefusedFor, files_view};
+ghost use Rattle.signal_office_file.specs.InFile.{rows_counted};
+ghost use Rattle.signal_office_file.specs.Left.{IsCleanFile};
+
+use crate::closing::close_office;
+use crate::left::FileLeft;
 use crate::migrating::migrate_file;
-use office_http::{Served, Sink, Source};
+use crate::opening::open_file;
+use crate::paths::files_at;
+use crate::serving::serve_file;
+use office_http::{ServeFault, Served, Sink, Source};
+use office_tables::Migrated;
 use signal_office_faults::Fault;
-use signal_office_in_file::{OfficeInFile, OfficeTask};
-use sqlite::Wary;
+use signal_office_in_file::{Ended, OfficeInFile, OfficeTask};
+use sqlite::{FileFrom, Options, Start, Wary};
+use sqlite_disk::{Disk, Files};
 use std::alloc::Global;
+use std::marker::PhantomData;
 
-/// The tables of a database in a file.
-pub struct TablesInFile;
+/// The first of two faults: that of the work, or else that of closing.
+fn first_fault<T: Drop, E>(done: Result<T, E>, closing: Fault) -> Fault
+where
+    Fault: From<E>,
+{
+    match done {
+        Ok(_) => closing,
+        Err(fault) => Fault::from(fault),
+    }
+}
 
-impl OfficeInFile for TablesInFile {
+/// Does a task over the tables in the two files, and closes them.
+fn done_in<D: Disk + Drop, Done: Drop, T: OfficeTask<Done>, W: Sink>(
+    rt: &HostRuntime,
+    alloc: Global,
+    files: Files<D>,
+    options: Options,
+    task: &T,
+    out: &mut W,
+) -> Ended<Result<Done, Fault>, FileLeft<D>>
+    ensures { EndsOver (files_view D.Disk files)
+        (λ old done new. T.does task.now old done new (W.told out.old) (W.told out.new))
+        (out.new ≡ out.old) result }
+{
+    let office = match open_file(alloc, files, options) {
+        Ok(office) => office,
+        Err((fault, left)) => return Ended::Refused(fault, left),
+    };
+    let (office, done) = task.done_with(rt, alloc, office, out);
+    match close_office(office) {
+        Ok(files) => Ended::Closed(done, FileLeft::Closed(files)),
+        Err((fault, left)) => Ended::Unclosed(first_fault(done, fault), left),
+    }
+}
+
+/// Answers the requests of the source over the tables in the two files, and closes them. What was
+/// answered stands in the files before that.
+fn answered_in<D: Disk + Drop, R: Source, W: Sink>(
+    alloc: Global,
+    files: Files<D>,
+    options: Options,
+    source: &mut R,
+    out: &mut W,
+    max_requests: u32,
+) -> Ended<Result<Served, ServeFault>, FileLeft<D>>
+    ensures { EndsOver (files_view D.Disk files)
+        (Answers max_requests (ends_of (R.told source.old) (W.told out.old))
+        (ends_of (R.told source.new) (W.told out.new)))
+        ((source.new ≡ source.old) × (out.new ≡ out.old)) result }
+{
+    let (office, served) = match serve_file(alloc, files, options, source, out, max_requests) {
+        Ok(served) => served,
+        Err((fault, left)) => return Ended::Refused(fault, left),
+    };
+    match close_office(office) {
+        Ok(files) => Ended::Closed(served, FileLeft::Closed(files)),
+        Err((fault, left)) => Ended::Unclosed(first_fault(served, fault), left),
+    }
+}
+
+/// How many rows were written anew.
+fn rows_of(outcome: Result<Migrated, Fault>) -> Result<u128, Fault>
+    ensures { result ≡ rows_counted outcome }
+{
+    match outcome {
+        Ok(migrated) => Ok(migrated.timing as u128 + migrated.draft as u128),
+        Err(fault) => Err(fault),
+    }
+}
+
+/// Brings the tables in the two files to today's version, and closes them.
+fn migrated_in<D: Disk + Drop>(
+    alloc: Global,
+    files: Files<D>,
+    options: Options,
+) -> Ended<Result<u128, Fault>, FileLeft<D>>
+    ensures { IsCounted IsCleanFile (λ left rows. IsMigrated files left rows)
+        (λ left why. IsRefusedFor files why left) result }
+{
+    match migrate_file(alloc, files, options) {
+        Ended::Unopened(fault) => Ended::Unopened(fault),
+        Ended::Refused(fault, left) => Ended::Refused(fault, left),
+        Ended::Closed(outcome, left) => Ended::Closed(rows_of(outcome), left),
+        Ended::Unclosed(fault, left) => Ended::Unclosed(fault, left),
+    }
+}
+
+/// What a file held as it was opened, of which a value can be had.
+pub trait Begin: Start {
+    fn begin() -> Self;
+}
+
+impl Begin for Wary {
+    fn begin() -> Wary {
+        Wary
+    }
+}
+
+/// The tables of a database in a file, of which `S` stands for what it held. No clause ties that to
+/// the path.
+pub struct TablesInFile<S> {
+    start: PhantomData<S>,
+}
+
+impl<S: Begin> OfficeInFile for TablesInFile<S> {
+    ghost use Rattle.sqlite.specs.WalFiles.{image_at};
+    ghost use Rattle.signal_office_file.specs.Files.{HoldIn};
+    ghost use Rattle.signal_office_file.specs.InFile.{IsKept, IsMigratedAt, IsRefusedAt};
+    ghost use Rattle.signal_office_file.specs.Left.{IsCleanFile};
+
+    type Left = FileLeft<FileFrom<S>>;
+
+    ghost held = { λ tables. HoldIn (image_at S.Start) tables };
+
+    ghost is_clean = { λ left. IsCleanFile left };
+
+    ghost keeps = { λ left tables. IsKept left tables };
+
+    ghost refused = { λ left why. IsRefusedAt (image_at S.Start) left why };
+
+    ghost migrated = { λ left rows. IsMigratedAt (image_at S.Start) left rows };
+
     fn do_task<Done: Drop, T: OfficeTask<Done>, W: Sink>(
         rt: &HostRuntime,
         alloc: Global,
         path: &str,
         task: &T,
         out: &mut W,
-    ) -> Result<Done, Fault> {
-        match opened_file(rt, alloc, path, Wary) {
-            Ok(office) => {
-                let (office, outcome) = task.done_with(rt, alloc, office, out);
-                close_office(office, outcome)
-            }
-            Err(fault) => Err(fault),
+    ) -> Ended<Result<Done, Fault>, FileLeft<FileFrom<S>>> {
+        match files_at(rt, path, S::begin()) {
+            Ok((files, options)) => done_in(rt, alloc, files, options, task, out),
+            Err(fault) => Ended::Unopened(fault),
         }
     }
 
-    // The file is closed, so that its log is copied into it. What was answered stands in the two
-    // files before that.
     fn answer<R: Source, W: Sink>(
         rt: &HostRuntime,
         alloc: Global,
@@ -38,18 +164,23 @@ impl OfficeInFile for TablesInFile {
         source: &mut R,
         out: &mut W,
         max_requests: u32,
-    ) -> Result<Served, Fault> {
-        match serve_file(rt, alloc, path, Wary, source, out, max_requests) {
-            Ok((office, outcome)) => close_office(office, outcome),
-            Err(fault) => Err(fault),
+    ) -> Ended<Result<Served, ServeFault>, FileLeft<FileFrom<S>>> {
+        match files_at(rt, path, S::begin()) {
+            Ok((files, options)) => {
+                answered_in(alloc, files, options, source, out, max_requests)
+            }
+            Err(fault) => Ended::Unopened(fault),
         }
     }
 
-    fn migrate(rt: &HostRuntime, alloc: Global, path: &str) -> Result<u128, Fault> {
-        let (_, outcome) = migrate_file(rt, alloc, path, Wary)?;
-        match outcome {
-            Ok(migrated) => Ok(migrated.timing as u128 + migrated.draft as u128),
-            Err(fault) => Err(fault_of_opening(fault)),
+    fn migrate(
+        rt: &HostRuntime,
+        alloc: Global,
+        path: &str,
+    ) -> Ended<Result<u128, Fault>, FileLeft<FileFrom<S>>> {
+        match files_at(rt, path, S::begin()) {
+            Ok((files, options)) => migrated_in(alloc, files, options),
+            Err(fault) => Ended::Unopened(fault),
         }
     }
 }

@@ -1,13 +1,22 @@
 //! The office over the tables of a file, opened, served and closed; and files of an older version,
-//! brought to today's.
+//! brought to today's. Each call takes the two files and gives back what is left of them.
 #![tactic(auto)]
 
+mod closing;
 mod fault;
-mod file;
 mod in_file;
+mod left;
 mod migrating;
+mod opening;
+mod paths;
+mod serving;
 mod streaming;
 
-pub use file::{FileOffice, close_office, opened_file, serve_file};
-pub use in_file::TablesInFile;
-pub use migrating::{FileConnection, migrate_file, open_and_migrate};
+pub use closing::close_office;
+pub use in_file::{Begin, TablesInFile};
+pub use left::{FileLeft, Refused};
+pub use migrating::migrate_file;
+pub use opening::{FileOffice, open_file};
+pub use paths::files_at;
+pub use serving::{ServedOffice, serve_file};
+pub use sqlite::Wary;

@@ -1,42 +1,32 @@
 //! The tables of a file of an older version, brought to today's version.
 
-ghost use Rattle.std.specs.Prelude.{IfOk};
-ghost use Rattle.sqlite.specs.Files.{file_state};
+ghost use Rattle.std.specs.Prelude.{◌≡◌, IfOk, IfErr};
+ghost use Rattle.signal_office_file.specs.Migrating.{told_of_outcome, told_unclosed};
 ghost use Rattle.sqlite.specs.Held.{state};
 ghost use Rattle.sqlite.specs.State.{HasCleanDisk};
-ghost use Rattle.sqlite.specs.WalFiles.{image_at};
 ghost use Rattle.office_tables_open.specs.Promises.{IsArrangedIfClean};
-ghost use Rattle.signal_office_file.specs.Migrating.{BringsToday, LeavesEither, Migrates};
-ghost use Rattle.signal_office_file.specs.Migrating.{BringsFilesToday, KeepsFiles};
-ghost use Rattle.signal_office_file.specs.Migrating.{LeavesEitherOfFiles, MigratesFiles};
-ghost use Rattle.signal_office_file.specs.Migrating.{HoldMigrated, StandTodayInBoth};
-ghost use Rattle.signal_office_file.specs.Migrating.{TellsOfFiles};
+ghost use Rattle.signal_office_file.specs.Left.{IsUnopened};
+ghost use Rattle.signal_office_file.specs.Migrating.{BringsToday, EndsMigration};
+ghost use Rattle.signal_office_file.specs.Migrating.{Migrates, MigratesIn};
 
-use crate::fault::{fault_of_database, fault_of_opening};
-use crate::file::{close_files, unopened};
+use crate::closing::close_file;
+use crate::fault::fault_of_opening;
+use crate::left::FileLeft;
+use crate::opening::database_in;
 use office_tables::Migrated;
 use office_tables::open::OpenFault;
 use office_tables::sql_shelf::SqlShelf;
-use signal_office_faults::{Fault, is_missing};
-use sqlite::{Alter, Connection, Error, FileFrom, FileStore, Start};
+use signal_office_faults::Fault;
+use signal_office_in_file::Ended;
+use sqlite::{Alter, Connection, FileStore, Leftover, Options};
 use sqlite_disk::{Disk, Files};
 use std::alloc::Global;
 
-/// The database in files, of which `S` says what they held.
-pub type FileConnection<S> = Connection<FileStore<FileFrom<S>>>;
+/// A database whose migration was tried, and what came of it.
+type Tried<D> = (Connection<FileStore<D>>, Result<Migrated, OpenFault>);
 
-/// Brings the tables of a database to today's version, with what is told of its last commit.
-fn migrate_tables<S: Alter>(alloc: Global, conn: &mut Connection<S>) -> Result<Migrated, OpenFault>
-    requires { IsArrangedIfClean (state S.Store conn.old) }
-    ensures migrated { Migrates S.Store result conn.old conn.new }
-    ensures clean { HasCleanDisk (state S.Store conn.new) → HasCleanDisk (state S.Store conn.old) }
-    ensures stand { BringsToday result (state S.Store conn.old) (state S.Store conn.new) }
-    ensures crash { LeavesEither (state S.Store conn.old) (state S.Store conn.new) }
-{
-    SqlShelf::migrate(alloc, conn)
-}
-
-/// As `migrate_tables`, and gives the database back.
+/// Brings the tables of a database to today's version, and gives it back, with what is told of its
+/// last commit.
 fn migrated<S: Alter>(
     alloc: Global,
     mut conn: Connection<S>,
@@ -44,78 +34,69 @@ fn migrated<S: Alter>(
     requires { IsArrangedIfClean (state S.Store conn) }
     ensures migrated { Migrates S.Store result.1 conn result.0 }
     ensures clean { HasCleanDisk (state S.Store result.0) → HasCleanDisk (state S.Store conn) }
-    ensures stand { BringsToday result.1 (state S.Store conn) (state S.Store result.0) }
-    ensures crash { LeavesEither (state S.Store conn) (state S.Store result.0) }
 {
-    let outcome = migrate_tables(alloc, &mut conn);
+    let outcome = SqlShelf::migrate(alloc, &mut conn);
     (conn, outcome)
 }
 
-/// Opens a file and brings its tables to today's version, which may be refused, and gives the
-/// database back. A file that is not there is not made, and an empty one stays so: they have no
-/// version. No clause ties the files to the path.
-pub fn open_and_migrate<S: Start>(
-    rt: &HostRuntime,
+/// Opens the database in the two files and brings its tables to today's version, which may be
+/// refused, and gives the database back.
+fn open_and_migrate<D: Disk + Drop>(
     alloc: Global,
-    path: &str,
-    start: S,
-) -> Result<(FileConnection<S>, Result<Migrated, OpenFault>), Fault>
+    files: Files<D>,
+    options: Options,
+) -> Result<Tried<D>, (Fault, Leftover<D>)>
     // What `SqlShelf::migrate` says, of a connection that found its tables in the files: the
     // counts, when Version and Damaged are told, and what a stop leaves.
-    ensures migrated { IfOk result (λ done.
-        MigratesFiles (image_at S.Start) done.1 done.0) }
-    // Where the files held version 1 of the tables of a sound office, the tables are those of that
-    // office today.
-    ensures stand { IfOk result (λ done.
-        BringsFilesToday (image_at S.Start) done.1 (file_state done.0)) }
-    ensures unchanged { IfOk result (λ done.
-        KeepsFiles (image_at S.Start) done.1 (file_state done.0)) }
-    // A stop leaves the tables as they were, or migrated, also where a failure has shut the
-    // database.
-    ensures crash { IfOk result (λ done.
-        LeavesEitherOfFiles (image_at S.Start) (file_state done.0)) }
+    ensures migrated { IfOk result (λ tried. MigratesIn files tried.1 tried.0) }
+    ensures unopened { IfErr result (λ e. IsUnopened files e.0 e.1) }
 {
-    if is_missing(rt, alloc, path)? {
-        return Err(Fault::Version);
-    }
-    match Connection::open_from(rt, path, false, start) {
+    match database_in(alloc, files, options) {
         Ok(conn) => Ok(migrated(alloc, conn)),
-        Err(refused) => Err(unopened(refused)),
+        Err(refused) => Err(refused),
     }
 }
 
-/// Brings the tables of a file to today's version, which may be refused, and closes it, so that its
-/// log is copied into it.
-pub fn migrate_file<S: Start>(
-    rt: &HostRuntime,
+/// Brings the tables in the two files to today's version, which may be refused, and closes them, so
+/// that the log is copied. What is left of the files comes back with what came of it.
+pub fn migrate_file<D: Disk + Drop>(
     alloc: Global,
-    path: &str,
-    start: S,
-) -> Result<(Files<FileFrom<S>>, Result<Migrated, OpenFault>), Fault>
-    // As the files read now and after a stop, they hold the tables that were found as they are
-    // today, with the count of what was written anew, or, where that was refused, those tables.
-    ensures migrated { IfOk result (λ done.
-        HoldMigrated (image_at S.Start) ⟦<FileFrom<S> as Disk>⟧ done.0 done.1) }
-    // Version and Damaged are told as `SqlShelf::migrate` tells them.
-    ensures told { IfOk result (λ done.
-        TellsOfFiles (image_at S.Start) ⟦<FileFrom<S> as Disk>⟧ done.0 done.1) }
-    // Where the files held version 1 of the tables of a sound office, its tables stand in them
-    // today, as the files read now and after a stop: so the headline of `serve_file` holds of a run
-    // over them.
-    ensures stand { IfOk result (λ done.
-        StandTodayInBoth (image_at S.Start) ⟦<FileFrom<S> as Disk>⟧ done.0 done.1) }
+    files: Files<D>,
+    options: Options,
+) -> Ended<Result<Migrated, Fault>, FileLeft<D>>
+    // Closed, they hold what became of their tables, with the count of what was written anew, or,
+    // where that was refused, their tables; else a stop leaves either.
+    ensures ends { EndsMigration files result }
+    // Done, the tables of an office of version 1 are its tables today: so the headline of
+    // `serve_file` holds of a run over the files that came back.
+    ensures today { BringsToday files result }
 {
-    let (conn, outcome) = open_and_migrate(rt, alloc, path, start)?;
-    match close_files(conn) {
-        Ok(files) => Ok((files, outcome)),
-        Err(error) => Err(unclosed(error, outcome)),
+    let (conn, outcome) = match open_and_migrate(alloc, files, options) {
+        Ok(tried) => tried,
+        Err((fault, left)) => return Ended::Refused(fault, FileLeft::Unopened(left)),
+    };
+    match close_file(conn) {
+        Ok(files) => Ended::Closed(told_of(outcome), FileLeft::Closed(files)),
+        Err((fault, left)) => Ended::Unclosed(unclosed(fault, outcome), left),
+    }
+}
+
+/// What came of a migration whose files were closed.
+fn told_of(outcome: Result<Migrated, OpenFault>) -> Result<Migrated, Fault>
+    ensures { result ≡ told_of_outcome outcome }
+{
+    match outcome {
+        Ok(migrated) => Ok(migrated),
+        Err(fault) => Err(fault_of_opening(fault)),
     }
 }
 
 /// Why a migrated file was not closed. A fault from before comes first.
-fn unclosed(error: Error, outcome: Result<Migrated, OpenFault>) -> Fault {
+fn unclosed(closing: Fault, outcome: Result<Migrated, OpenFault>) -> Fault
+    ensures { result ≡ told_unclosed closing outcome }
+{
     match outcome {
-        Ok(_) => fault_of_database(error),
+        Ok(_) => closing,
         Err(fault) => fault_of_opening(fault),
     }
 }

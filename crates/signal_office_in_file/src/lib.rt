@@ -2,15 +2,54 @@
 //! what the tables of a file give. Neither side knows the other.
 #![tactic(auto)]
 
+ghost use Rattle.std.specs.Prelude.{◌≡◌};
+ghost use Rattle.signal_office_in_file.specs.Ended.{told_by};
+
 use office_desk::office::Office;
 use office_http_framing::ends::{Sink, Source};
-use office_http_framing::engine::Served;
+use office_http_framing::engine::{ServeFault, Served};
 use office_tables_shelf::shelf::Shelf;
 use signal_office_faults::Fault;
 use std::alloc::Global;
 
+/// How work over the tables of a file ended. What is left of the file comes with it.
+#[derive(Drop)]
+pub enum Ended<T, L> {
+    /// The system did not open the file.
+    Unopened(Fault),
+    /// The file was refused, and nothing was done.
+    Refused(Fault, L),
+    /// The work was done, and the file closed.
+    Closed(T, L),
+    /// The file could not be closed. A fault of the work comes first.
+    Unclosed(Fault, L),
+}
+
+impl<T, L: Drop> Ended<T, L> {
+    /// What came of the work, where the file was closed after it, or why not. What is left of the
+    /// file is let go.
+    pub fn told(self) -> Result<T, Fault>
+        ensures { result ≡ told_by self }
+    {
+        match self {
+            Ended::Unopened(fault) => Err(fault),
+            Ended::Refused(fault, _left) => Err(fault),
+            Ended::Closed(done, _left) => Ok(done),
+            Ended::Unclosed(fault, _left) => Err(fault),
+        }
+    }
+}
+
 /// What an office over any tables does, and gives.
 pub trait OfficeTask<Done> {
+    ghost use Rattle.std.specs.Prelude.{Result};
+    ghost use Rattle.office_http_framing.specs.Ends.{Told};
+    ghost use Rattle.office_tables_shelf.specs.Content.{Content};
+    ghost use Rattle.signal_office_faults.specs.declared.fault.Fault.{Fault};
+
+    // What it makes of the tables, what it gives, and what its output took.
+    ghost does: { Self → Content → Result Done Fault → Content → Told → Told → Type 0 };
+
     /// Does it by an office, which is given back.
     fn done_with<S: Shelf, W: Sink>(
         &self,
@@ -18,11 +57,38 @@ pub trait OfficeTask<Done> {
         alloc: Global,
         office: Office<S>,
         out: &mut W,
-    ) -> (Office<S>, Result<Done, Fault>);
+    ) -> (Office<S>, Result<Done, Fault>)
+        ensures honest { S.is_honest result.0 → S.is_honest office }
+        ensures does { S.is_honest result.0 → does self.now (S.content office) result.1
+            (S.content result.0) (W.told out.old) (W.told out.new) };
 }
 
 /// How the office of a file is opened, used and closed again. The jobs know no database.
 pub trait OfficeInFile {
+    ghost use Rattle.std.specs.Prelude.{◌≡◌, ℕ};
+    ghost use Rattle.office_http_framing.specs.Serve.{ends_of};
+    ghost use Rattle.office_tables_shelf.specs.Content.{Content};
+    ghost use Rattle.signal_office_faults.specs.declared.fault.Fault.{Fault};
+    ghost use Rattle.signal_office_in_file.specs.Ended.{Answers, EndsOver, IsCounted, file_view};
+
+    /// What is left of the file.
+    type Left: Drop;
+
+    // The file held these tables as it was opened.
+    ghost held: { Content → Type 0 };
+
+    // The disk has returned what was written to it.
+    ghost is_clean: { Self.Left → Type 0 };
+
+    // It holds these tables, closed, as the next opening finds them.
+    ghost keeps: { Self.Left → Content → Type 0 };
+
+    // It was refused with this fault, and is left as it was.
+    ghost refused: { Self.Left → Fault → Type 0 };
+
+    // It is closed, and holds what became of its tables: so many rows were written anew.
+    ghost migrated: { Self.Left → ℕ → Type 0 };
+
     /// Does a task over the tables of a file, which are made where there are none.
     fn do_task<Done: Drop, T: OfficeTask<Done>, W: Sink>(
         rt: &HostRuntime,
@@ -30,7 +96,10 @@ pub trait OfficeInFile {
         path: &str,
         task: &T,
         out: &mut W,
-    ) -> Result<Done, Fault>;
+    ) -> Ended<Result<Done, Fault>, Self::Left>
+        ensures { EndsOver (file_view held is_clean keeps refused)
+            (λ old done new. T.does task.now old done new (W.told out.old) (W.told out.new))
+            (out.new ≡ out.old) result };
 
     /// Answers the requests of the source over the tables of a file.
     fn answer<R: Source, W: Sink>(
@@ -40,8 +109,17 @@ pub trait OfficeInFile {
         source: &mut R,
         out: &mut W,
         max_requests: u32,
-    ) -> Result<Served, Fault>;
+    ) -> Ended<Result<Served, ServeFault>, Self::Left>
+        ensures { EndsOver (file_view held is_clean keeps refused)
+            (Answers max_requests (ends_of (R.told source.old) (W.told out.old))
+            (ends_of (R.told source.new) (W.told out.new)))
+            ((source.new ≡ source.old) × (out.new ≡ out.old)) result };
 
     /// Brings the tables of a file to today's version, and gives how many rows were written anew.
-    fn migrate(rt: &HostRuntime, alloc: Global, path: &str) -> Result<u128, Fault>;
+    fn migrate(
+        rt: &HostRuntime,
+        alloc: Global,
+        path: &str,
+    ) -> Ended<Result<u128, Fault>, Self::Left>
+        ensures { IsCounted is_clean migrated refused result };
 }

@@ -34,7 +34,7 @@ fn batch<F: OfficeInFile, R: Source, W: Sink>(
 ) -> Result<u8, Fault> {
     match db {
         None => serve_new_office(alloc, source, out, BATCH_LIMIT)?,
-        Some(path) => F::answer(rt, alloc, path, source, out, BATCH_LIMIT)?,
+        Some(path) => F::answer(rt, alloc, path, source, out, BATCH_LIMIT).told()??,
     };
     Ok(0)
 }
@@ -76,7 +76,7 @@ fn in_file<F: OfficeInFile, W: Sink>(
     if !task.makes_file() && is_missing(rt, alloc, path)? {
         return Err(Fault::File);
     }
-    let done = F::do_task::<Done, Task<'_>, W>(rt, alloc, path, task, out)?;
+    let done = F::do_task::<Done, Task<'_>, W>(rt, alloc, path, task, out).told()??;
     done.print(out)
 }
 
@@ -141,14 +141,18 @@ fn add<F: OfficeInFile, W: Sink>(
     in_file::<F, W>(rt, alloc, db, &task, out)
 }
 
-/// Brings the tables of a file to today's version, and prints how many rows were written anew.
+/// Brings the tables of a file to today's version, and prints how many rows were written anew. A
+/// file that is not there, or is empty with no log beside it, has no version and is not made.
 fn migrate<F: OfficeInFile, W: Sink>(
     rt: &HostRuntime,
     alloc: Global,
     path: &str,
     out: &mut W,
 ) -> Result<u8, Fault> {
-    let rows = F::migrate(rt, alloc, path)?;
+    if is_missing(rt, alloc, path)? {
+        return Err(Fault::Version);
+    }
+    let rows = F::migrate(rt, alloc, path).told()??;
     let line = format!(in alloc; "migrated {rows} rows\n")?;
     write_all(out, line.as_bytes())?;
     Ok(0)

@@ -33,8 +33,8 @@ returns-clause-neither g c =
     let mid = c.query_all.new.self.conn.now in
     let begun = c.transaction-tx.ensures.begun in
     let it = c.in_ok-rows.ensures in
-    let whole : IsHonest (state g.S.Store c.rollback.new.self.0) → IfOk c.are_neither.result (λ neither. IsTrue neither → ShowsNeither g.S.Store old) = λ honest.
-    let early : HasCleanDisk (state g.S.Store mid) = omega (arith, honest.0, c.rollback.ensures.survives.clean) in
+    let whole : HasCleanDisk (state g.S.Store c.rollback.new.self.0) → IfOk c.are_neither.result (λ neither. IsTrue neither → ShowsNeither g.S.Store old) = λ clean.
+    let early : HasCleanDisk (state g.S.Store mid) = omega (arith, clean, c.rollback.ensures.survives.clean) in
     IfOk-weaker c.are_neither.result _ _ (λ neither told yes. record { after = mid; rows = c.in_ok-rows.rows.items; shown = rw (begun, c.params-to_sql.ensures) at (it.ok early); neither = subst AreNeither c.as_slice.ensures.value (told yes) }) c.are_neither.ensures in
     let same : c.rollback.new.self.0 ≡ c.conn-2-1.given.0 = search rules in
-    subst (λ h. IsHonest (state g.S.Store h) → IfOk c.are_neither.result (λ neither. IsTrue neither → ShowsNeither g.S.Store old)) same whole
+    subst (λ h. HasCleanDisk (state g.S.Store h) → IfOk c.are_neither.result (λ neither. IsTrue neither → ShowsNeither g.S.Store old)) same whole

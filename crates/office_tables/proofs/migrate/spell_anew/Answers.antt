@@ -4,10 +4,10 @@ use Rattle.office_tables.proofs.MigrateLemmas.{no_row, no_row_kept, spelled, spe
 use Rattle.office_tables.proofs.migrate.spell_anew.Goals as goal
 
 pub returns-in_err-kept-clause-damaged : goal.returns-in_err-kept-clause-damaged
-returns-in_err-kept-clause-damaged g c is honest = inl (no_row _ (c.in_err-kept.ensures.damaged (search rules) honest))
+returns-in_err-kept-clause-damaged g c is clean = inl (no_row _ (c.in_err-kept.ensures.damaged (search rules) (c.in_err-kept.ensures.open clean (search rules))))
 
 pub returns-in_err-committed-clause-damaged : goal.returns-in_err-committed-clause-damaged
-returns-in_err-committed-clause-damaged g c is honest = inl (no_row_kept _ c.in_ok-kept.kept.items (c.in_ok-kept.ensures.rows honest) (c.in_err-committed.ensures.damaged (search rules)))
+returns-in_err-committed-clause-damaged g c is clean = inl (no_row_kept _ c.in_ok-kept.kept.items (c.in_ok-kept.ensures.rows (c.in_ok-kept.ensures.open clean tt)) (c.in_err-committed.ensures.damaged (search rules)))
 
 pub returns-clause-migrated : goal.returns-clause-migrated
 returns-clause-migrated g c honest =

@@ -1,0 +1,53 @@
+-- What files that hold today's tables are found to hold.
+use Rattle.std.proofs.Common.{◌≡◌, inl, inr, IsTrue, refl, sym, ap, subst, ◌∙◌}
+use Rattle.std.proofs.Math.Logic.{∥∥₁_elim}
+use Rattle.sqlite.specs.{Closing.HoldsAlone, Closing.IsCopied, Effect.Database, Files.file_state, Held.Held, Recovery.Image, Tree.Trees}
+use Rattle.sqlite.specs.declared.FileStore.{FileStore}
+use Rattle.sqlite_disk.specs.declared.Disk.{Ghosts as Disk}
+use Rattle.sqlite_disk.specs.declared.Files.{Files}
+use Rattle.sqlite_trees.specs.Props.{Trees-set}
+use Rattle.office_desk.specs.StandFor.{StandForSound}
+use Rattle.office_machine.specs.Office.{Office}
+use Rattle.office_tables.specs.{Content.Content, Stored.content_now, Stored.content_of}
+use Rattle.office_tables_open.specs.{Lacking.Hold, SqlShelf.IsCurrent, Version.AreToday}
+use Rattle.office_tables_open.proofs.LackingLemmas.{today_content}
+use Rattle.signal_office_file.specs.Files.{AreThoseOf, HoldIn, HoldToday, IsImageOf, KeepTables, StandInBoth, StandInFiles}
+
+-- files that hold a database alone are read as that database
+pub held_alone : (image : Image) (db trees : Trees) → HoldsAlone image db → AreThoseOf image trees → trees ≡ db
+held_alone image db trees holds those = ∥∥₁_elim holds.both (Trees-set _ _) (λ h. those.holds db h)
+
+-- today's tables hold their own content
+pub hold_today : (trees : Trees) (tables : Content) → AreToday trees → Hold trees tables → tables ≡ content_of trees
+hold_today trees tables today (inl whole) = whole.1
+hold_today trees tables today (inr lacks) = lacks.2 ∙ today_content trees lacks.0 lacks.1 today.stored
+
+module _ {D : Type 0} (g : Disk D) (files : Files D) where
+  -- the last commit stands in closed files
+  pub copied_alone : (conn : Held (FileStore D g)) → IsCopied conn files → (image : Image) → IsImageOf g files image → HoldsAlone image (file_state conn).committed.trees
+  copied_alone conn copied image (inl seen) = subst (λ (i : Image). HoldsAlone i (file_state conn).committed.trees) (sym seen) copied.seen
+  copied_alone conn copied image (inr may) = copied.left image may
+
+  pub found_tables : (tables : Content) → KeepTables g files tables → (image : Image) → IsImageOf g files image → (found : Content) → HoldIn image found → found ≡ tables
+  found_tables tables it image is found holds =
+      let same = held_alone image it.trees holds.trees (it.held.alone image is) holds.those in
+      hold_today holds.trees found (subst AreToday (sym same) it.held.today) holds.hold ∙ (λ i. content_of (same i)) ∙ it.content
+
+  -- a database of today's tables, closed, is kept in its files
+  pub kept_tables : (conn : Held (FileStore D g)) → IsCopied conn files → IsCurrent (file_state conn)
+      → (IsTrue (file_state conn).is_open → (file_state conn).may_leave (file_state conn).committed.trees) → KeepTables g files (content_now (file_state conn))
+  kept_tables conn copied current stays =
+      let s = file_state conn in
+      record {
+        trees = s.committed.trees;
+        held = record {
+          alone = λ image is. copied_alone conn copied image is;
+          today = current.left copied.was_clean s.committed.trees (stays copied.was_open);
+        };
+        content = sym (ap (λ (d : Database). content_of d.trees) (current.office.settled (copied.was_clean, copied.was_open)));
+      }
+
+  -- so the next run finds the office for which they stand
+  pub stand_in_both : (tables : Content) (office : Office) → KeepTables g files tables → StandForSound tables office → StandInBoth g files office
+  stand_in_both tables office it stands image is found holds =
+      subst (λ t. StandForSound t office) (sym (found_tables tables it image is found holds)) stands

@@ -1,0 +1,61 @@
+-- What the two files of an office hold, as they read now and after a stop.
+use Rattle.std.specs.Prelude.{◌≡◌, ◌⊎◌, IsTrue}
+use Rattle.sqlite.specs.Closing.{HoldsAlone}
+use Rattle.sqlite.specs.Files.{HoldsDatabase, AreFoundIn, image_of}
+use Rattle.sqlite.specs.Recovery.{Image}
+use Rattle.sqlite.specs.Tree.{Trees}
+use Rattle.sqlite.specs.WalFiles.{outcomes}
+use Rattle.sqlite.specs.WalReads.{AreClean}
+use Rattle.sqlite_disk.specs.declared.Disk.{Ghosts as Disk}
+use Rattle.sqlite_disk.specs.declared.Files.{Files}
+use Rattle.office_machine.specs.Office.{Office}
+use Rattle.office_desk.specs.StandFor.{StandForSound}
+use Rattle.office_tables.specs.Content.{Content}
+use Rattle.office_tables.specs.Stored.{content_of}
+use Rattle.office_tables_open.specs.Lacking.{Hold}
+use Rattle.office_tables_open.specs.Version.{AreToday}
+
+-- the trees are those that an open finds in the files: of a database, its own
+pub record AreThoseOf (image : Image) (trees : Trees) : Type 0 where
+  pub holds : (db : Trees) → HoldsDatabase image db → trees ≡ db
+  pub reads : AreFoundIn image trees
+
+-- that is what the tables in the files hold; a table that they lack holds nothing
+pub record HoldIn (image : Image) (tables : Content) : Type 0 where
+  pub trees : Trees
+  pub those : AreThoseOf image trees
+  pub hold : Hold trees tables
+
+-- whatever an open finds in the files stands for the office
+abbrev pub StandInFiles : Image → Office → Type 0
+StandInFiles image office = (tables : Content) → HoldIn image tables → StandForSound tables office
+
+module _ {D : Type 0} (g : Disk D) (files : Files D) where
+  -- no sync of either has failed
+  abbrev pub AreUsable : Type 0
+  AreUsable = IsTrue (g.is_usable files.log) × IsTrue (g.is_usable files.db)
+
+  -- nothing has happened to the files since they were opened, when they held this
+  pub record AreNew (image : Image) : Type 0 where
+    pub clean : AreClean g files.log files.db
+    pub seen : image_of g files ≡ image
+    pub left : (after : Image) → outcomes g files.log files.db after → after ≡ image
+
+  -- the two files as they read now, or after a stop
+  abbrev pub IsImageOf : Image → Type 0
+  IsImageOf image = (image ≡ image_of g files) ⊎ outcomes g files.log files.db image
+
+  -- the tables in them stand for the office now and after a stop
+  abbrev pub StandInBoth : Office → Type 0
+  StandInBoth office = (image : Image) → IsImageOf image → StandInFiles image office
+
+  -- They hold these trees and no others, now and after a stop: the tables of the office, with today's version.
+  pub record HoldToday (trees : Trees) : Type 0 where
+    pub alone : (image : Image) → IsImageOf image → HoldsAlone image trees
+    pub today : AreToday trees
+
+  -- and that is what these tables hold
+  pub record KeepTables (tables : Content) : Type 0 where
+    pub trees : Trees
+    pub held : HoldToday trees
+    pub content : content_of trees ≡ tables

@@ -1,0 +1,57 @@
+-- The office of a file, as the jobs of the program know it.
+use Rattle.std.specs.Prelude.{◌≡◌, ◌⊎◌, ℕ, ◌+◌, Result, Ok, Err}
+use Rattle.sqlite.specs.Files.{image_of}
+use Rattle.sqlite.specs.Recovery.{Image}
+use Rattle.sqlite.specs.WalReads.{AreClean}
+use Rattle.sqlite_disk.specs.declared.Disk.{Ghosts as Disk}
+use Rattle.sqlite_disk.specs.declared.Files.{Files}
+use Rattle.office_tables.specs.Content.{Content}
+use Rattle.office_tables_migration.specs.declared.puts.Migrated.{Migrated}
+use Rattle.office_tables_open.specs.declared.open.OpenFault.{OpenFault}
+use Rattle.signal_office_faults.specs.declared.fault.Fault.{Fault}
+use Rattle.signal_office_in_file.specs.Ended.{FileView, file_view}
+use Rattle.signal_office_file.specs.Files.{AreNew, HoldIn, KeepTables}
+use Rattle.signal_office_file.specs.Left.{IsCleanFile, IsRefusedIn}
+use Rattle.signal_office_file.specs.Migrating.{ClosedMigrated}
+use Rattle.signal_office_file.specs.Told.{told_of}
+use Rattle.signal_office_file.specs.declared.left.FileLeft.{FileLeft}
+use Rattle.signal_office_file.specs.declared.left.FileLeft.TheVariants as left
+
+-- how many rows a migration wrote anew
+abbrev pub rows_counted : Result Migrated Fault → Result ℕ Fault
+rows_counted (Ok count) = Ok (count.timing + count.draft)
+rows_counted (Err why) = Err why
+
+module _ {D : Type 0} {g : Disk D} where
+  -- the files are closed, and hold these tables as the next opening finds them
+  abbrev pub IsKept : FileLeft D g → Content → Type 0
+  IsKept (left.Closed back) tables = KeepTables g back tables
+  IsKept _ tables = ⊥
+
+  -- they are closed, and hold what became of their tables, of which so many rows were written anew
+  abbrev pub IsMigrated : Files D → FileLeft D g → ℕ → Type 0
+  IsMigrated files (left.Closed back) rows = (count : Migrated) × (rows ≡ count.timing + count.draft) × ClosedMigrated g files (Ok count) back
+  IsMigrated files _ rows = ⊥
+
+  -- they are closed, and hold their tables, which were not migrated for this
+  abbrev pub IsNotMigrated : Files D → Fault → FileLeft D g → Type 0
+  IsNotMigrated files why (left.Closed back) = (cause : OpenFault) × (why ≡ told_of cause) × (AreClean g back.log back.db → ClosedMigrated g files (Err cause) back)
+  IsNotMigrated files why _ = ⊥
+
+  -- why the files were refused
+  abbrev pub IsRefusedFor : Files D → Fault → FileLeft D g → Type 0
+  IsRefusedFor files why back = IsRefusedIn files why back ⊎ IsNotMigrated files why back
+
+-- what the jobs know of two files
+abbrev pub files_view : {D : Type 0} (g : Disk D) → Files D → FileView (FileLeft D g)
+files_view g files = file_view (HoldIn (image_of g files)) IsCleanFile IsKept (λ back why. IsRefusedFor files why back)
+
+-- the same of files that held this as they were opened
+abbrev pub IsRefusedAt : {D : Type 0} {g : Disk D} → Image → FileLeft D g → Fault → Type 0
+IsRefusedAt {D} {g} image back why = (files : Files D) × AreNew g files image × IsRefusedFor files why back
+
+abbrev pub IsMigratedAt : {D : Type 0} {g : Disk D} → Image → FileLeft D g → ℕ → Type 0
+IsMigratedAt {D} {g} image back rows = (files : Files D) × AreNew g files image × IsMigrated files back rows
+
+abbrev pub view_at : {D : Type 0} (g : Disk D) → Image → FileView (FileLeft D g)
+view_at g image = file_view (HoldIn image) IsCleanFile IsKept (IsRefusedAt image)

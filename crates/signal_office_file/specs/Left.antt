@@ -1,0 +1,89 @@
+-- Why a file was refused, and what is left of it.
+use Rattle.std.specs.Prelude.{◌≡◌, ◌≢◌, ◌⊎◌, Result}
+use Rattle.sqlite.specs.Files.{FailsToOpenFiles, Finds, IsCleanLeft, IsOpened, LeavesFiles, file_state, over_files}
+use Rattle.sqlite.specs.Held.{Held}
+use Rattle.sqlite.specs.State.{HasCleanDisk, store_error}
+use Rattle.sqlite.specs.WalReads.{AreClean}
+use Rattle.sqlite.specs.Tree.{Trees}
+use Rattle.sqlite.specs.declared.FileStore.{FileStore}
+use Rattle.sqlite.specs.declared.error.Error.{Error}
+use Rattle.sqlite.specs.declared.file.Leftover.{Leftover}
+use Rattle.sqlite.specs.declared.file.Leftover.TheVariants as rest
+use Rattle.sqlite_disk.specs.declared.Disk.{Ghosts as Disk}
+use Rattle.sqlite_disk.specs.declared.Files.{Files}
+use Rattle.sqlite_trees.specs.declared.error.StoreError.{StoreError}
+use Rattle.office_tables_open.specs.Opening.{IsCleanStore, IsRefused, store_left}
+use Rattle.office_tables_open.specs.declared.open.OpenFault.{OpenFault}
+use Rattle.signal_office_faults.specs.declared.fault.Fault.{Fault}
+use Rattle.signal_office_faults.specs.declared.fault.Fault.TheVariants as fault
+use Rattle.signal_office_file.specs.Files.{AreUsable}
+use Rattle.signal_office_file.specs.Told.{told_of, told_of_error}
+use Rattle.signal_office_file.specs.declared.left.FileLeft.{FileLeft}
+use Rattle.signal_office_file.specs.declared.left.FileLeft.TheVariants as left
+
+-- the fault tells neither of another version nor of rows that are no records
+abbrev pub TellsNoTables : Fault → Type 0
+TellsNoTables told = (told ≢ fault.Version) × (told ≢ fault.Damaged)
+
+module _ {D : Type 0} {g : Disk D} where
+  -- a sync of the files failed before, and nothing was done to them
+  pub record AreSpent (files : Files D) (told : Fault) (back : Leftover D g) : Type 0 where
+    pub told_is : told ≡ fault.Store
+    pub unused : ¬ AreUsable g files
+    pub same : back ≡ rest.Files files
+
+  -- no database was opened in the files, which are left as an open leaves them
+  pub record FailedToOpen (files : Files D) (told : Fault) (back : Leftover D g) : Type 0 where
+    pub error : Error
+    pub told_is : told ≡ told_of_error error
+    pub cause : IsCleanLeft back → FailsToOpenFiles files back error
+    pub unharmed : IsCleanLeft back → LeavesFiles files back
+
+  abbrev pub IsUnopened : Files D → Fault → Leftover D g → Type 0
+  IsUnopened files told back = AreSpent files told back ⊎ FailedToOpen files told back
+
+  -- a connection that was just opened, and found its tables in the files
+  abbrev pub IsOpenedIn : Files D → Held (FileStore D g) → Type 0
+  IsOpenedIn files conn = HasCleanDisk (file_state conn) → Finds files conn × IsOpened conn
+
+  -- the tables that were found were refused, and are left as a refused opening leaves them
+  pub record IsTurnedAway (files : Files D) (told : Fault) (back : Result (Held (FileStore D g)) (FileStore D g)) : Type 0 where
+    pub conn : Held (FileStore D g)
+    pub found : IsOpenedIn files conn
+    pub cause : OpenFault
+    pub told_is : told ≡ told_of cause
+    pub refused : IsRefused over_files conn cause back
+
+  -- why an opening refused the files
+  abbrev pub IsRefusedIn : Files D → Fault → FileLeft D g → Type 0
+  IsRefusedIn files told (left.Closed back) = ⊥
+  IsRefusedIn files told (left.Unopened back) = IsUnopened files told back
+  IsRefusedIn files told (left.Database back) = IsTurnedAway files told back
+
+  -- the disk has returned what was written to what is left
+  abbrev pub IsCleanFile : FileLeft D g → Type 0
+  IsCleanFile (left.Closed back) = AreClean g back.log back.db
+  IsCleanFile (left.Unopened back) = IsCleanLeft back
+  IsCleanFile (left.Database back) = IsCleanStore over_files (store_left over_files back)
+
+  -- a database that is left recovers to these trees
+  abbrev pub RecoversTo : Trees → FileLeft D g → Type 0
+  RecoversTo trees (left.Database back) = (found : Trees) → over_files.recovers (store_left over_files back) found → found ≡ trees
+  RecoversTo trees _ = Unit {0}
+
+  -- files of today's tables were refused neither for their version nor for their rows
+  pub record KeepsToday (trees : Trees) (told : Fault) (back : FileLeft D g) : Type 0 where
+    pub told_is : IsCleanFile back → TellsNoTables told
+    pub recovers : IsCleanFile back → RecoversTo trees back
+
+  -- the database was not closed, and a stop leaves no more of it than before
+  pub record StaysOpened (conn : Held (FileStore D g)) (told : Fault) (back : Result (Held (FileStore D g)) (FileStore D g)) : Type 0 where
+    pub cause : StoreError
+    pub told_is : told ≡ told_of_error (store_error cause)
+    pub clean : IsCleanStore over_files (store_left over_files back) → HasCleanDisk (file_state conn)
+    pub crash : (trees : Trees) → over_files.recovers (store_left over_files back) trees → (file_state conn).may_leave trees
+
+  abbrev pub IsUnclosed : Held (FileStore D g) → Fault → FileLeft D g → Type 0
+  IsUnclosed conn told (left.Closed back) = ⊥
+  IsUnclosed conn told (left.Unopened back) = ⊥
+  IsUnclosed conn told (left.Database back) = StaysOpened conn told back

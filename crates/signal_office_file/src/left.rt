@@ -1,0 +1,31 @@
+//! What is left of a file that was refused, or could not be closed.
+
+use office_tables::open::Left;
+use signal_office_faults::Fault;
+use sqlite::{FileStore, Leftover};
+use sqlite_disk::{Disk, Files};
+
+/// What is left of the two files of an office.
+pub enum FileLeft<D: Disk> {
+    /// The files, closed: the log is copied into the database file.
+    Closed(Files<D>),
+    /// The files, in which no database was opened.
+    Unopened(Leftover<D>),
+    /// The database, which is not closed: its connection, or its store.
+    Database(Left<FileStore<D>>),
+}
+
+// It is written out, so that a caller does not prove again how each part is dropped.
+impl<D: Disk + Drop> Drop for FileLeft<D> {
+    fn drop(self) {
+        match self {
+            FileLeft::Closed(_files) => {}
+            FileLeft::Unopened(_files) => {}
+            FileLeft::Database(Ok(_conn)) => {}
+            FileLeft::Database(Err(_store)) => {}
+        }
+    }
+}
+
+/// Why a file was refused, and what is left of it.
+pub type Refused<D> = (Fault, FileLeft<D>);

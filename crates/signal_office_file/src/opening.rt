@@ -1,0 +1,94 @@
+//! The office over the tables of a database in files.
+
+ghost use Rattle.std.specs.Prelude.{IfOk, IfErr};
+ghost use Rattle.sqlite.specs.Files.{file_state, image_of};
+ghost use Rattle.sqlite.specs.Held.{state};
+ghost use Rattle.sqlite.specs.State.{HasCleanDisk};
+ghost use Rattle.sqlite.specs.Tree.{Trees};
+ghost use Rattle.office_tables_open.specs.Opening.{IsOpened, IsRefused};
+ghost use Rattle.office_tables_open.specs.Promises.{IsArrangedIfClean};
+ghost use Rattle.office_tables_open.specs.SqlShelf.{IsCurrent};
+ghost use Rattle.signal_office_file.specs.Files.{HoldToday};
+ghost use Rattle.signal_office_file.specs.Left.{IsOpenedIn, IsRefusedIn, IsUnopened};
+ghost use Rattle.signal_office_file.specs.Left.{KeepsToday};
+ghost use Rattle.signal_office_file.specs.Serving.{AreOpenedIn};
+
+use crate::fault::{fault_of_database, fault_of_opening};
+use crate::left::{FileLeft, Refused};
+use office_desk::office::Office;
+use office_tables::open::{Left, OpenFault};
+use office_tables::sql_shelf::SqlShelf;
+use signal_office_faults::Fault;
+use sqlite::{Alter, Connection, FileStore, Leftover, Options};
+use sqlite_disk::{Disk, Files};
+use std::alloc::Global;
+
+/// An office over tables in files.
+pub type FileOffice<D> = Office<SqlShelf<FileStore<D>>>;
+
+/// The database in the two files, which is made where they are empty. Files of which a sync has
+/// failed are not used.
+pub(crate) fn database_in<D: Disk + Drop>(
+    alloc: Global,
+    files: Files<D>,
+    options: Options,
+) -> Result<Connection<FileStore<D>>, (Fault, Leftover<D>)>
+    ensures opened { IfOk result (λ conn. IsOpenedIn files conn) }
+    ensures unopened { IfErr result (λ e. IsUnopened files e.0 e.1) }
+{
+    if !files.may_be_used() {
+        return Err((Fault::Store, Leftover::Files(files)));
+    }
+    match Connection::open_files(alloc, files, options) {
+        Ok(conn) => Ok(conn),
+        Err((error, left)) => Err((fault_of_database(error), left)),
+    }
+}
+
+/// The office over the tables of a database that was just opened, whose rows are known to be in
+/// order. They are made where there are none.
+fn office_over<S: Alter + Drop>(
+    alloc: Global,
+    conn: Connection<S>,
+) -> Result<Office<SqlShelf<S>>, (OpenFault, Left<S>)>
+    requires { IsArrangedIfClean (state S.Store conn) }
+    ensures opened { IfOk result (λ office. IsOpened S.Store conn office) }
+    ensures current { IfOk result (λ office. IsCurrent (state S.Store office.conn)) }
+    ensures refused { IfErr result (λ e. IsRefused S.Store conn e.0 e.1) }
+{
+    match SqlShelf::open_arranged(alloc, conn) {
+        Ok(shelf) => {
+            shelf.known();
+            Ok(Office::new(shelf))
+        }
+        Err(refused) => Err(refused),
+    }
+}
+
+/// The office over the tables in the two files, which are made where there are none. Where it
+/// refuses, what is left of the files comes back with the fault.
+pub fn open_file<D: Disk + Drop>(
+    alloc: Global,
+    files: Files<D>,
+    options: Options,
+) -> Result<FileOffice<D>, Refused<D>>
+    // On a clean disk: what the tables hold is what the files held.
+    ensures opened { IfOk result (λ office. HasCleanDisk (file_state office.conn) →
+        AreOpenedIn file_state (image_of D.Disk files) office) }
+    // Today's version is stored, also in whatever a crash may leave.
+    ensures current { IfOk result (λ office. IsCurrent (file_state office.conn)) }
+    // The fault is the one that these files have, and they are left as they were.
+    ensures refused { IfErr result (λ e. IsRefusedIn files e.0 e.1) }
+    // So files that hold today's tables are never told as damaged, or of another version.
+    ensures kept { (trees : Trees) → HoldToday D.Disk files trees →
+        IfErr result (λ e. KeepsToday trees e.0 e.1) }
+{
+    let conn = match database_in(alloc, files, options) {
+        Ok(conn) => conn,
+        Err((fault, left)) => return Err((fault, FileLeft::Unopened(left))),
+    };
+    match office_over(alloc, conn) {
+        Ok(office) => Ok(office),
+        Err((fault, left)) => Err((fault_of_opening(fault), FileLeft::Database(left))),
+    }
+}

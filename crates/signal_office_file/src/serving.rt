@@ -1,0 +1,79 @@
+//! Streams of requests, served by the office over the tables in files.
+
+ghost use Rattle.std.specs.Prelude.{◌≡◌, ◌≤◌, ◌+◌, ◌*◌, IfOk, IfErr};
+ghost use Rattle.sqlite.specs.Files.{file_state, image_of};
+ghost use Rattle.sqlite.specs.State.{HasCleanDisk};
+ghost use Rattle.sqlite.specs.Tree.{Trees};
+ghost use Rattle.office_tables_open.specs.SqlShelf.{IsCurrent};
+ghost use Rattle.office_machine.specs.Office.{Office as OfficeState};
+ghost use Rattle.office_desk.specs.StandFor.{StandForSound};
+ghost use Rattle.office_tables.specs.Content.{Content};
+ghost use Rattle.office_http_framing.specs.Asks.{OnlyAsks};
+ghost use Rattle.office_http_framing.specs.Limits.{longest_request};
+ghost use Rattle.office_http_framing.specs.Serve.{Did, TellsFault, ends_of};
+ghost use Rattle.office_http.specs.Protocol.{office_protocol};
+ghost use Rattle.signal_office_file.specs.Files.{HoldIn, HoldToday};
+ghost use Rattle.signal_office_file.specs.Left.{IsRefusedIn, KeepsToday};
+ghost use Rattle.signal_office_file.specs.Serving.{ServesFiles};
+
+use crate::left::Refused;
+use crate::opening::{FileOffice, open_file};
+use crate::streaming::serve_by;
+use office_http::{ServeFault, Served, Sink, Source};
+use sqlite::Options;
+use sqlite_disk::{Disk, Files};
+use std::alloc::Global;
+
+/// An office that was served, and how the stream ended.
+pub type ServedOffice<D> = (FileOffice<D>, Result<Served, ServeFault>);
+
+/// Serves the requests that the reader gives by the office over the tables in the two files, and
+/// gives the office back. The headline holds of it where the tables in the files stood for a sound
+/// office, and the disk has returned what was written. Where it answers a fault of its own, the
+/// files were refused, and nothing was read or written: what is left of them comes back.
+pub fn serve_file<D: Disk + Drop, R: Source, W: Sink>(
+    alloc: Global,
+    files: Files<D>,
+    options: Options,
+    reader: &mut R,
+    writer: &mut W,
+    max_requests: u32,
+) -> Result<ServedOffice<D>, Refused<D>>
+    // On a clean disk, whether or not a failure shut the database: the bytes answered are those of
+    // the office machine, run over the requests of the bytes read, from the office for which stood
+    // what the files held; the tables that are kept stand for the office after them; a crash leaves
+    // the office after the last request that was answered and changed rows, or after a later one;
+    // and the run keeps the laws of the office.
+    ensures did { IfOk result (λ served. HasCleanDisk (file_state served.0.conn) →
+        (held : Content) × HoldIn (image_of D.Disk files) held
+        × ((before : OfficeState) → StandForSound held before → (after : OfficeState)
+        × Did office_protocol (ServesFiles file_state held before served.0 after)
+        max_requests (ends_of (R.told reader.old) (W.told writer.old))
+        (ends_of (R.told reader.new) (W.told writer.new)) served.1)) }
+    // Today's version is stored, also in whatever a crash may leave.
+    ensures current { IfOk result (λ served. IsCurrent (file_state served.0.conn)) }
+    // Read and Write are answered only where that end told a fault.
+    ensures fault { IfOk result (λ served. TellsFault
+        (ends_of (R.told reader.old) (W.told writer.old))
+        (ends_of (R.told reader.new) (W.told writer.new)) served.1) }
+    // The files were refused for what they have, and are left as they were; of today's tables
+    // neither their version nor their rows are a reason.
+    ensures refused { IfErr result (λ e. IsRefusedIn files e.0 e.1) }
+    ensures kept { (trees : Trees) → HoldToday D.Disk files trees →
+        IfErr result (λ e. KeepsToday trees e.0 e.1) }
+    ensures untouched { IfErr result (λ _.
+        (reader.new ≡ reader.old) × (writer.new ≡ writer.old)) }
+    // The reader is called only while a request is awaited, and so often at most.
+    ensures asks { OnlyAsks R.told max_requests reader.old reader.new }
+    ensures reads { (R.told reader.new).counts.calls
+        ≤ (R.told reader.old).counts.calls + longest_request * (max_requests + 1) + 1 }
+{
+    match open_file(alloc, files, options) {
+        Ok(office) => {
+            let (office, outcome) = serve_by(alloc, office, reader, writer, max_requests);
+            office.shelf().known();
+            Ok((office, outcome))
+        }
+        Err(refused) => Err(refused),
+    }
+}

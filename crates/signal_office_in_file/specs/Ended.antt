@@ -1,0 +1,58 @@
+-- How work over the tables of a file ended, and what it did.
+use Rattle.std.specs.Prelude.{◌≡◌, ◌⊎◌, ℕ, List, Result, Ok, Err}
+use Rattle.office_desk.specs.StandFor.{StandForSound}
+use Rattle.office_http.specs.Laws.{KeepsLaws}
+use Rattle.office_http.specs.Protocol.{office_protocol}
+use Rattle.office_http_framing.specs.Front.{PlainRequest}
+use Rattle.office_http_framing.specs.Serve.{Did, Ends}
+use Rattle.office_http_framing.specs.declared.engine.Served.{Served}
+use Rattle.office_http_framing.specs.declared.engine.ServeFault.{ServeFault}
+use Rattle.office_machine.specs.Office.{Office}
+use Rattle.office_tables_shelf.specs.Content.{Content}
+use Rattle.signal_office_faults.specs.declared.fault.Fault.{Fault}
+use Rattle.signal_office_faults.specs.declared.fault.Fault.TheVariants as fault
+use Rattle.signal_office_in_file.specs.declared.Ended.{Ended}
+use Rattle.signal_office_in_file.specs.declared.Ended.TheVariants.{Unopened, Refused, Closed, Unclosed}
+
+-- what is known of a file: the tables that it held as it was opened; and of what is left of it, whether the disk has returned what was written, which tables
+-- it holds, closed, as the next opening finds them, and which fault it was refused with
+pub record FileView (Left : Type 0) : Type 1 where
+  pub held : Content → Type 0
+  pub is_clean : Left → Type 0
+  pub keeps : Left → Content → Type 0
+  pub refused : Left → Fault → Type 0
+
+abbrev pub file_view : {Left : Type 0} → (Content → Type 0) → (Left → Type 0) → (Left → Content → Type 0) → (Left → Fault → Type 0) → FileView Left
+file_view held is_clean keeps refused = record { held = held; is_clean = is_clean; keeps = keeps; refused = refused }
+
+-- The work was done, once, over the tables that the file held, and they are kept in the file; or nothing was done, since the system did not open the file,
+-- or the file was refused. Where the file could not be closed that is told, whatever came of the work.
+abbrev pub EndsOver : {Left T : Type 0} → FileView Left → (does : Content → T → Content → Type 0) → (untouched : Type 0) → Ended T Left → Type 0
+EndsOver view does untouched (Unopened why) = untouched × ((why ≡ fault.Store) ⊎ (why ≡ fault.Memory))
+EndsOver view does untouched (Refused why left) = untouched × view.refused left why
+EndsOver view does untouched (Closed done left) = view.is_clean left → (old : Content) × (new : Content) × view.held old × does old done new × view.keeps left new
+EndsOver view does untouched (Unclosed why left) = Unit {0}
+
+-- The requests were run from the office that the tables stood for, and the tables stand for the office after them.
+pub record RunsOver (new : Content) (before after : Office) (requests : List PlainRequest) (answers : List (List ℕ)) : Type 0 where
+  pub laws : KeepsLaws before requests answers after
+  pub stands : StandForSound new after
+
+-- a stream was served so from whichever office the tables stood for
+abbrev pub Answers : ℕ → Ends → Ends → Content → Result Served ServeFault → Content → Type 0
+Answers limit start end old outcome new = (before : Office) → StandForSound old before → (after : Office) × Did office_protocol (RunsOver new before after) limit start end outcome
+
+-- A migration was made, and its rows are those that were counted; or it was refused, and the tables are as they were. Nothing is counted that was not closed.
+abbrev pub IsCounted : {Left : Type 0} → (is_clean : Left → Type 0) → (migrated : Left → ℕ → Type 0) → (refused : Left → Fault → Type 0) → Ended (Result ℕ Fault) Left → Type 0
+IsCounted is_clean migrated refused (Unopened why) = (why ≡ fault.Store) ⊎ (why ≡ fault.Memory)
+IsCounted is_clean migrated refused (Refused why left) = refused left why
+IsCounted is_clean migrated refused (Closed (Ok rows) left) = is_clean left → migrated left rows
+IsCounted is_clean migrated refused (Closed (Err why) left) = is_clean left → refused left why
+IsCounted is_clean migrated refused (Unclosed why left) = Unit {0}
+
+-- what came of work over a file that was closed after it, or why it was not
+abbrev pub told_by : {T Left : Type 0} → Ended T Left → Result T Fault
+told_by (Unopened why) = Err why
+told_by (Refused why left) = Err why
+told_by (Closed done left) = Ok done
+told_by (Unclosed why left) = Err why
