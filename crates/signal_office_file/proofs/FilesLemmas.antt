@@ -1,5 +1,5 @@
 -- What files that hold today's tables are found to hold.
-use Rattle.std.proofs.Common.{◌≡◌, inl, inr, IsTrue, refl, sym, ap, subst, ◌∙◌}
+use Rattle.std.proofs.Common.{◌≡◌, inl, inr, IsTrue, sym, ap, subst, ◌∙◌}
 use Rattle.std.proofs.Math.Logic.{∥∥₁_elim}
 use Rattle.sqlite.specs.{Closing.HoldsAlone, Closing.IsCopied, Effect.Database, Files.file_state, Held.Held, Recovery.Image, Tree.Trees}
 use Rattle.sqlite.specs.declared.FileStore.{FileStore}
@@ -11,7 +11,7 @@ use Rattle.office_machine.specs.Office.{Office}
 use Rattle.office_tables.specs.{Content.Content, Stored.content_now, Stored.content_of}
 use Rattle.office_tables_open.specs.{Lacking.Hold, SqlShelf.IsCurrent, Version.AreToday}
 use Rattle.office_tables_open.proofs.LackingLemmas.{today_content}
-use Rattle.signal_office_file.specs.Files.{AreThoseOf, HoldIn, HoldToday, IsImageOf, KeepTables, StandInBoth, StandInFiles}
+use Rattle.signal_office_file.specs.Files.{AreThoseOf, HoldIn, IsImageOf, KeepTables, StandInBoth}
 
 -- files that hold a database alone are read as that database
 pub held_alone : (image : Image) (db trees : Trees) → HoldsAlone image db → AreThoseOf image trees → trees ≡ db

@@ -1,5 +1,5 @@
 -- Two files at a path, of which it is known what they held.
-use Rattle.std.proofs.Common.{inl, inr, Result, Ok, Err, ℕ, subst}
+use Rattle.std.proofs.Common.{Result, Ok, Err, ℕ, subst}
 use Rattle.sqlite.specs.Recovery.{Image}
 use Rattle.sqlite_disk.specs.declared.Disk.{Ghosts as Disk}
 use Rattle.sqlite_disk.specs.declared.Files.{Files}

@@ -1,7 +1,7 @@
 -- What is left of files that hold today's tables, where an opening refused them.
 use Rattle.std.proofs.Common.{◌≡◌, ◌≢◌, inl, inr, Result, refl, sym, subst, ◌∙◌, arith}
 use Rattle.std.proofs.Math.Logic.{∥∥₁_elim}
-use Rattle.sqlite.specs.{Files.Finds, Files.IsOpened, Files.file_state, Files.over_files, Held.Held, Held.state, State.HasCleanDisk, Tree.Trees}
+use Rattle.sqlite.specs.{Files.file_state, Files.over_files, Held.Held, Held.state, State.HasCleanDisk, Tree.Trees}
 use Rattle.sqlite.specs.declared.FileStore.{FileStore}
 use Rattle.sqlite.specs.declared.error.Error.{Error}
 use Rattle.sqlite.specs.declared.error.Error.TheVariants.{SqliteFailure}
@@ -16,7 +16,7 @@ use Rattle.office_tables_open.specs.declared.open.OpenFault.TheVariants as why
 use Rattle.office_tables_open.proofs.LackingLemmas.{today_claimed, today_rows, today_version, today_whole}
 use Rattle.signal_office_faults.specs.declared.fault.Fault.{Fault}
 use Rattle.signal_office_file.specs.{Files.HoldToday, Told.told_of, Told.told_of_error}
-use Rattle.signal_office_file.specs.Left.{IsOpenedIn, IsRefusedIn, IsTurnedAway, IsUnopened, KeepsToday, TellsNoTables}
+use Rattle.signal_office_file.specs.Left.{IsOpenedIn, IsRefusedIn, KeepsToday, TellsNoTables}
 use Rattle.signal_office_file.specs.declared.left.FileLeft.{FileLeft}
 use Rattle.signal_office_file.specs.declared.left.FileLeft.TheVariants as left
 

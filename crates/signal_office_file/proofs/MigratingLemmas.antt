@@ -1,17 +1,15 @@
 -- Version 1 of the tables and what becomes of it, in a database and in its files.
-use Rattle.std.proofs.Common.{◌≡◌, inl, inr, IsTrue, Result, Ok, Err, Some, refl, sym, subst, ◌∙◌}
+use Rattle.std.proofs.Common.{◌≡◌, inl, inr, IsTrue, Result, Ok, Err, Some, sym, subst, ◌∙◌}
 use Rattle.std.specs.Prelude.{IfOk, OnOk}
-use Rattle.sqlite.specs.{Closing.IsCopied, Files.file_state, Files.image_of, Files.over_files, Held.Held}
+use Rattle.sqlite.specs.{Closing.IsCopied, Files.file_state, Files.over_files, Held.Held}
 use Rattle.sqlite.specs.{State.HasCleanDisk, State.State, Tree.Trees, WalReads.AreClean, declared.FileStore.FileStore}
 use Rattle.sqlite_disk.specs.declared.Disk.{Ghosts as Disk}
 use Rattle.sqlite_disk.specs.declared.Files.{Files}
-use Rattle.office_machine.specs.Office.{Office}
 use Rattle.office_tables.specs.{Calls.IsHonest, Migrate.IsBrought, Stored.content_of}
-use Rattle.office_tables_migration.specs.{Migration.StandAnew, declared.puts.Migrated.Migrated}
+use Rattle.office_tables_migration.specs.{declared.puts.Migrated.Migrated}
 use Rattle.office_tables_migration.proofs.Migration.{stand_anew}
 use Rattle.office_tables_open.specs.{Version.current_version, Version.first_version, declared.open.OpenFault.OpenFault}
-use Rattle.signal_office_file.specs.Files.{HoldToday}
-use Rattle.signal_office_file.specs.Migrating.{AreMigrated, BringsToday, ClosedMigrated, Migrates, MigratesIn, StandFormerly, StandFormerlyInFiles, told_of_outcome}
+use Rattle.signal_office_file.specs.Migrating.{AreMigrated, BringsToday, ClosedMigrated, Migrates, MigratesIn, told_of_outcome}
 use Rattle.signal_office_file.proofs.FilesLemmas.{copied_alone}
 use Rattle.signal_office_in_file.specs.declared.Ended.TheVariants.{Closed}
 use Rattle.signal_office_file.specs.declared.left.FileLeft.TheVariants as left

@@ -1,5 +1,5 @@
 -- Why a file was refused, and what is left of it.
-use Rattle.std.specs.Prelude.{◌≡◌, ◌≢◌, ◌⊎◌, Result}
+use Rattle.std.specs.Prelude.{◌≡◌, ◌≢◌, ◌⊎◌, Option, None, Some, Result}
 use Rattle.sqlite.specs.Files.{FailsToOpenFiles, Finds, IsCleanLeft, IsOpened, LeavesFiles, file_state, over_files}
 use Rattle.sqlite.specs.Held.{Held}
 use Rattle.sqlite.specs.State.{HasCleanDisk, store_error}
@@ -59,6 +59,11 @@ module _ {D : Type 0} {g : Disk D} where
   IsRefusedIn files told (left.Closed back) = ⊥
   IsRefusedIn files told (left.Unopened back) = IsUnopened files told back
   IsRefusedIn files told (left.Database back) = IsTurnedAway files told back
+
+  -- the closed files, where they are
+  abbrev pub closed_of : FileLeft D g → Option (Files D)
+  closed_of (left.Closed back) = Some back
+  closed_of _ = None
 
   -- the disk has returned what was written to what is left
   abbrev pub IsCleanFile : FileLeft D g → Type 0

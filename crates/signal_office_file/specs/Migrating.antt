@@ -1,9 +1,9 @@
 -- The tables of version 1 in files, and what becomes of them.
-use Rattle.std.specs.Prelude.{◌≡◌, ◌⊎◌, ℕ, ◌+◌, Result, Ok, Err, Some, IfOk, OnOk, OnErr, IsTrue}
-use Rattle.sqlite.specs.Files.{Finds, image_of, file_state, over_files}
+use Rattle.std.specs.Prelude.{◌≡◌, ◌⊎◌, Result, Ok, Err, Some, IfOk, OnOk, IsTrue}
+use Rattle.sqlite.specs.Files.{image_of, file_state, over_files}
 use Rattle.sqlite.specs.Held.{Held, state}
 use Rattle.sqlite.specs.Recovery.{Image}
-use Rattle.sqlite.specs.State.{State, HasCleanDisk}
+use Rattle.sqlite.specs.State.{HasCleanDisk}
 use Rattle.sqlite.specs.Tree.{Trees}
 use Rattle.sqlite.specs.WalReads.{AreClean}
 use Rattle.sqlite.specs.Closing.{HoldsAlone}
@@ -13,12 +13,10 @@ use Rattle.sqlite_disk.specs.declared.Files.{Files}
 use Rattle.sqlite_trees.specs.declared.store.Store.{Ghosts}
 use Rattle.office_machine.specs.Office.{Office, version_1}
 use Rattle.office_tables_standing.specs.StandFor.{StandForSoundIn}
-use Rattle.office_tables.specs.Calls.{IsHonest}
 use Rattle.office_tables.specs.Stored.{content_of}
 use Rattle.office_tables.specs.Migrate.{HasDamagedFormer, HasUnknownVersion, IsBrought, MayBecome, TellsDamage, TellsVersion}
 use Rattle.office_tables_migration.specs.Migration.{StandAnew}
 use Rattle.office_tables_migration.specs.declared.puts.Migrated.{Migrated}
-use Rattle.office_tables_open.specs.Opening.{IsAsFound, IsCleanStore, store_left}
 use Rattle.office_tables_open.specs.Promises.{KeepsCommitted}
 use Rattle.office_tables_open.specs.declared.open.OpenFault.{OpenFault}
 use Rattle.office_tables_open.specs.declared.open.OpenFault.TheVariants as why

@@ -1,5 +1,8 @@
 //! What is left of a file that was refused, or could not be closed.
 
+ghost use Rattle.std.specs.Prelude.{◌≡◌};
+ghost use Rattle.signal_office_file.specs.Left.{closed_of};
+
 use office_tables::open::Left;
 use signal_office_faults::Fault;
 use sqlite::{FileStore, Leftover};
@@ -13,6 +16,19 @@ pub enum FileLeft<D: Disk> {
     Unopened(Leftover<D>),
     /// The database, which is not closed: its connection, or its store.
     Database(Left<FileStore<D>>),
+}
+
+impl<D: Disk + Drop> FileLeft<D> {
+    /// The files, where they are closed. Anything else is let go.
+    pub fn closed(self) -> Option<Files<D>>
+        ensures { result ≡ closed_of self }
+    {
+        match self {
+            FileLeft::Closed(files) => Some(files),
+            FileLeft::Unopened(_left) => None,
+            FileLeft::Database(_left) => None,
+        }
+    }
 }
 
 // It is written out, so that a caller does not prove again how each part is dropped.

@@ -5,6 +5,7 @@ ghost use Rattle.sqlite.specs.Files.{file_state, image_of};
 ghost use Rattle.sqlite.specs.Held.{state};
 ghost use Rattle.sqlite.specs.State.{HasCleanDisk};
 ghost use Rattle.sqlite.specs.Tree.{Trees};
+ghost use Rattle.sqlite.specs.WalReads.{AreClean};
 ghost use Rattle.office_tables_open.specs.Opening.{IsOpened, IsRefused};
 ghost use Rattle.office_tables_open.specs.Promises.{IsArrangedIfClean};
 ghost use Rattle.office_tables_open.specs.SqlShelf.{IsCurrent};
@@ -72,6 +73,9 @@ pub fn open_file<D: Disk + Drop>(
     files: Files<D>,
     options: Options,
 ) -> Result<FileOffice<D>, Refused<D>>
+    // Nothing makes a disk clean again.
+    ensures clean { IfOk result (λ office. HasCleanDisk (file_state office.conn) →
+        AreClean D.Disk files.log files.db) }
     // On a clean disk: what the tables hold is what the files held.
     ensures opened { IfOk result (λ office. HasCleanDisk (file_state office.conn) →
         AreOpenedIn file_state (image_of D.Disk files) office) }

@@ -4,6 +4,7 @@ ghost use Rattle.std.specs.Prelude.{◌≡◌, ◌≤◌, ◌+◌, ◌*◌, IfOk
 ghost use Rattle.sqlite.specs.Files.{file_state, image_of};
 ghost use Rattle.sqlite.specs.State.{HasCleanDisk};
 ghost use Rattle.sqlite.specs.Tree.{Trees};
+ghost use Rattle.sqlite.specs.WalReads.{AreClean};
 ghost use Rattle.office_tables_open.specs.SqlShelf.{IsCurrent};
 ghost use Rattle.office_machine.specs.Office.{Office as OfficeState};
 ghost use Rattle.office_desk.specs.StandFor.{StandForSound};
@@ -39,6 +40,9 @@ pub fn serve_file<D: Disk + Drop, R: Source, W: Sink>(
     writer: &mut W,
     max_requests: u32,
 ) -> Result<ServedOffice<D>, Refused<D>>
+    // Nothing makes a disk clean again.
+    ensures clean { IfOk result (λ served. HasCleanDisk (file_state served.0.conn) →
+        AreClean D.Disk files.log files.db) }
     // On a clean disk, whether or not a failure shut the database: the bytes answered are those of
     // the office machine, run over the requests of the bytes read, from the office for which stood
     // what the files held; the tables that are kept stand for the office after them; a crash leaves

@@ -9,6 +9,11 @@ use Rattle.signal_office_file.proofs.opening.open_file.Goals as goal
 pub office_over-requires : goal.office_over-requires
 office_over-requires g c clean = found_arranged _ _ (c.in-Ok.ensures.opened clean).0.reads
 
+pub returns-in-Ok-office_over-clause-clean : goal.returns-in-Ok-office_over-clause-clean
+returns-in-Ok-office_over-clause-clean g c clean =
+    let it = c.in-Ok-office_over.ensures.opened in
+    (c.in-Ok.ensures.opened (it.honest (it.opened clean))).0.honest
+
 -- what was opened holds what the files held
 pub returns-in-Ok-office_over-clause-opened : goal.returns-in-Ok-office_over-clause-opened
 returns-in-Ok-office_over-clause-opened g c clean =
