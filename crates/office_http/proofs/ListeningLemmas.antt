@@ -1,15 +1,13 @@
 -- How connections that were served follow one another.
 use Rattle.std.proofs.Common.{◌≡◌, ◌≢◌, ◌∙◌, ℕ, zero, suc, ◌+◌, ◌*◌, ◌≤◌, true, false, true≢false, List, [], ◌∷◌, ◌++◌, length, Option, Some, None, refl, sym, ap, subst, arith, append_assoc}
 use Rattle.std.proofs.lemmas.List.{append-nil, length-append, map-append}
-use Rattle.std.specs.Prelude.{Result, Ok, Err, OnOk, OnErr, IfErr, is_err, ⊤}
+use Rattle.std.specs.Prelude.{Result, Ok, Err, OnOk, OnErr, IfErr, is_err}
 use Rattle.office_machine.specs.Office.{Office}
 use Rattle.office_tables_shelf.specs.Content.{Content}
 use Rattle.office_http.specs.Laws.{Serves}
-use Rattle.office_http.specs.Listening.{Adds, AsksConnection, Connected, EndsListening, Listening, Listens, ServedAsTold, ServesConnection, ServesEach, Turns, connected, connection_limit, ends_after, more_accepted, one_accepted, starts_of}
+use Rattle.office_http.specs.Listening.{Adds, AsksConnection, Connected, Listening, Listens, ServesConnection, ServesEach, Turns, connected, connection_limit, ends_after, more_accepted, one_accepted, starts_of}
 use Rattle.office_http.specs.Protocol.{office_protocol}
 use Rattle.office_http.specs.declared.listening.ListenCounts.{ListenCounts}
-use Rattle.office_http.specs.declared.listening.ServeStop.{ServeStop}
-use Rattle.office_http.specs.declared.listening.ServeStop.TheVariants as stop
 use Rattle.office_http_framing.specs.{Asks.Asks, Asks.OnlyAsks, Ends.Told, Ends.no_calls, Limits.longest_request, Serve.Did, Serve.Ends}
 use Rattle.office_http_framing.specs.{Serve.TellsFault, Serve.Untouched, Serve.ends_of, Stops.Keeps, Stops.Storage}
 use Rattle.office_http_framing.specs.{declared.engine.Served.Served, declared.engine.ServeFault.ServeFault}
@@ -159,9 +157,3 @@ pub accepted-next : (n : ℕ) (c : ListenCounts) → one_accepted (more_accepted
 accepted-next n c =
     let next : suc n ≡ n + 1 = omega arith in
     ap (λ k. more_accepted k c) next
-
--- the outcome tells whether all connections were served
-pub as_told : (count : ℕ) (old new : Listening) (served : List Connected) (result : Result ⊤ ServeStop) → EndsListening count old new served result → ServedAsTold count served result
-as_told count old new served (Ok done) ends = ends.0
-as_told count old new served (Err stop.Accept) ends = ends.0
-as_told count old new served (Err stop.NoMemory) ends = ends.0

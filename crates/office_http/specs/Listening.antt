@@ -49,6 +49,10 @@ pub record Listening : Type 0 where
   pub given : Option (List Ends)
   pub returned : Option (List Ends)
 
+-- What a listener of the system tells: its counts alone. The system does not tell what a connection gives and takes.
+abbrev pub counts_alone : ListenCounts → Listening
+counts_alone counts = record { counts = counts; given = None; returned = None }
+
 -- a known list grew by these
 abbrev pub Adds : Option (List Ends) → Option (List Ends) → List Ends → Type 0
 Adds None new more = Unit {0}
@@ -118,8 +122,3 @@ pub record Listens
   pub kept : Content
   pub keeps : Keeps storage last kept after
   pub each : ServesEach storage first held before served last kept after
-
--- on `Ok` all connections were served, else fewer
-abbrev pub ServedAsTold : ℕ → List Connected → Result ⊤ ServeStop → Type 0
-ServedAsTold count served (Ok done) = length served ≡ count
-ServedAsTold count served (Err why) = length served < count

@@ -5,14 +5,14 @@
 //! handed on here.
 #![tactic(auto)]
 
+mod from_listener;
 mod listening;
 mod machine;
 mod service;
 mod waiting;
 
-pub use listening::{
-    Connection, FromListener, Listen, ListenCounts, ServeStop, serve_each, serve_on,
-};
+pub use from_listener::FromListener;
+pub use listening::{Connection, Listen, ListenCounts, ServeStop, serve_each};
 pub use office_http_framing::ends::{
     Counts, FromRead, Sink, Source, ToWrite, WriteFailed, write_all,
 };

@@ -1,6 +1,6 @@
 //! The office served to the connections of a listener, one after another.
 
-ghost use Rattle.std.specs.Prelude.{◌≡◌, ◌↔◌, List, Err, IsTrue, IfOk, OnOk, OnErr, None};
+ghost use Rattle.std.specs.Prelude.{◌≡◌, ◌↔◌, List, Err, IsTrue, IfOk, OnOk, OnErr};
 ghost use Rattle.office_machine.specs.Office.{Office as OfficeState};
 ghost use Rattle.office_tables_shelf.specs.Content.{Content};
 ghost use Rattle.office_http_framing.specs.Ends.{no_calls};
@@ -11,29 +11,21 @@ ghost use Rattle.office_http.specs.Listening.{
   Connected,
   EndsListening,
   Listens,
-  ServedAsTold,
   ServesConnection,
   connected,
   listened,
-  no_listening,
 };
 
 use crate::service::serve;
-use crate::waiting::WaitsOnce;
 use office_desk::office::Office;
-use office_http_framing::ends::{FromRead, Sink, Source, ToWrite};
+use office_http_framing::ends::{Sink, Source};
 use office_http_framing::engine::{ServeFault, Served};
 use office_tables_shelf::shelf::Shelf;
 use std::alloc::{AllocError, Global};
 use std::io;
-use std::net::{TcpListener, TcpStream};
-use std::time::Duration;
 
 /// The most requests of one connection.
 const CONNECTION_LIMIT: u32 = 10_000;
-
-/// How many seconds one read or one write of a connection may wait. After that it has failed.
-const LONGEST_WAIT: u64 = 30;
 
 /// How the calls of a listener went. Each count stays at `u64::MAX` once it is there.
 #[derive(Clone, Copy, Default)]
@@ -94,81 +86,6 @@ pub trait Listen {
         ensures returned { Adds (told self.old).returned (told self.new).returned
             (ends_of (Self.Reader.told connection.reader)
             (Self.Writer.told connection.writer) ∷ []) };
-}
-
-/// The connections of a listener of the system.
-#[derive(Drop)]
-pub struct FromListener<'a> {
-    pub listener: &'a TcpListener,
-    pub counts: ListenCounts,
-}
-
-impl<'a> FromListener<'a> {
-    pub fn new(listener: &'a TcpListener) -> FromListener<'a>
-        ensures listener { result.listener.now ≡ listener.now }
-        ensures counts { result.counts ≡ no_listening }
-    {
-        FromListener {
-            listener,
-            counts: ListenCounts::default(),
-        }
-    }
-}
-
-/// The two ends of a connection, of which no read and no write waits longer than `LONGEST_WAIT`. It
-/// sends each answer at once, however short it is; where the system refuses that, answers may be
-/// held back for a moment, and no more.
-fn opened(
-    stream: TcpStream,
-) -> io::Result<Connection<FromRead<TcpStream>, ToWrite<WaitsOnce<TcpStream>>>>
-    ensures { IfOk result (λ c. (c.reader.counts ≡ no_calls) × (c.writer.counts ≡ no_calls)) }
-{
-    let wait = Duration::from_secs(LONGEST_WAIT);
-    stream.set_read_timeout(Some(wait))?;
-    stream.set_write_timeout(Some(wait))?;
-    let _ = stream.set_nodelay(true);
-    let writer = ToWrite::new(WaitsOnce::new(stream.try_clone()?));
-    let reader = FromRead::new(stream);
-    Ok(Connection { reader, writer })
-}
-
-impl Listen for FromListener<'_> {
-    ghost use Rattle.std.specs.Prelude.{◌≡◌, None, [], ◌∷◌};
-    ghost use Rattle.office_http_framing.specs.Serve.{ends_of};
-    ghost use Rattle.office_http.specs.Listening.{Adds};
-
-    type Reader = FromRead<TcpStream>;
-
-    type Writer = ToWrite<WaitsOnce<TcpStream>>;
-
-    // The system does not tell what a connection gives and takes.
-    ghost told = { λ s. record { counts = s.counts; given = None; returned = None } };
-
-    fn accept(
-        &mut self,
-    ) -> io::Result<Connection<FromRead<TcpStream>, ToWrite<WaitsOnce<TcpStream>>>> {
-        let outcome = match self.listener.accept() {
-            Ok((stream, _)) => opened(stream),
-            Err(error) => Err(error),
-        };
-        self.counts.count(&outcome);
-        outcome
-    }
-
-    fn take_back(
-        &mut self,
-        connection: Connection<FromRead<TcpStream>, ToWrite<WaitsOnce<TcpStream>>>,
-    )
-        ensures counts { self.new.counts ≡ self.old.counts }
-        ensures given { Adds None None [] }
-        ensures returned { Adds None None (ends_of
-            (record { bytes = None; counts = connection.reader.counts })
-            (record { bytes = None; counts = connection.writer.counts }) ∷ []) }
-    {
-        let Connection { reader, writer } = connection;
-        drop(reader);
-        drop(writer);
-    }
 }
 
 /// Why a listener was not served to the last connection.
@@ -253,25 +170,4 @@ pub fn serve_each<S: Shelf, L: Listen>(
         }
     }
     Ok(())
-}
-
-/// Serves so many connections of a listener of the system, as `serve_each` does. What these give
-/// and take no clause tells.
-pub fn serve_on<S: Shelf>(
-    alloc: Global,
-    listener: &TcpListener,
-    count: u32,
-    office: &mut Office<S>,
-) -> Result<(), ServeStop>
-    ensures clean { S.is_clean office.new → S.is_clean office.old }
-    ensures honest { S.is_honest office.new → S.is_honest office.old }
-
-    // The office served each connection as `serve` does, and no other one; all where it says so.
-    ensures did { let storage = office_storage S.is_honest S.content S.written S.may_leave in
-        S.is_clean office.new →
-        (before : OfficeState) (tables : Content) → Keeps storage office.old tables before →
-        (served : List Connected) × Listens storage office.old tables before office.new served
-        × ServedAsTold count served result }
-{
-    serve_each(alloc, &mut FromListener::new(listener), count, office)
 }

@@ -2,7 +2,7 @@
 
 use crate::script::{sent, told};
 use office_desk::office::Office;
-use office_http::{Served, Sink, ToWrite, WaitsOnce, serve, serve_on};
+use office_http::{FromListener, Served, Sink, ToWrite, WaitsOnce, serve, serve_each};
 use office_row_files::trouble::{Trouble, compare, holds};
 use office_row_files::waiting::{Endless, Patient, Telling};
 use office_tables_memory::memory_shelf::MemoryShelf;
@@ -72,8 +72,11 @@ pub(crate) fn serve_two_connections(rt: &HostRuntime) -> Result<(), Trouble> {
     let first = send(rt, &listener)?;
     let second = send(rt, &listener)?;
     let mut office = Office::new(MemoryShelf::new(alloc));
-    let is_served = serve_on(alloc, &listener, 2, &mut office).is_ok();
-    holds(is_served, "two connections")?;
+    let mut listener = FromListener::new(listener);
+    let is_served = serve_each(alloc, &mut listener, 2, &mut office).is_ok();
+    let counts = listener.counts();
+    let is_told = counts.accepted == 2 && counts.failures == 0;
+    holds(is_served && is_told, "two connections")?;
     hears(alloc, first, told(0, 89))?;
     hears(alloc, second, SAME)
 }

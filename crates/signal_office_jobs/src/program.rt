@@ -60,7 +60,8 @@ fn serve_office<S: Shelf + Drop, W: Sink>(
     count: u32,
     out: &mut W,
 ) -> Result<u8, Fault> {
-    serve_port(rt, alloc, &mut office, port, count, out)?;
+    let (_, served) = serve_port(rt, alloc, &mut office, port, count, out);
+    served?;
     Ok(0)
 }
 

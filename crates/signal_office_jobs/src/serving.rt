@@ -1,37 +1,44 @@
 //! The office on a port of the loopback network.
 
-ghost use Rattle.std.specs.Prelude.{List};
+ghost use Rattle.std.specs.Prelude.{◌≡◌, List};
 ghost use Rattle.office_machine.specs.Office.{Office as OfficeState};
 ghost use Rattle.office_tables_shelf.specs.Content.{Content};
 ghost use Rattle.office_http_framing.specs.Stops.{Keeps};
 ghost use Rattle.office_http.specs.Listening.{Connected, Listens};
 ghost use Rattle.office_http.specs.Protocol.{office_storage};
-ghost use Rattle.signal_office_jobs.specs.Serving.{ServedAll};
+ghost use Rattle.signal_office_jobs.specs.Serving.{SaysLine, ServesPort, fault_of_stop};
 
 use office_desk::office::Office;
-use office_http::{ServeStop, Sink, serve_on, write_all};
+use office_http::{FromListener, ServeStop, Sink, serve_each, write_all};
 use office_tables_shelf::shelf::Shelf;
 use signal_office_commands::Fault;
 use std::alloc::Global;
 use std::net::{Ipv4Addr, SocketAddr, TcpListener};
 
-/// A listener on a port of 127.0.0.1, once it has been said that it listens.
-fn listen<W: Sink>(
-    rt: &HostRuntime,
-    alloc: Global,
-    port: u16,
-    out: &mut W,
-) -> Result<TcpListener, Fault> {
-    let Ok(listener) = TcpListener::bind(rt, SocketAddr::from((Ipv4Addr::LOCALHOST, port))) else {
-        return Err(Fault::Bind);
-    };
+/// Says that a port of 127.0.0.1 is listened on.
+fn say<W: Sink>(alloc: Global, port: u16, out: &mut W) -> Result<(), Fault>
+    ensures { SaysLine port (W.told out.old) (W.told out.new) result }
+{
     let line = format!(in alloc; "listening on 127.0.0.1:{port}\n")?;
-    write_all(out, line.as_bytes())?;
-    Ok(listener)
+    match write_all(out, line.as_bytes()) {
+        Ok(()) => Ok(()),
+        Err(_) => Err(Fault::Write),
+    }
+}
+
+/// The fault that tells why a listener was not served to the last connection.
+fn fault_of(stop: ServeStop) -> Fault
+    ensures { result ≡ fault_of_stop stop }
+{
+    match stop {
+        ServeStop::Accept => Fault::Bind,
+        ServeStop::NoMemory => Fault::Memory,
+    }
 }
 
 /// Listens on a port of 127.0.0.1, says so, and serves so many connections, one after the other,
-/// each at most 10,000 requests.
+/// each at most 10,000 requests. The listener, which is given back, counted its calls; there is
+/// none where the port was not to be had.
 pub fn serve_port<S: Shelf, W: Sink>(
     rt: &HostRuntime,
     alloc: Global,
@@ -39,24 +46,29 @@ pub fn serve_port<S: Shelf, W: Sink>(
     port: u16,
     count: u32,
     out: &mut W,
-) -> Result<(), Fault>
+) -> (Option<FromListener>, Result<(), Fault>)
     ensures clean { S.is_clean office.new → S.is_clean office.old }
     ensures honest { S.is_honest office.new → S.is_honest office.old }
 
-    // The office served each connection as `serve` does, and no other one; all where it says so.
+    // The office served each connection as `serve` does, and no other one: on `Ok` as many as were
+    // asked for, and so many were accepted.
     ensures did { let storage = office_storage S.is_honest S.content S.written S.may_leave in
         S.is_clean office.new →
         (before : OfficeState) (tables : Content) → Keeps storage office.old tables before →
         (served : List Connected) × Listens storage office.old tables before office.new served
-        × ServedAll count served result }
+        × ServesPort port count (W.told out.old) (W.told out.new) result.0 served result.1 }
+    // The listener tells how many connections were accepted, and the fault what failed.
+    ensures told { (served : List Connected)
+        × ServesPort port count (W.told out.old) (W.told out.new) result.0 served result.1 }
 {
-    let listener = match listen(rt, alloc, port, out) {
-        Ok(listener) => listener,
-        Err(fault) => return Err(fault),
+    let address = SocketAddr::from((Ipv4Addr::LOCALHOST, port));
+    let Ok(listener) = TcpListener::bind(rt, address) else {
+        return (None, Err(Fault::Bind));
     };
-    match serve_on(alloc, &listener, count, office) {
-        Ok(()) => Ok(()),
-        Err(ServeStop::Accept) => Err(Fault::Bind),
-        Err(ServeStop::NoMemory) => Err(Fault::Memory),
+    let mut listener = FromListener::new(listener);
+    if let Err(fault) = say(alloc, port, out) {
+        return (Some(listener), Err(fault));
     }
+    let served = serve_each(alloc, &mut listener, count, office);
+    (Some(listener), served.map_err(fault_of))
 }

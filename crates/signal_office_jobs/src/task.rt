@@ -137,7 +137,8 @@ fn done_by<S: Shelf, W: Sink>(
 ) -> Result<Done, Fault> {
     match *task {
         Task::Serve { port, count } => {
-            serve_port(rt, alloc, office, port, count, out)?;
+            let (_, served) = serve_port(rt, alloc, office, port, count, out);
+            served?;
             Ok(Done::with(Vec::new(alloc)))
         }
         Task::Show(shown) => Ok(Done::with(shown_of(alloc, office, shown)?)),

@@ -1,0 +1,104 @@
+//! The connections of a listener of the system.
+
+ghost use Rattle.std.specs.Prelude.{◌≡◌, IfOk};
+ghost use Rattle.office_http_framing.specs.Ends.{no_calls};
+ghost use Rattle.office_http.specs.Listening.{no_listening};
+
+use crate::listening::{Connection, Listen, ListenCounts};
+use crate::waiting::WaitsOnce;
+use office_http_framing::ends::{FromRead, ToWrite};
+use std::io;
+use std::marker::Model;
+use std::net::{TcpListener, TcpStream};
+use std::time::Duration;
+
+/// How many seconds one read or one write of a connection may wait. After that it has failed.
+const LONGEST_WAIT: u64 = 30;
+
+/// A listener of the system with the counts of its calls, as which clauses see it. No other module
+/// can change them.
+#[derive(Drop)]
+pub struct FromListener {
+    listener: TcpListener,
+    counts: ListenCounts,
+}
+
+impl Model for FromListener {
+    ghost use Rattle.office_http.specs.declared.listening.ListenCounts.{ListenCounts};
+
+    ghost Value = { ListenCounts };
+
+    ghost view = { λ s. s.counts };
+}
+
+impl FromListener {
+    pub fn new(listener: TcpListener) -> FromListener
+        ensures { result ≡ no_listening }
+    {
+        FromListener {
+            listener,
+            counts: ListenCounts::default(),
+        }
+    }
+
+    pub fn counts(&self) -> ListenCounts
+        ensures { result ≡ self.now }
+    {
+        self.counts
+    }
+}
+
+/// The two ends of a connection, of which no read and no write waits longer than `LONGEST_WAIT`. It
+/// sends each answer at once, however short it is; where the system refuses that, answers may be
+/// held back for a moment, and no more.
+fn opened(
+    stream: TcpStream,
+) -> io::Result<Connection<FromRead<TcpStream>, ToWrite<WaitsOnce<TcpStream>>>>
+    ensures { IfOk result (λ c. (c.reader.counts ≡ no_calls) × (c.writer.counts ≡ no_calls)) }
+{
+    let wait = Duration::from_secs(LONGEST_WAIT);
+    stream.set_read_timeout(Some(wait))?;
+    stream.set_write_timeout(Some(wait))?;
+    let _ = stream.set_nodelay(true);
+    let writer = ToWrite::new(WaitsOnce::new(stream.try_clone()?));
+    let reader = FromRead::new(stream);
+    Ok(Connection { reader, writer })
+}
+
+impl Listen for FromListener {
+    ghost use Rattle.std.specs.Prelude.{◌≡◌, None, [], ◌∷◌};
+    ghost use Rattle.office_http_framing.specs.Serve.{ends_of};
+    ghost use Rattle.office_http.specs.Listening.{Adds, counts_alone};
+
+    type Reader = FromRead<TcpStream>;
+
+    type Writer = ToWrite<WaitsOnce<TcpStream>>;
+
+    ghost told = { counts_alone };
+
+    fn accept(
+        &mut self,
+    ) -> io::Result<Connection<FromRead<TcpStream>, ToWrite<WaitsOnce<TcpStream>>>> {
+        let outcome = match self.listener.accept() {
+            Ok((stream, _)) => opened(stream),
+            Err(error) => Err(error),
+        };
+        self.counts.count(&outcome);
+        outcome
+    }
+
+    fn take_back(
+        &mut self,
+        connection: Connection<FromRead<TcpStream>, ToWrite<WaitsOnce<TcpStream>>>,
+    )
+        ensures counts { self.new ≡ self.old }
+        ensures given { Adds None None [] }
+        ensures returned { Adds None None (ends_of
+            (record { bytes = None; counts = connection.reader.counts })
+            (record { bytes = None; counts = connection.writer.counts }) ∷ []) }
+    {
+        let Connection { reader, writer } = connection;
+        drop(reader);
+        drop(writer);
+    }
+}
