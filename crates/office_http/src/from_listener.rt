@@ -15,8 +15,8 @@ use std::time::Duration;
 /// How many seconds one read or one write of a connection may wait. After that it has failed.
 const LONGEST_WAIT: u64 = 30;
 
-/// A listener of the system with the counts of its calls, as which clauses see it. No other module
-/// can change them.
+/// A listener of the system, which counts its calls. Clauses see it as these counts, which no other
+/// module can set.
 #[derive(Drop)]
 pub struct FromListener {
     listener: TcpListener,
