@@ -1,0 +1,175 @@
+//! Two runs over the same files, closed or stopped in between.
+
+ghost use Rattle.std.specs.Prelude.{◌∷◌, [], IfSome};
+ghost use Rattle.sqlite.specs.Files.{file_state, image_of};
+ghost use Rattle.sqlite.specs.State.{HasCleanDisk};
+ghost use Rattle.sqlite.specs.Tree.{Trees};
+ghost use Rattle.sqlite.specs.WalReads.{AreClean};
+ghost use Rattle.office_http_framing.specs.Serve.{ends_of};
+ghost use Rattle.office_tables.specs.Content.{Content};
+ghost use Rattle.signal_office_file.specs.Files.{AreThoseOf, HoldIn, KeepTables};
+ghost use Rattle.office_lives.specs.Life.{HoldFormerly, Life, Made};
+ghost use Rattle.office_lives.specs.Life.{in_order, migrated, to_a_stop};
+
+use office_http::{ServeFault, Served, Sink, Source};
+use signal_office_file::{FileOffice, close_office, migrate_file, serve_file};
+use signal_office_in_file::Ended;
+use sqlite::Options;
+use sqlite_disk::{Crash, Disk, Files};
+use std::alloc::Global;
+
+/// The most requests of one run.
+pub const MOST: u32 = 1_000;
+
+/// How a stream ended.
+type Outcome = Result<Served, ServeFault>;
+
+/// How two streams ended, and the files after them.
+#[derive(Drop)]
+pub struct Twice<D: Disk> {
+    pub first: Outcome,
+    pub second: Outcome,
+    pub files: Files<D>,
+}
+
+/// Serves a stream by the office over the tables in the two files, and closes them.
+fn served_once<D: Disk + Drop, R: Source, W: Sink>(
+    alloc: Global,
+    files: Files<D>,
+    reader: &mut R,
+    writer: &mut W,
+) -> Option<(Outcome, Files<D>)>
+    ensures clean { IfSome result (λ it. AreClean D.Disk it.1.log it.1.db →
+        AreClean D.Disk files.log files.db) }
+    ensures made { IfSome result (λ it. AreClean D.Disk it.1.log it.1.db →
+        (old : Content) × (new : Content) × HoldIn (image_of D.Disk files) old
+        × Made D.Disk (in_order MOST (ends_of (R.told reader.old) (W.told writer.old))
+        (ends_of (R.told reader.new) (W.told writer.new)) it.0) old new
+        × KeepTables D.Disk it.1 new) }
+{
+    let served = serve_file(alloc, files, Options::new(1), reader, writer, MOST);
+    let Ok((office, outcome)) = served else {
+        return None;
+    };
+    match close_office(office) {
+        Ok(files) => Some((outcome, files)),
+        Err(_) => None,
+    }
+}
+
+/// Serves a first stream, closes the files, opens those that came back, and serves a second one.
+pub fn served_twice<D: Disk + Drop, R: Source, W: Sink>(
+    alloc: Global,
+    files: Files<D>,
+    first_reader: &mut R,
+    first_writer: &mut W,
+    second_reader: &mut R,
+    second_writer: &mut W,
+) -> Option<Twice<D>>
+    // Each run was served from the tables that the one before it left.
+    ensures { IfSome result (λ it. AreClean D.Disk it.files.log it.files.db →
+        (old : Content) × (last : Content) × HoldIn (image_of D.Disk files) old
+        × Life D.Disk old (in_order MOST
+        (ends_of (R.told first_reader.old) (W.told first_writer.old))
+        (ends_of (R.told first_reader.new) (W.told first_writer.new)) it.first
+        ∷ in_order MOST
+        (ends_of (R.told second_reader.old) (W.told second_writer.old))
+        (ends_of (R.told second_reader.new) (W.told second_writer.new)) it.second
+        ∷ []) last × KeepTables D.Disk it.files last) }
+{
+    let (first, files) = served_once(alloc, files, first_reader, first_writer)?;
+    let (second, files) = served_once(alloc, files, second_reader, second_writer)?;
+    Some(Twice {
+        first,
+        second,
+        files,
+    })
+}
+
+/// Stops an office, at whichever call its disk fell silent: the files as the next run finds them,
+/// without what was not synced.
+fn stopped<D: Crash + Drop>(office: FileOffice<D>) -> Files<D>
+    ensures clean { AreClean D.Disk result.log result.db →
+        HasCleanDisk (file_state office.conn) }
+    // What an open finds in them is what a stop may leave.
+    ensures found { AreClean D.Disk result.log result.db → (trees : Trees) →
+        AreThoseOf (image_of D.Disk result) trees →
+        ∥ (file_state office.conn).may_leave trees ∥₁ }
+{
+    let store = office.into_shelf().into_conn().into_store();
+    let Files { mut log, mut db } = store.close();
+    log.crash();
+    db.crash();
+    Files { log, db }
+}
+
+/// Serves a first stream, stops, and serves a second one over what a stop leaves of the files. A
+/// stop at any moment of the first run is one: its disk does nothing more from then on.
+pub fn served_after_a_stop<D: Crash + Drop, R: Source, W: Sink>(
+    alloc: Global,
+    files: Files<D>,
+    first_reader: &mut R,
+    first_writer: &mut W,
+    second_reader: &mut R,
+    second_writer: &mut W,
+) -> Option<Twice<D>>
+    ensures { IfSome result (λ it. AreClean D.Disk it.files.log it.files.db →
+        (old : Content) × (last : Content) × HoldIn (image_of D.Disk files) old
+        × Life D.Disk old (to_a_stop MOST
+        (ends_of (R.told first_reader.old) (W.told first_writer.old))
+        (ends_of (R.told first_reader.new) (W.told first_writer.new)) it.first
+        ∷ in_order MOST
+        (ends_of (R.told second_reader.old) (W.told second_writer.old))
+        (ends_of (R.told second_reader.new) (W.told second_writer.new)) it.second
+        ∷ []) last × KeepTables D.Disk it.files last) }
+{
+    let served = serve_file(
+        alloc,
+        files,
+        Options::new(1),
+        first_reader,
+        first_writer,
+        MOST,
+    );
+    let Ok((office, first)) = served else {
+        return None;
+    };
+    let files = stopped(office);
+    let (second, files) = served_once(alloc, files, second_reader, second_writer)?;
+    Some(Twice {
+        first,
+        second,
+        files,
+    })
+}
+
+/// Brings the tables in the files to today's version and closes them, if that is not refused.
+fn brought_today<D: Disk + Drop>(alloc: Global, files: Files<D>) -> Option<Files<D>>
+    ensures { IfSome result (λ back. AreClean D.Disk back.log back.db →
+        (old : Content) × (new : Content) × HoldFormerly (image_of D.Disk files) old
+        × Made D.Disk migrated old new × KeepTables D.Disk back new) }
+{
+    match migrate_file(alloc, files, Options::new(1)) {
+        Ended::Closed(Ok(_), left) => left.closed(),
+        _ => None,
+    }
+}
+
+/// Brings the tables in the files to today's version, closes them, and serves a stream over the
+/// files that came back.
+pub fn migrated_and_served<D: Disk + Drop, R: Source, W: Sink>(
+    alloc: Global,
+    files: Files<D>,
+    reader: &mut R,
+    writer: &mut W,
+) -> Option<(Outcome, Files<D>)>
+    ensures { IfSome result (λ it. AreClean D.Disk it.1.log it.1.db →
+        (old : Content) × (last : Content) × HoldFormerly (image_of D.Disk files) old
+        × Life D.Disk old (migrated ∷ in_order MOST
+        (ends_of (R.told reader.old) (W.told writer.old))
+        (ends_of (R.told reader.new) (W.told writer.new)) it.0 ∷ []) last
+        × KeepTables D.Disk it.1 last) }
+{
+    let files = brought_today(alloc, files)?;
+    served_once(alloc, files, reader, writer)
+}
