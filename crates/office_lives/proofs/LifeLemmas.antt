@@ -10,13 +10,12 @@ use Rattle.office_tables_migration.specs.declared.puts.Migrated.{Migrated}
 use Rattle.office_tables_migration.proofs.Migration.{stand_anew}
 use Rattle.office_tables_open.specs.{Version.AreToday, declared.open.OpenFault.OpenFault}
 use Rattle.office_http_framing.specs.{Front.PlainRequest, Protocol.Protocol, Protocol.Run, Stops.Leaves, Stops.Storage}
-use Rattle.signal_office_file.specs.Files.{HoldIn, KeepTables}
+use Rattle.signal_office_file.specs.Files.{KeepTables}
 use Rattle.signal_office_file.specs.Left.{closed_of}
 use Rattle.signal_office_file.specs.Migrating.{ClosedMigrated, IsClosedMigrated, told_of_outcome}
 use Rattle.signal_office_file.specs.declared.left.FileLeft.{FileLeft}
 use Rattle.signal_office_file.specs.declared.left.FileLeft.TheVariants as left
-use Rattle.signal_office_file.proofs.FilesLemmas.{found_tables}
-use Rattle.office_lives.specs.Life.{HoldFormerly, Life, Lived, Made, in_order, migrated}
+use Rattle.office_lives.specs.Life.{HoldFormerly, Made, migrated}
 
 -- of less that a crash leaves at the end the same holds
 pub leaves_less : {Machine State Stored : Type 0} (protocol : Protocol State) (storage : Storage Machine State Stored) (may : Stored → Type 0) (held : Stored) (old : storage.Counts)
@@ -30,12 +29,6 @@ leaves_less protocol storage may held old before [] (answer ∷ answers) after r
 leaves_less protocol storage may held old before (request ∷ requests) [] after run more less kept new fewer it = it
 
 module _ {D : Type 0} (g : Disk D) where
-  -- a run was made of tables that files held which were closed before
-  pub then_made : (files : Files D) (old middle found last : Content) (first second : Lived) → Made g first old middle → KeepTables g files middle → HoldIn (image_of g files) found → Made g second found last
-      → Life g old (first ∷ second ∷ []) last
-  then_made files old middle found last first second one kept holds two =
-      (middle, one, last, subst (λ (t : Content). Made g second t last) (found_tables g files middle kept _ (inl refl) found holds) two, refl)
-
   -- closed files of which the migration was done
   pub done_migrated : (files : Files D) (count : Migrated) (back : FileLeft D g) → IsClosedMigrated files (Ok count) back
       → IfSome (closed_of back) (λ closed. AreClean g closed.log closed.db → (old : Content) × (new : Content) × HoldFormerly (image_of g files) old × Made g migrated old new × KeepTables g closed new)

@@ -46,7 +46,7 @@ module _ {D : Type 0} (g : Disk D) where
     pub run : Run office_protocol before requests answers after
     pub kept : Content
     pub counts : WriteCounts
-    pub leaves : Leaves office_protocol (sql_storage (file_state {D} {g})) (λ tables. tables ≡ old) old no_writes before requests answers after run (λ left. left ≡ found) kept counts
+    pub leaves : Leaves office_protocol (sql_storage (file_state {D = D} {g = g})) (λ tables. tables ≡ old) old no_writes before requests answers after run (λ left. left ≡ found) kept counts
 
   -- the requests were run from the office, and a stop after them leaves these tables
   pub record RunsToAStop (old : Content) (before after : Office) (found : Content) (requests : List PlainRequest) (answers : List (List ℕ)) : Type 0 where

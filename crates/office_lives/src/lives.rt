@@ -171,5 +171,6 @@ pub fn migrated_and_served<D: Disk + Drop, R: Source, W: Sink>(
         × KeepTables D.Disk it.1 last) }
 {
     let files = brought_today(alloc, files)?;
-    served_once(alloc, files, reader, writer)
+    let (outcome, files) = served_once(alloc, files, reader, writer)?;
+    Some((outcome, files))
 }
