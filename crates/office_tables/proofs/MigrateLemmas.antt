@@ -2,13 +2,13 @@
 use Rattle.std.proofs.Common.{◌≡◌, inl, inr, ℕ, true, false, Some, List, [], ◌∷◌, ◌++◌, length, refl, sym, ap, subst, ◌∙◌, true≢false}
 use Rattle.std.specs.{FinMap.entries, List.list_all}
 use Rattle.sqlite_rules.specs.Lists.{Has}
-use Rattle.sqlite.specs.{Tree.Trees, Effect.Database, State.State, State.Survives}
+use Rattle.sqlite.specs.{Tree.Trees, Effect.Database, Effect.IsDatabase, State.State, State.Survives}
 use Rattle.signal_records.specs.{Within.version_1_limits, declared.record.Change.Change, declared.record.Change.TheVariants.Put}
 use Rattle.signal_records.specs.declared.record.Change.TheVariants.{Remove}
 use Rattle.draft_state.specs.ChangedRows.{left_by}
 use Rattle.office_tables_shelf.specs.{Cells.Rows, Cells.null, Rows.left_columns_in, Change.changed_by, Change.changed, Content.Content}
 use Rattle.office_tables_shelf.specs.declared.rows.RowChange.{RowChange}
-use Rattle.office_tables_statements.specs.{Calls.IsHonest, Calls.Keeps, Stored.content_of, Stored.content_now}
+use Rattle.office_tables_statements.specs.{Calls.IsHonest, Calls.IsReady, Calls.Keeps, Stored.content_of, Stored.content_now}
 use Rattle.sqlite_rules.proofs.ListLemmas.{fails_has}
 use Rattle.office_tables_shelf.proofs.ListLemmas.{stands, where_all}
 use Rattle.office_tables_statements.proofs.{ListedLemmas.is_in, CallLemmas.survives_on}
@@ -19,7 +19,7 @@ use Rattle.office_machine.specs.Office.{Office, version_1}
 use Rattle.office_tables_standing.specs.StandFor.{StandForSoundIn}
 use Rattle.office_tables_migration.proofs.Migration.{migrated, stand_anew}
 use Rattle.office_tables.specs.Migrate.{HoldsToday, IsBrought, IsSpelledToday}
-use Rattle.office_tables_open.specs.Version.{version_in, current_version, first_version}
+use Rattle.office_tables_open.specs.Version.{AreToday, version_in, current_version, first_version}
 
 -- changes after changes
 pub changed_after : (tables : Content) (first second : List RowChange) → changed_by tables (first ++ second) ≡ changed_by (changed_by tables first) second
@@ -30,6 +30,10 @@ changed_after tables (c ∷ first) second = changed_after (changed tables c) fir
 pub brought_stands : (old new : Trees) (count : Migrated) → IsBrought old new count → (office : Office) → version_in old ≡ Some first_version → StandForSoundIn version_1 (content_of old) office → StandAnew (content_of new) office
 brought_stands old new count (inl is) office was before = absurd (let e : Some first_version ≡ Some current_version = sym was ∙ is.was.stored in cc)
 brought_stands old new count (inr it) office was before = stand_anew (content_of old) (content_of new) count office it.migrated before
+
+-- the office's tables, in which today's version was stored
+pub ready_today : (s : State) → IsReady s → version_in s.now.trees ≡ Some current_version → AreToday s.now.trees
+ready_today s ready stored = record { sound = subst (λ schema. IsDatabase (record s.now { schema = schema })) ready.schema ready.sound; stored = stored }
 
 -- ---- what the rows of version 1 tell
 

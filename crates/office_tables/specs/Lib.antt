@@ -16,5 +16,6 @@ pub use Rattle.office_tables_open.specs.SqlShelf
 pub use Rattle.office_tables_open.specs.Arranged
 pub use Rattle.office_tables_open.specs.Found
 pub use Rattle.office_tables_open.specs.Lacking
+pub use Rattle.office_tables_open.specs.Moved
 pub use Rattle.office_tables_open.specs.Opening
 pub use Rattle.office_tables_open.specs.Promises

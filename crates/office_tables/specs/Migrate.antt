@@ -23,7 +23,7 @@ use Rattle.office_tables_open.specs.declared.open.OpenFault.TheVariants as fault
 use Rattle.office_tables_open.specs.declared.version.TheConstants.{FIND}
 use Rattle.office_tables_open.specs.Version.{AreToday, version_in, current_version, first_version}
 
--- today's version is stored, and the tables hold this
+-- the trees are those of the office's tables, which hold this, and today's version is stored
 abbrev pub HoldsToday : Content → Trees → Type 0
 HoldsToday tables trees = (content_of trees ≡ tables) × AreToday trees
 

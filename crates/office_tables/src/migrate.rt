@@ -1,6 +1,6 @@
 //! Version 1 of the tables brought to today's version.
 
-ghost use Rattle.std.specs.Prelude.{◌≡◌, ◌≢◌, ◌++◌, false, IsTrue, IfOk, Err};
+ghost use Rattle.std.specs.Prelude.{◌≡◌, ◌≢◌, ◌++◌, false, IsTrue, IfOk, OnOk, Err};
 ghost use Rattle.sqlite.specs.State.{HasCleanDisk, Survives};
 ghost use Rattle.sqlite.specs.Held.{state};
 ghost use Rattle.office_tables_statements.specs.Stored.{content_now};
@@ -11,7 +11,8 @@ ghost use Rattle.office_tables.specs.Migrate.{AreNeither, Brings, ShowsNeither};
 ghost use Rattle.office_tables.specs.Migrate.{TellsVersion, TellsFormerDamage, TellsDamage};
 ghost use Rattle.office_tables_open.specs.Promises.{WasHonest, StaysReady, LeavesNoMore};
 ghost use Rattle.office_tables_open.specs.Promises.{KeepsTrees};
-ghost use Rattle.office_tables_open.specs.Promises.{KeepsCommitted, Commits, EndsToday};
+ghost use Rattle.office_tables_open.specs.Promises.{KeepsCommitted, Commits};
+ghost use Rattle.office_tables_open.specs.Version.{AreToday};
 ghost use Rattle.office_tables_open.specs.Promises.{IsArrangedIfClean};
 
 use office_tables_changes::change::change_rows;
@@ -98,7 +99,8 @@ fn spell_anew<S: Alter>(alloc: Global, conn: &mut Connection<S>) -> Result<Migra
     ensures office { IsOffice (state S.Store conn.new) }
     ensures honest { IsHonest (state S.Store conn.new) → IsHonest (state S.Store conn.old) }
     ensures migrated { Migrates result (state S.Store conn.old) (state S.Store conn.new) }
-    ensures stored { EndsToday result (state S.Store conn.new) }
+    ensures today { IsHonest (state S.Store conn.new) →
+        OnOk result (AreToday (state S.Store conn.new).now.trees) }
     ensures version { result ≢ Err OpenFault.Version }
     ensures damaged { TellsFormerDamage result (state S.Store conn.old) (state S.Store conn.new) }
     ensures unchanged { KeepsTrees result (state S.Store conn.old) (state S.Store conn.new) }

@@ -66,8 +66,8 @@ fn told<L: Drop>(refused: (OpenFault, L)) -> OpenFault
 impl<S: Alter> SqlShelf<S> {
     /// Takes the tables of the office. Where no table has a row they are made, also where some are
     /// missing or another layout has them. Version 2 is stored where none is and no table has a
-    /// row. Where it is stored behind the first tables and the others are missing, these are made,
-    /// and the first ones keep their rows. A transaction that is under way is refused. Where it
+    /// row. Where it is stored and tables are missing, whichever, all are made, and those that were
+    /// there keep their rows. A transaction that is under way is refused. Where it
     /// refuses, what `open_returning` gives back is dropped: no clause can say what a body does to
     /// that, so the body is one call. When Version and Damaged are told is known where no disk can
     /// fail, as in memory; over files nothing is known of a store that was dropped, and

@@ -1,12 +1,14 @@
 -- What is left of a database whose tables were refused.
-use Rattle.std.proofs.Common.{◌≡◌, ◌≢◌, ◌⊎◌, inl, inr, ℕ, false, Result, Ok, IsTrue, refl, sym, ap, subst, ◌∙◌, arith}
+use Rattle.std.proofs.Common.{◌≡◌, ◌≢◌, ◌⊎◌, inl, inr, false, Result, Ok, IsTrue, refl, sym, ap, subst, ◌∙◌, arith}
 use Rattle.std.proofs.lemmas.Result.{IfOk-weaker}
 use Rattle.sqlite.specs.{Effect.Database, Held.Held, Held.state, State.State, State.HasCleanDisk, State.Survives, Tree.Trees, View.IsClean}
 use Rattle.sqlite_trees.specs.{View.IsQuiet, View.IsRolledBack, declared.store.Store.Ghosts}
 use Rattle.office_tables_statements.specs.Calls.{IsHonest}
 use Rattle.office_tables_open.specs.Opening.{AreGone, Claims, IsAsFound, IsIdleOrSame, IsLeft, IsNewOffice, IsRefused, IsSettled, MayBeNew, OnlyReads, TellsOfTables, WereDropped, store_left}
 use Rattle.office_tables_open.specs.{Arranged.IsCheckedAgain, Found.HasOtherVersion, Found.HasRowsAlone, Found.IsUnclaimed}
-use Rattle.office_tables_open.specs.Lacking.{Completes, Lacks}
+use Rattle.sqlite_schema.specs.declared.schema.Schema.{Schema}
+use Rattle.office_tables_shelf.specs.Content.{Content}
+use Rattle.office_tables_open.specs.{Lacking.Completes, Lacking.Lacks, Moved.content_in}
 use Rattle.office_tables_open.specs.declared.open.OpenFault.{OpenFault}
 use Rattle.office_tables_open.specs.declared.open.OpenFault.TheVariants as fault
 
@@ -192,15 +194,16 @@ module _ {S : Type 0} (g : Ghosts S) (conn found : Held S) (it : IsCheckedAgain 
   }
 
   -- tables that were missing were to be made
-  pub mended_left : (c : Held S) (count : ℕ) → (IsHonest (state g c) → IsHonest (state g found)) → (IsHonest (state g c) → (state g c).committed.trees ≡ (state g found).committed.trees)
-      → (HasCleanDisk (state g found) → Lacks count (state g conn).committed.trees)
-      → Survives (state g found) (state g c) (λ trees. IsHonest (state g found) × Completes count (state g found).now.trees trees)
+  pub mended_left : (c : Held S) (schema : Schema) (tables : Content) → (IsHonest (state g c) → IsHonest (state g found)) → (IsHonest (state g c) → (state g c).committed.trees ≡ (state g found).committed.trees)
+      → (HasCleanDisk (state g found) → Lacks schema (state g conn).committed.trees)
+      → (HasCleanDisk (state g found) → tables ≡ content_in schema.tables (state g conn).committed.trees)
+      → Survives (state g found) (state g c) (λ trees. IsHonest (state g found) × Completes tables trees)
       → IsLeft g conn (AreGone g (state g conn).committed.trees) (MayBeNew g (state g conn).committed.trees) c.store
-  mended_left c count honest same lacks survives = left_before (AreGone g) (MayBeNew g) c.store
-      (ended_left g found c _ _ _ survives honest (λ h. inl (same h)) (λ h trees grown. inr (record {
-        count = count;
-        lacks = subst (Lacks count) (sym (same_then grown.0.0)) (lacks grown.0.0);
-        completes = subst (λ (t : Trees). Completes count t trees) (seen grown.0.0) grown.1;
+  mended_left c schema tables honest same lacks held survives = left_before (AreGone g) (MayBeNew g) c.store
+      (ended_left g found c _ _ _ survives honest (λ h. inl (same h)) (λ h trees refilled. inr (record {
+        schema = schema;
+        lacks = subst (Lacks schema) (sym (same_then refilled.0.0)) (lacks refilled.0.0);
+        completes = subst (λ (t : Content). Completes t trees) (held refilled.0.0 ∙ ap (content_in schema.tables) (sym (same_then refilled.0.0))) refilled.1;
       })))
 
   -- tables in another layout were dropped, and new ones to be made

@@ -4,6 +4,8 @@ pub mod OpenLemmas
 pub mod LeftLemmas
 pub mod MemoryLemmas
 mod MadeLemmas
-mod FrontLemmas
+mod DropLemmas
 pub mod LackingLemmas
+mod RefillLemmas
+pub mod MovedLemmas
 pub mod FoundLemmas

@@ -9,12 +9,12 @@ use Rattle.office_tables_schema.specs.Schema.{office_schema, no_schema, version_
 use Rattle.office_tables_statements.specs.{Calls.IsHonest, Calls.IsOffice, Stored.cells, Stored.content_now, Stored.content_of}
 use Rattle.office_tables_open.specs.Arranged.{IsArranged, IsUnchanged, IsTaken, IsCheckedAgain}
 use Rattle.office_tables_open.specs.Found.{HasOtherVersion, HasRowsAlone, IsFound, IsFoundIn, IsUnclaimed}
-use Rattle.office_tables_open.specs.Opening.{AreMade, IsMadeNew, IsOpened, IsSettled, MayBeTaken, IsOpenIfClean}
+use Rattle.office_tables_open.specs.Opening.{AreMade, IsOpened, IsSettled, MayBeTaken, IsOpenIfClean}
 use Rattle.office_tables_open.specs.{Version.AreEmpty, Version.TellsOther, Version.version_in, Version.current_version, Lacking.Hold}
-use Rattle.office_tables_open.specs.{Lacking.IsLacking, Lacking.Rise, SqlShelf.SqlView, declared.found.Found.Found}
+use Rattle.office_tables_open.specs.{SqlShelf.SqlView, declared.found.Found.Found}
 use Rattle.office_tables_open.specs.declared.found.Found.TheVariants.{Nothing, RowsAlone, OtherVersion}
 use Rattle.office_tables_open.proofs.{ArrangedLemmas.tables_rise, FoundLemmas.found_empty, FoundLemmas.store_none, FoundLemmas.have_no_row}
-use Rattle.office_tables_open.proofs.{LackingLemmas.hold_none, LackingLemmas.unclaimed_whole, VersionLemmas.empty_content}
+use Rattle.office_tables_open.proofs.{LackingLemmas.hold_blank, LackingLemmas.office_hold}
 
 -- the tables of the office in a database that holds what it lists
 pub arranged_office : (s : State) → s.in_transaction ≡ false → s.now.schema ≡ office_schema → (IsHonest s → s.now ≡ s.committed)
@@ -49,13 +49,13 @@ module _ {S : Type 0} (g : Ghosts S) (conn : Held S) (shelf : SqlView S) where
 
     -- tables that were found
     pub opened_looked : IsSettled (state g conn) → (IsHonest (state g new) → IsHonest (state g conn)) → (IsHonest (state g new) → content_now (state g new) ≡ content_now (state g conn))
-        → ((state g conn).now.schema ≡ no_schema → ⊥) → (IsHonest (state g new) → MayBeTaken (state g conn).now.trees) → (IsHonest (state g new) → ¬ IsLacking (state g conn).now.trees)
+        → ((state g conn).now.schema ≡ no_schema → ⊥) → (IsHonest (state g new) → MayBeTaken (state g conn).now.trees) → (IsHonest (state g new) → AreListed ((state g conn).now.trees catalog_tree) office_schema)
         → (IsHonest (state g new) → version_in (state g new).now.trees ≡ Some current_version) → IsOpened g conn shelf
-    opened_looked settled honest same foreign taken whole stored = subst (λ (s : SqlView S). IsOpened g conn s) shown (record {
+    opened_looked settled honest same foreign taken listed stored = subst (λ (s : SqlView S). IsOpened g conn s) shown (record {
       opened = opened;
       honest = λ h. (honest h).0;
       taken = λ h. subst (λ (d : Database). MayBeTaken d.trees) (settled (honest h).1) (taken h);
-      kept = λ h. inl (subst (λ (d : Database). ¬ IsLacking d.trees) (settled (honest h).1) (whole h), same h ∙ ap (λ (d : Database). content_of d.trees) (settled (honest h).1));
+      kept = λ h. office_hold (state g conn).committed.trees _ (subst (λ (d : Database). AreListed (d.trees catalog_tree) office_schema) (settled (honest h).1) (listed h)) (same h ∙ ap (λ (d : Database). content_of d.trees) (settled (honest h).1));
       made = λ h blank. absurd (foreign blank);
       stored = stored;
       schema = office.schema;
@@ -63,20 +63,18 @@ module _ {S : Type 0} (g : Ghosts S) (conn : Held S) (shelf : SqlView S) where
       unwritten = none;
     })
 
-    made_new : (IsHonest (state g new) → IsMadeNew (state g conn) (state g new)) → IsHonest (state g new) → Hold (state g conn).committed.trees (content_now (state g new))
-    made_new made h =
-        let was = (state g conn).committed.trees in
-        inl (unclaimed_whole was (made h).unclaimed, (made h).office.content ∙ sym (empty_content was (made h).empty))
-
     -- tables that were made
     pub opened_made : (IsHonest (state g new) → AreMade (state g conn) (state g new)) → IsOpened g conn shelf
     opened_made made = subst (λ (s : SqlView S). IsOpened g conn s) shown (record {
       opened = opened;
       honest = λ h. elim (made h) [ inl all ↦ all.was_clean | inr some ↦ some.was_clean ];
-      taken = λ h. elim (made h) [ inl all ↦ inr (inl all.unclaimed) | inr some ↦ inr (inr (some.completed.count, some.completed.lacks)) ];
-      kept = λ h. elim (made h) [ inl all ↦ made_new (λ _. all) h | inr some ↦ inr (some.completed.count, some.completed.lacks, some.completed.completes.content) ];
+      taken = λ h. elim (made h) [ inl all ↦ inr (inl all.unclaimed) | inr some ↦ inr (inr (some.completed.schema, some.completed.lacks)) ];
+      kept = λ h. elim (made h) [
+        | inl all ↦ subst (Hold (state g conn).committed.trees) (sym all.office.content) all.held
+        | inr some ↦ (some.completed.schema, some.completed.lacks.listed, some.completed.completes.content)
+      ];
       made = λ h blank. elim (made h) [ inl all ↦ all.office.content | inr some ↦ absurd (some.some blank) ];
-      stored = λ h. elim (made h) [ inl all ↦ all.office.stored | inr some ↦ some.completed.completes.stored ];
+      stored = λ h. elim (made h) [ inl all ↦ all.office.stored | inr some ↦ some.completed.completes.today.stored ];
       schema = office.schema;
       crash = crash;
       unwritten = none;
@@ -113,12 +111,6 @@ again old new view it autocommit clean opens trees settled = record {
     same : HasCleanDisk new → new.committed.trees ≡ old.committed.trees
     same h = sym (ap (λ (d : Database). d.trees) (opens h).0.clean) ∙ kept h
 
--- the rows of its tables rise
-pub again_rises : (old new : State) → IsCheckedAgain old new → IsHonest new → Rise new
-again_rises old new it h =
-    let opens = it.opens h.0 in
-    tables_rise new.now.trees (subst (λ (d : Database). IsArranged d.trees) (sym opens.0.clean) (it.arranged h.0)) new.now.schema (opens.1 opens.0.is_open).0.lists.listed
-
 -- what its tables hold, whatever their layout
 module _ (s : State) (settled : s.now ≡ s.committed) where
   found_listed : (f : Found) → IsFoundIn f s → IsDatabase s.committed × IsFound f s.committed.schema.tables s.committed.trees
@@ -143,13 +135,13 @@ module _ (s : State) (settled : s.now ≡ s.committed) where
 -- the connection as it was before its database was checked again
 module _ {S : Type 0} (g : Ghosts S) (conn found : Held S) (clean : HasCleanDisk (state g found) → HasCleanDisk (state g conn))
     (same : HasCleanDisk (state g found) → (state g found).committed.trees ≡ (state g conn).committed.trees) where
-  pub opened_before : (HasCleanDisk (state g found) → (state g conn).now.schema ≡ no_schema → AreEmpty (state g conn).committed.trees) → (shelf : SqlView S) → IsOpened g found shelf → IsOpened g conn shelf
+  pub opened_before : (HasCleanDisk (state g found) → (state g conn).now.schema ≡ no_schema → AreListed ((state g conn).committed.trees catalog_tree) no_schema) → (shelf : SqlView S) → IsOpened g found shelf → IsOpened g conn shelf
   opened_before blank shelf it = record {
     opened = it.opened;
     honest = λ h. clean (it.honest h);
     taken = λ h. subst MayBeTaken (same (it.honest h)) (it.taken h);
     kept = λ h. subst (λ (t : Trees). Hold t (content_now (state g shelf.conn))) (same (it.honest h)) (it.kept h);
-    made = λ h is. hold_none (state g conn).committed.trees (content_now (state g shelf.conn)) (blank (it.honest h) is)
+    made = λ h is. hold_blank (state g conn).committed.trees (content_now (state g shelf.conn)) (blank (it.honest h) is)
         (subst (λ (t : Trees). Hold t (content_now (state g shelf.conn))) (same (it.honest h)) (it.kept h));
     stored = it.stored;
     schema = it.schema;

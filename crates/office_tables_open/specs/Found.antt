@@ -10,9 +10,14 @@ use Rattle.sqlite_schema.specs.declared.schema.Column.{Column}
 use Rattle.sqlite_schema.specs.declared.schema.Schema.{Schema}
 use Rattle.sqlite_schema.specs.declared.schema.Table.{Table}
 use Rattle.sqlite_trees.specs.Objects.{catalog_tree}
+use Rattle.office_tables_schema.specs.Schema.{IsOffices}
 use Rattle.office_tables_shelf.specs.Cells.{number}
 use Rattle.office_tables_open.specs.Version.{version_at}
+use Rattle.office_tables_open.specs.Moved.{moved_from, parts}
 use Rattle.office_tables_open.specs.declared.found.Found.{Found}
+use Rattle.office_tables_open.specs.declared.found.Seen.{Seen}
+use Rattle.office_tables_open.specs.declared.gather.Moved.{Moved}
+use Rattle.office_tables_open.specs.declared.gather.TheConstants.{CHILDREN_FIRST}
 use Rattle.office_tables_open.specs.declared.found.Found.TheVariants.{Nothing, RowsAlone, OtherVersion, Today, Unknown}
 use Rattle.office_tables_open.specs.declared.found.TheConstants.{EIGHT, KEEPER, COLUMNS}
 
@@ -98,3 +103,12 @@ IsFound Unknown tables trees = Unit {0}
 pub record IsFoundIn (found : Found) (s : State) : Type 0 where
   pub live : IsDatabase s.now
   pub holds : IsFound found s.now.schema.tables s.committed.trees
+
+-- the rows of all tables were read, each of which is the office's but for its number
+pub record IsMoved (moved : List Moved) (tables : List Table) (trees : Trees) : Type 0 where
+  pub alike : AllByRecursion IsOffices tables
+  pub rows : map parts moved ≡ moved_from CHILDREN_FIRST tables trees
+
+-- so it is where they store today's version
+abbrev pub IsMovedToday : Seen → List Table → Trees → Type 0
+IsMovedToday seen tables trees = seen.found ≡ Today → IsMoved seen.moved.items tables trees

@@ -3,5 +3,6 @@ pub mod SqlShelf
 pub mod Arranged
 pub mod Found
 pub mod Lacking
+pub mod Moved
 pub mod Opening
 pub mod Promises

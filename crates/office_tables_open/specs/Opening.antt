@@ -19,7 +19,7 @@ use Rattle.office_tables_open.specs.declared.open.TheConstants.{DROPS}
 use Rattle.office_tables_open.specs.declared.open.OpenFault.{OpenFault}
 use Rattle.office_tables_open.specs.declared.open.OpenFault.TheVariants as fault
 
--- version 2 is stored, also where tables are missing behind the first ones; or none is and no table has a row
+-- version 2 is stored, also where tables are missing; or none is and no table has a row
 abbrev pub MayBeTaken : Trees → Type 0
 MayBeTaken trees = (version_in trees ≡ Some current_version) ⊎ (IsUnclaimed trees ⊎ IsLacking trees)
 
@@ -49,6 +49,7 @@ pub record IsNew (s : State) : Type 0 where
 pub record IsMadeNew (old new : State) : Type 0 where
   pub was_clean : HasCleanDisk old
   pub unclaimed : IsUnclaimed old.committed.trees
+  pub held : Hold old.committed.trees no_content
   pub empty : AreEmpty old.committed.trees
   pub office : IsNewOffice new.now.trees
 

@@ -11,10 +11,12 @@ ghost use Rattle.sqlite_value.specs.Value.{owned};
 ghost use Rattle.sqlite_value.specs.declared.value.Value.TheVariants.{Int};
 ghost use Rattle.office_tables_open.specs.Arranged.{IsUnchanged, IsTaken, IsCheckedAgain};
 ghost use Rattle.office_tables_open.specs.Found.{IsOneOf, StoresAt, IsFound};
-ghost use Rattle.office_tables_open.specs.Found.{IsFoundAt, IsFoundIn};
+ghost use Rattle.office_tables_open.specs.Found.{IsFoundAt, IsFoundIn, IsMovedToday};
 ghost use Rattle.office_tables_open.specs.Opening.{IsAsFound};
 
+use crate::gather::{Moved, gathered};
 use crate::version::VERSION;
+use office_tables_schema::are_of_office;
 use office_tables_statements::statement::SqlFault;
 use sqlite::{Alter, Connection};
 use sqlite_schema::schema::{Column, Table};
@@ -248,15 +250,50 @@ fn fault_of(error: StoreError) -> SqlFault {
     }
 }
 
+/// What tables hold, and their rows where they store today's version and each is the office's but
+/// for its number.
+#[derive(Drop)]
+pub struct Seen {
+    pub found: Found,
+    pub moved: Vec<Moved>,
+}
+
+/// What the tables hold, and the rows of the office's where today's version is stored.
+fn look<S: Store>(alloc: Global, store: &mut S, tables: &[Table]) -> Result<Seen, StoreError>
+    ensures found { IsClean (S.Store.view store.new) →
+        IfOk result (λ s. IsFound s.found tables.now (S.Store.view store.old).trees) }
+    ensures moved { IsClean (S.Store.view store.new) →
+        IfOk result (λ s. IsMovedToday s tables.now (S.Store.view store.old).trees) }
+    ensures same { IsClean (S.Store.view store.new) →
+        OnOk result (IsUnchanged (S.Store.view store.old) (S.Store.view store.new)) }
+    ensures quiet { IsQuiet S.Store.view S.Store.faults S.Store.recovers S.Store.is_shielded
+        store.old store.new }
+{
+    let found = found_in(alloc, store, tables)?;
+    let moved = Vec::new(alloc);
+    let Found::Today = found else {
+        return Ok(Seen { found, moved });
+    };
+    if !are_of_office(tables) {
+        let found = Found::Unknown;
+        return Ok(Seen { found, moved });
+    }
+    let moved = gathered(alloc, store, tables)?;
+    Ok(Seen { found, moved })
+}
+
 /// The same database, checked again, and what its tables hold. Where it is refused its store comes
 /// back.
 pub fn looked<S: Alter + Drop>(
     alloc: Global,
     conn: Connection<S>,
-) -> Result<(Found, Connection<S>), (SqlFault, S)>
+) -> Result<(Seen, Connection<S>), (SqlFault, S)>
     ensures again { IfOk result (λ f. IsCheckedAgain (state S.Store conn) (state S.Store f.1)) }
     ensures found { IfOk result (λ f. HasCleanDisk (state S.Store f.1) →
-        IsFoundIn f.0 (state S.Store conn)) }
+        IsFoundIn f.0.found (state S.Store conn)) }
+    ensures moved { IfOk result (λ f. HasCleanDisk (state S.Store f.1) →
+        IsMovedToday f.0 (state S.Store conn).now.schema.tables
+        (state S.Store conn).committed.trees) }
     ensures left { IfErr result (λ e. IsAsFound S.Store conn e.1) }
 {
     let copied = conn.schema().copy(alloc);
@@ -267,7 +304,7 @@ pub fn looked<S: Alter + Drop>(
     let Ok(schema) = copied else {
         return Err((SqlFault::NoMemory, store));
     };
-    let held = match found_in(alloc, &mut store, schema.tables.as_slice()) {
+    let held = match look(alloc, &mut store, schema.tables.as_slice()) {
         Ok(held) => held,
         Err(error) => return Err((fault_of(error), store)),
     };

@@ -2,6 +2,8 @@
 #![tactic(auto)]
 
 pub mod found;
+pub mod gather;
 mod missing;
 pub mod open;
+mod refill;
 pub mod version;

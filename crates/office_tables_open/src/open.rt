@@ -20,7 +20,7 @@ ghost use Rattle.office_tables_open.specs.Promises.{IsArrangedIfClean};
 use crate::found::{EIGHT, Found, KEEPER, is_one_of, looked};
 use crate::missing::complete;
 use crate::version::{VERSION, are_empty, is_version, put_version, store_version, stored_version};
-use office_tables_schema::{CREATES, front_of, is_blank, is_office};
+use office_tables_schema::{CREATES, is_blank, is_office};
 use office_tables_shelf::shelf::ShelfFault;
 use office_tables_statements::statement::SqlFault;
 use signal_records::NoMemory;
@@ -132,7 +132,7 @@ pub(crate) fn run_all<S: Alter>(tx: &mut Transaction<'_, S>, texts: &[&str]) -> 
 }
 
 /// Makes all tables in the order of their numbers, and stores today's version.
-fn make_all<S: Alter>(tx: &mut Transaction<'_, S>) -> Result<(), SqlFault>
+pub(crate) fn make_all<S: Alter>(tx: &mut Transaction<'_, S>) -> Result<(), SqlFault>
     ensures same_reference { tx.new.conn.ghost_name ≡ tx.old.conn.ghost_name }
     ensures stands { StandsOn (state S.Store tx.old.conn.now) (state S.Store tx.new.conn.now) }
     ensures crash { LeavesNoMore (state S.Store tx.old.conn.now) (state S.Store tx.new.conn.now) }
@@ -325,27 +325,21 @@ fn laid_anew<S: Alter + Drop>(
         AreMade (state S.Store conn) (state S.Store c)) }
     ensures refused { IfErr result (λ e. IsRefused S.Store conn e.0 e.1) }
 {
-    let front = front_of(conn.schema());
-    let (held, mut conn) = match looked(alloc, conn) {
+    let (seen, mut conn) = match looked(alloc, conn) {
         Ok(found) => found,
         Err((fault, store)) => return Err((OpenFault::from(fault), Err(store))),
     };
-    match held {
+    match seen.found {
         Found::Nothing => match make_anew(&mut conn) {
             Ok(()) => Ok(conn),
             Err(fault) => Err((OpenFault::from(fault), Ok(conn))),
         },
         Found::RowsAlone => Err((OpenFault::Damaged, Ok(conn))),
         Found::OtherVersion => Err((OpenFault::Version, Ok(conn))),
-        Found::Today => {
-            let Some(count) = front else {
-                return Err((OpenFault::Store, Ok(conn)));
-            };
-            match complete(&mut conn, count) {
-                Ok(()) => Ok(conn),
-                Err(fault) => Err((OpenFault::from(fault), Ok(conn))),
-            }
-        }
+        Found::Today => match complete(alloc, &mut conn, seen.moved) {
+            Ok(()) => Ok(conn),
+            Err(fault) => Err((OpenFault::from(fault), Ok(conn))),
+        },
         Found::Unknown => Err((OpenFault::Store, Ok(conn))),
     }
 }

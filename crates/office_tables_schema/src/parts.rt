@@ -1,13 +1,13 @@
 //! The parts of a schema, compared with what they have to be.
 
-ghost use Rattle.std.specs.Prelude.{◌≡◌, ◌<◌, ◌^◌, None, Some, [], ◌∷◌, false, map, take};
-ghost use Rattle.std.specs.Prelude.{length, slice_get, IsTrue};
+ghost use Rattle.std.specs.Prelude.{◌≡◌, ◌<◌, ◌^◌, None, Some, [], ◌∷◌, false, map};
+ghost use Rattle.std.specs.Prelude.{slice_get, IsTrue};
 ghost use Rattle.std.specs.List.{AllByRecursion};
 ghost use Rattle.sqlite_value.specs.declared.value.Value.TheVariants.{Int};
 ghost use Rattle.sqlite_value.specs.Keys.{plain};
 ghost use Rattle.sqlite_schema.specs.declared.code.Op.TheVariants.{Column as AColumn, Literal as ALiteral};
+ghost use Rattle.office_tables_schema.specs.Schema.{numbered, IsAlikeOne};
 ghost use Rattle.office_tables_schema.specs.Wanted.{column_wanted, reference_wanted, ComparesAt, checks_wanted, key_of, primary_of, uniques_of, orders_of, table_wanted, index_wanted, indexes_wanted};
-ghost use Rattle.office_tables_schema.specs.Schema.{numbered};
 
 use sqlite_items::Items;
 use sqlite_schema::code::{Op, Terms};
@@ -214,7 +214,7 @@ fn is_plain(table: &Table) -> bool
 }
 
 /// Whether this is the table, whatever its number.
-pub(crate) fn is_alike(table: &Table, want: &WantedTable<'_>) -> bool
+fn is_alike(table: &Table, want: &WantedTable<'_>) -> bool
     ensures is { IsTrue result → table.now ≡ numbered (table_wanted want.now) table.now.tree }
     ensures other { table.now ≡ numbered (table_wanted want.now) table.now.tree → IsTrue result }
 {
@@ -224,6 +224,16 @@ pub(crate) fn is_alike(table: &Table, want: &WantedTable<'_>) -> bool
         && are_checks(&table.checks, &want.check)
         && are_references(table.references.as_slice(), want.references)
         && is_plain(table)
+}
+
+/// Whether this is one of the wanted tables, whatever its number.
+pub(crate) fn is_one_of(table: &Table, wanted: &[WantedTable<'_>]) -> bool
+    ensures { IsTrue result → IsAlikeOne (map table_wanted wanted.now) table.now }
+{
+    let Some((want, wanted)) = wanted.split_first() else {
+        return false;
+    };
+    is_alike(table, want) || is_one_of(table, wanted)
 }
 
 fn is_table(table: &Table, want: &WantedTable<'_>) -> bool
@@ -244,20 +254,6 @@ pub(crate) fn are_tables(tables: &[Table], wanted: &[WantedTable<'_>]) -> bool
         return false;
     };
     is_table(table, want) && are_tables(tables, wanted)
-}
-
-/// Whether these are the first of the wanted tables.
-pub(crate) fn are_first_tables(tables: &[Table], wanted: &[WantedTable<'_>]) -> bool
-    ensures { IsTrue result →
-        tables.now ≡ take (length tables.now) (map table_wanted wanted.now) }
-{
-    let Some((table, tables)) = tables.split_first() else {
-        return true;
-    };
-    let Some((want, wanted)) = wanted.split_first() else {
-        return false;
-    };
-    is_table(table, want) && are_first_tables(tables, wanted)
 }
 
 /// Whether this is the index of that table's PRIMARY KEY.
@@ -290,22 +286,4 @@ pub(crate) fn are_indexes(indexes: &[Index], wanted: &[WantedTable<'_>]) -> bool
         return false;
     };
     is_index(index, name, want.tree, places) && are_indexes(indexes, wanted)
-}
-
-/// Whether these are the first indexes of the tables' PRIMARY KEYs.
-pub(crate) fn are_first_indexes(indexes: &[Index], wanted: &[WantedTable<'_>]) -> bool
-    requires { AllByRecursion (λ w. w.tree < 2 ^ 31) wanted.now }
-    ensures { IsTrue result →
-        indexes.now ≡ take (length indexes.now) (indexes_wanted wanted.now) }
-{
-    let Some((index, others)) = indexes.split_first() else {
-        return true;
-    };
-    let Some((want, wanted)) = wanted.split_first() else {
-        return false;
-    };
-    let WantedKey::Places(places, name) = &want.key else {
-        return are_first_indexes(indexes, wanted);
-    };
-    is_index(index, name, want.tree, places) && are_first_indexes(others, wanted)
 }

@@ -52,19 +52,6 @@ pub(crate) const OFFICE_VERSION: &str = "\
     CREATE TABLE office_version (one INTEGER PRIMARY KEY CHECK (one = 1), \
     version INTEGER NOT NULL) STRICT";
 
-/// The table that keeps the version, which is the last.
-pub(crate) const KEEPER: WantedTable<'static> = WantedTable {
-    name: "office_version",
-    tree: 15,
-    key: WantedKey::Rowid,
-    columns: &[
-        WantedColumn("one", Kind::Integer, false),
-        WantedColumn("version", Kind::Integer, true),
-    ],
-    check: Some(WantedCheck(CompareOp::Eq, 0, 1)),
-    references: &[],
-};
-
 /// Each table in the order of the numbers. A number is a place in the catalog, where each PRIMARY
 /// KEY that is no rowid takes the next one for its index.
 static TABLES: [WantedTable<'static>; 9] = [
@@ -183,7 +170,17 @@ static TABLES: [WantedTable<'static>; 9] = [
             WantedReference("work_order", &[1, 2]),
         ],
     },
-    KEEPER,
+    WantedTable {
+        name: "office_version",
+        tree: 15,
+        key: WantedKey::Rowid,
+        columns: &[
+            WantedColumn("one", Kind::Integer, false),
+            WantedColumn("version", Kind::Integer, true),
+        ],
+        check: Some(WantedCheck(CompareOp::Eq, 0, 1)),
+        references: &[],
+    },
 ];
 
 /// What all tables have to be, in the order of their numbers.

@@ -10,7 +10,7 @@ use Rattle.office_desk.specs.StandFor.{StandForSound}
 use Rattle.office_machine.specs.Office.{Office}
 use Rattle.office_tables.specs.{Content.Content, Stored.content_now, Stored.content_of}
 use Rattle.office_tables_open.specs.{Lacking.Hold, SqlShelf.IsCurrent, Version.AreToday}
-use Rattle.office_tables_open.proofs.LackingLemmas.{today_content}
+use Rattle.office_tables_open.proofs.LackingLemmas.{hold_office}
 use Rattle.signal_office_file.specs.Files.{AreThoseOf, HoldIn, IsImageOf, KeepTables, StandInBoth}
 
 -- files that hold a database alone are read as that database
@@ -19,8 +19,7 @@ held_alone image db trees holds those = ∥∥₁_elim holds.both (Trees-set _ _
 
 -- today's tables hold their own content
 pub hold_today : (trees : Trees) (tables : Content) → AreToday trees → Hold trees tables → tables ≡ content_of trees
-hold_today trees tables today (inl whole) = whole.1
-hold_today trees tables today (inr lacks) = lacks.2 ∙ today_content trees lacks.0 lacks.1 today.stored
+hold_today trees tables today hold = hold_office trees tables today.sound.lists.listed hold
 
 module _ {D : Type 0} (g : Disk D) (files : Files D) where
   -- the last commit stands in closed files

@@ -15,6 +15,11 @@ use Rattle.office_tables.specs.Stored.{content_of}
 use Rattle.office_tables_open.specs.Lacking.{Hold}
 use Rattle.office_tables_open.specs.Version.{AreToday}
 
+-- the trees are those of the office's tables with today's version, and hold what the others hold
+pub record IsAlike (trees found : Trees) : Type 0 where
+  pub today : AreToday found
+  pub content : content_of found ≡ content_of trees
+
 -- the trees are those that an open finds in the files: of a database, its own
 pub record AreThoseOf (image : Image) (trees : Trees) : Type 0 where
   pub holds : (db : Trees) → HoldsDatabase image db → trees ≡ db

@@ -16,7 +16,7 @@ use Rattle.office_tables_open.specs.Opening.{IsCleanStore, IsRefused, store_left
 use Rattle.office_tables_open.specs.declared.open.OpenFault.{OpenFault}
 use Rattle.signal_office_faults.specs.declared.fault.Fault.{Fault}
 use Rattle.signal_office_faults.specs.declared.fault.Fault.TheVariants as fault
-use Rattle.signal_office_file.specs.Files.{AreUsable}
+use Rattle.signal_office_file.specs.Files.{AreUsable, IsAlike}
 use Rattle.signal_office_file.specs.Told.{told_of, told_of_error}
 use Rattle.signal_office_file.specs.declared.left.FileLeft.{FileLeft}
 use Rattle.signal_office_file.specs.declared.left.FileLeft.TheVariants as left
@@ -71,9 +71,9 @@ module _ {D : Type 0} {g : Disk D} where
   IsCleanFile (left.Unopened back) = IsCleanLeft back
   IsCleanFile (left.Database back) = IsCleanStore over_files (store_left over_files back)
 
-  -- a database that is left recovers to these trees
+  -- a database that is left recovers to tables like these
   abbrev pub RecoversTo : Trees → FileLeft D g → Type 0
-  RecoversTo trees (left.Database back) = (found : Trees) → over_files.recovers (store_left over_files back) found → found ≡ trees
+  RecoversTo trees (left.Database back) = (found : Trees) → over_files.recovers (store_left over_files back) found → IsAlike trees found
   RecoversTo trees _ = Unit {0}
 
   -- files of today's tables were refused neither for their version nor for their rows

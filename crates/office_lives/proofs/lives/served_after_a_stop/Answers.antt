@@ -25,7 +25,7 @@ returns g c clean =
         run = it.serves.ran.run;
         kept = it.kept;
         counts = last.counts;
-        leaves = leaves_less office_protocol (sql_storage file_state) _ _ _ _ requests answers ran.0 it.serves.ran.run _ _ it.kept last.counts
+        leaves = leaves_less office_protocol (sql_storage (file_state {g = g.D.Disk})) _ _ _ _ requests answers ran.0 it.serves.ran.run _ _ it.kept last.counts
             (λ left is. (was_clean, two.2.trees, may, sym (is ∙ hold_today two.2.trees two.0 (c.in-Ok.ensures.current.left was_clean two.2.trees may) two.2.hold))) it.serves.ran.leaves;
       });
     }) ran.1)), (two.1, two.3, refl)), two.4)

@@ -4,7 +4,7 @@ use Rattle.sqlite.specs.{Effect.Database, Held.state}
 use Rattle.sqlite_trees.specs.Objects.{catalog_tree}
 use Rattle.sqlite_catalog.specs.Listing.{AreListed}
 use Rattle.office_tables_schema.specs.Schema.{no_schema}
-use Rattle.office_tables_open.proofs.{FoundLemmas.blank_rows, FoundLemmas.blank_unclaimed, OpenLemmas.arranged_office}
+use Rattle.office_tables_open.proofs.{FoundLemmas.blank_rows, FoundLemmas.blank_unclaimed, LackingLemmas.blank_hold, OpenLemmas.arranged_office}
 use Rattle.office_tables_open.proofs.LeftLemmas.{made_left, refused_given, refused_left}
 use Rattle.office_tables_open.proofs.open.prepared.Goals as goal
 
@@ -16,7 +16,7 @@ returns-in-Ok-clause-made g c made honest =
     let is : s.now.schema ≡ no_schema = sym c.schema.ensures.value ∙ c.is_blank.ensures.blank c.if-is_blank.true in
     let listed : AreListed (s.now.trees catalog_tree) no_schema = subst (AreListed (s.now.trees catalog_tree)) is (c.schema.ensures.live opened).0.lists.listed in
     let none = subst (λ (d : Database). AreListed (d.trees catalog_tree) no_schema) (c.is_autocommit.ensures.settled c.if-not-is_autocommit.false opened) listed in
-    inl (record { was_clean = early.0; unclaimed = blank_unclaimed s.committed.trees (c.requires early.0) none; empty = blank_rows s.committed.trees (c.requires early.0) none; office = c.in-Ok.ensures.made honest })
+    inl (record { was_clean = early.0; unclaimed = blank_unclaimed s.committed.trees (c.requires early.0) none; held = blank_hold s.committed.trees none; empty = blank_rows s.committed.trees (c.requires early.0) none; office = c.in-Ok.ensures.made honest })
 
 pub returns-in-Err-clause-refused : goal.returns-in-Err-clause-refused
 returns-in-Err-clause-refused g c =

@@ -1,11 +1,14 @@
 use Rattle.std.proofs.Common.{◌≡◌, ◌⊎◌, inl, inr, Err, Some, IsTrue, refl, sym, ap, subst, ◌∙◌, true≢false}
-use Rattle.sqlite.specs.{Effect.Database, Effect.IsDatabase, Held.state, State.State, Tree.Trees}
+use Rattle.sqlite_catalog.specs.Listing.{AreListed}
+use Rattle.sqlite_trees.specs.Objects.{catalog_tree}
+use Rattle.office_tables_schema.specs.Schema.{office_schema}
+use Rattle.sqlite.specs.{Effect.Database, Held.state, State.State, Tree.Trees}
 use Rattle.office_tables_statements.specs.{Calls.IsHonest, Calls.IsOffice, Stored.content_now, Stored.content_of}
-use Rattle.office_tables_open.specs.{Found.HasOtherVersion, Found.HasRowsAlone, Lacking.IsLacking, Opening.Claims, Opening.MayBeTaken}
+use Rattle.office_tables_open.specs.{Found.HasOtherVersion, Found.HasRowsAlone, Opening.Claims, Opening.MayBeTaken}
 use Rattle.office_tables_open.specs.{Opening.IsOpenIfClean, SqlShelf.IsCurrent, Version.AreToday, Version.version_in, Version.current_version}
 use Rattle.office_tables_open.specs.{Opening.OnlyReads, declared.open.OpenFault.TheVariants.Version}
 use Rattle.office_tables_open.specs.declared.open.OpenFault.TheVariants.{Damaged}
-use Rattle.office_tables_open.proofs.{LackingLemmas.office_whole, LeftLemmas.refused_claimed, OpenLemmas.opened_looked}
+use Rattle.office_tables_open.proofs.{LackingLemmas.office_lists, LackingLemmas.office_today, LeftLemmas.refused_claimed, OpenLemmas.opened_looked}
 use Rattle.office_tables_open.proofs.OpenLemmas.{opened_made}
 use Rattle.office_tables.proofs.sql_shelf.SqlShelf.open_arranged.Goals as goal
 
@@ -19,10 +22,7 @@ current s office opened settled stored = record {
   left = λ clean trees left.
       let honest = opened clean in
       let same = settled trees honest.1 left ∙ sym (ap (λ (d : Database). d.trees) (office.settled honest)) in
-      subst AreToday (sym same) (record {
-        sound = subst (λ schema. IsDatabase (record s.now { schema = schema })) (office.schema honest) (office.sound honest);
-        stored = stored honest;
-      });
+      subst AreToday (sym same) (office_today s office honest (stored honest));
 }
 
 pub invariant_of-result : goal.invariant_of-result
@@ -32,7 +32,7 @@ invariant_of-result g c =
     current (state g.S.Store new) c.in-Ok.ensures.office (c.in-Ok.ensures.open c.if-is_new.true)
     (g.met.S.Store.settled new.store) (λ honest. elim (made honest) [
       | inl all ↦ all.office.stored
-      | inr some ↦ some.completed.completes.stored
+      | inr some ↦ some.completed.completes.today.stored
     ])
 
 pub invariant_of-result-in-Ok-claim : goal.invariant_of-result-in-Ok-claim
@@ -62,7 +62,7 @@ returns-in-Ok-claim-clause-opened g c =
     it.open
     (c.in-Ok.ensures.settled is) (λ h. subst (λ x. IsHonest (state g.S.Store x)) same (it.honest h))
     (λ h. it.same h ∙ ap (λ x. content_now (state g.S.Store x)) same) (λ blank. true≢false (sym (c.in-Ok.ensures.blank blank) ∙ is))
-    (λ h. subst (λ x. MayBeTaken (state g.S.Store x).now.trees) same (it.taken h)) (λ h. subst (λ x. ¬ IsLacking (state g.S.Store x).now.trees) same (office_whole (state g.S.Store c.in-Ok.found.0) c.in-Ok.ensures.office (it.honest h))) it.stored
+    (λ h. subst (λ x. MayBeTaken (state g.S.Store x).now.trees) same (it.taken h)) (λ h. subst (λ x. AreListed ((state g.S.Store x).now.trees catalog_tree) office_schema) same (office_lists (state g.S.Store c.in-Ok.found.0) c.in-Ok.ensures.office (it.honest h))) it.stored
 
 pub returns-in-Err-claim-clause-refused : goal.returns-in-Err-claim-clause-refused
 returns-in-Err-claim-clause-refused g c =

@@ -4,8 +4,7 @@ use Rattle.sqlite.specs.{Effect.Database, Held.state, State.HasCleanDisk}
 use Rattle.sqlite_trees.specs.Objects.{catalog_tree}
 use Rattle.sqlite_catalog.specs.Listing.{AreListed}
 use Rattle.office_tables_schema.specs.Schema.{no_schema}
-use Rattle.office_tables_open.specs.{Arranged.IsArranged, Version.AreEmpty}
-use Rattle.office_tables_open.proofs.{FoundLemmas.blank_rows, LeftLemmas.as_left, LeftLemmas.refused_before, LeftLemmas.refused_given}
+use Rattle.office_tables_open.proofs.{LeftLemmas.as_left, LeftLemmas.refused_before, LeftLemmas.refused_given}
 use Rattle.office_tables_open.proofs.{LeftLemmas.refused_left, OpenLemmas.opened_before}
 use Rattle.office_tables.proofs.sql_shelf.SqlShelf.open_returning.Goals as goal
 
@@ -26,11 +25,10 @@ returns-in-Ok-clause-opened g c =
     let found = state g.S.Store c.in-Ok.conn in
     let it = c.in-Ok.ensures.again in
     let same : HasCleanDisk found → found.committed.trees ≡ old.committed.trees = λ h. sym (ap (λ (d : Database). d.trees) (it.opens h).0.clean) ∙ it.kept h in
-    let blank : HasCleanDisk found → old.now.schema ≡ no_schema → AreEmpty old.committed.trees = λ h is.
+    let blank : HasCleanDisk found → old.now.schema ≡ no_schema → AreListed (old.committed.trees catalog_tree) no_schema = λ h is.
     let opened = it.was_open h in
     let listed = subst (AreListed (old.now.trees catalog_tree)) is (c.schema.ensures.live opened).0.lists.listed in
-    let none = subst (λ (d : Database). AreListed (d.trees catalog_tree) no_schema) (c.is_autocommit.ensures.settled c.if-not-is_autocommit.false opened) listed in
-    blank_rows old.committed.trees (subst IsArranged (same h) (it.arranged h)) none in
+    subst (λ (d : Database). AreListed (d.trees catalog_tree) no_schema) (c.is_autocommit.ensures.settled c.if-not-is_autocommit.false opened) listed in
     IfOk-weaker c.open_arranged.result _ _ (opened_before g.S.Store c.args.conn c.in-Ok.conn (λ h. omega (arith, h, it.clean)) same blank) c.open_arranged.ensures.opened
 
 pub returns-in-Ok-clause-refused : goal.returns-in-Ok-clause-refused
