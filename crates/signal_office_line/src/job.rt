@@ -1,16 +1,19 @@
 //! What the words of a command line ask for.
 
 ghost use Rattle.std.specs.Prelude.{◌≡◌, Some, IfOk, IfErr, [], ◌∷◌, map, true, is_some};
-ghost use Rattle.clap.specs.Simple.{subcommand_of};
+ghost use Rattle.clap.specs.Kinds.{FailsBy};
+ghost use Rattle.clap.specs.Simple.{subcommand_of, subcommand_rows_of};
 ghost use Rattle.clap.specs.Takes.{takes};
+ghost use Rattle.clap.specs.Values.{kind_of};
 ghost use Rattle.signal_office_line.specs.CommandLine.{signal_app};
 ghost use Rattle.signal_office_line.specs.Job.{asked, job_in};
-ghost use Rattle.signal_office_line.specs.Refusals.{IsRefusedBy, clap_refusals, refusals_of};
+ghost use Rattle.signal_office_line.specs.Refusals.{IsJudged, IsRefusalTold, IsRefusedBy};
+ghost use Rattle.signal_office_line.specs.Refusals.{clap_refusals, refusals_of};
 
 use crate::command_line::command_line;
 use crate::jobs::job_at;
 use clap::error::ErrorKind;
-use clap::{Command, Error};
+use clap::{ArgMatches, Error};
 use signal_values::{InterId, Interval, PatternNo};
 use std::alloc::{AllocError, Global};
 
@@ -158,17 +161,6 @@ pub enum JobFault {
     NoMemory,
 }
 
-impl From<AllocError> for JobFault {
-    ghost use Rattle.std.specs.Prelude.{◌≡◌};
-    ghost use Rattle.signal_office_line.specs.declared.job.JobFault.TheVariants as told;
-
-    ghost from_gives = { λ _ fault. fault ≡ told.NoMemory };
-
-    fn from(_: AllocError) -> JobFault {
-        JobFault::NoMemory
-    }
-}
-
 impl From<Error> for JobFault {
     ghost use Rattle.signal_office_line.specs.Refusals.{IsToldAs};
 
@@ -188,22 +180,46 @@ const NO_JOB: &str =
     1 to 9999, INTERVAL 1 to 3650, PATTERN 1 to 48; or words are too few, too many, or not to be \
     given together";
 
-/// The refusal of a value, as the command line tells it.
-fn refused_value(command: &mut Command<'_>) -> JobFault
-    ensures { IsRefusedBy (ErrorKind.ValueValidation ∷ []) result }
+/// What `clap` answers to the words.
+fn matches_of<'a>(alloc: Global, words: &'a [&'a str]) -> Result<ArgMatches<'a>, Error>
+    ensures found { IfOk result (λ matches. subcommand_rows_of matches
+        ≡ subcommand_of signal_app (map (λ word. word.now) words.entry.now)) }
+    ensures kinds { FailsBy (clap_refusals (map (λ word. word.now) words.entry.now)) result }
+    ensures passes { IfErr result (λ error.
+        takes signal_app (map (λ word. word.now) words.entry.now) ≡ true →
+        kind_of error ≡ ErrorKind.OutOfMemory) }
 {
-    match command.error(ErrorKind::ValueValidation, NO_JOB) {
-        Ok(error) => JobFault::Refused(error),
-        Err(_) => JobFault::NoMemory,
+    command_line(alloc)?.try_get_matches_from(words)
+}
+
+/// What `clap` answers where it is to refuse a value.
+fn value_refusal(alloc: Global) -> Result<Error, AllocError>
+    ensures { IfOk result (λ error. kind_of error ≡ ErrorKind.ValueValidation) }
+{
+    command_line(alloc)?.error(ErrorKind::ValueValidation, NO_JOB)
+}
+
+/// What the words ask for, if anything, by what `clap` answered to them. Out of memory is told
+/// exactly where `clap` told it.
+fn judged<'a>(answer: Result<ArgMatches<'a>, Error>) -> Result<Option<Job<'a>>, JobFault>
+    ensures { IsJudged answer.entry result }
+{
+    match answer {
+        Ok(matches) => match matches.subcommand() {
+            Some((name, inner)) => Ok(job_at(name, inner)),
+            None => Ok(None),
+        },
+        Err(error) => Err(JobFault::from(error)),
     }
 }
 
-/// The words are refused, since a number is out of its range, or they don't go together.
-fn no_job(alloc: Global) -> JobFault
-    ensures { IsRefusedBy (ErrorKind.ValueValidation ∷ []) result }
+/// The refusal of a value, by what `clap` answered. Out of memory is told exactly where `clap`
+/// told it.
+fn value_refused(answer: Result<Error, AllocError>) -> JobFault
+    ensures { IsRefusalTold answer result }
 {
-    match command_line(alloc) {
-        Ok(mut command) => refused_value(&mut command),
+    match answer {
+        Ok(error) => JobFault::Refused(error),
         Err(_) => JobFault::NoMemory,
     }
 }
@@ -221,23 +237,16 @@ pub fn job_of<'a>(alloc: Global, words: &'a [&'a str]) -> Result<Job<'a>, JobFau
     // a value.
     ensures refused { IfErr result (λ fault.
         IsRefusedBy (refusals_of (map (λ word. word.now) words.entry.now)) fault) }
-    // Words that `clap` takes, and that ask for a job, are refused for want of memory alone.
+    // Words that `clap` takes, and that ask for a job, are refused only where memory ran out.
     ensures answered { IfErr result (λ fault.
         takes signal_app (map (λ word. word.now) words.entry.now) ≡ true →
         is_some (job_in (subcommand_of signal_app (map (λ word. word.now) words.entry.now))) ≡ true
         →
         fault ≡ JobFault.NoMemory) }
 {
-    let command = command_line(alloc)?;
-    let matches = match command.try_get_matches_from(words) {
-        Ok(matches) => matches,
-        Err(error) => return Err(JobFault::from(error)),
-    };
-    let Some((name, inner)) = matches.subcommand() else {
-        return Err(no_job(alloc));
-    };
-    match job_at(name, inner) {
-        Some(job) => Ok(job),
-        None => Err(no_job(alloc)),
+    match judged(matches_of(alloc, words)) {
+        Ok(Some(job)) => Ok(job),
+        Ok(None) => Err(value_refused(value_refusal(alloc))),
+        Err(fault) => Err(fault),
     }
 }
