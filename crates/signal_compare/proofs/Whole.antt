@@ -1,7 +1,7 @@
 -- The differences of the rows of two sets are those of the sets.
-use Rattle.std.proofs.Common.{◌≡◌, ◌≢◌, Bool, true, false, cond, T, List, [], ◌∷◌, Option, Some}
+use Rattle.std.proofs.Common.{◌≡◌, Bool, true, false, cond, T, List, [], ◌∷◌, Option, Some}
 use Rattle.std.proofs.Common.{None, Result, Ok, Err, map, refl, sym, ap, subst, ◌∙◌}
-use Rattle.std.specs.Prelude.{◌↔◌, IfOk, IsSome}
+use Rattle.std.specs.Prelude.{IfOk}
 use Rattle.std.specs.{Ordering.is_lt, Ordering.eq_by_cmp, List.AllByRecursion, List.Sorted.IsStrictlySortedBy}
 use Rattle.std.specs.{declared.cmp.Ordering.TheVariants.Less, FinMap.find, FinMap.get, FinMap.entries, FinMap.entries_sorted, FinMap.values}
 use Rattle.std.specs.{FinMap.get-entries, FinMap.get-insert, FinMap.get-remove, FinMap.same_map, FinMap.Entries.below_all}
@@ -10,7 +10,8 @@ use Rattle.signal_records.specs.{declared.key.Key.Key, declared.record.Row.Row, 
 use Rattle.signal_records.specs.{Row.key_of, TimingSet.Rows, TimingSet.AreKeyed, TimingSet.after_change, TimingSet.after_changes}
 use Rattle.signal_compare.specs.{declared.difference.Difference.Difference, declared.difference.Difference.TheVariants.Added}
 use Rattle.signal_compare.specs.declared.difference.Difference.TheVariants.{Removed, Changed}
-use Rattle.signal_compare.specs.Difference.{place_of, change_of, changes_of, difference_at, Explains}
+use Rattle.signal_compare.specs.Difference.{place_of, change_of, changes_of, difference_at, AreTold}
+use Rattle.signal_compare.specs.Difference.{Explains}
 use Rattle.signal_compare.specs.Merging.{keyed, placed, AreInOrder, AreDifferences}
 use Rattle.signal_records.proofs.Sets.{keyed_values}
 use Rattle.signal_values.proofs.Ties.{is_less, parts}
@@ -51,17 +52,6 @@ ascend [] h = tt
 ascend (d ∷ ds) h =
     let each = parts (below_all key_cmp (place_of d) (placed ds)) _ h in
     (below_each (place_of d) ds each.0, ascend ds each.1)
-
--- where something is told the two differ, and only there
-told_where : (first second : Option Row) (told : Option Difference) → Explains first second told
-    → IsSome told ↔ (first ≢ second)
-told_where first second None same = (λ e. cc, λ differ. absurd (differ same))
-told_where first second (Some (Added row)) h =
-    (λ e same. let a = h.0 in let b = h.1 in cc, λ differ. refl)
-told_where first second (Some (Removed row)) h =
-    (λ e same. let a = h.0 in let b = h.1 in cc, λ differ. refl)
-told_where first second (Some (Changed before after)) h =
-    (λ e same. h.2 (let a = h.0 in let b = h.1 in cc), λ differ. refl)
 
 -- what a key has after its difference was made
 abbrev made : Option Difference → Option Row → Option Row
@@ -107,9 +97,6 @@ module _ (first second : Rows) (before after : List Row) (of_first : AreRowsOf f
   explained q = rw (← found first before of_first q, ← found second after of_second q)
       (are.explained q)
 
-  exact : (q : Key) → IsSome (difference_at q ds) ↔ (get first q ≢ get second q)
-  exact q = told_where _ _ (difference_at q ds) (explained q)
-
   makes : after_changes first (changes_of ds) ≡ second
   makes = same_map key_total key_exact _ _ (λ q. made_all first ds q are.sorted
       ∙ made_told _ _ (difference_at q ds) (explained q))
@@ -121,22 +108,13 @@ module _ {V E : Type 0} (items : V → List Difference) (first second : Rows)
   abbrev Compared : Result V E → Type 0
   Compared result = IfOk result (λ v. AreDifferences before after (items v))
 
-  pub given_ascending : (result : Result V E) → Compared result
-      → IfOk result (λ v. IsStrictlySortedBy key_cmp (map place_of (items v)))
-  given_ascending (Ok v) are = ascend (items v) are.sorted
-  given_ascending (Err e) are = tt
-
-  pub given_exact : (result : Result V E) → Compared result
-      → IfOk result (λ v. (q : Key) → IsSome (difference_at q (items v))
-      ↔ (get first q ≢ get second q))
-  given_exact (Ok v) are = exact first second before after of_first of_second (items v) are
-  given_exact (Err e) are = tt
-
-  pub given_explained : (result : Result V E) → Compared result
-      → IfOk result (λ v. (q : Key) → Explains (get first q) (get second q)
-      (difference_at q (items v)))
-  given_explained (Ok v) are = explained first second before after of_first of_second (items v) are
-  given_explained (Err e) are = tt
+  pub given_told : (result : Result V E) → Compared result
+      → IfOk result (λ v. AreTold first second (items v))
+  given_told (Ok v) are = record {
+    ascending = ascend (items v) are.sorted;
+    explained = explained first second before after of_first of_second (items v) are;
+  }
+  given_told (Err e) are = tt
 
   pub given_makes : (result : Result V E) → Compared result
       → IfOk result (λ v. after_changes first (changes_of (items v)) ≡ second)

@@ -1,13 +1,14 @@
 -- What two timing sets differ in.
-use Rattle.std.specs.Prelude.{◌≡◌, ◌≢◌, ◌↔◌, List, map, Option, Some, None, IsSome}
+use Rattle.std.specs.Prelude.{◌≡◌, ◌≢◌, List, map, Option, Some, None}
 use Rattle.std.specs.FinMap.{find, get}
+use Rattle.std.specs.List.Sorted.{IsStrictlySortedBy}
 use Rattle.signal_records.specs.declared.key.Key.{Key}
 use Rattle.signal_records.specs.declared.record.Row.{Row}
 use Rattle.signal_records.specs.declared.record.Change.{Change}
 use Rattle.signal_records.specs.declared.record.Change.TheVariants.{Put, Remove}
 use Rattle.signal_records.specs.Key.{key_cmp}
 use Rattle.signal_records.specs.Row.{key_of}
-use Rattle.signal_records.specs.TimingSet.{Rows, after_changes}
+use Rattle.signal_records.specs.TimingSet.{Rows}
 use Rattle.signal_compare.specs.declared.difference.Difference.{Difference}
 use Rattle.signal_compare.specs.declared.difference.Difference.TheVariants.{Added, Removed, Changed}
 
@@ -39,19 +40,13 @@ Explains first second (Some (Removed row)) = (first ≡ Some row) × (second ≡
 Explains first second (Some (Changed before after)) =
     (first ≡ Some before) × (second ≡ Some after) × (before ≢ after)
 
--- a key has a difference exactly where the sets have different rows under it
-abbrev pub ExactlyWhereTheyDiffer : Rows → Rows → List Difference → Type 0
-ExactlyWhereTheyDiffer first second differences =
-    (key : Key) → IsSome (difference_at key differences) ↔ (get first key ≢ get second key)
-
 -- at each key, what is told is what stands there
 abbrev pub EachKeyExplained : Rows → Rows → List Difference → Type 0
 EachKeyExplained first second differences =
     (key : Key) → Explains (get first key) (get second key) (difference_at key differences)
 
--- the differences are those of the sets, each told as what stands there, and their changes make
--- the second set
+-- The differences are those of the sets, in the order of their keys, each told as what stands
+-- there. So no other list is told of the two sets.
 pub record AreTold (first second : Rows) (found : List Difference) : Type 0 where
-  pub exact : ExactlyWhereTheyDiffer first second found
+  pub ascending : IsStrictlySortedBy key_cmp (map place_of found)
   pub explained : EachKeyExplained first second found
-  pub makes : after_changes first (changes_of found) ≡ second

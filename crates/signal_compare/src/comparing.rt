@@ -1,11 +1,8 @@
 //! Two timing sets compared.
 
-ghost use Rattle.std.specs.Prelude.{◌≡◌, map, drop, IfOk, OnOk};
-ghost use Rattle.std.specs.List.Sorted.{IsStrictlySortedBy};
-ghost use Rattle.signal_records.specs.Key.{key_cmp};
+ghost use Rattle.std.specs.Prelude.{◌≡◌, drop, IfOk, OnOk};
 ghost use Rattle.signal_records.specs.TimingSet.{after_changes};
-ghost use Rattle.signal_compare.specs.Difference.{place_of, changes_of};
-ghost use Rattle.signal_compare.specs.Difference.{ExactlyWhereTheyDiffer, EachKeyExplained};
+ghost use Rattle.signal_compare.specs.Difference.{AreTold, changes_of};
 ghost use Rattle.signal_compare.specs.Merging.{AreInOrder, AreDifferences, TellsChange, next_order};
 
 use crate::difference::Difference;
@@ -94,10 +91,7 @@ pub fn compare(
     first: &TimingSet,
     second: &TimingSet,
 ) -> Result<Vec<Difference>, NoMemory>
-    ensures ascending { IfOk result
-        (λ found. IsStrictlySortedBy key_cmp (map place_of found.items)) }
-    ensures exact { IfOk result (λ found. ExactlyWhereTheyDiffer first.now second.now found.items) }
-    ensures explained { IfOk result (λ found. EachKeyExplained first.now second.now found.items) }
+    ensures told { IfOk result (λ found. AreTold first.now second.now found.items) }
     ensures makes { IfOk result
         (λ found. after_changes first.now (changes_of found.items) ≡ second.now) }
 {

@@ -1,13 +1,17 @@
 -- The plans that are compared and drawn.
-use Rattle.std.specs.Prelude.{◌≡◌, ◌⊎◌, ℕ, List, Ok, Err}
+use Rattle.std.specs.Prelude.{◌≡◌, ◌⊎◌, ℕ, List, Result, Ok, Err}
 use Rattle.signal_records.specs.TimingSet.{Rows}
 use Rattle.signal_compare.specs.declared.difference.Difference.{Difference}
 use Rattle.signal_compare.specs.Difference.{AreTold}
 use Rattle.office_files.specs.Changes.{changes_of}
 use Rattle.office_files.specs.Plan.{IsPlan}
+use Rattle.office_files.specs.declared.fault.BadRow.{BadRow}
 use Rattle.office_files.specs.declared.fault.CsvFault.{CsvFault}
+use Rattle.office_files.specs.declared.fault.CsvFault.TheVariants as file
 use Rattle.office_tables_shelf.specs.Content.{Content}
 use Rattle.signal_office_faults.specs.declared.fault.Fault.{Fault}
+use Rattle.signal_office_faults.specs.declared.fault.Fault.TheVariants as told
+use Rattle.signal_office_commands.specs.Asking.{IsUnread}
 use Rattle.signal_office_commands.specs.Showing.{ShowsTiming, ShowsDraft}
 
 -- they are those of the plans of two files
@@ -18,9 +22,16 @@ pub record ComparesFiles (first second : List ℕ) (found : List Difference) : T
   pub second_is : IsPlan second after
   pub told : AreTold before after found
 
--- the first bad record of the first file, or that of the second
-abbrev pub IsFirstBad : List ℕ → List ℕ → CsvFault → Type 0
-IsFirstBad first second why = (changes_of first ≡ Err why) ⊎ (changes_of second ≡ Err why)
+-- the first bad record of the second file is told as that
+abbrev pub IsOtherUnread : {A : Type 0} → Result A CsvFault → Fault → Type 0
+IsOtherUnread read fault =
+    (bad : BadRow) × (fault ≡ told.OtherCsv bad) × (read ≡ Err (file.Row bad))
+
+-- the first bad record of the first file; that of the second only where the first spells a plan
+abbrev pub IsFirstBad : List ℕ → List ℕ → Fault → Type 0
+IsFirstBad first second why =
+    IsUnread (changes_of first) why
+    ⊎ ((before : Rows) × IsPlan first before × IsOtherUnread (changes_of second) why)
 
 -- they are those of a committed timing set and its draft
 pub record ComparesDraft (tables : Content) (id : ℕ) (found : List Difference) : Type 0 where

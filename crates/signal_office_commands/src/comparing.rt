@@ -1,9 +1,11 @@
 //! What two plans differ in.
 
 ghost use Rattle.std.specs.Prelude.{◌≢◌, IfOk, IfErr};
+ghost use Rattle.office_files.specs.Changes.{changes_of};
+ghost use Rattle.office_files.specs.Plan.{IsPlan};
 ghost use Rattle.office_tables_shelf.specs.Keeps.{KeepsShelf};
 ghost use Rattle.signal_office_commands.specs.Comparing.{ComparesDraft, ComparesFiles, IsFirstBad};
-ghost use Rattle.signal_office_commands.specs.Comparing.{IsRefusedQuery};
+ghost use Rattle.signal_office_commands.specs.Comparing.{IsOtherUnread, IsRefusedQuery};
 
 use crate::showing::{draft_in, timing_in};
 use office_desk::office::Office;
@@ -11,22 +13,33 @@ use office_files::{CsvFault, read_plan_csv};
 use office_tables_shelf::shelf::Shelf;
 use signal_compare::{Difference, compare};
 use signal_office_faults::Fault;
-use signal_records::InterId;
+use signal_records::{InterId, TimingSet};
 use std::alloc::Global;
 
+/// The plan in the second of two files. Its first bad record is told as that of the other file.
+fn other_plan(alloc: Global, bytes: &[u8]) -> Result<TimingSet, Fault>
+    ensures plan { IfOk result (IsPlan bytes.now) }
+    ensures fault { IfErr result (λ why. why ≢ Fault.Memory →
+        IsOtherUnread (changes_of bytes.now) why) }
+{
+    match read_plan_csv(alloc, bytes) {
+        Ok(plan) => Ok(plan),
+        Err(CsvFault::Row(bad)) => Err(Fault::OtherCsv(bad)),
+        Err(CsvFault::NoMemory) => Err(Fault::Memory),
+    }
+}
+
 /// What the plans in two CSV files differ in, in the order of their keys, or the first bad record.
-pub fn compare_files(
-    alloc: Global,
-    first: &[u8],
-    second: &[u8],
-) -> Result<Vec<Difference>, CsvFault>
+/// That of the second file is told only where the first spells a plan.
+pub fn compare_files(alloc: Global, first: &[u8], second: &[u8]) -> Result<Vec<Difference>, Fault>
     ensures found { IfOk result (λ found. ComparesFiles first.now second.now found.items) }
-    ensures fault { IfErr result (λ why. why ≢ CsvFault.NoMemory →
+    ensures fault { IfErr result (λ why. why ≢ Fault.Memory →
         IsFirstBad first.now second.now why) }
 {
     let before = read_plan_csv(alloc, first)?;
-    let after = read_plan_csv(alloc, second)?;
-    Ok(compare(alloc, &before, &after)?)
+    let after = other_plan(alloc, second)?;
+    let differences = compare(alloc, &before, &after)?;
+    Ok(differences)
 }
 
 /// What the draft of an intersection's timing set changes of the committed one, in the order of

@@ -2,7 +2,7 @@
 
 ghost use Rattle.std.specs.Prelude.{◌≤◌};
 
-use office_files::CsvFault;
+use office_files::{BadRow, CsvFault};
 use office_http_framing::ends::WriteFailed;
 use office_http_framing::engine::ServeFault;
 use office_machine::refusal::Refusal;
@@ -42,8 +42,10 @@ pub enum Fault {
     Refused(Refusal),
     /// The office refused a record of the CSV file, counted from 1.
     Record { at: usize, refusal: Refusal },
-    /// A record of the CSV file spells nothing.
+    /// A record of the CSV file spells nothing; where two are compared, of the first.
     Csv(CsvFault),
+    /// A record of the second of two CSV files spells nothing.
+    OtherCsv(BadRow),
     /// The words are not UTF-8.
     Words,
 }
@@ -86,6 +88,7 @@ impl fmt::Display for Fault {
                 write!(f, "fault: record {at}: {name}")
             }
             Fault::Csv(fault) => write!(f, "fault: {fault}"),
+            Fault::OtherCsv(bad) => write!(f, "fault: other {bad}"),
             Fault::Words => f.write_str("the command line is not UTF-8"),
         }
     }

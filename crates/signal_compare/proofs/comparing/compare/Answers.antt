@@ -1,4 +1,4 @@
-use Rattle.signal_compare.proofs.Whole.{rows_of, in_order, given_ascending, given_exact, given_explained, given_makes}
+use Rattle.signal_compare.proofs.Whole.{rows_of, in_order, given_told, given_makes}
 use Rattle.signal_compare.proofs.comparing.compare.Goals as goal
 
 pub differences_of-requires-clause-first : goal.differences_of-requires-clause-first
@@ -9,23 +9,9 @@ pub differences_of-requires-clause-second : goal.differences_of-requires-clause-
 differences_of-requires-clause-second c = in_order c.args.second.now c.deref-2.result.now
     (rows_of c.deref-2.ensures.value c.in_ok-after.ensures.rows c.in_ok-after.ensures.keyed)
 
-pub returns-clause-ascending : goal.returns-clause-ascending
-returns-clause-ascending c =
-    given_ascending (λ found. found.items) c.args.first.now c.args.second.now _ _
-    (rows_of c.deref.ensures.value c.in_ok-before.ensures.rows c.in_ok-before.ensures.keyed)
-    (rows_of c.deref-2.ensures.value c.in_ok-after.ensures.rows c.in_ok-after.ensures.keyed)
-    c.differences_of.result c.differences_of.ensures
-
-pub returns-clause-exact : goal.returns-clause-exact
-returns-clause-exact c =
-    given_exact (λ found. found.items) c.args.first.now c.args.second.now _ _
-    (rows_of c.deref.ensures.value c.in_ok-before.ensures.rows c.in_ok-before.ensures.keyed)
-    (rows_of c.deref-2.ensures.value c.in_ok-after.ensures.rows c.in_ok-after.ensures.keyed)
-    c.differences_of.result c.differences_of.ensures
-
-pub returns-clause-explained : goal.returns-clause-explained
-returns-clause-explained c =
-    given_explained (λ found. found.items) c.args.first.now c.args.second.now _ _
+pub returns-clause-told : goal.returns-clause-told
+returns-clause-told c =
+    given_told (λ found. found.items) c.args.first.now c.args.second.now _ _
     (rows_of c.deref.ensures.value c.in_ok-before.ensures.rows c.in_ok-before.ensures.keyed)
     (rows_of c.deref-2.ensures.value c.in_ok-after.ensures.rows c.in_ok-after.ensures.keyed)
     c.differences_of.result c.differences_of.ensures

@@ -13,9 +13,5 @@ returns-clause-found g c = λ honest.
       draft_is =
           subst (λ tables. ShowsDraft tables c.args.id (Ok c.in_ok-draft.draft)) same
           (c.in_ok-draft.ensures.shown honest);
-      told = record {
-        exact = c.in_ok-compare.ensures.exact;
-        explained = c.in_ok-compare.ensures.explained;
-        makes = c.in_ok-compare.ensures.makes;
-      };
+      told = c.in_ok-compare.ensures.told;
     }
