@@ -1,5 +1,5 @@
 -- Counts of a judge, and how far they rise.
-use Rattle.std.specs.Prelude.{◌≡◌, ℕ, ◌+◌, ◌-◌, ◌^◌, ◌≤◌, List, [], ◌∷◌, length, Option, Some, None}
+use Rattle.std.specs.Prelude.{◌≡◌, ℕ, ◌+◌, ◌-◌, ◌^◌, ◌<◌, ◌≤◌, List, [], ◌∷◌, length, Option, Some, None}
 use Rattle.signal_records.specs.declared.record.Pattern.{Pattern}
 use Rattle.signal_records.specs.TimingSet.{Rows}
 use Rattle.signal_rules.specs.declared.violation.Subject.{Subject}
@@ -14,6 +14,10 @@ greatest = 2 ^ 64 - 1
 -- a count that rises by at most this much, and stays at `u64::MAX` once there
 abbrev pub RisesAtMost : ℕ → ℕ → ℕ → Type 0
 RisesAtMost most before after = (before ≤ after) × (after ≤ before + most) × (before ≡ greatest → after ≡ greatest)
+
+-- a count that rises by at least this much, unless it comes to `u64::MAX`
+abbrev pub RisesAtLeast : ℕ → ℕ → ℕ → Type 0
+RisesAtLeast least before after = after < greatest → before + least ≤ after
 
 -- the lengths of a sequence's rows for some rings, together
 abbrev pub entries_of : Rows → ℕ → List ℕ → ℕ

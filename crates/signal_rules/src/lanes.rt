@@ -10,7 +10,7 @@ ghost use Rattle.signal_rules.specs.CutPoints.{timed};
 ghost use Rattle.signal_rules.specs.Starts.{times, rings_fill};
 ghost use Rattle.signal_rules.specs.Slots.{spans_at, spans_from, spans_of, has_second, are_mates};
 ghost use Rattle.signal_rules.specs.Slots.{all_are_mates, listings_in, agree_where_begun};
-ghost use Rattle.signal_rules.specs.Counts.{RisesAtMost};
+ghost use Rattle.signal_rules.specs.Counts.{RisesAtLeast, RisesAtMost};
 
 use crate::lookup::{phase_at, ring_row, split_at};
 use signal_records::{NoMemory, Pattern, PhaseNo, RingNo, Split, TimingSet};
@@ -117,10 +117,11 @@ fn push_slot<'s>(
 }
 
 /// V13, where the rings fill the cycle: they agree at each second at which one of them starts a
-/// phase, and so at each second. Each comparison is a tick.
+/// phase, and so at each second. Each comparison is a tick: where they agree, one for each slot.
 pub(crate) fn rings_agree(slots: &[Slot<'_>], ticks: &mut u64) -> bool
     ensures agree { result ≡ agree_where_begun slots.now slots.now }
     ensures ticks { RisesAtMost (length slots.now) ticks.old ticks.new }
+    ensures counted { result ≡ true → RisesAtLeast (length slots.now) ticks.old ticks.new }
 {
     for slot in slots {
         *ticks = ticks.saturating_add(1);

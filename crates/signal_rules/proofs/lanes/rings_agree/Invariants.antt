@@ -1,5 +1,5 @@
 use Rattle.std.proofs.Common.{◌≡◌, ◌+◌, ◌≤◌, drop}
-use Rattle.signal_rules.specs.{Slots.agree_where_begun, Counts.greatest}
+use Rattle.signal_rules.specs.{Slots.agree_where_begun, Counts.greatest, Counts.RisesAtLeast}
 use Rattle.signal_rules.proofs.lanes.rings_agree.Given as goal
 
 abbrev pub invariant-loop-slot : goal.invariant-loop-slot
@@ -8,4 +8,5 @@ invariant-loop-slot l = record {
   low : l.fn.ticks ≤ l.ticks;
   high : l.ticks ≤ l.fn.ticks + l.slot-index;
   stays : l.fn.ticks ≡ greatest → l.ticks ≡ greatest;
+  counted : RisesAtLeast l.slot-index l.fn.ticks l.ticks;
 }
