@@ -24,7 +24,7 @@ use Rattle.signal_office_commands.specs.{Intersection.ShowsIntersection, Paging.
 use Rattle.signal_page.specs.{declared.shown.IntersectionShown.IntersectionShown, Page.IsPage}
 
 -- what is made of a reply that is not Unavailable is made of the office's own answer
-made_of_answer : {A : Type 0} (made : Reply → Result A Fault) (tables : Content) (office : Office) (asked : Command) (value : A)
+pub made_of_answer : {A : Type 0} (made : Reply → Result A Fault) (tables : Content) (office : Office) (asked : Command) (value : A)
     → made (reply.Refused refusal.Unavailable) ≢ Ok value
     → Answered made tables asked tables (Ok value) → StandForSound tables office
     → made (answered office asked).0 ≡ Ok value

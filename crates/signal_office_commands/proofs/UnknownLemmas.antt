@@ -1,5 +1,5 @@
 -- An unknown intersection is told where the office has none, and only there.
-use Rattle.std.proofs.Common.{◌≡◌, ◌≢◌, inl, inr, ℕ, Option, Some, None, Result, Err, refl, sym, ap, ◌∙◌}
+use Rattle.std.proofs.Common.{◌≡◌, ◌≢◌, inl, inr, ℕ, Option, Some, None, Result, Ok, Err, refl, sym, ap, ◌∙◌}
 use Rattle.std.specs.FinMap.{get}
 use Rattle.draft_core.specs.Transaction.{Draft}
 use Rattle.office_tables_shelf.specs.Content.{Content}
@@ -11,12 +11,14 @@ use Rattle.office_machine.specs.Step.{draft_shown as draft_of_intersection, cabi
 use Rattle.office_machine.specs.declared.command.Command.TheVariants as command
 use Rattle.office_machine.specs.declared.refusal.Refusal.TheVariants as refusal
 use Rattle.office_machine.specs.declared.reply.Reply.TheVariants as reply
-use Rattle.signal_office_commands.specs.{Asking.Answered, Fault.TellsUnknown, Showing.state_shown, Showing.timing_shown}
+use Rattle.signal_office_commands.specs.{Asking.Answered, Comparing.ComparesNoDraft, Drawing.DrawsNoTiming, Fault.IsUnshown, Fault.TellsUnknown, Showing.state_shown, Showing.timing_shown}
+use Rattle.signal_office_commands.specs.Showing.{ShowsTiming, ShowsDraft, ShowsCabinet}
+use Rattle.signal_records.specs.TimingSet.{Rows}
 use Rattle.signal_office_commands.specs.{Showing.draft_shown, Showing.cabinet_shown, Intersection.IsRefusedShowing}
 use Rattle.signal_office_commands.specs.{Intersection.ShowsIntersection, Paging.shown_of}
 use Rattle.signal_office_faults.specs.declared.fault.Fault.{Fault}
 use Rattle.signal_office_faults.specs.declared.fault.Fault.TheVariants as told
-use Rattle.signal_office_commands.proofs.{ShownLemmas.all_shown, FaultLemmas.there_tells}
+use Rattle.signal_office_commands.proofs.{ShownLemmas.all_shown, ShownLemmas.made_of_answer, FaultLemmas.there_tells}
 use Rattle.signal_page.specs.declared.shown.IntersectionShown.{IntersectionShown}
 
 -- a fault that is made of no unknown intersection tells none, where there is one
@@ -75,3 +77,55 @@ memory_tells tables office id it shows stands =
     by_all (all_shown tables office id it shows stands) where
       by_all : ((i : Intersection) × (get office.intersections id ≡ Some i) × (it ≡ shown_of office.register id i)) → TellsUnknown office id told.Memory
       by_all (i, there, is) = there_tells office id i there
+
+-- ---- where a query shows what it is asked for, there is an intersection
+
+found_tells : {A : Type 0} (made : Reply → Result A Fault) (office : Office) (id : ℕ) (show : Intersection → Reply) (found : Option Intersection) (it : A) (why : Fault)
+    → get office.intersections id ≡ found
+    → made (reply.Refused refusal.UnknownIntersection) ≢ Ok it
+    → made (shown found show) ≡ Ok it → why ≢ told.UnknownIntersection
+    → TellsUnknown office id why
+found_tells made office id show None it why is none e other = absurd (none e)
+found_tells made office id show (Some i) it why is none e other =
+    record { unknown = λ same. absurd (other same); missing = λ none. cc }
+
+pub timing_there : (tables : Content) (office : Office) (id : ℕ) (rows : Rows) (why : Fault)
+    → ShowsTiming tables id (Ok rows) → StandForSound tables office → why ≢ told.UnknownIntersection
+    → TellsUnknown office id why
+timing_there tables office id rows why shows stands other =
+    found_tells timing_shown office id (λ i. reply.Timing (timing_of_intersection i)) (get office.intersections id) rows why refl (λ e. cc)
+    (made_of_answer timing_shown tables office (command.Timing id) rows (λ e. cc) shows stands) other
+
+-- and so each query tells it, where nothing is made of what it shows
+pub timing_tells : (tables : Content) (office : Office) (id : ℕ) (why : Fault)
+    → IsUnshown (ShowsTiming tables id) why → StandForSound tables office → TellsUnknown office id why
+timing_tells tables office id why (inl refused) stands = refused_tells tables office id why (inr (inl refused)) stands
+timing_tells tables office id why (inr (memory, rows, shows)) stands =
+    timing_there tables office id rows why shows stands (λ e. cc)
+
+pub draft_tells : (tables : Content) (office : Office) (id : ℕ) (why : Fault)
+    → IsUnshown (ShowsDraft tables id) why → StandForSound tables office → TellsUnknown office id why
+draft_tells tables office id why (inl refused) stands = refused_tells tables office id why (inr (inr (inl refused))) stands
+draft_tells tables office id why (inr (memory, rows, shows)) stands =
+    found_tells draft_shown office id (λ i. draft_of_intersection i.timing.draft) (get office.intersections id) rows why refl (λ e. cc)
+    (made_of_answer draft_shown tables office (command.Draft id) rows (λ e. cc) shows stands) (λ e. cc)
+
+pub cabinet_tells : (tables : Content) (office : Office) (id : ℕ) (why : Fault)
+    → IsUnshown (ShowsCabinet tables id) why → StandForSound tables office → TellsUnknown office id why
+cabinet_tells tables office id why (inl refused) stands = refused_tells tables office id why (inr (inr (inr refused))) stands
+cabinet_tells tables office id why (inr (memory, it, shows)) stands =
+    found_tells cabinet_shown office id (λ i. reply.Cabinet (cabinet_of_intersection office.register id)) (get office.intersections id) it why refl (λ e. cc)
+    (made_of_answer cabinet_shown tables office (command.Cabinet id) it (λ e. cc) shows stands) (λ e. cc)
+
+pub drawing_tells : (tables : Content) (office : Office) (id pattern : ℕ) (why : Fault)
+    → DrawsNoTiming tables id pattern why → StandForSound tables office → TellsUnknown office id why
+drawing_tells tables office id pattern why (inl refused) stands = refused_tells tables office id why (inr (inl refused)) stands
+drawing_tells tables office id pattern why (inr (plan, shows, inl memory)) stands =
+    timing_there tables office id plan why shows stands (λ e. cc)
+drawing_tells tables office id pattern why (inr (plan, shows, inr lacks)) stands =
+    timing_there tables office id plan why shows stands (λ e. let same = lacks.1 in cc)
+
+pub comparing_tells : (tables : Content) (office : Office) (id : ℕ) (why : Fault)
+    → ComparesNoDraft tables id why → StandForSound tables office → TellsUnknown office id why
+comparing_tells tables office id why (inl refused) stands = refused_tells tables office id why (inr (inl refused)) stands
+comparing_tells tables office id why (inr unshown) stands = draft_tells tables office id why unshown stands

@@ -12,6 +12,7 @@ use Rattle.office_tables_shelf.specs.Content.{Content}
 use Rattle.signal_office_faults.specs.declared.fault.Fault.{Fault}
 use Rattle.signal_office_faults.specs.declared.fault.Fault.TheVariants as told
 use Rattle.signal_office_commands.specs.Asking.{IsUnread}
+use Rattle.signal_office_commands.specs.Fault.{IsUnshown}
 use Rattle.signal_office_commands.specs.Showing.{ShowsTiming, ShowsDraft}
 
 -- they are those of the plans of two files
@@ -41,7 +42,7 @@ pub record ComparesDraft (tables : Content) (id : ℕ) (found : List Difference)
   pub draft_is : ShowsDraft tables id (Ok draft)
   pub told : AreTold committed draft found
 
--- the fault is that of a query that is refused
-abbrev pub IsRefusedQuery : Content → ℕ → Fault → Type 0
-IsRefusedQuery tables id why =
-    ShowsTiming tables id (Err why) ⊎ ShowsDraft tables id (Err why)
+-- one of the two queries is refused, or memory was, where there is a draft
+abbrev pub ComparesNoDraft : Content → ℕ → Fault → Type 0
+ComparesNoDraft tables id why =
+    ShowsTiming tables id (Err why) ⊎ IsUnshown (ShowsDraft tables id) why

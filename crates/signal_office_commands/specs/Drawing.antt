@@ -20,6 +20,10 @@ pub record Draws (plan : Rows) (pattern : ℕ) (text : List ℕ) : Type 0 where
 abbrev pub Lacks : Rows → ℕ → Fault → Type 0
 Lacks plan pattern why = (pattern_at plan pattern ≡ None) × (why ≡ told.UnknownPattern)
 
+-- memory was refused, or the plan lacks the pattern
+abbrev pub DrawsNone : Rows → ℕ → Fault → Type 0
+DrawsNone plan pattern why = (why ≡ told.Memory) ⊎ Lacks plan pattern why
+
 -- the picture is of the plan of a file
 pub record DrawsFile (bytes : List ℕ) (pattern : ℕ) (text : List ℕ) : Type 0 where
   pub plan : Rows
@@ -37,8 +41,8 @@ pub record DrawsTiming (tables : Content) (id pattern : ℕ) (text : List ℕ) :
   pub plan_is : ShowsTiming tables id (Ok plan)
   pub draws : Draws plan pattern text
 
--- the query is refused, or the set lacks the pattern
+-- the query is refused; or of the set that it shows memory was refused, or it lacks the pattern
 abbrev pub DrawsNoTiming : Content → ℕ → ℕ → Fault → Type 0
 DrawsNoTiming tables id pattern why =
     ShowsTiming tables id (Err why)
-    ⊎ ((plan : Rows) × ShowsTiming tables id (Ok plan) × Lacks plan pattern why)
+    ⊎ ((plan : Rows) × ShowsTiming tables id (Ok plan) × DrawsNone plan pattern why)

@@ -3,9 +3,12 @@
 ghost use Rattle.std.specs.Prelude.{◌≢◌, IfOk, IfErr};
 ghost use Rattle.office_files.specs.Changes.{changes_of};
 ghost use Rattle.office_files.specs.Plan.{IsPlan};
+ghost use Rattle.office_desk.specs.StandFor.{StandForSound};
+ghost use Rattle.office_machine.specs.Office.{Office as OfficeState};
 ghost use Rattle.office_tables_shelf.specs.Keeps.{KeepsShelf};
 ghost use Rattle.signal_office_commands.specs.Comparing.{ComparesDraft, ComparesFiles, IsFirstBad};
-ghost use Rattle.signal_office_commands.specs.Comparing.{IsOtherUnread, IsRefusedQuery};
+ghost use Rattle.signal_office_commands.specs.Comparing.{ComparesNoDraft, IsOtherUnread};
+ghost use Rattle.signal_office_commands.specs.Fault.{TellsUnknown};
 
 use crate::showing::{draft_in, timing_in};
 use office_desk::office::Office;
@@ -52,8 +55,11 @@ pub fn draft_differences<S: Shelf>(
     ensures kept { KeepsShelf S.Shelf office.old office.new }
     ensures found { IfOk result (λ found. S.is_honest office.new →
         ComparesDraft (S.content office.old) id found.items) }
-    ensures fault { IfErr result (λ why. why ≢ Fault.Memory → S.is_honest office.new →
-        IsRefusedQuery (S.content office.old) id why) }
+    ensures fault { IfErr result (λ why. S.is_honest office.new →
+        ComparesNoDraft (S.content office.old) id why) }
+    // An unknown intersection is told where the office has none, and only there.
+    ensures unknown { IfErr result (λ why. S.is_honest office.new → (before : OfficeState) →
+        StandForSound (S.content office.old) before → TellsUnknown before id why) }
 {
     let committed = timing_in(alloc, office, id)?;
     let draft = draft_in(alloc, office, id)?;

@@ -1,9 +1,12 @@
 //! The pictures of patterns.
 
 ghost use Rattle.std.specs.Prelude.{◌≢◌, IfOk, IfErr};
+ghost use Rattle.office_desk.specs.StandFor.{StandForSound};
+ghost use Rattle.office_machine.specs.Office.{Office as OfficeState};
 ghost use Rattle.office_tables_shelf.specs.Keeps.{KeepsShelf};
 ghost use Rattle.signal_office_commands.specs.Drawing.{Draws, DrawsFile, DrawsNoFile};
-ghost use Rattle.signal_office_commands.specs.Drawing.{DrawsTiming, DrawsNoTiming, Lacks};
+ghost use Rattle.signal_office_commands.specs.Drawing.{DrawsTiming, DrawsNoTiming, DrawsNone};
+ghost use Rattle.signal_office_commands.specs.Fault.{TellsUnknown};
 
 use crate::showing::timing_in;
 use office_desk::office::Office;
@@ -17,7 +20,7 @@ use std::alloc::Global;
 /// The picture of a pattern, which the plan has to have.
 fn draw(alloc: Global, plan: &TimingSet, pattern: PatternNo) -> Result<Vec<u8>, Fault>
     ensures draws { IfOk result (λ text. Draws plan.now pattern text.items) }
-    ensures fault { IfErr result (λ why. why ≢ Fault.Memory → Lacks plan.now pattern why) }
+    ensures fault { IfErr result (DrawsNone plan.now pattern) }
 {
     match diagram(alloc, plan, pattern)? {
         Some(text) => Ok(text),
@@ -44,8 +47,11 @@ pub fn diagram_of<S: Shelf>(
     ensures kept { KeepsShelf S.Shelf office.old office.new }
     ensures draws { IfOk result (λ text. S.is_honest office.new →
         DrawsTiming (S.content office.old) id pattern text.items) }
-    ensures fault { IfErr result (λ why. why ≢ Fault.Memory → S.is_honest office.new →
+    ensures fault { IfErr result (λ why. S.is_honest office.new →
         DrawsNoTiming (S.content office.old) id pattern why) }
+    // An unknown intersection is told where the office has none, and only there.
+    ensures unknown { IfErr result (λ why. S.is_honest office.new → (before : OfficeState) →
+        StandForSound (S.content office.old) before → TellsUnknown before id why) }
 {
     let plan = timing_in(alloc, office, id)?;
     draw(alloc, &plan, pattern)

@@ -1,9 +1,12 @@
 //! What is exported of an intersection as CSV.
 
-ghost use Rattle.std.specs.Prelude.{◌≢◌, Err, IfOk, IfErr};
+ghost use Rattle.std.specs.Prelude.{IfOk, IfErr};
+ghost use Rattle.office_desk.specs.StandFor.{StandForSound};
+ghost use Rattle.office_machine.specs.Office.{Office as OfficeState};
 ghost use Rattle.office_tables_shelf.specs.Keeps.{KeepsShelf};
 ghost use Rattle.signal_office_commands.specs.Exporting.{ExportsTiming, ExportsDraft};
 ghost use Rattle.signal_office_commands.specs.Exporting.{ExportsCabinet};
+ghost use Rattle.signal_office_commands.specs.Fault.{IsUnshown, TellsUnknown};
 ghost use Rattle.signal_office_commands.specs.Showing.{ShowsTiming, ShowsDraft, ShowsCabinet};
 
 use crate::showing::{cabinet_in, draft_in, timing_in};
@@ -23,8 +26,11 @@ pub fn timing_csv_of<S: Shelf>(
     ensures kept { KeepsShelf S.Shelf office.old office.new }
     ensures text { IfOk result (λ text. S.is_honest office.new →
         ExportsTiming (S.content office.old) id text.items) }
-    ensures fault { IfErr result (λ why. why ≢ Fault.Memory → S.is_honest office.new →
-        ShowsTiming (S.content office.old) id (Err why)) }
+    ensures fault { IfErr result (λ why. S.is_honest office.new →
+        IsUnshown (ShowsTiming (S.content office.old) id) why) }
+    // An unknown intersection is told where the office has none, and only there.
+    ensures unknown { IfErr result (λ why. S.is_honest office.new → (before : OfficeState) →
+        StandForSound (S.content office.old) before → TellsUnknown before id why) }
 {
     let rows = timing_in(alloc, office, id)?;
     Ok(timing_csv(alloc, &rows)?)
@@ -39,8 +45,11 @@ pub fn draft_csv_of<S: Shelf>(
     ensures kept { KeepsShelf S.Shelf office.old office.new }
     ensures text { IfOk result (λ text. S.is_honest office.new →
         ExportsDraft (S.content office.old) id text.items) }
-    ensures fault { IfErr result (λ why. why ≢ Fault.Memory → S.is_honest office.new →
-        ShowsDraft (S.content office.old) id (Err why)) }
+    ensures fault { IfErr result (λ why. S.is_honest office.new →
+        IsUnshown (ShowsDraft (S.content office.old) id) why) }
+    // An unknown intersection is told where the office has none, and only there.
+    ensures unknown { IfErr result (λ why. S.is_honest office.new → (before : OfficeState) →
+        StandForSound (S.content office.old) before → TellsUnknown before id why) }
 {
     let rows = draft_in(alloc, office, id)?;
     Ok(timing_csv(alloc, &rows)?)
@@ -55,8 +64,11 @@ pub fn cabinet_csv_of<S: Shelf>(
     ensures kept { KeepsShelf S.Shelf office.old office.new }
     ensures text { IfOk result (λ text. S.is_honest office.new →
         ExportsCabinet (S.content office.old) id text.items) }
-    ensures fault { IfErr result (λ why. why ≢ Fault.Memory → S.is_honest office.new →
-        ShowsCabinet (S.content office.old) id (Err why)) }
+    ensures fault { IfErr result (λ why. S.is_honest office.new →
+        IsUnshown (ShowsCabinet (S.content office.old) id) why) }
+    // An unknown intersection is told where the office has none, and only there.
+    ensures unknown { IfErr result (λ why. S.is_honest office.new → (before : OfficeState) →
+        StandForSound (S.content office.old) before → TellsUnknown before id why) }
 {
     let cabinet = cabinet_in(alloc, office, id)?;
     Ok(records_csv(alloc, cabinet.id, &cabinet.view)?)

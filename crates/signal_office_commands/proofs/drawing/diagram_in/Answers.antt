@@ -1,4 +1,4 @@
-use Rattle.std.proofs.{Common.inr, lemmas.Result.IfOk-weaker, lemmas.Result.IfErr-weaker}
+use Rattle.std.proofs.{Common.inl, Common.inr, lemmas.Result.IfOk-weaker, lemmas.Result.IfErr-weaker}
 use Rattle.signal_office_commands.proofs.drawing.diagram_in.Goals as goal
 
 pub returns-clause-draws : goal.returns-clause-draws
@@ -11,6 +11,7 @@ returns-clause-draws c =
 
 pub returns-clause-fault : goal.returns-clause-fault
 returns-clause-fault c =
-    IfErr-weaker c.draw.result _ _ (λ why lacks other.
-    inr (c.in_ok-plan.plan, c.in_ok-plan.ensures.plan, lacks other))
-    c.draw.ensures.fault
+    IfErr-weaker c.draw.result _ _ (λ why none other. elim none [
+      | inl memory ↦ absurd (other memory)
+      | inr lacks ↦ inr (c.in_ok-plan.plan, c.in_ok-plan.ensures.plan, lacks)
+    ]) c.draw.ensures.fault

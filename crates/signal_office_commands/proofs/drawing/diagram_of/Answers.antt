@@ -1,4 +1,5 @@
-use Rattle.std.proofs.{Common.inr, lemmas.Result.IfOk-weaker, lemmas.Result.IfErr-weaker}
+use Rattle.std.proofs.{Common.inl, Common.inr, lemmas.Result.IfOk-weaker, lemmas.Result.IfErr-weaker}
+use Rattle.signal_office_commands.proofs.{FaultLemmas.on_fault, UnknownLemmas.drawing_tells}
 use Rattle.signal_office_commands.proofs.drawing.diagram_of.Goals as goal
 
 pub returns-clause-draws : goal.returns-clause-draws
@@ -11,6 +12,19 @@ returns-clause-draws g c =
 
 pub returns-clause-fault : goal.returns-clause-fault
 returns-clause-fault g c =
-    IfErr-weaker c.draw.result _ _ (λ why lacks other honest.
-    inr (c.in_ok-plan.plan, c.in_ok-plan.ensures.shown honest, lacks other))
+    IfErr-weaker c.draw.result _ _ (λ why none honest.
+    inr (c.in_ok-plan.plan, c.in_ok-plan.ensures.shown honest, none))
+    c.draw.ensures.fault
+
+pub returns-in_err-plan-clause-unknown : goal.returns-in_err-plan-clause-unknown
+returns-in_err-plan-clause-unknown g c =
+    on_fault _ c.in_err-plan.field-0.0 _ c.from_residual.ensures.1 (λ honest before stands.
+    drawing_tells (g.S.Shelf.content c.args.office.now) before c.args.id c.args.pattern _
+    (inl (c.in_err-plan.ensures.shown honest)) stands)
+
+pub returns-clause-unknown : goal.returns-clause-unknown
+returns-clause-unknown g c =
+    IfErr-weaker c.draw.result _ _ (λ why none honest before stands.
+    drawing_tells (g.S.Shelf.content c.args.office.now) before c.args.id c.args.pattern why
+    (inr (c.in_ok-plan.plan, c.in_ok-plan.ensures.shown honest, none)) stands)
     c.draw.ensures.fault

@@ -1,3 +1,6 @@
+use Rattle.std.proofs.Common.{inl, inr, refl}
+use Rattle.signal_office_faults.specs.declared.fault.Fault.TheVariants as told
+use Rattle.signal_office_commands.proofs.{FaultLemmas.on_fault, UnknownLemmas.timing_tells}
 use Rattle.signal_office_commands.proofs.exporting.timing_csv_of.Goals as goal
 
 pub returns-clause-text : goal.returns-clause-text
@@ -7,3 +10,23 @@ returns-clause-text g c = λ honest.
       shown = c.in_ok-rows.ensures.shown honest;
       text_is = c.in_ok-timing_csv.ensures.text;
     }
+
+pub returns-in_err-rows-clause-fault : goal.returns-in_err-rows-clause-fault
+returns-in_err-rows-clause-fault g c =
+    on_fault _ c.in_err-rows.field-0.0 _ c.from_residual.ensures.1 (λ honest. inl (c.in_err-rows.ensures.shown honest))
+
+pub returns-in_err-rows-clause-unknown : goal.returns-in_err-rows-clause-unknown
+returns-in_err-rows-clause-unknown g c =
+    on_fault _ c.in_err-rows.field-0.0 _ c.from_residual.ensures.1 (λ honest before stands.
+    timing_tells (g.S.Shelf.content c.args.office.now) before c.args.id _ (inl (c.in_err-rows.ensures.shown honest)) stands)
+
+pub returns-in_err-timing_csv-clause-fault : goal.returns-in_err-timing_csv-clause-fault
+returns-in_err-timing_csv-clause-fault g c =
+    on_fault _ told.Memory _ c.from_residual-in_err-timing_csv.ensures.1 (λ honest.
+    inr (refl, c.in_ok-rows.rows, c.in_ok-rows.ensures.shown honest))
+
+pub returns-in_err-timing_csv-clause-unknown : goal.returns-in_err-timing_csv-clause-unknown
+returns-in_err-timing_csv-clause-unknown g c =
+    on_fault _ told.Memory _ c.from_residual-in_err-timing_csv.ensures.1 (λ honest before stands.
+    timing_tells (g.S.Shelf.content c.args.office.now) before c.args.id _
+    (inr (refl, c.in_ok-rows.rows, c.in_ok-rows.ensures.shown honest)) stands)
