@@ -3,5 +3,6 @@
 #![tactic(auto)]
 
 pub mod calls;
+pub mod lives;
 mod migrating;
 pub mod stops;

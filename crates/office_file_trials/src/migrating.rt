@@ -112,7 +112,7 @@ fn with_former<S: Alter + Drop>(alloc: Global, conn: Connection<S>) -> Option<Co
 }
 
 /// Puts tables of version 1 into these files.
-fn former<D: Disk + Drop>(alloc: Global, files: Files<D>) -> Option<Files<D>> {
+pub(crate) fn former<D: Disk + Drop>(alloc: Global, files: Files<D>) -> Option<Files<D>> {
     match with_former(alloc, connect(alloc, files)?) {
         Some(conn) => Some(close(conn).0),
         None => None,

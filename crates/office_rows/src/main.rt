@@ -8,6 +8,7 @@ mod playing;
 
 use crate::playing::{play_runs, play_want_of_memory};
 use office_file_trials::calls::try_below;
+use office_file_trials::lives::try_lives;
 use office_file_trials::stops::try_stops;
 use office_row_files::folder::{names, remove_others, row_name};
 use office_row_files::reading::read_row;
@@ -111,6 +112,7 @@ fn is_as_told(rt: &HostRuntime) -> Result<bool, Trouble> {
     try_below(rt)?;
     try_calls(rt)?;
     try_stops(rt)?;
+    try_lives(rt)?;
     Ok(is_told)
 }
 

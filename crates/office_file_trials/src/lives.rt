@@ -1,0 +1,67 @@
+//! Two runs over the same files, closed, stopped or migrated in between: the second goes on from
+//! what the first left.
+
+use crate::migrating::former;
+use office_lives::{migrated_and_served, served_after_a_stop, served_twice};
+use office_row_files::ends::{Cut, Feed, Keep};
+use office_row_files::trouble::{Trouble, compare, holds};
+use office_trial_files::stopping;
+use office_trials::script::{sent, told};
+use std::alloc::Global;
+
+/// What the second request of the stream is answered over the tables of version 1.
+const FORMER_STATE: &[u8] =
+    b"HTTP/1.1 200 OK\r\nContent-Type: application/json\r\nContent-Length: 118\r\n\r\n\
+    {\"id\":12,\"interval\":365,\"name\":\"Main St\",\"owner\":\"Ana\",\"revision\":1,\
+    \"rows\":1,\"state\":\"transaction\",\"verify\":\"notDone\"}";
+
+/// The bytes of the stream from one place to another, as a source.
+fn source(from: usize, to: usize) -> Feed<'static> {
+    Feed::new(sent(from, to), false, Cut::Whole)
+}
+
+/// A sink that takes all.
+fn sink(alloc: Global) -> Keep {
+    Keep::new(alloc, None, Cut::Whole)
+}
+
+/// The first request is answered by one run, and the second one by the next.
+fn live_twice(alloc: Global, is_stopped: bool) -> Result<(), Trouble> {
+    let files = stopping(alloc, &[], true, u64::MAX)?;
+    let (mut first, mut second) = (source(0, 93), source(93, 127));
+    let (mut one, mut two) = (sink(alloc), sink(alloc));
+    let lived = if is_stopped {
+        served_after_a_stop(alloc, files, &mut first, &mut one, &mut second, &mut two)
+    } else {
+        served_twice(alloc, files, &mut first, &mut one, &mut second, &mut two)
+    };
+    holds(lived.is_some(), "two runs over the same files")?;
+    compare(alloc, "the first of two runs", told(0, 89), &one.bytes)?;
+    compare(alloc, "the second of two runs", told(89, 273), &two.bytes)
+}
+
+/// A file of version 1 is migrated, and the next run answers the second request.
+fn live_on(alloc: Global) -> Result<(), Trouble> {
+    let Some(files) = former(alloc, stopping(alloc, &[], true, u64::MAX)?) else {
+        return Err(Trouble::Unprepared("the tables of version 1"));
+    };
+    let (mut reader, mut writer) = (source(93, 127), sink(alloc));
+    let lived = migrated_and_served(alloc, files, &mut reader, &mut writer);
+    holds(lived.is_some(), "a run over migrated files")?;
+    compare(
+        alloc,
+        "a run over migrated files",
+        FORMER_STATE,
+        &writer.bytes,
+    )
+}
+
+/// Lets files live through two runs.
+pub fn try_lives(rt: &HostRuntime) -> Result<(), Trouble> {
+    let alloc = rt.alloc();
+    live_twice(alloc, false)?;
+    live_twice(alloc, true)?;
+    live_on(alloc)?;
+    println!(rt; "two runs over the same files, closed, stopped or migrated in between: the second goes on")?;
+    Ok(())
+}
