@@ -72,8 +72,8 @@ phase_holds s _ _ _ _ _ _ _ none = absurd (cc)
 abbrev of_a_pattern : Bool → Bool → Bool → Bool → Bool → Findings
 of_a_pattern r o c f g = (rule.V9, r) ∷ (rule.V10, o) ∷ (rule.V11, c) ∷ (if r then ((rule.V12, f) ∷ (if f then (rule.V13, g) ∷ [] else [])) else [])
 
-pattern_holds : (s : Subject) (r o c f g : Bool) → broken s (of_a_pattern r o c f g) ≡ [] → (r ≡ true) × (f ≡ true) × (g ≡ true)
-pattern_holds s true true true true true none = (refl, refl, refl)
+pattern_holds : (s : Subject) (r o c f g : Bool) → broken s (of_a_pattern r o c f g) ≡ [] → (r ≡ true) × (f ≡ true) × (g ≡ true) × (o ≡ true) × (c ≡ true)
+pattern_holds s true true true true true none = (refl, refl, refl, refl, refl)
 pattern_holds s _ _ _ _ _ none = absurd (cc)
 
 module _ (set : Rows) (clean : IsClean set) where
@@ -97,8 +97,9 @@ module _ (set : Rows) (clean : IsClean set) where
       let own : violations_at set (subject.Split n p) ≡ [] = made_at (violations_at set) (λ p. subject.Split n p) (λ p. is_some (split_at set n p)) phase_numbers p rows among (ap is_some has) in
       ap (λ o. split_is_right o split) (sym is) ∙ one_holds (subject.Split n p) rule.V8 (split_is_right (phase_at set p) split) (ap (λ o. broken (subject.Split n p) (for_split set p o)) (sym has) ∙ own)
 
-  -- V9, V12 and V13 of a pattern
+  -- V9, V12, V13, V10 and V11 of a pattern
   pub pattern_rules : (n : ℕ) (pattern : Pattern) → is_in n pattern_numbers ≡ true → pattern_at set n ≡ Some pattern → (has_rows set pattern ≡ true) × (lanes_fill_cycle set pattern ≡ true) × (lanes_agree set pattern ≡ true)
+      × (offset_is_right pattern ≡ true) × (has_coordinated set pattern.split ≡ true)
   pattern_rules n pattern among is =
       let own : violations_at set (subject.Pattern n) ≡ [] = made_at (violations_at set) (λ n. subject.Pattern n) (λ n. is_some (pattern_at set n)) pattern_numbers n clean.of_patterns among (ap is_some is) in
       let found : broken (subject.Pattern n) (pattern_findings set pattern) ≡ [] = ap (λ o. broken (subject.Pattern n) (for_pattern set o)) (sym is) ∙ own in

@@ -1,157 +1,56 @@
 -- A timing set without violations keeps the laws of the street.
-use Rattle.std.proofs.Common.{◌≡◌, ◌↔◌, ℕ, ◌+◌, ◌*◌, ◌<◌, ◌≤◌, true, [], Option, Some, None, IfSome, ◌⊎◌, inl, inr, refl, sym, ap, subst, ◌∙◌, arith}
-use Rattle.std.proofs.lemmas.Bool.{cases_eq, cases_lt}
-use Rattle.std.specs.Int.{IsInRange}
-use Rattle.signal_records.specs.{declared.record.Pattern.Pattern, declared.record.Ped.Ped}
-use Rattle.signal_values.specs.declared.number.TheConstants.{RINGS}
-use Rattle.signal_records.specs.{declared.record.Phase.Phase, declared.record.Split.Split, TimingSet.Rows}
-use Rattle.signal_rules.specs.{Lookup.phase_at, Lookup.split_at, SplitRule.time_is_right, Violations.violations_of}
-use Rattle.signal_street.specs.Timing.{HasPhase, HasPattern, order, time_or_none, split_time, BeginsIn, TimesIn, IsTiming}
-use Rattle.signal_street.specs.Intervals.{clear_end, WalkersCross}
-use Rattle.signal_street.specs.StreetLaws.{AreConcurrent, OnlyConcurrentPhasesTime, TimesOnce, ConflictsAreCleared, FillsCycle, WalkersHaveTheStreet, StreetLaws}
+use Rattle.std.proofs.Common.{◌≡◌, ℕ, [], Option, Some, None, IfSome, refl}
+use Rattle.signal_records.specs.{declared.record.Pattern.Pattern, declared.record.Ped.Ped, declared.record.Phase.Phase, TimingSet.Rows}
+use Rattle.signal_rules.specs.Violations.{violations_of}
+use Rattle.signal_street.specs.Timing.{HasPhase, HasPattern}
+use Rattle.signal_street.specs.Intervals.{WalkersCross}
+use Rattle.signal_street.specs.StreetLaws.{CalledWalkLiesWithin, WalkersHaveTheStreet, RunsItsCycle, KeepsApart, HasTimeForWalks, StreetLaws}
 use Rattle.signal_street.proofs.Clean.{IsClean, is_clean, phase_rules}
-use Rattle.signal_street.proofs.Places.{places, begin_at, ends_within, times_within, alone_at, filled_at, begins_once, has_place, ordered_at}
-use Rattle.signal_street.proofs.Within.{none_where_omitted, not_omitted, room, crosses, crosses_from_setback, within_split}
-use Rattle.signal_street.proofs.Patterns.{phase_number, of_ring, in_own_ring, owned, once, full, timing_owned, concurrent_in, has_split}
-
-module _ (set : Rows) (clean : IsClean set) (n : ℕ) (pattern : Pattern) (has : HasPattern set n pattern) where
-  concurrent : OnlyConcurrentPhasesTime set pattern
-  concurrent p q second apart t u = by_rings (cases_eq t.ring u.ring) where
-    by_rings : (t.ring ≡ u.ring) ⊎ (t.ring ≡ u.ring → ⊥) → AreConcurrent set p q
-    by_rings (inl e) = absurd (apart (alone_at (split_time set pattern) (order set pattern t.ring) p q second t.times (subst (λ ring. TimesIn set pattern ring q second) (sym e) u.times)))
-    by_rings (inr differ) = concurrent_in set clean n pattern has t.ring u.ring p q second differ t.ring_number u.ring_number t.number u.number t.times u.times
-
-  -- the stretch of a phase
-  module _ (p : ℕ) (phase : Phase) (of_p : HasPhase set p phase) where
-    own_once : places (order set pattern phase.ring) p ≡ 1
-    own_once = once set clean n pattern has phase.ring p of_p.0.ring of_p.0.number (in_own_ring (phase_at set p) phase of_p.1)
-
-    own_place : BeginsIn set pattern phase.ring p (begin_at (split_time set pattern) (order set pattern phase.ring) p)
-    own_place = has_place (split_time set pattern) (order set pattern phase.ring) p own_once
-
-    begins_there : (ring second : ℕ) → IsInRange 1 RINGS ring → BeginsIn set pattern ring p second → (ring ≡ phase.ring) × (second ≡ begin_at (split_time set pattern) (order set pattern phase.ring) p)
-    begins_there ring second range b =
-        let own : ring ≡ phase.ring = of_ring ring (phase_at set p) phase of_p.1 (owned set clean n pattern has ring p b.before b.after range b.placed) in
-        (own, begins_once (split_time set pattern) (order set pattern phase.ring) p second own_once (subst (λ r. BeginsIn set pattern r p second) own b))
-
-    begins_only_there : (ring second : ℕ) → IsInRange 1 RINGS ring → BeginsIn set pattern ring p second ↔ ((ring ≡ phase.ring) × (second ≡ begin_at (split_time set pattern) (order set pattern phase.ring) p))
-    begins_only_there ring second range = (
-      begins_there ring second range,
-      λ there. subst (λ r. BeginsIn set pattern r p second) (sym there.0) (subst (λ s. BeginsIn set pattern phase.ring p s) (sym there.1) own_place),
-    )
-
-    times_there : (split : Split) → split_at set pattern.split p ≡ Some split → (second : ℕ) → IsTiming set pattern p second ↔ ((begin_at (split_time set pattern) (order set pattern phase.ring) p ≤ second) × (second < begin_at (split_time set pattern) (order set pattern phase.ring) p + split.time))
-    times_there split row second = (
-      (λ (t : IsTiming set pattern p second).
-          let there = begins_there t.ring t.times.begin t.ring_number t.times.begins in
-          (low _ _ _ there.1 t.times.begun, high _ _ _ _ _ there.1 time t.times.unended)),
-      λ bounds. record {
-        number = of_p.0.number;
-        ring = phase.ring;
-        ring_number = of_p.0.ring;
-        times = record { begin = begin_at (split_time set pattern) (order set pattern phase.ring) p; begins = own_place; begun = bounds.0; unended = high _ _ _ _ _ refl (sym time) bounds.1 };
-      },
-    ) where
-      time : split_time set pattern p ≡ split.time
-      time = ap time_or_none row
-
-      low : (a b second : ℕ) → a ≡ b → a ≤ second → b ≤ second
-      low a b second e le = omega arith
-
-      high : (a b second own time : ℕ) → a ≡ b → own ≡ time → second < a + own → second < b + time
-      high a b second own time e f lt = omega arith
-
-    ends_in_cycle : (split : Split) → split_at set pattern.split p ≡ Some split → begin_at (split_time set pattern) (order set pattern phase.ring) p + split.time ≤ pattern.cycle
-    ends_in_cycle split row =
-        bound _ _ _ _ _ (ends_within (split_time set pattern) (order set pattern phase.ring) p (begin_at (split_time set pattern) (order set pattern phase.ring) p) own_place)
-        (ap time_or_none row) (full set clean n pattern has phase.ring p of_p.0.ring of_p.0.number (in_own_ring (phase_at set p) phase of_p.1)) where
-          bound : (begin own sum time cycle : ℕ) → begin + own ≤ sum → own ≡ time → sum ≡ cycle → begin + time ≤ cycle
-          bound begin own sum time cycle le e f = omega arith
-
-    pub stretch : TimesOnce set pattern p phase
-    stretch =
-        let split = has_split set clean n pattern has p phase of_p in
-        record {
-          split = split.0;
-          row = split.1;
-          begin = begin_at (split_time set pattern) (order set pattern phase.ring) p;
-          begins = begins_only_there;
-          times = times_there split.0 split.1;
-          within = ends_in_cycle split.0 split.1;
-          omitted = none_where_omitted split.0 phase split.2;
-          fits = room split.0 phase split.2;
-        }
-
-    pub ring_filled : FillsCycle set pattern phase.ring
-    ring_filled =
-        let sum = full set clean n pattern has phase.ring p of_p.0.ring of_p.0.number (in_own_ring (phase_at set p) phase of_p.1) in
-        record {
-          filled = λ second lt. filled_at (split_time set pattern) (order set pattern phase.ring) second (in_sum _ _ _ sum lt);
-          within = λ q second t. in_cycle _ _ _ sum (times_within (split_time set pattern) (order set pattern phase.ring) q second t);
-          alone = λ q r second t u. alone_at (split_time set pattern) (order set pattern phase.ring) q r second t u;
-          ordered = λ q r s t number_of_q number_of_r stands of_q of_r.
-              ordered_at (split_time set pattern) (order set pattern phase.ring) q r s t
-              (once set clean n pattern has phase.ring q of_p.0.ring number_of_q (timing_owned set clean n pattern has phase.ring q s of_p.0.ring of_q))
-              (once set clean n pattern has phase.ring r of_p.0.ring number_of_r (timing_owned set clean n pattern has phase.ring r t of_p.0.ring of_r))
-              stands of_q of_r;
-        } where
-          in_sum : (second sum cycle : ℕ) → sum ≡ cycle → second < cycle → second < sum
-          in_sum second sum cycle e lt = omega arith
-
-          in_cycle : (second sum cycle : ℕ) → sum ≡ cycle → second < sum → second < cycle
-          in_cycle second sum cycle e lt = omega arith
-
-    pub conflicts_cleared : ConflictsAreCleared set pattern p phase
-    conflicts_cleared split fits begin q second row begins apart conflict t after = by_place (cases_lt second (begin + split.time)) where
-      start : (phase.ring ≡ phase.ring) × (begin ≡ begin_at (split_time set pattern) (order set pattern phase.ring) p)
-      start = begins_there phase.ring begin of_p.0.ring begins
-
-      shifted : (begin at second time : ℕ) → begin ≡ at → begin ≤ second → second < begin + time → (at ≤ second) × (second < at + time)
-      shifted begin at second time e le lt = (omega arith, omega arith)
-
-      over : (begin green yellow red time second : ℕ) → green + yellow + red ≡ 10 * time → begin + time ≤ second → 10 * begin + green + yellow + red ≤ 10 * second
-      over begin green yellow red time second e le = omega arith
-
-      by_place : (second < begin + split.time) ⊎ (begin + split.time ≤ second) → 10 * begin + fits.green_end + phase.yellow + phase.red ≤ 10 * second
-      by_place (inl lt) = absurd (conflict (concurrent p q second apart ((times_there split row second).1 (shifted begin _ second split.time start.1 after lt)) t))
-      by_place (inr le) = over begin fits.green_end phase.yellow phase.red split.time second fits.cleared le
-
-    pub walkers : (ped : Ped) → phase.ped ≡ Some ped → WalkersHaveTheStreet set pattern p phase ped
-    walkers ped is split begin left now second row calls begins by crossing lies =
-        let own = has_split set clean n pattern has p phase of_p in
-        let same : Some own.0 ≡ Some split = sym own.1 ∙ row in
-        let one : own.0 ≡ split = cc in
-        let right : time_is_right split phase ≡ true = subst (λ s. time_is_right s phase ≡ true) one own.2 in
-        let rules = phase_rules set clean p phase (phase_number p of_p.0.number) of_p.1 in
-        let in_time : now < clear_end phase ped = crosses phase ped is rules.0 left now by crossing in
-        let before_end : now < 10 * split.time = within_split phase ped split now is calls (room split phase right (not_omitted split.mode calls)) in_time in
-        let start = begins_there phase.ring begin of_p.0.ring begins in
-        let timing : IsTiming set pattern p second = (times_there split row second).1 (from_begin _ _ _ _ start.1 lies.1, to_end _ _ _ _ _ start.1 before_end lies.0) in
-        record { times = timing; others = λ q apart t. concurrent p q second apart timing t } where
-          from_begin : (begin at now second : ℕ) → begin ≡ at → 10 * begin + now < 10 * second + 10 → at ≤ second
-          from_begin begin at now second e lt = omega arith
-
-          to_end : (begin at now second time : ℕ) → begin ≡ at → now < 10 * time → 10 * second ≤ 10 * begin + now → second < at + time
-          to_end begin at now second time e lt le = omega arith
+use Rattle.signal_street.proofs.Cycles.{known, served, coordinated, conflicts_cleared, barriers_crossed}
+use Rattle.signal_street.proofs.Patterns.{phase_number}
+use Rattle.signal_street.proofs.Stretches.{concurrent, stretch, ring_filled, walk_within, walkers}
+use Rattle.signal_street.proofs.Within.{crosses, crosses_from_setback}
 
 where_some : {A : Type 0} (o : Option A) (P : A → Type 0) → ((x : A) → o ≡ Some x → P x) → IfSome o P
 where_some None P h = tt
 where_some (Some x) P h = h x refl
 
-walkers_cross : (set : Rows) → IsClean set → (p : ℕ) (phase : Phase) → HasPhase set p phase → (ped : Ped) → phase.ped ≡ Some ped → WalkersCross phase ped
-walkers_cross set clean p phase of_p ped is =
-    let rules = phase_rules set clean p phase (phase_number p of_p.0.number) of_p.1 in
-    (crosses phase ped is rules.0, crosses_from_setback phase ped is rules.1)
+module _ (set : Rows) (clean : IsClean set) where
+  walkers_cross : (p : ℕ) (phase : Phase) → HasPhase set p phase → (ped : Ped) → phase.ped ≡ Some ped → WalkersCross phase ped
+  walkers_cross p phase of_p ped is =
+      let rules = phase_rules set clean p phase (phase_number p of_p.0.number) of_p.1 in
+      (crosses phase ped is rules.0, crosses_from_setback phase ped is rules.1)
+
+  module _ (n : ℕ) (pattern : Pattern) (has : HasPattern set n pattern) where
+    runs : RunsItsCycle set pattern
+    runs = record {
+      stretches = stretch set clean n pattern has;
+      served = served set clean n pattern has;
+      known = known set clean n pattern has;
+      rings = ring_filled set clean n pattern has;
+      coordinated = coordinated set clean n pattern has;
+    }
+
+    apart : KeepsApart set pattern
+    apart = record {
+      concurrent = concurrent set clean n pattern has;
+      cleared = conflicts_cleared set clean n pattern has;
+      barriers = barriers_crossed set clean n pattern has;
+    }
+
+    walks : HasTimeForWalks set pattern
+    walks = record {
+      within = λ p phase of_p. where_some phase.ped (CalledWalkLiesWithin set pattern p phase) (walk_within set clean n pattern has p phase of_p);
+      walkers = λ p phase of_p. where_some phase.ped (WalkersHaveTheStreet set pattern p phase) (walkers set clean n pattern has p phase of_p);
+    }
 
 -- the laws of a set without violations
 pub street_laws : (set : Rows) → violations_of set ≡ [] → StreetLaws set
 street_laws set none =
     let clean = is_clean set none in
     record {
-      concurrent = λ n pattern has. concurrent set clean n pattern has;
-      stretches = λ n pattern has p phase of_p. stretch set clean n pattern has p phase of_p;
-      cleared = λ n pattern has p phase of_p. conflicts_cleared set clean n pattern has p phase of_p;
-      rings = λ n pattern has p phase of_p. ring_filled set clean n pattern has p phase of_p;
+      cycles = runs set clean;
+      apart = apart set clean;
+      walks = walks set clean;
       crossings = λ p phase of_p. where_some phase.ped (WalkersCross phase) (walkers_cross set clean p phase of_p);
-      walkers = λ n pattern has p phase of_p. where_some phase.ped (WalkersHaveTheStreet set pattern p phase) (walkers set clean n pattern has p phase of_p);
     }

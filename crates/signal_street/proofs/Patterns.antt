@@ -11,7 +11,7 @@ use Rattle.signal_rules.specs.{CutPoints.timed, Lookup.phase_at, Lookup.sequence
 use Rattle.signal_rules.specs.Lookup.{is_in, lists, the_mates, phase_numbers, ring_numbers, last_sequence, last_split, last_pattern}
 use Rattle.signal_rules.specs.{Lookup.sequence_numbers, Lookup.split_numbers, Lookup.pattern_numbers, PatternRules.has_splits}
 use Rattle.signal_rules.specs.PatternRules.{has_rows, time_of, lane, is_used, used_rings, lanes, lanes_fill_cycle, list_each_other}
-use Rattle.signal_rules.specs.{PatternRules.all_list_each_other, PatternRules.phases_at, PatternRules.lanes_agree, SequenceRule.in_ring}
+use Rattle.signal_rules.specs.{PatternRules.all_list_each_other, PatternRules.phases_at, PatternRules.lanes_agree, PatternRules.offset_is_right, PatternRules.has_coordinated, SequenceRule.in_ring}
 use Rattle.signal_rules.specs.SequenceRule.{ring_phases, or_empty, ring_row, has_each_once, has_no_other, row_is_right}
 use Rattle.signal_rules.specs.{SplitRule.time_is_right, Starts.times}
 use Rattle.signal_rules.proofs.{CutPoints.at_number, Among.in_numbers, Among.in_filter, Among.all_at, Among.any_at, Among.contains}
@@ -36,7 +36,7 @@ ring_number = in_range RINGS
 sequence_number : (n : ℕ) → IsInRange 1 last_sequence n → is_in n sequence_numbers ≡ true
 sequence_number = in_range last_sequence
 
-split_number : (n : ℕ) → IsInRange 1 last_split n → is_in n split_numbers ≡ true
+pub split_number : (n : ℕ) → IsInRange 1 last_split n → is_in n split_numbers ≡ true
 split_number = in_range last_split
 
 pattern_number : (n : ℕ) → IsInRange 1 last_pattern n → is_in n pattern_numbers ≡ true
@@ -75,7 +75,7 @@ listed set p q h = by_phase (phase_at set p) refl h where
 
 -- a set and a pattern of it, whose rules are kept
 module _ (set : Rows) (clean : IsClean set) (n : ℕ) (pattern : Pattern) (has : HasPattern set n pattern) where
-  rules : (has_rows set pattern ≡ true) × (lanes_fill_cycle set pattern ≡ true) × (lanes_agree set pattern ≡ true)
+  pub rules : (has_rows set pattern ≡ true) × (lanes_fill_cycle set pattern ≡ true) × (lanes_agree set pattern ≡ true) × (offset_is_right pattern ≡ true) × (has_coordinated set pattern.split ≡ true)
   rules = pattern_rules set clean n pattern (pattern_number n has.0.number) has.1
 
   rows : (has_sequence set pattern.seq ≡ true) × (has_splits set pattern.split ≡ true)

@@ -1,5 +1,5 @@
 -- What a split has room for, and how long a walker crosses.
-use Rattle.std.proofs.Common.{◌≡◌, ◌≢◌, ◌↔◌, ℕ, ◌+◌, ◌-◌, ◌*◌, ◌<◌, ◌≤◌, max, Bool, true, ◌&&◌, eqb, leb, Option, Some, None, IfSome, ◌⊎◌, inl, inr, refl, sym, ap, ◌∙◌, arith}
+use Rattle.std.proofs.Common.{◌≡◌, ◌≢◌, ◌↔◌, ℕ, ◌+◌, ◌-◌, ◌*◌, ◌<◌, ◌≤◌, max, Bool, true, false, not, ◌&&◌, eqb, leb, Option, Some, None, IfSome, ◌⊎◌, inl, inr, refl, sym, ap, ◌∙◌, arith}
 use Rattle.std.proofs.lemmas.Bool.{false≢true, or_cases, eq-eqb, eqb-true, leb-true}
 use Rattle.std.specs.Cmp.{booleans_Decides}
 use Rattle.signal_records.specs.{declared.record.Ped.Ped, declared.record.Phase.Phase, declared.record.Split.Split}
@@ -9,8 +9,8 @@ use Rattle.signal_rules.specs.PhaseRules.{clearance, clears_crossing, clears_set
 use Rattle.signal_rules.specs.SplitRule.{is_omitted, time_fits_mode, time_is_enough, coordination_is_right, time_is_right}
 use Rattle.signal_street.specs.Intervals.{CallsPedestrian, FitsCrossing, FitsSplit, clear_end, CrossesInTime, CrossesFromSetback}
 
-three : (a b c : Bool) → (a && b && c) ≡ true → (a ≡ true) × (b ≡ true)
-three true true c h = (refl, refl)
+three : (a b c : Bool) → (a && b && c) ≡ true → (a ≡ true) × (b ≡ true) × (c ≡ true)
+three true true c h = (refl, refl, h)
 three _ _ c h = absurd (false≢true h)
 
 omitted_is : (mode : SplitMode) → is_omitted mode ≡ true → mode ≡ PhaseOmitted
@@ -31,6 +31,13 @@ called_is ped mode (inr e) = ap (called ped) e
 pub not_omitted : (mode : SplitMode) → CallsPedestrian mode → mode ≢ PhaseOmitted
 not_omitted mode (inl e) omitted = absurd (cc)
 not_omitted mode (inr e) omitted = absurd (cc)
+
+-- a coordinated phase is not omitted
+pub coordinated_times : (split : Split) (phase : Phase) → time_is_right split phase ≡ true → split.coord ≡ true → split.mode ≢ PhaseOmitted
+coordinated_times split phase right coord omitted =
+    let rule : not (split.coord && is_omitted split.mode) ≡ true = (three (time_fits_mode split) (time_is_enough split phase) (coordination_is_right split) right).2 in
+    let broken : not (split.coord && is_omitted split.mode) ≡ false = ap (λ c. not (c && is_omitted split.mode)) coord ∙ ap (λ m. not (is_omitted m)) omitted in
+    absurd (false≢true (sym broken ∙ rule))
 
 both_needs : (a b c t : ℕ) → max a b + c ≤ t → (a + c ≤ t) × (b + c ≤ t)
 both_needs a b c t h = (omega arith, omega arith)

@@ -33,7 +33,9 @@ clear_end phase ped = 10 * ped.walk + 10 * ped.clear + phase.yellow + phase.red
 abbrev pub IsCrossing : Ped → ℕ → ℕ → Type 0
 IsCrossing ped left now = (left ≤ now) × (7 * (now - left) < 2 * ped.width)
 
--- who leaves the curb by the last moment of the walk is across before red is over
+-- Who leaves the curb by the last moment of the walk is across before clearance, yellow and red are
+-- over, one after the other, if they are all shown. Whether the split has room for them is said for
+-- a walk that it calls alone (`CallsPedestrian`).
 abbrev pub CrossesInTime : Phase → Ped → Type 0
 CrossesInTime phase ped =
     (left now : ℕ) → left ≤ 10 * ped.walk → IsCrossing ped left now → now < clear_end phase ped

@@ -1,5 +1,11 @@
 -- What a timing set without violations means on the street.
-use Rattle.std.specs.Prelude.{◌≡◌, ◌≢◌, ◌↔◌, ℕ, ◌+◌, ◌*◌, ◌<◌, ◌≤◌, Contains, Some, IfSome}
+--
+-- The laws speak of the plan as it is programmed: each phase times for all of its split, cycle after
+-- cycle. Nothing is promised of a phase that a controller ends early or passes over, since nobody
+-- calls it (modes 2 and 3); of the change from one pattern to another; of a plan that is committed
+-- in the middle of a cycle; or of free operation, which has no pattern and so no times. `max1` and
+-- `passage` are kept, and no rule looks at them.
+use Rattle.std.specs.Prelude.{◌≡◌, ◌≢◌, ◌↔◌, ℕ, ◌+◌, ◌*◌, ◌<◌, ◌≤◌, max, Contains, Some, IfSome, IsTrue}
 use Rattle.std.specs.Int.{IsInRange}
 use Rattle.signal_values.specs.declared.number.TheConstants.{PHASES, RINGS}
 use Rattle.signal_records.specs.declared.record.Pattern.{Pattern}
@@ -9,7 +15,7 @@ use Rattle.signal_records.specs.declared.record.Split.{Split}
 use Rattle.signal_records.specs.declared.record.SplitMode.TheVariants.{PhaseOmitted}
 use Rattle.signal_records.specs.TimingSet.{Rows}
 use Rattle.signal_rules.specs.Lookup.{phase_at, split_at}
-use Rattle.signal_street.specs.Timing.{HasPhase, HasPattern, BeginsIn, TimesIn, IsTiming, order, StandsBefore}
+use Rattle.signal_street.specs.Timing.{HasPhase, HasPattern, BeginsIn, TimesIn, StartsIn, IsTiming, IsServed, InItsCycle, order, StandsBefore}
 use Rattle.signal_street.specs.Intervals.{CallsPedestrian, FitsSplit, IsCrossing, WalkersCross}
 
 -- phaseConcurrency of p has q
@@ -49,6 +55,60 @@ pub record FillsCycle (set : Rows) (pattern : Pattern) (ring : ℕ) : Type 0 whe
       → StandsBefore (order set pattern ring) p q → TimesIn set pattern ring p s
       → TimesIn set pattern ring q t → s < t
 
+-- a phase is served in each cycle exactly where splitMode does not omit it
+abbrev pub IsServedUnlessOmitted : Rows → Pattern → ℕ → Phase → Type 0
+IsServedUnlessOmitted set pattern p phase =
+    (split : Split) → split_at set pattern.split p ≡ Some split
+    → (IsServed set pattern p ↔ (split.mode ≢ PhaseOmitted))
+
+-- what times in a ring is a phase of the set, with this phaseRing
+abbrev pub OnlyPhasesOfTheSetTime : Rows → Pattern → Type 0
+OnlyPhasesOfTheSetTime set pattern =
+    (ring p second : ℕ) → IsInRange 1 RINGS ring → TimesIn set pattern ring p second
+    → (phase : Phase) × (phase_at set p ≡ Some phase) × (phase.ring ≡ ring)
+
+-- splitCoordPhase marks a phase of the set, which is served in each cycle, and patternOffsetTime is
+-- less than patternCycleTime
+pub record IsCoordinated (set : Rows) (pattern : Pattern) : Type 0 where
+  pub offset : pattern.offset < pattern.cycle
+  pub p : ℕ
+  pub phase : Phase
+  pub split : Split
+  pub number : IsInRange 1 PHASES p
+  pub in_set : phase_at set p ≡ Some phase
+  pub row : split_at set pattern.split p ≡ Some split
+  pub marked : IsTrue split.coord
+  pub served : HasPhase set p phase → IsServed set pattern p
+
+-- once a phase has begun, one that is not concurrent with it times only when all of its yellow and
+-- red are over, in the same cycle or in a later one
+abbrev pub ConflictsAreCleared : Rows → Pattern → ℕ → Phase → Type 0
+ConflictsAreCleared set pattern p phase =
+    (split : Split) (fits : FitsSplit phase split) (begin q second : ℕ)
+    → split_at set pattern.split p ≡ Some split
+    → InItsCycle pattern (BeginsIn set pattern phase.ring p) begin
+    → p ≢ q → ¬ AreConcurrent set p q → InItsCycle pattern (IsTiming set pattern q) second
+    → begin ≤ second → 10 * begin + fits.green_end + phase.yellow + phase.red ≤ 10 * second
+
+-- Rings cross a barrier together: where a phase starts, each ring that timed a phase the second
+-- before that is not concurrent with it starts a phase too, also from one cycle to the next.
+abbrev pub BarriersAreCrossedTogether : Rows → Pattern → ℕ → Phase → Type 0
+BarriersAreCrossedTogether set pattern p phase =
+    (ring q second : ℕ) → IsInRange 1 RINGS ring → IsInRange 1 PHASES q
+    → InItsCycle pattern (StartsIn set pattern phase.ring p) (1 + second)
+    → p ≢ q → ¬ AreConcurrent set p q → InItsCycle pattern (TimesIn set pattern ring q) second
+    → (next : ℕ) × InItsCycle pattern (StartsIn set pattern ring next) (1 + second)
+
+-- a walk that splitMode calls lies with its clearance within the phase's own time, and so do its
+-- lead and the minimum green after it
+abbrev pub CalledWalkLiesWithin : Rows → Pattern → ℕ → Phase → Ped → Type 0
+CalledWalkLiesWithin set pattern p phase ped =
+    (split : Split) (begin second : ℕ)
+    → split_at set pattern.split p ≡ Some split → CallsPedestrian split.mode
+    → BeginsIn set pattern phase.ring p begin → begin ≤ second
+    → second < begin + max (ped.walk + ped.clear) (ped.lead + phase.min_green)
+    → IsTiming set pattern p second
+
 -- a phase times at a second, and each other phase that does is concurrent with it
 pub record HasTheStreet (set : Rows) (pattern : Pattern) (p second : ℕ) : Type 0 where
   pub times : IsTiming set pattern p second
@@ -58,8 +118,10 @@ pub record HasTheStreet (set : Rows) (pattern : Pattern) (p second : ℕ) : Type
 abbrev pub LiesIn : ℕ → ℕ → Type 0
 LiesIn moment second = (10 * second ≤ moment) × (moment < 10 * second + 10)
 
--- while somebody crosses who left the curb within a walk that the split mode calls, the phase of
--- the crossing has the street
+-- While somebody crosses who left the curb within a walk that the split mode calls (modes 5 and 6),
+-- the phase of the crossing has the street. In the other modes a button may call the walk, and the
+-- split need not have room for it: the phase may end, and one that is not concurrent begin, while
+-- somebody still crosses. A width of 0 was not measured, and nobody crosses it: nothing is said.
 abbrev pub WalkersHaveTheStreet : Rows → Pattern → ℕ → Phase → Ped → Type 0
 WalkersHaveTheStreet set pattern p phase ped =
     (split : Split) (begin left now second : ℕ)
@@ -67,26 +129,34 @@ WalkersHaveTheStreet set pattern p phase ped =
     → BeginsIn set pattern phase.ring p begin → left ≤ 10 * ped.walk → IsCrossing ped left now
     → LiesIn (10 * begin + now) second → HasTheStreet set pattern p second
 
--- a phase that times after another has begun that it is not concurrent with, times when all of the
--- other's yellow and red are over
-abbrev pub ConflictsAreCleared : Rows → Pattern → ℕ → Phase → Type 0
-ConflictsAreCleared set pattern p phase =
-    (split : Split) (fits : FitsSplit phase split) (begin q second : ℕ)
-    → split_at set pattern.split p ≡ Some split → BeginsIn set pattern phase.ring p begin
-    → p ≢ q → ¬ AreConcurrent set p q → IsTiming set pattern q second → begin ≤ second
-    → 10 * begin + fits.green_end + phase.yellow + phase.red ≤ 10 * second
-
 abbrev pub InEachPattern : Rows → (Pattern → Type 0) → Type 0
 InEachPattern set Law = (n : ℕ) (pattern : Pattern) → HasPattern set n pattern → Law pattern
 
 abbrev pub OfEachPhase : Rows → (ℕ → Phase → Type 0) → Type 0
 OfEachPhase set Law = (p : ℕ) (phase : Phase) → HasPhase set p phase → Law p phase
 
--- the laws, in each pattern and of each phase of a set
+-- which phases time in a cycle, and when
+pub record RunsItsCycle (set : Rows) (pattern : Pattern) : Type 0 where
+  pub stretches : OfEachPhase set (TimesOnce set pattern)
+  pub served : OfEachPhase set (IsServedUnlessOmitted set pattern)
+  pub known : OnlyPhasesOfTheSetTime set pattern
+  pub rings : OfEachPhase set (λ p phase. FillsCycle set pattern phase.ring)
+  pub coordinated : IsCoordinated set pattern
+
+-- phases that are not concurrent are kept apart
+pub record KeepsApart (set : Rows) (pattern : Pattern) : Type 0 where
+  pub concurrent : OnlyConcurrentPhasesTime set pattern
+  pub cleared : OfEachPhase set (ConflictsAreCleared set pattern)
+  pub barriers : OfEachPhase set (BarriersAreCrossedTogether set pattern)
+
+-- walks that are called have their time, and walkers the street
+pub record HasTimeForWalks (set : Rows) (pattern : Pattern) : Type 0 where
+  pub within : OfEachPhase set (λ p phase. IfSome phase.ped (CalledWalkLiesWithin set pattern p phase))
+  pub walkers : OfEachPhase set (λ p phase. IfSome phase.ped (WalkersHaveTheStreet set pattern p phase))
+
+-- the laws, in each pattern and of each phase of a set; the last one needs no pattern
 pub record StreetLaws (set : Rows) : Type 0 where
-  pub concurrent : InEachPattern set (OnlyConcurrentPhasesTime set)
-  pub stretches : InEachPattern set (λ pattern. OfEachPhase set (TimesOnce set pattern))
-  pub cleared : InEachPattern set (λ pattern. OfEachPhase set (ConflictsAreCleared set pattern))
-  pub rings : InEachPattern set (λ pattern. OfEachPhase set (λ p phase. FillsCycle set pattern phase.ring))
+  pub cycles : InEachPattern set (RunsItsCycle set)
+  pub apart : InEachPattern set (KeepsApart set)
+  pub walks : InEachPattern set (HasTimeForWalks set)
   pub crossings : OfEachPhase set (λ p phase. IfSome phase.ped (WalkersCross phase))
-  pub walkers : InEachPattern set (λ pattern. OfEachPhase set (λ p phase. IfSome phase.ped (WalkersHaveTheStreet set pattern p phase)))

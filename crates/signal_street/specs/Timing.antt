@@ -1,5 +1,5 @@
 -- When the phases of a pattern time, in seconds of its cycle, which count from 0.
-use Rattle.std.specs.Prelude.{◌≡◌, ℕ, ◌+◌, ◌<◌, ◌≤◌, List, [], ◌∷◌, ◌++◌, sum_by, Option, Some, None}
+use Rattle.std.specs.Prelude.{◌≡◌, ℕ, ◌+◌, ◌*◌, ◌<◌, ◌≤◌, List, [], ◌∷◌, ◌++◌, sum_by, Option, Some, None}
 use Rattle.std.specs.Int.{IsInRange}
 use Rattle.signal_values.specs.declared.number.TheConstants.{PHASES, RINGS}
 use Rattle.signal_records.specs.declared.record.Pattern.{Pattern}
@@ -61,6 +61,22 @@ pub record IsTiming (set : Rows) (pattern : Pattern) (p second : ℕ) : Type 0 w
   pub ring : ℕ
   pub ring_number : IsInRange 1 RINGS ring
   pub times : TimesIn set pattern ring p second
+
+-- a phase begins in a ring and has time there
+abbrev pub StartsIn : Rows → Pattern → ℕ → ℕ → ℕ → Type 0
+StartsIn set pattern ring p second = BeginsIn set pattern ring p second × TimesIn set pattern ring p second
+
+-- a phase is served in a cycle
+abbrev pub IsServed : Rows → Pattern → ℕ → Type 0
+IsServed set pattern p = (second : ℕ) × IsTiming set pattern p second
+
+-- A pattern runs cycle after cycle, and its seconds are counted on from where one cycle begins: what
+-- is so at a second of the cycle is so at that second of each.
+pub record InItsCycle (pattern : Pattern) (IsSo : ℕ → Type 0) (second : ℕ) : Type 0 where
+  pub cycles : ℕ
+  pub in_cycle : ℕ
+  pub counted : second ≡ cycles * pattern.cycle + in_cycle
+  pub so : IsSo in_cycle
 
 -- a phase stands somewhere before another in a row
 pub record StandsBefore (row : List ℕ) (p q : ℕ) : Type 0 where
