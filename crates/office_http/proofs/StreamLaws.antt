@@ -7,6 +7,7 @@ use Rattle.office_machine.specs.declared.reply.Reply.TheVariants.{Refused}
 use Rattle.office_desk.proofs.{RegisterLaws.runs_register, Repeats.runs_repeat, TimingLaw.runs_timing}
 use Rattle.office_tables_shelf.specs.{Content.Content, declared.counts.WriteCounts.WriteCounts}
 use Rattle.office_http.specs.Laws.{Serves, TellsRead, TellsReplies, asked_in, command_read}
+use Rattle.office_http.proofs.StreetLemmas.{keeps_the_street}
 use Rattle.office_http.specs.Protocol.{AnswersRead, office_protocol, office_storage, read_of}
 use Rattle.office_http_faults.specs.declared.fault.AskFault.{AskFault}
 use Rattle.office_http_framing.specs.{Front.PlainRequest, Stops.IsKept, Stops.Leaves, Stops.LeavesOne, Stops.Ran}
@@ -69,6 +70,7 @@ module _ {Shelf : Type 0} (is_honest : Shelf → Type 0) (content : Shelf → Co
           run = all.run;
           tells = all.tells;
           sound = all.sound;
+          street = keeps_the_street after ran.keeps.stands.sound;
           running = λ id. runs_timing id _ (asked_in requests) all.replies before after all.run refl;
           register = runs_register (asked_in requests) all.replies before after all.run first ran.keeps.stands.sound;
           repeats = runs_repeat (asked_in requests) all.replies before after all.run;

@@ -59,14 +59,15 @@ TellsReplies _ _ _ = ⊥
 -- ---- the laws
 
 -- The office machine ran over the commands that the requests ask, and the answers tell its replies. Each office on the way is sound, so
--- that no committed set breaks a rule; each committed set is the draft as it stood just before its last accepted commit, or what it was at
--- the start; orders and stock are what the accepted commands of the register made of them; and an import that was accepted and is sent
--- again adds nothing.
+-- that no committed set breaks a rule. Each committed set of the last keeps the laws of the street, and is the draft as it stood just before
+-- its last accepted commit, or what it was at the start. Orders and stock are what the accepted commands of the register made of them; and
+-- an import that was accepted and is sent again adds nothing.
 pub record KeepsLaws (before : Office) (requests : List PlainRequest) (answers : List (List ℕ)) (after : Office) : Type 0 where
   pub replies : List Reply
   pub run : Run before (asked_in requests) replies after
   pub tells : TellsReplies requests replies answers
   pub sound : AreSound before (asked_in requests) replies after run
+  pub street : (id : ℕ) → StreetLaws (side_at after id).committed
   pub running : (id : ℕ) → (side_at after id).committed ≡ running id (side_at before id).committed before (asked_in requests) replies after run
   pub register : RegisterRuns before (asked_in requests) replies after run
   pub repeats : Repeats before (asked_in requests) replies after run
