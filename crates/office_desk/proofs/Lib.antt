@@ -12,4 +12,5 @@ pub mod Recorded
 pub mod FoundAgain
 pub mod OverdueRows
 pub mod Writes
+pub mod Street
 pub mod Runs

@@ -8,10 +8,10 @@ use Rattle.office_tables_shelf.specs.{Change.AddNew, Change.changed_by, Content.
 use Rattle.office_tables_shelf.specs.declared.{counts.WriteCounts.WriteCounts, rows.RowChange.RowChange, shelf.ShelfFault.ShelfFault}
 use Rattle.office_tables_shelf.specs.declared.shelf.ShelfFault.TheVariants.{Damaged}
 use Rattle.office_tables_shelf.specs.RegisterStands.{RegisterStandsSound}
-use Rattle.office_desk.specs.Answers.{AnswersAny, Answers, EndsIn, IsAfterStep, RunsAny, RunsTo}
+use Rattle.office_desk.specs.Answers.{AnswersAny, Answers, EndsIn, IsAfterStep}
 use Rattle.office_desk.specs.Deciding.{AddsNothing, DecidesIdly, IsAnswered, IsDecision, IsIdle}
 use Rattle.office_desk.specs.Damage.{HasDamageIn, IsTurnedAway, MeetsAfter, MeetsCabinetDamage, MeetsImportDamage, MeetsDamage}
-use Rattle.office_desk.specs.{Blaming.BlamesRightly, Changes.IsRefused, Changes.RiseAtMost, Changes.most_writes, Running.AreRun, Running.IsRun}
+use Rattle.office_desk.specs.{Blaming.BlamesRightly, Changes.IsRefused, Changes.RiseAtMost, Changes.most_writes, Running.AreRun, Running.IsRun, Running.RunsAny, Running.RunsTo}
 use Rattle.office_desk.specs.{Named.IsNamedFor, Named.RefusesBy, Named.numbers_of, StandFor.StandForSound}
 use Rattle.office_desk_timing.specs.Decisions.{refusal_of}
 use Rattle.office_desk_decisions.specs.declared.decided.Decided.{Decided}
@@ -25,7 +25,7 @@ use Rattle.office_machine.specs.declared.command.Command.TheVariants as command
 use Rattle.office_machine.specs.declared.refusal.Refusal.TheVariants as refusal
 use Rattle.office_desk_timing.proofs.{IntersectionTable.no_damaged_intersection, Stands.no_damage, Stands.no_damaged_timing}
 use Rattle.office_desk.proofs.{Recorded.register_of, Blames.blames_later, Blames.fault_blames, Blames.unavailable_blames}
-use Rattle.office_desk.proofs.{RegisterLaws.runs_register, Repeats.runs_repeat, TimingLaw.runs_timing, Writes.no_rise, Writes.rise_at_most}
+use Rattle.office_desk.proofs.{RegisterLaws.runs_register, Repeats.runs_repeat, Street.keeps_the_street, TimingLaw.runs_timing, Writes.no_rise, Writes.rise_at_most}
 
 -- ---- a decision
 
@@ -359,6 +359,7 @@ runs_to office last commands replies tables sound run between stand = record {
   run = run;
   sound = between;
   stand = stand;
+  street = keeps_the_street last stand.sound;
   running = λ id. runs_timing id _ commands replies office last run refl;
   register = runs_register commands replies office last run sound stand.sound;
   repeats = runs_repeat commands replies office last run;

@@ -1,5 +1,5 @@
 -- What running commands promises, of the shelf before and after them.
-use Rattle.std.specs.Prelude.{◌≡◌, ◌≢◌, ◌⊎◌, List, [], ◌∷◌}
+use Rattle.std.specs.Prelude.{◌≡◌, ◌≢◌, ◌⊎◌, ℕ, List, [], ◌∷◌}
 use Rattle.office_tables_shelf.specs.Content.{Content}
 use Rattle.office_tables_shelf.specs.declared.counts.WriteCounts.{WriteCounts}
 use Rattle.office_desk.specs.Answers.{AnswersAny, EndsIn, IsAfterStep}
@@ -8,10 +8,17 @@ use Rattle.office_desk.specs.Damage.{IsTurnedAway, MeetsDamage}
 use Rattle.office_desk.specs.Deciding.{IsIdle}
 use Rattle.office_desk.specs.Named.{IsNamedFor}
 use Rattle.office_desk.specs.Blaming.{BlamesRightly}
+use Rattle.office_machine.specs.Office.{Office, IsSound, side_at}
+use Rattle.office_machine.specs.Step.{AreSound, Run}
+use Rattle.office_machine.specs.Timing.{running}
+use Rattle.office_machine.specs.RegisterRuns.{RegisterRuns}
+use Rattle.office_machine.specs.Repeats.{Repeats}
 use Rattle.office_machine.specs.declared.command.Command.{Command}
 use Rattle.office_machine.specs.declared.refusal.Refusal.TheVariants.{Damaged, Unavailable}
 use Rattle.office_machine.specs.declared.reply.Reply.{Reply}
 use Rattle.office_machine.specs.declared.reply.Reply.TheVariants.{Refused}
+use Rattle.office_tables_standing.specs.StandFor.{StandForSound}
+use Rattle.signal_street.specs.StreetLaws.{StreetLaws}
 
 -- What is said of a reply and of the rows that were written, with no word of the new tables.
 pub record IsReply (is_clean : Type 0) (tables : Content) (command : Command) (reply : Reply) (before after : WriteCounts) : Type 0 where
@@ -55,3 +62,27 @@ AreRun {S} is_clean is_honest content written may_leave (command ∷ commands) (
     (mid : S) × IsRun is_clean is_honest content written may_leave command reply old mid × AreRun is_clean is_honest content written may_leave commands replies mid new
 AreRun is_clean is_honest content written may_leave [] (reply ∷ replies) old new = ⊥
 AreRun is_clean is_honest content written may_leave (command ∷ commands) [] old new = ⊥
+
+-- ---- what a run of them means
+
+-- whichever the sound office: what each of its committed timing sets means on the street
+abbrev pub KeepsTheStreet : Type 0
+KeepsTheStreet = (office : Office) → IsSound office → (id : ℕ) → StreetLaws (side_at office id).committed
+
+-- From an office, the replies are those of a run, each office of which is sound, and the tables stand for the last. Each of its committed
+-- sets keeps the laws of the street, and is the draft as it stood just before its last accepted commit, or what it was at the start (empty
+-- where there was no intersection). Orders and stock are what the accepted commands of the register made of them. An import that was
+-- accepted and is sent again adds nothing.
+pub record RunsTo (office : Office) (commands : List Command) (replies : List Reply) (tables : Content) : Type 0 where
+  pub last : Office
+  pub run : Run office commands replies last
+  pub sound : AreSound office commands replies last run
+  pub stand : StandForSound tables last
+  pub street : (id : ℕ) → StreetLaws (side_at last id).committed
+  pub running : (id : ℕ) → (side_at last id).committed ≡ running id (side_at office id).committed office commands replies last run
+  pub register : RegisterRuns office commands replies last run
+  pub repeats : Repeats office commands replies last run
+
+-- Whichever sound office the old tables stand for, the replies and the new tables are a run of it.
+abbrev pub RunsAny : Content → List Command → List Reply → Content → Type 0
+RunsAny old commands replies new = (office : Office) → StandForSound old office → RunsTo office commands replies new
