@@ -2,4 +2,3 @@ pub mod ListeningLemmas
 pub mod MachineLemmas
 pub mod ServedLemmas
 pub mod StreamLaws
-pub mod StreetLemmas

@@ -4,10 +4,9 @@ use Rattle.std.specs.Prelude.{Result, Ok, Err}
 use Rattle.office_machine.specs.{Office.IsSound, Office.Office, Step.AreSound, Step.Run, declared.command.Command.Command}
 use Rattle.office_machine.specs.{declared.refusal.Refusal.TheVariants.Unavailable, declared.reply.Reply.Reply}
 use Rattle.office_machine.specs.declared.reply.Reply.TheVariants.{Refused}
-use Rattle.office_desk.proofs.{RegisterLaws.runs_register, Repeats.runs_repeat, TimingLaw.runs_timing}
+use Rattle.office_desk.proofs.{RegisterLaws.runs_register, Repeats.runs_repeat, Street.keeps_the_street, TimingLaw.runs_timing}
 use Rattle.office_tables_shelf.specs.{Content.Content, declared.counts.WriteCounts.WriteCounts}
 use Rattle.office_http.specs.Laws.{Serves, TellsRead, TellsReplies, asked_in, command_read}
-use Rattle.office_http.proofs.StreetLemmas.{keeps_the_street}
 use Rattle.office_http.specs.Protocol.{AnswersRead, office_protocol, office_storage, read_of}
 use Rattle.office_http_faults.specs.declared.fault.AskFault.{AskFault}
 use Rattle.office_http_framing.specs.{Front.PlainRequest, Stops.IsKept, Stops.Leaves, Stops.LeavesOne, Stops.Ran}

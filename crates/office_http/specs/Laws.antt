@@ -1,6 +1,6 @@
 -- What the requests of a whole stream make of the office: the run of the commands that they ask, and its laws.
 use Rattle.std.specs.Prelude.{◌≡◌, ◌⊎◌, ℕ, List, [], ◌∷◌, ◌++◌, Result, Ok, Err}
-use Rattle.office_machine.specs.Office.{IsSound, Office, side_at}
+use Rattle.office_machine.specs.Office.{Office, side_at}
 use Rattle.office_machine.specs.RegisterRuns.{RegisterRuns}
 use Rattle.office_machine.specs.Repeats.{Repeats}
 use Rattle.office_machine.specs.Step.{AreSound, Run}
@@ -79,7 +79,3 @@ pub record Serves
     (before : Office) (last : Shelf) (kept : Content) (after : Office) (requests : List PlainRequest) (answers : List (List ℕ)) : Type 0 where
   pub ran : Ran office_protocol storage may held old before last kept after requests answers
   pub laws : KeepsLaws before requests answers after
-
--- whichever the sound office: what each of its committed timing sets means on the street
-abbrev pub KeepsTheStreet : Type 0
-KeepsTheStreet = (office : Office) → IsSound office → (id : ℕ) → StreetLaws (side_at office id).committed

@@ -1,6 +1,7 @@
 use Rattle.office_http_framing.proofs.ServeLemmas.{Did-weaker}
 use Rattle.office_http.specs.Protocol.{office_protocol}
-use Rattle.office_http.proofs.{StreamLaws.serves, StreetLemmas.keeps_the_street}
+use Rattle.office_desk.proofs.Street.{keeps_the_street}
+use Rattle.office_http.proofs.StreamLaws.{serves}
 use Rattle.office_http.proofs.service.serve.Goals as goal
 
 pub returns-clause-did : goal.returns-clause-did
