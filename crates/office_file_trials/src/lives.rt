@@ -62,6 +62,8 @@ pub fn try_lives(rt: &HostRuntime) -> Result<(), Trouble> {
     live_twice(alloc, false)?;
     live_twice(alloc, true)?;
     live_on(alloc)?;
-    println!(rt; "two runs over the same files, closed, stopped or migrated in between: the second goes on")?;
+    println!(rt;
+        "two runs over the same files, closed, stopped or migrated in between: the second goes on"
+    )?;
     Ok(())
 }

@@ -35,8 +35,7 @@ module _ {D : Type 0} (g : Disk D) where
   done_migrated files count (left.Closed back) (Err cause, told, usable, closed) = absurd (cc)
   done_migrated files count (left.Closed back) (Ok same, told, usable, closed) = λ clean.
       let it = closed clean in
-      let sound : AreToday it.trees = elim it.migrated [ inl today ↦ subst AreToday (sym today.same) today.was | inr anew ↦ anew.stored ] in
-      (
+      let sound : AreToday it.trees = elim it.migrated [ inl today ↦ subst AreToday (sym today.same) today.was | inr anew ↦ anew.stored ] in (
         content_of it.was,
         content_of it.trees,
         record { trees = it.was; those = it.those; content = refl },

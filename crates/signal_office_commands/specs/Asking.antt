@@ -3,7 +3,8 @@ use Rattle.std.specs.Prelude.{◌≡◌, ◌⊎◌, List, Result, Err}
 use Rattle.office_tables_shelf.specs.Content.{Content}
 use Rattle.office_files.specs.declared.fault.CsvFault.{CsvFault}
 use Rattle.office_files.specs.declared.fault.CsvFault.TheVariants as file
-use Rattle.office_desk.specs.Answers.{AnswersAny, RunsAny}
+use Rattle.office_desk.specs.Answers.{AnswersAny}
+use Rattle.office_desk.specs.Running.{RunsAny}
 use Rattle.office_machine.specs.declared.command.Command.{Command}
 use Rattle.office_machine.specs.declared.reply.Reply.{Reply}
 use Rattle.signal_office_faults.specs.declared.fault.Fault.{Fault}

@@ -15,17 +15,28 @@ returns g c clean =
     let again = c.in_ok-second.ensures.clean clean in
     let was_clean = c.stopped-files.ensures.clean again in
     let last = c.in-Ok.office in
-    let did = c.in-Ok.ensures.did was_clean in
-    (did.0, two.1, did.1, (two.0, (λ before stands.
-    let ran = did.2 before stands in
-    (ran.0, Did-weaker office_protocol _ _ _ _ _ c.in-Ok.first
-    (λ requests answers it. record {
-      laws = it.serves.laws;
-      found_so = ∥∥₁_map (c.stopped-files.ensures.found again two.2.trees two.2.those) (λ may. record {
-        run = it.serves.ran.run;
-        kept = it.kept;
-        counts = last.counts;
-        leaves = leaves_less office_protocol (sql_storage (file_state {g = g.D.Disk})) _ _ _ _ requests answers ran.0 it.serves.ran.run _ _ it.kept last.counts
-            (λ left is. (was_clean, two.2.trees, may, sym (is ∙ hold_today two.2.trees two.0 (c.in-Ok.ensures.current.left was_clean two.2.trees may) two.2.hold))) it.serves.ran.leaves;
-      });
-    }) ran.1)), (two.1, two.3, refl)), two.4)
+    let did = c.in-Ok.ensures.did was_clean in (
+      did.0,
+      two.1,
+      did.1,
+      (
+        two.0,
+        (λ before stands.
+            let ran = did.2 before stands in (
+              ran.0,
+              Did-weaker office_protocol _ _ _ _ _ c.in-Ok.first
+                  (λ requests answers it. record {
+                    laws = it.serves.laws;
+                    found_so = ∥∥₁_map (c.stopped-files.ensures.found again two.2.trees two.2.those) (λ may. record {
+                      run = it.serves.ran.run;
+                      kept = it.kept;
+                      counts = last.counts;
+                      leaves = leaves_less office_protocol (sql_storage (file_state {g = g.D.Disk})) _ _ _ _ requests answers ran.0 it.serves.ran.run _ _ it.kept last.counts
+                          (λ left is. (was_clean, two.2.trees, may, sym (is ∙ hold_today two.2.trees two.0 (c.in-Ok.ensures.current.left was_clean two.2.trees may) two.2.hold))) it.serves.ran.leaves;
+                    });
+                  }) ran.1,
+            )),
+        (two.1, two.3, refl),
+      ),
+      two.4,
+    )

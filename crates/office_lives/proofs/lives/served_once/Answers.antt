@@ -12,11 +12,18 @@ returns-in-Ok-close_office-clause-made g c clean =
     let closed = c.in-Ok-close_office.ensures in
     let last = c.in-Ok.office in
     let honest : IsHonest (file_state last.conn) = ((closed.copied clean).was_clean, (closed.copied clean).was_open) in
-    let did = c.in-Ok.ensures.did honest.0 in
-    (did.0, content_now (file_state last.conn), did.1, (λ before stands.
-    let ran = did.2 before stands in
-    (ran.0, Did-weaker office_protocol _ _ _ _ _ c.in-Ok.outcome
-    (λ requests answers it. record {
-      laws = it.serves.laws;
-      stands = subst (λ t. StandForSound t ran.0) (sym (it.serves.ran.keeps.held honest)) it.serves.ran.keeps.stands;
-    }) ran.1)), closed.kept clean)
+    let did = c.in-Ok.ensures.did honest.0 in (
+      did.0,
+      content_now (file_state last.conn),
+      did.1,
+      (λ before stands.
+          let ran = did.2 before stands in (
+            ran.0,
+            Did-weaker office_protocol _ _ _ _ _ c.in-Ok.outcome
+                (λ requests answers it. record {
+                  laws = it.serves.laws;
+                  stands = subst (λ t. StandForSound t ran.0) (sym (it.serves.ran.keeps.held honest)) it.serves.ran.keeps.stands;
+                }) ran.1,
+          )),
+      closed.kept clean,
+    )
