@@ -19,7 +19,7 @@ use Rattle.office_tables_statements.specs.{Calls.IsHonest, Calls.IsOffice, Store
 use Rattle.office_tables_open.specs.Lacking.{Hold, Lacks}
 use Rattle.office_tables_open.specs.Moved.{content_by, rows_named}
 use Rattle.office_tables_open.specs.Version.{AreToday, version_at, version_in, current_version}
-use Rattle.office_tables_open.specs.Found.{HasOtherVersion, HasRowsAlone, IsFoundIn, StoreNone, StoreOther, StoreToday}
+use Rattle.office_tables_open.specs.Found.{IsUnclaimed, HasOtherVersion, HasRowsAlone, IsFoundIn, StoreNone, StoreOther, StoreToday}
 use Rattle.office_tables_open.specs.declared.{found.Found.TheVariants.Nothing, found.Found.TheVariants.Today, found.TheConstants.KEEPER}
 use Rattle.office_tables_open.proofs.MovedLemmas.{listed_content, office_content}
 
