@@ -1,5 +1,5 @@
-//! Files that live through several runs: what one leaves, the next one finds. It is proved here from
-//! the public contracts alone, over any disk, and tried over files in memory.
+//! Files that live through several runs: what one leaves, the next one finds. It is proved here
+//! from the public contracts alone, over any disk.
 #![tactic(auto)]
 
 mod lives;

@@ -11,7 +11,8 @@ use sqlite_std_file::OpenError;
 use std::hash::{BuildHasher, RandomState};
 use std::io::ErrorKind;
 
-/// The two files at a path, which are made where they are missing. `S` stands for what they held: no clause ties that to the path.
+/// The two files at a path, which are made where they are missing. `S` stands for what they held:
+/// no clause ties that to the path.
 fn pair_at<S: Start>(rt: &HostRuntime, path: &str, start: S) -> Result<Files<FileFrom<S>>, Fault>
     ensures new { IfOk result (λ files.
         AreNew ⟦<FileFrom<S> as Disk>⟧ files (image_at S.Start)) }
