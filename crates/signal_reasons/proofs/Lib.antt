@@ -1,0 +1,9 @@
+pub mod FewPhases
+pub mod Tests
+pub mod Ranges
+pub mod Rings
+pub mod PhaseLaws
+pub mod RowLaws
+pub mod PatternLaws
+pub mod Stretches
+pub mod Laws

@@ -1,0 +1,116 @@
+-- The phases of rings at a second, and how long they time.
+use Rattle.std.proofs.Common.{◌≡◌, ◌≢◌, ℕ, zero, suc, ◌+◌, ◌<◌, ◌≤◌, min, Bool, true, false, eqb, ltb, ◌&&◌, List, [], ◌∷◌, ◌++◌, map, take, drop, length, get_or, sum_by, refl, sym, ap, subst, ◌∙◌, arith}
+use Rattle.std.proofs.lemmas.Bool.{and_from, and_parts, both_ways, eqb-true}
+use Rattle.std.proofs.lemmas.List.{take-append-drop, take_all}
+use Rattle.std.proofs.lemmas.List.Folds.{list_all-map}
+use Rattle.std.proofs.Math.Nat.{min-le_left, min-le_right}
+use Rattle.std.specs.List.{list_all}
+use Rattle.signal_records.specs.{declared.record.Pattern.Pattern, TimingSet.Rows}
+use Rattle.signal_values.specs.Numbers.{numbers}
+use Rattle.signal_rules.specs.{Lookup.is_in, Lookup.lists, Lookup.phase_at, Lookup.the_mates, CutPoints.timed, SequenceRule.ring_row, Starts.times, Starts.rings_fill}
+use Rattle.signal_rules.specs.PatternRules.{lane, lanes, used_rings, lanes_fill_cycle, lanes_agree, list_each_other, all_list_each_other, phases_at}
+use Rattle.signal_rules.proofs.{Among.all_at, CutPoints.all_numbers, Starts.fill_by_rings, Steps.one_left, Steps.all_passed}
+use Rattle.signal_street.specs.{Timing.order, Timing.split_time, Timing.BeginsIn, Timing.TimesIn, StreetLaws.Lists, StreetLaws.AreConcurrent}
+use Rattle.signal_street.proofs.{Places.length_is, Patterns.order_is}
+use Rattle.signal_reasons.specs.PatternReasons.{IsUsed, TimeTogether}
+use Rattle.signal_reasons.specs.Together.{TimesOn, AreFilled, at_second, agree_with, agree_at}
+use Rattle.signal_reasons.proofs.PatternLaws.{times_are, seconds_are, in_lane}
+use Rattle.signal_reasons.proofs.Tests.{is_among}
+
+-- ---- one ring
+
+-- a phase begins when those before it in its row are over
+begins_at : (set : Rows) (row : Pattern) (ring : ℕ) (items : List ℕ) (i p begin : ℕ) → items ≡ ring_row set row.seq ring → i < length items → p ≡ get_or items i p → begin ≡ sum_by (times set row.split) (take i items) → BeginsIn set row ring p begin
+begins_at set row ring items i p begin e lt is over = record {
+  before = take i items;
+  after = drop (i + 1) items;
+  placed = order_is set row ring ∙ sym e ∙ sym (take-append-drop i items) ∙ ap (λ l. take i items ++ l) (one_left items i p lt is);
+  over = over ∙ ap (λ (time : ℕ → ℕ). sum_by time (take i items)) (sym (times_are set row));
+}
+
+pub times_on : (set : Rows) (row : Pattern) (ring : ℕ) (items : List ℕ) (i p begin until second : ℕ) → items ≡ ring_row set row.seq ring → i < length items → p ≡ get_or items i p → begin ≡ sum_by (times set row.split) (take i items)
+    → begin ≤ second → until ≡ begin + times set row.split p → second < until → TimesOn set row ring second p until
+times_on set row ring items i p begin until second e lt is over begun ends before =
+    (before, λ t low high. record {
+      begin = begin;
+      begins = begins_at set row ring items i p begin e lt is over;
+      begun = later begin second t begun low;
+      unended = within t until begin (times set row.split p) (split_time set row p) ends (λ k. times_are set row k p) high;
+    }) where
+      later : (a b c : ℕ) → a ≤ b → b ≤ c → a ≤ c
+      later a b c f g = omega arith
+
+      within : (t until begin own time : ℕ) → until ≡ begin + own → time ≡ own → t < until → t < begin + time
+      within t until begin own time f g lt = omega arith
+
+pub over_by : (set : Rows) (row : Pattern) (ring : ℕ) (items : List ℕ) (i begin second : ℕ) → items ≡ ring_row set row.seq ring → length items ≤ i → begin ≡ sum_by (times set row.split) (take i items) → begin ≤ second → length (lane set row.seq row.split ring) ≤ second
+over_by set row ring items i begin second e le over begun =
+    last _ _ _ (length_is (times set row.split) (ring_row set row.seq ring)) (over ∙ ap (sum_by (times set row.split)) (take_all i items le ∙ e)) begun where
+      last : (all sum begin : ℕ) → all ≡ sum → begin ≡ sum → begin ≤ second → all ≤ second
+      last all sum begin f g h = omega arith
+
+-- what times in a ring at a second is what its lane has then
+pub there : (set : Rows) (row : Pattern) (ring p second until : ℕ) → TimesOn set row ring second p until → at_second set row second ring ≡ p
+there set row ring p second until t = in_lane set row ring p second (t.1 second (omega arith) t.0)
+
+-- ---- two rings
+
+listed : (set : Rows) (p q : ℕ) → Lists set p q → lists set p q ≡ true
+listed set p q h = ap (λ o. is_in q (the_mates o)) h.1 ∙ is_among h.0.mates q h.2
+
+pub not_concurrent : (set : Rows) (p q : ℕ) → list_each_other set p q ≡ false → ¬ AreConcurrent set p q
+not_concurrent set p q none both = both_ways (list_each_other set p q) none (and_from (lists set p q) (lists set q p) (listed set p q both.0) (listed set q p both.1))
+
+pub together : (set : Rows) (row : Pattern) (ring other p q second a b until : ℕ) → second < row.cycle → ring ≢ other → IsUsed set ring → IsUsed set other
+    → TimesOn set row ring second p a → TimesOn set row other second q b → until ≡ min a b → TimeTogether set row second until p q
+together set row ring other p q second a b until within apart used other_used t u e = record {
+  ring = ring;
+  other = other;
+  apart = apart;
+  used = used;
+  other_used = other_used;
+  some = least second a b until t.0 u.0 e;
+  within = within;
+  first = λ s low high. t.1 s low (up_to s until a e (min-le_left a b) high);
+  second = λ s low high. u.1 s low (up_to s until b e (min-le_right a b) high);
+} where
+  least : (second a b until : ℕ) → second < a → second < b → until ≡ min a b → second < until
+  least second a b until f g h = grind arith
+
+  up_to : (s until c : ℕ) → until ≡ min a b → min a b ≤ c → s < until → s < c
+  up_to s until c f g lt = omega arith
+
+-- ---- all rings
+
+pub filled_at : (set : Rows) (row : Pattern) (second : ℕ) (rings : List ℕ) (i ring : ℕ) → AreFilled set row second rings → i < length rings → ring ≡ get_or rings i ring → second < length (lane set row.seq row.split ring)
+filled_at set row second [] i ring filled lt is = absurd (omega arith)
+filled_at set row second (r ∷ rings) i ring filled lt is =
+    by_place i lt is (λ j less at. filled_at set row second rings j ring filled.1 less at) where
+      by_place : (i : ℕ) → i < length (r ∷ rings) → ring ≡ get_or (r ∷ rings) i ring
+          → ((j : ℕ) → j < length rings → ring ≡ get_or rings j ring → second < length (lane set row.seq row.split ring)) → second < length (lane set row.seq row.split ring)
+      by_place zero lt is later = subst (λ k. second < length (lane set row.seq row.split k)) (sym is) filled.0
+      by_place (suc j) lt is later = later j (omega arith) is
+
+all_filled : (set : Rows) (row : Pattern) (second : ℕ) (rings : List ℕ) → second < row.cycle → rings_fill set row rings ≡ true → AreFilled set row second rings
+all_filled set row second [] lt fill = tt
+all_filled set row second (ring ∷ rings) lt fill =
+    let parts = and_parts (eqb (length (lane set row.seq row.split ring)) row.cycle) (rings_fill set row rings) fill in
+    (as_long second (length (lane set row.seq row.split ring)) row.cycle (eqb-true _ _ parts.0) lt, all_filled set row second rings lt parts.1) where
+      as_long : (s a b : ℕ) → a ≡ b → s < b → s < a
+      as_long s a b e lt = omega arith
+
+pub used_filled : (set : Rows) (row : Pattern) (second : ℕ) → second < row.cycle → lanes_fill_cycle set row ≡ true → AreFilled set row second (used_rings set)
+used_filled set row second lt fill = all_filled set row second (used_rings set) lt (fill_by_rings set row (used_rings set) refl ∙ fill)
+
+pub agree_more : (set : Rows) (row : Pattern) (second ring : ℕ) (later : List ℕ) → agree_with set row second ring later ≡ true → agree_at set row second later ≡ true → agree_at set row second (ring ∷ later) ≡ true
+agree_more set row second ring later one rest =
+    and_from _ _ (list_all-map (list_each_other set (at_second set row second ring)) (at_second set row second) later ∙ one) rest
+
+mapped : (set : Rows) (row : Pattern) (second : ℕ) (rings : List ℕ) → phases_at (map (lane set row.seq row.split) rings) second ≡ map (at_second set row second) rings
+mapped set row second [] = refl
+mapped set row second (ring ∷ rings) = ap (λ l. at_second set row second ring ∷ l) (mapped set row second rings)
+
+pub agree_all : (set : Rows) (row : Pattern) → ((t : ℕ) → t < row.cycle → agree_at set row t (used_rings set) ≡ true) → lanes_agree set row ≡ true
+agree_all set row h =
+    all_numbers (λ s. all_list_each_other set (phases_at (lanes set row) s)) row.cycle 0
+    (λ t low high. ap (all_list_each_other set) (mapped set row t (used_rings set)) ∙ h t (omega arith))

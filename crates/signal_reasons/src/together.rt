@@ -1,0 +1,166 @@
+//! Why a pattern breaks V13.
+
+ghost use Rattle.std.specs.Prelude.{◌≡◌, ◌≢◌, ◌<◌, ◌≤◌, [], ◌∷◌, true, false, length, IfSome, IfNone};
+ghost use Rattle.std.specs.List.{list_all};
+ghost use Rattle.signal_records.specs.PhaseList.{is_distinct};
+ghost use Rattle.signal_rules.specs.Lookup.{phase_at, the_mates, is_in};
+ghost use Rattle.signal_rules.specs.PatternRules.{lane, used_rings, lanes_fill_cycle, lanes_agree};
+ghost use Rattle.signal_rules.specs.PatternRules.{list_each_other};
+ghost use Rattle.signal_reasons.specs.PatternReasons.{IsPatternReason, pattern_rule, IsUsed};
+ghost use Rattle.signal_reasons.specs.Together.{TimesOn, AreFilled, at_second, agree_at, agree_with};
+
+use crate::lanes::{row_of, time_of};
+use crate::reason::PatternReason;
+use signal_records::{Pattern, PhaseNo, RingNo, TimingSet};
+use signal_rules::{Rule, phase_at, split_at};
+
+/// A phase that times from some second on, and the first second at which it no longer does.
+#[derive(Clone, Copy)]
+struct Stretch {
+    phase: PhaseNo,
+    until: u32,
+}
+
+/// V13: at each second of the cycle, the phases of any two rings list each other. The rings are
+/// those that have a phase, and the first second at which two do not is told, for as long as these
+/// two time together.
+pub(crate) fn conflict_reason(
+    set: &TimingSet,
+    pattern: &Pattern,
+    rings: &[RingNo],
+) -> Option<PatternReason>
+    requires { rings.now ≡ used_rings set.now }
+    ensures none { IfNone result (lanes_fill_cycle set.now pattern.now ≡ true →
+        lanes_agree set.now pattern.now ≡ true) }
+    ensures some { IfSome result (λ reason. IsPatternReason set.now pattern.now reason) }
+    ensures rule { IfSome result (λ reason. pattern_rule reason ≡ Rule.V13) }
+{
+    for second in 0..pattern.cycle.get() {
+        if let Some(reason) = conflict_at(set, pattern, rings, second) {
+            return Some(reason);
+        }
+    }
+    None
+}
+
+/// The first two of some rings whose phases do not list each other at a second.
+fn conflict_at(
+    set: &TimingSet,
+    pattern: &Pattern,
+    rings: &[RingNo],
+    second: u32,
+) -> Option<PatternReason>
+    requires second { second < pattern.now.cycle }
+    requires distinct { is_distinct rings.now ≡ true }
+    requires used { list_all (λ ring. is_in ring (used_rings set.now)) rings.now ≡ true }
+    ensures none { IfNone result (AreFilled set.now pattern.now second rings.now →
+        agree_at set.now pattern.now second rings.now ≡ true) }
+    ensures some { IfSome result (λ reason. IsPatternReason set.now pattern.now reason) }
+    ensures rule { IfSome result (λ reason. pattern_rule reason ≡ Rule.V13) }
+{
+    let [ring, later @ ..] = rings else {
+        return None;
+    };
+    match conflict_with(set, pattern, *ring, later, second) {
+        Some(reason) => Some(reason),
+        None => conflict_at(set, pattern, later, second),
+    }
+}
+
+/// The first of some later rings whose phase and that of a ring do not list each other at a second.
+fn conflict_with(
+    set: &TimingSet,
+    pattern: &Pattern,
+    ring: RingNo,
+    later: &[RingNo],
+    second: u32,
+) -> Option<PatternReason>
+    requires second { second < pattern.now.cycle }
+    requires apart { is_in ring later.now ≡ false }
+    requires used { IsUsed set.now ring }
+    requires all_used { list_all (λ other. is_in other (used_rings set.now)) later.now ≡ true }
+    ensures none { IfNone result (AreFilled set.now pattern.now second (ring ∷ later.now) →
+        agree_with set.now pattern.now second ring later.now ≡ true) }
+    ensures some { IfSome result (λ reason. IsPatternReason set.now pattern.now reason) }
+    ensures rule { IfSome result (λ reason. pattern_rule reason ≡ Rule.V13) }
+{
+    let Some(stretch) = timing_at(set, pattern, ring, second) else {
+        return None;
+    };
+    for other in later {
+        if let Some(reason) = conflict_of(set, pattern, ring, &stretch, *other, second) {
+            return Some(reason);
+        }
+    }
+    None
+}
+
+/// The phases of two rings list each other at a second.
+fn conflict_of(
+    set: &TimingSet,
+    pattern: &Pattern,
+    ring: RingNo,
+    stretch: &Stretch,
+    other: RingNo,
+    second: u32,
+) -> Option<PatternReason>
+    requires second { second < pattern.now.cycle }
+    requires times { TimesOn set.now pattern.now ring second stretch.now.phase stretch.now.until }
+    requires used { IsUsed set.now ring }
+    ensures none { IfNone result (AreFilled set.now pattern.now second (other ∷ []) →
+        list_each_other set.now stretch.now.phase (at_second set.now pattern.now second other) ≡ true) }
+    ensures some { ring ≢ other → IsUsed set.now other →
+        IfSome result (λ reason. IsPatternReason set.now pattern.now reason) }
+    ensures rule { IfSome result (λ reason. pattern_rule reason ≡ Rule.V13) }
+{
+    let across = timing_at(set, pattern, other, second)?;
+    if list_each_other(set, stretch.phase, across.phase) {
+        return None;
+    }
+    Some(PatternReason::Conflict {
+        from: second,
+        until: stretch.until.min(across.until),
+        phase: stretch.phase,
+        other: across.phase,
+    })
+}
+
+/// The phase that times in a ring at a second, and until when.
+fn timing_at(
+    set: &TimingSet,
+    pattern: &Pattern,
+    ring: RingNo,
+    second: u32,
+) -> Option<Stretch>
+    ensures none { IfNone result
+        (length (lane set.now pattern.now.seq pattern.now.split ring) ≤ second) }
+    ensures some { IfSome result (λ found.
+        TimesOn set.now pattern.now ring second found.phase found.until) }
+{
+    let mut begin: u32 = 0;
+    for p in row_of(set, pattern.seq, ring) {
+        let until = begin + time_of(split_at(set, pattern.split, *p));
+        if second < until {
+            return Some(Stretch { phase: *p, until });
+        }
+        begin = until;
+    }
+    None
+}
+
+/// Each of two phases lists the other (`phaseConcurrency` of both).
+fn list_each_other(set: &TimingSet, p: PhaseNo, q: PhaseNo) -> bool
+    ensures { result ≡ list_each_other set.now p q }
+{
+    mates_of(set, p).contains(&q) && mates_of(set, q).contains(&p)
+}
+
+/// `phaseConcurrency` of a phase; one that is not in the set has none.
+fn mates_of(set: &TimingSet, p: PhaseNo) -> &[PhaseNo]
+    ensures { result.now ≡ the_mates (phase_at set.now p) }
+{
+    match phase_at(set, p) {
+        Some(phase) => phase.mates.as_slice(),
+        None => &[],
+    }
+}
