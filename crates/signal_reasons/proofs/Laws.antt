@@ -1,6 +1,6 @@
 -- Whatever reason is true of a subject, its rule does not hold there; and no violation is of a rule that holds or is not judged.
-use Rattle.std.proofs.Common.{◌≡◌, ℕ, Bool, true, false, not, if◌then◌else◌, cond, List, [], ◌∷◌, map, filter, All, Option, Some, None, refl, sym, ap, ◌∙◌}
-use Rattle.std.proofs.lemmas.List.Elements.{All-nil, All-cons, All-append}
+use Rattle.std.proofs.Common.{◌≡◌, ℕ, ◌<◌, Bool, true, false, if◌then◌else◌, List, [], ◌∷◌, length, map, get_or, All, Option, Some, None, refl, sym, ap, subst, ◌∙◌}
+use Rattle.std.proofs.lemmas.List.Elements.{All-nil, All-cons, All-append, All-get_or}
 use Rattle.std.specs.List.{flat_map}
 use Rattle.signal_records.specs.{declared.record.Pattern.Pattern, declared.record.Ped.Ped, declared.record.Phase.Phase, declared.record.Split.Split, TimingSet.Rows}
 use Rattle.signal_rules.specs.declared.violation.Rule.{Rule}
@@ -11,8 +11,8 @@ use Rattle.signal_rules.specs.declared.violation.Violation.{Violation}
 use Rattle.signal_rules.specs.Lookup.{phase_at, split_at, pattern_at, has_sequence}
 use Rattle.signal_rules.specs.PhaseRules.{where_walked}
 use Rattle.signal_rules.specs.SplitRule.{split_is_right}
-use Rattle.signal_rules.specs.PatternRules.{has_rows, lanes_fill_cycle}
-use Rattle.signal_rules.specs.Violations.{Findings, broken, findings, for_phase, for_sequence, for_split, for_pattern, violations_at, violations_of, subjects}
+use Rattle.signal_rules.specs.PatternRules.{has_rows, offset_is_right, has_coordinated, lanes_fill_cycle, lanes_agree}
+use Rattle.signal_rules.specs.Violations.{Findings, broken, for_phase, for_sequence, for_split, for_pattern, pattern_findings, violations_at, violations_of, subjects}
 use Rattle.signal_reasons.specs.declared.reason.Reason.{Reason}
 use Rattle.signal_reasons.specs.declared.reason.IntervalReason.{IntervalReason}
 use Rattle.signal_reasons.specs.declared.reason.CrossingReason.{CrossingReason}
@@ -87,12 +87,16 @@ told set s r false rest h others = All-cons (IsBroken set) (record { subject = s
 none_told : (set : Rows) (s : Subject) → All (IsBroken set) (broken s [])
 none_told set s = All-nil (IsBroken set)
 
+-- some rules with whether they hold
+told_rules : (set : Rows) (s : Subject) (test : Rule → Bool) (rules : List Rule) → ((r : Rule) → test r ≡ false → (is_judged set s r ≡ true) × (keeps set s r ≡ false)) → All (IsBroken set) (broken s (map (λ r. (r, test r)) rules))
+told_rules set s test [] h = none_told set s
+told_rules set s test (r ∷ rules) h = told set s r (test r) (map (λ q. (q, test q)) rules) (h r) (told_rules set s test rules h)
+
 told_phase : (set : Rows) (p : ℕ) (o : Option Phase) → phase_at set p ≡ o → All (IsBroken set) (broken (subject.Phase p) (for_phase set p o))
 told_phase set p None e = none_told set (subject.Phase p)
 told_phase set p (Some phase) e =
-    one rule.V1 _ (one rule.V2 _ (one rule.V3 _ (one rule.V4 _ (one rule.V5 _ (one rule.V6 _ (one rule.V14 _ (none_told set (subject.Phase p)))))))) where
-      one : (r : Rule) (rest : Findings)  → All (IsBroken set) (broken (subject.Phase p) rest) → All (IsBroken set) (broken (subject.Phase p) ((r, phase_keeps set p r (Some phase)) ∷ rest))
-      one r rest others = told set (subject.Phase p) r (phase_keeps set p r (Some phase)) rest (λ wrong. (refl, ap (phase_keeps set p r) e ∙ wrong)) others
+    told_rules set (subject.Phase p) (λ r. phase_keeps set p r (Some phase)) (rule.V1 ∷ rule.V2 ∷ rule.V3 ∷ rule.V4 ∷ rule.V5 ∷ rule.V6 ∷ rule.V14 ∷ [])
+    (λ r wrong. (refl, ap (phase_keeps set p r) e ∙ wrong))
 
 told_sequence : (set : Rows) (n : ℕ) (b : Bool) → All (IsBroken set) (broken (subject.Seq n) (for_sequence set n b))
 told_sequence set n false = none_told set (subject.Seq n)
@@ -103,23 +107,36 @@ told_split set n p None e = none_told set (subject.Split n p)
 told_split set n p (Some row) e =
     told set (subject.Split n p) rule.V8 (split_is_right (phase_at set p) row) [] (λ wrong. (refl, ap (split_keeps set p rule.V8) e ∙ wrong)) (none_told set (subject.Split n p))
 
+-- V13 where the lanes fill the cycle, and V12 with it where there are rows
+abbrev compared : Rows → Pattern → Bool → Findings
+compared set row fill = if fill then (rule.V13, lanes_agree set row) ∷ [] else []
+
+abbrev filled : Rows → Pattern → Bool → Findings
+filled set row rows = if rows then (rule.V12, lanes_fill_cycle set row) ∷ compared set row (lanes_fill_cycle set row) else []
+
+module _ (set : Rows) (n : ℕ) (row : Pattern) (e : pattern_at set n ≡ Some row) where
+  one : (r : Rule) (rest : Findings) → lanes_are_judged set r (Some row) ≡ true → All (IsBroken set) (broken (subject.Pattern n) rest) → All (IsBroken set) (broken (subject.Pattern n) ((r, pattern_keeps set r (Some row)) ∷ rest))
+  one r rest judged others =
+      told set (subject.Pattern n) r (pattern_keeps set r (Some row)) rest
+      (λ wrong. (ap (lanes_are_judged set r) e ∙ judged, ap (pattern_keeps set r) e ∙ wrong)) others
+
+  told_compared : (fill : Bool) → lanes_fill_cycle set row ≡ fill → All (IsBroken set) (broken (subject.Pattern n) (compared set row fill))
+  told_compared false f = none_told set (subject.Pattern n)
+  told_compared true f = one rule.V13 [] f (none_told set (subject.Pattern n))
+
+  told_filled : (rows : Bool) → All (IsBroken set) (broken (subject.Pattern n) (filled set row rows))
+  told_filled false = none_told set (subject.Pattern n)
+  told_filled true = one rule.V12 (compared set row (lanes_fill_cycle set row)) refl (told_compared (lanes_fill_cycle set row) refl)
+
+  told_row : All (IsBroken set) (broken (subject.Pattern n) (pattern_findings set row))
+  told_row =
+      one rule.V9 ((rule.V10, offset_is_right row) ∷ (rule.V11, has_coordinated set row.split) ∷ filled set row (has_rows set row)) refl
+      (one rule.V10 ((rule.V11, has_coordinated set row.split) ∷ filled set row (has_rows set row)) refl
+      (one rule.V11 (filled set row (has_rows set row)) refl (told_filled (has_rows set row))))
+
 told_pattern : (set : Rows) (n : ℕ) (o : Option Pattern) → pattern_at set n ≡ o → All (IsBroken set) (broken (subject.Pattern n) (for_pattern set o))
 told_pattern set n None e = none_told set (subject.Pattern n)
-told_pattern set n (Some row) e =
-    one rule.V9 _ (judged_always rule.V9 refl) (one rule.V10 _ (judged_always rule.V10 refl) (one rule.V11 _ (judged_always rule.V11 refl) (lanes (has_rows set row)))) where
-      one : (r : Rule) (rest : Findings) → is_judged set (subject.Pattern n) r ≡ true → All (IsBroken set) (broken (subject.Pattern n) rest) → All (IsBroken set) (broken (subject.Pattern n) ((r, pattern_keeps set r (Some row)) ∷ rest))
-      one r rest judged others = told set (subject.Pattern n) r (pattern_keeps set r (Some row)) rest (λ wrong. (judged, ap (pattern_keeps set r) e ∙ wrong)) others
-
-      judged_always : (r : Rule) → lanes_are_judged set r (Some row) ≡ true → is_judged set (subject.Pattern n) r ≡ true
-      judged_always r h = ap (lanes_are_judged set r) e ∙ h
-
-      compared : (fill : Bool) → lanes_fill_cycle set row ≡ fill → All (IsBroken set) (broken (subject.Pattern n) (if fill then (rule.V13, pattern_keeps set rule.V13 (Some row)) ∷ [] else []))
-      compared false f = none_told set (subject.Pattern n)
-      compared true f = one rule.V13 [] (judged_always rule.V13 f) (none_told set (subject.Pattern n))
-
-      lanes : (rows : Bool) → All (IsBroken set) (broken (subject.Pattern n) (if rows then ((rule.V12, lanes_fill_cycle set row) ∷ (if lanes_fill_cycle set row then (rule.V13, pattern_keeps set rule.V13 (Some row)) ∷ [] else [])) else []))
-      lanes false = none_told set (subject.Pattern n)
-      lanes true = one rule.V12 _ (judged_always rule.V12 refl) (compared (lanes_fill_cycle set row) refl)
+told_pattern set n (Some row) e = told_row set n row e
 
 told_of : (set : Rows) (s : Subject) → All (IsBroken set) (violations_at set s)
 told_of set (subject.Phase p) = told_phase set p (phase_at set p) refl
@@ -134,3 +151,9 @@ told_of_all set (s ∷ ss) = All-append (IsBroken set) (violations_at set s) (fl
 pub each_is_broken : (set : Rows) → All (IsBroken set) (violations_of set)
 unfolding violations_of
 each_is_broken set = told_of_all set (subjects set)
+
+-- so is the violation at a place
+pub broken_at : (set : Rows) (items : List Violation) (i : ℕ) (v : Violation) → items ≡ violations_of set → i < length items → v ≡ get_or items i v → IsBroken set v
+broken_at set items i v e lt is =
+    let all : All (IsBroken set) items = subst (All (IsBroken set)) (sym e) (each_is_broken set) in
+    subst (IsBroken set) (sym is) (All-get_or (IsBroken set) items i v lt all)

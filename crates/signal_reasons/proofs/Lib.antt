@@ -6,4 +6,5 @@ pub mod PhaseLaws
 pub mod RowLaws
 pub mod PatternLaws
 pub mod Stretches
+pub mod Parts
 pub mod Laws

@@ -1,19 +1,13 @@
 -- A reason that is true of a pattern shows that its rule does not hold.
-use Rattle.std.proofs.Common.{◌≡◌, ◌≢◌, ℕ, ◌+◌, ◌<◌, ◌≤◌, Bool, true, false, eqb, ltb, ◌&&◌, List, [], ◌∷◌, map, filter, length, get_or, Contains, sum_by, Option, Some, None, is_some, refl, sym, ap, ◌∙◌, arith}
-use Rattle.std.proofs.lemmas.Bool.{eq-eqb, eqb-true, both_ways, false_from_ne_true, and_parts}
+use Rattle.std.proofs.Common.{◌≡◌, ◌≢◌, ℕ, ◌≤◌, true, false, eqb, ltb, map, length, get_or, sum_by, Option, Some, None, is_some, refl, sym, ap, ◌∙◌, arith}
+use Rattle.std.proofs.lemmas.Bool.{eqb-true, both_ways, false_from_ne_true, and_parts}
 use Rattle.std.proofs.lemmas.Bool.Decides.{nat_tests}
-use Rattle.std.proofs.lemmas.List.Folds.{list_all-map}
-use Rattle.std.specs.{List.list_all, List.list_any}
 use Rattle.signal_records.specs.{declared.record.Pattern.Pattern, declared.record.Phase.Phase, declared.record.Split.Split, TimingSet.Rows}
-use Rattle.signal_values.specs.Numbers.{numbers}
-use Rattle.signal_rules.specs.declared.violation.Rule.{Rule}
-use Rattle.signal_rules.specs.declared.violation.Rule.TheVariants as rule
 use Rattle.signal_rules.specs.Lookup.{phase_at, split_at, sequence_at, phases, ring_numbers, is_in, lists, the_mates, has_sequence}
-use Rattle.signal_rules.specs.PatternRules.{has_rows, has_splits, offset_is_right, is_coordinated, has_coordinated, time_of, lane, used_rings, lanes, lanes_fill_cycle, lanes_agree, list_each_other, all_list_each_other, phases_at}
-use Rattle.signal_rules.specs.SequenceRule.{or_empty, ring_row}
-use Rattle.signal_rules.specs.{CutPoints.timed, Starts.times, Starts.rings_fill}
+use Rattle.signal_rules.specs.PatternRules.{has_splits, is_coordinated, has_coordinated, time_of, lane, used_rings, lanes, lanes_fill_cycle, lanes_agree, list_each_other, all_list_each_other, phases_at}
+use Rattle.signal_rules.specs.{CutPoints.timed, Starts.times}
 use Rattle.signal_rules.proofs.{Among.contains, CutPoints.at_number, Starts.fill_by_rings}
-use Rattle.signal_street.specs.Timing.{phases_or_none, order, time_or_none, split_time, TimesIn}
+use Rattle.signal_street.specs.Timing.{order, time_or_none, split_time, TimesIn}
 use Rattle.signal_street.specs.StreetLaws.{Lists, AreConcurrent}
 use Rattle.signal_street.proofs.Members.{pair_at}
 use Rattle.signal_street.proofs.Places.{length_is, lane_at}

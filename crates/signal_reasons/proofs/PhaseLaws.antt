@@ -1,10 +1,8 @@
 -- A reason that is true of a phase shows that its rule does not hold.
-use Rattle.std.proofs.Common.{◌≡◌, ℕ, ◌+◌, ◌*◌, ◌<◌, ◌≤◌, Bool, true, false, cond, eqb, leb, not, ◌&&◌, ◌||◌, Option, Some, None, ◌⊎◌, inl, inr, refl, sym, ap, ◌∙◌, arith}
+use Rattle.std.proofs.Common.{◌≡◌, ℕ, ◌+◌, ◌*◌, ◌<◌, ◌≤◌, Bool, true, false, cond, eqb, leb, not, ◌&&◌, ◌||◌, Option, Some, None, ◌⊎◌, inl, inr, refl, ap, ◌∙◌, arith}
 use Rattle.std.proofs.lemmas.Bool.{lt-leb, eq-eqb}
 use Rattle.std.proofs.lemmas.Bool.Decides.{nat_tests}
 use Rattle.signal_records.specs.{declared.record.Ped.Ped, declared.record.Phase.Phase, TimingSet.Rows}
-use Rattle.signal_rules.specs.declared.violation.Rule.{Rule}
-use Rattle.signal_rules.specs.declared.violation.Rule.TheVariants as rule
 use Rattle.signal_rules.specs.Lookup.{phase_at, is_in}
 use Rattle.signal_rules.specs.PhaseRules.{yellow_is_right, red_is_right, is_mate, mates_agree}
 use Rattle.signal_reasons.specs.declared.reason.IntervalReason.{IntervalReason}
@@ -13,8 +11,8 @@ use Rattle.signal_reasons.specs.declared.reason.CrossingReason.{CrossingReason}
 use Rattle.signal_reasons.specs.declared.reason.CrossingReason.TheVariants as crossing
 use Rattle.signal_reasons.specs.declared.reason.MateReason.{MateReason}
 use Rattle.signal_reasons.specs.declared.reason.MateReason.TheVariants as mate
-use Rattle.signal_reasons.specs.PhaseReasons.{Has, interval_rule, IsIntervalReason, crossing_rule, IsCrossingReason, crossing_keeps, IsMateReason}
-use Rattle.signal_reasons.proofs.Tests.{fails_at, first_fails, second_fails}
+use Rattle.signal_reasons.specs.PhaseReasons.{Has, IsIntervalReason, crossing_rule, IsCrossingReason, crossing_keeps, IsMateReason}
+use Rattle.signal_reasons.proofs.Tests.{fails_at, second_fails}
 
 -- ---- V1 and V2
 

@@ -1,11 +1,10 @@
 -- Numbers in their ranges are among those of a set, and none other is.
-use Rattle.std.proofs.Common.{◌≡◌, ℕ, ◌+◌, ◌<◌, ◌≤◌, Bool, true, false, ◌&&◌, List, Option, Some, is_some, refl, sym, ap, ◌∙◌, arith}
-use Rattle.std.proofs.lemmas.Bool.{and_parts, and_from}
+use Rattle.std.proofs.Common.{◌≡◌, ℕ, ◌≤◌, true, Option, Some, is_some, ap, arith}
 use Rattle.signal_records.specs.{declared.record.Phase.Phase, TimingSet.Rows}
 use Rattle.signal_values.specs.declared.number.TheConstants.{PHASES, RINGS}
 use Rattle.signal_rules.specs.Lookup.{phase_at, phases, phase_numbers, ring_numbers, is_in}
 use Rattle.signal_rules.specs.SequenceRule.{ring_row}
-use Rattle.signal_rules.proofs.Among.{in_numbers, in_filter, is_filtered}
+use Rattle.signal_rules.proofs.Among.{in_numbers, in_filter}
 use Rattle.signal_reasons.specs.PhaseReasons.{Has}
 use Rattle.signal_reasons.specs.SequenceReasons.{times_in, OwnRow}
 

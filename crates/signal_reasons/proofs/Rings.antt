@@ -1,12 +1,12 @@
 -- The rings that have a phase: members of their list, which has none of them twice.
-use Rattle.std.proofs.Common.{◌≡◌, ◌≢◌, ℕ, zero, suc, ◌+◌, ◌<◌, ◌≤◌, Bool, true, false, cond, not, eqb, leb, ◌&&◌, List, [], ◌∷◌, filter, length, get_or, refl, sym, ap, ◌∙◌, arith}
+use Rattle.std.proofs.Common.{◌≡◌, ◌≢◌, ℕ, zero, suc, ◌+◌, ◌<◌, Bool, true, false, cond, not, eqb, leb, List, [], ◌∷◌, filter, length, get_or, refl, sym, ap, ◌∙◌, arith}
 use Rattle.std.proofs.lemmas.Bool.{and_from, and_parts, both_ways, eq-eqb, false_from_ne_true, leb-true, or_left, or_right}
 use Rattle.std.proofs.lemmas.List.Folds.{list_any_at}
-use Rattle.std.specs.List.{list_all, list_any}
+use Rattle.std.specs.List.{list_all}
 use Rattle.signal_records.specs.{TimingSet.Rows, PhaseList.is_distinct}
 use Rattle.signal_values.specs.Numbers.{numbers}
 use Rattle.signal_values.specs.declared.number.TheConstants.{RINGS}
-use Rattle.signal_rules.specs.{Lookup.is_in, Lookup.ring_numbers, PatternRules.is_used, PatternRules.used_rings}
+use Rattle.signal_rules.specs.{Lookup.is_in, PatternRules.is_used, PatternRules.used_rings}
 use Rattle.signal_rules.proofs.Among.{is_number, is_filtered}
 use Rattle.signal_reasons.proofs.Tests.{second_fails}
 

@@ -1,20 +1,20 @@
 -- A reason that is true of a sequence or of a split row shows that its rule does not hold.
-use Rattle.std.proofs.Common.{◌≡◌, ◌≢◌, ℕ, ◌*◌, ◌<◌, ◌≤◌, Bool, true, false, eqb, leb, not, ◌&&◌, ◌||◌, List, filter, Option, Some, None, is_some, refl, sym, ap, subst, ◌∙◌, arith}
+use Rattle.std.proofs.Common.{◌≡◌, ◌≢◌, ℕ, ◌*◌, ◌<◌, ◌≤◌, Bool, true, false, eqb, leb, not, ◌&&◌, ◌||◌, Option, Some, None, is_some, refl, sym, ap, subst, ◌∙◌, arith}
 use Rattle.std.proofs.lemmas.Bool.{lt-leb, eq-eqb, both_ways, eqb-true, false_from_ne_true}
 use Rattle.std.proofs.lemmas.Bool.Decides.{nat_tests}
-use Rattle.std.specs.{Bool.beq, Prelude.count_by, List.list_all}
+use Rattle.std.specs.{Bool.beq, Prelude.count_by}
 use Rattle.signal_records.specs.{declared.record.Phase.Phase, declared.record.Split.Split, declared.record.SplitMode.SplitMode}
 use Rattle.signal_records.specs.{declared.record.SplitMode.TheVariants.PhaseOmitted, Need.need_of, TimingSet.Rows}
 use Rattle.signal_rules.specs.Lookup.{phase_at, phases, phase_numbers, ring_numbers, is_in}
 use Rattle.signal_rules.specs.SequenceRule.{in_ring, ring_phases, ring_row, has_each_once, has_no_other, row_is_right, rows_are_right}
-use Rattle.signal_rules.specs.SplitRule.{is_omitted, time_fits_mode, time_is_enough, coordination_is_right, time_is_right, split_is_right}
+use Rattle.signal_rules.specs.SplitRule.{is_omitted, time_fits_mode, time_is_enough, coordination_is_right, split_is_right}
 use Rattle.signal_rules.proofs.Among.{in_filter, is_filtered}
 use Rattle.signal_reasons.specs.declared.reason.SequenceReason.{SequenceReason}
 use Rattle.signal_reasons.specs.declared.reason.SequenceReason.TheVariants as sequence
 use Rattle.signal_reasons.specs.declared.reason.SplitReason.{SplitReason}
 use Rattle.signal_reasons.specs.declared.reason.SplitReason.TheVariants as split
 use Rattle.signal_reasons.specs.PhaseReasons.{Has}
-use Rattle.signal_reasons.specs.SequenceReasons.{StandsIn, times_in, OwnRow, IsSequenceReason}
+use Rattle.signal_reasons.specs.SequenceReasons.{StandsIn, times_in, IsSequenceReason}
 use Rattle.signal_reasons.specs.SplitReasons.{IsSplitReason}
 use Rattle.signal_reasons.proofs.Tests.{fails_among, fails_at, first_fails, second_fails}
 
@@ -47,7 +47,7 @@ not_once_shows set n p (Some phase) P e among wrong h =
       and_second false b h = absurd (both_ways false refl h)
 
       number : (p : ℕ) → is_in p (phases set) ≡ true → is_in p phase_numbers ≡ true
-      number p among = and_second _ _ (sym (is_filtered (λ q. is_some (phase_at set q)) phase_numbers p) ∙ among)
+      number p among = and_second (is_some (phase_at set p)) (is_in p phase_numbers) (sym (is_filtered (λ q. is_some (phase_at set q)) phase_numbers p) ∙ among)
 
 none_is_not_one : (count : ℕ) → count ≡ 0 → eqb count 1 ≡ false
 none_is_not_one count e = grind (arith, nat_tests)

@@ -1,20 +1,18 @@
 -- The phases of rings at a second, and how long they time.
-use Rattle.std.proofs.Common.{◌≡◌, ◌≢◌, ℕ, zero, suc, ◌+◌, ◌<◌, ◌≤◌, min, Bool, true, false, eqb, ltb, ◌&&◌, List, [], ◌∷◌, ◌++◌, map, take, drop, length, get_or, sum_by, refl, sym, ap, subst, ◌∙◌, arith}
+use Rattle.std.proofs.Common.{◌≡◌, ◌≢◌, ℕ, zero, suc, ◌+◌, ◌<◌, ◌≤◌, min, true, false, eqb, List, [], ◌∷◌, ◌++◌, map, take, drop, length, get_or, sum_by, refl, sym, ap, subst, ◌∙◌, arith}
 use Rattle.std.proofs.lemmas.Bool.{and_from, and_parts, both_ways, eqb-true}
 use Rattle.std.proofs.lemmas.List.{take-append-drop, take_all}
 use Rattle.std.proofs.lemmas.List.Folds.{list_all-map}
 use Rattle.std.proofs.Math.Nat.{min-le_left, min-le_right}
-use Rattle.std.specs.List.{list_all}
 use Rattle.signal_records.specs.{declared.record.Pattern.Pattern, TimingSet.Rows}
-use Rattle.signal_values.specs.Numbers.{numbers}
-use Rattle.signal_rules.specs.{Lookup.is_in, Lookup.lists, Lookup.phase_at, Lookup.the_mates, CutPoints.timed, SequenceRule.ring_row, Starts.times, Starts.rings_fill}
+use Rattle.signal_rules.specs.{Lookup.is_in, Lookup.lists, Lookup.the_mates, SequenceRule.ring_row, Starts.times, Starts.rings_fill}
 use Rattle.signal_rules.specs.PatternRules.{lane, lanes, used_rings, lanes_fill_cycle, lanes_agree, list_each_other, all_list_each_other, phases_at}
-use Rattle.signal_rules.proofs.{Among.all_at, CutPoints.all_numbers, Starts.fill_by_rings, Steps.one_left, Steps.all_passed}
-use Rattle.signal_street.specs.{Timing.order, Timing.split_time, Timing.BeginsIn, Timing.TimesIn, StreetLaws.Lists, StreetLaws.AreConcurrent}
+use Rattle.signal_rules.proofs.{CutPoints.all_numbers, Starts.fill_by_rings, Steps.one_left}
+use Rattle.signal_street.specs.{Timing.split_time, Timing.BeginsIn, StreetLaws.Lists, StreetLaws.AreConcurrent}
 use Rattle.signal_street.proofs.{Places.length_is, Patterns.order_is}
 use Rattle.signal_reasons.specs.PatternReasons.{IsUsed, TimeTogether}
 use Rattle.signal_reasons.specs.Together.{TimesOn, AreFilled, at_second, agree_with, agree_at}
-use Rattle.signal_reasons.proofs.PatternLaws.{times_are, seconds_are, in_lane}
+use Rattle.signal_reasons.proofs.PatternLaws.{times_are, in_lane}
 use Rattle.signal_reasons.proofs.Tests.{is_among}
 
 -- ---- one ring
@@ -30,18 +28,20 @@ begins_at set row ring items i p begin e lt is over = record {
 
 pub times_on : (set : Rows) (row : Pattern) (ring : ℕ) (items : List ℕ) (i p begin until second : ℕ) → items ≡ ring_row set row.seq ring → i < length items → p ≡ get_or items i p → begin ≡ sum_by (times set row.split) (take i items)
     → begin ≤ second → until ≡ begin + times set row.split p → second < until → TimesOn set row ring second p until
-times_on set row ring items i p begin until second e lt is over begun ends before =
-    (before, λ t low high. record {
-      begin = begin;
-      begins = begins_at set row ring items i p begin e lt is over;
-      begun = later begin second t begun low;
-      unended = within t until begin (times set row.split p) (split_time set row p) ends (λ k. times_are set row k p) high;
-    }) where
-      later : (a b c : ℕ) → a ≤ b → b ≤ c → a ≤ c
-      later a b c f g = omega arith
+times_on set row ring items i p begin until second e lt is over begun ends before = (
+  before,
+  λ t low high. record {
+    begin = begin;
+    begins = begins_at set row ring items i p begin e lt is over;
+    begun = later begin second t begun low;
+    unended = within t until begin (times set row.split p) (split_time set row p) ends (λ k. times_are set row k p) high;
+  },
+) where
+  later : (a b c : ℕ) → a ≤ b → b ≤ c → a ≤ c
+  later a b c f g = omega arith
 
-      within : (t until begin own time : ℕ) → until ≡ begin + own → time ≡ own → t < until → t < begin + time
-      within t until begin own time f g lt = omega arith
+  within : (t until begin own time : ℕ) → until ≡ begin + own → time ≡ own → t < until → t < begin + time
+  within t until begin own time f g lt = omega arith
 
 pub over_by : (set : Rows) (row : Pattern) (ring : ℕ) (items : List ℕ) (i begin second : ℕ) → items ≡ ring_row set row.seq ring → length items ≤ i → begin ≡ sum_by (times set row.split) (take i items) → begin ≤ second → length (lane set row.seq row.split ring) ≤ second
 over_by set row ring items i begin second e le over begun =

@@ -1,5 +1,5 @@
 -- When a reason is true of a pattern: what its sequence and split number have, and what its rings time.
-use Rattle.std.specs.Prelude.{◌≡◌, ◌≢◌, ℕ, ◌<◌, ◌≤◌, true, false, Contains, sum_by, None, Some}
+use Rattle.std.specs.Prelude.{◌≡◌, ◌≢◌, ℕ, ◌<◌, ◌≤◌, true, false, sum_by, None, Some}
 use Rattle.signal_records.specs.declared.record.Pattern.{Pattern}
 use Rattle.signal_records.specs.declared.record.Split.{Split}
 use Rattle.signal_records.specs.TimingSet.{Rows}

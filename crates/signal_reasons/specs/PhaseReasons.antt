@@ -1,5 +1,5 @@
 -- When a reason is true of a phase, by its numbers.
-use Rattle.std.specs.Prelude.{◌≡◌, ◌≢◌, ℕ, ◌+◌, ◌*◌, ◌<◌, ◌≤◌, ◌⊎◌, Bool, true, false, if◌then◌else◌, Contains, Option, Some, None}
+use Rattle.std.specs.Prelude.{◌≡◌, ℕ, ◌+◌, ◌*◌, ◌<◌, ◌≤◌, ◌⊎◌, Bool, true, false, if◌then◌else◌, Contains, Option, Some, None}
 use Rattle.signal_records.specs.declared.record.Ped.{Ped}
 use Rattle.signal_records.specs.declared.record.Phase.{Phase}
 use Rattle.signal_records.specs.TimingSet.{Rows}

@@ -29,6 +29,7 @@ use std::alloc::Global;
 /// reason is true of a subject shows that its rule does not hold there.
 ///
 /// `NoMemory` means that a growth was really refused.
+#[tactic(auto, using(crate::proofs::Laws::reason_shows))]
 pub fn reasons(alloc: Global, set: &TimingSet) -> Result<Vec<Explained>, NoMemory>
     ensures explains { IfOk result (λ found. map (λ e. e.violation) found.items ≡ violations_of set.now) }
     ensures true_of_set { IfOk result (λ found.

@@ -46,13 +46,23 @@ pub enum MateReason {
 #[derive(Clone, Copy)]
 pub enum SequenceReason {
     /// A phase stands in a row, and the set does not have it.
-    NotInPlan { phase: PhaseNo },
+    NotInPlan {
+        phase: PhaseNo,
+    },
     /// A phase stands in the row of another ring than its own.
-    OtherRing { phase: PhaseNo, ring: RingNo, own: RingNo },
+    OtherRing {
+        phase: PhaseNo,
+        ring: RingNo,
+        own: RingNo,
+    },
     /// A phase of the set does not stand in the row of its ring.
-    Missing { phase: PhaseNo },
+    Missing {
+        phase: PhaseNo,
+    },
     /// A phase of the set stands in the row of its ring more than once.
-    Repeated { phase: PhaseNo },
+    Repeated {
+        phase: PhaseNo,
+    },
 }
 
 /// Why a split row breaks V8. Times are in seconds, the need is in tenths of a second.
@@ -74,18 +84,37 @@ pub enum SplitReason {
 #[derive(Clone, Copy)]
 pub enum PatternReason {
     /// V9: the sequence of the pattern has no row.
-    NoSequence { seq: SeqNo },
+    NoSequence {
+        seq: SeqNo,
+    },
     /// V9: the split number of the pattern has no row for a phase of the set.
-    NoSplit { split: SplitNo, phase: PhaseNo },
+    NoSplit {
+        split: SplitNo,
+        phase: PhaseNo,
+    },
     /// V10: the offset is not less than the cycle.
-    LateOffset { offset: u8, cycle: Cycle },
+    LateOffset {
+        offset: u8,
+        cycle: Cycle,
+    },
     /// V11: the split number of the pattern coordinates no phase of the set.
-    NoneCoordinated { split: SplitNo },
+    NoneCoordinated {
+        split: SplitNo,
+    },
     /// V12: the splits of a ring's row add up to another time than the cycle.
-    OtherSum { ring: RingNo, sum: u32, cycle: Cycle },
+    OtherSum {
+        ring: RingNo,
+        sum: u32,
+        cycle: Cycle,
+    },
     /// V13: two phases time together that do not list each other. The second `until` is the first
     /// one at which they no longer do.
-    Conflict { from: u32, until: u32, phase: PhaseNo, other: PhaseNo },
+    Conflict {
+        from: u32,
+        until: u32,
+        phase: PhaseNo,
+        other: PhaseNo,
+    },
 }
 
 /// Why a subject breaks a rule.

@@ -123,7 +123,10 @@ impl fmt::Display for SequenceReason {
                 let phase = phase.get();
                 let ring = ring.get();
                 let own = own.get();
-                write!(f, "phase {phase} stands in ring {ring}, and is of ring {own}")
+                write!(
+                    f,
+                    "phase {phase} stands in ring {ring}, and is of ring {own}"
+                )
             }
             SequenceReason::Missing { phase } => write!(f, "phase {} is missing", phase.get()),
             SequenceReason::Repeated { phase } => write!(f, "phase {} stands twice", phase.get()),

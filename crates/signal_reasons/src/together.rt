@@ -126,12 +126,7 @@ fn conflict_of(
 }
 
 /// The phase that times in a ring at a second, and until when.
-fn timing_at(
-    set: &TimingSet,
-    pattern: &Pattern,
-    ring: RingNo,
-    second: u32,
-) -> Option<Stretch>
+fn timing_at(set: &TimingSet, pattern: &Pattern, ring: RingNo, second: u32) -> Option<Stretch>
     ensures none { IfNone result
         (length (lane set.now pattern.now.seq pattern.now.split ring) ≤ second) }
     ensures some { IfSome result (λ found.

@@ -25,5 +25,5 @@ returns-clause-some c =
     let set = c.args.set.now in
     let split = c.args.pattern.now.split in
     let none : list_any (λ p. is_coordinated (split_at c.args.set.now c.args.pattern.now.split p)) (phases c.args.set.now) ≡ false =
-        sym c.loop-p.invariant ∙ ap (λ ps. list_any (λ p. is_coordinated (split_at c.args.set.now c.args.pattern.now.split p)) (filter (λ p. is_some (phase_at c.args.set.now p)) ps)) c.in-None.ensures.steps.0 in
+    sym c.loop-p.invariant ∙ ap (λ ps. list_any (λ p. is_coordinated (split_at c.args.set.now c.args.pattern.now.split p)) (filter (λ p. is_some (phase_at c.args.set.now p)) ps)) c.in-None.ensures.steps.0 in
     (refl, λ p row among is. ap is_coordinated (sym is) ∙ none_passes (λ p. is_coordinated (split_at set split p)) (phases set) p none among)

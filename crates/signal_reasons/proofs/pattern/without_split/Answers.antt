@@ -1,4 +1,4 @@
-use Rattle.std.proofs.Common.{refl, sym, ◌∙◌, inl, inr, is_some, ap, arith}
+use Rattle.std.proofs.Common.{refl, sym, ◌∙◌, inl, inr, is_some, arith}
 use Rattle.signal_rules.specs.Lookup.{phase_at, split_at}
 use Rattle.signal_rules.proofs.Walks.{all_step}
 use Rattle.signal_reasons.proofs.Ranges.{of_set}

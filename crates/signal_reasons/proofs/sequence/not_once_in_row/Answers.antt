@@ -1,7 +1,6 @@
-use Rattle.std.proofs.Common.{◌≡◌, ◌<◌, ◌≤◌, ℕ, true, is_some, sym, ap, ◌∙◌, arith}
-use Rattle.signal_rules.specs.SequenceRule.{ring_row}
+use Rattle.std.proofs.Common.{◌≡◌, ◌≤◌, sym, ap, ◌∙◌, arith}
 use Rattle.signal_reasons.specs.SequenceReasons.{times_in}
-use Rattle.signal_reasons.proofs.Ranges.{of_set, of_ring, own_row}
+use Rattle.signal_reasons.proofs.Ranges.{own_row}
 use Rattle.signal_reasons.proofs.sequence.not_once_in_row.Goals as goal
 
 pub returns-in-0-clause-some : goal.returns-in-0-clause-some

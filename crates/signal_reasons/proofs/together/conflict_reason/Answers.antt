@@ -1,7 +1,8 @@
-use Rattle.std.proofs.Common.{sym, ap, ◌∙◌}
+use Rattle.std.proofs.Common.{sym, ap, subst, ◌∙◌, below_more, arith}
 use Rattle.std.specs.List.{list_all}
 use Rattle.signal_records.specs.PhaseList.{is_distinct}
 use Rattle.signal_rules.specs.{Lookup.is_in, PatternRules.used_rings}
+use Rattle.signal_reasons.specs.Together.{AreFilled, agree_at}
 use Rattle.signal_reasons.proofs.Rings.{used_distinct, used_among}
 use Rattle.signal_reasons.proofs.Stretches.{used_filled, agree_all}
 use Rattle.signal_reasons.proofs.together.conflict_reason.Goals as goal
@@ -13,7 +14,16 @@ pub conflict_at-requires-clause-used : goal.conflict_at-requires-clause-used
 conflict_at-requires-clause-used c = ap (list_all (λ ring. is_in ring (used_rings c.args.set.now))) c.requires ∙ used_among c.args.set.now
 
 pub loop-second-preserved : goal.loop-second-preserved
-loop-second-preserved c = ?
+loop-second-preserved c =
+    λ fill.
+    below_more _ _ (c.loop-second.invariant fill)
+    (ap (agree_at c.args.set.now c.args.pattern.now c.loop-second.second) (sym c.requires)
+    ∙ c.in_default.ensures.none
+    (subst (AreFilled c.args.set.now c.args.pattern.now c.loop-second.second) (sym c.requires)
+    (used_filled c.args.set.now c.args.pattern.now c.loop-second.second (omega (arith, c.loop-second-test.true, c.get-second-end.ensures.value)) fill)))
 
 pub returns-clause-none : goal.returns-clause-none
-returns-clause-none c = ?
+returns-clause-none c =
+    λ fill.
+    agree_all c.args.set.now c.args.pattern.now
+    (λ t lt. c.loop-second.invariant fill t (omega (arith, lt, c.loop-second-test.false, c.get-second-end.ensures.value)))

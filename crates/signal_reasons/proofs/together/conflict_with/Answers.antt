@@ -1,4 +1,4 @@
-use Rattle.std.proofs.Common.{[], ◌∷◌, sym, ap, ◌∙◌}
+use Rattle.std.proofs.Common.{ap, ◌∙◌}
 use Rattle.signal_rules.specs.{Lookup.is_in, PatternRules.used_rings, PatternRules.list_each_other}
 use Rattle.signal_rules.proofs.{Among.all_at, Steps.all_passed}
 use Rattle.signal_reasons.specs.Together.{at_second}
@@ -20,5 +20,6 @@ loop-other-preserved c =
     let row = c.args.pattern.now in
     all_passed (λ other. list_each_other set (at_second set row c.args.second c.args.ring) (at_second set row c.args.second other))
     c.args.later.now c.loop-other.other-index c.other-item.result _ c.loop-other-test.true c.other-item.is (c.loop-other.invariant filled)
-    (ap (λ p. list_each_other set p (at_second set row c.args.second c.other-item.result)) (there set row c.args.ring _ c.args.second _ ?)
-    ∙ ?)
+    (ap (λ p. list_each_other set p (at_second set row c.args.second c.other-item.result)) (there set row c.args.ring _ c.args.second _ c.in-Some.ensures.some)
+    ∙ c.in_default-conflict_of.ensures.none
+    (filled_at set row c.args.second c.args.later.now c.loop-other.other-index c.other-item.result filled.1 c.loop-other-test.true c.other-item.is, tt))

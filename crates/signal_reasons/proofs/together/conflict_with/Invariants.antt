@@ -1,4 +1,4 @@
-use Rattle.std.proofs.Common.{◌≡◌, ℕ, ◌∷◌, true, take, drop}
+use Rattle.std.proofs.Common.{◌≡◌, ◌∷◌, drop}
 use Rattle.signal_reasons.specs.Together.{AreFilled, agree_with}
 use Rattle.signal_reasons.proofs.together.conflict_with.Given as goal
 

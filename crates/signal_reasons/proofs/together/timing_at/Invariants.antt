@@ -1,4 +1,4 @@
-use Rattle.std.proofs.Common.{◌≡◌, ◌+◌, ◌*◌, ◌≤◌, length, take, sum_by}
+use Rattle.std.proofs.Common.{◌≡◌, ◌*◌, ◌≤◌, length, take, sum_by}
 use Rattle.signal_rules.specs.{SequenceRule.ring_row, Starts.times}
 use Rattle.signal_reasons.proofs.together.timing_at.Given as goal
 
