@@ -15,3 +15,4 @@ pub mod Plan
 pub mod Refused
 pub mod Sheet
 pub mod Showing
+pub mod Explaining

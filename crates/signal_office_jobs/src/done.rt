@@ -3,7 +3,8 @@
 use office_files::{changes_csv, violation_text};
 use office_http::{Sink, write_all};
 use signal_compare::{Difference, changes, comparison_text};
-use signal_office_commands::{Edited, Entered, Fault, Imported};
+use signal_office_commands::{Entered, Fault, Imported};
+use signal_reasons::{Explained, explained_text};
 use signal_rules::Violation;
 use std::alloc::Global;
 
@@ -52,6 +53,13 @@ impl Done {
         Ok(Done { text, status })
     }
 
+    /// The same, each with its reason.
+    pub(crate) fn explaining(alloc: Global, found: &[Explained]) -> Result<Done, Fault> {
+        let text = explained_text(alloc, found)?;
+        let status = if found.is_empty() { 0 } else { HAS_VIOLATIONS };
+        Ok(Done { text, status })
+    }
+
     /// How many records of an import were new, and how many were there.
     pub(crate) fn importing(alloc: Global, imported: Imported) -> Result<Done, Fault> {
         let Imported { added, same } = imported;
@@ -59,11 +67,11 @@ impl Done {
         Ok(Done::with(line.into_bytes()))
     }
 
-    /// The rules that an edited draft breaks, and whether it was committed. A commit that was asked
-    /// for and not made is told, and by the status.
-    pub(crate) fn editing(alloc: Global, edited: &Edited, commit: bool) -> Result<Done, Fault> {
-        let mut done = Done::checking(alloc, edited.violations.as_slice())?;
-        if edited.committed {
+    /// The rules that an edited draft breaks, which are told already, and whether it was committed.
+    /// A commit that was asked for and not made is told, and by the status.
+    pub(crate) fn editing(told: Done, committed: bool, commit: bool) -> Result<Done, Fault> {
+        let mut done = told;
+        if committed {
             done.text.extend_from_slice(b"committed\n")?;
         } else if commit {
             done.text.extend_from_slice(NOT_COMMITTED)?;

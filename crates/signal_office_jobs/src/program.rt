@@ -8,7 +8,9 @@ use cabinet_core::read_day;
 use office_desk::office::Office;
 use office_http::{Sink, Source, write_all};
 use office_tables_shelf::shelf::Shelf;
-use signal_office_commands::{Fault, compare_files, diagram_in, page_in, report, violations_in};
+use signal_office_commands::{
+    Fault, compare_files, diagram_in, page_in, reasons_in, report, violations_in,
+};
 use signal_office_faults::{is_missing, read_file};
 use signal_office_in_file::OfficeInFile;
 use signal_office_line::{Edit, Job, JobFault, Plan, Plans, job_of};
@@ -39,16 +41,21 @@ fn batch<F: OfficeInFile, R: Source, W: Sink>(
     Ok(0)
 }
 
-/// Prints the violations of the plan in a CSV file.
+/// Prints the violations of the plan in a CSV file, with their reasons where that is asked.
 fn verify_file<W: Sink>(
     rt: &HostRuntime,
     alloc: Global,
     path: &str,
+    explain: bool,
     out: &mut W,
 ) -> Result<u8, Fault> {
     let bytes = read_file(rt, path)?;
-    let found = violations_in(alloc, &bytes)?;
-    Done::checking(alloc, &found)?.print(out)
+    let done = if explain {
+        Done::explaining(alloc, &reasons_in(alloc, &bytes)?)?
+    } else {
+        Done::checking(alloc, &violations_in(alloc, &bytes)?)?
+    };
+    done.print(out)
 }
 
 /// Serves connections on a port by an office, which is dropped then.
@@ -182,12 +189,13 @@ fn edit_plan<F: OfficeInFile, W: Sink>(
         return Err(Fault::Clerk);
     };
     let csv = &read_file(rt, edit.csv)?;
-    let (id, commit) = (edit.id, edit.commit);
+    let (id, commit, explain) = (edit.id, edit.commit, edit.explain);
     let task = Task::Edit {
         id,
         clerk,
         csv,
         commit,
+        explain,
     };
     in_file::<F, W>(rt, alloc, edit.db, &task, out)
 }
@@ -287,7 +295,7 @@ fn run_job<F: OfficeInFile, R: Source, W: Sink>(
         Job::Stock { db, csv } => show_of::<F, W>(rt, alloc, db, Shown::Stock { csv: *csv }, out),
         Job::Orders { db, id } => show_of::<F, W>(rt, alloc, db, Shown::Orders { id: *id }, out),
         Job::Cabinet { db, id } => show_of::<F, W>(rt, alloc, db, Shown::Cabinet { id: *id }, out),
-        Job::VerifyFile { csv } => verify_file(rt, alloc, csv, out),
+        Job::VerifyFile { csv, explain } => verify_file(rt, alloc, csv, *explain, out),
         Job::Migrate { db } => migrate::<F, W>(rt, alloc, db, out),
         Job::Import { db, csv } => import::<F, W>(rt, alloc, db, csv, out),
         Job::Export { db, id, view } => {

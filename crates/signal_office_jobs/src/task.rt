@@ -7,9 +7,9 @@ use office_desk::office::Office;
 use office_http::Sink;
 use office_tables_shelf::shelf::Shelf;
 use signal_office_commands::{
-    Fault, abandon_draft, add_intersection, cabinet_csv_of, cabinet_of, diagram_of, draft_csv_of,
-    draft_differences, edit_plan, import_csv, list_of, orders_of, overdue_of, page_of, sheet_of,
-    stock_of, timing_csv_of,
+    Edited, Fault, abandon_draft, add_intersection, cabinet_csv_of, cabinet_of, diagram_of,
+    draft_csv_of, draft_differences, draft_reasons, edit_plan, import_csv, list_of, orders_of,
+    overdue_of, page_of, sheet_of, stock_of, timing_csv_of,
 };
 use signal_office_in_file::OfficeTask;
 use signal_office_line::View;
@@ -59,12 +59,14 @@ pub enum Task<'a> {
     Import {
         csv: &'a [u8],
     },
-    /// A plan's CSV file that edits a draft, which is committed where that is asked.
+    /// A plan's CSV file that edits a draft, which is committed where that is asked. The rules that
+    /// it breaks are told with their reasons where that is.
     Edit {
         id: InterId,
         clerk: &'a Words<40>,
         csv: &'a [u8],
         commit: bool,
+        explain: bool,
     },
     /// The draft of an intersection, which is dropped.
     Abandon {
@@ -127,6 +129,22 @@ fn shown_of<S: Shelf>(
     }
 }
 
+/// The rules that an edited draft breaks, with their reasons where that is asked. One that is
+/// committed breaks none.
+fn broken_by<S: Shelf>(
+    alloc: Global,
+    office: &mut Office<S>,
+    id: InterId,
+    edited: &Edited,
+    explain: bool,
+) -> Result<Done, Fault> {
+    if explain && !edited.committed {
+        Done::explaining(alloc, &draft_reasons(alloc, office, id)?)
+    } else {
+        Done::checking(alloc, edited.violations.as_slice())
+    }
+}
+
 /// Does a task, and gives what is to be printed once the file is closed, with the status.
 fn done_by<S: Shelf, W: Sink>(
     rt: &HostRuntime,
@@ -151,9 +169,11 @@ fn done_by<S: Shelf, W: Sink>(
             clerk,
             csv,
             commit,
+            explain,
         } => {
             let edited = edit_plan(alloc, office, id, clerk, csv, commit)?;
-            Done::editing(alloc, &edited, commit)
+            let told = broken_by(alloc, office, id, &edited, explain)?;
+            Done::editing(told, edited.committed, commit)
         }
         Task::Abandon { id, clerk } => {
             abandon_draft(alloc, office, id, clerk)?;

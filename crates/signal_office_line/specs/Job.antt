@@ -27,11 +27,11 @@ pub data Asked : Type 0 where
   cabinet : Text → ℕ → Asked
   sheet : Text → ℕ → Asked
   overdue : Text → Option ℕ → Text → Asked
-  verify_file : Text → Asked
+  verify_file : Text → Bool → Asked
   migrate : Text → Asked
   import_records : Text → Text → Asked
   export : Text → ℕ → View → Asked
-  edit : Text → Text → ℕ → Text → Bool → Asked
+  edit : Text → Text → ℕ → Text → Bool → Bool → Asked
   abandon : Text → Text → ℕ → Asked
   compare_files : Text → Text → Bool → Asked
   compare_draft : Text → ℕ → Bool → Asked
@@ -51,11 +51,11 @@ asked (job.Orders db id) = orders db.now id
 asked (job.Cabinet db id) = cabinet db.now id
 asked (job.Sheet db id) = sheet db.now id
 asked (job.Overdue db first day) = overdue db.now first day.now
-asked (job.VerifyFile csv) = verify_file csv.now
+asked (job.VerifyFile csv explain) = verify_file csv.now explain
 asked (job.Migrate db) = migrate db.now
 asked (job.Import db csv) = import_records db.now csv.now
 asked (job.Export db id shown) = export db.now id shown
-asked (job.Edit e) = edit e.db.now e.clerk.now e.id e.csv.now e.commit
+asked (job.Edit e) = edit e.db.now e.clerk.now e.id e.csv.now e.commit e.explain
 asked (job.Abandon db clerk id) = abandon db.now clerk.now id
 asked (job.Compare (plans.Files first second) csv) = compare_files first.now second.now csv
 asked (job.Compare (plans.Draft db id) csv) = compare_draft db.now id csv
@@ -160,11 +160,11 @@ overdue_at rows = do
   day ← first_of (codes "DAY") rows
   Some (overdue db first day)
 
--- `verify-file CSV`
+-- `verify-file [--explain] CSV`
 abbrev pub verify_file_at : List Row → Option Asked
 verify_file_at rows = do
   csv ← first_of (codes "CSV") rows
-  Some (verify_file csv)
+  Some (verify_file csv (flag_at (codes "explain") rows))
 
 -- `migrate --db FILE`
 abbrev pub migrate_at : List Row → Option Asked
@@ -195,14 +195,14 @@ export_at rows = do
   shown ← view_of (flag_at (codes "draft") rows) (flag_at (codes "cabinet") rows)
   Some (export db id shown)
 
--- `edit --db FILE --clerk NAME [--commit] ID CSV`
+-- `edit --db FILE --clerk NAME [--commit] [--explain] ID CSV`
 abbrev pub edit_at : List Row → Option Asked
 edit_at rows = do
   db ← first_of (codes "db") rows
   clerk ← first_of (codes "clerk") rows
   id ← number_at 9_999 (codes "ID") rows
   csv ← first_of (codes "CSV") rows
-  Some (edit db clerk id csv (flag_at (codes "commit") rows))
+  Some (edit db clerk id csv (flag_at (codes "commit") rows) (flag_at (codes "explain") rows))
 
 -- `abandon --db FILE --clerk NAME ID`
 abbrev pub abandon_at : List Row → Option Asked

@@ -21,6 +21,9 @@ pub(crate) const FILE_OR_MEMORY: &str =
 /// What it says where none is made.
 pub(crate) const FOUND_FILE: &str = "The SQLite file that keeps the tables; it has to be there";
 
+/// What it says of `--explain`.
+pub(crate) const EXPLAIN: &str = "Print beside each rule that is broken the numbers that break it";
+
 /// What it says of the number of an intersection.
 pub(crate) const ID: &str = "The intersection's number, 1 to 9999";
 

@@ -11,7 +11,7 @@ ghost use Rattle.signal_office_line.specs.CommandLine.{with_subcommands};
 ghost use Rattle.clap.specs.Simple.{App};
 
 use crate::arguments::{
-    Argument, FILE_OR_MEMORY, FOUND_FILE, Form, ID, MADE_FILE, command_of, with_command,
+    Argument, EXPLAIN, FILE_OR_MEMORY, FOUND_FILE, Form, ID, MADE_FILE, command_of, with_command,
 };
 use crate::keeping::with_keeping;
 use clap::Command;
@@ -101,11 +101,14 @@ fn verify_file_command<'a>(alloc: Global) -> Result<Command<'a>, AllocError>
         "verify-file",
         "Checks the timing plan in a CSV file against the fourteen rules; ends with status 3 \
          where one is broken",
-        &[Argument(
-            "CSV",
-            Form::Word,
-            "The file; one record for each phase, sequence, split and pattern",
-        )],
+        &[
+            Argument("explain", Form::Flag, EXPLAIN),
+            Argument(
+                "CSV",
+                Form::Word,
+                "The file; one record for each phase, sequence, split and pattern",
+            ),
+        ],
     )
 }
 
@@ -180,6 +183,7 @@ fn edit_command<'a>(alloc: Global) -> Result<Command<'a>, AllocError>
                 Form::Flag,
                 "Commit the draft where it breaks no rule; ends with status 3 where it breaks one",
             ),
+            Argument("explain", Form::Flag, EXPLAIN),
             Argument("ID", Form::Word, ID),
             Argument(
                 "CSV",

@@ -29,7 +29,8 @@ pub enum View {
 }
 
 /// An edit of an intersection's plan by a CSV file, in a transaction of a clerk. The draft is
-/// committed where that is asked.
+/// committed where that is asked, and its violations are printed with
+/// their reasons where that is.
 #[derive(Clone, Copy)]
 pub struct Edit<'a> {
     pub db: &'a str,
@@ -37,6 +38,7 @@ pub struct Edit<'a> {
     pub id: InterId,
     pub csv: &'a str,
     pub commit: bool,
+    pub explain: bool,
 }
 
 /// Two plans that are compared.
@@ -110,9 +112,11 @@ pub enum Job<'a> {
         first: Option<u32>,
         day: &'a str,
     },
-    /// Check the plan in a CSV file.
+    /// Check the plan in a CSV file. Its violations are printed with their reasons where that is
+    /// asked.
     VerifyFile {
         csv: &'a str,
+        explain: bool,
     },
     /// Bring the tables of a file to today's version.
     Migrate {

@@ -61,12 +61,13 @@ fn overdue<'a>(matches: &ArgMatches<'a>) -> Option<Job<'a>>
     Some(Job::Overdue { db, first, day })
 }
 
-/// `verify-file CSV`.
+/// `verify-file [--explain] CSV`.
 fn verify_file<'a>(matches: &ArgMatches<'a>) -> Option<Job<'a>>
     ensures { option_map asked result ≡ verify_file_at (rows_of (found_of matches.entry.now)) }
 {
     let csv = word(matches, "CSV")?;
-    Some(Job::VerifyFile { csv })
+    let explain = flag(matches, "explain");
+    Some(Job::VerifyFile { csv, explain })
 }
 
 /// `migrate --db FILE`.
@@ -108,7 +109,7 @@ fn export<'a>(matches: &ArgMatches<'a>) -> Option<Job<'a>>
     Some(Job::Export { db, id, view })
 }
 
-/// `edit --db FILE --clerk NAME [--commit] ID CSV`.
+/// `edit --db FILE --clerk NAME [--commit] [--explain] ID CSV`.
 fn edit<'a>(matches: &ArgMatches<'a>) -> Option<Job<'a>>
     ensures { option_map asked result ≡ edit_at (rows_of (found_of matches.entry.now)) }
 {
@@ -117,12 +118,14 @@ fn edit<'a>(matches: &ArgMatches<'a>) -> Option<Job<'a>>
     let id = intersection(matches, "ID")?;
     let csv = word(matches, "CSV")?;
     let commit = flag(matches, "commit");
+    let explain = flag(matches, "explain");
     Some(Job::Edit(Edit {
         db,
         clerk,
         id,
         csv,
         commit,
+        explain,
     }))
 }
 

@@ -1,5 +1,5 @@
 -- When a reason is true of a subject of a set, which rule it is about, and whether that rule holds.
-use Rattle.std.specs.Prelude.{◌≡◌, ℕ, Bool, true, Option, Some, None}
+use Rattle.std.specs.Prelude.{◌≡◌, ℕ, Bool, true, List, All, map, Option, Some, None}
 use Rattle.signal_records.specs.declared.record.Pattern.{Pattern}
 use Rattle.signal_records.specs.declared.record.Phase.{Phase}
 use Rattle.signal_records.specs.declared.record.Split.{Split}
@@ -13,6 +13,8 @@ use Rattle.signal_rules.specs.PhaseRules.{yellow_is_right, red_is_right, walk_is
 use Rattle.signal_rules.specs.SequenceRule.{rows_are_right}
 use Rattle.signal_rules.specs.SplitRule.{split_is_right}
 use Rattle.signal_rules.specs.PatternRules.{has_rows, offset_is_right, has_coordinated, lanes_fill_cycle, lanes_agree}
+use Rattle.signal_rules.specs.Violations.{violations_of}
+use Rattle.signal_reasons.specs.declared.reason.Explained.{Explained}
 use Rattle.signal_reasons.specs.declared.reason.Reason.{Reason}
 use Rattle.signal_reasons.specs.declared.reason.Reason.TheVariants as reason
 use Rattle.signal_reasons.specs.PhaseReasons.{Has, interval_rule, IsIntervalReason, crossing_rule, IsCrossingReason, IsMateReason}
@@ -89,3 +91,8 @@ lanes_are_judged set _ _ = true
 abbrev pub is_judged : Rows → Subject → Rule → Bool
 is_judged set (subject.Pattern n) r = lanes_are_judged set r (pattern_at set n)
 is_judged set _ r = true
+
+-- the violations of a set in their order, each with a reason that is true of the set
+pub record AreReasons (set : Rows) (found : List Explained) : Type 0 where
+  pub explains : map (λ e. e.violation) found ≡ violations_of set
+  pub true_of_set : All (λ e. IsReason set e.violation.subject e.violation.rule e.reason) found

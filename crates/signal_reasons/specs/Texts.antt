@@ -1,5 +1,5 @@
 -- How reasons are written.
-use Rattle.std.specs.Prelude.{ℕ, ◌/◌, ◌%◌, List, ◌++◌, codes}
+use Rattle.std.specs.Prelude.{ℕ, ◌/◌, ◌%◌, List, [], ◌∷◌, ◌++◌, flat_map, codes}
 use Rattle.std.specs.Fmt.{decimal}
 use Rattle.signal_rules.specs.Texts.{violation_text}
 use Rattle.signal_reasons.specs.declared.reason.IntervalReason.{IntervalReason}
@@ -85,3 +85,12 @@ reason_text (reason.Pattern r) = pattern_text r
 -- `pattern 1 V10: offset 60 s, cycle 60 s`
 abbrev pub explained_text : Explained → List ℕ
 explained_text e = violation_text e.violation ++ (codes ": " ++ reason_text e.reason)
+
+-- the same and a line feed
+abbrev pub explained_line : Explained → List ℕ
+explained_line e = explained_text e ++ codes "\n"
+
+-- a line for each violation, or the one line that there is none
+abbrev pub explained_text_of : List Explained → List ℕ
+explained_text_of [] = codes "no violations\n"
+explained_text_of (first ∷ others) = flat_map explained_line (first ∷ others)

@@ -97,7 +97,6 @@ fn lead_reason(phase: &Phase, ped: &Ped) -> Option<CrossingReason>
     ensures some { IfSome result (λ reason. IsCrossingReason phase.now ped.now reason) }
     ensures rule { IfSome result (λ reason. crossing_rule reason ≡ Rule.V14) }
 {
-    let _phase = phase;
     let lead = ped.lead.get();
     if lead == 0 {
         return None;

@@ -1,12 +1,12 @@
 //! The reasons of a set's violations, in their order.
 
-ghost use Rattle.std.specs.Prelude.{◌≡◌, true, false, All, map, IfSome, IfNone, IfOk};
+ghost use Rattle.std.specs.Prelude.{◌≡◌, true, false, IfSome, IfNone, IfOk};
 ghost use Rattle.signal_rules.specs.declared.violation.Rule.{Rule as RuleOf};
 ghost use Rattle.signal_rules.specs.declared.violation.Subject.{Subject as SubjectOf};
 ghost use Rattle.signal_rules.specs.Lookup.{phase_at, split_at, pattern_at};
-ghost use Rattle.signal_rules.specs.Violations.{violations_of};
 ghost use Rattle.signal_reasons.specs.declared.reason.Reason.{Reason as ReasonOf};
-ghost use Rattle.signal_reasons.specs.Reasons.{IsReason, keeps, is_judged, phase_keeps};
+ghost use Rattle.signal_reasons.specs.Reasons.{AreReasons, IsReason, keeps, is_judged};
+ghost use Rattle.signal_reasons.specs.Reasons.{phase_keeps};
 ghost use Rattle.signal_reasons.specs.Reasons.{sequence_keeps, split_keeps, pattern_keeps};
 ghost use Rattle.signal_reasons.specs.Reasons.{lanes_are_judged};
 
@@ -31,9 +31,7 @@ use std::alloc::Global;
 /// `NoMemory` means that a growth was really refused.
 #[tactic(auto, using(crate::proofs::Laws::reason_shows))]
 pub fn reasons(alloc: Global, set: &TimingSet) -> Result<Vec<Explained>, NoMemory>
-    ensures explains { IfOk result (λ found. map (λ e. e.violation) found.items ≡ violations_of set.now) }
-    ensures true_of_set { IfOk result (λ found.
-        All (λ e. IsReason set.now e.violation.subject e.violation.rule e.reason) found.items) }
+    ensures told { IfOk result (λ found. AreReasons set.now found.items) }
     ensures shows { (s : SubjectOf) (r : RuleOf) (why : ReasonOf) →
         IsReason set.now s r why → keeps set.now s r ≡ false }
 {

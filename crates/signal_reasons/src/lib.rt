@@ -9,6 +9,7 @@ mod crossing;
 mod explaining;
 mod interval;
 mod lanes;
+mod listing;
 mod mate;
 mod pattern;
 mod reason;
@@ -18,6 +19,7 @@ mod texts;
 mod together;
 
 pub use explaining::{reason_of, reasons};
+pub use listing::explained_text;
 pub use reason::{
     CrossingReason, Explained, IntervalReason, MateReason, PatternReason, Reason, SequenceReason,
     SplitReason,

@@ -82,7 +82,6 @@ pub(crate) fn offset_reason(set: &TimingSet, pattern: &Pattern) -> Option<Patter
     ensures some { IfSome result (λ reason. IsPatternReason set.now pattern.now reason) }
     ensures rule { IfSome result (λ reason. pattern_rule reason ≡ Rule.V10) }
 {
-    let _set = set;
     if u32::from(pattern.offset) < pattern.cycle.get() {
         return None;
     }

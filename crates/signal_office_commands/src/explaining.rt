@@ -1,0 +1,45 @@
+//! Why plans break rules, in numbers.
+
+ghost use Rattle.std.specs.Prelude.{◌≡◌, ◌≢◌, Err, IfOk, IfErr};
+ghost use Rattle.office_files.specs.Changes.{changes_of};
+ghost use Rattle.office_tables_shelf.specs.Keeps.{KeepsShelf};
+ghost use Rattle.signal_office_commands.specs.Explaining.{ExplainsPlan, ExplainsDraft};
+ghost use Rattle.signal_office_commands.specs.Showing.{ShowsDraft};
+
+use crate::showing::draft_in;
+use office_desk::office::Office;
+use office_files::{CsvFault, read_plan_csv};
+use office_tables_shelf::shelf::Shelf;
+use signal_office_faults::Fault;
+use signal_reasons::{Explained, reasons};
+use signal_records::InterId;
+use std::alloc::Global;
+
+/// The violations of the plan that the records of a CSV file make of the empty set, each with its
+/// reason, or the first bad record.
+pub fn reasons_in(alloc: Global, bytes: &[u8]) -> Result<Vec<Explained>, CsvFault>
+    ensures found { IfOk result (λ found. ExplainsPlan bytes.now found.items) }
+    ensures fault { IfErr result (λ fault. fault ≢ CsvFault.NoMemory →
+        changes_of bytes.now ≡ Err fault) }
+{
+    let plan = read_plan_csv(alloc, bytes)?;
+    let found = reasons(alloc, &plan)?;
+    Ok(found)
+}
+
+/// The same of the draft of an intersection's timing set. The office is as it was.
+pub fn draft_reasons<S: Shelf>(
+    alloc: Global,
+    office: &mut Office<S>,
+    id: InterId,
+) -> Result<Vec<Explained>, Fault>
+    ensures kept { KeepsShelf S.Shelf office.old office.new }
+    ensures found { IfOk result (λ found. S.is_honest office.new →
+        ExplainsDraft (S.content office.old) id found.items) }
+    ensures fault { IfErr result (λ why. why ≢ Fault.Memory → S.is_honest office.new →
+        ShowsDraft (S.content office.old) id (Err why)) }
+{
+    let draft = draft_in(alloc, office, id)?;
+    let found = reasons(alloc, &draft)?;
+    Ok(found)
+}
