@@ -1,7 +1,7 @@
 """Row files: requests with the answers that must come, as crates/office_rows plays them."""
 import pathlib
 
-from . import fields, plan, rules
+from . import fields, plan, reasons, rules
 from .refusal import Refused
 from .wire import answer, read_each
 
@@ -27,19 +27,20 @@ def played(office, asked):
 
 
 def checked(text):
-    """Each file of a plan that a row has the program verify, with the lines that it prints where
-    there is room for them."""
-    files, name, told = {}, None, None
+    """Each file of a plan that a row has the program verify, whether with reasons, and the lines
+    that it prints where there is room for them."""
+    files, name, told, flags = {}, None, None, []
     for line in [*text.split("\n"), "run"]:
         word, _, rest = line.partition(" ")
         if word in ("run", "file") and told is not None:
-            yield files[name], told
+            yield files[name], bool(flags), told
         if word == "file":
             name, files[rest], told = rest, "", None
         elif word == "|":
             files[name] += rest + "\n"
         elif word == "run":
-            command, _, name = rest.partition(" ")
+            command, *flags = rest.split(" ")
+            name = flags.pop() if flags else None
             told = [] if command == "verify-file" and name in files else None
         elif word == "room":
             told = None
@@ -47,15 +48,18 @@ def checked(text):
             told.append(rest)
 
 
-def verified(text):
-    """What is told of a plan in a file: what it breaks, or the first record that spells nothing."""
+def verified(text, explain):
+    """What is told of a plan in a file: what it breaks, with reasons where that is asked, or the
+    first record that spells nothing."""
     try:
         changes = read_each(plan.read_change, fields.read_csv(text))
     except Refused as it:
         field = f" {it.more['field']}" if it.more["field"] else ""
         return [f"fault: record {it.more['record']}: {it.more['fault']}{field}"]
-    broken = rules.violations(plan.apply({}, changes))
-    return [f"{it['subject']} {it['rule']}" for it in broken] or ["no violations"]
+    made = plan.apply({}, changes)
+    if explain:
+        return reasons.explained(made) or ["no violations"]
+    return [f"{it['subject']} {it['rule']}" for it in rules.violations(made)] or ["no violations"]
 
 
 def written(method, target, body):

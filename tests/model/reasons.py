@@ -1,0 +1,142 @@
+"""Why a plan breaks the timing rules, in the words of an engineer: each violation with the numbers
+to check. Where a rule has several things to find, the first one is told."""
+import itertools
+
+from .rules import View, need, violations
+
+
+def tenths(number):
+    """A number of tenths, as 13.5."""
+    return f"{number // 10}.{number % 10}"
+
+
+def least_walk(phase):
+    """The shortest walk that a phase may have, in seconds."""
+    return 4 if phase.short else 7
+
+
+def walked(feet, speed, needed, what, there):
+    """A way that takes longer than there is."""
+    return (f"{tenths(feet)} ft at {speed} ft/s take {tenths(needed)} s; "
+            f"{what} are {tenths(there)} s")
+
+
+def lead(phase):
+    """What is wrong with a lead: it is too short, or else longer than the walk."""
+    if phase.lead < 3:
+        return f"lead is {phase.lead} s, less than 3 s"
+    return f"lead is {phase.lead} s, longer than the walk of {phase.walk} s"
+
+
+def mate(view, phase):
+    """The first mate that is none."""
+    for it in phase.mates:
+        if it not in view.phases:
+            return f"mate {it} is not in the plan"
+        if view.phases[it].ring == phase.ring:
+            return f"mate {it} is in ring {phase.ring} too"
+        if phase.number not in view.phases[it].mates:
+            return f"mate {it} does not list it"
+    return None
+
+
+def of_phase(view, phase, rule):
+    """Why a phase breaks a rule."""
+    if rule == "V6":
+        return mate(view, phase)
+    if rule == "V1":
+        return f"yellow is {tenths(phase.yellow)} s, not 3.0 to 6.0 s"
+    if rule == "V2":
+        return f"red is {tenths(phase.red)} s, more than 6.0 s"
+    clearance = 10 * phase.clear + phase.yellow + phase.red
+    if rule == "V3":
+        return f"walk is {phase.walk} s, less than {least_walk(phase)} s"
+    if rule == "V4":
+        return walked(phase.width, "3.5", -(-2 * phase.width // 7),
+                      "clearance, yellow and red", clearance)
+    if rule == "V5":
+        way = phase.width + phase.setback
+        return walked(way, "3", -(-way // 3), "walk, clearance, yellow and red",
+                      10 * phase.walk + clearance)
+    return lead(phase)
+
+
+def of_sequence(view, number):
+    """What stands where it should not, ring by ring, and else what does not stand once where it
+    should."""
+    rings = view.sequences[number]
+    for ring, it in ((ring, it) for ring in sorted(rings) for it in rings[ring]):
+        if it not in view.phases:
+            return f"{it} is not in the plan"
+        if view.phases[it].ring != ring:
+            return f"phase {it} stands in ring {ring}, and is of ring {view.phases[it].ring}"
+    for it, phase in view.phases.items():
+        stands = rings.get(phase.ring, ()).count(it)
+        if stands != 1:
+            return f"phase {it} is missing" if stands == 0 else f"phase {it} stands twice"
+    return None
+
+
+def of_split(view, split):
+    """Why a split row does not fit its phase."""
+    phase = view.phases.get(split.phase)
+    if phase is None:
+        return f"phase {split.phase} is not in the plan"
+    if split.mode == 7:
+        return f"{split.time} s, and omitted" if split.time else "coordinated, and omitted"
+    if split.time == 0:
+        return "0 s, and not omitted"
+    return f"{split.time} s, and the need is {tenths(need(phase, split.mode))} s"
+
+
+def conflict(view, lanes, cycle):
+    """The first second at which two rings may not time together what they have, and the second at
+    which one of them goes on."""
+    for second in range(cycle):
+        for one, other in itertools.combinations(lanes, 2):
+            pair = one[second], other[second]
+            if not view.list_each_other(*pair):
+                together = itertools.takewhile(
+                    lambda it: (one[it], other[it]) == pair, range(second, cycle))
+                return (f"from second {second} to {max(together) + 1} phases {pair[0]} and {pair[1]}"
+                        " time together and do not list each other")
+    return None
+
+
+def of_pattern(view, pattern, rule):
+    """Why a pattern breaks a rule."""
+    if rule == "V9" and pattern.sequence not in view.sequences:
+        return f"sequence {pattern.sequence} has no row"
+    if rule == "V9":
+        without = next(it for it in view.phases if (pattern.split, it) not in view.splits)
+        return f"split {pattern.split} has no row for phase {without}"
+    if rule == "V10":
+        return f"offset {pattern.offset} s, cycle {pattern.cycle} s"
+    if rule == "V11":
+        return f"split {pattern.split} has no coordinated phase of the plan"
+    lanes = list(view.lanes(pattern))
+    if rule == "V13":
+        return conflict(view, lanes, pattern.cycle)
+    used = sorted({phase.ring for phase in view.phases.values()})
+    ring, lane = next(it for it in zip(used, lanes, strict=True) if len(it[1]) != pattern.cycle)
+    return f"ring {ring} adds up to {len(lane)} s, the cycle is {pattern.cycle} s"
+
+
+def why(view, subject, rule):
+    """Why a subject breaks a rule."""
+    kind, *numbers = subject.split(" ")
+    numbers = tuple(map(int, numbers))
+    if kind == "phase":
+        return of_phase(view, view.phases[numbers[0]], rule)
+    if kind == "sequence":
+        return of_sequence(view, numbers[0])
+    if kind == "split":
+        return of_split(view, view.splits[numbers])
+    return of_pattern(view, view.patterns[numbers[0]], rule)
+
+
+def explained(plan):
+    """A line for each violation of a plan, with its reason."""
+    view = View(plan)
+    return [f"{it['subject']} {it['rule']}: {why(view, it['subject'], it['rule'])}"
+            for it in violations(plan)]
