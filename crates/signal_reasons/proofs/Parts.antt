@@ -1,12 +1,13 @@
 -- A list and its first element.
-use Rattle.std.proofs.Common.{◌≡◌, ℕ, ◌-◌, ◌≤◌, Bool, true, not, List, [], ◌∷◌, take, drop, length, get_or, sym, ap, subst, ◌∙◌, arith}
-use Rattle.std.proofs.lemmas.Bool.{and_parts, not-true}
+use Rattle.std.proofs.Common.{◌≡◌, ℕ, ◌-◌, ◌≤◌, Bool, true, false, eqb, not, List, [], ◌∷◌, take, drop, length, get_or, ◌⊎◌, inl, inr, sym, ap, subst, ◌∙◌, arith}
+use Rattle.std.proofs.lemmas.Bool.{and_parts, eqb-true, not-true, or_cases}
 use Rattle.std.proofs.lemmas.List.{take_all}
-use Rattle.std.specs.{List.list_all, Prelude.false}
+use Rattle.std.specs.List.{list_all}
 use Rattle.signal_records.specs.{declared.record.Pattern.Pattern, TimingSet.Rows, PhaseList.is_distinct}
 use Rattle.signal_rules.specs.Lookup.{is_in}
-use Rattle.signal_reasons.specs.Together.{AreFilled, agree_with, agree_at}
-use Rattle.signal_reasons.proofs.Stretches.{agree_more}
+use Rattle.signal_street.specs.{Timing.TimesIn, StreetLaws.AreConcurrent}
+use Rattle.signal_reasons.specs.PatternReasons.{AreMatedIn}
+use Rattle.signal_reasons.specs.Together.{AreMatedWith}
 
 -- the elements after the first
 abbrev pub later : List ℕ → List ℕ
@@ -32,9 +33,17 @@ module _ (ns : List ℕ) (n : ℕ) (some : 1 ≤ length ns) (is : n ≡ get_or n
   pub later_apart : is_distinct ns ≡ true → is_distinct (later ns) ≡ true
   later_apart apart = (parts apart).1
 
-  -- rings agree where the first does with the later ones, and these do
-  pub agree_from : (set : Rows) (row : Pattern) (second : ℕ) → (AreFilled set row second (n ∷ later ns) → agree_with set row second n (later ns) ≡ true) → (AreFilled set row second (later ns) → agree_at set row second (later ns) ≡ true)
-      → AreFilled set row second ns → agree_at set row second ns ≡ true
-  agree_from set row second one rest filled =
-      let all : AreFilled set row second (n ∷ later ns) = subst (AreFilled set row second) (parted ns n some is) filled in
-      ap (agree_at set row second) (parted ns n some is) ∙ agree_more set row second n (later ns) (one all) (rest all.1)
+  -- rings are mated where the first is with the later ones, and these are
+  pub mated_from : (set : Rows) (row : Pattern) (second : ℕ) → ((p : ℕ) → TimesIn set row n p second → AreMatedWith set row second p (later ns)) → AreMatedIn set row (later ns) second → AreMatedIn set row ns second
+  mated_from set row second one rest ring other p q apart among_ring among_other t u =
+      let first = or_cases (eqb n ring) (is_in ring (later ns)) (ap (is_in ring) (sym (parted ns n some is)) ∙ among_ring) in
+      let second_one = or_cases (eqb n other) (is_in other (later ns)) (ap (is_in other) (sym (parted ns n some is)) ∙ among_other) in
+      by_places first second_one where
+        at_first : (r k : ℕ) → eqb n r ≡ true → TimesIn set row r k second → TimesIn set row n k second
+        at_first r k same v = subst (λ s. TimesIn set row s k second) (sym (eqb-true n r same)) v
+
+        by_places : (eqb n ring ≡ true) ⊎ (is_in ring (later ns) ≡ true) → (eqb n other ≡ true) ⊎ (is_in other (later ns) ≡ true) → AreConcurrent set p q
+        by_places (inl e) (inl f) = absurd (apart (sym (eqb-true n ring e) ∙ eqb-true n other f))
+        by_places (inl e) (inr g) = one p (at_first ring p e t) other q g u
+        by_places (inr g) (inl e) = let both = one q (at_first other q e u) ring p g t in (both.1, both.0)
+        by_places (inr f) (inr g) = rest ring other p q apart f g t u

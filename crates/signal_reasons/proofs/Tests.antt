@@ -69,3 +69,14 @@ none_there (Some x) h = absurd (true≢false h)
 pub then_none : {A : Type 0} (o : Option A) (P Q : Type 0) → (P → Q) → IfNone o P → IfNone o Q
 then_none None P Q f h = f h
 then_none (Some x) P Q f h = tt
+
+-- a test that each member passes
+pub passes_all : (T : ℕ → Bool) (ns : List ℕ) → ((t : ℕ) → is_in t ns ≡ true → T t ≡ true) → list_all T ns ≡ true
+passes_all T [] h = refl
+passes_all T (n ∷ ns) h =
+    and_from (T n) (list_all T ns) (h n (or_left (eqb n n) (is_in n ns) (eq-eqb n n refl)))
+    (passes_all T ns (λ t among. h t (or_right (eqb n t) (is_in t ns) among)))
+
+pub where_none : {A : Type 0} (o : Option A) (P : Type 0) → P → IfNone o P
+where_none None P h = h
+where_none (Some x) P h = tt

@@ -1,5 +1,5 @@
 -- When a reason is true of a pattern: what its sequence and split number have, and what its rings time.
-use Rattle.std.specs.Prelude.{◌≡◌, ◌≢◌, ℕ, ◌<◌, ◌≤◌, true, false, sum_by, None, Some}
+use Rattle.std.specs.Prelude.{◌≡◌, ◌≢◌, ℕ, ◌<◌, ◌≤◌, true, false, List, sum_by, None, Some}
 use Rattle.signal_records.specs.declared.record.Pattern.{Pattern}
 use Rattle.signal_records.specs.declared.record.Split.{Split}
 use Rattle.signal_records.specs.TimingSet.{Rows}
@@ -24,7 +24,14 @@ pattern_rule (pattern.Conflict from until phase other) = rule.V13
 abbrev pub IsUsed : Rows → ℕ → Type 0
 IsUsed set ring = is_in ring (used_rings set) ≡ true
 
--- from a second on and up to another one of the cycle, two phases time in two rings
+-- at a second of the cycle, phases that time in any two of some rings are concurrent
+abbrev pub AreMatedIn : Rows → Pattern → List ℕ → ℕ → Type 0
+AreMatedIn set row rings second =
+    (ring other p q : ℕ) → ring ≢ other → is_in ring rings ≡ true → is_in other rings ≡ true
+    → TimesIn set row ring p second → TimesIn set row other q second → AreConcurrent set p q
+
+-- from a second on and up to another one of the cycle, two phases time in two rings, and at no second
+-- before do any time together that may not
 pub record TimeTogether (set : Rows) (row : Pattern) (from until p q : ℕ) : Type 0 where
   pub ring : ℕ
   pub other : ℕ
@@ -35,6 +42,7 @@ pub record TimeTogether (set : Rows) (row : Pattern) (from until p q : ℕ) : Ty
   pub within : from < row.cycle
   pub first : (second : ℕ) → from ≤ second → second < until → TimesIn set row ring p second
   pub second : (second : ℕ) → from ≤ second → second < until → TimesIn set row other q second
+  pub earliest : (second : ℕ) → second < from → AreMatedIn set row (used_rings set) second
 
 -- of the row of a pattern
 abbrev pub IsPatternReason : Rows → Pattern → PatternReason → Type 0

@@ -1,13 +1,16 @@
 //! Why a pattern breaks V13.
 
-ghost use Rattle.std.specs.Prelude.{◌≡◌, ◌≢◌, ◌<◌, ◌≤◌, [], ◌∷◌, true, false, length, IfSome, IfNone};
+ghost use Rattle.std.specs.Prelude.{◌≡◌, ◌≢◌, ℕ, ◌<◌, ◌≤◌, true, false, length, IfSome, IfNone};
 ghost use Rattle.std.specs.List.{list_all};
 ghost use Rattle.signal_records.specs.PhaseList.{is_distinct};
 ghost use Rattle.signal_rules.specs.Lookup.{phase_at, the_mates, is_in};
 ghost use Rattle.signal_rules.specs.PatternRules.{lane, used_rings, lanes_fill_cycle, lanes_agree};
 ghost use Rattle.signal_rules.specs.PatternRules.{list_each_other};
-ghost use Rattle.signal_reasons.specs.PatternReasons.{IsPatternReason, pattern_rule, IsUsed};
-ghost use Rattle.signal_reasons.specs.Together.{TimesOn, AreFilled, at_second, agree_at, agree_with};
+ghost use Rattle.signal_street.specs.Timing.{TimesIn};
+ghost use Rattle.signal_street.specs.StreetLaws.{AreConcurrent};
+ghost use Rattle.signal_reasons.specs.PatternReasons.{AreMatedIn, IsPatternReason, IsUsed};
+ghost use Rattle.signal_reasons.specs.PatternReasons.{pattern_rule};
+ghost use Rattle.signal_reasons.specs.Together.{TimesOn, AreMatedWith, AreMatedBefore};
 
 use crate::lanes::{row_of, time_of};
 use crate::reason::PatternReason;
@@ -53,8 +56,8 @@ fn conflict_at(
     requires second { second < pattern.now.cycle }
     requires distinct { is_distinct rings.now ≡ true }
     requires used { list_all (λ ring. is_in ring (used_rings set.now)) rings.now ≡ true }
-    ensures none { IfNone result (AreFilled set.now pattern.now second rings.now →
-        agree_at set.now pattern.now second rings.now ≡ true) }
+    requires earlier { AreMatedBefore set.now pattern.now second }
+    ensures none { IfNone result (AreMatedIn set.now pattern.now rings.now second) }
     ensures some { IfSome result (λ reason. IsPatternReason set.now pattern.now reason) }
     ensures rule { IfSome result (λ reason. pattern_rule reason ≡ Rule.V13) }
 {
@@ -79,8 +82,9 @@ fn conflict_with(
     requires apart { is_in ring later.now ≡ false }
     requires used { IsUsed set.now ring }
     requires all_used { list_all (λ other. is_in other (used_rings set.now)) later.now ≡ true }
-    ensures none { IfNone result (AreFilled set.now pattern.now second (ring ∷ later.now) →
-        agree_with set.now pattern.now second ring later.now ≡ true) }
+    requires earlier { AreMatedBefore set.now pattern.now second }
+    ensures none { IfNone result ((p : ℕ) → TimesIn set.now pattern.now ring p second →
+        AreMatedWith set.now pattern.now second p later.now) }
     ensures some { IfSome result (λ reason. IsPatternReason set.now pattern.now reason) }
     ensures rule { IfSome result (λ reason. pattern_rule reason ≡ Rule.V13) }
 {
@@ -107,8 +111,9 @@ fn conflict_of(
     requires second { second < pattern.now.cycle }
     requires times { TimesOn set.now pattern.now ring second stretch.now.phase stretch.now.until }
     requires used { IsUsed set.now ring }
-    ensures none { IfNone result (AreFilled set.now pattern.now second (other ∷ []) →
-        list_each_other set.now stretch.now.phase (at_second set.now pattern.now second other) ≡ true) }
+    requires earlier { AreMatedBefore set.now pattern.now second }
+    ensures none { IfNone result ((q : ℕ) → TimesIn set.now pattern.now other q second →
+        AreConcurrent set.now stretch.now.phase q) }
     ensures some { ring ≢ other → IsUsed set.now other →
         IfSome result (λ reason. IsPatternReason set.now pattern.now reason) }
     ensures rule { IfSome result (λ reason. pattern_rule reason ≡ Rule.V13) }

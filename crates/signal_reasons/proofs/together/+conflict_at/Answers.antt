@@ -1,6 +1,6 @@
 use Rattle.std.proofs.Common.{rules}
 use Rattle.signal_rules.specs.{Lookup.is_in, PatternRules.used_rings}
-use Rattle.signal_reasons.proofs.Parts.{first_passes, later_pass, later_apart, agree_from}
+use Rattle.signal_reasons.proofs.Parts.{first_passes, later_pass, later_apart, mated_from}
 use Rattle.signal_reasons.proofs.Tests.{then_none}
 use Rattle.signal_reasons.proofs.together.+conflict_at.Goals as goal
 
@@ -19,7 +19,10 @@ conflict_at-requires t c = (
     c.requires.second,
     (
       later_apart c.args.rings.now c.ring-item.result c.in-len1-up.len_at_least c.ring-item.is c.requires.distinct,
-      later_pass c.args.rings.now c.ring-item.result c.in-len1-up.len_at_least c.ring-item.is (λ ring. is_in ring (used_rings c.args.set.now)) c.requires.used,
+      (
+        later_pass c.args.rings.now c.ring-item.result c.in-len1-up.len_at_least c.ring-item.is (λ ring. is_in ring (used_rings c.args.set.now)) c.requires.used,
+        c.requires.earlier,
+      ),
     ),
   ),
 )
@@ -27,5 +30,5 @@ conflict_at-requires t c = (
 pub returns-in-None-clause-none : goal.returns-in-None-clause-none
 returns-in-None-clause-none t c =
     then_none c.conflict_at.result _ _
-    (λ rest. agree_from c.args.rings.now c.ring-item.result c.in-len1-up.len_at_least c.ring-item.is c.args.set.now c.args.pattern.now c.args.second c.in-None.ensures.none rest)
+    (mated_from c.args.rings.now c.ring-item.result c.in-len1-up.len_at_least c.ring-item.is c.args.set.now c.args.pattern.now c.args.second c.in-None.ensures.none)
     c.conflict_at.ensures.none

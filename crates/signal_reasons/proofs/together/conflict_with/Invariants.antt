@@ -1,9 +1,8 @@
-use Rattle.std.proofs.Common.{◌≡◌, ◌∷◌, drop}
-use Rattle.signal_reasons.specs.Together.{AreFilled, agree_with}
+use Rattle.std.proofs.Common.{◌≡◌, ℕ, ◌<◌, get_or}
+use Rattle.signal_street.specs.{Timing.TimesIn, StreetLaws.AreConcurrent}
 use Rattle.signal_reasons.proofs.together.conflict_with.Given as goal
 
--- with the rings that are left as with all
+-- what times in each ring so far
 abbrev pub invariant-loop-other : goal.invariant-loop-other
 invariant-loop-other l =
-    AreFilled l.set l.pattern l.second (l.ring ∷ l.later)
-    → agree_with l.set l.pattern l.second l.ring (drop l.other-index l.later) ≡ agree_with l.set l.pattern l.second l.ring l.later
+    (k : ℕ) → k < l.other-index → (other q : ℕ) → other ≡ get_or l.later k other → TimesIn l.set l.pattern other q l.second → AreConcurrent l.set l.stretch.phase q
