@@ -1,7 +1,8 @@
 //! Why a pattern breaks V9, V10 or V11.
 
 ghost use Rattle.std.specs.Prelude.{◌≡◌, true, is_some, IfSome, IfNone};
-ghost use Rattle.signal_rules.specs.Lookup.{phase_at, split_at, phases, is_in, sequence_at, has_sequence};
+ghost use Rattle.signal_rules.specs.Lookup.{phase_at, split_at, phases, is_in, sequence_at};
+ghost use Rattle.signal_rules.specs.Lookup.{has_sequence};
 ghost use Rattle.signal_rules.specs.PatternRules.{has_splits, has_rows, offset_is_right};
 ghost use Rattle.signal_rules.specs.PatternRules.{is_coordinated, has_coordinated};
 ghost use Rattle.signal_reasons.specs.PatternReasons.{IsPatternReason, pattern_rule};

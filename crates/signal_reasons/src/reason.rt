@@ -20,7 +20,8 @@ pub enum IntervalReason {
 pub enum CrossingReason {
     /// V3: the walk and the least one, in seconds.
     ShortWalk { seconds: u8, least: u8 },
-    /// V4: the width in tenths of a foot, and in tenths of a second what it takes and what there is.
+    /// V4: the width in tenths of a foot, and in tenths of a second what it takes and what there
+    /// is.
     SlowClearance { width: u32, takes: u32, there: u32 },
     /// V5: setback and width in tenths of a foot, and in tenths of a second what they take and what
     /// there is.
