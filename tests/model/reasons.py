@@ -98,8 +98,8 @@ def conflict(view, lanes, cycle):
             if not view.list_each_other(*pair):
                 together = itertools.takewhile(
                     lambda it: (one[it], other[it]) == pair, range(second, cycle))
-                return (f"from second {second} to {max(together) + 1} phases {pair[0]} and {pair[1]}"
-                        " time together and do not list each other")
+                return (f"from second {second} to {max(together) + 1} phases {pair[0]} and "
+                        f"{pair[1]} time together and do not list each other")
     return None
 
 
