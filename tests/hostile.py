@@ -49,10 +49,12 @@ MAKERS = ("batch", "import", "add")  # they make the file where there is none
 failed = []
 
 
-def run(words, stdin=b"", **how):
-    """The status, what was printed, and what was told on standard error."""
+def run(words, stdin=b"", copies=None, **how):
+    """The status, what was printed, and what was told on standard error. Instead of some files,
+    perhaps the program among them, it may use copies."""
     how.setdefault("stdout", subprocess.PIPE)
-    ran = subprocess.run([PROGRAM, *words], input=stdin, stderr=subprocess.PIPE, timeout=30, **how)
+    words = [(copies or {}).get(it, it) for it in (PROGRAM, *words)]
+    ran = subprocess.run(words, input=stdin, stderr=subprocess.PIPE, timeout=30, **how)
     return ran.returncode, ran.stdout or b"", ran.stderr
 
 
@@ -189,10 +191,14 @@ def another_process(folder):
 
 
 def without_leave(folder):
+    """Another user runs the program, by copies of it and of the plan, since that user may perhaps
+    not enter the folder of this repository."""
     path = office(folder, "kept.db")
-    os.chmod(folder, 0o755)
-    os.chmod(path, 0o444)
-    refused("a file without leave to write", path, user=65534, group=65534, extra_groups=[])
+    copies = {it: shutil.copy(it, folder) for it in (PROGRAM, PLAN)}
+    for it, mode in ((folder, 0o755), (path, 0o444), *((it, 0o755) for it in copies.values())):
+        os.chmod(it, mode)
+    other = {"user": 65534, "group": 65534, "extra_groups": []}
+    refused("a file without leave to write", path, copies=copies, **other)
 
 
 def additions(count):

@@ -28,7 +28,8 @@ import tempfile
 
 from model import rows
 from model.office import Office
-from model.wire import answer, answer_bytes
+from model.wire import UNAVAILABLE, answer, answer_bytes
+from preloaded import built
 from program import TOP, found
 
 ALLOCATOR = r"""
@@ -63,7 +64,6 @@ void *realloc(void *block, size_t size) {
 MOST = 100_000  # allocations of one run
 FAULTS = ["fault: memory"], ["fault: store"]
 STREAM = "one_long_list_of_commands.row"
-UNAVAILABLE = answer_bytes("503 Service Unavailable", '{"error":"Unavailable","number":90}')
 QUERIES = [f"GET /intersections/12{it}" for it in ("", "/timing", "/draft", "/cabinet")]
 PLAN = TOP / "bench" / "plan.csv"
 # What commands may print when they are run again after they were done.
@@ -237,9 +237,7 @@ def model_files(runs):
 
 def tries(program, folder):
     """What is tried: calls that give what to print, and whether all was right."""
-    source, allocator = folder / "refuse.c", folder / "refuse.so"
-    source.write_text(ALLOCATOR)
-    subprocess.run(["cc", "-O1", "-fPIC", "-shared", "-o", allocator, source], check=True)
+    allocator = built(folder, "refuse", ALLOCATOR)
     runs = (Runs(program, allocator, folder / f"runs{at}") for at in itertools.count())
     texts = [text for text, _ in rows.plain((rows.DATA / STREAM).read_text())]
     for of, has_file in ((texts[:2], False), (texts[:2], True), (texts * 2, False), (texts, True)):

@@ -62,11 +62,17 @@ def result(is_new):
     return {"result": "added" if is_new else "same"}
 
 
+@dataclasses.dataclass
 class Office:
     """All intersections and the register."""
 
-    def __init__(self):
-        self.intersections, self.register = {}, Register()
+    intersections: dict = dataclasses.field(default_factory=dict)
+    register: Register = dataclasses.field(default_factory=Register)
+
+    def copy(self):
+        """Another one like it. A plan is never changed, but replaced by another."""
+        intersections = {id: dataclasses.replace(it) for id, it in self.intersections.items()}
+        return Office(intersections, self.register.copy())
 
     def find(self, id):
         """An intersection, or refusal 10, which comes before any other one of a command."""

@@ -88,10 +88,11 @@ def draw_splits(dice, split, groups, phases):
     return rows, cycle
 
 
-def draw_plan(dice):
-    """The rows of a plan of some rings. Between two barriers stands a group: some phases of each
-    ring, each of which may time together with all those of the other rings."""
-    count, numbers = dice.choice((1, 2, 2, 2, 3)), dice.sample(range(1, 33), 32)
+def draw_plan(dice, most=32):
+    """The rows of a plan of some rings, whose phases have at most this number. Between two barriers
+    stands a group: some phases of each ring, each of which may time together with all those of the
+    other rings."""
+    count, numbers = dice.choice((1, 2, 2, 2, 3)), dice.sample(range(1, most + 1), most)
     groups = [[[numbers.pop() for _ in range(dice.choice((1, 1, 1, 2)))] for _ in range(count)]
               for _ in range(dice.choice((1, 2, 2)))]
     rows = [draw_phase(dice, it, at, [x for other in rings if other is not ring for x in other])
@@ -103,7 +104,7 @@ def draw_plan(dice):
         rows.append(texts("seq", sequence, at + 1, phases_of))
     splits, cycle = draw_splits(dice, split, groups, phases)
     if cycle > 255:
-        return draw_plan(dice)
+        return draw_plan(dice, most)
     offset = dice.choice((0, cycle - 1, cycle // 2))
     pattern = texts("pattern", dice.choice((1, 1, 48)), cycle, offset, split, sequence)
     return [*rows, *splits, pattern]

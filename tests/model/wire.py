@@ -193,3 +193,6 @@ def answer_bytes(status, text):
     """An answer with its head."""
     head = f"HTTP/1.1 {status}\r\nContent-Type: application/json\r\n"
     return f"{head}Content-Length: {len(text.encode())}\r\n\r\n{text}".encode()
+
+
+UNAVAILABLE = answer_bytes("503 Service Unavailable", '{"error":"Unavailable","number":90}')

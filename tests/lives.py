@@ -1,0 +1,297 @@
+#!/usr/bin/env python3
+"""Runs the program again and again over files, where many runs are killed, or have a disk that is
+full or fails, and holds what it answers each time against the office in Python (tests/model).
+
+    tests/lives.py [PROGRAM [SEED COUNT [FILE]]]
+
+COUNT runs are drawn, by default 1,000, some one after the other over each of some files: requests
+to `batch` and `serve`, and other commands. Some files begin as ones of version 1. After a run that
+ended in order the next one has to find exactly the office after it. After another it has to find
+the office after the last request that changed it and was answered otherwise than by Unavailable, or
+after a later one that was answered so, or that was not answered when the run was killed. What a
+file holds at the end is also read by Python's sqlite3.
+
+Prints how many runs were off, and ends with status 1 where one was: it tells the seed, the file and
+the run, and where a copy of the file as it was before that run is kept. FILE is the number of the
+only file to be tried. Needs a C compiler, `cc`. Takes some minutes.
+"""
+import collections
+import concurrent.futures
+import contextlib
+import functools
+import itertools
+import os
+import pathlib
+import random
+import shutil
+import sqlite3
+import sys
+import tempfile
+
+from disk import DISK, Off, Program, Trouble, draw_trouble
+from drawn import spelled
+from model import commands, heads, requests, tables
+from model.office import Intersection, Office
+from model.plan import apply, read_change
+from model.planning import BASE, CHANGES, draw_changes, draw_plan
+from model.rules import violations
+from model.wire import answer, answer_bytes
+from preloaded import built
+from program import found
+from runs import NOTHING, OLD, TODAY, Ask, Command, Held, Stream, without_repeats
+
+THEMES = (requests.mixed, requests.transactions, requests.plans, requests.registers)
+SHOWN = ("", "/timing", "/draft", "/cabinet")
+COMMANDS = ("add", "import", "import", "edit", "edit", "edit", "abandon", "list", "stock", "export",
+            "overdue", "migrate")
+
+
+def told_by(method, target, body):
+    """What answers a request."""
+    return lambda office: answer_bytes(*answer(office, method, target, body or b""))
+
+
+def ask(dice, method, target, keys=None):
+    """A request that is spelled in one way or another."""
+    body = None if keys is None else spelled(dice, keys).encode()
+    sent = heads.spelled(dice, method, target, body)
+    return Ask(sent, told_by(method, target, body), method != "GET")
+
+
+def draw_asks(dice, office, theme, count):
+    """Drawn requests, which an office has answered then."""
+    for method, target, keys in itertools.islice(theme(dice, office), count):
+        drawn = ask(dice, method, target, keys)
+        drawn.told(office)
+        yield drawn
+
+
+def draw_ending(dice):
+    """The end of a stream: a fault, a last request or a part of one."""
+    seed = dice.random()
+    ending = lambda office: heads.ending(random.Random(seed), office)
+    return Ask(ending(Office())[0], lambda office: ending(office)[1], False)
+
+
+def draw_stream(dice, office):
+    """Requests to `batch` or to `serve`."""
+    theme, count = dice.choice(THEMES), dice.choice((1, 3, 10, 20, 40))
+    if dice.random() < 0.2:
+        asks = list(draw_asks(dice, office, theme, count))
+        cuts = sorted(dice.randint(0, count) for _ in range(dice.randint(0, 2)))
+        parts = [asks[a:b] for a, b in itertools.pairwise([0, *cuts, count])]
+        return Stream(parts, True)
+    asks = list(draw_asks(dice, office, theme, count))
+    return Stream([asks + [draw_ending(dice)] * (dice.random() < 0.3)])
+
+
+def draw_look(dice, offices):
+    """Requests that show all that some offices hold."""
+    ids = sorted({id for it in offices for id in it.intersections})
+    targets = [f"/intersections/{id}{it}" for id in ids for it in SHOWN]
+    return Stream([[ask(dice, "GET", it) for it in (*targets, "/stock", "/overdue/2199-12-31")]])
+
+
+def draw_edit(dice, office, id, path):
+    """A clerk edits a plan by a file, and mostly wants it committed."""
+    rows = dice.choice((BASE, draw_plan(dice), draw_changes(dice, BASE), [dice.choice(CHANGES)]))
+    if dice.random() < 0.1:
+        rows = [*rows, requests.spoil_row(dice, dice.choice(rows))]
+    there = office.intersections.get(id)
+    clerk, csv = there and there.owner or dice.choice(requests.CLERKS), requests.spell_csv(dice, rows)
+    path.write_bytes(csv.encode())
+    commits = dice.random() < 0.7
+    words = ["--clerk", clerk, *["--commit"] * commits, str(id), str(path)]
+    return Command("edit", words, functools.partial(
+        commands.edit, id=id, clerk=clerk, csv=csv, commits=commits))
+
+
+def draw_import(dice, office, path):
+    """Records are imported from a file."""
+    orders, count = sorted(office.register.orders), dice.choice((1, 3, 10))
+    rows = [requests.draw_record(dice, orders, 9) for _ in range(count)]
+    if dice.random() < 0.1:
+        rows.append(requests.spoil_row(dice, rows[0]))
+    csv = requests.spell_csv(dice, rows)
+    path.write_bytes(csv.encode())
+    return Command("import", [str(path)], functools.partial(commands.take, csv=csv))
+
+
+def draw_command(dice, office, path):
+    """A command, of which some read a file that is written to this path."""
+    name, id = dice.choice(COMMANDS), dice.choice((*office.intersections, 1, 2, 3, 101))
+    clerk, csv = dice.choice(requests.CLERKS), dice.choice(((), ("--csv",)))
+    interval, called = dice.choice((365, 365, 30)), dice.choice(("Main St", "Main St", "Oak St"))
+    view, day = dice.choice(((), ("--draft",), ("--cabinet",))), str(requests.draw_day(dice))
+    if name == "edit":
+        return draw_edit(dice, office, id, path)
+    if name == "import":
+        return draw_import(dice, office, path)
+    words, does = {
+        "add": ([id, interval, called], (commands.add, id, interval, called)),
+        "abandon": (["--clerk", clerk, id], (commands.abandon, id, clerk)),
+        "list": (csv, (commands.listed, bool(csv))),
+        "stock": (csv, (commands.stock, bool(csv))),
+        "export": ([*view, id], (commands.export, id, "".join(view))),
+        "overdue": ([day], (commands.overdue, day)),
+        "migrate": ([], (commands.migrate, 0)),
+    }[name]
+    does, *values = does
+    return Command(name, list(map(str, words)), lambda office: does(office, *values))
+
+
+def old_plan(base, rows):
+    """A plan with changes of which version 1 had each, without leads."""
+    changes = [(key, row._replace(lead=0) if tables.is_widened(row) else row)
+               for key, row in map(read_change, rows) if row is None or tables.is_old(row)]
+    return apply(base, changes)
+
+
+def draw_old(dice):
+    """An office of version 1: a register, plans that break no rule, and drafts."""
+    office = Office()
+    collections.deque(draw_asks(dice, office, requests.registers, 40), maxlen=0)
+    for id in (*sorted(office.intersections), 101, 102):
+        it = office.intersections.setdefault(id, Intersection("Old St", 365))
+        rows = draw_plan(dice, 16)
+        plan = old_plan({}, rows)
+        it.revision, it.committed = dice.randint(0, 9), {} if violations(plan) else plan
+        if dice.random() < 0.5:
+            draft = old_plan(it.committed, draw_changes(dice, rows))
+            it.enter(dice.choice(tables.STATES[1:]), dice.choice(requests.CLERKS), draft)
+    return office
+
+
+class Life:
+    """A file, with what it may hold after the runs over it."""
+
+    def __init__(self, program, folder, dice):
+        self.program, self.folder = program, folder
+        self.path, self.log = folder / "office.db", folder / "office.db-wal"
+        self.kept, self.is_whole = folder / "before", False
+        self.held = [Held(NOTHING, Office())]
+        if dice.random() < 0.25:
+            self.held = [Held(OLD, draw_old(dice))]
+            self.put(1)
+
+    def put(self, version):
+        """Makes the file of one that the program made, by Python's sqlite3."""
+        self.program.run(["batch", "--db", str(self.path)], Trouble())
+        with contextlib.closing(sqlite3.connect(self.path)) as db, db:
+            tables.put(db, self.held[0].office, version)
+
+    def is_missing(self):
+        """Whether there is no file, or an empty one without a log beside it."""
+        if not self.path.exists():
+            return True
+        return self.path.stat().st_size == 0 and not self.log.exists()
+
+    def draw(self, dice):
+        """A run, with what befalls it."""
+        offices = [it.office for it in self.held]
+        if dice.random() < (0.6 if len(offices) > 1 else 0.05):
+            return draw_look(dice, offices), Trouble()
+        office, trouble = dice.choice(offices).copy(), draw_trouble(dice)
+        if any(it.stage == OLD for it in self.held) and dice.random() < 0.6:
+            return Command("migrate", [], lambda office: commands.migrate(office, 0)), trouble
+        if dice.random() < 0.55:
+            return draw_stream(dice, office), trouble
+        return draw_command(dice, office, self.folder / "rows.csv"), trouble
+
+    def keep(self, dice):
+        """Keeps what there is before a run. A file over which the last one ended in order is whole
+        without its log."""
+        if self.is_whole and dice.random() < 0.1:
+            self.log.unlink(missing_ok=True)
+        shutil.rmtree(self.kept, ignore_errors=True)
+        self.kept.mkdir()
+        for it in [*self.folder.glob("office.db*"), *self.folder.glob("rows.csv")]:
+            shutil.copy(it, self.kept)
+
+    def live(self, run, trouble):
+        """Makes a run, and tells what came of it."""
+        is_missing = self.is_missing()
+        came = run.come(self.program, str(self.path), trouble)
+        left, wrong = [], []
+        for held in self.held:
+            try:
+                left += run.after(held, came, is_missing)
+            except Off as it:
+                wrong.append(f"found {held.stage}: {it}")
+        if not left:
+            raise Off("\n  ".join(without_repeats(wrong)[:3]))
+        self.held = without_repeats(left)
+        self.is_whole = came.status == 0 and not came.refused
+        return came
+
+    def end(self):
+        """Holds the file against what it may hold, by Python's sqlite3."""
+        if self.held[0].stage == NOTHING:
+            return
+        with contextlib.closing(sqlite3.connect(self.path)) as db:
+            stored, check = tables.found(db), db.execute("PRAGMA integrity_check").fetchall()
+        wanted = [(version, tables.rows(it.office, version))
+                  for it in self.held for version in [1 if it.stage == OLD else 2]]
+        if stored not in wanted or check != [("ok",)]:
+            raise Off(f"sqlite3 finds {stored}, of which it says {check}\n  wanted {wanted}")
+
+
+def lived(path, library, seed, number, length):
+    """Makes some runs over a file. Gives how many came of which kind, and what was off."""
+    came = collections.Counter()
+    with tempfile.TemporaryDirectory() as folder:
+        life, run, trouble = None, "the first file", Trouble()
+        try:
+            life = Life(Program(path, library), pathlib.Path(folder), random.Random(f"{seed} {number}"))
+            for at in range(1, length + 1):
+                dice = random.Random(f"{seed} {number} {at}")
+                run, trouble = life.draw(dice)
+                if at == length:
+                    run, trouble = draw_look(dice, [it.office for it in life.held]), Trouble()
+                life.keep(dice)
+                one = life.live(run, trouble)
+                came.update({"runs": 1, "killed": one.is_killed, one.refused: 1})
+            life.end()
+        except Off as it:
+            kept = tempfile.mkdtemp(prefix="lives")
+            shutil.copytree(life.kept, kept, dirs_exist_ok=True)
+            came["off"] += 1
+            return came, (f"seed {seed}, file {number}, run {came['runs'] + 1}: {run}, {trouble}\n"
+                          f"  before it: {kept}\n  {it}")
+    return came, None
+
+
+def lengths(seed, count):
+    """How many runs each file has."""
+    dice = random.Random(f"lengths {seed}")
+    while count > 0:
+        length = min(count, dice.randint(5, 30))
+        yield length
+        count -= length
+
+
+def main():
+    """Makes the runs."""
+    program, words = found(sys.argv[1:2]), sys.argv[2:] or ["1", "1000"]
+    if len(words) not in (2, 3) or not all(it.isdigit() for it in words):
+        sys.exit(__doc__)
+    seed, count, *only = map(int, words)
+    lives = [(number, length) for number, length in enumerate(lengths(seed, count), 1)
+             if not only or number in only]
+    total = collections.Counter()
+    with tempfile.TemporaryDirectory() as folder:
+        library = built(pathlib.Path(folder), "disk", DISK)
+        with concurrent.futures.ProcessPoolExecutor(os.cpu_count()) as pool:
+            for made in concurrent.futures.as_completed(
+                    [pool.submit(lived, program, library, seed, *it) for it in lives]):
+                came, off = made.result()
+                total.update(came)
+                if off:
+                    print(off, flush=True)
+    print(f"{total['runs']} runs over {len(lives)} files: {total['off']} off ({total['killed']} "
+          f"killed, {total['full']} full, {total['failed']} failed)")
+    sys.exit(total["off"] > 0)
+
+
+if __name__ == "__main__":
+    main()

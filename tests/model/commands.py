@@ -1,0 +1,126 @@
+"""What commands of the program do to an office, and what they print of it (docs/REFERENCE.md).
+
+A command is a function of an office and of its values. It yields after each change that it makes,
+since a stop may leave those before it, and gives the status and the text that it prints."""
+from . import fields, rules
+from .fields import write_csv
+from .plan import read_change
+from .refusal import NAMES, Refused
+from .register import read_record
+from .wire import read_each
+
+BREAKS_A_RULE = 3
+NOT_COMMITTED = "not committed: the draft stays open; go on with edit, or drop it with abandon\n"
+
+
+def fault(refused):
+    """The line that a refusal is told by."""
+    if refused.number == 10:
+        return "fault: unknown intersection"
+    if refused.number == 30:
+        return f"fault: record {refused.more['record']}: {NAMES[refused.more['cause']]}"
+    if refused.number == 31:
+        field = f" {refused.more['field']}" if refused.more["field"] else ""
+        return f"fault: record {refused.more['record']}: {refused.more['fault']}{field}"
+    return f"fault: {NAMES[refused.number]}"
+
+
+def violation_lines(plan):
+    """What a plan breaks, a line each."""
+    lines = [f"{it['subject']} {it['rule']}\n" for it in rules.violations(plan)]
+    return "".join(lines) or "no violations\n"
+
+
+def add(office, id, interval, name):
+    """Adds an intersection."""
+    told = office.add(id, interval, name)["result"]
+    yield
+    return 0, f"{told}\n"
+
+
+def take(office, csv):
+    """Imports records."""
+    told = office.take(read_each(read_record, fields.read_csv(csv)))
+    yield
+    return 0, f"added {told['added']}, same {told['same']}\n"
+
+
+def edit(office, id, clerk, csv, commits):
+    """Changes the draft, in a transaction that it begins or in the clerk's own, and commits it
+    where that is asked and no rule is broken."""
+    changes = read_each(read_change, fields.read_csv(csv))
+    if office.find(id).state == "normal":
+        office.begin(id, clerk)
+        yield
+    office.edit(id, clerk, changes)
+    yield
+    text = violation_lines(office.find(id).draft)
+    if not commits:
+        return 0, text
+    if text != "no violations\n":
+        return BREAKS_A_RULE, text + NOT_COMMITTED
+    for name in ("verify", "check"):
+        office.step(name, id, clerk)
+        yield
+    office.commit(id, clerk)
+    yield
+    return 0, text + "committed\n"
+
+
+def abandon(office, id, clerk):
+    """Drops the draft; who does it is not looked at."""
+    office.abandon(id, clerk)
+    yield
+    return 0, "abandoned\n"
+
+
+def showing(text_of):
+    """A command that prints a text and changes nothing."""
+    def show(office, *values):
+        yield
+        return 0, text_of(office, *values)
+    return show
+
+
+@showing
+def listed(office, as_csv):
+    """All intersections by number."""
+    rows = [(id, it.revision, it.state, it.owner or "-", len(it.committed), it.name)
+            for id, it in sorted(office.intersections.items())]
+    if as_csv:
+        return write_csv(rows)
+    form = "{:>6}{:>8}  {:11}  {:12}{:>6}  {}\n"
+    lines = [form.format(*row) for row in [("No", "Rev", "State", "Owner", "Rows", "Name"), *rows]]
+    return "".join(lines) + f"Count {len(rows)}\n"
+
+
+@showing
+def stock(office, as_csv):
+    """What is on hand of each part that was ever delivered."""
+    rows = [(it["part"], it["count"]) for it in office.stock()["hand"]]
+    if as_csv:
+        return write_csv(rows)
+    lines = [f"{count:>10}  {part}\n" for part, count in [("Part", "Count"), *rows]]
+    return "".join(lines) + f"Count {len(rows)}\n"
+
+
+@showing
+def export(office, id, view):
+    """The committed plan, the draft or the cabinet as CSV."""
+    if view == "--draft":
+        return write_csv(office.draft(id)["rows"])
+    return (office.cabinet_csv if view == "--cabinet" else office.timing_csv)(id)["csv"]
+
+
+@showing
+def overdue(office, day):
+    """Who is overdue on a day."""
+    rows = office.overdue(day)["overdue"]
+    lines = [f"{it['id']:>4}  {it['due'] or 'never':10}  {it['name']}\n" for it in rows]
+    return f"Overdue on {day}\n{''.join(lines)}Count {len(rows)}\n"
+
+
+@showing
+def migrate(office, rows):
+    """A file is brought to today's version, in which so many rows were of another one."""
+    return f"migrated {rows} rows\n"
