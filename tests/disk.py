@@ -37,7 +37,7 @@ __attribute__((constructor)) static void begin(void) {
   if (told && sscanf(told, form, &last, &part, &failed, &failures, &kinds, &room) != 6) _exit(9);
 }
 
-/* Tells once that the disk refused something. */
+/* Tells what the disk refused first. */
 static void tell(const char *line, size_t length) {
   static int is_told;
   if (!is_told && write(2, line, length) < 0) _exit(9);
@@ -51,6 +51,7 @@ static void end(void) { kill(getpid(), SIGKILL); }
 static int fails(int kind) {
   if (!(kinds & kind) || failures == 0 || --failed > 0) return 0;
   failures--;
+  if (kind == SYNCS) tell("unsynced\n", 9);
   tell("failed\n", 7);
   errno = EIO;
   return 1;
@@ -136,6 +137,7 @@ int open64(const char *, int, ...) __attribute__((alias("open")));
 int openat64(int, const char *, int, ...) __attribute__((alias("openat")));
 """
 KINDS = {"writes": 1, "syncs": 2, "resizes": 4, "all": 7}
+REFUSALS = FULL, FAILED, UNSYNCED = "full", "failed", "unsynced"
 PATIENCE = 60  # seconds after which a run that has not ended is killed
 
 
@@ -172,18 +174,18 @@ def draw_trouble(dice):
     """What befalls a run: nothing, or the disk refuses, or the program is killed, or both."""
     disk = dice.choice(("", "", "", "full", "full", "failed"))
     stop = dice.choice(("", "", "time", "call", "call") if not disk else ("", "", "", "call"))
-    drawn = {}
+    drawn, most = {}, dice.choice((150, 150, 3_000))
     if disk == "full":
-        drawn["room"] = draw_skewed(dice, dice.choice((20_000, 200_000))) - 1
+        drawn["room"] = draw_skewed(dice, dice.choice((20_000, 200_000, 4_000_000))) - 1
     elif disk == "failed":
         failures = dice.choice((1, 1, 2, -1))
         kinds = KINDS[dice.choice(("all", "all", *KINDS))]
-        drawn |= {"failed": draw_skewed(dice, 150), "failures": failures, "kinds": kinds}
+        drawn |= {"failed": draw_skewed(dice, most), "failures": failures, "kinds": kinds}
     if stop == "time":
         drawn["time"] = 1.2 * dice.random()
     elif stop == "call":
         part = dice.choice((0, dice.randrange(1000), 1000))
-        drawn |= {"last": draw_skewed(dice, 150), "part": part}
+        drawn |= {"last": draw_skewed(dice, most), "part": part}
     return Trouble(**drawn)
 
 
@@ -221,7 +223,7 @@ class Run:
         if took > PATIENCE / 2:
             raise Off("it did not end")
         lines = err.decode(errors="replace").splitlines()
-        refused = [it for it in lines if it in ("full", "failed")]
+        refused = [it for it in lines if it in REFUSALS]
         told = "\n".join(it for it in lines if it not in refused)
         return Came(self.process.returncode, out, told, "".join(refused)), took
 
@@ -267,8 +269,16 @@ def exchanged(port, sent):
     came = b""
     with contextlib.suppress(OSError):
         with socket.create_connection(("127.0.0.1", port), timeout=PATIENCE / 2) as wire:
-            wire.sendall(sent)
-            wire.shutdown(socket.SHUT_WR)
+            sender = threading.Thread(target=send, args=(wire, sent))
+            sender.start()
             while part := wire.recv(65_536):
                 came += part
+            sender.join()
     return came
+
+
+def send(wire, sent):
+    """Sends these bytes over a connection, and that there are no more."""
+    with contextlib.suppress(OSError):
+        wire.sendall(sent)
+        wire.shutdown(socket.SHUT_WR)

@@ -13,7 +13,8 @@ file holds at the end is also read by Python's sqlite3.
 
 Prints how many runs were off, and ends with status 1 where one was: it tells the seed, the file and
 the run, and where a copy of the file as it was before that run is kept. FILE is the number of the
-only file to be tried. Needs a C compiler, `cc`. Takes some minutes.
+only file to be tried, so that it is seen again; a kill at some moment may come at another one then.
+Needs a C compiler, `cc`. Takes half a minute, and little more for each further 1,000 runs.
 """
 import collections
 import concurrent.futures
@@ -28,12 +29,14 @@ import sqlite3
 import sys
 import tempfile
 
-from disk import DISK, Off, Program, Trouble, draw_trouble
+from disk import DISK, FAILED, FULL, UNSYNCED, Off, Program, Trouble, draw_trouble
 from drawn import spelled
 from model import commands, heads, requests, tables
 from model.office import Intersection, Office
 from model.plan import apply, read_change
 from model.planning import BASE, CHANGES, draw_changes, draw_plan
+from model.refusal import Refused
+from model.register import read_record
 from model.rules import violations
 from model.wire import answer, answer_bytes
 from preloaded import built
@@ -41,6 +44,7 @@ from program import found
 from runs import NOTHING, OLD, TODAY, Ask, Command, Held, Stream, without_repeats
 
 THEMES = (requests.mixed, requests.transactions, requests.plans, requests.registers)
+COUNTS = (1, 3, *[10] * 3, *[20] * 4, *[40] * 6, 1_500)  # in the longest the log is copied
 SHOWN = ("", "/timing", "/draft", "/cabinet")
 COMMANDS = ("add", "import", "import", "edit", "edit", "edit", "abandon", "list", "stock", "export",
             "overdue", "migrate")
@@ -75,13 +79,12 @@ def draw_ending(dice):
 
 def draw_stream(dice, office):
     """Requests to `batch` or to `serve`."""
-    theme, count = dice.choice(THEMES), dice.choice((1, 3, 10, 20, 40))
+    theme, count = dice.choice(THEMES), dice.choice(COUNTS)
+    asks = list(draw_asks(dice, office, theme, count))
     if dice.random() < 0.2:
-        asks = list(draw_asks(dice, office, theme, count))
         cuts = sorted(dice.randint(0, count) for _ in range(dice.randint(0, 2)))
         parts = [asks[a:b] for a, b in itertools.pairwise([0, *cuts, count])]
-        return Stream(parts, True)
-    asks = list(draw_asks(dice, office, theme, count))
+        return Stream(parts, is_served=True)
     return Stream([asks + [draw_ending(dice)] * (dice.random() < 0.3)])
 
 
@@ -98,20 +101,30 @@ def draw_edit(dice, office, id, path):
     if dice.random() < 0.1:
         rows = [*rows, requests.spoil_row(dice, dice.choice(rows))]
     there = office.intersections.get(id)
-    clerk, csv = there and there.owner or dice.choice(requests.CLERKS), requests.spell_csv(dice, rows)
+    clerk = there and there.owner or dice.choice(requests.CLERKS)
+    csv, commits = requests.spell_csv(dice, rows), dice.random() < 0.7
     path.write_bytes(csv.encode())
-    commits = dice.random() < 0.7
     words = ["--clerk", clerk, *["--commit"] * commits, str(id), str(path)]
     return Command("edit", words, functools.partial(
         commands.edit, id=id, clerk=clerk, csv=csv, commits=commits))
 
 
+def takes(office, row):
+    """Whether an office takes a record, and has it then."""
+    try:
+        office.take([read_record(row)])
+    except Refused:
+        return False
+    return True
+
+
 def draw_import(dice, office, path):
-    """Records are imported from a file."""
-    orders, count = sorted(office.register.orders), dice.choice((1, 3, 10))
-    rows = [requests.draw_record(dice, orders, 9) for _ in range(count)]
+    """Records are imported from a file, mostly ones that are taken."""
+    orders, count, more = sorted(office.register.orders), dice.choice((5, 20)), office.copy()
+    drawn = [requests.draw_record(dice, orders, 9) for _ in range(count)]
+    rows = [row for row in drawn if takes(more, row) or dice.random() < 0.02]
     if dice.random() < 0.1:
-        rows.append(requests.spoil_row(dice, rows[0]))
+        rows.append(requests.spoil_row(dice, drawn[0]))
     csv = requests.spell_csv(dice, rows)
     path.write_bytes(csv.encode())
     return Command("import", [str(path)], functools.partial(commands.take, csv=csv))
@@ -151,7 +164,7 @@ def draw_old(dice):
     """An office of version 1: a register, plans that break no rule, and drafts."""
     office = Office()
     collections.deque(draw_asks(dice, office, requests.registers, 40), maxlen=0)
-    for id in (*sorted(office.intersections), 101, 102):
+    for id in (*sorted(office.intersections), *range(101, dice.choice((103, 103, 140)))):
         it = office.intersections.setdefault(id, Intersection("Old St", 365))
         rows = draw_plan(dice, 16)
         plan = old_plan({}, rows)
@@ -238,11 +251,10 @@ class Life:
 
 def lived(path, library, seed, number, length):
     """Makes some runs over a file. Gives how many came of which kind, and what was off."""
-    came = collections.Counter()
+    came, begun = collections.Counter(), random.Random(f"{seed} {number}")
     with tempfile.TemporaryDirectory() as folder:
-        life, run, trouble = None, "the first file", Trouble()
+        life = Life(Program(path, library), pathlib.Path(folder), begun)
         try:
-            life = Life(Program(path, library), pathlib.Path(folder), random.Random(f"{seed} {number}"))
             for at in range(1, length + 1):
                 dice = random.Random(f"{seed} {number} {at}")
                 run, trouble = life.draw(dice)
@@ -289,7 +301,7 @@ def main():
                 if off:
                     print(off, flush=True)
     print(f"{total['runs']} runs over {len(lives)} files: {total['off']} off ({total['killed']} "
-          f"killed, {total['full']} full, {total['failed']} failed)")
+          f"killed, {total[FULL]} full, {total[FAILED] + total[UNSYNCED]} failed)")
     sys.exit(total["off"] > 0)
 
 

@@ -14,5 +14,6 @@ def built(folder, name, source):
     try:
         subprocess.run(words, check=True)
     except (OSError, subprocess.CalledProcessError) as it:
-        sys.exit(f"{os.path.basename(sys.argv[0])}: cc did not build {name}.c, which it needs: {it}")
+        script = os.path.basename(sys.argv[0])
+        sys.exit(f"{script}: the C compiler cc did not build {name}.c, which this needs: {it}")
     return library

@@ -5,7 +5,7 @@ import functools
 import json
 import typing
 
-from disk import Off
+from disk import FULL, UNSYNCED, Off
 from model import commands, tables
 from model.office import Office
 from model.refusal import Refused
@@ -49,18 +49,30 @@ def looks_at_tables(answer):
     return "error" not in tree or tree["number"] not in NO_TABLES
 
 
+def may_be_unavailable(ask, came):
+    """Whether a request may be answered so: where the disk refused something, and for one that only
+    shows something where it refused more than room."""
+    return came.refused and (ask.changes or came.refused != FULL)
+
+
+def shuts(ask, came):
+    """Whether a request that was answered Unavailable tells that the file is shut, so that each
+    later one that looks at its tables is answered so: one that only shows something, or any one
+    after a sync failed."""
+    return not ask.changes or came.refused == UNSYNCED
+
+
 def offices_after(office, asks, came):
     """The offices that may be there after a run over an office: the one after the last request that
     changed it and was answered otherwise than by Unavailable, and with each later one that was
     answered so. Of a run that was killed, the first request that was not answered may be done too.
-    Where one that only shows something was answered Unavailable, the disk has shut the file: all
-    later ones that look at its tables are answered so."""
+    """
     out, others, is_shut = came.out, [], False
     for number, ask in enumerate(asks, 1):
         after = office.copy() if ask.changes else office
         wanted = ask.told(after)
-        if came.refused and out.startswith(UNAVAILABLE):
-            out, is_shut = out[len(UNAVAILABLE):], is_shut or not ask.changes
+        if out.startswith(UNAVAILABLE) and may_be_unavailable(ask, came):
+            out, is_shut = out[len(UNAVAILABLE):], is_shut or shuts(ask, came)
             others.append(after)
         elif out.startswith(wanted) and not (is_shut and wanted and looks_at_tables(wanted)):
             out = out[len(wanted):]
@@ -69,7 +81,8 @@ def offices_after(office, asks, came):
         elif came.is_killed and (wanted.startswith(out) or UNAVAILABLE.startswith(out)):
             return without_repeats([office, *others, after])
         else:
-            raise Off(f"request {number}: {ask.sent!r}\n  wanted {wanted!r}\n  came {out[:999]!r}")
+            asked = f"request {number}: {ask.sent!r}"
+            raise Off(f"{asked}\n  wanted {wanted!r}\n  came {out[:999]!r}")
     if out:
         raise Off(f"more came: {out[:999]!r}")
     return without_repeats([office, *others])

@@ -46,11 +46,13 @@ def changed(it):
 def rows(office, version=TODAY):
     """The rows of each table in the order of their keys."""
     offices, register = sorted(office.intersections.items()), office.register
+    committed = [(id, *row) for id, it in offices for row in sorted(it.committed.items())]
+    drafted = [(id, *row) for id, it in offices for row in changed(it)]
     return dict(zip(TABLES, (
         [(id, it.name, it.interval, it.revision, STATES.index(it.state), it.owner)
          for id, it in offices],
-        [timing_row(id, *row, version) for id, it in offices for row in sorted(it.committed.items())],
-        [timing_row(id, *row, version) for id, it in offices for row in changed(it)],
+        [timing_row(*it, version) for it in committed],
+        [timing_row(*it, version) for it in drafted],
         [(*key, day(it.day), *it[1:]) for key, it in sorted(register.inspections.items())],
         [(*key, day(it.opened), it.clerk, it.text, day(it.closed), it.closer)
          for key, it in sorted(register.orders.items())],
