@@ -59,8 +59,9 @@ pub trait OfficeTask<Done> {
         out: &mut W,
     ) -> (Office<S>, Result<Done, Fault>)
         ensures honest { S.is_honest result.0 → S.is_honest office }
-        ensures does { S.is_honest result.0 → does self.now (S.content office) result.1
-            (S.content result.0) (W.told out.old) (W.told out.new) };
+        ensures does { S.is_clean result.0 → S.is_honest result.0 →
+            does self.now (S.content office) result.1 (S.content result.0)
+            (W.told out.old) (W.told out.new) };
 }
 
 /// How the office of a file is opened, used and closed again. The jobs know no database.

@@ -1,3 +1,4 @@
+pub mod Done
 pub mod Memory
 pub mod Serving
 pub mod Tasks

@@ -1,7 +1,38 @@
--- What a task over the tables of a file may do to a file that is not there.
-use Rattle.std.specs.Prelude.{Bool, true, false}
+-- What a task does over the tables of a file, and what it may do to a file that is not there.
+use Rattle.std.specs.Prelude.{◌≡◌, ◌≢◌, ℕ, List, [], ◌∷◌, ◌++◌, codes, decimal, Bool, true, false, Option, Result, Ok, Err, IfOk, ⊤}
+use Rattle.office_desk.specs.StandFor.{StandForSound}
+use Rattle.office_http.specs.Laws.{KeepsLaws}
+use Rattle.office_http.specs.Listening.{Connected, connection_limit}
+use Rattle.office_http.specs.Protocol.{office_protocol}
+use Rattle.office_http.specs.declared.listening.ListenCounts.{ListenCounts}
+use Rattle.office_http_framing.specs.Ends.{Told}
+use Rattle.office_http_framing.specs.Serve.{Did}
+use Rattle.office_http_framing.specs.declared.engine.Served.{Served}
+use Rattle.office_http_framing.specs.declared.engine.ServeFault.{ServeFault}
+use Rattle.office_machine.specs.Office.{Office}
+use Rattle.office_tables_shelf.specs.Content.{Content}
+use Rattle.signal_compare.specs.declared.difference.Difference.{Difference}
+use Rattle.signal_office_commands.specs.Commands.{Adds, Abandons}
+use Rattle.signal_office_commands.specs.Comparing.{ComparesDraft, ComparesNoDraft}
+use Rattle.signal_office_commands.specs.Importing.{Imports}
+use Rattle.signal_office_commands.specs.Editing.{EditsAs}
+use Rattle.signal_office_commands.specs.Explaining.{ExplainsDraft}
+use Rattle.signal_office_commands.specs.Showing.{ShowsDraft}
+use Rattle.signal_rules.specs.declared.violation.Violation.{Violation}
+use Rattle.signal_reasons.specs.Texts.{explained_text_of}
+use Rattle.signal_reasons.specs.declared.reason.Explained.{Explained}
+use Rattle.office_files.specs.Violations.{violations_text}
+use Rattle.signal_office_commands.specs.declared.adding.Entered.{Entered}
+use Rattle.signal_office_commands.specs.declared.adding.Entered.TheVariants as entered
+use Rattle.signal_office_commands.specs.declared.importing.Imported.{Imported}
+use Rattle.signal_office_commands.specs.declared.editing.Edited.{Edited}
+use Rattle.signal_office_faults.specs.declared.fault.Fault.{Fault}
+use Rattle.signal_office_faults.specs.declared.fault.Fault.TheVariants as fault
+use Rattle.signal_office_jobs.specs.Done.{TellsAs, commit_line, compared_status, compared_text, edited_status, status_of, text_of}
+use Rattle.signal_office_jobs.specs.Serving.{ServesPort}
+use Rattle.signal_office_jobs.specs.declared.done.Done.{Done}
 use Rattle.signal_office_jobs.specs.declared.task.Task.{Task}
-use Rattle.signal_office_jobs.specs.declared.task.Task.TheVariants.{Serve, Add, Import}
+use Rattle.signal_office_jobs.specs.declared.task.Task.TheVariants.{Serve, Show, Add, Import, Edit, Abandon, Compare}
 
 -- a server, an intersection that is added and an import begin a new office where there is none;
 -- whatever asks, or changes a plan, does not
@@ -10,3 +41,82 @@ makes_file (Serve port count) = true
 makes_file (Add id interval name) = true
 makes_file (Import csv) = true
 makes_file _ = false
+
+-- The result tells of what was done: its fault; or, where it was done, this text and status, or that memory for the text was refused.
+abbrev pub Tells : {A : Type 0} → (text : A → List ℕ) → (status : A → ℕ) → Result A Fault → Result Done Fault → Type 0
+Tells text status (Ok done) result = TellsAs (text done) (status done) result
+Tells text status (Err why) result = result ≡ Err why
+
+-- The connections were served one after the other, each from the office that the one before it left: the answers to its requests keep the laws of the office.
+abbrev pub InTurn : Office → List Connected → Office → Type 0
+InTurn before [] after = after ≡ before
+InTurn before (connection ∷ connections) after =
+    (middle : Office) × (outcome : Result Served ServeFault)
+    × Did office_protocol (λ requests answers. KeepsLaws before requests answers middle) connection_limit connection.start connection.end outcome
+    × InTurn middle connections after
+
+-- The port was served, and the result tells how that ended. From whichever office the tables stood for, its connections were served in turn, and the tables
+-- stand for the office after them.
+pub record ServesAs (port count : ℕ) (old : Content) (result : Result Done Fault) (new : Content) (start end : Told) : Type 0 where
+  pub counts : Option ListenCounts
+  pub outcome : Result ⊤ Fault
+  pub tells : Tells (λ _. []) (λ _. 0) outcome result
+  pub ended : (served : List Connected) × ServesPort port count start end counts served outcome
+  pub served : (before : Office) → StandForSound old before → (connections : List Connected) × ServesPort port count start end counts connections outcome
+      × (after : Office) × InTurn before connections after × StandForSound new after
+
+-- the line that tells whether an intersection was new
+abbrev pub entered_line : Entered → List ℕ
+entered_line entered.Added = codes "added\n"
+entered_line entered.Same = codes "same\n"
+
+-- the line that tells how many records of an import were new, and how many were there
+abbrev pub imported_line : Imported → List ℕ
+imported_line imported = codes "added " ++ decimal imported.added ++ codes ", same " ++ decimal imported.same ++ codes "\n"
+
+-- one command was done, and the result tells what came of it
+abbrev pub AddsAs : (id interval : ℕ) → (name : List ℕ) → Content → Result Done Fault → Content → Type 0
+AddsAs id interval name old result new = (entered : Result Entered Fault) × Adds id interval name old new entered × Tells entered_line (λ _. 0) entered result
+
+abbrev pub ImportsAs : (csv : List ℕ) → Content → Result Done Fault → Content → Type 0
+ImportsAs csv old result new = (imported : Result Imported Fault) × Imports csv old new imported × Tells imported_line (λ _. 0) imported result
+
+-- The rules that an edited draft breaks, as they are told: where that is asked and the draft stays open, those of the draft that the tables hold, each with
+-- its reason.
+abbrev pub IsBroken : (explain committed : Bool) → (id : ℕ) → Content → List Violation → (text : List ℕ) → Type 0
+IsBroken true false id tables violations text = (found : List Explained) × ExplainsDraft tables id found × (text ≡ explained_text_of found)
+IsBroken true true id tables violations text = text ≡ violations_text violations
+IsBroken false committed id tables violations text = text ≡ violations_text violations
+
+-- The edit is told: its fault; or what the draft breaks, and whether it was committed. A fault after the edit is why a draft with reasons is not shown, or
+-- that memory was refused.
+abbrev pub TellsEdit : (commit explain : Bool) → (id : ℕ) → Content → Result Edited Fault → Result Done Fault → Type 0
+TellsEdit commit explain id tables (Ok edited) (Ok done) =
+    (broken : List ℕ) × IsBroken explain edited.committed id tables edited.violations broken
+    × (text_of done ≡ broken ++ commit_line commit edited.committed) × (status_of done ≡ edited_status commit edited.violations)
+TellsEdit commit explain id tables (Ok edited) (Err why) =
+    why ≢ fault.Memory → (explain ≡ true) × (edited.committed ≡ false) × ShowsDraft tables id (Err why)
+TellsEdit commit explain id tables (Err why) result = result ≡ Err why
+
+abbrev pub EditsBy : (csv : List ℕ) → (id : ℕ) → (clerk : List ℕ) → (commit explain : Bool) → Content → Result Done Fault → Content → Type 0
+EditsBy csv id clerk commit explain old result new =
+    (edited : Result Edited Fault) × EditsAs csv id clerk commit old new edited × TellsEdit commit explain id new edited result
+
+abbrev pub AbandonsAs : (id : ℕ) → (clerk : List ℕ) → Content → Result Done Fault → Content → Type 0
+AbandonsAs id clerk old result new = (moved : Result ⊤ Fault) × Abandons id clerk old new moved × Tells (λ _. codes "abandoned\n") (λ _. 0) moved result
+
+-- what the draft differs in is told, and the status whether it does; a fault is what its query is refused with, or that memory was refused
+abbrev pub ComparesAs : ℕ → Bool → Content → Result Done Fault → Type 0
+ComparesAs id csv old (Ok done) = (found : List Difference) × ComparesDraft old id found
+    × (text_of done ≡ compared_text csv found) × (status_of done ≡ compared_status found)
+ComparesAs id csv old (Err why) = why ≢ fault.Memory → ComparesNoDraft old id why
+
+-- What a task makes of the tables, what it gives, and what its output took. A task that only shows leaves both as they were.
+abbrev pub TaskDoes : Task → Content → Result Done Fault → Content → Told → Told → Type 0
+TaskDoes (Serve port count) old result new start end = ServesAs port count old result new start end
+TaskDoes (Show shown) old result new start end = (new ≡ old) × (end ≡ start) × IfOk result (λ done. status_of done ≡ 0)
+TaskDoes (Add id interval name) old result new start end = AddsAs id interval name.now old result new × (end ≡ start)
+TaskDoes (Import csv) old result new start end = ImportsAs csv.now old result new × (end ≡ start)
+TaskDoes (Edit id clerk csv commit explain) old result new start end = EditsBy csv.now id clerk.now commit explain old result new × (end ≡ start)
+TaskDoes (Abandon id clerk) old result new start end = AbandonsAs id clerk.now old result new × (end ≡ start)
+TaskDoes (Compare id csv) old result new start end = (new ≡ old) × (end ≡ start) × ComparesAs id csv old result

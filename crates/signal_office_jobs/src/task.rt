@@ -1,9 +1,17 @@
 //! What is done over the office of a file.
 
+ghost use Rattle.std.specs.Prelude.{◌≡◌, ◌≢◌, true, false, Err, IfErr, IfOk};
+ghost use Rattle.office_tables_shelf.specs.Keeps.{KeepsShelf};
+ghost use Rattle.signal_office_jobs.specs.Done.{status_of};
+ghost use Rattle.signal_office_jobs.specs.Tasks.{AbandonsAs, AddsAs, ComparesAs, EditsBy};
+ghost use Rattle.signal_office_jobs.specs.Tasks.{ImportsAs, IsBroken, ServesAs, TaskDoes};
+ghost use Rattle.signal_office_commands.specs.Showing.{ShowsDraft};
+
 use crate::done::Done;
 use crate::serving::serve_port;
 use cabinet_core::Day;
 use office_desk::office::Office;
+use office_files::violation_text;
 use office_http::Sink;
 use office_tables_shelf::shelf::Shelf;
 use signal_office_commands::{
@@ -13,6 +21,7 @@ use signal_office_commands::{
 };
 use signal_office_in_file::OfficeTask;
 use signal_office_line::View;
+use signal_reasons::explained_text;
 use signal_records::{InterId, Interval, PatternNo, Words};
 use std::alloc::Global;
 
@@ -102,7 +111,9 @@ fn export<S: Shelf>(
     office: &mut Office<S>,
     id: InterId,
     view: View,
-) -> Result<Vec<u8>, Fault> {
+) -> Result<Vec<u8>, Fault>
+    ensures { KeepsShelf S.Shelf office.old office.new }
+{
     match view {
         View::Timing => timing_csv_of(alloc, office, id),
         View::Draft => draft_csv_of(alloc, office, id),
@@ -111,11 +122,9 @@ fn export<S: Shelf>(
 }
 
 /// What is printed of an office.
-fn shown_of<S: Shelf>(
-    alloc: Global,
-    office: &mut Office<S>,
-    shown: Shown,
-) -> Result<Vec<u8>, Fault> {
+fn shown_of<S: Shelf>(alloc: Global, office: &mut Office<S>, shown: Shown) -> Result<Vec<u8>, Fault>
+    ensures { KeepsShelf S.Shelf office.old office.new }
+{
     match shown {
         Shown::Sheet { id } => sheet_of(alloc, office, id),
         Shown::Overdue { day, most } => overdue_of(alloc, office, day, most),
@@ -129,6 +138,59 @@ fn shown_of<S: Shelf>(
     }
 }
 
+/// Serves so many connections on a port.
+fn serve<S: Shelf, W: Sink>(
+    rt: &HostRuntime,
+    alloc: Global,
+    office: &mut Office<S>,
+    port: u16,
+    count: u32,
+    out: &mut W,
+) -> Result<Done, Fault>
+    ensures honest { S.is_honest office.new → S.is_honest office.old }
+    ensures does { S.is_clean office.new → S.is_honest office.new →
+        ServesAs port count (S.content office.old) result (S.content office.new)
+        (W.told out.old) (W.told out.new) }
+{
+    let (_, served) = serve_port(rt, alloc, office, port, count, out);
+    served?;
+    Ok(Done::with(Vec::new(alloc)))
+}
+
+/// Gives what is shown of the office.
+fn show<S: Shelf>(alloc: Global, office: &mut Office<S>, shown: Shown) -> Result<Done, Fault>
+    ensures kept { KeepsShelf S.Shelf office.old office.new }
+    ensures status { IfOk result (λ done. status_of done ≡ 0) }
+{
+    Ok(Done::with(shown_of(alloc, office, shown)?))
+}
+
+/// Adds an intersection, and tells whether it was new.
+fn add<S: Shelf>(
+    alloc: Global,
+    office: &mut Office<S>,
+    id: InterId,
+    interval: Interval,
+    name: &Words<120>,
+) -> Result<Done, Fault>
+    ensures honest { S.is_honest office.new → S.is_honest office.old }
+    ensures does { S.is_honest office.new →
+        AddsAs id interval name.now (S.content office.old) result (S.content office.new) }
+{
+    let entered = add_intersection(alloc, office, id, interval, name)?;
+    Done::adding(alloc, entered)
+}
+
+/// Imports the records of a CSV file, and tells how many were new.
+fn import<S: Shelf>(alloc: Global, office: &mut Office<S>, csv: &[u8]) -> Result<Done, Fault>
+    ensures honest { S.is_honest office.new → S.is_honest office.old }
+    ensures does { S.is_honest office.new →
+        ImportsAs csv.now (S.content office.old) result (S.content office.new) }
+{
+    let imported = import_csv(alloc, office, csv)?;
+    Done::importing(alloc, imported)
+}
+
 /// The rules that an edited draft breaks, with their reasons where that is asked. One that is
 /// committed breaks none.
 fn broken_by<S: Shelf>(
@@ -137,12 +199,67 @@ fn broken_by<S: Shelf>(
     id: InterId,
     edited: &Edited,
     explain: bool,
-) -> Result<Done, Fault> {
+) -> Result<Vec<u8>, Fault>
+    ensures kept { KeepsShelf S.Shelf office.old office.new }
+    ensures told { IfOk result (λ text. S.is_honest office.new → IsBroken explain
+        edited.now.committed id (S.content office.old) edited.now.violations text.items) }
+    ensures fault { IfErr result (λ why. why ≢ Fault.Memory → S.is_honest office.new →
+        (explain ≡ true) × (edited.now.committed ≡ false)
+        × ShowsDraft (S.content office.old) id (Err why)) }
+{
     if explain && !edited.committed {
-        Done::explaining(alloc, &draft_reasons(alloc, office, id)?)
+        Ok(explained_text(alloc, &draft_reasons(alloc, office, id)?)?)
     } else {
-        Done::checking(alloc, edited.violations.as_slice())
+        Ok(violation_text(alloc, edited.violations.as_slice())?)
     }
+}
+
+/// Edits a draft by a plan's CSV file, and tells whether it was committed.
+fn edit<S: Shelf>(
+    alloc: Global,
+    office: &mut Office<S>,
+    id: InterId,
+    clerk: &Words<40>,
+    csv: &[u8],
+    commit: bool,
+    explain: bool,
+) -> Result<Done, Fault>
+    ensures honest { S.is_honest office.new → S.is_honest office.old }
+    ensures does { S.is_honest office.new → EditsBy csv.now id clerk.now commit explain
+        (S.content office.old) result (S.content office.new) }
+{
+    let edited = edit_plan(alloc, office, id, clerk, csv, commit)?;
+    let broken = broken_by(alloc, office, id, &edited, explain)?;
+    Done::editing(broken, &edited, commit)
+}
+
+/// Drops the draft of an intersection, and tells that.
+fn abandon<S: Shelf>(
+    alloc: Global,
+    office: &mut Office<S>,
+    id: InterId,
+    clerk: &Words<40>,
+) -> Result<Done, Fault>
+    ensures honest { S.is_honest office.new → S.is_honest office.old }
+    ensures does { S.is_honest office.new →
+        AbandonsAs id clerk.now (S.content office.old) result (S.content office.new) }
+{
+    abandon_draft(alloc, office, id, clerk)?;
+    Done::telling(alloc, b"abandoned\n")
+}
+
+/// Tells what a draft changes.
+fn compare<S: Shelf>(
+    alloc: Global,
+    office: &mut Office<S>,
+    id: InterId,
+    csv: bool,
+) -> Result<Done, Fault>
+    ensures kept { KeepsShelf S.Shelf office.old office.new }
+    ensures does { S.is_honest office.new → ComparesAs id csv (S.content office.old) result }
+{
+    let differences = draft_differences(alloc, office, id)?;
+    Done::comparing(alloc, &differences, csv)
 }
 
 /// Does a task, and gives what is to be printed once the file is closed, with the status.
@@ -152,40 +269,34 @@ fn done_by<S: Shelf, W: Sink>(
     office: &mut Office<S>,
     task: &Task<'_>,
     out: &mut W,
-) -> Result<Done, Fault> {
+) -> Result<Done, Fault>
+    ensures honest { S.is_honest office.new → S.is_honest office.old }
+    ensures does { S.is_clean office.new → S.is_honest office.new →
+        TaskDoes task.now (S.content office.old) result (S.content office.new)
+        (W.told out.old) (W.told out.new) }
+{
     match *task {
-        Task::Serve { port, count } => {
-            let (_, served) = serve_port(rt, alloc, office, port, count, out);
-            served?;
-            Ok(Done::with(Vec::new(alloc)))
-        }
-        Task::Show(shown) => Ok(Done::with(shown_of(alloc, office, shown)?)),
-        Task::Add { id, interval, name } => {
-            Done::adding(alloc, add_intersection(alloc, office, id, interval, name)?)
-        }
-        Task::Import { csv } => Done::importing(alloc, import_csv(alloc, office, csv)?),
+        Task::Serve { port, count } => serve(rt, alloc, office, port, count, out),
+        Task::Show(shown) => show(alloc, office, shown),
+        Task::Add { id, interval, name } => add(alloc, office, id, interval, name),
+        Task::Import { csv } => import(alloc, office, csv),
         Task::Edit {
             id,
             clerk,
             csv,
             commit,
             explain,
-        } => {
-            let edited = edit_plan(alloc, office, id, clerk, csv, commit)?;
-            let told = broken_by(alloc, office, id, &edited, explain)?;
-            Done::editing(told, edited.committed, commit)
-        }
-        Task::Abandon { id, clerk } => {
-            abandon_draft(alloc, office, id, clerk)?;
-            Done::telling(alloc, b"abandoned\n")
-        }
-        Task::Compare { id, csv } => {
-            Done::comparing(alloc, &draft_differences(alloc, office, id)?, csv)
-        }
+        } => edit(alloc, office, id, clerk, csv, commit, explain),
+        Task::Abandon { id, clerk } => abandon(alloc, office, id, clerk),
+        Task::Compare { id, csv } => compare(alloc, office, id, csv),
     }
 }
 
 impl OfficeTask<Done> for Task<'_> {
+    ghost use Rattle.signal_office_jobs.specs.Tasks.{TaskDoes};
+
+    ghost does = { λ task old result new start end. TaskDoes task old result new start end };
+
     fn done_with<S: Shelf, W: Sink>(
         &self,
         rt: &HostRuntime,

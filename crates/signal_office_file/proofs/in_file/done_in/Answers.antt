@@ -9,4 +9,4 @@ returns-in-Ok-close_office g c clean =
     let task = c.done_with-office.ensures in
     let honest : IsHonest (file_state c.done_with-office.result.0.conn) = ((closed.copied clean).was_clean, (closed.copied clean).was_open) in
     let opened = c.in-Ok.ensures.opened (task.honest honest).0 in
-    (content_now (file_state c.in-Ok.office.conn), content_now (file_state c.done_with-office.result.0.conn), opened.held, task.does honest, closed.kept clean)
+    (content_now (file_state c.in-Ok.office.conn), content_now (file_state c.done_with-office.result.0.conn), opened.held, task.does (closed.copied clean).was_clean honest, closed.kept clean)

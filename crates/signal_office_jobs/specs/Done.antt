@@ -1,0 +1,51 @@
+-- What a command prints, and the status with which it ends.
+use Rattle.std.specs.Prelude.{◌≡◌, ◌==◌, ℕ, Bool, true, false, if◌then◌else◌, length, List, [], ◌++◌, codes, Result, Ok, Err}
+use Rattle.signal_compare.specs.declared.difference.Difference.{Difference}
+use Rattle.signal_compare.specs.Difference.{changes_of}
+use Rattle.signal_compare.specs.Text.{comparison_text}
+use Rattle.office_files.specs.Timing.{changes_csv_text}
+use Rattle.signal_reasons.specs.declared.reason.Explained.{Explained}
+use Rattle.signal_rules.specs.declared.violation.Violation.{Violation}
+use Rattle.signal_office_faults.specs.declared.fault.Fault.{Fault}
+use Rattle.signal_office_faults.specs.declared.fault.Fault.TheVariants as fault
+use Rattle.signal_office_jobs.specs.declared.done.Done.{Done}
+
+-- the status with which the command ends
+abbrev pub status_of : Done → ℕ
+status_of done = done.status
+
+-- what the command prints on standard output
+abbrev pub text_of : Done → List ℕ
+text_of done = done.text.items
+
+-- this text is told, with this status, or memory for it was refused
+abbrev pub TellsAs : (text : List ℕ) → (status : ℕ) → Result Done Fault → Type 0
+TellsAs text status (Ok done) = (text_of done ≡ text) × (status_of done ≡ status)
+TellsAs text status (Err why) = why ≡ fault.Memory
+
+-- the status of a plan that was checked: 3 where it breaks a rule
+abbrev pub checked_status : List Violation → ℕ
+checked_status violations = if length violations == 0 then 0 else 3
+
+-- the same of a plan whose reasons are told
+abbrev pub explained_status : List Explained → ℕ
+explained_status found = if length found == 0 then 0 else 3
+
+-- the status of an edited draft: 3 where it was to be committed, and breaks a rule
+abbrev pub edited_status : Bool → List Violation → ℕ
+edited_status commit violations = if commit then checked_status violations else 0
+
+-- the status of a comparison: 4 where the plans differ
+abbrev pub compared_status : List Difference → ℕ
+compared_status differences = if length differences == 0 then 0 else 4
+
+-- whether an edited draft was committed; one that was to be, and was not, is told
+abbrev pub commit_line : (commit committed : Bool) → List ℕ
+commit_line commit true = codes "committed\n"
+commit_line true false = codes "not committed: the draft stays open; go on with edit, or drop it with abandon\n"
+commit_line false false = []
+
+-- what plans differ in, as a text or as CSV
+abbrev pub compared_text : (csv : Bool) → List Difference → List ℕ
+compared_text true differences = changes_csv_text (changes_of differences)
+compared_text false differences = comparison_text differences
