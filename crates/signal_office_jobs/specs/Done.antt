@@ -1,5 +1,5 @@
 -- What a command prints, and the status with which it ends.
-use Rattle.std.specs.Prelude.{◌≡◌, ◌==◌, ℕ, Bool, true, false, if◌then◌else◌, length, List, [], ◌++◌, codes, Result, Ok, Err}
+use Rattle.std.specs.Prelude.{◌≡◌, ◌==◌, ℕ, Bool, true, false, if◌then◌else◌, length, List, [], codes, Result, Ok, Err}
 use Rattle.signal_compare.specs.declared.difference.Difference.{Difference}
 use Rattle.signal_compare.specs.Difference.{changes_of}
 use Rattle.signal_compare.specs.Text.{comparison_text}
