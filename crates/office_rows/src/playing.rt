@@ -9,7 +9,7 @@ use office_row_files::wording::program_words;
 use office_row_tables::other_hand::alter_file;
 use signal_office_commands::report;
 use signal_office_faults::Fault;
-use signal_office_file::{TablesInFile, Wary};
+use signal_office_file::TablesInFile;
 use signal_office_jobs::run_words;
 use std::alloc::Global;
 use std::net::{Ipv4Addr, SocketAddr, TcpListener};
@@ -28,7 +28,7 @@ fn play_run(rt: &HostRuntime, line: usize, talk: &Talk<'_>, cut: Cut) -> Result<
     let mut source = Feed::new(&talk.sent, talk.breaks, cut);
     let mut out = Keep::new(alloc, talk.room, cut);
     let mut err = Keep::new(alloc, None, cut);
-    let status = run_words::<TablesInFile<Wary>, _, _, _>(
+    let status = run_words::<TablesInFile, _, _, _>(
         rt,
         alloc,
         &words,

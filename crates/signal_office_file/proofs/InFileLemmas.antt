@@ -1,15 +1,15 @@
 -- Two files at a path, of which it is known what they held.
-use Rattle.std.proofs.Common.{Result, Ok, Err, ℕ, subst}
+use Rattle.std.proofs.Common.{◌≡◌, Result, Ok, Err, ℕ, subst, sym}
 use Rattle.sqlite.specs.Recovery.{Image}
 use Rattle.sqlite_disk.specs.declared.Disk.{Ghosts as Disk}
 use Rattle.sqlite_disk.specs.declared.Files.{Files}
 use Rattle.office_tables.specs.Content.{Content}
 use Rattle.signal_office_faults.specs.declared.fault.Fault.{Fault}
-use Rattle.signal_office_in_file.specs.Ended.{EndsOver, IsCounted}
+use Rattle.signal_office_in_file.specs.Ended.{EndsOver, FileView, IsCounted}
 use Rattle.signal_office_in_file.specs.declared.Ended.{Ended}
 use Rattle.signal_office_in_file.specs.declared.Ended.TheVariants.{Unopened, Refused, Closed, Unclosed}
 use Rattle.signal_office_file.specs.Files.{AreNew, HoldIn}
-use Rattle.signal_office_file.specs.InFile.{IsMigrated, IsMigratedAt, IsRefusedAt, IsRefusedFor, files_view, view_at}
+use Rattle.signal_office_file.specs.InFile.{IsMigrated, IsMigratedAt, IsRefusedAt, IsRefusedFor, files_view, map_left, view_at, view_by}
 use Rattle.signal_office_file.specs.Left.{IsCleanFile}
 use Rattle.signal_office_file.specs.declared.left.FileLeft.{FileLeft}
 
@@ -28,3 +28,30 @@ module _ {D : Type 0} (g : Disk D) (image : Image) (files : Files D) (new : AreN
   counted_at (Closed (Ok rows) back) it = λ clean. (files, new, it clean)
   counted_at (Closed (Err why) back) it = λ clean. (files, new, it clean)
   counted_at (Unclosed why back) it = tt
+
+-- an end stays what it is where what is left of the file takes another form
+module _ {T L M : Type 0} (form : L → M) (view : FileView M) (does : Content → T → Content → Type 0) (untouched : Type 0) where
+  ends_so : (ended : Ended T L) → EndsOver (view_by form view) does untouched ended → EndsOver view does untouched (map_left form ended)
+  ends_so (Unopened why) it = it
+  ends_so (Refused why left) it = it
+  ends_so (Closed done left) it = it
+  ends_so (Unclosed why left) it = it
+
+  pub mapped_ends : (ended : Ended T L) → EndsOver (view_by form view) does untouched ended
+      → (result : Ended T M) → result ≡ map_left form ended → EndsOver view does untouched result
+  mapped_ends ended it result is = subst (EndsOver view does untouched) (sym is) (ends_so ended it)
+
+module _ {L M : Type 0} (form : L → M) (is_clean : M → Type 0) (migrated : M → ℕ → Type 0) (refused : M → Fault → Type 0) where
+  abbrev Counts : Ended (Result ℕ Fault) L → Type 0
+  Counts ended = IsCounted (λ left. is_clean (form left)) (λ left. migrated (form left)) (λ left. refused (form left)) ended
+
+  counts_so : (ended : Ended (Result ℕ Fault) L) → Counts ended → IsCounted is_clean migrated refused (map_left form ended)
+  counts_so (Unopened why) it = it
+  counts_so (Refused why left) it = it
+  counts_so (Closed (Ok rows) left) it = it
+  counts_so (Closed (Err why) left) it = it
+  counts_so (Unclosed why left) it = it
+
+  pub mapped_counts : (ended : Ended (Result ℕ Fault) L) → Counts ended
+      → (result : Ended (Result ℕ Fault) M) → result ≡ map_left form ended → IsCounted is_clean migrated refused result
+  mapped_counts ended it result is = subst (IsCounted is_clean migrated refused) (sym is) (counts_so ended it)

@@ -10,6 +10,8 @@ use Rattle.office_tables_migration.specs.declared.puts.Migrated.{Migrated}
 use Rattle.office_tables_open.specs.declared.open.OpenFault.{OpenFault}
 use Rattle.signal_office_faults.specs.declared.fault.Fault.{Fault}
 use Rattle.signal_office_in_file.specs.Ended.{FileView, file_view}
+use Rattle.signal_office_in_file.specs.declared.Ended.{Ended}
+use Rattle.signal_office_in_file.specs.declared.Ended.TheVariants.{Unopened, Refused, Closed, Unclosed}
 use Rattle.signal_office_file.specs.Files.{AreNew, HoldIn, KeepTables}
 use Rattle.signal_office_file.specs.Left.{IsCleanFile, IsRefusedIn}
 use Rattle.signal_office_file.specs.Migrating.{ClosedMigrated}
@@ -55,3 +57,14 @@ IsMigratedAt {D} {g} image back rows = (files : Files D) × AreNew g files image
 
 abbrev pub view_at : {D : Type 0} (g : Disk D) → Image → FileView (FileLeft D g)
 view_at g image = file_view (HoldIn image) IsCleanFile IsKept (IsRefusedAt image)
+
+-- the same end, with what is left of the file in another form
+abbrev pub map_left : {T L M : Type 0} → (L → M) → Ended T L → Ended T M
+map_left form (Unopened why) = Unopened why
+map_left form (Refused why left) = Refused why (form left)
+map_left form (Closed done left) = Closed done (form left)
+map_left form (Unclosed why left) = Unclosed why (form left)
+
+-- what is known of a file, by another form of what is left of it
+abbrev pub view_by : {L M : Type 0} → (L → M) → FileView M → FileView L
+view_by form view = file_view view.held (λ left. view.is_clean (form left)) (λ left. view.keeps (form left)) (λ left. view.refused (form left))

@@ -3,8 +3,10 @@
 ghost use Rattle.std.specs.Prelude.{◌≡◌};
 ghost use Rattle.office_http_framing.specs.Serve.{ends_of};
 ghost use Rattle.signal_office_in_file.specs.Ended.{Answers, EndsOver, IsCounted};
-ghost use Rattle.signal_office_file.specs.InFile.{IsMigrated, IsRefusedFor, files_view};
-ghost use Rattle.signal_office_file.specs.InFile.{rows_counted};
+ghost use Rattle.sqlite.specs.WalFiles.{image_at};
+ghost use Rattle.signal_office_file.specs.InFile.{IsMigrated, IsMigratedAt, IsRefusedAt};
+ghost use Rattle.signal_office_file.specs.InFile.{IsRefusedFor, files_view, map_left};
+ghost use Rattle.signal_office_file.specs.InFile.{rows_counted, view_at};
 ghost use Rattle.signal_office_file.specs.Left.{IsCleanFile};
 
 use crate::closing::close_office;
@@ -20,7 +22,6 @@ use signal_office_in_file::{Ended, OfficeInFile, OfficeTask};
 use sqlite::{FileFrom, Options, Start, Wary};
 use sqlite_disk::{Disk, Files};
 use std::alloc::Global;
-use std::marker::PhantomData;
 
 /// The first of two faults: that of the work, or else that of closing.
 fn first_fault<T: Drop, E>(done: Result<T, E>, closing: Fault) -> Fault
@@ -120,29 +121,96 @@ impl Begin for Wary {
     }
 }
 
-/// The tables of a database in a file, of which `S` stands for what it held. No clause ties that to
-/// the path.
-pub struct TablesInFile<S> {
-    start: PhantomData<S>,
+/// Does a task over the tables of a file.
+fn done_at<S: Begin, Done: Drop, T: OfficeTask<Done>, W: Sink>(
+    rt: &HostRuntime,
+    alloc: Global,
+    path: &str,
+    task: &T,
+    out: &mut W,
+) -> Ended<Result<Done, Fault>, FileLeft<FileFrom<S>>>
+    ensures { EndsOver (view_at ⟦<FileFrom<S> as Disk>⟧ (image_at S.Start))
+        (λ old done new. T.does task.now old done new (W.told out.old) (W.told out.new))
+        (out.new ≡ out.old) result }
+{
+    match files_at(rt, path, S::begin()) {
+        Ok((files, options)) => done_in(rt, alloc, files, options, task, out),
+        Err(fault) => Ended::Unopened(fault),
+    }
 }
 
-impl<S: Begin> OfficeInFile for TablesInFile<S> {
-    ghost use Rattle.sqlite.specs.WalFiles.{image_at};
+/// Answers the requests of the source over the tables of a file.
+fn answered_at<S: Begin, R: Source, W: Sink>(
+    rt: &HostRuntime,
+    alloc: Global,
+    path: &str,
+    source: &mut R,
+    out: &mut W,
+    max_requests: u32,
+) -> Ended<Result<Served, ServeFault>, FileLeft<FileFrom<S>>>
+    ensures { EndsOver (view_at ⟦<FileFrom<S> as Disk>⟧ (image_at S.Start))
+        (Answers max_requests (ends_of (R.told source.old) (W.told out.old))
+        (ends_of (R.told source.new) (W.told out.new)))
+        ((source.new ≡ source.old) × (out.new ≡ out.old)) result }
+{
+    match files_at(rt, path, S::begin()) {
+        Ok((files, options)) => answered_in(alloc, files, options, source, out, max_requests),
+        Err(fault) => Ended::Unopened(fault),
+    }
+}
+
+/// Brings the tables of a file to today's version.
+fn migrated_at<S: Begin>(
+    rt: &HostRuntime,
+    alloc: Global,
+    path: &str,
+) -> Ended<Result<u128, Fault>, FileLeft<FileFrom<S>>>
+    ensures { IsCounted IsCleanFile (λ left rows. IsMigratedAt (image_at S.Start) left rows)
+        (λ left why. IsRefusedAt (image_at S.Start) left why) result }
+{
+    match files_at(rt, path, S::begin()) {
+        Ok((files, options)) => migrated_in(alloc, files, options),
+        Err(fault) => Ended::Unopened(fault),
+    }
+}
+
+/// What is left of a file of the system.
+#[derive(Drop)]
+pub struct SystemFile {
+    left: FileLeft<FileFrom<Wary>>,
+}
+
+/// What is left of the file, as that of the system.
+fn of_system<T>(ended: Ended<T, FileLeft<FileFrom<Wary>>>) -> Ended<T, SystemFile>
+    ensures { result ≡ map_left (λ left. record { left = left }) ended }
+{
+    match ended {
+        Ended::Unopened(fault) => Ended::Unopened(fault),
+        Ended::Refused(fault, left) => Ended::Refused(fault, SystemFile { left }),
+        Ended::Closed(done, left) => Ended::Closed(done, SystemFile { left }),
+        Ended::Unclosed(fault, left) => Ended::Unclosed(fault, SystemFile { left }),
+    }
+}
+
+/// The tables of a database in a file of the system. What it held is `Wary`'s: no clause ties that
+/// to the path.
+pub struct TablesInFile;
+
+impl OfficeInFile for TablesInFile {
     ghost use Rattle.signal_office_file.specs.Files.{HoldIn};
-    ghost use Rattle.signal_office_file.specs.InFile.{IsKept, IsMigratedAt, IsRefusedAt};
-    ghost use Rattle.signal_office_file.specs.Left.{IsCleanFile};
+    ghost use Rattle.signal_office_file.specs.InFile.{IsKept};
 
-    type Left = FileLeft<FileFrom<S>>;
+    type Left = SystemFile;
 
-    ghost held = { λ tables. HoldIn (image_at S.Start) tables };
+    ghost held = { λ tables. HoldIn (image_at ⟦<Wary as Start>⟧) tables };
 
-    ghost is_clean = { λ left. IsCleanFile left };
+    ghost is_clean = { λ file. IsCleanFile file.left };
 
-    ghost keeps = { λ left tables. IsKept left tables };
+    ghost keeps = { λ file tables. IsKept file.left tables };
 
-    ghost refused = { λ left why. IsRefusedAt (image_at S.Start) left why };
+    ghost refused = { λ file why. IsRefusedAt (image_at ⟦<Wary as Start>⟧) file.left why };
 
-    ghost migrated = { λ left rows. IsMigratedAt (image_at S.Start) left rows };
+    ghost migrated = { λ file rows. IsMigratedAt (image_at ⟦<Wary as Start>⟧) file.left rows };
 
     fn do_task<Done: Drop, T: OfficeTask<Done>, W: Sink>(
         rt: &HostRuntime,
@@ -150,11 +218,8 @@ impl<S: Begin> OfficeInFile for TablesInFile<S> {
         path: &str,
         task: &T,
         out: &mut W,
-    ) -> Ended<Result<Done, Fault>, FileLeft<FileFrom<S>>> {
-        match files_at(rt, path, S::begin()) {
-            Ok((files, options)) => done_in(rt, alloc, files, options, task, out),
-            Err(fault) => Ended::Unopened(fault),
-        }
+    ) -> Ended<Result<Done, Fault>, SystemFile> {
+        of_system(done_at::<Wary, Done, T, W>(rt, alloc, path, task, out))
     }
 
     fn answer<R: Source, W: Sink>(
@@ -164,23 +229,15 @@ impl<S: Begin> OfficeInFile for TablesInFile<S> {
         source: &mut R,
         out: &mut W,
         max_requests: u32,
-    ) -> Ended<Result<Served, ServeFault>, FileLeft<FileFrom<S>>> {
-        match files_at(rt, path, S::begin()) {
-            Ok((files, options)) => {
-                answered_in(alloc, files, options, source, out, max_requests)
-            }
-            Err(fault) => Ended::Unopened(fault),
-        }
+    ) -> Ended<Result<Served, ServeFault>, SystemFile> {
+        of_system(answered_at::<Wary, R, W>(rt, alloc, path, source, out, max_requests))
     }
 
     fn migrate(
         rt: &HostRuntime,
         alloc: Global,
         path: &str,
-    ) -> Ended<Result<u128, Fault>, FileLeft<FileFrom<S>>> {
-        match files_at(rt, path, S::begin()) {
-            Ok((files, options)) => migrated_in(alloc, files, options),
-            Err(fault) => Ended::Unopened(fault),
-        }
+    ) -> Ended<Result<u128, Fault>, SystemFile> {
+        of_system(migrated_at::<Wary>(rt, alloc, path))
     }
 }

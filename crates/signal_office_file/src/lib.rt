@@ -13,10 +13,9 @@ mod serving;
 mod streaming;
 
 pub use closing::close_office;
-pub use in_file::{Begin, TablesInFile};
+pub use in_file::{SystemFile, TablesInFile};
 pub use left::{FileLeft, Refused};
 pub use migrating::migrate_file;
 pub use opening::{FileOffice, open_file};
 pub use paths::files_at;
 pub use serving::{ServedOffice, serve_file};
-pub use sqlite::Wary;

@@ -1,6 +1,5 @@
-use Rattle.sqlite.specs.WalFiles.{image_at}
-use Rattle.signal_office_file.proofs.InFileLemmas.{ends_at}
+use Rattle.signal_office_file.proofs.InFileLemmas.{mapped_ends}
 use Rattle.signal_office_file.proofs.in_file.TablesInFileOfficeInFile.answer.Goals as goal
 
-pub returns-in-Ok : goal.returns-in-Ok
-returns-in-Ok g c = ends_at _ (image_at g.S.Start) c.in-Ok.files c.in-Ok.ensures.new _ _ c.answered_in.result c.answered_in.ensures
+pub returns : goal.returns
+returns g c = mapped_ends _ _ _ _ c.answered_at.result c.answered_at.ensures c.of_system.result c.of_system.ensures

@@ -1,6 +1,5 @@
-use Rattle.sqlite.specs.WalFiles.{image_at}
-use Rattle.signal_office_file.proofs.InFileLemmas.{ends_at}
+use Rattle.signal_office_file.proofs.InFileLemmas.{mapped_ends}
 use Rattle.signal_office_file.proofs.in_file.TablesInFileOfficeInFile.do_task.Goals as goal
 
-pub returns-in-Ok : goal.returns-in-Ok
-returns-in-Ok g c = ends_at _ (image_at g.S.Start) c.in-Ok.files c.in-Ok.ensures.new _ _ c.done_in.result c.done_in.ensures
+pub returns : goal.returns
+returns g c = mapped_ends _ _ _ _ c.done_at.result c.done_at.ensures c.of_system.result c.of_system.ensures
