@@ -1,0 +1,134 @@
+#!/usr/bin/env python3
+"""Holds the program against the office in Python (tests/model): drawn plans are verified, with
+reasons and without, and what is printed has to be what the model says, byte for byte.
+
+    tests/plans.py [PROGRAM [SEED COUNT]]
+
+COUNT plans are drawn, by default 20,000. Most break some rule, since rows of a plan that breaks
+none are changed. Prints how often each rule was broken and each reason told, and ends with status
+1 at the first plan that is told otherwise, or where a rule or a reason did not come.
+"""
+import collections
+import concurrent.futures
+import csv
+import io
+import os
+import random
+import re
+import subprocess
+import sys
+import tempfile
+
+from model import plan, planning, rows
+from program import found
+
+KEPT = 3  # a plan in so many is verified as it was drawn
+PLAIN = 10  # a plan in so many is verified without reasons too
+BREAKS = 3  # the status where a plan breaks a rule
+# What each rule may be told for, with a mark for each number. That a phase stands twice can't come
+# alone: within a list phases are distinct, and in the row of another ring that is told first.
+REASONS = """\
+V1: yellow is # s, not # to # s
+V2: red is # s, more than # s
+V3: walk is # s, less than # s
+V4: # ft at # ft/s take # s; clearance, yellow and red are # s
+V5: # ft at # ft/s take # s; walk, clearance, yellow and red are # s
+V6: mate # is not in the plan
+V6: mate # is in ring # too
+V6: mate # does not list it
+V7: phase # is missing
+V7: phase # stands in ring #, and is of ring #
+V7: # is not in the plan
+V8: # s, and the need is # s
+V8: phase # is not in the plan
+V8: # s, and not omitted
+V8: # s, and omitted
+V8: coordinated, and omitted
+V9: sequence # has no row
+V9: split # has no row for phase #
+V10: offset # s, cycle # s
+V11: split # has no coordinated phase of the plan
+V12: ring # adds up to # s, the cycle is # s
+V13: from second # to # phases # and # time together and do not list each other
+V14: lead is # s, less than # s
+V14: lead is # s, longer than the walk of # s""".splitlines()
+
+
+def drawn(seed):
+    """The text of a plan in a file."""
+    dice = random.Random(f"plans {seed}")
+    plan_rows = planning.draw_plan(dice)
+    changed = plan_rows if seed % KEPT == 0 else [*plan_rows, *swapped(dice, plan_rows)]
+    text = io.StringIO()
+    csv.writer(text, lineterminator="\n").writerows(changed)
+    return text.getvalue()
+
+
+def swapped(dice, plan_rows):
+    """A few changes of a plan: rows changed in one field, a split row that omits its phase, or the
+    phases of two rows of a sequence exchanged, so that they stand in a ring that is not theirs."""
+    changes = planning.draw_changes(dice, plan_rows)[:dice.choice((1, 1, 2, 6))]
+    if dice.random() < 0.1:
+        split = dice.choice([row for row in plan_rows if row[0] == "split"])
+        changes.append([*split[:3], "0", "7", split[5]])
+    rings = [row for row in plan_rows if row[0] == "seq"]
+    if len(rings) > 1 and dice.random() < 0.1:
+        one, other = dice.sample(rings, 2)
+        changes += [[*one[:3], other[3]], [*other[:3], one[3]]]
+    return changes
+
+
+def verified(program, path, *flags):
+    """What the program prints of a file, and its status."""
+    ran = subprocess.run([program, "verify-file", *flags, path], capture_output=True)
+    return (ran.stdout + ran.stderr).decode().splitlines(), ran.returncode
+
+
+def differs(program, folder, seed):
+    """The lines that are told of a plan, and what is wrong with them, if anything is."""
+    text = drawn(seed)
+    path = os.path.join(folder, str(seed))
+    with open(path, "w") as file:
+        file.write(text)
+    for flags in (("--explain",), ())[:2 if seed % PLAIN == 0 else 1]:
+        wanted = rows.verified(text, bool(flags))
+        status = 0 if wanted == ["no violations"] else BREAKS
+        came = verified(program, path, *flags)
+        if came != (wanted, status):
+            return [], f"plan {seed}, {flags}:\n{text}told {wanted}, {status}\ncame {came}"
+        told = wanted if flags else told
+    os.remove(path)
+    return told, None
+
+
+def reason(line):
+    """The rule and the reason of a line, with a mark for each number."""
+    rule, _, why = line.rpartition(" V")[2].partition(": ")
+    return f"V{rule}: {re.sub(r'[0-9]+([.][0-9]+)?', '#', why)}"
+
+
+def main():
+    """Draws the plans, and has each of them verified."""
+    program, words = found(sys.argv[1:2]), sys.argv[2:] or ["1", "20000"]
+    if len(words) != 2 or not all(it.isdigit() for it in words):
+        sys.exit(__doc__)
+    first, count = int(words[0]) * 1_000_000, int(words[1])
+    tally, whole = collections.Counter(), 0
+    with tempfile.TemporaryDirectory() as folder, concurrent.futures.ThreadPoolExecutor() as pool:
+        tried = pool.map(lambda it: differs(program, folder, first + it), range(count))
+        for told, wrong in tried:
+            if wrong:
+                pool.shutdown(cancel_futures=True)
+                sys.exit(f"plans.py: {wrong}")
+            whole += told == ["no violations"]
+            tally.update(reason(it) for it in told if it != "no violations")
+    for it in sorted(tally, key=lambda it: (int(it[1:].partition(":")[0]), it)):
+        print(f"{tally[it]:7} {it}")
+    missing = [it for it in REASONS if not tally[it]]
+    if missing and count >= 20_000:
+        sys.exit(f"plans.py: these did not come: {missing}")
+    print(f"{count} drawn plans, {whole} break no rule: the program tells what the model does")
+
+
+if __name__ == "__main__":
+    main()
