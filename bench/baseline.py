@@ -1,6 +1,6 @@
 """The work of bench/all.py by Python over its `sqlite3`: a yardstick, and no more. It reads, writes
 and answers what the office does, and checks next to nothing of what the office checks; with
---checking it also tests rows, plans and records as the office does.
+--checking it also tests rows, plans and records, by the rules of tests/model.
 
     python3 bench/baseline.py serve [FILE] [--checking]   answers requests, over tables in memory
                                                           or in a file
@@ -12,10 +12,12 @@ import csv
 import datetime
 import io
 import json
+import pathlib
 import sqlite3
 import sys
 
-import rules
+sys.path.insert(0, str(pathlib.Path(__file__).resolve().parent.parent / "tests"))
+from model import plan, register, rules
 
 IS_CHECKING = "--checking" in sys.argv
 EPOCH = datetime.date(1970, 1, 1)
@@ -72,7 +74,8 @@ def key_and_body(row):
 def check_plan(committed, draft):
     """Ends where the draft, which is these rows over the committed ones, breaks a rule."""
     whole = {row[:3]: row[3] for row in committed} | {row[1:4]: row[4] for row in draft}
-    found = rules.Plan(body.split(",") for body in whole.values()).violations()
+    changes = [plan.read_change(body.split(",")) for body in whole.values()]
+    found = rules.violations(plan.apply({}, changes))
     if found:
         sys.exit(f"the draft breaks rules: {found}")
 
@@ -89,7 +92,7 @@ def step(db, number, name, asked):
             check_plan(committed, draft)
     if name == "edit":
         if IS_CHECKING:
-            rules.Plan(asked["rows"])
+            list(map(plan.read_change, asked["rows"]))
         rows = [(number, *key_and_body(row)) for row in asked["rows"]]
         db.executemany("INSERT OR REPLACE INTO draft VALUES (?, ?, ?, ?, ?)", rows)
     elif name == "commit":
@@ -115,7 +118,7 @@ TAKEN = {
 
 def test_taking(db, kind, fields, there):
     """Ends where the office would refuse the record."""
-    rules.test_record(kind, fields)
+    register.read_record([kind, *map(str, fields)])
     one = lambda text, *values: db.execute(text, values).fetchone()
     is_right = kind == "delivery" or one("SELECT 1 FROM intersection WHERE id = ?", fields[0])
     if there:

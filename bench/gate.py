@@ -18,6 +18,7 @@ import time
 
 TOP = pathlib.Path(__file__).resolve().parent.parent
 sys.path.insert(0, str(TOP / "tests"))
+import drawing
 import measured
 
 TICKS = os.sysconf("SC_CLK_TCK")
@@ -121,16 +122,10 @@ def of_record(text):
     return lines[0][2:].split("; "), rows
 
 
-def below():
-    """The crates of crates.txt in their order, each with those that it names."""
-    lines = [line.partition(":") for line in (TOP / "crates.txt").read_text().splitlines()]
-    return {name: words.split() for name, colon, words in lines if colon and name[0] != "#"}
-
-
 def longest_chain(seconds):
     """The chain of crates that takes longest by itself, lowest first, and its seconds."""
     chains = {}
-    for name, lower in below().items():
+    for name, lower in drawing.crates()[0].items():
         under = max((chains[it] for it in lower if it in chains), default=(0, []))
         chains[name] = under[0] + seconds.get(name, 0), [*under[1], name]
     return max(chains.values())
@@ -144,7 +139,7 @@ def main():
         run(words[0])
     heading, rows = of_record(pathlib.Path(words[0]).read_text())
     state, machine, clock, last = heading
-    order = [f"`{name}`" for name in below()]
+    order = [f"`{name}`" for name in drawing.crates()[0]]
     rows.sort(key=lambda it: order.index(it[0]) if it[0] in order else len(order))
     proofs, edits = (sum(row[column] for row in rows) for column in (1, 2))
     cells = [[name, f"{proof:,}", f"{edit:,}" if edit else ""] for name, proof, edit in rows]

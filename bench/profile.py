@@ -15,7 +15,8 @@ import sys
 import tempfile
 
 import all as bench
-from program import TOP, found
+import drawing
+from program import found
 
 WORKS = ("adding", "changed in all", "changed in 4", "opening")
 LEAST = 5  # of 100
@@ -28,8 +29,7 @@ LINE = re.compile(r"^ *[\d,]+ \( *([\d.]+)%\)  \S+?:((?:\w+::)\S+|rattle_\w+)")
 
 
 def is_shown(name):
-    crates = {line.partition(":")[0] for line in (TOP / "crates.txt").read_text().splitlines()}
-    return name.split("::")[0] in crates | OTHERS or name in MEMORY
+    return name.split("::")[0] in {*drawing.crates()[0], *OTHERS} or name in MEMORY
 
 
 def shares(program, it, folder):

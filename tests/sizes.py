@@ -22,13 +22,6 @@ def lines(folder, kind):
     return sum(path.read_text().count("\n") for path in folder.rglob(f"*{kind}"))
 
 
-def crates():
-    for line in (TOP / "crates.txt").read_text().splitlines():
-        name, colon, _ = line.partition("#")[0].partition(":")
-        if colon:
-            yield name.split()[0]
-
-
 def row(name):
     crate = TOP / "crates" / name
     code = lines(crate / "src", ".rt")
@@ -44,7 +37,7 @@ def shown(name, counts):
 def main():
     if sys.argv[1:] not in ([], ["--write"]):
         sys.exit("usage: tests/sizes.py [--write]")
-    found = {name: row(name) for name in crates()}
+    found = {name: row(name) for name in drawing.crates()[0]}
     together = [sum(column) for column in zip(*found.values())]
     rows = [shown(f"`{name}`", counts) for name, counts in found.items()]
     text = measured.table(["Crate", *KINDS], [*rows, shown("together", together)])

@@ -2,8 +2,8 @@
 use Rattle.std.proofs.Common.{◌≡◌, ◌≢◌, ℕ, ◌+◌, ◌<◌, List, [], ◌∷◌, ◌++◌, length, map, take, drop, get_or, Result, Ok, Err, refl, sym, ap, ◌∙◌, arith}
 use Rattle.std.proofs.lemmas.List.{take_more, map-append, take-append-drop, length-map, length-take-le}
 use Rattle.std.proofs.Common.{append_assoc}
-use Rattle.signal_records.specs.declared.fault.RowFault.{RowFault}
-use Rattle.office_files.specs.{declared.fault.CsvFault.CsvFault, CsvFault.bad_row, CsvFault.fault_at, CsvFault.NamesFault, CsvRow.rows_from}
+use Rattle.signal_records.specs.{Reading.Gives, declared.fault.RowFault.RowFault}
+use Rattle.office_files.specs.{declared.fault.CsvFault.CsvFault, CsvFault.bad_row, CsvFault.told_at, CsvRow.rows_from}
 use Rattle.office_files.specs.CsvRow.{rows_of, add_row}
 use Rattle.office_files.specs.declared.fault.CsvFault.TheVariants as file
 use Rattle.signal_records.specs.declared.fault.RowFault.TheVariants as row
@@ -73,12 +73,30 @@ rows_of-fault reading fields records i record_at rows fault low at so_far one =
     (map fields (drop (i + 1) records)) rows fault so_far one)
     ∙ ap (λ n. Err (file.Row (bad_row n fault))) size
 
--- what is named has a fault of its own, which was the record's
-pub fault_at-row : (at : ℕ) (fault : RowFault) → fault_at at fault ≢ file.NoMemory
-    → (fault ≢ row.NoMemory) × (fault_at at fault ≡ file.Row (bad_row at fault))
-fault_at-row at row.NoMemory h = absurd (h refl)
-fault_at-row at _ h = (λ e. cc, refl)
+-- ---- by what was told of a record
 
-pub NamesFault-fault_at : (at : ℕ) (fault : RowFault) → NamesFault (fault_at at fault)
-NamesFault-fault_at at row.NoMemory = tt
-NamesFault-fault_at at _ = λ e. cc
+told_at-ok : {T : Type 0} (at : ℕ) (read : Result T RowFault) (x : T) → Ok x ≡ told_at at read → read ≡ Ok x
+told_at-ok at (Ok y) x h = cc
+told_at-ok at (Err fault) x h = absurd cc
+
+-- what is told with a number is the fault that was read
+told_at-fault : {T : Type 0} (at : ℕ) (read wanted : Result T RowFault) (told : CsvFault) → Gives read wanted → Err told ≡ told_at at read → told ≢ file.NoMemory
+    → (fault : RowFault) × (wanted ≡ Err fault) × (told ≡ file.Row (bad_row at fault))
+told_at-fault at (Ok y) wanted told gives h other = absurd cc
+told_at-fault at (Err row.NoMemory) wanted told gives h other =
+    let is : told ≡ file.NoMemory = cc in
+    absurd (other is)
+told_at-fault at (Err fault) wanted told gives h other =
+    let is : told ≡ file.Row (bad_row at fault) = cc in
+    (fault, gives (λ e. cc), is)
+
+-- a record more was kept
+pub told-next : {T R : Type 0} (reading : List (List ℕ) → Result T RowFault) (fields : R → List (List ℕ)) (records : List R) (i : ℕ) (record_at : R) (rows : List T) (x : T) (read : Result T RowFault) → i < length records → record_at ≡ get_or records i record_at → rows_of reading (map fields (take i records)) ≡ Ok rows → Gives read (reading (fields record_at)) → Ok x ≡ told_at (i + 1) read → rows_of reading (map fields (take (i + 1) records)) ≡ Ok (rows ++ x ∷ [])
+told-next reading fields records i record_at rows x read low at so_far gives told =
+    rows_of-next reading fields records i record_at rows x low at so_far (rw (told_at-ok (i + 1) read x told) at gives)
+
+-- a record was told as bad
+pub told-stop : {T R : Type 0} (reading : List (List ℕ) → Result T RowFault) (fields : R → List (List ℕ)) (records : List R) (i : ℕ) (record_at : R) (rows : List T) (told : CsvFault) (read : Result T RowFault) → i < length records → record_at ≡ get_or records i record_at → rows_of reading (map fields (take i records)) ≡ Ok rows → Gives read (reading (fields record_at)) → Err told ≡ told_at (i + 1) read → told ≢ file.NoMemory → rows_of reading (map fields records) ≡ Err told
+told-stop reading fields records i record_at rows told read low at so_far gives is other =
+    let bad = told_at-fault (i + 1) read (reading (fields record_at)) told gives is other in
+    rows_of-fault reading fields records i record_at rows bad.0 low at so_far bad.1 ∙ sym (ap Err bad.2)

@@ -1,5 +1,5 @@
 -- What is wrong with a CSV file, and how it is written.
-use Rattle.std.specs.Prelude.{◌≢◌, ℕ, List, [], ◌++◌, codes, Option, Some, None}
+use Rattle.std.specs.Prelude.{◌≢◌, ℕ, List, [], ◌++◌, codes, Option, Some, None, Result, Ok, Err}
 use Rattle.std.specs.Fmt.{decimal}
 use Rattle.signal_records.specs.declared.fault.RowFault.{RowFault}
 use Rattle.signal_records.specs.declared.fault.RowFault.TheVariants as row
@@ -16,6 +16,11 @@ bad_row at fault = record { at = at; fault = fault }
 abbrev pub fault_at : ℕ → RowFault → CsvFault
 fault_at at row.NoMemory = file.NoMemory
 fault_at at fault = file.Row (bad_row at fault)
+
+-- what is told of the record with this number, by what was read of it
+abbrev pub told_at : {T : Type 0} → ℕ → Result T RowFault → Result T CsvFault
+told_at at (Ok row) = Ok row
+told_at at (Err fault) = Err (fault_at at fault)
 
 -- the fault of a record that is named is never want of memory
 abbrev pub NamesFault : CsvFault → Type 0

@@ -1,7 +1,7 @@
 //! What is wrong with a CSV file.
 
 ghost use Rattle.std.specs.Prelude.{◌≡◌};
-ghost use Rattle.office_files.specs.CsvFault.{fault_at};
+ghost use Rattle.office_files.specs.CsvFault.{told_at};
 
 use signal_records::{NoMemory, RowFault};
 use std::alloc::AllocFailed;
@@ -25,15 +25,15 @@ pub enum CsvFault {
     NoMemory,
 }
 
-impl CsvFault {
-    /// The fault of the record with that number, counted from 1.
-    pub fn of_record(at: usize, fault: RowFault) -> CsvFault
-        ensures { result ≡ fault_at at fault }
-    {
-        match fault {
-            RowFault::NoMemory => CsvFault::NoMemory,
-            fault => CsvFault::Row(BadRow { at, fault }),
-        }
+/// What was read of the record with that number, counted from 1, or its fault with the number
+/// beside it. Out of memory is told exactly where the reader of the record told it.
+pub fn told_of_record<T>(at: usize, read: Result<T, RowFault>) -> Result<T, CsvFault>
+    ensures { result ≡ told_at at read }
+{
+    match read {
+        Ok(row) => Ok(row),
+        Err(RowFault::NoMemory) => Err(CsvFault::NoMemory),
+        Err(fault) => Err(CsvFault::Row(BadRow { at, fault })),
     }
 }
 

@@ -23,7 +23,7 @@ pub use cabinet::{read_records_csv, records_csv};
 pub use cabinet_core::OverdueRow;
 pub use change_writing::changes_csv;
 pub use changes::read_timing_csv;
-pub use fault::{BadRow, CsvFault};
+pub use fault::{BadRow, CsvFault, told_of_record};
 pub use overdue::overdue_text;
 pub use plan::read_plan_csv;
 pub use sheet::timing_sheet;

@@ -7,7 +7,7 @@ ghost use Rattle.office_files.specs.Csv.{csv_records};
 ghost use Rattle.office_files.specs.CsvFault.{NamesFault};
 ghost use Rattle.office_files.specs.CsvRow.{rows_of};
 
-use crate::fault::CsvFault;
+use crate::fault::{CsvFault, told_of_record};
 use crate::fields::fields_in;
 use crate::records::read_records;
 use signal_records::RowFault;
@@ -29,13 +29,11 @@ pub(crate) fn read_rows<T: CsvRow>(alloc: Global, text: &[u8]) -> Result<Vec<T>,
     ensures named { IfErr result NamesFault }
 {
     let records = read_records(alloc, text)?;
-    let mut rows = Vec::new(alloc);
+    let mut rows = Vec::with_capacity(alloc, records.len())?;
     for (i, record) in records.iter().enumerate() {
         let fields = fields_in(alloc, record)?;
-        match T::read_fields(alloc, &fields) {
-            Ok(row) => rows.push(row)?,
-            Err(fault) => return Err(CsvFault::of_record(i + 1, fault)),
-        }
+        let row = told_of_record(i + 1, T::read_fields(alloc, &fields))?;
+        rows.push_reserved(row);
     }
     Ok(rows)
 }

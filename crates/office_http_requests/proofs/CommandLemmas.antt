@@ -2,7 +2,7 @@
 use Rattle.std.proofs.Common.{◌≡◌, ◌⊎◌, ℕ, List, true, Result, Ok, Err, inl, inr, refl, sym, ap, subst, bytes_eq}
 use Rattle.serde_json.specs.{Data.Data, View.view, declared.value.Value.Value}
 use Rattle.office_http_requests.specs.Asks.{◌>>=◌, or_no_route, Gives, MayWant, WantsMemoryOnlyIf}
-use Rattle.office_http_requests.specs.{Bodies.data_of, Commands.asked_at, Commands.added_intersection, Commands.command_with}
+use Rattle.office_http_requests.specs.{Bodies.body_of, Bodies.data_of, Commands.asked_at, Commands.added_intersection, Commands.body_for, Commands.command_with}
 use Rattle.office_http_requests.specs.Commands.{edited_by_csv, edited_in, id_and_clerk_in, imported_in}
 use Rattle.office_http_requests.specs.{Paths.id_at, Paths.order_at, Recording.received_in, Recording.recorded_at, Routes.endpoint_of}
 use Rattle.office_http_requests.specs.{Routes.method_of, declared.asked.Asked.Asked, declared.kind.RecordKind.RecordKind}
@@ -59,6 +59,13 @@ asked-unread (Record kind) path w = gives-bind _ _ _ (recorded-unread kind path 
 asked-unread Import path w = unread _
 asked-unread Stock path w = refl
 asked-unread _ path w = gives-refl _
+
+-- what is asked by a body that is not looked at is what is asked by any
+pub asked-body : (endpoint : Endpoint) (path bytes : List ℕ) → asked_at endpoint path (body_for endpoint bytes) ≡ asked_at endpoint path (body_of bytes)
+unfolding asked_at
+asked-body AddIntersection path bytes = refl
+asked-body (Record kind) path bytes = refl
+asked-body _ path bytes = refl
 
 module _ (ask : Result Data AskFault → Result Asked AskFault) where
   -- what is asked by what was told of a body is what is asked by the body

@@ -1,20 +1,21 @@
 -- A walk that takes the value of each element of a list in turn.
-use Rattle.std.proofs.Common.{◌≡◌, ◌≢◌, ℕ, ◌+◌, ◌<◌, Bool, true, ◌&&◌, is_some, List, [], ◌∷◌, ◌++◌, length, drop, get_or, suc, Option, Some, None, Result, Ok, Err, option_map, option_and_then, add-one, drop-cons, append_assoc, map, ap, sym, ◌∙◌, refl}
+use Rattle.std.proofs.Common.{◌≡◌, ℕ, ◌+◌, ◌<◌, Bool, true, ◌&&◌, is_some, List, [], ◌∷◌, ◌++◌, length, drop, get_or, suc, Option, Some, None, Result, Ok, Err, option_map, option_and_then, add-one, drop-cons, append_assoc, map, ap, sym, ◌∙◌, refl}
 use Rattle.std.specs.List.{list_all}
 use Rattle.serde_json.specs.{Data.Data, Find.get, Find.as_array, Find.as_str, View.view, View.items_of, View.items_view}
 use Rattle.serde_json.specs.declared.value.Value.{Value}
 use Rattle.std.proofs.{Math.Seq.drop-length, lemmas.List.get_or-map, lemmas.List.length-map, lemmas.List.append-nil}
-use Rattle.signal_records.specs.Reading.{change_at, Gives as RowGives}
+use Rattle.std.specs.Prelude.{Any, IsOkAnd}
+use Rattle.signal_records.specs.Reading.{change_at, PutsList, WantsOnlyFor}
 use Rattle.signal_records.specs.{Within.current_limits, declared.fault.RowFault.RowFault, declared.record.Change.Change}
 use Rattle.signal_records.specs.declared.fault.RowFault.TheVariants as row
-use Rattle.office_http_faults.specs.{declared.fault.AskFault.AskFault, declared.fault.AskFault.TheVariants.BadRow}
+use Rattle.office_http_faults.specs.{AskFault.ask_fault, declared.fault.AskFault.AskFault}
 use Rattle.office_http_faults.specs.{declared.fault.AskFault.TheVariants.NoMemory, Fields.field_name}
 use Rattle.office_http_faults.specs.declared.field.Field.TheVariants.{Rows as FieldRows}
-use Rattle.office_files.specs.CsvFault.{bad_row as bad_record}
+use Rattle.office_files.specs.CsvFault.{bad_row as bad_record, told_at}
 use Rattle.office_files.specs.{CsvRow.rows_of, declared.fault.CsvFault.CsvFault}
 use Rattle.office_files.specs.declared.fault.CsvFault.TheVariants as file
 use Rattle.office_http_requests.specs.Asks.{◌>>=◌, or_bad_row, or_field, MayWant, WantsMemoryOnlyIf}
-use Rattle.office_http_requests.specs.Rows.{list_of, list_in, each, texts_in, rows_in, changes_of, changes_in, IsRowFault}
+use Rattle.office_http_requests.specs.Rows.{list_of, list_in, each, texts_in, rows_in, changes_of, changes_in}
 
 -- what is done, before what the rest gives
 abbrev pub onto : {B : Type 0} → List B → Option (List B) → Option (List B)
@@ -114,12 +115,19 @@ changes_want body found = by_rows (rows_in body) found
     by_rows None found = cc
     by_rows (Some rows) found = spelled_want (rows_of (change_at current_limits) rows)
 
--- a row that was not kept is bad, where no want of memory was told
-pub bad_row : (at : ℕ) (read wanted : Result Change RowFault) (told : AskFault) → RowGives read wanted → IsRowFault at read told → told ≢ NoMemory
-    → (fault : RowFault) × (wanted ≡ Err fault) × (told ≡ BadRow (bad_record at fault))
-bad_row at (Ok change) wanted told gives is other = absurd (other is)
-bad_row at (Err row.NoMemory) wanted told gives is other = absurd (other is)
-bad_row at (Err fault) wanted told gives is other = (fault, gives (λ e. cc), is)
+-- want of memory is told of a row only where its reader told it
+pub told_memory : (at : ℕ) (read wanted : Result Change RowFault) (told : CsvFault) → WantsOnlyFor PutsList read wanted → Err told ≡ told_at at read → ask_fault told ≡ NoMemory → IsOkAnd wanted PutsList
+told_memory at (Ok change) wanted told wants is memory = absurd cc
+told_memory at (Err row.NoMemory) wanted told wants is memory = wants refl
+told_memory at (Err fault) wanted told wants is memory =
+    let bad : told ≡ file.Row (bad_record at fault) = cc in
+    let other = rw bad at memory in
+    absurd cc
+
+-- what holds of a row holds of some row
+pub any_row : {R : Type 0} (P : List (List ℕ) → Type 0) (shown : R → List (List ℕ)) (rows : List R) (i : ℕ) (row : R) → i < length rows → row ≡ get_or rows i row → P (shown row) → Any P (map shown rows)
+any_row P shown rows i row within is holds =
+    (i, shown row, rw length-map within, get_or-map shown rows i row (shown row) within ∙ ap shown (sym is), holds)
 
 pub only_if : {A : Type 0} {P : Type 0} (r : Result A AskFault) → P → WantsMemoryOnlyIf r P
 only_if (Ok x) p = tt

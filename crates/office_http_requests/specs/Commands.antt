@@ -6,7 +6,7 @@ use Rattle.office_machine.specs.declared.command.Command.{Command}
 use Rattle.office_machine.specs.declared.command.Command.TheVariants as command
 use Rattle.office_http_requests.specs.declared.asked.Asked.{Asked}
 use Rattle.office_http_faults.specs.declared.fault.AskFault.{AskFault}
-use Rattle.office_http_faults.specs.declared.fault.AskFault.TheVariants.{Method, NoMemory}
+use Rattle.office_http_faults.specs.declared.fault.AskFault.TheVariants.{Json as NoObject, Method, NoMemory}
 use Rattle.office_http_faults.specs.declared.field.Field.TheVariants.{Clerk, Name}
 use Rattle.office_http_faults.specs.declared.form.Form.TheVariants.{Json, Csv}
 use Rattle.office_http_requests.specs.declared.route.Endpoint.{Endpoint}
@@ -16,7 +16,7 @@ use Rattle.office_http_requests.specs.Bodies.{MayBeObject, body_of, id_in, inter
 use Rattle.office_http_requests.specs.Paths.{day_at, id_at}
 use Rattle.office_http_requests.specs.CsvBodies.{csv_changes_in, csv_records_in}
 use Rattle.office_http_requests.specs.Recording.{recorded_at}
-use Rattle.office_http_requests.specs.Routes.{endpoint_of, method_of}
+use Rattle.office_http_requests.specs.Routes.{endpoint_of, method_of, takes_body}
 use Rattle.office_http_requests.specs.Rows.{changes_in}
 
 -- a command whose answer is JSON
@@ -137,6 +137,10 @@ unfoldable pub command_with : List ℕ → List ℕ → Result Data AskFault →
 command_with method path read = do
   endpoint ← or_no_route (endpoint_of path)
   if bytes_eq method (method_of endpoint) then asked_at endpoint path read else Err Method
+
+-- what is told of the body of a request to an endpoint: that of a GET is taken for none
+abbrev pub body_for : Endpoint → List ℕ → Result Data AskFault
+body_for endpoint bytes = if takes_body endpoint then body_of bytes else Err NoObject
 
 -- the command of a request
 unfoldable pub command_at : List ℕ → List ℕ → List ℕ → Result Asked AskFault

@@ -1,20 +1,16 @@
 -- The rows of a body, and the changes that they spell.
 use Rattle.std.specs.Prelude.{◌≡◌, ℕ, List, [], ◌∷◌, map, Vec, Option, Some, None, option_map}
-use Rattle.std.specs.Prelude.{option_and_then, Result, Ok, Err}
+use Rattle.std.specs.Prelude.{option_and_then, Result, IsOkAnd}
 use Rattle.std.specs.Borrow.{Bor}
 use Rattle.std.specs.declared.alloc.Global.{Global}
 use Rattle.serde_json.specs.Data.{Data, Items, no_items, item}
 use Rattle.serde_json.specs.Find.{get, as_array, as_str}
-use Rattle.signal_records.specs.Reading.{change_at, texts}
+use Rattle.signal_records.specs.Reading.{change_at, texts, PutsList}
 use Rattle.signal_records.specs.Within.{current_limits}
-use Rattle.signal_records.specs.declared.fault.RowFault.{RowFault}
 use Rattle.signal_records.specs.declared.record.Change.{Change}
-use Rattle.office_files.specs.CsvFault.{fault_at}
 use Rattle.office_files.specs.CsvRow.{rows_of}
 use Rattle.office_http_faults.specs.declared.fault.AskFault.{AskFault}
-use Rattle.office_http_faults.specs.declared.fault.AskFault.TheVariants.{NoMemory}
 use Rattle.office_http_faults.specs.declared.field.Field.TheVariants.{Rows}
-use Rattle.office_http_faults.specs.AskFault.{ask_fault}
 use Rattle.office_http_requests.specs.Asks.{◌>>=◌, or_bad_row, or_field}
 use Rattle.office_http_faults.specs.Fields.{field_name}
 
@@ -40,11 +36,9 @@ texts_in d = option_and_then (each as_str) (list_in d)
 unfoldable pub rows_in : Data → Option (List (List (List ℕ)))
 rows_in body = option_and_then (each texts_in) (option_and_then list_in (get (field_name Rows) body))
 
--- what may be told of a row that was read so and not kept: want of memory where its reader told
--- it, or where a good row found no room; else that the row is bad
-abbrev pub IsRowFault : ℕ → Result Change RowFault → AskFault → Type 0
-IsRowFault at (Ok change) told = told ≡ NoMemory
-IsRowFault at (Err fault) told = told ≡ ask_fault (fault_at at fault)
+-- the row spells a change with a list of phases: that alone needs memory to be read
+abbrev pub PutsListAt : List (List ℕ) → Type 0
+PutsListAt fields = IsOkAnd (change_at current_limits fields) PutsList
 
 -- the changes that rows spell, or the first bad row, as the records of a CSV file are read
 abbrev pub changes_of : List (List (List ℕ)) → Result (List Change) AskFault

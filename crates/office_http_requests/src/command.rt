@@ -1,10 +1,10 @@
 //! From a request to a command.
-ghost use Rattle.std.specs.Prelude.{◌≡◌, codes};
+ghost use Rattle.std.specs.Prelude.{◌≡◌, Err, codes, false};
 ghost use Rattle.serde_json.specs.View.{view};
 ghost use Rattle.office_http_requests.specs.Asks.{Gives, MayWant, WantsMemoryOnlyIf};
-ghost use Rattle.office_http_requests.specs.Bodies.{data_of};
-ghost use Rattle.office_http_requests.specs.Routes.{method_of};
-ghost use Rattle.office_http_requests.specs.Commands.{MayWantFor, added_intersection, asked_at, clerk_and_csv_in, clerk_and_rows_in, asked_in_csv, asked_in_json, command_at, edited_by_csv, edited_in, id_and_clerk_in, imported_in};
+ghost use Rattle.office_http_requests.specs.Bodies.{data_of, MayBeObject};
+ghost use Rattle.office_http_requests.specs.Routes.{method_of, takes_body};
+ghost use Rattle.office_http_requests.specs.Commands.{MayWantFor, added_intersection, asked_at, body_for, clerk_and_csv_in, clerk_and_rows_in, asked_in_csv, asked_in_json, command_at, edited_by_csv, edited_in, id_and_clerk_in, imported_in};
 
 use crate::asked::Asked;
 use crate::route::{Endpoint, Routes};
@@ -33,13 +33,22 @@ impl Routes {
         if !endpoint.allows(request.method) {
             return Err(AskFault::Method);
         }
-        asked(
-            alloc,
-            endpoint,
-            request.path,
-            body::given(alloc, request.body),
-        )
+        let body = told_of_body(alloc, endpoint, request.body);
+        asked(alloc, endpoint, request.path, body)
     }
+}
+
+// What is told of the body of a request whose route and method are known. That of a GET is not
+// looked at: whatever its bytes are, it is taken for none.
+fn told_of_body(alloc: Global, endpoint: Endpoint, bytes: &[u8]) -> Result<Value, AskFault>
+    ensures gives { Gives (data_of result) (body_for endpoint bytes.now) }
+    ensures memory { WantsMemoryOnlyIf result (MayBeObject bytes.now) }
+    ensures unread { takes_body endpoint ≡ false → result ≡ Err AskFault.Json }
+{
+    if !endpoint.takes_body() {
+        return Err(AskFault::Json);
+    }
+    body::given(alloc, bytes)
 }
 
 /// What a request asks, or the first fault, by a table of routes that is made for it alone.

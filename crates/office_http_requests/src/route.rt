@@ -2,7 +2,8 @@
 ghost use Rattle.std.specs.Prelude.{◌≡◌, bytes_eq, IfOk, IfErr};
 ghost use Rattle.matchit.specs.declared.error.InsertError.TheVariants.{OutOfMemory};
 ghost use Rattle.office_http_requests.specs.Asks.{or_no_route};
-ghost use Rattle.office_http_requests.specs.Routes.{route_rows, route_text, record_route_text, method_of, endpoint_of};
+ghost use Rattle.office_http_requests.specs.Routes.{route_rows, route_text, record_route_text};
+ghost use Rattle.office_http_requests.specs.Routes.{method_of, takes_body, endpoint_of};
 
 use crate::kind::RecordKind;
 use http::Method;
@@ -100,6 +101,13 @@ impl Endpoint {
         ensures { result ≡ bytes_eq method.now (method_of self) }
     {
         method == self.method().as_str().as_bytes()
+    }
+
+    /// Whether the body of a request is looked at here: that of a GET is not.
+    pub(crate) fn takes_body(self) -> bool
+        ensures { result ≡ takes_body self }
+    {
+        self.allows(b"POST")
     }
 
     /// The route that leads here, as `matchit` spells it.

@@ -1,17 +1,19 @@
 //! The rows of a body: an array of arrays of texts, each of which spells a change.
-ghost use Rattle.std.specs.Prelude.{◌≡◌, ◌++◌, [], ◌∷◌, IfOk, IfErr, is_some, option_map, option_and_then};
+ghost use Rattle.std.specs.Prelude.{◌≡◌, ◌≤◌, [], Any, IfOk, is_some, length, option_map};
+ghost use Rattle.std.specs.Prelude.{option_and_then, vec_capacity, vec_len};
 ghost use Rattle.std.specs.List.{list_all};
 ghost use Rattle.serde_json.specs.Find.{get, as_array, as_str};
 ghost use Rattle.serde_json.specs.View.{view, items_view};
 ghost use Rattle.office_http_requests.specs.Asks.{Gives, MayWant, WantsMemoryOnlyIf};
 ghost use Rattle.office_http_faults.specs.Fields.{field_name};
-ghost use Rattle.office_http_requests.specs.Rows.{texts_in, rows_in, changes_of, changes_in, IsRowFault, ShowsTexts, ShowsRows, rows_seen};
+ghost use Rattle.office_http_requests.specs.Rows.{texts_in, rows_in, changes_of, changes_in, rows_seen};
+ghost use Rattle.office_http_requests.specs.Rows.{PutsListAt, ShowsTexts, ShowsRows};
 
 use draft_core::changes::Changes;
-use office_files::CsvFault;
+use office_files::told_of_record;
 use office_http_faults::{AskFault, Field};
 use serde_json::Value;
-use signal_records::{Change, RowFault, read_change};
+use signal_records::{Change, read_change};
 use std::alloc::{AllocError, Global};
 
 // The texts of an array that has texts alone.
@@ -56,32 +58,18 @@ fn rows<'a>(alloc: Global, body: &'a Value) -> Result<Option<Vec<Vec<&'a [u8]>>>
     Ok(Some(rows))
 }
 
-// Keeps the change that was read from the row at a place, counted from 1, or tells that row's
-// fault. Want of memory is told only where the reader of the row told it, or where a good row found
-// no room.
-fn keep(
-    changes: &mut Vec<Change>,
-    at: usize,
-    read: Result<Change, RowFault>,
-) -> Result<(), AskFault>
-    ensures kept { IfOk result (λ _. (change : Change)
-        × (read ≡ Ok change) × (changes.new.items ≡ changes.old.items ++ change ∷ [])) }
-    ensures fault { IfErr result (λ fault. IsRowFault at read fault) }
+// Reads the changes that rows spell, counted from 1, into the room for them. Out of memory is told
+// only where the reader of a row told it, of one that spells a change with a list of phases.
+fn changes(alloc: Global, room: Vec<Change>, rows: &[Vec<&[u8]>]) -> Result<Changes, AskFault>
+    requires empty { (room.items ≡ []) × (vec_len room ≡ 0) }
+    requires enough { length rows.now ≤ vec_capacity room }
+    ensures gives { Gives result (changes_of (rows_seen rows.now)) }
+    ensures memory { WantsMemoryOnlyIf result (Any PutsListAt (rows_seen rows.now)) }
 {
-    match read {
-        Ok(change) => changes.push(change)?,
-        Err(fault) => return Err(AskFault::from(CsvFault::of_record(at, fault))),
-    }
-    Ok(())
-}
-
-// The changes that rows spell, counted from 1.
-fn changes(alloc: Global, rows: &[Vec<&[u8]>]) -> Result<Changes, AskFault>
-    ensures { Gives result (changes_of (rows_seen rows.now)) }
-{
-    let mut changes = Vec::with_capacity(alloc, rows.len())?;
+    let mut changes = room;
     for (index, fields) in rows.iter().enumerate() {
-        keep(&mut changes, index + 1, read_change(alloc, fields))?;
+        let change = told_of_record(index + 1, read_change(alloc, fields))?;
+        changes.push_reserved(change);
     }
     Ok(Changes::new(changes))
 }
@@ -129,7 +117,10 @@ pub(crate) fn of_body(alloc: Global, body: &Value) -> Result<Changes, AskFault>
         return Err(AskFault::Field(Field::Rows));
     }
     match rows(alloc, body)? {
-        Some(rows) => changes(alloc, &rows),
+        Some(rows) => {
+            let room = Vec::with_capacity(alloc, rows.len())?;
+            changes(alloc, room, &rows)
+        }
         None => Err(AskFault::Field(Field::Rows)),
     }
 }

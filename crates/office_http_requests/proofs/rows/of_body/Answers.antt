@@ -9,7 +9,12 @@ returns-in_err-rows-clause-memory c =
     let found : is_some (rows_in (view c.args.body.now)) ≡ true = cc in
     only_if c.from_residual.result (changes_want _ found)
 
-pub returns-in-Some-clause-memory : goal.returns-in-Some-clause-memory
-returns-in-Some-clause-memory c =
+pub returns-in_err-room-in-Some-clause-memory : goal.returns-in_err-room-in-Some-clause-memory
+returns-in_err-room-in-Some-clause-memory c =
+    let found : is_some (rows_in (view c.args.body.now)) ≡ true = cc in
+    only_if c.from_residual-in_err-room-in-Some.result (changes_want _ found)
+
+pub returns-in_ok-room-in-Some-clause-memory : goal.returns-in_ok-room-in-Some-clause-memory
+returns-in_ok-room-in-Some-clause-memory c =
     let found : is_some (rows_in (view c.args.body.now)) ≡ true = cc in
     only_if c.changes.result (changes_want _ found)
