@@ -7,7 +7,7 @@ ghost use Rattle.office_tables_shelf.specs.CabinetReads.{ReadsDelivery, IsHand, 
 ghost use Rattle.office_desk_cabinet.specs.Puts.{Puts};
 
 use cabinet_core::{Delivery, Hand, Inspection, Order, PartCode, UsedLine};
-use office_tables_maps::map_shelf::MapShelf;
+use office_tables_maps::maps::Maps;
 use office_tables_shelf::rows::RowChange;
 use signal_records::{InterId, LineNo, NoMemory, RecordNo};
 use std::alloc::Global;
@@ -19,7 +19,7 @@ use std::marker::Model;
 pub struct Pending {
     changes: Vec<RowChange>,
     /// What the changes make of tables without a row.
-    puts: MapShelf,
+    puts: Maps,
 }
 
 impl Model for Pending {
@@ -32,7 +32,7 @@ impl Model for Pending {
 
     ghost view = { λ p. p.changes.items };
 
-    ghost invariant = { λ p. p.puts.tables ≡ changed_by no_content p.changes.items };
+    ghost invariant = { λ p. p.puts ≡ changed_by no_content p.changes.items };
 }
 
 impl Pending {
@@ -42,7 +42,7 @@ impl Pending {
     {
         Pending {
             changes: Vec::new(alloc),
-            puts: MapShelf::new(alloc),
+            puts: Maps::new(alloc),
         }
     }
 

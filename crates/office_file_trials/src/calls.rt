@@ -5,7 +5,7 @@ use office_desk::office::Office;
 use office_row_files::trouble::Trouble;
 use office_tables::open::OpenFault;
 use office_tables::sql_shelf::SqlShelf;
-use office_tables_memory::memory_shelf::MemoryShelf;
+use office_tables_maps::map_shelf::MapShelf;
 use office_trials::below::ask_below;
 use sqlite::MemStore;
 use std::alloc::Global;
@@ -22,7 +22,7 @@ fn over_tables(alloc: Global) -> Result<Office<SqlShelf<MemStore>>, Trouble> {
 /// Asks offices below the wire.
 pub fn try_below(rt: &HostRuntime) -> Result<(), Trouble> {
     let alloc = rt.alloc();
-    ask_below(alloc, &mut Office::new(MemoryShelf::new(alloc)))?;
+    ask_below(alloc, &mut Office::new(MapShelf::new(alloc)))?;
     ask_below(alloc, &mut over_tables(alloc)?)?;
     println!(rt;
         "a decision and its changes, the first that is overdue: the same over both shelves"

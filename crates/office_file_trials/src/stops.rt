@@ -5,7 +5,7 @@ use crate::migrating::{stop_migration, with_tables};
 use office_desk::office::Office;
 use office_row_files::trouble::Trouble;
 use office_tables::sql_shelf::SqlShelf;
-use office_tables_memory::memory_shelf::MemoryShelf;
+use office_tables_maps::map_shelf::MapShelf;
 use office_tables_shelf::shelf::Shelf;
 use office_trial_files::{Pair, close, connect, crashed, found, stopping};
 use office_trials::script::{UNAVAILABLE, UNKNOWN, commands, sent, told};
@@ -18,7 +18,7 @@ use std::alloc::Global;
 /// What an office shows at first, and after each command. The first four are also those of the
 /// stream.
 fn states(alloc: Global) -> Result<Vec<Vec<u8>>, Trouble> {
-    let mut office = Office::new(MemoryShelf::new(alloc));
+    let mut office = Office::new(MapShelf::new(alloc));
     let mut states = Vec::new(alloc);
     let mut seen = shown(alloc, &mut office)?;
     for line in commands() {

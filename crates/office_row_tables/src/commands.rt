@@ -10,7 +10,7 @@ use office_row_files::comparing::compare;
 use office_row_files::row::{Act, Row, Talk};
 use office_row_files::trouble::Trouble;
 use office_tables::sql_shelf::SqlShelf;
-use office_tables_memory::memory_shelf::MemoryShelf;
+use office_tables_maps::map_shelf::MapShelf;
 use office_tables_shelf::shelf::Shelf;
 use std::alloc::{AllocError, Global};
 
@@ -146,7 +146,7 @@ pub fn play_commands(alloc: Global, name: &str, row: &Row<'_>) -> Result<(), Tro
     if !is_list && !name.starts_with(DRAWN) {
         return Ok(());
     }
-    play_by(alloc, Office::new(MemoryShelf::new(alloc)), row, is_list)?;
+    play_by(alloc, Office::new(MapShelf::new(alloc)), row, is_list)?;
     match SqlShelf::open_in_memory(alloc) {
         Ok(shelf) => play_by(alloc, Office::new(shelf), row, is_list),
         Err(_) => Err(Trouble::NoMemory),

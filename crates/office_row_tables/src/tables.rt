@@ -3,7 +3,7 @@
 use office_desk::office::Office;
 use office_tables::open::OpenFault;
 use office_tables::sql_shelf::SqlShelf;
-use office_tables_memory::memory_shelf::MemoryShelf;
+use office_tables_maps::map_shelf::MapShelf;
 use office_tables_shelf::shelf::Shelf;
 use office_trial_files::{close, connect};
 use sqlite::{Alter, Connection, FileStore, MemStore};
@@ -29,11 +29,11 @@ pub(crate) trait Tables: Sized + Drop {
 /// Maps, which no other hand changes.
 #[derive(Drop)]
 pub(crate) struct Maps {
-    office: Office<MemoryShelf>,
+    office: Office<MapShelf>,
 }
 
 impl Tables for Maps {
-    type Shelf = MemoryShelf;
+    type Shelf = MapShelf;
 
     fn opened(self, _alloc: Global) -> (Maps, Result<(), OpenFault>) {
         (self, Ok(()))
@@ -43,7 +43,7 @@ impl Tables for Maps {
         (self, false)
     }
 
-    fn office(&mut self) -> Option<&mut Office<MemoryShelf>> {
+    fn office(&mut self) -> Option<&mut Office<MapShelf>> {
         Some(&mut self.office)
     }
 }
@@ -154,7 +154,7 @@ impl<D: Disk + Drop> Tables for InFiles<D> {
 /// New maps.
 pub(crate) fn in_maps(alloc: Global) -> Maps {
     Maps {
-        office: Office::new(MemoryShelf::new(alloc)),
+        office: Office::new(MapShelf::new(alloc)),
     }
 }
 

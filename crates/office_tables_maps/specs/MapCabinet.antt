@@ -9,8 +9,6 @@ use Rattle.cabinet_core.specs.declared.record.Delivery.{Delivery}
 use Rattle.office_tables_shelf.specs.Cells.{Cell, Rows, tree_rows}
 use Rattle.office_tables_shelf.specs.Content.{Content, no_content}
 use Rattle.office_tables_shelf.specs.CabinetReads.{IsPartWithin}
-use Rattle.office_tables_maps.specs.MapShelf.{intersection_rows}
-use Rattle.office_tables_shelf.specs.declared.rows.IntersectionRow.{IntersectionRow}
 use Rattle.office_tables_shelf.specs.CabinetRows.{inspection_key, inspection_columns, order_key, order_columns, used_key, used_columns, part_key, part_columns, delivery_key, delivery_columns}
 use Rattle.office_tables_maps.specs.declared.place.RecordPlace.{RecordPlace}
 use Rattle.office_tables_maps.specs.declared.place.LinePlace.{LinePlace}
@@ -62,13 +60,6 @@ with_parts es = record no_content { part = part_rows es }
 
 abbrev pub with_deliveries : List (DeliveryPlace × Delivery) → Content
 with_deliveries es = record no_content { delivery = delivery_rows es }
-
--- it holds of all tables that have these intersections and inspections, and any others
-abbrev pub OfTables : List (ℕ × IntersectionRow) → List (RecordPlace × Inspection)
-    → (Content → Type 0) → Type 0
-OfTables rows inspections Holds =
-    (tables : Content) → tables.intersection ≡ intersection_rows rows
-    → tables.inspection ≡ inspection_rows inspections → Holds tables
 
 -- ---- each record stands under its own key, within its limits
 

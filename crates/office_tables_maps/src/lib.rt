@@ -5,5 +5,6 @@ mod map_cabinet;
 mod map_overdue;
 mod map_rows;
 pub mod map_shelf;
+pub mod maps;
 mod place;
 mod under;

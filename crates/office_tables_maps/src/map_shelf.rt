@@ -1,256 +1,67 @@
-//! The tables in memory: what pending rows make of the register, and the reference shelf of tests,
-//! which copies itself at each apply.
-ghost use Rattle.std.specs.Prelude.{◌≡◌, OnOk, OnErr, IfOk, IfSome};
-ghost use Rattle.office_tables_maps.specs.MapShelf.{IsFreeOfStore};
+//! The tables of an office in memory.
+ghost use Rattle.std.specs.Prelude.{◌≡◌, IfOk};
+ghost use Rattle.office_tables_shelf.specs.Content.{no_content};
+ghost use Rattle.office_tables_shelf.specs.Counts.{no_writes};
 
-use crate::map_cabinet::{
-    all_parts, copied_parts, delivery_at, hand_of, inspection_at, inspections_of, line_at,
-    lines_of, order_at, orders_of, put_delivery, put_inspection, put_line, put_order, put_part,
-};
+use crate::map_cabinet::{all_parts, inspections_of, lines_of, orders_of};
 use crate::map_overdue::{last_of, overdue_of};
-use crate::map_rows::{
-    all_intersections, copied_drafts, copied_intersections, count_of, draft_of, drop_drafts,
-    intersection_at, put_draft, put_intersection, put_timing, remove_draft, remove_timing,
-    timing_of,
-};
-use crate::place::{DeliveryPlace, LinePlace, Place, RecordPlace};
+use crate::map_rows::{all_intersections, count_of, draft_of, intersection_at, timing_of};
+use crate::maps::Maps;
 use cabinet_core::{Day, Delivery, Hand, Inspection, Order, OverdueRow, PartCode, UsedLine};
 use office_tables_shelf::counts::WriteCounts;
 use office_tables_shelf::rows::{IntersectionRow, RowChange, Table};
 use office_tables_shelf::shelf::{Shelf, ShelfFault};
 use signal_records::{Change, InterId, LineNo, NoMemory, RecordNo, Row};
 use std::alloc::Global;
-use std::collections::BTreeMap;
 use std::marker::Model;
+use std::mem;
 
-/// Rows in memory, and how often those of each table were written. Each row is a record within its
-/// limits, as it was when it was put.
+/// Tables in memory, and how often the rows of each were written. Changes are made in a spare
+/// first, which then takes the place of the tables: so a refused change leaves no trace, and
+/// nothing is copied but after one.
 #[derive(Drop)]
 pub struct MapShelf {
-    intersection: BTreeMap<InterId, IntersectionRow>,
-    /// Each row stands under its own key.
-    timing: BTreeMap<Place, Row>,
-    /// What each draft row leaves at its key: a row, or none where it is a removal.
-    draft: BTreeMap<Place, Option<Row>>,
-    /// Each inspection, order, used part and delivery stands under its own numbers.
-    inspection: BTreeMap<RecordPlace, Inspection>,
-    work_order: BTreeMap<RecordPlace, Order>,
-    used_part: BTreeMap<LinePlace, UsedLine>,
-    part: BTreeMap<PartCode, Hand>,
-    delivery: BTreeMap<DeliveryPlace, Delivery>,
+    now: Maps,
+    /// The same tables, where there is a spare.
+    spare: Option<Maps>,
     counts: WriteCounts,
 }
 
 impl Model for MapShelf {
-    ghost use Rattle.office_tables_maps.specs.MapCabinet.{inspection_rows, order_rows, used_rows};
-    ghost use Rattle.office_tables_maps.specs.MapCabinet.{part_rows, delivery_rows};
-    ghost use Rattle.office_tables_maps.specs.MapShelf.{ShelfView, view_code, intersection_rows};
-    ghost use Rattle.office_tables_maps.specs.MapShelf.{timing_rows, draft_rows};
-    ghost use Rattle.office_tables_maps.specs.Placed.{AreTreesPlaced};
+    ghost use Rattle.std.specs.Prelude.{◌≡◌, IfSome};
+    ghost use Rattle.office_tables_maps.specs.MapShelf.{ShelfView, view_code};
 
     ghost Value = { ShelfView };
 
     ghost coded = { view_code };
 
-    ghost view = { λ s. record {
-      tables = record {
-        intersection = intersection_rows s.intersection.entries;
-        timing = timing_rows s.timing.entries;
-        draft = draft_rows s.draft.entries;
-        inspection = inspection_rows s.inspection.entries;
-        work_order = order_rows s.work_order.entries;
-        part = part_rows s.part.entries;
-        delivery = delivery_rows s.delivery.entries;
-        used_part = used_rows s.used_part.entries;
-      };
-      counts = s.counts;
-    } };
+    ghost view = { λ s. record { tables = s.now; counts = s.counts } };
 
-    ghost invariant = { λ s. AreTreesPlaced s.intersection.entries s.timing.entries
-        s.draft.entries s.inspection.entries s.work_order.entries s.used_part.entries
-        s.part.entries s.delivery.entries };
+    ghost invariant = { λ s. IfSome s.spare (λ spare. spare ≡ s.now) };
 }
 
 impl MapShelf {
-    ghost use Rattle.cabinet_core.specs.Within.{IsInspectionWithin, IsOrderWithin};
-    ghost use Rattle.cabinet_core.specs.Within.{IsUsedLineWithin, IsDeliveryWithin};
-    ghost use Rattle.office_tables_shelf.specs.CabinetReads.{ReadsInspection, ReadsOrder, ReadsUsed, ReadsDelivery, ReadsHand};
-    ghost use Rattle.office_tables_shelf.specs.CabinetReads.{IsHand};
-    ghost use Rattle.office_tables_shelf.specs.Content.{no_content};
-    ghost use Rattle.office_tables_shelf.specs.Change.{changed, changed_by};
-    ghost use Rattle.office_tables_shelf.specs.Counts.{no_writes, counts_after};
-
     /// Tables without a row, of which no row was written.
     pub fn new(alloc: Global) -> MapShelf
         ensures empty { result.tables ≡ no_content }
         ensures no_writes { result.counts ≡ no_writes }
     {
         MapShelf {
-            intersection: BTreeMap::new(alloc),
-            timing: BTreeMap::new(alloc),
-            draft: BTreeMap::new(alloc),
-            inspection: BTreeMap::new(alloc),
-            work_order: BTreeMap::new(alloc),
-            used_part: BTreeMap::new(alloc),
-            part: BTreeMap::new(alloc),
-            delivery: BTreeMap::new(alloc),
+            now: Maps::new(alloc),
+            spare: None,
             counts: WriteCounts::new(),
         }
     }
 
-    /// A copy of the tables, with the counts.
-    pub fn copied(&self) -> Result<MapShelf, NoMemory>
-        ensures { IfOk result (λ copy. copy ≡ self.now) }
+    /// The same tables: the spare, or a copy where there is none.
+    fn same(&mut self) -> Result<Maps, NoMemory>
+        ensures same { IfOk result (λ same. same ≡ self.old.tables) }
+        ensures unchanged { self.new ≡ self.old }
     {
-        let intersection = copied_intersections(&self.intersection)?;
-        let timing = self.timing.clone()?;
-        let draft = copied_drafts(&self.draft)?;
-        let inspection = self.inspection.clone()?;
-        let work_order = self.work_order.clone()?;
-        let used_part = self.used_part.clone()?;
-        let part = copied_parts(&self.part)?;
-        let delivery = self.delivery.clone()?;
-        Ok(MapShelf {
-            intersection,
-            timing,
-            draft,
-            inspection,
-            work_order,
-            used_part,
-            part,
-            delivery,
-            counts: self.counts,
-        })
-    }
-
-    /// Makes one change and does not count it. After a refusal the rows are of no use.
-    fn change(&mut self, change: &RowChange) -> Result<(), NoMemory>
-        ensures tables { OnOk result (self.new.tables ≡ changed self.old.tables change.now) }
-        ensures counts { self.new.counts ≡ self.old.counts }
-    {
-        match change {
-            RowChange::AddIntersection(id, row) => {
-                put_intersection(&mut self.intersection, *id, row.clone()?)?;
-            }
-            RowChange::PutIntersection(id, row) => {
-                put_intersection(&mut self.intersection, *id, row.clone()?)?;
-            }
-            RowChange::AddTiming(id, row) => put_timing(&mut self.timing, *id, row.clone()?)?,
-            RowChange::PutTiming(id, row) => put_timing(&mut self.timing, *id, row.clone()?)?,
-            RowChange::RemoveTiming(id, key) => remove_timing(&mut self.timing, *id, *key),
-            RowChange::AddDraft(id, change) => put_draft(&mut self.draft, *id, change)?,
-            RowChange::PutDraft(id, change) => put_draft(&mut self.draft, *id, change)?,
-            RowChange::RemoveDraft(id, key) => remove_draft(&mut self.draft, *id, *key),
-            RowChange::DropDraft(id) => drop_drafts(&mut self.draft, *id),
-            RowChange::AddInspection(id, inspection) => {
-                put_inspection(&mut self.inspection, *id, inspection.clone()?)?;
-            }
-            RowChange::AddOrder(id, order) => {
-                put_order(&mut self.work_order, *id, order.clone()?)?;
-            }
-            RowChange::PutOrder(id, order) => {
-                put_order(&mut self.work_order, *id, order.clone()?)?;
-            }
-            RowChange::AddLine(id, used) => put_line(&mut self.used_part, *id, used.clone()?)?,
-            RowChange::PutPart(part, hand) => put_part(&mut self.part, part.clone()?, *hand)?,
-            RowChange::AddDelivery(delivery) => {
-                put_delivery(&mut self.delivery, delivery.clone()?)?;
-            }
+        match self.spare.take() {
+            Some(spare) => Ok(spare),
+            None => self.now.copied(),
         }
-        Ok(())
-    }
-
-    /// These tables with one more change, which is not counted.
-    pub fn with(mut self, change: &RowChange) -> Result<MapShelf, NoMemory>
-        ensures { IfOk result (λ next. next.tables ≡ changed self.tables change.now) }
-    {
-        self.change(change)?;
-        Ok(self)
-    }
-
-    /// The inspection of an intersection with a number, if there is one.
-    pub fn inspection_at(
-        &self,
-        id: InterId,
-        number: RecordNo,
-    ) -> Result<Option<Inspection>, NoMemory>
-        ensures row { IfOk result (λ found. ReadsInspection self.now.tables id number found) }
-        ensures within { IfOk result (λ found. IfSome found IsInspectionWithin) }
-    {
-        inspection_at(&self.inspection, id, number)
-    }
-
-    /// The order on an intersection with a number, if there is one.
-    pub fn order_at(&self, id: InterId, number: RecordNo) -> Result<Option<Order>, NoMemory>
-        ensures row { IfOk result (λ found. ReadsOrder self.now.tables id number found) }
-        ensures within { IfOk result (λ found. IfSome found IsOrderWithin) }
-    {
-        order_at(&self.work_order, id, number)
-    }
-
-    /// The part used for an order on an intersection in a line, if there is one.
-    pub fn line_at(
-        &self,
-        id: InterId,
-        order: RecordNo,
-        line: LineNo,
-    ) -> Result<Option<UsedLine>, NoMemory>
-        ensures row { IfOk result (λ found. ReadsUsed self.now.tables id order line found) }
-        ensures within { IfOk result (λ found. IfSome found IsUsedLineWithin) }
-    {
-        line_at(&self.used_part, id, order, line)
-    }
-
-    /// The delivery of a part with a number, if there is one.
-    pub fn delivery_at(
-        &self,
-        part: &PartCode,
-        number: RecordNo,
-    ) -> Result<Option<Delivery>, NoMemory>
-        ensures row { IfOk result (λ found. ReadsDelivery self.now.tables part.now number found) }
-        ensures within { IfOk result (λ found. IfSome found IsDeliveryWithin) }
-    {
-        delivery_at(&self.delivery, part, number)
-    }
-
-    /// How many of a part are on hand, if there ever was a delivery of it.
-    pub fn hand_of(&self, part: &PartCode) -> Option<Hand>
-        ensures row { ReadsHand self.now.tables part.now result }
-        ensures within { IfSome result IsHand }
-    {
-        hand_of(&self.part, part)
-    }
-
-    /// Counts the writes of changes.
-    fn count(&mut self, changes: &[RowChange])
-        ensures tables { self.new.tables ≡ self.old.tables }
-        ensures counts { self.new.counts ≡ counts_after self.old.counts changes.now }
-    {
-        self.counts.count_all(changes);
-    }
-
-    /// These tables with the changes made, in their order, and counted.
-    pub fn made(self, changes: &[RowChange]) -> Result<MapShelf, NoMemory>
-        ensures tables { IfOk result (λ next. next.tables ≡ changed_by self.tables changes.now) }
-        ensures counts { IfOk result (λ next. next.counts ≡ counts_after self.counts changes.now) }
-    {
-        let mut next = self;
-        for change in changes {
-            next.change(change)?;
-        }
-        next.count(changes);
-        Ok(next)
-    }
-
-    /// A copy with the changes made, in their order, and counted.
-    fn changed(&self, changes: &[RowChange]) -> Result<MapShelf, NoMemory>
-        ensures tables { IfOk result (λ next.
-            next.tables ≡ changed_by self.now.tables changes.now) }
-        ensures counts { IfOk result (λ next.
-            next.counts ≡ counts_after self.now.counts changes.now) }
-    {
-        let next = self.copied()?;
-        next.made(changes)
     }
 }
 
@@ -290,7 +101,7 @@ impl Shelf for MapShelf {
         ensures unchanged { self.new ≡ self.old }
         ensures sound { IsFreeOfStore result }
     {
-        Ok(intersection_at(&self.intersection, id)?)
+        Ok(intersection_at(&self.now.intersection, id)?)
     }
 
     fn intersections(
@@ -302,7 +113,7 @@ impl Shelf for MapShelf {
         ensures unchanged { self.new ≡ self.old }
         ensures sound { IsFreeOfStore result }
     {
-        Ok(all_intersections(alloc, &self.intersection)?)
+        Ok(all_intersections(alloc, &self.now.intersection)?)
     }
 
     fn timing_rows(&mut self, alloc: Global, id: InterId) -> Result<Vec<Row>, ShelfFault>
@@ -312,7 +123,7 @@ impl Shelf for MapShelf {
         ensures unchanged { self.new ≡ self.old }
         ensures sound { IsFreeOfStore result }
     {
-        Ok(timing_of(alloc, &self.timing, id)?)
+        Ok(timing_of(alloc, &self.now.timing, id)?)
     }
 
     fn committed_count(&mut self, _alloc: Global, id: InterId) -> Result<usize, ShelfFault>
@@ -320,7 +131,7 @@ impl Shelf for MapShelf {
         ensures unchanged { self.new ≡ self.old }
         ensures sound { IsFreeOfStore result }
     {
-        Ok(count_of(&self.timing, id))
+        Ok(count_of(&self.now.timing, id))
     }
 
     fn draft_rows(&mut self, alloc: Global, id: InterId) -> Result<Vec<Change>, ShelfFault>
@@ -328,7 +139,7 @@ impl Shelf for MapShelf {
         ensures unchanged { self.new ≡ self.old }
         ensures sound { IsFreeOfStore result }
     {
-        Ok(draft_of(alloc, &self.draft, id)?)
+        Ok(draft_of(alloc, &self.now.draft, id)?)
     }
 
     fn inspection(
@@ -342,7 +153,7 @@ impl Shelf for MapShelf {
         ensures unchanged { self.new ≡ self.old }
         ensures sound { IsFreeOfStore result }
     {
-        Ok(self.inspection_at(id, number)?)
+        Ok(self.now.inspection_at(id, number)?)
     }
 
     fn inspections(&mut self, alloc: Global, id: InterId) -> Result<Vec<Inspection>, ShelfFault>
@@ -351,7 +162,7 @@ impl Shelf for MapShelf {
         ensures unchanged { self.new ≡ self.old }
         ensures sound { IsFreeOfStore result }
     {
-        Ok(inspections_of(alloc, &self.inspection, id)?)
+        Ok(inspections_of(alloc, &self.now.inspection, id)?)
     }
 
     fn last_inspection(&mut self, _alloc: Global, id: InterId) -> Result<Option<Day>, ShelfFault>
@@ -359,7 +170,7 @@ impl Shelf for MapShelf {
         ensures unchanged { self.new ≡ self.old }
         ensures sound { IsFreeOfStore result }
     {
-        Ok(last_of(&self.inspection, id))
+        Ok(last_of(&self.now.inspection, id))
     }
 
     fn overdue_rows(
@@ -374,8 +185,7 @@ impl Shelf for MapShelf {
         ensures unchanged { self.new ≡ self.old }
         ensures sound { IsFreeOfStore result }
     {
-        let found = overdue_of(alloc, &self.intersection, &self.inspection, day, most)?;
-        Ok(found)
+        Ok(overdue_of(alloc, &self.now, day, most)?)
     }
 
     fn order(
@@ -389,7 +199,7 @@ impl Shelf for MapShelf {
         ensures unchanged { self.new ≡ self.old }
         ensures sound { IsFreeOfStore result }
     {
-        Ok(self.order_at(id, number)?)
+        Ok(self.now.order_at(id, number)?)
     }
 
     fn orders(&mut self, alloc: Global, id: InterId) -> Result<Vec<Order>, ShelfFault>
@@ -398,7 +208,7 @@ impl Shelf for MapShelf {
         ensures unchanged { self.new ≡ self.old }
         ensures sound { IsFreeOfStore result }
     {
-        Ok(orders_of(alloc, &self.work_order, id)?)
+        Ok(orders_of(alloc, &self.now.work_order, id)?)
     }
 
     fn used_line(
@@ -413,7 +223,7 @@ impl Shelf for MapShelf {
         ensures unchanged { self.new ≡ self.old }
         ensures sound { IsFreeOfStore result }
     {
-        Ok(self.line_at(id, order, line)?)
+        Ok(self.now.line_at(id, order, line)?)
     }
 
     fn used_lines(&mut self, alloc: Global, id: InterId) -> Result<Vec<UsedLine>, ShelfFault>
@@ -422,7 +232,7 @@ impl Shelf for MapShelf {
         ensures unchanged { self.new ≡ self.old }
         ensures sound { IsFreeOfStore result }
     {
-        Ok(lines_of(alloc, &self.used_part, id)?)
+        Ok(lines_of(alloc, &self.now.used_part, id)?)
     }
 
     fn delivery(
@@ -436,7 +246,7 @@ impl Shelf for MapShelf {
         ensures unchanged { self.new ≡ self.old }
         ensures sound { IsFreeOfStore result }
     {
-        Ok(self.delivery_at(part, number)?)
+        Ok(self.now.delivery_at(part, number)?)
     }
 
     fn hand(&mut self, _alloc: Global, part: &PartCode) -> Result<Option<Hand>, ShelfFault>
@@ -445,7 +255,7 @@ impl Shelf for MapShelf {
         ensures unchanged { self.new ≡ self.old }
         ensures sound { IsFreeOfStore result }
     {
-        Ok(self.hand_of(part))
+        Ok(self.now.hand_of(part))
     }
 
     fn parts(&mut self, alloc: Global) -> Result<Vec<(PartCode, Hand)>, ShelfFault>
@@ -454,7 +264,7 @@ impl Shelf for MapShelf {
         ensures unchanged { self.new ≡ self.old }
         ensures sound { IsFreeOfStore result }
     {
-        Ok(all_parts(alloc, &self.part)?)
+        Ok(all_parts(alloc, &self.now.part)?)
     }
 
     fn apply(&mut self, _alloc: Global, changes: &[RowChange]) -> Result<(), ShelfFault>
@@ -463,7 +273,10 @@ impl Shelf for MapShelf {
         ensures unchanged { OnErr result (self.new ≡ self.old) }
         ensures sound { IsFreeOfStore result }
     {
-        *self = self.changed(changes)?;
+        let next = self.same()?.made(changes)?;
+        let old = mem::replace(&mut self.now, next);
+        self.spare = old.made(changes).ok();
+        self.counts.count_all(changes);
         Ok(())
     }
 

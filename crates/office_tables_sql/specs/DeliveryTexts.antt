@@ -5,24 +5,21 @@ use Rattle.sqlite_tied.specs.Compute.{everything}
 use Rattle.cabinet_core.specs.declared.record.Delivery.{Delivery as Found}
 use Rattle.office_tables_shelf.specs.CabinetRows.{delivery_key, delivery_columns}
 use Rattle.office_tables_shelf.specs.declared.rows.Table.TheVariants.{Delivery}
-use Rattle.office_tables_statements.specs.Tables.{IsListText, IsFindText, IsUpdateText, IsInsertText, Fits}
+use Rattle.office_tables_statements.specs.Tables.{Fits}
+use Rattle.office_tables_sql.specs.Texts.{SqlTexts, AreTextsOf}
 use Rattle.office_tables_sql.specs.declared.delivery.TheConstants.{LIST, FIND, UPDATE, INSERT}
 
-pub lists : IsListText Delivery LIST.now
-unfolding understood everything
-lists = record { names = codes "part" ∷ codes "number" ∷ codes "day" ∷ codes "amount" ∷ []; is = refl; query = record { plain = (refl, refl); unlisted = refl } }
+abbrev pub texts : SqlTexts
+texts = record { list = LIST.now; find = FIND.now; update = UPDATE.now; insert = INSERT.now }
 
-pub finds : IsFindText Delivery FIND.now
+pub means : AreTextsOf Delivery texts
 unfolding understood everything
-finds = record { names = codes "part" ∷ codes "number" ∷ codes "day" ∷ codes "amount" ∷ []; is = refl; query = record { plain = (refl, refl); unlisted = refl } }
-
-pub updates : IsUpdateText Delivery UPDATE.now
-unfolding understood everything
-updates = record { is = refl; plain = (refl, refl) }
-
-pub inserts : IsInsertText Delivery INSERT.now
-unfolding understood everything
-inserts = record { is = refl; plain = (refl, refl) }
+means = record {
+  lists = record { names = codes "part" ∷ codes "number" ∷ codes "day" ∷ codes "amount" ∷ []; is = refl; query = record { plain = (refl, refl); unlisted = refl } };
+  finds = record { names = codes "part" ∷ codes "number" ∷ codes "day" ∷ codes "amount" ∷ []; is = refl; query = record { plain = (refl, refl); unlisted = refl } };
+  updates = record { is = refl; plain = (refl, refl) };
+  inserts = record { is = refl; plain = (refl, refl) };
+}
 
 pub fits : (found : Found) → Fits Delivery (delivery_key found.part found.number) (delivery_columns found)
 fits found = record {

@@ -1,28 +1,25 @@
--- What the three statements on inspections mean over the schema.
+-- What the statements on inspections mean over the schema.
 use Rattle.std.specs.Prelude.{ℕ, [], ◌∷◌, codes, refl}
 use Rattle.sqlite.specs.Listing.{understood}
 use Rattle.sqlite_tied.specs.Compute.{everything}
 use Rattle.cabinet_core.specs.declared.record.Inspection.{Inspection as Found}
 use Rattle.office_tables_shelf.specs.CabinetRows.{inspection_key, inspection_columns}
 use Rattle.office_tables_shelf.specs.declared.rows.Table.TheVariants.{Inspection}
-use Rattle.office_tables_statements.specs.Tables.{IsListText, IsFindText, IsUpdateText, IsInsertText, Fits}
+use Rattle.office_tables_statements.specs.Tables.{Fits}
+use Rattle.office_tables_sql.specs.Texts.{SqlTexts, AreTextsOf}
 use Rattle.office_tables_sql.specs.declared.inspection.TheConstants.{LIST, FIND, UPDATE, INSERT}
 
-pub lists : IsListText Inspection LIST.now
-unfolding understood everything
-lists = record { names = codes "inter" ∷ codes "number" ∷ codes "day" ∷ codes "clerk" ∷ codes "body" ∷ []; is = refl; query = record { plain = (refl, refl); unlisted = refl } }
+abbrev pub texts : SqlTexts
+texts = record { list = LIST.now; find = FIND.now; update = UPDATE.now; insert = INSERT.now }
 
-pub finds : IsFindText Inspection FIND.now
+pub means : AreTextsOf Inspection texts
 unfolding understood everything
-finds = record { names = codes "inter" ∷ codes "number" ∷ codes "day" ∷ codes "clerk" ∷ codes "body" ∷ []; is = refl; query = record { plain = (refl, refl); unlisted = refl } }
-
-pub updates : IsUpdateText Inspection UPDATE.now
-unfolding understood everything
-updates = record { is = refl; plain = (refl, refl) }
-
-pub inserts : IsInsertText Inspection INSERT.now
-unfolding understood everything
-inserts = record { is = refl; plain = (refl, refl) }
+means = record {
+  lists = record { names = codes "inter" ∷ codes "number" ∷ codes "day" ∷ codes "clerk" ∷ codes "body" ∷ []; is = refl; query = record { plain = (refl, refl); unlisted = refl } };
+  finds = record { names = codes "inter" ∷ codes "number" ∷ codes "day" ∷ codes "clerk" ∷ codes "body" ∷ []; is = refl; query = record { plain = (refl, refl); unlisted = refl } };
+  updates = record { is = refl; plain = (refl, refl) };
+  inserts = record { is = refl; plain = (refl, refl) };
+}
 
 pub fits : (id : ℕ) (found : Found) → Fits Inspection (inspection_key id found.number) (inspection_columns found)
 fits id found = record {

@@ -6,24 +6,21 @@ use Rattle.draft_state.specs.declared.state.Holder.{Holder}
 use Rattle.office_tables_shelf.specs.Cells.{number, text}
 use Rattle.office_tables_shelf.specs.Rows.{state_number, owner_cell, intersection_key}
 use Rattle.office_tables_shelf.specs.declared.rows.Table.TheVariants.{Intersection}
-use Rattle.office_tables_statements.specs.Tables.{IsListText, IsFindText, IsUpdateText, IsInsertText, Fits}
+use Rattle.office_tables_statements.specs.Tables.{Fits}
+use Rattle.office_tables_sql.specs.Texts.{SqlTexts, AreTextsOf}
 use Rattle.office_tables_sql.specs.declared.intersection.TheConstants.{LIST, FIND, UPDATE, INSERT}
 
-pub lists : IsListText Intersection LIST.now
-unfolding understood everything
-lists = record { names = codes "id" ∷ codes "name" ∷ codes "days" ∷ codes "revision" ∷ codes "state" ∷ codes "owner" ∷ []; is = refl; query = record { plain = (refl, refl); unlisted = refl } }
+abbrev pub texts : SqlTexts
+texts = record { list = LIST.now; find = FIND.now; update = UPDATE.now; insert = INSERT.now }
 
-pub finds : IsFindText Intersection FIND.now
+pub means : AreTextsOf Intersection texts
 unfolding understood everything
-finds = record { names = codes "id" ∷ codes "name" ∷ codes "days" ∷ codes "revision" ∷ codes "state" ∷ codes "owner" ∷ []; is = refl; query = record { plain = (refl, refl); unlisted = refl } }
-
-pub updates : IsUpdateText Intersection UPDATE.now
-unfolding understood everything
-updates = record { is = refl; plain = (refl, refl) }
-
-pub inserts : IsInsertText Intersection INSERT.now
-unfolding understood everything
-inserts = record { is = refl; plain = (refl, refl) }
+means = record {
+  lists = record { names = codes "id" ∷ codes "name" ∷ codes "days" ∷ codes "revision" ∷ codes "state" ∷ codes "owner" ∷ []; is = refl; query = record { plain = (refl, refl); unlisted = refl } };
+  finds = record { names = codes "id" ∷ codes "name" ∷ codes "days" ∷ codes "revision" ∷ codes "state" ∷ codes "owner" ∷ []; is = refl; query = record { plain = (refl, refl); unlisted = refl } };
+  updates = record { is = refl; plain = (refl, refl) };
+  inserts = record { is = refl; plain = (refl, refl) };
+}
 
 pub fits : (id : ℕ) (name : List ℕ) (days revision : ℕ) (holder : Option Holder)
     → Fits Intersection (intersection_key id) (text name ∷ number (pos days) ∷ number (pos revision) ∷ number (pos (state_number holder)) ∷ owner_cell holder ∷ [])

@@ -1,4 +1,5 @@
 pub mod Gathers
+pub mod Texts
 pub mod IntersectionTexts
 pub mod PartTexts
 pub mod DeliveryTexts

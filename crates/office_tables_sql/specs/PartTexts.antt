@@ -4,24 +4,21 @@ use Rattle.sqlite.specs.Listing.{understood}
 use Rattle.sqlite_tied.specs.Compute.{everything}
 use Rattle.office_tables_shelf.specs.CabinetRows.{part_key, part_columns}
 use Rattle.office_tables_shelf.specs.declared.rows.Table.TheVariants.{Part}
-use Rattle.office_tables_statements.specs.Tables.{IsListText, IsFindText, IsUpdateText, IsInsertText, Fits}
+use Rattle.office_tables_statements.specs.Tables.{Fits}
+use Rattle.office_tables_sql.specs.Texts.{SqlTexts, AreTextsOf}
 use Rattle.office_tables_sql.specs.declared.part.TheConstants.{LIST, FIND, UPDATE, INSERT}
 
-pub lists : IsListText Part LIST.now
-unfolding understood everything
-lists = record { names = codes "code" ∷ codes "hand" ∷ []; is = refl; query = record { plain = (refl, refl); unlisted = refl } }
+abbrev pub texts : SqlTexts
+texts = record { list = LIST.now; find = FIND.now; update = UPDATE.now; insert = INSERT.now }
 
-pub finds : IsFindText Part FIND.now
+pub means : AreTextsOf Part texts
 unfolding understood everything
-finds = record { names = codes "code" ∷ codes "hand" ∷ []; is = refl; query = record { plain = (refl, refl); unlisted = refl } }
-
-pub updates : IsUpdateText Part UPDATE.now
-unfolding understood everything
-updates = record { is = refl; plain = (refl, refl) }
-
-pub inserts : IsInsertText Part INSERT.now
-unfolding understood everything
-inserts = record { is = refl; plain = (refl, refl) }
+means = record {
+  lists = record { names = codes "code" ∷ codes "hand" ∷ []; is = refl; query = record { plain = (refl, refl); unlisted = refl } };
+  finds = record { names = codes "code" ∷ codes "hand" ∷ []; is = refl; query = record { plain = (refl, refl); unlisted = refl } };
+  updates = record { is = refl; plain = (refl, refl) };
+  inserts = record { is = refl; plain = (refl, refl) };
+}
 
 pub fits : (code : List ℕ) (hand : ℕ) → Fits Part (part_key code) (part_columns hand)
 fits code hand = record {

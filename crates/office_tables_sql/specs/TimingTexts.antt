@@ -6,28 +6,25 @@ use Rattle.signal_records.specs.Row.{key_of}
 use Rattle.signal_records.specs.declared.record.Row.{Row}
 use Rattle.office_tables_shelf.specs.Rows.{timing_key, timing_columns}
 use Rattle.office_tables_shelf.specs.declared.rows.Table.TheVariants.{Timing}
-use Rattle.office_tables_statements.specs.Tables.{IsListText, IsFindText, IsCountText, IsUpdateText, IsInsertText, IsRemoveText, Fits}
-use Rattle.office_tables_sql.specs.declared.timing.TheConstants.{LIST, FIND, COUNT, UPDATE, INSERT, REMOVE}
+use Rattle.office_tables_statements.specs.Tables.{IsCountText, IsRemoveText, Fits}
+use Rattle.office_tables_sql.specs.Texts.{SqlTexts, AreTextsOf}
+use Rattle.office_tables_sql.specs.declared.timing.TheConstants.{LIST, FIND, UPDATE, INSERT, COUNT, REMOVE}
 
-pub lists : IsListText Timing LIST.now
-unfolding understood everything
-lists = record { names = codes "inter" ∷ codes "kind" ∷ codes "a" ∷ codes "b" ∷ codes "body" ∷ []; is = refl; query = record { plain = (refl, refl); unlisted = refl } }
+abbrev pub texts : SqlTexts
+texts = record { list = LIST.now; find = FIND.now; update = UPDATE.now; insert = INSERT.now }
 
-pub finds : IsFindText Timing FIND.now
+pub means : AreTextsOf Timing texts
 unfolding understood everything
-finds = record { names = codes "inter" ∷ codes "kind" ∷ codes "a" ∷ codes "b" ∷ codes "body" ∷ []; is = refl; query = record { plain = (refl, refl); unlisted = refl } }
+means = record {
+  lists = record { names = codes "inter" ∷ codes "kind" ∷ codes "a" ∷ codes "b" ∷ codes "body" ∷ []; is = refl; query = record { plain = (refl, refl); unlisted = refl } };
+  finds = record { names = codes "inter" ∷ codes "kind" ∷ codes "a" ∷ codes "b" ∷ codes "body" ∷ []; is = refl; query = record { plain = (refl, refl); unlisted = refl } };
+  updates = record { is = refl; plain = (refl, refl) };
+  inserts = record { is = refl; plain = (refl, refl) };
+}
 
 pub counts : IsCountText Timing COUNT.now
 unfolding understood everything
 counts = record { names = codes "count(*)" ∷ []; is = refl; query = record { plain = (refl, refl); unlisted = refl } }
-
-pub updates : IsUpdateText Timing UPDATE.now
-unfolding understood everything
-updates = record { is = refl; plain = (refl, refl) }
-
-pub inserts : IsInsertText Timing INSERT.now
-unfolding understood everything
-inserts = record { is = refl; plain = (refl, refl) }
 
 pub removes : IsRemoveText Timing REMOVE.now
 unfolding understood everything

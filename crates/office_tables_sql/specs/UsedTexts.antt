@@ -1,28 +1,25 @@
--- What the three statements on used parts mean over the schema.
+-- What the statements on used parts mean over the schema.
 use Rattle.std.specs.Prelude.{ℕ, [], ◌∷◌, codes, refl}
 use Rattle.sqlite.specs.Listing.{understood}
 use Rattle.sqlite_tied.specs.Compute.{everything}
 use Rattle.cabinet_core.specs.declared.record.UsedLine.{UsedLine}
 use Rattle.office_tables_shelf.specs.CabinetRows.{used_key, used_columns}
 use Rattle.office_tables_shelf.specs.declared.rows.Table.TheVariants.{UsedPart}
-use Rattle.office_tables_statements.specs.Tables.{IsListText, IsFindText, IsUpdateText, IsInsertText, Fits}
+use Rattle.office_tables_statements.specs.Tables.{Fits}
+use Rattle.office_tables_sql.specs.Texts.{SqlTexts, AreTextsOf}
 use Rattle.office_tables_sql.specs.declared.used.TheConstants.{LIST, FIND, UPDATE, INSERT}
 
-pub lists : IsListText UsedPart LIST.now
-unfolding understood everything
-lists = record { names = codes "inter" ∷ codes "ord" ∷ codes "line" ∷ codes "part" ∷ codes "amount" ∷ []; is = refl; query = record { plain = (refl, refl); unlisted = refl } }
+abbrev pub texts : SqlTexts
+texts = record { list = LIST.now; find = FIND.now; update = UPDATE.now; insert = INSERT.now }
 
-pub finds : IsFindText UsedPart FIND.now
+pub means : AreTextsOf UsedPart texts
 unfolding understood everything
-finds = record { names = codes "inter" ∷ codes "ord" ∷ codes "line" ∷ codes "part" ∷ codes "amount" ∷ []; is = refl; query = record { plain = (refl, refl); unlisted = refl } }
-
-pub updates : IsUpdateText UsedPart UPDATE.now
-unfolding understood everything
-updates = record { is = refl; plain = (refl, refl) }
-
-pub inserts : IsInsertText UsedPart INSERT.now
-unfolding understood everything
-inserts = record { is = refl; plain = (refl, refl) }
+means = record {
+  lists = record { names = codes "inter" ∷ codes "ord" ∷ codes "line" ∷ codes "part" ∷ codes "amount" ∷ []; is = refl; query = record { plain = (refl, refl); unlisted = refl } };
+  finds = record { names = codes "inter" ∷ codes "ord" ∷ codes "line" ∷ codes "part" ∷ codes "amount" ∷ []; is = refl; query = record { plain = (refl, refl); unlisted = refl } };
+  updates = record { is = refl; plain = (refl, refl) };
+  inserts = record { is = refl; plain = (refl, refl) };
+}
 
 pub fits : (id : ℕ) (line : UsedLine) → Fits UsedPart (used_key id line.order line.line) (used_columns line)
 fits id line = record {

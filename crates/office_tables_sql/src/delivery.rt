@@ -1,6 +1,6 @@
 //! The table `delivery`: what was delivered of each part.
 
-use crate::stored_row::StoredRow;
+use crate::stored_row::{StoredRow, Texts};
 use cabinet_core::Delivery;
 use office_tables_shelf::shelf::ShelfFault;
 use office_tables_statements::value::{code_at, day_at, ranged_at};
@@ -21,8 +21,7 @@ impl StoredRow for Delivery {
     ghost use Rattle.cabinet_core.specs.Within.{IsDeliveryWithin};
     ghost use Rattle.office_tables_shelf.specs.CabinetRows.{delivery_key, delivery_columns};
     ghost use Rattle.office_tables_shelf.specs.declared.rows.Table.TheVariants as table;
-    ghost use Rattle.office_tables_sql.specs.declared.delivery.TheConstants.{LIST, FIND, UPDATE, INSERT};
-    ghost use Rattle.office_tables_sql.specs.DeliveryTexts as texts;
+    ghost use Rattle.office_tables_sql.specs.DeliveryTexts as facts;
 
     type Of = ();
 
@@ -36,38 +35,19 @@ impl StoredRow for Delivery {
 
     ghost is_within = { IsDeliveryWithin };
 
-    ghost list_text = { LIST.now };
+    ghost texts = { facts.texts };
 
-    ghost find_text = { FIND.now };
+    ghost means = { facts.means };
 
-    ghost update_text = { UPDATE.now };
+    ghost fits = { λ _ delivery. facts.fits delivery };
 
-    ghost insert_text = { INSERT.now };
-
-    ghost lists = { texts.lists };
-
-    ghost finds = { texts.finds };
-
-    ghost updates = { texts.updates };
-
-    ghost inserts = { texts.inserts };
-
-    ghost fits = { λ _ delivery. texts.fits delivery };
-
-    fn list_text() -> &'static str {
-        LIST
-    }
-
-    fn find_text() -> &'static str {
-        FIND
-    }
-
-    fn update_text() -> &'static str {
-        UPDATE
-    }
-
-    fn insert_text() -> &'static str {
-        INSERT
+    fn texts() -> Texts {
+        Texts {
+            list: LIST,
+            find: FIND,
+            update: UPDATE,
+            insert: INSERT,
+        }
     }
 
     fn read(alloc: Global, _of: (), row: &Row) -> Result<Delivery, ShelfFault> {

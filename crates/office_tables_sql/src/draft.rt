@@ -11,7 +11,7 @@ ghost use Rattle.office_tables_statements.specs.Calls.{IsHonest, StandsOn, Turns
 ghost use Rattle.office_tables_statements.specs.Stored.{content_now};
 ghost use Rattle.office_tables_statements.specs.Tables.{drop_in, values_of};
 
-use crate::stored_row::{StoredRow, TimingKeyed};
+use crate::stored_row::{StoredRow, Texts, TimingKeyed};
 use office_tables_shelf::rows::Table;
 use office_tables_shelf::shelf::ShelfFault;
 use office_tables_statements::body::write_body;
@@ -68,8 +68,7 @@ impl StoredRow for Change {
     ghost use Rattle.signal_records.specs.Within.{IsChangeWithin, current_limits};
     ghost use Rattle.office_tables_shelf.specs.Rows.{draft_key, draft_columns};
     ghost use Rattle.office_tables_shelf.specs.declared.rows.Table.TheVariants as table;
-    ghost use Rattle.office_tables_sql.specs.declared.draft.TheConstants.{LIST, FIND, UPDATE, INSERT};
-    ghost use Rattle.office_tables_sql.specs.DraftTexts as texts;
+    ghost use Rattle.office_tables_sql.specs.DraftTexts as facts;
 
     type Of = InterId;
 
@@ -83,38 +82,19 @@ impl StoredRow for Change {
 
     ghost is_within = { IsChangeWithin current_limits };
 
-    ghost list_text = { LIST.now };
+    ghost texts = { facts.texts };
 
-    ghost find_text = { FIND.now };
+    ghost means = { facts.means };
 
-    ghost update_text = { UPDATE.now };
+    ghost fits = { facts.fits };
 
-    ghost insert_text = { INSERT.now };
-
-    ghost lists = { texts.lists };
-
-    ghost finds = { texts.finds };
-
-    ghost updates = { texts.updates };
-
-    ghost inserts = { texts.inserts };
-
-    ghost fits = { texts.fits };
-
-    fn list_text() -> &'static str {
-        LIST
-    }
-
-    fn find_text() -> &'static str {
-        FIND
-    }
-
-    fn update_text() -> &'static str {
-        UPDATE
-    }
-
-    fn insert_text() -> &'static str {
-        INSERT
+    fn texts() -> Texts {
+        Texts {
+            list: LIST,
+            find: FIND,
+            update: UPDATE,
+            insert: INSERT,
+        }
     }
 
     /// Without a body it removes what is under its key.
@@ -144,15 +124,10 @@ impl StoredRow for Change {
 
 impl TimingKeyed for Change {
     ghost use Rattle.std.specs.Prelude.{refl};
-    ghost use Rattle.office_tables_sql.specs.declared.draft.TheConstants.{REMOVE};
-    ghost use Rattle.office_tables_sql.specs.DraftTexts as texts;
-
-    ghost remove_text = { REMOVE.now };
-
-    ghost removes = { texts.removes };
 
     ghost keyed = { λ id key. (refl, refl) };
 
+    #[tactic(auto, using(crate::specs::DraftTexts::removes))]
     fn remove_text() -> &'static str {
         REMOVE
     }

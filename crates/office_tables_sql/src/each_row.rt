@@ -119,7 +119,7 @@ pub(crate) fn gathered<T: StoredRow, G: Gather<T>, S: Alter>(
     ensures crash { Survives (state S.Store conn.old) (state S.Store conn.new) (λ _. ⊥) }
     ensures open { TellsOpen result (state S.Store conn.new) }
 {
-    let statement = prepared(conn, T::list_text())?;
+    let statement = prepared(conn, T::texts().list)?;
     gather_each::<T, G, S>(alloc, conn, &statement, of, params, begun)
 }
 
@@ -132,7 +132,7 @@ fn gather_each<T: StoredRow, G: Gather<T>, S: Alter>(
     params: &[ValueRef<'_>],
     begun: G,
 ) -> Result<G, ShelfFault>
-    requires text { HasCleanDisk (state S.Store conn.old) → statement.now.text ≡ T.list_text }
+    requires text { HasCleanDisk (state S.Store conn.old) → statement.now.text ≡ T.texts.list }
     requires params { bound params.now ≡ params_of T.table (T.number of) }
     requires office { IsOffice (state S.Store conn.old) }
     requires opened { HasCleanDisk (state S.Store conn.old) → IsTrue (state S.Store conn.old).is_open }

@@ -24,7 +24,7 @@ ghost use Rattle.office_tables_statements.specs.Calls.{StandsOn};
 ghost use Rattle.office_tables_statements.specs.Calls.{TellsOpen};
 ghost use Rattle.office_tables_statements.specs.Tables.{value_of};
 
-use crate::stored_row::{self, StoredRow};
+use crate::stored_row::{self, StoredRow, Texts};
 use draft_state::state::{Holder, Stage};
 use office_tables_shelf::rows::IntersectionRow;
 use office_tables_shelf::shelf::ShelfFault;
@@ -51,8 +51,7 @@ impl StoredRow for (InterId, IntersectionRow) {
     ghost use Rattle.office_tables_shelf.specs.Rows.{intersection_key, intersection_columns};
     ghost use Rattle.office_tables_shelf.specs.Shelf.{IsIntersectionWithin};
     ghost use Rattle.office_tables_shelf.specs.declared.rows.Table.TheVariants as table;
-    ghost use Rattle.office_tables_sql.specs.declared.intersection.TheConstants.{LIST, FIND, UPDATE, INSERT};
-    ghost use Rattle.office_tables_sql.specs.IntersectionTexts as texts;
+    ghost use Rattle.office_tables_sql.specs.IntersectionTexts as facts;
 
     type Of = ();
 
@@ -66,38 +65,19 @@ impl StoredRow for (InterId, IntersectionRow) {
 
     ghost is_within = { IsIntersectionWithin };
 
-    ghost list_text = { LIST.now };
+    ghost texts = { facts.texts };
 
-    ghost find_text = { FIND.now };
+    ghost means = { facts.means };
 
-    ghost update_text = { UPDATE.now };
+    ghost fits = { λ _ found. facts.fits found.0 found.1.name found.1.interval found.1.revision found.1.holder };
 
-    ghost insert_text = { INSERT.now };
-
-    ghost lists = { texts.lists };
-
-    ghost finds = { texts.finds };
-
-    ghost updates = { texts.updates };
-
-    ghost inserts = { texts.inserts };
-
-    ghost fits = { λ _ found. texts.fits found.0 found.1.name found.1.interval found.1.revision found.1.holder };
-
-    fn list_text() -> &'static str {
-        LIST
-    }
-
-    fn find_text() -> &'static str {
-        FIND
-    }
-
-    fn update_text() -> &'static str {
-        UPDATE
-    }
-
-    fn insert_text() -> &'static str {
-        INSERT
+    fn texts() -> Texts {
+        Texts {
+            list: LIST,
+            find: FIND,
+            update: UPDATE,
+            insert: INSERT,
+        }
     }
 
     fn read(alloc: Global, _of: (), row: &Row) -> Result<(InterId, IntersectionRow), ShelfFault> {

@@ -10,7 +10,7 @@ ghost use Rattle.office_tables_shelf.specs.CabinetRows.{order_key, order_columns
 ghost use Rattle.office_tables_statements.specs.Stored.{cell_of};
 ghost use Rattle.office_tables_statements.specs.Tables.{value_of};
 
-use crate::stored_row::StoredRow;
+use crate::stored_row::{StoredRow, Texts};
 use cabinet_core::{Closing, Order};
 use office_tables_shelf::shelf::ShelfFault;
 use office_tables_statements::listed::check_number;
@@ -35,8 +35,7 @@ const INSERT: &str =
 impl StoredRow for Order {
     ghost use Rattle.cabinet_core.specs.Within.{IsOrderWithin};
     ghost use Rattle.office_tables_shelf.specs.declared.rows.Table.TheVariants as table;
-    ghost use Rattle.office_tables_sql.specs.declared.order.TheConstants.{LIST, FIND, UPDATE, INSERT};
-    ghost use Rattle.office_tables_sql.specs.OrderTexts as texts;
+    ghost use Rattle.office_tables_sql.specs.OrderTexts as facts;
 
     type Of = InterId;
 
@@ -50,38 +49,19 @@ impl StoredRow for Order {
 
     ghost is_within = { IsOrderWithin };
 
-    ghost list_text = { LIST.now };
+    ghost texts = { facts.texts };
 
-    ghost find_text = { FIND.now };
+    ghost means = { facts.means };
 
-    ghost update_text = { UPDATE.now };
+    ghost fits = { λ id order. facts.fits id order.number order.opened order.clerk order.text order.closing };
 
-    ghost insert_text = { INSERT.now };
-
-    ghost lists = { texts.lists };
-
-    ghost finds = { texts.finds };
-
-    ghost updates = { texts.updates };
-
-    ghost inserts = { texts.inserts };
-
-    ghost fits = { λ id order. texts.fits id order.number order.opened order.clerk order.text order.closing };
-
-    fn list_text() -> &'static str {
-        LIST
-    }
-
-    fn find_text() -> &'static str {
-        FIND
-    }
-
-    fn update_text() -> &'static str {
-        UPDATE
-    }
-
-    fn insert_text() -> &'static str {
-        INSERT
+    fn texts() -> Texts {
+        Texts {
+            list: LIST,
+            find: FIND,
+            update: UPDATE,
+            insert: INSERT,
+        }
     }
 
     fn read(alloc: Global, id: InterId, row: &Row) -> Result<Order, ShelfFault> {

@@ -11,7 +11,7 @@ ghost use Rattle.office_tables_statements.specs.Calls.{IsHonest, IsOffice, Keeps
 ghost use Rattle.office_tables_statements.specs.Calls.{StandsOn};
 ghost use Rattle.office_tables_statements.specs.Calls.{TellsOpen};
 
-use crate::stored_row::{self, StoredRow};
+use crate::stored_row::{self, StoredRow, Texts};
 use cabinet_core::{Hand, PartCode};
 use office_tables_shelf::shelf::ShelfFault;
 use office_tables_statements::statement::SqlFault;
@@ -33,8 +33,7 @@ impl StoredRow for (PartCode, Hand) {
     ghost use Rattle.office_tables_shelf.specs.CabinetReads.{IsPartWithin};
     ghost use Rattle.office_tables_shelf.specs.CabinetRows.{part_key, part_columns};
     ghost use Rattle.office_tables_shelf.specs.declared.rows.Table.TheVariants as table;
-    ghost use Rattle.office_tables_sql.specs.declared.part.TheConstants.{LIST, FIND, UPDATE, INSERT};
-    ghost use Rattle.office_tables_sql.specs.PartTexts as texts;
+    ghost use Rattle.office_tables_sql.specs.PartTexts as facts;
 
     type Of = ();
 
@@ -48,38 +47,19 @@ impl StoredRow for (PartCode, Hand) {
 
     ghost is_within = { IsPartWithin };
 
-    ghost list_text = { LIST.now };
+    ghost texts = { facts.texts };
 
-    ghost find_text = { FIND.now };
+    ghost means = { facts.means };
 
-    ghost update_text = { UPDATE.now };
+    ghost fits = { λ _ part. facts.fits part.0 part.1 };
 
-    ghost insert_text = { INSERT.now };
-
-    ghost lists = { texts.lists };
-
-    ghost finds = { texts.finds };
-
-    ghost updates = { texts.updates };
-
-    ghost inserts = { texts.inserts };
-
-    ghost fits = { λ _ part. texts.fits part.0 part.1 };
-
-    fn list_text() -> &'static str {
-        LIST
-    }
-
-    fn find_text() -> &'static str {
-        FIND
-    }
-
-    fn update_text() -> &'static str {
-        UPDATE
-    }
-
-    fn insert_text() -> &'static str {
-        INSERT
+    fn texts() -> Texts {
+        Texts {
+            list: LIST,
+            find: FIND,
+            update: UPDATE,
+            insert: INSERT,
+        }
     }
 
     fn read(alloc: Global, _of: (), row: &Row) -> Result<(PartCode, Hand), ShelfFault> {

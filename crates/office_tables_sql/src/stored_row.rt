@@ -15,9 +15,9 @@ ghost use Rattle.office_tables_statements.specs.Calls.{StaysOpen, TellsOpen};
 ghost use Rattle.office_tables_statements.specs.Tables.{put_in, remove_in, key_values, key_shown};
 ghost use Rattle.office_tables_statements.specs.Tables.{columns_shown, width_of, key_given};
 ghost use Rattle.office_tables_statements.specs.Tables.{IsKeyOf, IsUnder, ReadsRow};
-ghost use Rattle.office_tables_statements.specs.Tables.{HasDamagedUnder, IsNoRow, IsListText};
-ghost use Rattle.office_tables_statements.specs.Tables.{IsFindText, IsUpdateText, IsInsertText};
+ghost use Rattle.office_tables_statements.specs.Tables.{HasDamagedUnder, IsNoRow};
 ghost use Rattle.office_tables_statements.specs.Tables.{IsRemoveText, Fits, values_of};
+ghost use Rattle.office_tables_sql.specs.Texts.{SqlTexts, AreTextsOf};
 
 use office_tables_shelf::shelf::ShelfFault;
 use office_tables_statements::statement::{SqlFault, select_one, write};
@@ -25,6 +25,19 @@ use signal_records::{InterId, Key, NoMemory};
 use sqlite::types::ValueRef;
 use sqlite::{Alter, Connection, Row, Transaction, params};
 use std::alloc::Global;
+
+/// The statements on one table, each one fixed text.
+#[derive(Clone, Copy)]
+pub struct Texts {
+    /// The query of the rows that are kept of one, in the order of their keys.
+    pub list: &'static str,
+    /// The query of the row under a whole key.
+    pub find: &'static str,
+    /// The statement that changes the row under a key.
+    pub update: &'static str,
+    /// The statement that adds a row.
+    pub insert: &'static str,
+}
 
 /// A row in one table.
 pub trait StoredRow: Sized + Drop {
@@ -40,26 +53,14 @@ pub trait StoredRow: Sized + Drop {
     ghost columns: { Self → List Cell };
     /// It is within its limits.
     ghost is_within: { Self → Type 0 };
-    /// The query of the rows that are kept of it, in the order of their keys.
-    ghost list_text: { List ℕ };
-    /// The query of the row under a whole key.
-    ghost find_text: { List ℕ };
-    /// The statement that changes the row under a key.
-    ghost update_text: { List ℕ };
-    /// The statement that adds a row.
-    ghost insert_text: { List ℕ };
+    /// The statements on the table.
+    ghost texts: { SqlTexts };
 
-    fn list_text() -> &'static str
-        ensures { result.now ≡ list_text };
-
-    fn find_text() -> &'static str
-        ensures { result.now ≡ find_text };
-
-    fn update_text() -> &'static str
-        ensures { result.now ≡ update_text };
-
-    fn insert_text() -> &'static str
-        ensures { result.now ≡ insert_text };
+    fn texts() -> Texts
+        ensures list { result.list.now ≡ texts.list }
+        ensures find { result.find.now ≡ texts.find }
+        ensures update { result.update.now ≡ texts.update }
+        ensures insert { result.insert.now ≡ texts.insert };
 
     /// What a row of the list stands for.
     fn read(alloc: Global, of: Self::Of, row: &Row) -> Result<Self, ShelfFault>
@@ -77,13 +78,7 @@ pub trait StoredRow: Sized + Drop {
     ) -> Result<Vec<ValueRef<'a>>, NoMemory>
         ensures { IfOk result (λ values. bound values.items ≡ values_of (key (number of) self.now ++ columns self.now)) };
 
-    ghost lists: { IsListText table list_text };
-
-    ghost finds: { IsFindText table find_text };
-
-    ghost updates: { IsUpdateText table update_text };
-
-    ghost inserts: { IsInsertText table insert_text };
+    ghost means: { AreTextsOf table texts };
 
     ghost fits: { (id : ℕ) (x : Self) → Fits table (key id x) (columns x) };
 }
@@ -91,12 +86,8 @@ pub trait StoredRow: Sized + Drop {
 /// A row under a key of timing, which may be removed.
 pub trait TimingKeyed: StoredRow {
     /// The statement that removes the row under a key.
-    ghost remove_text: { List ℕ };
-
     fn remove_text() -> &'static str
-        ensures { result.now ≡ remove_text };
-
-    ghost removes: { IsRemoveText Self.table remove_text };
+        ensures { IsRemoveText Self.table result.now };
 
     ghost keyed: { (id : ℕ) (key : Key) → (IsKeyOf Self.table (key_values id key)) × (key_given Self.table (key_values id key) ≡ timing_key id key) };
 }
@@ -135,7 +126,7 @@ fn under<T: StoredRow, S: Alter>(
     ensures crash { Survives (state S.Store conn.old) (state S.Store conn.new) (λ _. ⊥) }
     ensures open { StaysOpen result (state S.Store conn.new) }
 {
-    select_one(conn, T::find_text(), key)
+    select_one(conn, T::texts().find, key)
 }
 
 /// Puts a row under its key: changes the row that is there, or adds one.
@@ -158,9 +149,10 @@ pub fn put<T: StoredRow, S: Alter>(
     let Ok(values) = row.bind(alloc, of, &mut text) else {
         return Err(SqlFault::NoMemory);
     };
-    let changed = write(tx, T::update_text(), values.as_slice())?;
+    let texts = T::texts();
+    let changed = write(tx, texts.update, values.as_slice())?;
     if changed == 0 {
-        write(tx, T::insert_text(), values.as_slice())?;
+        write(tx, texts.insert, values.as_slice())?;
     }
     Ok(())
 }
@@ -187,7 +179,7 @@ pub fn add<T: StoredRow, S: Alter>(
     let Ok(values) = row.bind(alloc, of, &mut text) else {
         return Err(SqlFault::NoMemory);
     };
-    write(tx, T::insert_text(), values.as_slice())?;
+    write(tx, T::texts().insert, values.as_slice())?;
     Ok(())
 }
 

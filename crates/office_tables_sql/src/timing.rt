@@ -8,7 +8,7 @@ ghost use Rattle.office_tables_statements.specs.Stored.{content_now};
 ghost use Rattle.office_tables_statements.specs.Calls.{IsHonest, IsOffice, Keeps};
 ghost use Rattle.office_tables_statements.specs.Calls.{StaysOpen};
 
-use crate::stored_row::{StoredRow, TimingKeyed};
+use crate::stored_row::{StoredRow, Texts, TimingKeyed};
 use office_tables_shelf::shelf::ShelfFault;
 use office_tables_statements::body::write_body;
 use office_tables_statements::listed::{body_at, check_key};
@@ -56,8 +56,7 @@ impl StoredRow for Row {
     ghost use Rattle.signal_records.specs.Within.{IsRowWithin, current_limits};
     ghost use Rattle.office_tables_shelf.specs.Rows.{timing_key, timing_columns};
     ghost use Rattle.office_tables_shelf.specs.declared.rows.Table.TheVariants as table;
-    ghost use Rattle.office_tables_sql.specs.declared.timing.TheConstants.{LIST, FIND, UPDATE, INSERT};
-    ghost use Rattle.office_tables_sql.specs.TimingTexts as texts;
+    ghost use Rattle.office_tables_sql.specs.TimingTexts as facts;
 
     type Of = InterId;
 
@@ -71,38 +70,19 @@ impl StoredRow for Row {
 
     ghost is_within = { IsRowWithin current_limits };
 
-    ghost list_text = { LIST.now };
+    ghost texts = { facts.texts };
 
-    ghost find_text = { FIND.now };
+    ghost means = { facts.means };
 
-    ghost update_text = { UPDATE.now };
+    ghost fits = { facts.fits };
 
-    ghost insert_text = { INSERT.now };
-
-    ghost lists = { texts.lists };
-
-    ghost finds = { texts.finds };
-
-    ghost updates = { texts.updates };
-
-    ghost inserts = { texts.inserts };
-
-    ghost fits = { texts.fits };
-
-    fn list_text() -> &'static str {
-        LIST
-    }
-
-    fn find_text() -> &'static str {
-        FIND
-    }
-
-    fn update_text() -> &'static str {
-        UPDATE
-    }
-
-    fn insert_text() -> &'static str {
-        INSERT
+    fn texts() -> Texts {
+        Texts {
+            list: LIST,
+            find: FIND,
+            update: UPDATE,
+            insert: INSERT,
+        }
     }
 
     /// Its body is a row, and the columns before it are that row's key.
@@ -133,15 +113,10 @@ impl StoredRow for Row {
 
 impl TimingKeyed for Row {
     ghost use Rattle.std.specs.Prelude.{refl};
-    ghost use Rattle.office_tables_sql.specs.declared.timing.TheConstants.{REMOVE};
-    ghost use Rattle.office_tables_sql.specs.TimingTexts as texts;
-
-    ghost remove_text = { REMOVE.now };
-
-    ghost removes = { texts.removes };
 
     ghost keyed = { λ id key. (refl, refl) };
 
+    #[tactic(auto, using(crate::specs::TimingTexts::removes))]
     fn remove_text() -> &'static str {
         REMOVE
     }

@@ -2,7 +2,7 @@
 
 ghost use Rattle.office_tables_shelf.specs.CabinetRows.{used_key, used_columns};
 
-use crate::stored_row::StoredRow;
+use crate::stored_row::{StoredRow, Texts};
 use cabinet_core::UsedLine;
 use office_tables_shelf::shelf::ShelfFault;
 use office_tables_statements::listed::check_number;
@@ -27,8 +27,7 @@ const INSERT: &str =
 impl StoredRow for UsedLine {
     ghost use Rattle.cabinet_core.specs.Within.{IsUsedLineWithin};
     ghost use Rattle.office_tables_shelf.specs.declared.rows.Table.TheVariants as table;
-    ghost use Rattle.office_tables_sql.specs.declared.used.TheConstants.{LIST, FIND, UPDATE, INSERT};
-    ghost use Rattle.office_tables_sql.specs.UsedTexts as texts;
+    ghost use Rattle.office_tables_sql.specs.UsedTexts as facts;
 
     type Of = InterId;
 
@@ -42,38 +41,19 @@ impl StoredRow for UsedLine {
 
     ghost is_within = { IsUsedLineWithin };
 
-    ghost list_text = { LIST.now };
+    ghost texts = { facts.texts };
 
-    ghost find_text = { FIND.now };
+    ghost means = { facts.means };
 
-    ghost update_text = { UPDATE.now };
+    ghost fits = { facts.fits };
 
-    ghost insert_text = { INSERT.now };
-
-    ghost lists = { texts.lists };
-
-    ghost finds = { texts.finds };
-
-    ghost updates = { texts.updates };
-
-    ghost inserts = { texts.inserts };
-
-    ghost fits = { texts.fits };
-
-    fn list_text() -> &'static str {
-        LIST
-    }
-
-    fn find_text() -> &'static str {
-        FIND
-    }
-
-    fn update_text() -> &'static str {
-        UPDATE
-    }
-
-    fn insert_text() -> &'static str {
-        INSERT
+    fn texts() -> Texts {
+        Texts {
+            list: LIST,
+            find: FIND,
+            update: UPDATE,
+            insert: INSERT,
+        }
     }
 
     fn read(alloc: Global, id: InterId, row: &Row) -> Result<UsedLine, ShelfFault> {

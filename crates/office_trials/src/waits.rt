@@ -5,7 +5,7 @@ use office_desk::office::Office;
 use office_http::{FromListener, Served, Sink, ToWrite, WaitsOnce, serve, serve_each};
 use office_row_files::trouble::{Trouble, compare, holds};
 use office_row_files::waiting::{Endless, Patient, Telling};
-use office_tables_memory::memory_shelf::MemoryShelf;
+use office_tables_maps::map_shelf::MapShelf;
 use std::alloc::Global;
 use std::cell::Cell;
 use std::io;
@@ -17,7 +17,7 @@ pub(crate) fn serve_in_turn(alloc: Global) -> Result<(), Trouble> {
     let taken = Cell::new(0);
     let mut reader = Patient::new(sent(0, 93), sent(93, 127), 89, &taken);
     let mut writer = Telling::new(&taken);
-    let mut office = Office::new(MemoryShelf::new(alloc));
+    let mut office = Office::new(MapShelf::new(alloc));
     let served = serve(alloc, &mut office, &mut reader, &mut writer, 9);
     let is_served = served == Ok(Served { requests: 2 }) && taken.get() == 273;
     holds(is_served, "a reader that waits for an answer")
@@ -27,7 +27,7 @@ pub(crate) fn serve_in_turn(alloc: Global) -> Result<(), Trouble> {
 pub(crate) fn serve_without_end(alloc: Global) -> Result<(), Trouble> {
     let mut reader = Endless::new(sent(93, 127));
     let mut writer = ToWrite::new(Vec::new(alloc));
-    let mut office = Office::new(MemoryShelf::new(alloc));
+    let mut office = Office::new(MapShelf::new(alloc));
     let served = serve(alloc, &mut office, &mut reader, &mut writer, 3);
     let is_served = served == Ok(Served { requests: 3 }) && writer.writer.len() == 3 * 121;
     holds(is_served, "a stream without end")
@@ -71,7 +71,7 @@ pub(crate) fn serve_two_connections(rt: &HostRuntime) -> Result<(), Trouble> {
     let listener = TcpListener::bind(rt, SocketAddr::from((Ipv4Addr::LOCALHOST, 0)))?;
     let first = send(rt, &listener)?;
     let second = send(rt, &listener)?;
-    let mut office = Office::new(MemoryShelf::new(alloc));
+    let mut office = Office::new(MapShelf::new(alloc));
     let mut listener = FromListener::new(listener);
     let is_served = serve_each(alloc, &mut listener, 2, &mut office).is_ok();
     let counts = listener.counts();

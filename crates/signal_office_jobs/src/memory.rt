@@ -10,14 +10,14 @@ ghost use Rattle.signal_office_jobs.specs.Memory.{ServesInMemory, StandsInMemory
 
 use office_desk::office::Office;
 use office_http::{ServeFault, Served, Sink, Source, serve};
-use office_tables_memory::memory_shelf::MemoryShelf;
+use office_tables_maps::map_shelf::MapShelf;
 use std::alloc::Global;
 
 /// An office without intersections, over tables in memory.
-pub fn open_in_memory(alloc: Global) -> Office<MemoryShelf>
+pub fn open_in_memory(alloc: Global) -> Office<MapShelf>
     ensures { StandsInMemory result new_office }
 {
-    let shelf = MemoryShelf::new(alloc);
+    let shelf = MapShelf::new(alloc);
     Office::new(shelf)
 }
 

@@ -1,7 +1,6 @@
 use Rattle.std.proofs.Common.{◌≡◌, ◌≤◌, List, length, map, take}
 use Rattle.cabinet_core.specs.{Overdue.listed, Overdue.overdue_list, declared.overdue_inspections.Seen.Seen}
-use Rattle.office_tables_shelf.specs.{Content.Content, Overdue.AreSeenOf}
-use Rattle.office_tables_maps.specs.MapCabinet.{inspection_rows, AreInspectionsPlaced}
+use Rattle.office_tables_shelf.specs.Overdue.{AreSeenOf}
 use Rattle.office_tables_shelf.proofs.OverdueLemmas.{AreWhole}
 use Rattle.office_tables_maps.proofs.map_overdue.overdue_of.Given as goal
 
@@ -9,10 +8,8 @@ use Rattle.office_tables_maps.proofs.map_overdue.overdue_of.Given as goal
 -- and no more than were asked for
 abbrev pub invariant-loop-id : goal.invariant-loop-id
 invariant-loop-id l = record {
-  rows : AreInspectionsPlaced l.inspections.entries → (tables : Content) → tables.inspection ≡ inspection_rows l.inspections.entries → (seen : List Seen) → AreSeenOf tables l.id-items seen
+  rows : (seen : List Seen) → AreSeenOf l.tables l.id-items seen
       → map listed l.found.items ≡ overdue_list l.day (take l.id-index seen);
-  whole : AreInspectionsPlaced l.inspections.entries → (tables : Content)
-      → tables.inspection ≡ inspection_rows l.inspections.entries
-      → AreWhole tables (take l.id-index l.id-items);
+  whole : AreWhole l.tables (take l.id-index l.id-items);
   short : length l.found.items ≤ l.most;
 }

@@ -19,29 +19,29 @@ keeps : (g : Over) (c : In_default g) → Keeps (state g.S.Store c.args.conn.now
 keeps g c =
     let inv = c.rows.invariant in
     let step = c.in_default.ensures in
-    next_keeps g.T.StoredRow.list_text g.met.T.StoredRow.lists.query _ c.requires.office _ inv.1
+    next_keeps g.T.StoredRow.texts.list g.met.T.StoredRow.means.lists.query _ c.requires.office _ inv.1
     inv.2 (λ clean. (inv.3 clean).0) _ step.survives step.mode step.same
 
 honest : (g : Over) (c : In_default g) → HasCleanDisk (state g.S.Store c.advance.new.self.conn.now) → IsHonest (state g.S.Store c.advance.new.self.conn.now)
 honest g c =
     let inv = c.rows.invariant in
     let step = c.in_default.ensures in
-    next_honest g.T.StoredRow.list_text g.met.T.StoredRow.lists.query _ c.requires.office _ inv.1
+    next_honest g.T.StoredRow.texts.list g.met.T.StoredRow.means.lists.query _ c.requires.office _ inv.1
     inv.2 (λ clean. (inv.3 clean).0) _ step.survives step.mode step.same
 
 pub returns-in-Err-clause-kept : goal.returns-in-Err-clause-kept
 returns-in-Err-clause-kept g c =
     let held = rw (c.in-Err.is, c.requires.params) at c.query_prepared.follows.holds-at-none in
-    refused_keeps _ _ _ g.met.T.StoredRow.lists.query _ c.requires.office c.requires.opened c.requires.text _ held.survives (held.mode c.requires.office.autocommit) _ held.err
+    refused_keeps _ _ _ g.met.T.StoredRow.means.lists.query _ c.requires.office c.requires.opened c.requires.text _ held.survives (held.mode c.requires.office.autocommit) _ held.err
 
 pub returns-in-Err-clause-crash : goal.returns-in-Err-clause-crash
 returns-in-Err-clause-crash g c =
     let held = rw (c.in-Err.is, c.requires.params) at c.query_prepared.follows.holds-at-none in
-    began_survives _ _ _ g.met.T.StoredRow.lists.query _ c.requires.office c.requires.opened c.requires.text _ held.survives (held.mode c.requires.office.autocommit)
+    began_survives _ _ _ g.met.T.StoredRow.means.lists.query _ c.requires.office c.requires.opened c.requires.text _ held.survives (held.mode c.requires.office.autocommit)
 
 pub rows-init : goal.rows-init
 rows-init g c =
-    let query = g.met.T.StoredRow.lists.query in
+    let query = g.met.T.StoredRow.means.lists.query in
     let made = rw (c.requires.params) at c.in-Ok.ensures in
     let mode = made.mode c.requires.office.autocommit in
     let params : Row = params_of g.T.StoredRow.table (g.T.StoredRow.number c.args.of) in
@@ -59,7 +59,7 @@ returns-in-Err-advance-clause-kept g c =
     let inv = c.rows.invariant in
     let step = c.in-Err-advance.ensures in
     let kept : Keeps (state g.S.Store c.args.conn.now) (state g.S.Store c.advance.new.self.conn.now) =
-    broken_keeps g.T.StoredRow.list_text g.met.T.StoredRow.lists.query _ c.requires.office _ inv.1
+    broken_keeps g.T.StoredRow.texts.list g.met.T.StoredRow.means.lists.query _ c.requires.office _ inv.1
     inv.2 (λ clean. (inv.3 clean).0) _ step.survives.clean (step.mode inv.2) _ step.kept in
     search rules
 
@@ -67,7 +67,7 @@ pub returns-in_default-get-clause-rows : goal.returns-in_default-get-clause-rows
 returns-in_default-get-clause-rows g c =
     let text = c.args.statement.now.text in
     let params : Row = params_of g.T.StoredRow.table (g.T.StoredRow.number c.args.of) in
-    let means = g.met.T.StoredRow.lists in
+    let means = g.met.T.StoredRow.means.lists in
     let inv = c.rows.invariant in
     let old = state g.S.Store c.args.conn.now in
     let new = state g.S.Store c.advance.new.self.conn.now in
@@ -78,7 +78,7 @@ returns-in_default-get-clause-rows g c =
     (g.T.StoredRow.number c.args.of) c.rows.found = λ honest.
     let now = inv.3 (omega (arith, honest.0, step.survives.clean)) in
     let shown = λ (clean : HasCleanDisk new). subst (GivesOn g.S.Store text params c.rows.rows.conn.now c.advance.new.self.conn.now now.1) none (step.ok clean text params now.1 now.2) in
-    let reads : Reads g.T.StoredRow.list_text params old.now now.1 = all_read _ text params means.query old c.requires.office c.requires.opened c.requires.text _ inv.1 inv.2 (λ clean. (inv.3 clean).0) _ step.survives (step.mode inv.2) now.1 shown honest in
+    let reads : Reads g.T.StoredRow.texts.list params old.now now.1 = all_read _ text params means.query old c.requires.office c.requires.opened c.requires.text _ inv.1 inv.2 (λ clean. (inv.3 clean).0) _ step.survives (step.mode inv.2) now.1 shown honest in
     let was = (keeps g (goal.at.returns-in_default-get-clause-rows g c).In_default).honest honest in
     let office = c.requires.office in
     let listed = lists g.T.StoredRow.table old.now (office.schema was) (office.sound was) (office.ordered was) _ means (g.T.StoredRow.number c.args.of) now.1 reads in
@@ -99,7 +99,7 @@ pub returns-in_err-record-clause-damaged : goal.returns-in_err-record-clause-dam
 returns-in_err-record-clause-damaged g c bad =
     let text = c.args.statement.now.text in
     let params : Row = params_of g.T.StoredRow.table (g.T.StoredRow.number c.args.of) in
-    let means = g.met.T.StoredRow.lists in
+    let means = g.met.T.StoredRow.means.lists in
     let inv = c.rows.invariant in
     let old = state g.S.Store c.args.conn.now in
     let new = state g.S.Store c.advance.new.self.conn.now in

@@ -9,7 +9,7 @@ invariant_of-result c =
     let rows = c.as_slice-row-items.result.now in
     let before = c.self.inside.changes.items in
     let none_left : drop c.loop-row.row-index rows ≡ [] = drop_all c.loop-row.row-index rows c.loop-row-test.false in
-    sym (ap (changed_by c.loop-row.puts.tables) none_left) ∙ c.loop-row.invariant
+    sym (ap (changed_by c.loop-row.puts) none_left) ∙ c.loop-row.invariant
     ∙ ap (λ tables. changed_by tables rows) c.self.invariant
     ∙ sym (changed_append no_content before rows)
     ∙ ap (λ list. changed_by no_content (before ++ list)) c.as_slice-row-items.ensures.value

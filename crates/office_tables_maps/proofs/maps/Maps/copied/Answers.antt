@@ -1,9 +1,9 @@
 use Rattle.std.proofs.Common.{rules, ◌≡◌, ◌∙◌}
 use Rattle.office_tables_maps.specs.MapCabinet.{inspection_rows, order_rows, used_rows, part_rows, delivery_rows}
 use Rattle.office_tables_maps.specs.MapShelf.{intersection_rows, timing_rows, draft_rows}
-use Rattle.office_tables_maps.specs.contracts.map_shelf.MapShelf.{the_view}
+use Rattle.office_tables_maps.specs.contracts.maps.Maps.{the_view}
 use Rattle.office_tables_maps.proofs.TreeRows.{same_clones}
-use Rattle.office_tables_maps.proofs.map_shelf.MapShelf.copied.Goals as goal
+use Rattle.office_tables_maps.proofs.maps.Maps.copied.Goals as goal
 
 pub invariant_of-result : goal.invariant_of-result
 invariant_of-result c =
@@ -28,4 +28,4 @@ returns c =
     let delivery : c.in_ok-delivery.delivery.entries ≡ c.self.inside.delivery.entries = same_clones c.self.inside.delivery.entries c.in_ok-delivery.delivery.entries c.in_ok-delivery.ensures.cases in
     let used_part : c.in_ok-used_part.used_part.entries ≡ c.self.inside.used_part.entries = same_clones c.self.inside.used_part.entries c.in_ok-used_part.used_part.entries c.in_ok-used_part.ensures.cases in
     let viewed : the_view c.self.inside ≡ c.args.self.now = search rules in
-    (λ i. record { tables = record { intersection = intersection_rows (intersection i); timing = timing_rows (timing i); draft = draft_rows (draft i); inspection = inspection_rows (inspection i); work_order = order_rows (work_order i); part = part_rows (part i); delivery = delivery_rows (delivery i); used_part = used_rows (used_part i) }; counts = c.self.inside.counts }) ∙ viewed
+    (λ i. record { intersection = intersection_rows (intersection i); timing = timing_rows (timing i); draft = draft_rows (draft i); inspection = inspection_rows (inspection i); work_order = order_rows (work_order i); part = part_rows (part i); delivery = delivery_rows (delivery i); used_part = used_rows (used_part i) }) ∙ viewed

@@ -1,0 +1,218 @@
+//! The eight tables in memory, as maps of records.
+ghost use Rattle.std.specs.Prelude.{◌≡◌, OnOk, IfOk, IfSome};
+
+use crate::map_cabinet::{
+    copied_parts, delivery_at, hand_of, inspection_at, line_at, order_at, put_delivery,
+    put_inspection, put_line, put_order, put_part,
+};
+use crate::map_rows::{
+    copied_drafts, copied_intersections, drop_drafts, put_draft, put_intersection, put_timing,
+    remove_draft, remove_timing,
+};
+use crate::place::{DeliveryPlace, LinePlace, Place, RecordPlace};
+use cabinet_core::{Delivery, Hand, Inspection, Order, PartCode, UsedLine};
+use office_tables_shelf::rows::{IntersectionRow, RowChange};
+use signal_records::{InterId, LineNo, NoMemory, RecordNo, Row};
+use std::alloc::Global;
+use std::collections::BTreeMap;
+use std::marker::Model;
+
+/// The rows of the tables. Each is a record within its limits, as it was when it was put.
+#[derive(Drop)]
+pub struct Maps {
+    pub(crate) intersection: BTreeMap<InterId, IntersectionRow>,
+    /// Each row stands under its own key.
+    pub(crate) timing: BTreeMap<Place, Row>,
+    /// What each draft row leaves at its key: a row, or none where it is a removal.
+    pub(crate) draft: BTreeMap<Place, Option<Row>>,
+    /// Each inspection, order, used part and delivery stands under its own numbers.
+    pub(crate) inspection: BTreeMap<RecordPlace, Inspection>,
+    pub(crate) work_order: BTreeMap<RecordPlace, Order>,
+    pub(crate) used_part: BTreeMap<LinePlace, UsedLine>,
+    pub(crate) part: BTreeMap<PartCode, Hand>,
+    pub(crate) delivery: BTreeMap<DeliveryPlace, Delivery>,
+}
+
+impl Model for Maps {
+    ghost use Rattle.office_tables_maps.specs.MapCabinet.{inspection_rows, order_rows, used_rows};
+    ghost use Rattle.office_tables_maps.specs.MapCabinet.{part_rows, delivery_rows};
+    ghost use Rattle.office_tables_maps.specs.MapShelf.{intersection_rows, timing_rows, draft_rows};
+    ghost use Rattle.office_tables_maps.specs.Placed.{AreTreesPlaced};
+    ghost use Rattle.office_tables_shelf.specs.Content.{Content, content_code};
+
+    ghost Value = { Content };
+
+    ghost coded = { content_code };
+
+    ghost view = { λ s. record {
+      intersection = intersection_rows s.intersection.entries;
+      timing = timing_rows s.timing.entries;
+      draft = draft_rows s.draft.entries;
+      inspection = inspection_rows s.inspection.entries;
+      work_order = order_rows s.work_order.entries;
+      part = part_rows s.part.entries;
+      delivery = delivery_rows s.delivery.entries;
+      used_part = used_rows s.used_part.entries;
+    } };
+
+    ghost invariant = { λ s. AreTreesPlaced s.intersection.entries s.timing.entries
+        s.draft.entries s.inspection.entries s.work_order.entries s.used_part.entries
+        s.part.entries s.delivery.entries };
+}
+
+impl Maps {
+    ghost use Rattle.cabinet_core.specs.Within.{IsInspectionWithin, IsOrderWithin};
+    ghost use Rattle.cabinet_core.specs.Within.{IsUsedLineWithin, IsDeliveryWithin};
+    ghost use Rattle.office_tables_shelf.specs.CabinetReads.{ReadsInspection, ReadsOrder, ReadsUsed, ReadsDelivery, ReadsHand};
+    ghost use Rattle.office_tables_shelf.specs.CabinetReads.{IsHand};
+    ghost use Rattle.office_tables_shelf.specs.Content.{no_content};
+    ghost use Rattle.office_tables_shelf.specs.Change.{changed, changed_by};
+
+    /// Tables without a row.
+    pub fn new(alloc: Global) -> Maps
+        ensures { result ≡ no_content }
+    {
+        Maps {
+            intersection: BTreeMap::new(alloc),
+            timing: BTreeMap::new(alloc),
+            draft: BTreeMap::new(alloc),
+            inspection: BTreeMap::new(alloc),
+            work_order: BTreeMap::new(alloc),
+            used_part: BTreeMap::new(alloc),
+            part: BTreeMap::new(alloc),
+            delivery: BTreeMap::new(alloc),
+        }
+    }
+
+    /// A copy of the tables.
+    pub(crate) fn copied(&self) -> Result<Maps, NoMemory>
+        ensures { IfOk result (λ copy. copy ≡ self.now) }
+    {
+        let intersection = copied_intersections(&self.intersection)?;
+        let timing = self.timing.clone()?;
+        let draft = copied_drafts(&self.draft)?;
+        let inspection = self.inspection.clone()?;
+        let work_order = self.work_order.clone()?;
+        let used_part = self.used_part.clone()?;
+        let part = copied_parts(&self.part)?;
+        let delivery = self.delivery.clone()?;
+        Ok(Maps {
+            intersection,
+            timing,
+            draft,
+            inspection,
+            work_order,
+            used_part,
+            part,
+            delivery,
+        })
+    }
+
+    /// Makes one change. After a refusal the rows are of no use.
+    fn change(&mut self, change: &RowChange) -> Result<(), NoMemory>
+        ensures { OnOk result (self.new ≡ changed self.old change.now) }
+    {
+        match change {
+            RowChange::AddIntersection(id, row) => {
+                put_intersection(&mut self.intersection, *id, row.clone()?)?;
+            }
+            RowChange::PutIntersection(id, row) => {
+                put_intersection(&mut self.intersection, *id, row.clone()?)?;
+            }
+            RowChange::AddTiming(id, row) => put_timing(&mut self.timing, *id, row.clone()?)?,
+            RowChange::PutTiming(id, row) => put_timing(&mut self.timing, *id, row.clone()?)?,
+            RowChange::RemoveTiming(id, key) => remove_timing(&mut self.timing, *id, *key),
+            RowChange::AddDraft(id, change) => put_draft(&mut self.draft, *id, change)?,
+            RowChange::PutDraft(id, change) => put_draft(&mut self.draft, *id, change)?,
+            RowChange::RemoveDraft(id, key) => remove_draft(&mut self.draft, *id, *key),
+            RowChange::DropDraft(id) => drop_drafts(&mut self.draft, *id),
+            RowChange::AddInspection(id, inspection) => {
+                put_inspection(&mut self.inspection, *id, inspection.clone()?)?;
+            }
+            RowChange::AddOrder(id, order) => {
+                put_order(&mut self.work_order, *id, order.clone()?)?;
+            }
+            RowChange::PutOrder(id, order) => {
+                put_order(&mut self.work_order, *id, order.clone()?)?;
+            }
+            RowChange::AddLine(id, used) => put_line(&mut self.used_part, *id, used.clone()?)?,
+            RowChange::PutPart(part, hand) => put_part(&mut self.part, part.clone()?, *hand)?,
+            RowChange::AddDelivery(delivery) => {
+                put_delivery(&mut self.delivery, delivery.clone()?)?;
+            }
+        }
+        Ok(())
+    }
+
+    /// These tables with one more change.
+    pub fn with(mut self, change: &RowChange) -> Result<Maps, NoMemory>
+        ensures { IfOk result (λ next. next ≡ changed self change.now) }
+    {
+        self.change(change)?;
+        Ok(self)
+    }
+
+    /// The inspection of an intersection with a number, if there is one.
+    pub fn inspection_at(
+        &self,
+        id: InterId,
+        number: RecordNo,
+    ) -> Result<Option<Inspection>, NoMemory>
+        ensures row { IfOk result (λ found. ReadsInspection self.now id number found) }
+        ensures within { IfOk result (λ found. IfSome found IsInspectionWithin) }
+    {
+        inspection_at(&self.inspection, id, number)
+    }
+
+    /// The order on an intersection with a number, if there is one.
+    pub fn order_at(&self, id: InterId, number: RecordNo) -> Result<Option<Order>, NoMemory>
+        ensures row { IfOk result (λ found. ReadsOrder self.now id number found) }
+        ensures within { IfOk result (λ found. IfSome found IsOrderWithin) }
+    {
+        order_at(&self.work_order, id, number)
+    }
+
+    /// The part used for an order on an intersection in a line, if there is one.
+    pub fn line_at(
+        &self,
+        id: InterId,
+        order: RecordNo,
+        line: LineNo,
+    ) -> Result<Option<UsedLine>, NoMemory>
+        ensures row { IfOk result (λ found. ReadsUsed self.now id order line found) }
+        ensures within { IfOk result (λ found. IfSome found IsUsedLineWithin) }
+    {
+        line_at(&self.used_part, id, order, line)
+    }
+
+    /// The delivery of a part with a number, if there is one.
+    pub fn delivery_at(
+        &self,
+        part: &PartCode,
+        number: RecordNo,
+    ) -> Result<Option<Delivery>, NoMemory>
+        ensures row { IfOk result (λ found. ReadsDelivery self.now part.now number found) }
+        ensures within { IfOk result (λ found. IfSome found IsDeliveryWithin) }
+    {
+        delivery_at(&self.delivery, part, number)
+    }
+
+    /// How many of a part are on hand, if there ever was a delivery of it.
+    pub fn hand_of(&self, part: &PartCode) -> Option<Hand>
+        ensures row { ReadsHand self.now part.now result }
+        ensures within { IfSome result IsHand }
+    {
+        hand_of(&self.part, part)
+    }
+
+    /// These tables with the changes made, in their order.
+    pub(crate) fn made(self, changes: &[RowChange]) -> Result<Maps, NoMemory>
+        ensures { IfOk result (λ next. next ≡ changed_by self changes.now) }
+    {
+        let mut next = self;
+        for change in changes {
+            next.change(change)?;
+        }
+        Ok(next)
+    }
+}
