@@ -176,4 +176,6 @@ impl Shelf for MemoryShelf {
     fn writes(&self, table: Table) -> u64 {
         self.now.writes(table)
     }
+
+    ghost honest_is_clean = { λ _ honest. honest };
 }
