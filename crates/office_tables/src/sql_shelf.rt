@@ -372,4 +372,6 @@ impl<S: Alter> Shelf for SqlShelf<S> {
     fn writes(&self, table: Table) -> u64 {
         self.counts.of(table)
     }
+
+    ghost honest_is_clean = { λ _ honest. honest.0 };
 }

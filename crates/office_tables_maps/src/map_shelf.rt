@@ -283,4 +283,6 @@ impl Shelf for MapShelf {
     fn writes(&self, table: Table) -> u64 {
         self.counts.of(table)
     }
+
+    ghost honest_is_clean = { λ _ honest. honest };
 }

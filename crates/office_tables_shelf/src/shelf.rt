@@ -281,4 +281,8 @@ pub trait Shelf {
     /// The row writes of a table so far; the count stays at `u64::MAX` once it is there.
     fn writes(&self, table: Table) -> u64
         ensures { result ≡ count_of (written self.now) table };
+
+    /// Where no failure has shut the database, its disk is clean: what holds on a clean disk is
+    /// said once.
+    ghost honest_is_clean: { (shelf : Self) → is_honest shelf → is_clean shelf };
 }

@@ -160,6 +160,8 @@ impl Shelf for Refusing<'_> {
     fn writes(&self, table: Table) -> u64 {
         self.inner.writes(table)
     }
+
+    ghost honest_is_clean = { λ _ honest. honest };
 }
 
 /// Runs what a line asks with one of its calls refused, if it has so many. Where one was, the
