@@ -1,8 +1,8 @@
 #!/usr/bin/env python3
 """Runs the program on what it must not be broken by, with real files: files that are none of its
-own, that another process holds, that can't be written, a full disk, outputs that are closed, and
-random bytes. Each run must end by itself within 30 seconds with its status and its line on standard
-error, never by a signal, and what it refused must stay byte for byte.
+own, that another process holds, that can't be written, a full disk, an output whose reader is gone,
+and random bytes. Each run must end by itself within 30 seconds with its status and its line on
+standard error, never by a signal, and what it refused must stay byte for byte.
 
     tests/hostile.py [PROGRAM]      the program that ./office built, where none is named
 
@@ -262,14 +262,8 @@ def largest_file(folder):
     refused_for_room("a file at the limit of file sizes", path, lambda: path, preexec_fn=limit)
 
 
-def outputs(folder):
-    path = office(folder, "outputs.db")
-    printing = [[word, "--db", path, *rest] for word, *rest in ON_FILES[-5:]]
-    for name, how in (("closed", {"preexec_fn": lambda: os.close(1)}), ("full", {})):
-        for words in (["batch"], ["add", "--db", path, "12", "365", "Main St"], *printing):
-            with open("/dev/full" if name == "full" else "/dev/null", "wb") as out:
-                status, _, err = run(words, ADD, stdout=out, **how)
-            case(f"a {name} standard output, {words[0]}", (status, err), (1, b"fault: write\n"))
+def outputs():
+    """Outputs that are closed, full or take one byte at a time are tried by outputs.py."""
     how = {"stdin": subprocess.PIPE, "stdout": subprocess.DEVNULL}
     reader = subprocess.Popen(["head", "-c", "10"], **how)
     status, _, err = run(["batch"], STATE * 20000, stdout=reader.stdin)
@@ -370,12 +364,13 @@ def little_memory_to_migrate(folder):
 
 
 PARTS = (
-    little_memory, little_memory_to_migrate, other_files, versions, another_process, outputs,
-    inputs, largest_file,
+    little_memory, little_memory_to_migrate, other_files, versions, another_process, inputs,
+    largest_file,
 )
 with tempfile.TemporaryDirectory() as folder:
     for part in PARTS:
         part(folder)
+    outputs()
     if os.geteuid() == 0:
         without_leave(folder)
         full_disk(folder)

@@ -8,10 +8,11 @@ over words that are not UTF-8. A library between the program and the system (it 
 - An output that takes one byte at a time gets the whole text, with the status as ever.
 - One that is closed, full, or has room for one byte gets what it has room for, and the command ends
   with status 1 and `fault: write`; what it did to the office stays done.
-- A word that is not UTF-8 is refused with status 1 and one line, and nothing is done.
+- A word that is not UTF-8 is refused with status 2 and one line, and nothing is done.
 
 Prints a line for each command, and ends with status 1 where anything else came.
 """
+import hashlib
 import os
 import pathlib
 import shutil
@@ -89,7 +90,7 @@ cabinet --db office.db 12
 overdue --db office.db 2027-03-02
 migrate --db office.db
 --help""".splitlines()]
-NOT_UTF8 = (1, b"", b"fault: the command line is not UTF-8\n")
+NOT_UTF8 = (2, b"", b"the command line is not UTF-8\n")
 FAILED = (1, b"fault: write\n")
 
 
@@ -137,15 +138,15 @@ class Trial:
 
 
 def held(folder):
-    """What the tables of the office hold, read from a copy of its files."""
+    """A sum of what the tables of the office hold, read from a copy of its files."""
     with tempfile.TemporaryDirectory() as other:
         for name in ("office.db", "office.db-wal"):
             if os.path.exists(os.path.join(folder, name)):
                 shutil.copy(os.path.join(folder, name), other)
         db = sqlite3.connect(os.path.join(other, "office.db"))
-        dump = list(db.iterdump())
+        text = "\n".join(db.iterdump())
         db.close()
-        return dump
+        return hashlib.sha256(text.encode()).hexdigest()[:8]
 
 
 def make(program, folder):
