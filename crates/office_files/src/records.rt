@@ -1,8 +1,10 @@
 //! The records of a CSV file.
 
-ghost use Rattle.std.specs.Prelude.{◌≡◌, true, map, IfOk};
+ghost use Rattle.std.specs.Prelude.{◌≡◌, ◌≤◌, ◌⊎◌, ◌++◌, [], ◌∷◌, true, map, is_err, IfOk, IfErr};
+ghost use Rattle.std.specs.Prelude.{OnErr, Ok, vec_capacity, vec_len};
 ghost use Rattle.csv.specs.Reading.{error_kind, stops_reader};
 ghost use Rattle.csv.specs.Records.{fields_of};
+ghost use Rattle.csv.specs.declared.record.ByteRecord.{ByteRecord as Record};
 ghost use Rattle.office_files.specs.Csv.{csv_records};
 
 use csv::{ByteRecord, Error, ReaderBuilder};
@@ -19,18 +21,24 @@ pub(crate) fn read_records(alloc: Global, text: &[u8]) -> Result<Vec<ByteRecord>
         .from_reader(alloc, text);
     let mut records = Vec::new(alloc);
     for record in reader.into_byte_records() {
-        match record {
-            Ok(record) => records.push(record)?,
-            Err(error) => return Err(want_of_memory(error)),
-        }
+        keep(&mut records, record)?;
     }
     Ok(records)
 }
 
-/// A reader over a slice is stopped by want of memory alone: a slice can't fail to be read. No
-/// other error comes, as one of records that differ in length.
-fn want_of_memory(_error: Error) -> NoMemory
-    requires { stops_reader (error_kind _error) ≡ true }
+/// Keeps a record that was read. A reader over a slice stops only where memory runs out: a slice
+/// can't fail to be read, and records may differ in length. So out of memory is told only where the
+/// reader told it, or where there was no room left.
+fn keep(records: &mut Vec<ByteRecord>, read: Result<ByteRecord, Error>) -> Result<(), NoMemory>
+    requires { IfErr read (λ error. stops_reader (error_kind error) ≡ true) }
+    ensures kept { IfOk result (λ _. (found : Record)
+        × (read ≡ Ok found) × (records.new.items ≡ records.old.items ++ found ∷ [])) }
+    ensures memory { OnErr result ((is_err read ≡ true)
+        ⊎ (vec_capacity records.old ≤ vec_len records.old)) }
 {
-    NoMemory
+    match read {
+        Ok(record) => records.push(record)?,
+        Err(_) => return Err(NoMemory),
+    }
+    Ok(())
 }

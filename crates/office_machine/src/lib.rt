@@ -1,5 +1,5 @@
 //! The office machine: what is asked of the office, what it answers, and what each command means.
-//! Shelf, desk and wire stand on it, and none of these on another.
+//! The desk and the wire stand on it, and neither of these on the other.
 #![tactic(auto)]
 
 pub mod command;

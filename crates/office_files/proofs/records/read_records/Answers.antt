@@ -4,7 +4,7 @@ use Rattle.csv.specs.Reading.{Reached, default_config, strip_bom, builder_trim, 
 use Rattle.csv.specs.Records.{fields_of}
 use Rattle.csv.specs.declared.parser.State.TheVariants as st
 use Rattle.csv.proofs.ReadFacts.{rows-end, rows-more}
-use Rattle.office_files.proofs.{CsvLemmas.records-all, ReadingLemmas.stops_reader-flexible}
+use Rattle.office_files.proofs.{CsvLemmas.records-all, ReadingLemmas.given_stops}
 use Rattle.office_files.proofs.records.read_records.Goals as goal
 
 pub loop-record-init : goal.loop-record-init
@@ -27,28 +27,29 @@ loop-record-init c =
       reached = (sym fr.state, refl);
     })
 
+pub keep-requires : goal.keep-requires
+keep-requires c =
+    let read = c.loop-record.invariant in
+    let step = rw c.in-Some.is at ((c.next.ensures.steps read.turns read.untrimmed).0 read.ready) in
+    given_stops (λ (s : Bor (List ℕ)). Some s.now) c.loop-record.record-iterator.rdr c.next.new.self.rdr _ c.in-Some.record read.flexible step
+
 pub loop-record-preserved : goal.loop-record-preserved
 loop-record-preserved c =
     let read = c.loop-record.invariant in
+    let kept = c.in_ok-keep.ensures.kept in
     let steps = c.next.ensures.steps read.turns read.untrimmed in
-    let step = rw (c.in-Some.is, c.in-Ok.is) at (steps.0 read.ready) in
-    let more = rows-more (λ (s : Bor (List ℕ)). Some s.now) c.loop-record.record-iterator.rdr c.next.new.self.rdr (fields_of c.in-Ok.record) default_config st.StartRecord (strip_bom c.args.text.now) read.rest (map fields_of c.loop-record.records.items) read.config read.source read.reached step.0 in
+    let step = rw (c.in-Some.is, kept.1) at (steps.0 read.ready) in
+    let more = rows-more (λ (s : Bor (List ℕ)). Some s.now) c.loop-record.record-iterator.rdr c.next.new.self.rdr (fields_of kept.0) default_config st.StartRecord (strip_bom c.args.text.now) read.rest (map fields_of c.loop-record.records.items) read.config read.source read.reached step.0 in
     record {
       untrimmed = step.0.3 ∙ read.untrimmed;
-      flexible = rw (c.in-Some.is, c.in-Ok.is) at steps.3 ∙ read.flexible;
+      flexible = rw (c.in-Some.is, kept.1) at steps.3 ∙ read.flexible;
       config = step.0.2 ∙ read.config;
       ready = inl step.1;
       turns = step.2;
       rest = more.0;
       source = more.1;
-      reached = rw (c.in_ok-push-in-Ok.ensures.items, map-append fields_of c.loop-record.records.items (c.in-Ok.record ∷ [])) more.2;
+      reached = rw (kept.2, map-append fields_of c.loop-record.records.items (kept.0 ∷ [])) more.2;
     }
-
-pub want_of_memory-requires : goal.want_of_memory-requires
-want_of_memory-requires c =
-    let read = c.loop-record.invariant in
-    let step = rw (c.in-Some.is, c.in-Err.is) at ((c.next.ensures.steps read.turns read.untrimmed).0 read.ready) in
-    stops_reader-flexible (λ (s : Bor (List ℕ)). Some s.now) c.loop-record.record-iterator.rdr c.next.new.self.rdr c.in-Err.error.kind read.flexible step
 
 pub returns : goal.returns
 returns c =
