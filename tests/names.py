@@ -40,7 +40,7 @@ LEFT = """
     Adds Answers AreInOrder AreWithin FollowsLine IsAfterStep IsFound IsKept IsOneOf IsQuery IsThere
     IsTold Keeps Lacks Line Lists ListsRows Migrates Puts Ran Reads Rows Run StaysOpen Tells Writes
     agree_at begun changes_of clearance command_of counted greatest intersection_rows is_among
-    is_numeral is_of keyed list listed lists moved open_by open_orders opening_of parts recorded_at
+    is_numeral is_of keyed list listed moved open_by open_orders opening_of parts recorded_at
     refusals_of rows_of subject_of
 """
 

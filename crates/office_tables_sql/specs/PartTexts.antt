@@ -8,10 +8,10 @@ use Rattle.office_tables_statements.specs.Tables.{Fits}
 use Rattle.office_tables_sql.specs.Texts.{SqlTexts, AreTextsOf}
 use Rattle.office_tables_sql.specs.declared.part.TheConstants.{LIST, FIND, UPDATE, INSERT}
 
-abbrev pub texts : SqlTexts
-texts = record { list = LIST.now; find = FIND.now; update = UPDATE.now; insert = INSERT.now }
+abbrev pub table_texts : SqlTexts
+table_texts = record { list = LIST.now; find = FIND.now; update = UPDATE.now; insert = INSERT.now }
 
-pub means : AreTextsOf Part texts
+pub means : AreTextsOf Part table_texts
 unfolding understood everything
 means = record {
   lists = record { names = codes "code" ∷ codes "hand" ∷ []; is = refl; query = record { plain = (refl, refl); unlisted = refl } };

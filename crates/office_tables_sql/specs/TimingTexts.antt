@@ -10,10 +10,10 @@ use Rattle.office_tables_statements.specs.Tables.{IsCountText, IsRemoveText, Fit
 use Rattle.office_tables_sql.specs.Texts.{SqlTexts, AreTextsOf}
 use Rattle.office_tables_sql.specs.declared.timing.TheConstants.{LIST, FIND, UPDATE, INSERT, COUNT, REMOVE}
 
-abbrev pub texts : SqlTexts
-texts = record { list = LIST.now; find = FIND.now; update = UPDATE.now; insert = INSERT.now }
+abbrev pub table_texts : SqlTexts
+table_texts = record { list = LIST.now; find = FIND.now; update = UPDATE.now; insert = INSERT.now }
 
-pub means : AreTextsOf Timing texts
+pub means : AreTextsOf Timing table_texts
 unfolding understood everything
 means = record {
   lists = record { names = codes "inter" ∷ codes "kind" ∷ codes "a" ∷ codes "b" ∷ codes "body" ∷ []; is = refl; query = record { plain = (refl, refl); unlisted = refl } };

@@ -9,10 +9,10 @@ use Rattle.office_tables_statements.specs.Tables.{Fits}
 use Rattle.office_tables_sql.specs.Texts.{SqlTexts, AreTextsOf}
 use Rattle.office_tables_sql.specs.declared.used.TheConstants.{LIST, FIND, UPDATE, INSERT}
 
-abbrev pub texts : SqlTexts
-texts = record { list = LIST.now; find = FIND.now; update = UPDATE.now; insert = INSERT.now }
+abbrev pub table_texts : SqlTexts
+table_texts = record { list = LIST.now; find = FIND.now; update = UPDATE.now; insert = INSERT.now }
 
-pub means : AreTextsOf UsedPart texts
+pub means : AreTextsOf UsedPart table_texts
 unfolding understood everything
 means = record {
   lists = record { names = codes "inter" ∷ codes "ord" ∷ codes "line" ∷ codes "part" ∷ codes "amount" ∷ []; is = refl; query = record { plain = (refl, refl); unlisted = refl } };

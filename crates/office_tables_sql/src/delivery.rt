@@ -35,7 +35,7 @@ impl StoredRow for Delivery {
 
     ghost is_within = { IsDeliveryWithin };
 
-    ghost texts = { facts.texts };
+    ghost texts = { facts.table_texts };
 
     ghost means = { facts.means };
 

@@ -82,7 +82,7 @@ impl StoredRow for Change {
 
     ghost is_within = { IsChangeWithin current_limits };
 
-    ghost texts = { facts.texts };
+    ghost texts = { facts.table_texts };
 
     ghost means = { facts.means };
 

@@ -51,7 +51,7 @@ impl StoredRow for Inspection {
 
     ghost is_within = { IsInspectionWithin };
 
-    ghost texts = { facts.texts };
+    ghost texts = { facts.table_texts };
 
     ghost means = { facts.means };
 

@@ -65,7 +65,7 @@ impl StoredRow for (InterId, IntersectionRow) {
 
     ghost is_within = { IsIntersectionWithin };
 
-    ghost texts = { facts.texts };
+    ghost texts = { facts.table_texts };
 
     ghost means = { facts.means };
 

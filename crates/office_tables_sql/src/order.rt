@@ -49,7 +49,7 @@ impl StoredRow for Order {
 
     ghost is_within = { IsOrderWithin };
 
-    ghost texts = { facts.texts };
+    ghost texts = { facts.table_texts };
 
     ghost means = { facts.means };
 

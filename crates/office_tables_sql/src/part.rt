@@ -47,7 +47,7 @@ impl StoredRow for (PartCode, Hand) {
 
     ghost is_within = { IsPartWithin };
 
-    ghost texts = { facts.texts };
+    ghost texts = { facts.table_texts };
 
     ghost means = { facts.means };
 

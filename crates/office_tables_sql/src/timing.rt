@@ -70,7 +70,7 @@ impl StoredRow for Row {
 
     ghost is_within = { IsRowWithin current_limits };
 
-    ghost texts = { facts.texts };
+    ghost texts = { facts.table_texts };
 
     ghost means = { facts.means };
 

@@ -41,7 +41,7 @@ impl StoredRow for UsedLine {
 
     ghost is_within = { IsUsedLineWithin };
 
-    ghost texts = { facts.texts };
+    ghost texts = { facts.table_texts };
 
     ghost means = { facts.means };
 
