@@ -1,7 +1,9 @@
 """Row files: requests with the answers that must come, as crates/office_rows plays them."""
 import pathlib
+import shlex
 
-from . import fields, plan, reasons, rules
+from . import commands, fields, pages, pictures, plan, reasons, rules
+from .office import Office
 from .refusal import Refused
 from .wire import answer, read_each
 
@@ -60,6 +62,93 @@ def verified(text, explain):
     if explain:
         return reasons.explained(made) or ["no violations"]
     return [f"{it['subject']} {it['rule']}" for it in rules.violations(made)] or ["no violations"]
+
+
+def asked_of(words):
+    """A command's name, the flags that have a value, and its other words."""
+    name, *rest = words
+    flags, others = {}, []
+    while rest:
+        word = rest.pop(0)
+        if word in ("--db", "--file", "--clerk"):
+            flags[word] = rest.pop(0)
+        else:
+            others.append(word)
+    return name, flags, others
+
+
+def plan_of(csv):
+    """The plan that a file's changes make of none."""
+    return plan.apply({}, read_each(plan.read_change, fields.read_csv(csv)))
+
+
+def ran(steps):
+    """A command of the program, done to its end."""
+    try:
+        while True:
+            next(steps)
+    except StopIteration as end:
+        return end.value[1]
+
+
+def shown(offices, files, words):
+    """What a command shows of a plan or an intersection, after what was done before it; nothing of
+    a command that draws none, or is refused."""
+    name, flags, rest = asked_of(words)
+    office = offices.setdefault(flags.get("--db"), Office())
+    csv = files.get(flags.get("--file", rest[-1] if rest else None), "")
+    try:
+        if name == "add":
+            ran(commands.add(office, int(rest[0]), int(rest[1]), rest[2]))
+        elif name == "edit":
+            ran(commands.edit(office, int(rest[-2]), flags["--clerk"], csv, "--commit" in rest))
+        elif name == "import":
+            ran(commands.take(office, csv))
+        elif name == "page" and len(rest) == 1 and "--db" in flags:
+            return pages.page(office, int(rest[0]))
+        elif name == "page" and not rest and flags.get("--file") in files:
+            return pages.plan_page(plan_of(csv))
+        elif name == "diagram" and "--db" in flags:
+            return pictures.picture(office.find(int(rest[0])).committed, int(rest[1]))
+        elif name == "diagram" and flags.get("--file") in files:
+            return pictures.picture(plan_of(csv), int(rest[0]))
+    except (Refused, KeyError):
+        pass
+    return None
+
+
+def drawn(text):
+    """Each picture and page that a row prints: the number of the line that asks for it, and its
+    lines as the model draws it."""
+    offices, files, name, base = {}, {}, None, None
+    for number, line in enumerate(text.split("\n")):
+        word, _, rest = line.partition(" ")
+        if word == "file":
+            name, files[rest] = rest, ""
+        elif word == "|":
+            files[name] += rest + "\n"
+        elif word == ">":
+            played(offices.setdefault(base, Office()), rest)
+        elif word == "run":
+            words = shlex.split(rest)
+            base = asked_of(words)[1].get("--db")
+            picture = shown(offices, files, words)
+            if picture is not None:
+                yield number, picture.split("\n")[:-1]
+
+
+def redrawn(text):
+    """A row with its pictures and pages as the model draws them."""
+    lines, found = text.split("\n"), dict(drawn(text))
+    after, skipping = [], False
+    for number, line in enumerate(lines):
+        skipping = skipping and line.startswith("out ")
+        if not skipping:
+            after.append(line)
+        if number in found and lines[number + 1] != "out *":
+            after += [f"out {it}" for it in found[number]]
+            skipping = True
+    return "\n".join(after)
 
 
 def written(method, target, body):

@@ -9,7 +9,7 @@ use Rattle.std.specs.Prelude.{decimal, ◌||◌, ◌&&◌}
 use Rattle.std.specs.List.{list_all}
 use Rattle.signal_records.specs.{declared.record.Pattern.Pattern, TimingSet.Rows}
 use Rattle.signal_rules.specs.{Lookup.is_in, Lookup.pattern_at, Lookup.phase_at, Lookup.split_at, SequenceRule.ring_row}
-use Rattle.signal_rules.specs.{PatternRules.is_coordinated, PatternRules.lane, PatternRules.used_rings, CutPoints.timed, Starts.times}
+use Rattle.signal_rules.specs.{PatternRules.lane, PatternRules.used_rings, CutPoints.timed, Starts.times}
 use Rattle.signal_rules.proofs.Among.{is_filtered, is_number}
 use Rattle.signal_diagram.specs.{declared.geometry.TheConstants.LABEL_LEFT, Geometry.shown_seconds, Geometry.top_of, Geometry.width_of}
 use Rattle.signal_diagram.specs.{Geometry.height_of, Elements.where_long, Elements.words_at, PhasePicture.phase_picture, Lanes.lane_phases}
@@ -136,7 +136,7 @@ phases_drawn set pattern top (p ∷ ps) from =
           (bars (times set pattern.split) (from + n) ps)
           → where_long n
           (phase_picture (record { start = 10 * from; tenths = 10 * n; top = top })
-          (phase_at set p) p n (is_coordinated (split_at set pattern.split p)))
+          (phase_at set p) p n (split_at set pattern.split p))
           ++ lane_phases set pattern top (10 * from + 10 * n) ps
           ≡ flat_map (bar_drawing set pattern top)
           (bar_of n from p ++ bars (times set pattern.split) (from + n) ps)
@@ -149,7 +149,7 @@ phases_drawn set pattern top (p ∷ ps) from =
           ap₂ (λ (xs ys : List ℕ). xs ++ ys)
           (ap
           (λ (k : ℕ). phase_picture (record { start = 10 * from; tenths = 10 * k; top = top })
-          (phase_at set p) p k (is_coordinated (split_at set pattern.split p))) lasts)
+          (phase_at set p) p k (split_at set pattern.split p)) lasts)
           (ap (λ (k : ℕ). lane_phases set pattern top k ps) same ∙ h)
 
 lanes_drawn : (set : Rows) (pattern : Pattern) (rings : List ℕ) (index : ℕ)

@@ -1,5 +1,6 @@
 -- The diagram of a pattern: an SVG picture of its rings and barriers.
-use Rattle.std.specs.Prelude.{ℕ, List, [], ◌++◌, length, codes, decimal, Option, Some, None}
+use Rattle.std.specs.Prelude.{ℕ, ◌*◌, ◌/◌, List, [], ◌++◌, length, codes, decimal, Option, Some}
+use Rattle.std.specs.Prelude.{None}
 use Rattle.signal_records.specs.declared.record.Pattern.{Pattern}
 use Rattle.signal_records.specs.TimingSet.{Rows}
 use Rattle.signal_rules.specs.Lookup.{pattern_at}
@@ -26,11 +27,16 @@ figure_words n =
     codes "<svg xmlns='http://www.w3.org/2000/svg' role='img' aria-label='Pattern " ++ decimal n
     ++ codes ": the phases of each ring in turn, each as long as its split'"
 
+-- the least width of such a picture in a page, at which its letters, 20 units high, are 13 pixels
+abbrev pub least_width : ℕ → ℕ
+least_width width = 13 * (width / 20)
+
 -- the opening of such a picture, which is as wide and as high as its units
 unfoldable pub figure_opening : ℕ → ℕ → ℕ → List ℕ
 figure_opening n width height =
     figure_words n ++ codes " width='" ++ decimal width ++ codes "' height='" ++ decimal height
-    ++ codes "' viewBox='0 0 " ++ decimal width ++ codes " " ++ decimal height
+    ++ codes "' style='min-width:" ++ decimal (least_width width) ++ codes "px' viewBox='0 0 "
+    ++ decimal width ++ codes " " ++ decimal height
     ++ codes "' font-family='sans-serif' font-size='20'>\n"
     ++ codes "<rect width='100%' height='100%' fill='white'/>\n"
 

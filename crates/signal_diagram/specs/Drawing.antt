@@ -4,7 +4,6 @@ use Rattle.std.specs.Prelude.{decimal, Some}
 use Rattle.signal_records.specs.declared.record.Pattern.{Pattern}
 use Rattle.signal_records.specs.TimingSet.{Rows}
 use Rattle.signal_rules.specs.Lookup.{pattern_at, phase_at, split_at}
-use Rattle.signal_rules.specs.PatternRules.{is_coordinated}
 use Rattle.signal_diagram.specs.declared.document.Sizing.{Sizing}
 use Rattle.signal_diagram.specs.declared.geometry.TheConstants.{LABEL_LEFT}
 use Rattle.signal_diagram.specs.Geometry.{shown_seconds, top_of, width_of, height_of}
@@ -22,7 +21,7 @@ bar_drawing set pattern top bar =
     phase_picture
     (record { start = 10 * bar.from; tenths = 10 * (bar.to - bar.from); top = top })
     (phase_at set bar.phase) bar.phase (bar.to - bar.from)
-    (is_coordinated (split_at set pattern.split bar.phase))
+    (split_at set pattern.split bar.phase)
 
 -- a ring, with its name
 abbrev pub lane_drawing : Rows → Pattern → ℕ → Lane → List ℕ

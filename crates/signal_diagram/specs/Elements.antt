@@ -1,5 +1,5 @@
 -- The elements of an SVG picture.
-use Rattle.std.specs.Prelude.{ℕ, zero, suc, List, [], ◌++◌, codes, decimal}
+use Rattle.std.specs.Prelude.{ℕ, zero, suc, ◌+◌, ◌-◌, ◌/◌, List, [], ◌++◌, codes, decimal}
 use Rattle.signal_diagram.specs.declared.elements.Area.{Area}
 use Rattle.signal_diagram.specs.declared.elements.Line.{Line}
 
@@ -15,6 +15,20 @@ rect area fill edge =
     ++ decimal area.width
     ++ codes "' height='" ++ decimal area.height ++ codes "' fill='" ++ fill
     ++ codes "' stroke='black' stroke-width='" ++ decimal edge ++ codes "'/>\n"
+
+-- a rectangle of which the edge alone is drawn, in dashes
+unfoldable pub outline : Area → List ℕ
+outline area =
+    codes "<rect x='" ++ decimal area.x ++ codes "' y='" ++ decimal area.y ++ codes "' width='"
+    ++ decimal area.width ++ codes "' height='" ++ decimal area.height
+    ++ codes "' fill='none' stroke='black' stroke-width='1' stroke-dasharray='6 4'/>\n"
+
+-- a black wedge of some length and height, whose point is at x and half way down from y
+unfoldable pub wedge : ℕ → ℕ → ℕ → ℕ → List ℕ
+wedge x y length height =
+    codes "<polygon points='" ++ decimal (x - length) ++ codes "," ++ decimal y ++ codes " "
+    ++ decimal x ++ codes "," ++ decimal (y + height / 2) ++ codes " "
+    ++ decimal (x - length) ++ codes "," ++ decimal (y + height) ++ codes "' fill='black'/>\n"
 
 -- a black line
 unfoldable pub stroke : Line → List ℕ

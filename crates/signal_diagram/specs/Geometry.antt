@@ -1,8 +1,9 @@
 -- Where things stand in the picture. A unit is a tenth of a second across, and as long down.
-use Rattle.std.specs.Prelude.{ℕ, ◌+◌, ◌*◌, ◌≤◌, max, List, [], ◌∷◌, length, codes}
+use Rattle.std.specs.Prelude.{ℕ, ◌+◌, ◌-◌, ◌*◌, ◌≤◌, max, List, [], ◌∷◌, length, codes}
 use Rattle.signal_records.specs.declared.record.Pattern.{Pattern}
 use Rattle.signal_records.specs.TimingSet.{Rows}
 use Rattle.signal_rules.specs.PatternRules.{lane, used_rings}
+use Rattle.signal_diagram.specs.declared.elements.Area.{Area}
 use Rattle.signal_diagram.specs.declared.geometry.Band.{Band}
 use Rattle.signal_diagram.specs.declared.geometry.Band.TheVariants.{Green, Lead, Yellow, Red, Walk}
 use Rattle.signal_diagram.specs.declared.geometry.Band.TheVariants.{Clearance}
@@ -65,6 +66,15 @@ fill_of Yellow = codes "#ffd84d"
 fill_of Red = codes "#b3261e"
 fill_of Walk = codes "#ffffff"
 fill_of Clearance = codes "#f2a65a"
+
+-- a stretch of a phase, from one of its tenths to another
+abbrev pub area_of : Place → Band → ℕ → ℕ → Area
+area_of place band from to = record {
+  x = x_of (place.start + from);
+  y = place.top + offset_of band;
+  width = to - from;
+  height = thickness_of band;
+}
 
 -- a place is near enough that no coordinate grows past its type
 abbrev pub IsNear : Place → Type 0

@@ -4,7 +4,6 @@ use Rattle.signal_records.specs.declared.record.Pattern.{Pattern}
 use Rattle.signal_records.specs.TimingSet.{Rows}
 use Rattle.signal_rules.specs.Lookup.{phase_at, split_at}
 use Rattle.signal_rules.specs.SequenceRule.{ring_row}
-use Rattle.signal_rules.specs.PatternRules.{is_coordinated}
 use Rattle.signal_rules.specs.Starts.{times}
 use Rattle.signal_diagram.specs.declared.geometry.TheConstants.{LABEL_LEFT}
 use Rattle.signal_diagram.specs.Geometry.{top_of}
@@ -17,7 +16,7 @@ lane_phase set pattern top start p =
     let seconds = times set pattern.split p in
     where_long seconds
     (phase_picture (record { start = start; tenths = 10 * seconds; top = top })
-    (phase_at set p) p seconds (is_coordinated (split_at set pattern.split p)))
+    (phase_at set p) p seconds (split_at set pattern.split p))
 
 -- the phases of a row, the first from this tenth on, each from where the one before ends
 abbrev pub lane_phases : Rows → Pattern → ℕ → ℕ → List ℕ → List ℕ

@@ -6,9 +6,9 @@ use Rattle.signal_rules.specs.PatternRules.{has_rows, lanes_fill_cycle}
 use Rattle.signal_diagram.specs.declared.geometry.Band.{Band}
 use Rattle.signal_diagram.specs.declared.geometry.Band.TheVariants.{Green, Lead, Yellow, Red, Walk}
 use Rattle.signal_diagram.specs.declared.geometry.Band.TheVariants.{Clearance}
-use Rattle.signal_diagram.specs.declared.geometry.TheConstants.{LEFT, THIN}
+use Rattle.signal_diagram.specs.declared.geometry.TheConstants.{LEFT, THIN, WEDGE}
 use Rattle.signal_diagram.specs.Geometry.{fill_of}
-use Rattle.signal_diagram.specs.Elements.{rect, words_at}
+use Rattle.signal_diagram.specs.Elements.{rect, outline, wedge, words_at}
 
 -- `Pattern 1: cycle 120 s, offset 0 s, split 1, sequence 1`
 unfoldable pub title : ℕ → Pattern → List ℕ
@@ -31,25 +31,37 @@ note set pattern =
     else v9_note
 
 -- a colour and what it means
-unfoldable pub sample : ℕ → Band → List ℕ → List ℕ
-sample x band meaning =
-    rect (record { x = x; y = 84; width = 20; height = 16 }) (fill_of band) THIN
-    ++ words_at (x + 28) 99 meaning
+unfoldable pub sample : ℕ → ℕ → Band → List ℕ → List ℕ
+sample x y band meaning =
+    rect (record { x = x; y = y; width = 20; height = 16 }) (fill_of band) THIN
+    ++ words_at (x + 28) (y + 15) meaning
 
--- the colours in a lane, and those below it
+-- the colours in a lane
 unfoldable pub signal_samples : List ℕ
 signal_samples =
-    sample 120 Green (codes "green") ++ sample 240 Lead (codes "lead")
-    ++ sample 360 Yellow (codes "yellow") ++ sample 480 Red (codes "red")
-
-unfoldable pub walk_samples : List ℕ
-walk_samples = sample 600 Walk (codes "walk") ++ sample 720 Clearance (codes "clearance")
+    sample 120 80 Green (codes "green") ++ sample 240 80 Lead (codes "lead")
+    ++ sample 360 80 Yellow (codes "yellow") ++ sample 480 80 Red (codes "red")
 
 unfoldable pub star_sample : List ℕ
-star_sample = words_at 880 99 (codes "* coordinated")
+star_sample = words_at 600 95 (codes "* coordinated")
+
+-- the colours below a lane
+unfoldable pub walk_samples : List ℕ
+walk_samples =
+    sample 120 104 Walk (codes "walk") ++ sample 240 104 Clearance (codes "pedestrian clearance")
+
+-- what is drawn of a walk that only a button may call
+unfoldable pub uncalled_sample : List ℕ
+uncalled_sample =
+    outline (record { x = 510; y = 104; width = 20; height = 16 })
+    ++ words_at 538 119 (codes "walk, if called")
+
+-- the mark of a walk whose clearance does not end with the split
+unfoldable pub wedge_sample : List ℕ
+wedge_sample = wedge 730 104 WEDGE 16 ++ words_at 738 119 (codes "longer than the split")
 
 abbrev pub legend : List ℕ
-legend = signal_samples ++ walk_samples ++ star_sample
+legend = signal_samples ++ star_sample ++ walk_samples ++ uncalled_sample ++ wedge_sample
 
 -- what stands above the lanes
 unfoldable pub head : Rows → ℕ → Pattern → List ℕ

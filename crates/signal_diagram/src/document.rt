@@ -66,9 +66,11 @@ fn push_figure_opening(
         ≡ string_bytes text.old ++ figure_opening n width height) }
 {
     push_figure_words(text, n)?;
+    let least = 13 * (width / 20);
     write!(
         text,
-        " width='{width}' height='{height}' viewBox='0 0 {width} {height}' \
+        " width='{width}' height='{height}' style='min-width:{least}px' \
+         viewBox='0 0 {width} {height}' \
          font-family='sans-serif' font-size='20'>\n\
          <rect width='100%' height='100%' fill='white'/>\n"
     )

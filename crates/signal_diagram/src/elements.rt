@@ -1,8 +1,8 @@
 //! The elements of an SVG picture.
 
-ghost use Rattle.std.specs.Prelude.{◌≡◌, ◌++◌, OnOk, string_bytes};
+ghost use Rattle.std.specs.Prelude.{◌≡◌, ◌++◌, ◌≤◌, OnOk, string_bytes};
 ghost use Rattle.signal_diagram.specs.Elements.{rect, stroke, words_from, words_around, words_end};
-ghost use Rattle.signal_diagram.specs.Elements.{words_at};
+ghost use Rattle.signal_diagram.specs.Elements.{words_at, outline, wedge};
 
 use std::alloc::AllocError;
 use std::fmt::Write;
@@ -46,6 +46,46 @@ pub(crate) fn push_rect(
         text,
         "<rect x='{x}' y='{y}' width='{width}' height='{height}' fill='{fill}' \
          stroke='black' stroke-width='{edge}'/>\n"
+    )
+}
+
+/// Appends a rectangle of which the edge alone is drawn, in dashes.
+pub(crate) fn push_outline(text: &mut String, area: Area) -> Result<(), AllocError>
+    ensures { OnOk result (string_bytes text.new ≡ string_bytes text.old ++ outline area) }
+{
+    let Area {
+        x,
+        y,
+        width,
+        height,
+    } = area;
+    write!(
+        text,
+        "<rect x='{x}' y='{y}' width='{width}' height='{height}' fill='none' \
+         stroke='black' stroke-width='1' stroke-dasharray='6 4'/>\n"
+    )
+}
+
+/// Appends a black wedge of some length and height, whose point is at `x` and half way down from
+/// `y`.
+pub(crate) fn push_wedge(
+    text: &mut String,
+    x: u32,
+    y: u32,
+    length: u32,
+    height: u32,
+) -> Result<(), AllocError>
+    requires beside { length ≤ x }
+    requires near { y ≤ 10000 }
+    requires low { height ≤ 100 }
+    ensures { OnOk result (string_bytes text.new ≡ string_bytes text.old ++ wedge x y length height) }
+{
+    let left = x - length;
+    let middle = y + height / 2;
+    let bottom = y + height;
+    write!(
+        text,
+        "<polygon points='{left},{y} {x},{middle} {left},{bottom}' fill='black'/>\n"
     )
 }
 

@@ -37,6 +37,9 @@ pub(crate) const THICK: u32 = 5;
 /// A phase of fewer seconds has no room for them in words.
 pub(crate) const NARROW: u32 = 10;
 
+/// How long the mark is where walk and clearance do not fit their phase.
+pub(crate) const WEDGE: u32 = 10;
+
 /// A stretch of a phase that is drawn in a colour of its own.
 #[derive(Clone, Copy)]
 pub(crate) enum Band {
@@ -107,7 +110,8 @@ impl Band {
 
     /// How high it is.
     pub(crate) fn thickness(self) -> u32
-        ensures { result ≡ thickness_of self }
+        ensures exact { result ≡ thickness_of self }
+        ensures small { result ≤ 64 }
     {
         match self {
             Band::Green => 64,

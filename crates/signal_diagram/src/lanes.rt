@@ -6,7 +6,7 @@ ghost use Rattle.signal_diagram.specs.Lanes.{lane_phase, lane_phases, lane_pictu
 use crate::elements::{close_words, open_words};
 use crate::geometry::{LABEL_LEFT, Place, top_of};
 use crate::phase_picture::push_phase;
-use crate::rows::{is_coordinated, row_of, time_of};
+use crate::rows::{row_of, time_of};
 use signal_records::{Pattern, PhaseNo, RingNo, Split, TimingSet};
 use signal_rules::{phase_at, split_at};
 use std::alloc::AllocError;
@@ -33,14 +33,7 @@ fn push_lane_phase(
     }
     let tenths = 10 * seconds;
     let place = Place { start, tenths, top };
-    push_phase(
-        text,
-        place,
-        phase_at(set, p),
-        p,
-        seconds,
-        is_coordinated(split),
-    )
+    push_phase(text, place, phase_at(set, p), p, seconds, split)
 }
 
 /// Appends the phases of a row, each from where the one before ends.

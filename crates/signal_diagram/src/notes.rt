@@ -3,11 +3,12 @@
 ghost use Rattle.std.specs.Prelude.{◌≡◌, ◌++◌, ◌≤◌, OnOk, string_bytes};
 ghost use Rattle.signal_rules.specs.PatternRules.{used_rings};
 ghost use Rattle.signal_diagram.specs.Notes.{title, v9_note, v12_note, note, sample};
-ghost use Rattle.signal_diagram.specs.Notes.{signal_samples, walk_samples, star_sample, legend};
+ghost use Rattle.signal_diagram.specs.Notes.{signal_samples, walk_samples, uncalled_sample};
+ghost use Rattle.signal_diagram.specs.Notes.{star_sample, wedge_sample, legend};
 ghost use Rattle.signal_diagram.specs.Notes.{head};
 
-use crate::elements::{Area, push_rect, push_words};
-use crate::geometry::{Band, LEFT, THIN};
+use crate::elements::{Area, push_outline, push_rect, push_wedge, push_words};
+use crate::geometry::{Band, LEFT, THIN, WEDGE};
 use crate::rows::{has_rows, lanes_fill_cycle};
 use signal_records::{Pattern, PatternNo, RingNo, TimingSet};
 use std::alloc::AllocError;
@@ -69,19 +70,26 @@ fn push_note(
 
 /// Appends a colour and what it means.
 #[tactic(auto, unfolding(crate::specs::Notes::sample))]
-fn push_sample(text: &mut String, x: u32, band: Band, meaning: &str) -> Result<(), AllocError>
-    requires { x ≤ 5000 }
+fn push_sample(
+    text: &mut String,
+    x: u32,
+    y: u32,
+    band: Band,
+    meaning: &str,
+) -> Result<(), AllocError>
+    requires across { x ≤ 5000 }
+    requires down { y ≤ 5000 }
     ensures { OnOk result (string_bytes text.new
-        ≡ string_bytes text.old ++ sample x band meaning.now) }
+        ≡ string_bytes text.old ++ sample x y band meaning.now) }
 {
     let area = Area {
         x,
-        y: 84,
+        y,
         width: 20,
         height: 16,
     };
     push_rect(text, area, band.fill(), THIN)?;
-    push_words(text, x + 28, 99, meaning)
+    push_words(text, x + 28, y + 15, meaning)
 }
 
 /// Appends what the colours in a lane mean.
@@ -89,19 +97,10 @@ fn push_sample(text: &mut String, x: u32, band: Band, meaning: &str) -> Result<(
 fn push_signal_samples(text: &mut String) -> Result<(), AllocError>
     ensures { OnOk result (string_bytes text.new ≡ string_bytes text.old ++ signal_samples) }
 {
-    push_sample(text, 120, Band::Green, "green")?;
-    push_sample(text, 240, Band::Lead, "lead")?;
-    push_sample(text, 360, Band::Yellow, "yellow")?;
-    push_sample(text, 480, Band::Red, "red")
-}
-
-/// Appends what the colours below a lane mean.
-#[tactic(auto, unfolding(crate::specs::Notes::walk_samples))]
-fn push_walk_samples(text: &mut String) -> Result<(), AllocError>
-    ensures { OnOk result (string_bytes text.new ≡ string_bytes text.old ++ walk_samples) }
-{
-    push_sample(text, 600, Band::Walk, "walk")?;
-    push_sample(text, 720, Band::Clearance, "clearance")
+    push_sample(text, 120, 80, Band::Green, "green")?;
+    push_sample(text, 240, 80, Band::Lead, "lead")?;
+    push_sample(text, 360, 80, Band::Yellow, "yellow")?;
+    push_sample(text, 480, 80, Band::Red, "red")
 }
 
 /// Appends what the star means.
@@ -109,16 +108,51 @@ fn push_walk_samples(text: &mut String) -> Result<(), AllocError>
 fn push_star_sample(text: &mut String) -> Result<(), AllocError>
     ensures { OnOk result (string_bytes text.new ≡ string_bytes text.old ++ star_sample) }
 {
-    push_words(text, 880, 99, "* coordinated")
+    push_words(text, 600, 95, "* coordinated")
 }
 
-/// Appends what the colours and the star mean.
+/// Appends what the colours below a lane mean.
+#[tactic(auto, unfolding(crate::specs::Notes::walk_samples))]
+fn push_walk_samples(text: &mut String) -> Result<(), AllocError>
+    ensures { OnOk result (string_bytes text.new ≡ string_bytes text.old ++ walk_samples) }
+{
+    push_sample(text, 120, 104, Band::Walk, "walk")?;
+    push_sample(text, 240, 104, Band::Clearance, "pedestrian clearance")
+}
+
+/// Appends what is drawn of a walk that only a button may call.
+#[tactic(auto, unfolding(crate::specs::Notes::uncalled_sample))]
+fn push_uncalled_sample(text: &mut String) -> Result<(), AllocError>
+    ensures { OnOk result (string_bytes text.new ≡ string_bytes text.old ++ uncalled_sample) }
+{
+    let area = Area {
+        x: 510,
+        y: 104,
+        width: 20,
+        height: 16,
+    };
+    push_outline(text, area)?;
+    push_words(text, 538, 119, "walk, if called")
+}
+
+/// Appends the mark of a walk whose clearance does not end with the split.
+#[tactic(auto, unfolding(crate::specs::Notes::wedge_sample))]
+fn push_wedge_sample(text: &mut String) -> Result<(), AllocError>
+    ensures { OnOk result (string_bytes text.new ≡ string_bytes text.old ++ wedge_sample) }
+{
+    push_wedge(text, 730, 104, WEDGE, 16)?;
+    push_words(text, 738, 119, "longer than the split")
+}
+
+/// Appends what the colours, the star, the outline and the mark mean.
 fn push_legend(text: &mut String) -> Result<(), AllocError>
     ensures { OnOk result (string_bytes text.new ≡ string_bytes text.old ++ legend) }
 {
     push_signal_samples(text)?;
+    push_star_sample(text)?;
     push_walk_samples(text)?;
-    push_star_sample(text)
+    push_uncalled_sample(text)?;
+    push_wedge_sample(text)
 }
 
 /// Appends what stands above the lanes of the rings that are used.

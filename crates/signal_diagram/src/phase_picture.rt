@@ -2,16 +2,32 @@
 
 ghost use Rattle.std.specs.Prelude.{◌≡◌, ◌++◌, ◌≤◌, ◌-◌, ◌+◌, OnOk, string_bytes};
 ghost use Rattle.std.specs.Option.{option_copied};
-ghost use Rattle.signal_diagram.specs.Geometry.{IsNear};
-ghost use Rattle.signal_diagram.specs.PhasePicture.{stretch, changes, tenth_after, walking};
+ghost use Rattle.signal_diagram.specs.Geometry.{IsNear, area_of};
+ghost use Rattle.signal_diagram.specs.PhasePicture.{stretch, uncalled, walk_stretch, cut_mark};
+ghost use Rattle.signal_diagram.specs.PhasePicture.{changes, tenth_after, walking};
 ghost use Rattle.signal_diagram.specs.PhasePicture.{walking_of, intervals, edge, star};
 ghost use Rattle.signal_diagram.specs.PhasePicture.{seconds_words, phase_words, phase_picture};
 
-use crate::elements::{Area, close_words, open_words, push_rect};
-use crate::geometry::{Band, NARROW, Place, THICK, THIN, x_of};
-use signal_records::{Ped, Phase, PhaseNo};
+use crate::elements::{Area, close_words, open_words, push_outline, push_rect, push_wedge};
+use crate::geometry::{Band, NARROW, Place, THICK, THIN, WEDGE, x_of};
+use crate::rows::{calls_walk, is_coordinated};
+use signal_records::{Ped, Phase, PhaseNo, Split};
 use std::alloc::AllocError;
 use std::fmt::Write;
+
+/// Where a stretch of a phase stands, from one of its tenths to another.
+fn area_of(place: Place, band: Band, from: u32, to: u32) -> Area
+    requires near { IsNear place }
+    requires within { from ≤ place.tenths }
+    ensures { result ≡ area_of place band from to }
+{
+    Area {
+        x: x_of(place.start + from),
+        y: place.top + band.offset(),
+        width: to.saturating_sub(from),
+        height: band.thickness(),
+    }
+}
 
 /// Appends a stretch of a phase from one of its tenths to another; an empty one is not drawn.
 fn push_stretch(
@@ -26,17 +42,50 @@ fn push_stretch(
     ensures { OnOk result (string_bytes text.new
         ≡ string_bytes text.old ++ stretch place band from to) }
 {
-    let width = to.saturating_sub(from);
-    if width == 0 {
+    if to <= from {
         return Ok(());
     }
-    let area = Area {
-        x: x_of(place.start + from),
-        y: place.top + band.offset(),
-        width,
-        height: band.thickness(),
-    };
-    push_rect(text, area, band.fill(), THIN)
+    push_rect(text, area_of(place, band, from, to), band.fill(), THIN)
+}
+
+/// Appends a stretch that only a button may call, of which the edge alone is drawn.
+fn push_uncalled(
+    text: &mut String,
+    place: Place,
+    band: Band,
+    from: u32,
+    to: u32,
+) -> Result<(), AllocError>
+    requires near { IsNear place }
+    requires within { from ≤ place.tenths }
+    ensures { OnOk result (string_bytes text.new
+        ≡ string_bytes text.old ++ uncalled place band from to) }
+{
+    if to <= from {
+        return Ok(());
+    }
+    push_outline(text, area_of(place, band, from, to))
+}
+
+/// Appends a part of a walk, by whether the split mode calls it.
+fn push_walk_stretch(
+    text: &mut String,
+    called: bool,
+    place: Place,
+    band: Band,
+    from: u32,
+    to: u32,
+) -> Result<(), AllocError>
+    requires near { IsNear place }
+    requires within { from ≤ place.tenths }
+    ensures { OnOk result (string_bytes text.new
+        ≡ string_bytes text.old ++ walk_stretch called place band from to) }
+{
+    if called {
+        push_stretch(text, place, band, from, to)
+    } else {
+        push_uncalled(text, place, band, from, to)
+    }
 }
 
 /// Appends yellow and red, the last tenths of a phase.
@@ -62,42 +111,74 @@ fn tenth_after(place: Place, seconds: u32) -> u32
     place.tenths.min(10 * seconds)
 }
 
-/// Appends the lead before the green, the walk and the clearance.
-fn push_walking(text: &mut String, place: Place, ped: Ped) -> Result<(), AllocError>
+/// Appends the mark at the end of a phase where walk and clearance do not end with it.
+fn push_cut_mark(text: &mut String, place: Place, ped: Ped) -> Result<(), AllocError>
     requires { IsNear place }
-    ensures { OnOk result (string_bytes text.new ≡ string_bytes text.old ++ walking place ped) }
+    ensures { OnOk result (string_bytes text.new ≡ string_bytes text.old ++ cut_mark place ped) }
+{
+    let tenths = 10 * (u32::from(ped.walk) + u32::from(ped.clear));
+    if tenths <= place.tenths {
+        return Ok(());
+    }
+    push_wedge(
+        text,
+        x_of(place.start + place.tenths),
+        place.top + Band::Clearance.offset(),
+        WEDGE,
+        Band::Clearance.thickness(),
+    )
+}
+
+/// Appends the lead before the green, the walk and the clearance, by whether the split mode calls
+/// them.
+fn push_walking(text: &mut String, called: bool, place: Place, ped: Ped) -> Result<(), AllocError>
+    requires { IsNear place }
+    ensures { OnOk result (string_bytes text.new
+        ≡ string_bytes text.old ++ walking called place ped) }
 {
     let walk = u32::from(ped.walk);
     let clear = u32::from(ped.clear);
     let green_from = tenth_after(place, ped.lead.get());
     let walk_to = tenth_after(place, walk);
     let clear_to = tenth_after(place, walk + clear);
-    push_stretch(text, place, Band::Lead, 0, green_from)?;
-    push_stretch(text, place, Band::Walk, 0, walk_to)?;
-    push_stretch(text, place, Band::Clearance, walk_to, clear_to)
+    push_walk_stretch(text, called, place, Band::Lead, 0, green_from)?;
+    push_walk_stretch(text, called, place, Band::Walk, 0, walk_to)?;
+    push_walk_stretch(text, called, place, Band::Clearance, walk_to, clear_to)?;
+    push_cut_mark(text, place, ped)
 }
 
 /// Appends what the pedestrian part of a phase shows.
-fn push_walking_of(text: &mut String, place: Place, ped: Option<Ped>) -> Result<(), AllocError>
+fn push_walking_of(
+    text: &mut String,
+    called: bool,
+    place: Place,
+    ped: Option<Ped>,
+) -> Result<(), AllocError>
     requires { IsNear place }
-    ensures { OnOk result (string_bytes text.new ≡ string_bytes text.old ++ walking_of place ped) }
+    ensures { OnOk result (string_bytes text.new
+        ≡ string_bytes text.old ++ walking_of called place ped) }
 {
     match ped {
-        Some(ped) => push_walking(text, place, ped),
+        Some(ped) => push_walking(text, called, place, ped),
         None => Ok(()),
     }
 }
 
 /// Appends what the intervals of a phase show.
-fn push_intervals(text: &mut String, place: Place, phase: Option<&Phase>) -> Result<(), AllocError>
+fn push_intervals(
+    text: &mut String,
+    called: bool,
+    place: Place,
+    phase: Option<&Phase>,
+) -> Result<(), AllocError>
     requires { IsNear place }
     ensures { OnOk result (string_bytes text.new
-        ≡ string_bytes text.old ++ intervals place (option_copied phase.entry)) }
+        ≡ string_bytes text.old ++ intervals called place (option_copied phase.entry)) }
 {
     let Some(phase) = phase else {
         return Ok(());
     };
-    push_walking_of(text, place, phase.ped)?;
+    push_walking_of(text, called, place, phase.ped)?;
     push_changes(text, place, phase)
 }
 
@@ -155,22 +236,23 @@ fn push_phase_words(
     close_words(text)
 }
 
-/// Appends the picture of a phase of some seconds at its place.
+/// Appends the picture of a phase of some seconds at its place, as its split row has it.
 pub(crate) fn push_phase(
     text: &mut String,
     place: Place,
     phase: Option<&Phase>,
     p: PhaseNo,
     seconds: u32,
-    coord: bool,
+    split: Option<Split>,
 ) -> Result<(), AllocError>
     requires { IsNear place }
     ensures { OnOk result (string_bytes text.new
         ≡ string_bytes text.old ++ phase_picture place (option_copied phase.entry) p seconds
-        coord) }
+        split) }
 {
+    let coord = is_coordinated(split);
     push_stretch(text, place, Band::Green, 0, place.tenths)?;
-    push_intervals(text, place, phase)?;
+    push_intervals(text, calls_walk(split), place, phase)?;
     push_edge(text, place, coord)?;
     push_phase_words(text, place, p, seconds, coord)
 }

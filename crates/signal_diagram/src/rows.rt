@@ -7,9 +7,10 @@ ghost use Rattle.signal_rules.specs.PatternRules.{time_of, is_coordinated, has_s
 ghost use Rattle.signal_rules.specs.PatternRules.{used_rings, lanes_fill_cycle};
 ghost use Rattle.signal_rules.specs.Starts.{rings_fill};
 ghost use Rattle.signal_diagram.specs.Geometry.{lane_seconds, longest_of};
+ghost use Rattle.signal_diagram.specs.PhasePicture.{calls_walk};
 
 use signal_records::{
-    Key, NoMemory, Pattern, PhaseNo, RingNo, Row, SeqNo, Split, SplitNo, TimingSet,
+    Key, NoMemory, Pattern, PhaseNo, RingNo, Row, SeqNo, Split, SplitMode, SplitNo, TimingSet,
 };
 use signal_rules::{phase_at, split_at, used_rings};
 use std::alloc::Global;
@@ -43,6 +44,19 @@ pub(crate) fn is_coordinated(split: Option<Split>) -> bool
     match split {
         Some(split) => split.coord,
         None => false,
+    }
+}
+
+/// Whether the split mode calls the walk of the phase: both pedestrian recalls do.
+pub(crate) fn calls_walk(split: Option<Split>) -> bool
+    ensures { result ≡ calls_walk split }
+{
+    let Some(split) = split else {
+        return false;
+    };
+    match split.mode {
+        SplitMode::PedestrianRecall | SplitMode::MaximumVehicleAndPedestrianRecall => true,
+        _ => false,
     }
 }
 

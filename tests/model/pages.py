@@ -1,0 +1,315 @@
+"""The page of an intersection, or of a plan alone: one HTML text, with the style in page.css."""
+import html
+import pathlib
+
+from . import reasons, rules
+from .pictures import picture
+from .plan import Pattern, Phase, Sequence, Split
+from .register import records_of
+
+STYLE = (pathlib.Path(__file__).parent / "page.css").read_text()
+HEAD = """<!DOCTYPE html>
+<html lang='en'>
+<head>
+<meta charset='utf-8'>
+<meta name='viewport' content='width=device-width, initial-scale=1'>
+<title>{title}</title>
+<style>
+{style}</style>
+</head>
+<body>
+<a class='skip' href='#main'>Skip to the plan</a>
+<header>
+<h1>{heading}</h1>
+{facts}</header>
+<main id='main'>
+"""
+END = "</main>\n</body>\n</html>\n"
+VERDICTS = {"notDone": "not done", "doneWithError": "done, with errors",
+            "doneWithNoError": "done, without errors"}
+MODES = {2: "none", 3: "minimum vehicle recall", 4: "maximum vehicle recall",
+         5: "pedestrian recall", 6: "maximum vehicle and pedestrian recall", 7: "phase omitted"}
+# The tables of a plan in their order; a column of words has its heading in brackets.
+TABLES = {
+    "Patterns": (Pattern, ["Pattern", "Cycle (s)", "Offset (s)", "Split", "Sequence",
+                           ["Coordinated phases"]]),
+    "Sequences": (Sequence, ["Sequence", "Ring", ["Phases in turn"]]),
+    "Splits": (Split, ["Split", "Phase", "Time (s)", "Need (s)", "Spare (s)", ["Mode"],
+                       ["Coordinated"]]),
+    "Phases": (Phase, ["Phase", "Ring", "Min green (s)", "Passage (s)", "Max green (s)",
+                       "Yellow (s)", "Red (s)", "Walk (s)", "Pedestrian clearance (s)",
+                       "Crossing (ft)", "Setback (ft)", ["Short walk"], "Lead (s)",
+                       ["Concurrent phases"]]),
+}
+ORDERS = ["Order", ["Opened"], ["Clerk"], ["Work"], ["Lines: parts used (pieces)"]]
+INSPECTIONS = ["Inspection", ["Day"], ["Clerk"], ["Findings"]]
+
+
+def quoted(text):
+    """A name or text of others, no character of which is markup."""
+    return html.escape(text).replace("&#x27;", "&#39;")
+
+
+def isolated(text):
+    """The same in an element of its own, so that its direction stays within it."""
+    return f"<bdi>{quoted(text)}</bdi>"
+
+
+# ---- cells
+
+def cell(content, kind=""):
+    """A cell of numbers, or of words or days by its class."""
+    return f"<td class='{kind}'>{content}</td>" if kind else f"<td>{content}</td>"
+
+
+def word(content):
+    """A cell of words."""
+    return cell(content, "w")
+
+
+def flag(is_set):
+    """Yes or no."""
+    return word("yes" if is_set else "no")
+
+
+def tenths(number):
+    """Tenths as a number with a point, below zero too."""
+    sign = "-" if number < 0 else ""
+    return f"{sign}{abs(number) // 10}.{abs(number) % 10}"
+
+
+def phase_list(numbers):
+    """Phases, each after a space, or a dash."""
+    return word("".join(f" {it}" for it in numbers) or " -")
+
+
+def first(number):
+    """The cell that heads a row."""
+    return f"<th scope='row'>{number}</th>"
+
+
+def heading(name):
+    """The heading of a column."""
+    return (f"<th scope='col' class='w'>{name[0]}</th>" if isinstance(name, list)
+            else f"<th scope='col'>{name}</th>")
+
+
+# ---- rows of a plan
+
+def pattern_cells(view, row):
+    """A pattern names the phases that its split plan coordinates."""
+    splits = {it: view.splits.get((row.split, it)) for it in view.phases}
+    coordinated = [it for it, split in splits.items() if split and split.coord]
+    return [first(row.number), *map(cell, (row.cycle, row.offset, row.split, row.sequence)),
+            phase_list(coordinated)]
+
+
+def split_cells(view, row):
+    """A split has what its phase needs in its mode, and what it has to spare."""
+    phase, spare = view.phases.get(row.phase), ["", ""]
+    if phase is not None and row.mode != 7:
+        need = rules.need(phase, row.mode)
+        spare = [tenths(need), tenths(10 * row.time - need)]
+    return [first(row.number), first(row.phase), *map(cell, (row.time, *spare)),
+            word(MODES[row.mode]), flag(row.coord)]
+
+
+def phase_cells(_, row):
+    """A phase, with dashes where it has no crossing."""
+    crossing = [*[cell("-")] * 4, word("-"), cell("-")]
+    if row.walk is not None:
+        crossing = [cell(row.walk), cell(row.clear), cell(tenths(row.width)),
+                    cell(tenths(row.setback)), flag(row.short), cell(row.lead)]
+    return [first(row.number), cell(row.ring), cell(row.min_green), cell(tenths(row.passage)),
+            cell(row.max1), cell(tenths(row.yellow)), cell(tenths(row.red)), *crossing,
+            phase_list(row.mates)]
+
+
+def sequence_cells(_, row):
+    """The phases of a ring in turn."""
+    return [first(row.number), first(row.ring), phase_list(row.phases)]
+
+
+CELLS = {Pattern: pattern_cells, Split: split_cells, Phase: phase_cells, Sequence: sequence_cells}
+SUBJECTS = {Pattern: "pattern {0}", Split: "split {0} {1}", Phase: "phase {0}",
+            Sequence: "sequence {0}"}
+
+
+def table(name, headings, rows):
+    """A table in a box that scrolls where the page is narrow. One that has no row says so."""
+    rows = rows or [f"<tr><td class='none' colspan='{len(headings)}'>none</td></tr>\n"]
+    return (f"<div class='scroll' role='group' tabindex='0' aria-label='{name}'>\n<table>\n"
+            f"<caption>{name}</caption>\n<thead><tr>{''.join(map(heading, headings))}</tr></thead>"
+            f"\n<tbody>{''.join(rows)}</tbody>\n</table>\n</div>\n")
+
+
+def why(row, broken):
+    """The rules that a row breaks, each with its reason in a row below it."""
+    columns = next(len(names) for kind, names in TABLES.values() if isinstance(row, kind))
+    subject = SUBJECTS[type(row)].format(*row)
+    return [f"<tr class='why'><td colspan='{columns}'><p>{it[len(subject) + 1:]}</p></td></tr>\n"
+            for it in broken if it.startswith(f"{subject} V")]
+
+
+def plan_tables(plan, whose, broken):
+    """The tables of a plan, named by what they are of."""
+    view, rows = rules.View(plan), [plan[key] for key in sorted(plan)]
+    for name, (kind, names) in TABLES.items():
+        yield table(name + whose, names, [
+            f"<tr>{''.join(CELLS[kind](view, it))}</tr>\n{''.join(why(it, broken))}"
+            for it in rows if isinstance(it, kind)])
+
+
+# ---- pictures
+
+def cuts(view, pattern):
+    """The phases whose walk and clearance take longer than their split."""
+    for number, phase in view.phases.items():
+        split = view.splits.get((pattern.split, number))
+        if split and split.time and phase.walk is not None:
+            if phase.walk + phase.clear > split.time:
+                yield (f"<p>Phase {number}: walk and pedestrian clearance take "
+                       f"{phase.walk + phase.clear} s, and the split is {split.time} s. "
+                       "The picture ends them with it, at the wedge.</p>\n")
+
+
+def figures(plan):
+    """The pictures of a plan, each with what it cannot show."""
+    view = rules.View(plan)
+    for number, pattern in view.patterns.items():
+        drawn = picture(plan, number, in_page=True)
+        yield f"<figure tabindex='0'>\n{drawn}{''.join(cuts(view, pattern))}</figure>\n"
+
+
+def plan_part(plan, whose="", broken=()):
+    """A plan with its pictures and tables."""
+    if not plan:
+        return "<p class='none'>It has no rows.</p>\n"
+    return "".join([*figures(plan), *plan_tables(plan, whose, broken)])
+
+
+def count_broken(broken):
+    """How many rules are broken."""
+    if not broken:
+        return "<p class='sound'>It breaks no rule.</p>\n"
+    return (f"<p class='broken'>Broken rules: {len(broken)}. Each stands below its row, with the "
+            "reason.</p>\n")
+
+
+def plan_page(plan):
+    """The page of a plan alone."""
+    broken, name = reasons.explained(plan), "Timing plan"
+    head = HEAD.format(title=name, style=STYLE, heading=name, facts="")
+    return head + count_broken(broken) + plan_part(plan, broken=broken) + END
+
+
+# ---- an intersection
+
+def fact(name, value):
+    """What is told, and its name."""
+    return f"<div><dt>{name}</dt><dd>{value}</dd></div>\n"
+
+
+def links(has_draft):
+    """Links to the parts of the page."""
+    parts = [("plan", "The plan that runs"), ("draft", "The draft"), ("cabinet", "The cabinet")]
+    lines = [f"<li><a href='#{at}'>{name}</a></li>\n" for at, name in parts
+             if has_draft or at != "draft"]
+    return f"<nav aria-label='Parts of this page'>\n<ul>\n{''.join(lines)}</ul>\n</nav>\n"
+
+
+def facts(office, id):
+    """How an intersection stands."""
+    it = office.find(id)
+    inspected = [of.day for _, of in records_of(office.register.inspections, id)]
+    told = {"Last inspection": max(inspected, default="none"),
+            "Next inspection due": office.register.due(id, it.interval) or "never inspected",
+            "Open orders": len(office.open_orders(id)["open"]),
+            "State": it.state, "Draft held by": isolated(it.owner) if it.owner else "nobody",
+            "Verify status": VERDICTS[it.verdict()], "Revision": it.revision,
+            "Rows that run": len(it.committed)}
+    return (f"<dl>\n{''.join(fact(*pair) for pair in told.items())}</dl>\n"
+            f"{links(it.draft is not None)}")
+
+
+def changes(before, after):
+    """What a draft changes, in the tables of its kinds."""
+    yield "<div class='changes'>\n<h3>What it changes</h3>\n"
+    keys = [key for key in sorted({*before, *after}) if before.get(key) != after.get(key)]
+    if not keys:
+        yield "<p>It changes nothing of the plan that runs.</p>\n"
+    for name, (kind, names) in TABLES.items():
+        rows = [changed(mark, it, rules.View(plan))
+                for key in keys for mark, it, plan in marked(key, before, after)
+                if isinstance(it, kind)]
+        if rows:
+            yield table(f"{name} that change", [["Change"], *names], rows)
+    yield "</div>\n"
+
+
+def marked(key, before, after):
+    """The rows of a change, each with its mark and the plan that has it."""
+    if key not in after:
+        return [(("removed", "removed"), before[key], before)]
+    if key not in before:
+        return [(("added", "added"), after[key], after)]
+    return [(("before", "changed from"), before[key], before),
+            (("after", "changed to"), after[key], after)]
+
+
+def changed(mark, row, view):
+    """A row of what is changed."""
+    return f"<tr class='{mark[0]}'>{word(mark[1])}{''.join(CELLS[type(row)](view, row))}</tr>\n"
+
+
+def section(name, title, content):
+    """A part of the page."""
+    return (f"<section id='{name}' aria-labelledby='{name}-title'>\n"
+            f"<h2 id='{name}-title'>{title}</h2>\n{content}</section>\n")
+
+
+def draft_part(it):
+    """A draft: what it breaks, what it changes, and all of it."""
+    broken = reasons.explained(it.draft)
+    return (count_broken(broken) + "".join(changes(it.committed, it.draft))
+            + "<h3>The whole draft</h3>\n" + plan_part(it.draft, " of the draft", broken))
+
+
+def order_cells(register, id, number, order):
+    """An order with its lines, each with its number and the part that was used."""
+    used = "".join(f"<div>{line}: {it.count} &times; {isolated(it.part)}</div>"
+                   for line, it in register.used_for(id, number))
+    return "".join([first(number), cell(order.opened, "d"), word(isolated(order.clerk)),
+                    word(isolated(order.text)), word(used)])
+
+
+def cabinet_part(register, id, interval):
+    """The cabinet: the due day, open orders, closed orders, inspections."""
+    due, orders = register.due(id, interval), records_of(register.orders, id)
+    said = (f"The next inspection is due on <strong>{due}</strong>." if due
+            else "It was never inspected.")
+    yield f"<p>{said} Days from one inspection to the next: {interval}.</p>\n"
+    yield table("Open orders", ORDERS, [
+        f"<tr>{order_cells(register, id, number, it)}</tr>\n"
+        for number, it in orders if not it.closed])
+    yield table("Closed orders", [*ORDERS, ["Closed"], ["Closed by"]], [
+        f"<tr>{order_cells(register, id, number, it)}{cell(it.closed, 'd')}"
+        f"{word(isolated(it.closer))}</tr>\n" for number, it in orders if it.closed])
+    yield table("Inspections", INSPECTIONS, [
+        f"<tr>{first(number)}{cell(it.day, 'd')}{word(isolated(it.clerk))}"
+        f"{word(isolated(it.text))}</tr>\n"
+        for number, it in records_of(register.inspections, id)])
+
+
+def page(office, id):
+    """The page of an intersection, or refusal 10."""
+    it = office.find(id)
+    head = HEAD.format(
+        title=f"Intersection {id}: {quoted(it.name)}", style=STYLE,
+        heading=f"Intersection {id}: {isolated(it.name)}", facts=facts(office, id))
+    runs = plan_part(it.committed, " of the plan that runs")
+    parts = [section("plan", "The plan that runs", runs)]
+    if it.draft is not None:
+        parts.append(section("draft", "The draft", draft_part(it)))
+    cabinet = "".join(cabinet_part(office.register, id, it.interval))
+    return "".join([head, *parts, section("cabinet", "The cabinet", cabinet), END])

@@ -1,0 +1,165 @@
+"""The picture of a pattern: its rings as lanes of an SVG, whose unit is a tenth of a second."""
+import itertools
+
+from .rules import View, of_pattern
+
+LEFT, RIGHT, LEAST, LANES_TOP, PITCH, RISE = 120, 60, 900, 140, 120, 12
+# Of each stretch how far below the top of its lane it begins, how high it is, and its colour.
+BANDS = {
+    "green": (0, 64, "#dcefd8"),
+    "lead": (34, 30, "#9fb4c7"),
+    "yellow": (34, 30, "#ffd84d"),
+    "red": (34, 30, "#b3261e"),
+    "walk": (70, 16, "#ffffff"),
+    "pedestrian clearance": (70, 16, "#f2a65a"),
+}
+OPENING = "<svg xmlns='http://www.w3.org/2000/svg'"
+LETTERS = "font-family='sans-serif' font-size='20'>"
+GROUND = "<rect width='100%' height='100%' fill='white'/>"
+# The first broken rule of these two is named in the picture.
+NOTES = {
+    "V9": "V9: the sequence has no row, or a phase has no split.",
+    "V12": "V12: the splits of a ring do not add up to the cycle.",
+}
+
+
+def box(x, y, width, height, fill, edge=1, more=""):
+    """A rectangle with a black edge."""
+    return (f"<rect x='{x}' y='{y}' width='{width}' height='{height}' fill='{fill}' "
+            f"stroke='black' stroke-width='{edge}'{more}/>")
+
+
+def dashed(x, y, width, height):
+    """A rectangle of which the edge alone is drawn, in dashes."""
+    return box(x, y, width, height, "none", more=" stroke-dasharray='6 4'")
+
+
+def wedge(x, y):
+    """The mark of a walk that goes on past the end of its phase, which it points at."""
+    return f"<polygon points='{x - 10},{y} {x},{y + 8} {x - 10},{y + 16}' fill='black'/>"
+
+
+def line(x1, y1, x2, y2, width):
+    """A black line."""
+    return (f"<line x1='{x1}' y1='{y1}' x2='{x2}' y2='{y2}' stroke='black' "
+            f"stroke-width='{width}'/>")
+
+
+def words(x, y, text, more=""):
+    """Words at a point."""
+    return f"<text x='{x}' y='{y}'{more}>{text}</text>"
+
+
+def opening(number, width, height, in_page):
+    """A picture in a page has the size of its units and is told in words; a sheet is A4."""
+    if in_page:
+        return (f"{OPENING} role='img' aria-label='Pattern {number}: the phases of each ring in "
+                f"turn, each as long as its split' width='{width}' height='{height}' "
+                f"style='min-width:{13 * (width // 20)}px' "
+                f"viewBox='0 0 {width} {height}' {LETTERS}")
+    return (f"{OPENING} width='260mm' height='180mm' viewBox='0 0 {width} {height}' "
+            f"preserveAspectRatio='xMidYMin' {LETTERS}")
+
+
+def legend():
+    """What colours, star, outline and wedge mean, in two lines."""
+    for x, y, name in ((120, 80, "green"), (240, 80, "lead"), (360, 80, "yellow"), (480, 80, "red"),
+                       (600, 80, None), (120, 104, "walk"), (240, 104, "pedestrian clearance")):
+        if name is None:
+            yield words(x, y + 15, "* coordinated")
+        else:
+            yield box(x, y, 20, 16, BANDS[name][2])
+            yield words(x + 28, y + 15, name)
+    yield dashed(510, 104, 20, 16)
+    yield words(538, 119, "walk, if called")
+    yield wedge(730, 104)
+    yield words(738, 119, "longer than the split")
+
+
+def stretch(x, top, name, begin, end, is_called=True):
+    """From one tenth of a phase to another; of a walk that nobody has to call the edge alone."""
+    if begin < end:
+        below, height, fill = BANDS[name]
+        place = x + begin, top + below, end - begin, height
+        yield box(*place, fill) if is_called else dashed(*place)
+
+
+def walking(x, top, phase, length, is_called):
+    """Lead, walk and clearance, none of which goes past the phase, and a wedge where they would."""
+    walk, both = 10 * phase.walk, 10 * (phase.walk + phase.clear)
+    yield from stretch(x, top, "lead", 0, min(10 * phase.lead, length), is_called)
+    yield from stretch(x, top, "walk", 0, min(walk, length), is_called)
+    yield from stretch(
+        x, top, "pedestrian clearance", min(walk, length), min(both, length), is_called)
+    if both > length:
+        yield wedge(x + length, top + 70)
+
+
+def phase_drawn(view, split, start, top):
+    """A phase from a second on: what it shows, its edge, and its number and time."""
+    x, length, phase = LEFT + 10 * start, 10 * split.time, view.phases.get(split.phase)
+    yield from stretch(x, top, "green", 0, length)
+    if phase is not None:
+        if phase.walk is not None:
+            yield from walking(x, top, phase, length, split.mode in (5, 6))
+        red = max(length - phase.red, 0)
+        yield from stretch(x, top, "yellow", max(length - phase.yellow - phase.red, 0), red)
+        yield from stretch(x, top, "red", red, length)
+    yield box(x, top, length, 64, "none", 5 if split.coord else 1)
+    time = f": {split.time} s" if split.time >= 10 else ""
+    yield words(x + 8, top + 25, f"{split.phase}{'*' if split.coord else ''}{time}")
+
+
+def starts(view, pattern, ring):
+    """The splits that have time in a ring, each with the second at which it begins."""
+    row = view.sequences.get(pattern.sequence, {}).get(ring, ())
+    splits = [view.splits[pattern.split, it] for it in row if (pattern.split, it) in view.splits]
+    timed = [it for it in splits if it.time]
+    return list(zip(itertools.accumulate((it.time for it in timed), initial=0), timed))
+
+
+def barriers(lanes, cycle):
+    """The seconds at which all rings change phase, and the end of the cycle."""
+    together = set.intersection(*({at for at, _ in lane} for lane in lanes)) if lanes else set()
+    return [*sorted(at for at in together if 0 < at < cycle), cycle]
+
+
+def scale(y, seconds):
+    """A line below the lanes with a tick each ten seconds."""
+    yield words(12, y + 32, "Seconds")
+    yield line(LEFT, y, LEFT + 10 * seconds, y, 1)
+    for at in range(0, seconds + 1, 10):
+        yield line(LEFT + 10 * at, y, LEFT + 10 * at, y + 10, 1)
+        yield words(LEFT + 10 * at, y + 32, at, " text-anchor='middle'")
+
+
+def elements(plan, number, in_page):
+    """The lines of the picture of a pattern that the plan has."""
+    view = View(plan)
+    pattern = view.patterns[number]
+    rings = sorted({phase.ring for phase in view.phases.values()})
+    lanes = [starts(view, pattern, ring) for ring in rings]
+    seconds = max([pattern.cycle, *(sum(it.time for _, it in lane) for lane in lanes)])
+    bottom = LANES_TOP + PITCH * len(lanes)
+    yield opening(number, LEFT + max(LEAST, 10 * seconds) + RIGHT, bottom + 60, in_page)
+    yield GROUND
+    yield words(120, 36, f"Pattern {number}: cycle {pattern.cycle} s, offset {pattern.offset} s, "
+                f"split {pattern.split}, sequence {pattern.sequence}", " font-size='28'")
+    holds = dict(of_pattern(view, pattern))
+    yield from (words(LEFT, 68, text) for rule, text in NOTES.items() if not holds.get(rule, True))
+    yield from legend()
+    for index, (ring, lane) in enumerate(zip(rings, lanes)):
+        top = LANES_TOP + PITCH * index
+        yield words(12, top + 40, f"Ring {ring}")
+        for at, split in lane:
+            yield from phase_drawn(view, split, at, top)
+    for at in barriers(lanes, pattern.cycle):
+        x = LEFT + 10 * at
+        yield line(x, LANES_TOP - RISE, x, bottom - RISE, 5)
+    yield from scale(bottom, seconds)
+    yield "</svg>"
+
+
+def picture(plan, number, in_page=False):
+    """The picture of a pattern, to be printed on a sheet or to stand in a page."""
+    return "".join(f"{it}\n" for it in elements(plan, number, in_page))
