@@ -38,9 +38,9 @@ MEANT = {
 }
 LEFT = """
     Adds Answers AreInOrder AreWithin FollowsLine IsAfterStep IsFound IsKept IsOneOf IsQuery IsThere
-    IsTold Keeps Lacks Line Lists ListsRows Migrates Puts Ran Reads Rows Run StaysOpen Tells Writes
+    Keeps Lacks Line Lists ListsRows Migrates Puts Ran Reads Rows Run StaysOpen Tells Writes
     agree_at begun changes_of clearance command_of counted greatest intersection_rows is_among
-    is_numeral is_of keyed list listed moved open_by open_orders opening_of parts recorded_at
+    is_numeral is_of keyed list listed moved open_by open_orders opening_of parts
     refusals_of rows_of subject_of
 """
 

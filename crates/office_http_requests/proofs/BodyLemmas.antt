@@ -8,7 +8,7 @@ use Rattle.serde_json.specs.Find.{as_object}
 use Rattle.serde_json.specs.Read.{read, read as read_text}
 use Rattle.office_http_faults.specs.{declared.fault.AskFault.AskFault, declared.fault.AskFault.TheVariants.Json}
 use Rattle.office_http_requests.specs.Asks.{or_fault, Gives, WantsMemoryOnlyIf}
-use Rattle.office_http_requests.specs.Bodies.{object_in, body_of, data_of, opens_object, IsTold, MayBeObject}
+use Rattle.office_http_requests.specs.Bodies.{object_in, body_of, data_of, opens_object, IsBodyTold, MayBeObject}
 use Rattle.office_http_requests.proofs.OpeningLemmas.{read-no_object}
 
 object_in-object : (d : Data) → is_some (as_object d) ≡ true → object_in d ≡ Some d
@@ -50,7 +50,7 @@ body_of-unopened bytes closed = by_test (is_utf8 bytes)
 -- what was told of a body is its object, or its fault
 pub told_gives : (read : Result Value Error) (bytes : List ℕ) (told : Result Value AskFault) → IsUtf8 bytes
     → IfOk read (λ value. read_text bytes ≡ Some (view value)) → IfErr read (λ fault. ¬ IsMemory fault → read_text bytes ≡ None)
-    → IsTold read (opens_object bytes) told → Gives (data_of told) (body_of bytes)
+    → IsBodyTold read (opens_object bytes) told → Gives (data_of told) (body_of bytes)
 told_gives (Ok value) bytes told text reads fails is = by_kind (is_some (as_object (view value))) refl is
   where
     by_kind : (b : Bool) → is_some (as_object (view value)) ≡ b → told ≡ cond b (Ok value) (Err Json) → Gives (data_of told) (body_of bytes)
@@ -65,7 +65,7 @@ told_gives (Err fault) bytes told text reads fails (inr is) = rw is.0 (λ _. by_
 
 -- want of memory is told of bytes that may be an object
 pub told_memory : (read : Result Value Error) (bytes : List ℕ) (told : Result Value AskFault) → IsUtf8 bytes
-    → IsTold read (opens_object bytes) told → WantsMemoryOnlyIf told (MayBeObject bytes)
+    → IsBodyTold read (opens_object bytes) told → WantsMemoryOnlyIf told (MayBeObject bytes)
 told_memory (Ok value) bytes told text is = by_kind (is_some (as_object (view value))) is
   where
     by_kind : (b : Bool) → told ≡ cond b (Ok value) (Err Json) → WantsMemoryOnlyIf told (MayBeObject bytes)

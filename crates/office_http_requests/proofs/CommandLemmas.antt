@@ -4,7 +4,7 @@ use Rattle.serde_json.specs.{Data.Data, View.view, declared.value.Value.Value}
 use Rattle.office_http_requests.specs.Asks.{◌>>=◌, or_no_route, Gives, MayWant, WantsMemoryOnlyIf}
 use Rattle.office_http_requests.specs.{Bodies.body_of, Bodies.data_of, Commands.asked_at, Commands.added_intersection, Commands.body_for, Commands.command_with}
 use Rattle.office_http_requests.specs.Commands.{edited_by_csv, edited_in, id_and_clerk_in, imported_in}
-use Rattle.office_http_requests.specs.{Paths.id_at, Paths.order_at, Recording.received_in, Recording.recorded_at, Routes.endpoint_of}
+use Rattle.office_http_requests.specs.{Paths.id_at, Paths.order_at, Recording.received_in, Recording.record_asked, Routes.endpoint_of}
 use Rattle.office_http_requests.specs.{Routes.method_of, declared.asked.Asked.Asked, declared.kind.RecordKind.RecordKind}
 use Rattle.office_http_requests.specs.declared.kind.RecordKind.TheVariants.{UsePart, CloseOrder, Receive}
 use Rattle.office_http_requests.specs.{declared.route.Endpoint.Endpoint, declared.route.Endpoint.TheVariants.AddIntersection}
@@ -32,12 +32,12 @@ after (Err fault) r w each = λ _. refl
 unread : {A : Type 0} (w : Result A AskFault) → Gives (Err NoMemory) w
 unread w = λ other. absurd (other refl)
 
-recorded-unread : (kind : RecordKind) (path : List ℕ) (w : Result Data AskFault) → Gives (recorded_at kind path (Err NoMemory)) (recorded_at kind path w)
-unfolding recorded_at received_in
-recorded-unread UsePart path w = after (id_at path) _ _ (λ id. after (order_at path) _ _ (λ order. unread _))
-recorded-unread CloseOrder path w = after (id_at path) _ _ (λ id. after (order_at path) _ _ (λ order. unread _))
-recorded-unread Receive path w = unread _
-recorded-unread _ path w = after (id_at path) _ _ (λ id. unread _)
+asked_record-unread : (kind : RecordKind) (path : List ℕ) (w : Result Data AskFault) → Gives (record_asked kind path (Err NoMemory)) (record_asked kind path w)
+unfolding record_asked received_in
+asked_record-unread UsePart path w = after (id_at path) _ _ (λ id. after (order_at path) _ _ (λ order. unread _))
+asked_record-unread CloseOrder path w = after (id_at path) _ _ (λ id. after (order_at path) _ _ (λ order. unread _))
+asked_record-unread Receive path w = unread _
+asked_record-unread _ path w = after (id_at path) _ _ (λ id. unread _)
 
 clerk-unread : (path : List ℕ) (w : Result Data AskFault) → Gives (id_and_clerk_in path (Err NoMemory)) (id_and_clerk_in path w)
 unfolding id_and_clerk_in
@@ -55,7 +55,7 @@ asked-unread Check path w = gives-bind _ _ _ (clerk-unread path w)
 asked-unread Commit path w = gives-bind _ _ _ (clerk-unread path w)
 asked-unread Reopen path w = gives-bind _ _ _ (clerk-unread path w)
 asked-unread Abandon path w = gives-bind _ _ _ (clerk-unread path w)
-asked-unread (Record kind) path w = gives-bind _ _ _ (recorded-unread kind path w)
+asked-unread (Record kind) path w = gives-bind _ _ _ (asked_record-unread kind path w)
 asked-unread Import path w = unread _
 asked-unread Stock path w = refl
 asked-unread _ path w = gives-refl _

@@ -15,7 +15,7 @@ use Rattle.office_files.specs.CsvFault.{bad_row as bad_record, told_at}
 use Rattle.office_files.specs.{CsvRow.rows_of, declared.fault.CsvFault.CsvFault}
 use Rattle.office_files.specs.declared.fault.CsvFault.TheVariants as file
 use Rattle.office_http_requests.specs.Asks.{◌>>=◌, or_bad_row, or_field, MayWant, WantsMemoryOnlyIf}
-use Rattle.office_http_requests.specs.Rows.{list_of, list_in, each, texts_in, rows_in, changes_of, changes_in}
+use Rattle.office_http_requests.specs.Rows.{list_of, list_in, each, texts_in, rows_in, changes_spelled, changes_in}
 
 -- what is done, before what the rest gives
 abbrev pub onto : {B : Type 0} → List B → Option (List B) → Option (List B)
@@ -111,11 +111,11 @@ unfolding changes_in
 changes_want body found = by_rows (rows_in body) found
   where
     by_rows : (rows : Option (List (List (List ℕ)))) → is_some rows ≡ true
-        → MayWant (or_field FieldRows rows >>= (λ rows. changes_of rows))
+        → MayWant (or_field FieldRows rows >>= (λ rows. changes_spelled rows))
     by_rows None found = cc
     by_rows (Some rows) found = spelled_want (rows_of (change_at current_limits) rows)
 
--- want of memory is told of a row only where its reader told it
+-- out of memory is told of a row only where its reader told it
 pub told_memory : (at : ℕ) (read wanted : Result Change RowFault) (told : CsvFault) → WantsOnlyFor PutsList read wanted → Err told ≡ told_at at read → ask_fault told ≡ NoMemory → IsOkAnd wanted PutsList
 told_memory at (Ok change) wanted told wants is memory = absurd cc
 told_memory at (Err row.NoMemory) wanted told wants is memory = wants refl

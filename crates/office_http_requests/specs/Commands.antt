@@ -15,7 +15,7 @@ use Rattle.office_http_requests.specs.Asks.{◌>>=◌, or_no_route, MayWant}
 use Rattle.office_http_requests.specs.Bodies.{MayBeObject, body_of, id_in, interval_in, words_in}
 use Rattle.office_http_requests.specs.Paths.{day_at, id_at}
 use Rattle.office_http_requests.specs.CsvBodies.{csv_changes_in, csv_records_in}
-use Rattle.office_http_requests.specs.Recording.{recorded_at}
+use Rattle.office_http_requests.specs.Recording.{record_asked}
 use Rattle.office_http_requests.specs.Routes.{endpoint_of, method_of, takes_body}
 use Rattle.office_http_requests.specs.Rows.{changes_in}
 
@@ -115,7 +115,7 @@ asked_at Abandon path read = do
   found ← id_and_clerk_in path read
   Ok (asked_in_json (command.Abandon found.0 found.1))
 asked_at (Record kind) path read = do
-  record_command ← recorded_at kind path read
+  record_command ← record_asked kind path read
   Ok (asked_in_json (command.Record record_command))
 asked_at Import path read = imported_in read
 asked_at Cabinet path read = do

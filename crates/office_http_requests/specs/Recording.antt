@@ -66,27 +66,27 @@ received_in read = do
   Ok (command.Receive delivery)
 
 -- the command of a kind, of the path and the body as it was read
-unfoldable pub recorded_at : RecordKind → List ℕ → Result Data AskFault → Result RecordCommand AskFault
-recorded_at Inspect path read = do
+unfoldable pub record_asked : RecordKind → List ℕ → Result Data AskFault → Result RecordCommand AskFault
+record_asked Inspect path read = do
   id ← id_at path
   body ← read
   inspection ← inspection_in body
   Ok (command.Inspect id inspection)
-recorded_at OpenOrder path read = do
+record_asked OpenOrder path read = do
   id ← id_at path
   body ← read
   opening ← opening_in body
   Ok (command.OpenOrder id opening)
-recorded_at UsePart path read = do
+record_asked UsePart path read = do
   id ← id_at path
   order ← order_at path
   body ← read
   line ← used_in order body
   Ok (command.UsePart id line)
-recorded_at CloseOrder path read = do
+record_asked CloseOrder path read = do
   id ← id_at path
   order ← order_at path
   body ← read
   closing ← closing_in body
   Ok (command.CloseOrder id order closing)
-recorded_at Receive path read = received_in read
+record_asked Receive path read = received_in read

@@ -79,25 +79,25 @@ endpoints =
     ∷ Import ∷ Cabinet ∷ CabinetCsv ∷ OpenOrders ∷ Stock ∷ Overdue ∷ []
 
 -- a router's rows
-abbrev pub Rows : Type 0
-Rows = RowsOf (RouteOf Endpoint)
+abbrev pub RouteRows : Type 0
+RouteRows = RowsOf (RouteOf Endpoint)
 
 -- the rows with one route more, where its text is a route
-abbrev pub with_scan : Result Scan InsertError → Endpoint → Rows → Rows
+abbrev pub with_scan : Result Scan InsertError → Endpoint → RouteRows → RouteRows
 with_scan (Ok scan) endpoint rows = placed (scan.pattern, route_from scan endpoint) rows
 with_scan (Err e) endpoint rows = rows
 
 -- the rows with the route of an endpoint
-unfoldable pub with_route : Endpoint → Rows → Rows
+unfoldable pub with_route : Endpoint → RouteRows → RouteRows
 with_route endpoint rows = with_scan (parse_route (route_text endpoint)) endpoint rows
 
 -- the rows with the routes of these endpoints, put in one after another
-abbrev pub with_routes : List Endpoint → Rows → Rows
+abbrev pub with_routes : List Endpoint → RouteRows → RouteRows
 with_routes [] rows = rows
 with_routes (endpoint ∷ rest) rows = with_routes rest (with_route endpoint rows)
 
 -- the rows of the whole table
-unfoldable pub route_rows : Rows
+unfoldable pub route_rows : RouteRows
 route_rows = with_routes endpoints []
 
 -- the endpoint that `matchit` finds for a path

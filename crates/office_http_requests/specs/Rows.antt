@@ -41,14 +41,14 @@ abbrev pub PutsListAt : List (List ℕ) → Type 0
 PutsListAt fields = IsOkAnd (change_at current_limits fields) PutsList
 
 -- the changes that rows spell, or the first bad row, as the records of a CSV file are read
-abbrev pub changes_of : List (List (List ℕ)) → Result (List Change) AskFault
-changes_of rows = or_bad_row (rows_of (change_at current_limits) rows)
+abbrev pub changes_spelled : List (List (List ℕ)) → Result (List Change) AskFault
+changes_spelled rows = or_bad_row (rows_of (change_at current_limits) rows)
 
 -- the changes of a body
 unfoldable pub changes_in : Data → Result (List Change) AskFault
 changes_in body = do
   rows ← or_field Rows (rows_in body)
-  changes_of rows
+  changes_spelled rows
 
 -- the fields of a row, as references to texts
 abbrev pub RowRefs : Type 0

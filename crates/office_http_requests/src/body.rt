@@ -3,7 +3,7 @@ ghost use Rattle.std.specs.Prelude.{◌≡◌, option_map, IfErr, IfOk, IsOk};
 ghost use Rattle.serde_json.specs.View.{view};
 ghost use Rattle.json.specs.Word.{is_space as space_byte};
 ghost use Rattle.office_http_requests.specs.Asks.{Gives, WantsMemoryOnlyIf, lent};
-ghost use Rattle.office_http_requests.specs.Bodies.{number_in, text_in, ranged_in, words_in, day_in, part_in, body_of, data_of, opens_object as opens, IsTold, MayBeObject};
+ghost use Rattle.office_http_requests.specs.Bodies.{number_in, text_in, ranged_in, words_in, day_in, part_in, body_of, data_of, opens_object as opens, IsBodyTold, MayBeObject};
 ghost use Rattle.cabinet_core.specs.Part.{IsPartCode};
 ghost use Rattle.signal_values.specs.Words.{AreWords};
 
@@ -37,7 +37,7 @@ fn opens_object(bytes: &[u8]) -> bool
 // want of memory of any text: it is told on only where it was told, and only of bytes that open an
 // object.
 fn object_of(read: Result<Value, Error>, bytes: &[u8]) -> Result<Value, AskFault>
-    ensures { IsTold read (opens bytes.now) result }
+    ensures { IsBodyTold read (opens bytes.now) result }
 {
     match read {
         Ok(value) if value.is_object() => Ok(value),

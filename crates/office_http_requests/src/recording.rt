@@ -2,7 +2,7 @@
 ghost use Rattle.std.specs.Prelude.{◌≡◌};
 ghost use Rattle.office_http_requests.specs.Asks.{Gives, MayWant, WantsMemoryOnlyIf};
 ghost use Rattle.office_http_requests.specs.Bodies.{data_of};
-ghost use Rattle.office_http_requests.specs.Recording.{received_in, recorded_at};
+ghost use Rattle.office_http_requests.specs.Recording.{received_in, record_asked};
 ghost use Rattle.office_http_requests.specs.declared.kind.RecordKind.TheVariants as kind;
 
 use crate::kind::RecordKind;
@@ -14,16 +14,16 @@ use std::alloc::Global;
 
 /// The command of a kind, or the first fault: a field of the path from the left, that of the body
 /// as it was read, a key of the body by name.
-#[tactic(auto, unfolding(crate::specs::Recording::recorded_at))]
+#[tactic(auto, unfolding(crate::specs::Recording::record_asked))]
 pub(crate) fn command_of(
     alloc: Global,
     kind: RecordKind,
     path: &[u8],
     body: Result<Value, AskFault>,
 ) -> Result<RecordCommand, AskFault>
-    ensures gives { Gives result (recorded_at kind path.now (data_of body)) }
+    ensures gives { Gives result (record_asked kind path.now (data_of body)) }
     // Want of memory is told of no fault of the path, the body or a key.
-    ensures memory { WantsMemoryOnlyIf result (MayWant (recorded_at kind path.now (data_of body))) }
+    ensures memory { WantsMemoryOnlyIf result (MayWant (record_asked kind path.now (data_of body))) }
 {
     match kind {
         RecordKind::Inspect => inspect(alloc, path, body),
@@ -34,14 +34,14 @@ pub(crate) fn command_of(
     }
 }
 
-#[tactic(auto, unfolding(crate::specs::Recording::recorded_at))]
+#[tactic(auto, unfolding(crate::specs::Recording::record_asked))]
 fn inspect(
     alloc: Global,
     path: &[u8],
     body: Result<Value, AskFault>,
 ) -> Result<RecordCommand, AskFault>
-    ensures gives { Gives result (recorded_at kind.Inspect path.now (data_of body)) }
-    ensures memory { WantsMemoryOnlyIf result (MayWant (recorded_at kind.Inspect path.now (data_of body))) }
+    ensures gives { Gives result (record_asked kind.Inspect path.now (data_of body)) }
+    ensures memory { WantsMemoryOnlyIf result (MayWant (record_asked kind.Inspect path.now (data_of body))) }
 {
     let id = path::id(path)?;
     let body = body?;
@@ -49,14 +49,14 @@ fn inspect(
     Ok(RecordCommand::Inspect { id, inspection })
 }
 
-#[tactic(auto, unfolding(crate::specs::Recording::recorded_at))]
+#[tactic(auto, unfolding(crate::specs::Recording::record_asked))]
 fn open_order(
     alloc: Global,
     path: &[u8],
     body: Result<Value, AskFault>,
 ) -> Result<RecordCommand, AskFault>
-    ensures gives { Gives result (recorded_at kind.OpenOrder path.now (data_of body)) }
-    ensures memory { WantsMemoryOnlyIf result (MayWant (recorded_at kind.OpenOrder path.now (data_of body))) }
+    ensures gives { Gives result (record_asked kind.OpenOrder path.now (data_of body)) }
+    ensures memory { WantsMemoryOnlyIf result (MayWant (record_asked kind.OpenOrder path.now (data_of body))) }
 {
     let id = path::id(path)?;
     let body = body?;
@@ -64,14 +64,14 @@ fn open_order(
     Ok(RecordCommand::OpenOrder { id, opening })
 }
 
-#[tactic(auto, unfolding(crate::specs::Recording::recorded_at))]
+#[tactic(auto, unfolding(crate::specs::Recording::record_asked))]
 fn use_part(
     alloc: Global,
     path: &[u8],
     body: Result<Value, AskFault>,
 ) -> Result<RecordCommand, AskFault>
-    ensures gives { Gives result (recorded_at kind.UsePart path.now (data_of body)) }
-    ensures memory { WantsMemoryOnlyIf result (MayWant (recorded_at kind.UsePart path.now (data_of body))) }
+    ensures gives { Gives result (record_asked kind.UsePart path.now (data_of body)) }
+    ensures memory { WantsMemoryOnlyIf result (MayWant (record_asked kind.UsePart path.now (data_of body))) }
 {
     let id = path::id(path)?;
     let order = path::order(path)?;
@@ -80,14 +80,14 @@ fn use_part(
     Ok(RecordCommand::UsePart { id, line })
 }
 
-#[tactic(auto, unfolding(crate::specs::Recording::recorded_at))]
+#[tactic(auto, unfolding(crate::specs::Recording::record_asked))]
 fn close_order(
     alloc: Global,
     path: &[u8],
     body: Result<Value, AskFault>,
 ) -> Result<RecordCommand, AskFault>
-    ensures gives { Gives result (recorded_at kind.CloseOrder path.now (data_of body)) }
-    ensures memory { WantsMemoryOnlyIf result (MayWant (recorded_at kind.CloseOrder path.now (data_of body))) }
+    ensures gives { Gives result (record_asked kind.CloseOrder path.now (data_of body)) }
+    ensures memory { WantsMemoryOnlyIf result (MayWant (record_asked kind.CloseOrder path.now (data_of body))) }
 {
     let id = path::id(path)?;
     let order = path::order(path)?;

@@ -172,9 +172,9 @@ pub struct Routes {
 
 impl Model for Routes {
     ghost use Rattle.std.specs.Prelude.{◌≡◌};
-    ghost use Rattle.office_http_requests.specs.Routes.{Rows, route_rows};
+    ghost use Rattle.office_http_requests.specs.Routes.{RouteRows, route_rows};
 
-    ghost Value = { Rows };
+    ghost Value = { RouteRows };
 
     ghost view = { λ routes. routes.router };
 

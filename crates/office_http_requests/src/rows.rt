@@ -6,7 +6,7 @@ ghost use Rattle.serde_json.specs.Find.{get, as_array, as_str};
 ghost use Rattle.serde_json.specs.View.{view, items_view};
 ghost use Rattle.office_http_requests.specs.Asks.{Gives, MayWant, WantsMemoryOnlyIf};
 ghost use Rattle.office_http_faults.specs.Fields.{field_name};
-ghost use Rattle.office_http_requests.specs.Rows.{texts_in, rows_in, changes_of, changes_in, rows_seen};
+ghost use Rattle.office_http_requests.specs.Rows.{texts_in, rows_in, changes_spelled, changes_in, rows_seen};
 ghost use Rattle.office_http_requests.specs.Rows.{PutsListAt, ShowsTexts, ShowsRows};
 
 use draft_core::changes::Changes;
@@ -63,7 +63,7 @@ fn rows<'a>(alloc: Global, body: &'a Value) -> Result<Option<Vec<Vec<&'a [u8]>>>
 fn changes(alloc: Global, room: Vec<Change>, rows: &[Vec<&[u8]>]) -> Result<Changes, AskFault>
     requires empty { (room.items ≡ []) × (vec_len room ≡ 0) }
     requires enough { length rows.now ≤ vec_capacity room }
-    ensures gives { Gives result (changes_of (rows_seen rows.now)) }
+    ensures gives { Gives result (changes_spelled (rows_seen rows.now)) }
     ensures memory { WantsMemoryOnlyIf result (Any PutsListAt (rows_seen rows.now)) }
 {
     let mut changes = room;
