@@ -11,7 +11,8 @@ use Rattle.signal_rules.specs.declared.violation.Violation.{Violation}
 use Rattle.signal_rules.specs.Lookup.{phase_at, split_at, pattern_at, has_sequence}
 use Rattle.signal_rules.specs.PhaseRules.{where_walked}
 use Rattle.signal_rules.specs.SplitRule.{split_is_right}
-use Rattle.signal_rules.specs.PatternRules.{has_rows, offset_is_right, has_coordinated, lanes_fill_cycle, lanes_agree}
+use Rattle.signal_rules.specs.PatternRules.{has_rows, offset_is_right, has_coordinated}
+use Rattle.signal_rules.specs.Lanes.{lanes_fill_cycle, lanes_agree}
 use Rattle.signal_rules.specs.Violations.{Findings, broken, for_phase, for_sequence, for_split, for_pattern, pattern_findings, violations_at, violations_of, subjects}
 use Rattle.signal_reasons.specs.declared.reason.Reason.{Reason}
 use Rattle.signal_reasons.specs.declared.reason.IntervalReason.{IntervalReason}

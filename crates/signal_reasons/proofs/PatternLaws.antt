@@ -4,7 +4,8 @@ use Rattle.std.proofs.lemmas.Bool.{eqb-true, both_ways, false_from_ne_true, and_
 use Rattle.std.proofs.lemmas.Bool.Decides.{nat_tests}
 use Rattle.signal_records.specs.{declared.record.Pattern.Pattern, declared.record.Phase.Phase, declared.record.Split.Split, TimingSet.Rows}
 use Rattle.signal_rules.specs.Lookup.{phase_at, split_at, sequence_at, phases, ring_numbers, is_in, lists, the_mates, has_sequence}
-use Rattle.signal_rules.specs.PatternRules.{has_splits, is_coordinated, has_coordinated, time_of, lane, used_rings, lanes, lanes_fill_cycle, lanes_agree, list_each_other, all_list_each_other, phases_at}
+use Rattle.signal_rules.specs.PatternRules.{has_splits, is_coordinated, has_coordinated}
+use Rattle.signal_rules.specs.Lanes.{time_of, lane, used_rings, lanes, lanes_fill_cycle, lanes_agree, list_each_other, all_list_each_other, phases_at}
 use Rattle.signal_rules.specs.{CutPoints.timed, Starts.times}
 use Rattle.signal_rules.proofs.{Among.contains, CutPoints.at_number, Starts.fill_by_rings}
 use Rattle.signal_street.specs.Timing.{order, time_or_none, split_time, TimesIn}

@@ -6,7 +6,7 @@ use Rattle.std.specs.List.{list_all}
 use Rattle.signal_records.specs.{TimingSet.Rows, PhaseList.is_distinct}
 use Rattle.signal_values.specs.Numbers.{numbers}
 use Rattle.signal_values.specs.declared.number.TheConstants.{RINGS}
-use Rattle.signal_rules.specs.{Lookup.is_in, PatternRules.is_used, PatternRules.used_rings}
+use Rattle.signal_rules.specs.{Lookup.is_in, Lanes.is_used, Lanes.used_rings}
 use Rattle.signal_rules.proofs.Among.{is_number, is_filtered}
 use Rattle.signal_reasons.proofs.Tests.{second_fails}
 

@@ -6,7 +6,7 @@ use Rattle.std.proofs.lemmas.List.Folds.{list_all-map}
 use Rattle.std.proofs.Math.Nat.{min-le_left, min-le_right}
 use Rattle.signal_records.specs.{declared.record.Pattern.Pattern, TimingSet.Rows, PhaseList.is_distinct}
 use Rattle.signal_rules.specs.{Lookup.is_in, Lookup.lists, Lookup.the_mates, SequenceRule.ring_row, Starts.times, Starts.rings_fill}
-use Rattle.signal_rules.specs.PatternRules.{lane, lanes, used_rings, lanes_fill_cycle, lanes_agree, list_each_other, all_list_each_other, phases_at}
+use Rattle.signal_rules.specs.Lanes.{lane, lanes, used_rings, lanes_fill_cycle, lanes_agree, list_each_other, all_list_each_other, phases_at}
 use Rattle.signal_rules.proofs.{CutPoints.all_numbers, Starts.fill_by_rings, Steps.one_left}
 use Rattle.signal_street.specs.{Timing.order, Timing.split_time, Timing.BeginsIn, Timing.TimesIn, StreetLaws.Lists, StreetLaws.AreConcurrent}
 use Rattle.signal_street.proofs.{Places.alone_at, Places.filled_at, Places.length_is, Places.times_within, Patterns.order_is}

@@ -6,7 +6,7 @@ use Rattle.signal_records.specs.TimingSet.{Rows}
 use Rattle.signal_rules.specs.declared.violation.Rule.{Rule}
 use Rattle.signal_rules.specs.declared.violation.Rule.TheVariants as rule
 use Rattle.signal_rules.specs.Lookup.{split_at, sequence_at, phases, ring_numbers, is_in}
-use Rattle.signal_rules.specs.PatternRules.{used_rings}
+use Rattle.signal_rules.specs.Lanes.{used_rings}
 use Rattle.signal_street.specs.Timing.{order, split_time, TimesIn}
 use Rattle.signal_street.specs.StreetLaws.{AreConcurrent}
 use Rattle.signal_reasons.specs.declared.reason.PatternReason.{PatternReason}

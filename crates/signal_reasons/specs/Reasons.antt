@@ -12,7 +12,8 @@ use Rattle.signal_rules.specs.Lookup.{phase_at, split_at, pattern_at}
 use Rattle.signal_rules.specs.PhaseRules.{yellow_is_right, red_is_right, walk_is_long, clears_crossing, clears_setback, lead_is_right, where_walked, mates_agree}
 use Rattle.signal_rules.specs.SequenceRule.{rows_are_right}
 use Rattle.signal_rules.specs.SplitRule.{split_is_right}
-use Rattle.signal_rules.specs.PatternRules.{has_rows, offset_is_right, has_coordinated, lanes_fill_cycle, lanes_agree}
+use Rattle.signal_rules.specs.PatternRules.{has_rows, offset_is_right, has_coordinated}
+use Rattle.signal_rules.specs.Lanes.{lanes_fill_cycle, lanes_agree}
 use Rattle.signal_rules.specs.Violations.{violations_of}
 use Rattle.signal_reasons.specs.declared.reason.Explained.{Explained}
 use Rattle.signal_reasons.specs.declared.reason.Reason.{Reason}

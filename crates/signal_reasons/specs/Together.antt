@@ -3,7 +3,7 @@ use Rattle.std.specs.Prelude.{◌≡◌, ℕ, ◌<◌, ◌≤◌, Bool, true, Li
 use Rattle.signal_records.specs.declared.record.Pattern.{Pattern}
 use Rattle.signal_records.specs.TimingSet.{Rows}
 use Rattle.signal_rules.specs.Lookup.{is_in}
-use Rattle.signal_rules.specs.PatternRules.{lane, used_rings, all_list_each_other}
+use Rattle.signal_rules.specs.Lanes.{lane, used_rings, all_list_each_other}
 use Rattle.signal_street.specs.Timing.{TimesIn}
 use Rattle.signal_street.specs.StreetLaws.{AreConcurrent}
 use Rattle.signal_reasons.specs.PatternReasons.{AreMatedIn}

@@ -1,7 +1,7 @@
 //! Why a pattern breaks V12, and how long the phases of its rings time.
 
 ghost use Rattle.std.specs.Prelude.{◌≡◌, ◌≤◌, ◌*◌, true, length, IfSome, IfNone};
-ghost use Rattle.signal_rules.specs.PatternRules.{time_of, lane, used_rings, lanes_fill_cycle};
+ghost use Rattle.signal_rules.specs.Lanes.{time_of, lane, used_rings, lanes_fill_cycle};
 ghost use Rattle.signal_rules.specs.SequenceRule.{ring_row};
 ghost use Rattle.signal_reasons.specs.PatternReasons.{IsPatternReason, pattern_rule};
 

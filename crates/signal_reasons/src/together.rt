@@ -4,8 +4,8 @@ ghost use Rattle.std.specs.Prelude.{◌≡◌, ◌≢◌, ℕ, ◌<◌, ◌≤�
 ghost use Rattle.std.specs.List.{list_all};
 ghost use Rattle.signal_records.specs.PhaseList.{is_distinct};
 ghost use Rattle.signal_rules.specs.Lookup.{phase_at, the_mates, is_in};
-ghost use Rattle.signal_rules.specs.PatternRules.{lane, used_rings, lanes_fill_cycle, lanes_agree};
-ghost use Rattle.signal_rules.specs.PatternRules.{list_each_other};
+ghost use Rattle.signal_rules.specs.Lanes.{lane, used_rings, lanes_fill_cycle, lanes_agree};
+ghost use Rattle.signal_rules.specs.Lanes.{list_each_other};
 ghost use Rattle.signal_street.specs.Timing.{TimesIn};
 ghost use Rattle.signal_street.specs.StreetLaws.{AreConcurrent};
 ghost use Rattle.signal_reasons.specs.PatternReasons.{AreMatedIn, IsPatternReason, IsUsed};

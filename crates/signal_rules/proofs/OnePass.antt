@@ -7,7 +7,7 @@ use Rattle.signal_records.specs.{declared.record.Phase.Phase, TimingSet.Rows}
 use Rattle.signal_values.specs.Numbers.{numbers}
 use Rattle.signal_values.specs.declared.number.TheConstants.{PHASES, RINGS}
 use Rattle.signal_rules.specs.Lookup.{phase_at, phases, phase_numbers, ring_numbers, is_in}
-use Rattle.signal_rules.specs.PatternRules.{is_used, used_rings}
+use Rattle.signal_rules.specs.Lanes.{is_used, used_rings}
 use Rattle.signal_rules.specs.SequenceRule.{in_ring, ring_row, has_each_once, has_no_other, rows_are_right}
 use Rattle.signal_rules.specs.OnePass.{ring_of, rings_at, stands_in_ring, each_stands_once, no_other_stands}
 use Rattle.signal_rules.proofs.{CutPoints.all_numbers, CutPoints.at_number, Among.all_at, Among.in_filter, Among.in_numbers}

@@ -5,7 +5,7 @@ use Rattle.std.specs.Prelude.{not}
 use Rattle.signal_records.specs.{declared.record.Pattern.Pattern, declared.record.Ped.Ped, declared.record.Phase.Phase, TimingSet.Rows}
 use Rattle.signal_rules.specs.declared.violation.Rule.TheVariants as rule
 use Rattle.signal_rules.specs.declared.violation.{Subject.Subject, Violation.Violation}
-use Rattle.signal_rules.specs.PatternRules.{used_rings, lanes_fill_cycle, lanes_agree}
+use Rattle.signal_rules.specs.Lanes.{used_rings, lanes_fill_cycle, lanes_agree}
 use Rattle.signal_rules.specs.Starts.{rings_fill, agree_at_starts}
 use Rattle.signal_rules.specs.PhaseRules.{yellow_is_right, red_is_right, walk_is_long, clears_crossing, clears_setback, lead_is_right, where_walked, mates_agree}
 use Rattle.signal_rules.specs.Violations.{Findings, broken, crossing_findings, phase_findings, lane_findings}

@@ -5,7 +5,7 @@ use Rattle.std.proofs.lemmas.List.{length-append, map-append, Elements.filter-ap
 use Rattle.std.proofs.lemmas.List.Folds.{list_all-append, list_all-map}
 use Rattle.std.specs.{Prelude.cond, List.list_all}
 use Rattle.signal_records.specs.{declared.record.Pattern.Pattern, TimingSet.Rows}
-use Rattle.signal_rules.specs.{SequenceRule.ring_row, PatternRules.used_rings, PatternRules.all_list_each_other, CutPoints.start_of}
+use Rattle.signal_rules.specs.{SequenceRule.ring_row, Lanes.used_rings, Lanes.all_list_each_other, CutPoints.start_of}
 use Rattle.signal_rules.specs.{CutPoints.starts, CutPoints.phase_in, CutPoints.listed, CutPoints.phases_in, Starts.times, Starts.agree_at}
 use Rattle.signal_rules.specs.{Starts.agree_at_starts, Counts.RisesAtMost, Counts.entries_of, Counts.sequence_entries, Slots.Span}
 use Rattle.signal_rules.specs.Slots.{listing_at, spans_at, spans_from, spans_of, has_second, are_mates, all_are_mates, listings_in}

@@ -3,8 +3,8 @@ use Rattle.std.proofs.Common.{◌≡◌, ℕ, ◌+◌, ◌≤◌, Bool, true, fa
 use Rattle.std.proofs.lemmas.List.Folds.{list_all-map}
 use Rattle.std.specs.{Prelude.cond, List.list_all}
 use Rattle.signal_records.specs.{declared.record.Pattern.Pattern, TimingSet.Rows}
-use Rattle.signal_rules.specs.{SequenceRule.ring_row, Lookup.ring_numbers, PatternRules.lane, PatternRules.is_used, PatternRules.used_rings}
-use Rattle.signal_rules.specs.PatternRules.{lanes_fill_cycle, lanes_agree, agree_throughout, all_list_each_other}
+use Rattle.signal_rules.specs.{SequenceRule.ring_row, Lookup.ring_numbers, Lanes.lane, Lanes.is_used, Lanes.used_rings}
+use Rattle.signal_rules.specs.Lanes.{lanes_fill_cycle, lanes_agree, agree_throughout, all_list_each_other}
 use Rattle.signal_rules.specs.{CutPoints.timed, CutPoints.starts, Starts.times, Starts.agree_at, Starts.agree_at_starts, Starts.rings_fill}
 use Rattle.signal_rules.specs.Counts.{RisesAtMost, entries_of, sequence_entries}
 use Rattle.signal_rules.proofs.{CutPoints.cut_points, CutPoints.phases_in_lanes, Steps.rises_within}

@@ -15,7 +15,8 @@ use Rattle.signal_rules.specs.Touched.{reaches, reaches_any, uses_sequence, uses
 use Rattle.signal_rules.specs.Lookup.{phase_at, sequence_at, split_at, the_phase, the_list, the_split, the_pattern, pattern_at, the_mates, lists, is_in, has_sequence, ring_numbers, phase_numbers}
 use Rattle.signal_rules.specs.{PhaseRules.mates_agree, PhaseRules.is_mate, SplitRule.split_is_right}
 use Rattle.signal_rules.specs.SequenceRule.{rows_are_right, or_empty, in_ring}
-use Rattle.signal_rules.specs.PatternRules.{has_rows, offset_is_right, is_coordinated, has_coordinated, time_of, lanes, all_list_each_other, phases_at, lanes_agree}
+use Rattle.signal_rules.specs.PatternRules.{has_rows, offset_is_right, is_coordinated, has_coordinated}
+use Rattle.signal_rules.specs.Lanes.{time_of, lanes, all_list_each_other, phases_at, lanes_agree}
 use Rattle.signal_rules.specs.Violations.{Findings, broken, violations_at, for_phase, for_sequence, for_split, for_pattern, pattern_findings}
 
 -- a key among the keys reaches what it reaches

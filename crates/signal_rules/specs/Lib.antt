@@ -3,6 +3,7 @@ pub mod PhaseRules
 pub mod SequenceRule
 pub mod SplitRule
 pub mod PatternRules
+pub mod Lanes
 pub mod OnePass
 pub mod Violations
 pub mod RowWalk

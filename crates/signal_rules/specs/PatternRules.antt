@@ -1,12 +1,11 @@
--- V9 to V13, the rules of a pattern. A lane is a ring's row of phases with an entry for each second of the cycle.
-use Rattle.std.specs.Prelude.{◌==◌, ℕ, nat_lt, Bool, true, false, ◌&&◌, List, [], ◌∷◌, filter, map, length, slice_index, replicate, Option, Some, None, is_some}
-use Rattle.std.specs.List.{list_any, list_all, flat_map}
+-- V9 to V11, the rules of a pattern that look at no lane. V12 and V13 stand in `Lanes`.
+use Rattle.std.specs.Prelude.{ℕ, nat_lt, Bool, false, ◌&&◌, Option, Some, None, is_some}
+use Rattle.std.specs.List.{list_any, list_all}
 use Rattle.signal_records.specs.declared.record.Split.{Split}
 use Rattle.signal_records.specs.declared.record.Pattern.{Pattern}
-use Rattle.signal_values.specs.Numbers.{numbers}
 use Rattle.signal_records.specs.TimingSet.{Rows}
-use Rattle.signal_rules.specs.Lookup.{phase_at, split_at, phases, phase_numbers, ring_numbers, has_sequence, lists}
-use Rattle.signal_rules.specs.SequenceRule.{in_ring, ring_row}
+use Rattle.signal_rules.specs.Lookup.{split_at, phases, has_sequence}
+pub use Rattle.signal_rules.specs.Lanes.{time_of, lane, is_used, used_rings, lanes_fill_cycle}
 
 -- the split number has a row for each phase of the set
 abbrev pub has_splits : Rows → ℕ → Bool
@@ -27,48 +26,3 @@ is_coordinated (Some split) = split.coord
 -- V11: splitCoordPhase marks some phase of the set
 abbrev pub has_coordinated : Rows → ℕ → Bool
 has_coordinated set n = list_any (λ p. is_coordinated (split_at set n p)) (phases set)
-
--- splitTime, in seconds; a phase without a split row has none
-abbrev pub time_of : Option Split → ℕ
-time_of None = 0
-time_of (Some split) = split.time
-
--- the lane of a ring: each phase of sequenceData, in order, once a second of its splitTime
-abbrev pub lane : Rows → ℕ → ℕ → ℕ → List ℕ
-lane set seq split ring = flat_map (λ p. replicate (time_of (split_at set split p)) p) (ring_row set seq ring)
-
--- a ring that has a phase
-abbrev pub is_used : Rows → ℕ → Bool
-is_used set ring = list_any (λ p. in_ring ring (phase_at set p)) phase_numbers
-
-abbrev pub used_rings : Rows → List ℕ
-used_rings set = filter (is_used set) ring_numbers
-
--- the lanes of those rings
-abbrev pub lanes : Rows → Pattern → List (List ℕ)
-lanes set pattern = map (lane set pattern.seq pattern.split) (used_rings set)
-
--- V12: each lane is as long as patternCycleTime
-abbrev pub lanes_fill_cycle : Rows → Pattern → Bool
-lanes_fill_cycle set pattern = list_all (λ lane. length lane == pattern.cycle) (lanes set pattern)
-
--- two phases may time together (phaseConcurrency of both)
-abbrev pub list_each_other : Rows → ℕ → ℕ → Bool
-list_each_other set p q = lists set p q && lists set q p
-
--- any two of some phases, each and each later one
-abbrev pub all_list_each_other : Rows → List ℕ → Bool
-all_list_each_other set [] = true
-all_list_each_other set (p ∷ ps) = list_all (list_each_other set p) ps && all_list_each_other set ps
-
--- the phases that the lanes have at a second; seconds count from 0
-abbrev pub phases_at : List (List ℕ) → ℕ → List ℕ
-phases_at lanes second = map (λ lane. slice_index lane second) lanes
-
--- at each second of a cycle, the phases of any two lanes list each other
-abbrev pub agree_throughout : Rows → List (List ℕ) → ℕ → Bool
-agree_throughout set lanes cycle = list_all (λ second. all_list_each_other set (phases_at lanes second)) (numbers cycle 0)
-
--- V13: at each second of patternCycleTime, the phases of any two lanes list each other
-abbrev pub lanes_agree : Rows → Pattern → Bool
-lanes_agree set pattern = agree_throughout set (lanes set pattern) pattern.cycle

@@ -5,7 +5,7 @@ use Rattle.signal_records.specs.declared.record.Pattern.{Pattern}
 use Rattle.signal_records.specs.TimingSet.{Rows}
 use Rattle.signal_rules.specs.Lookup.{split_at}
 use Rattle.signal_rules.specs.SequenceRule.{ring_row}
-use Rattle.signal_rules.specs.PatternRules.{time_of, lane, all_list_each_other}
+use Rattle.signal_rules.specs.Lanes.{time_of, lane, all_list_each_other}
 use Rattle.signal_rules.specs.CutPoints.{starts, phases_in}
 
 -- the seconds of each phase at a split number

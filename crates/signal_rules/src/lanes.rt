@@ -5,7 +5,7 @@
 ghost use Rattle.std.specs.Prelude.{◌≡◌, ◌<◌, ◌+◌, ◌^◌, ◌++◌, ◌==◌, true, IfOk, OnOk, length};
 ghost use Rattle.std.specs.List.{list_all};
 ghost use Rattle.signal_rules.specs.Lookup.{phase_at, the_mates, lists};
-ghost use Rattle.signal_rules.specs.PatternRules.{time_of};
+ghost use Rattle.signal_rules.specs.Lanes.{time_of};
 ghost use Rattle.signal_rules.specs.CutPoints.{timed};
 ghost use Rattle.signal_rules.specs.Starts.{times, rings_fill};
 ghost use Rattle.signal_rules.specs.Slots.{spans_at, spans_from, spans_of, has_second, are_mates};

@@ -4,7 +4,8 @@ ghost use Rattle.std.specs.Prelude.{◌≡◌, IfOk};
 ghost use Rattle.signal_rules.specs.Lookup as set_has;
 ghost use Rattle.signal_rules.specs.OnePass.{rings_at};
 ghost use Rattle.signal_rules.specs.PatternRules.{has_splits, has_rows, offset_is_right};
-ghost use Rattle.signal_rules.specs.PatternRules.{is_coordinated, has_coordinated, used_rings};
+ghost use Rattle.signal_rules.specs.PatternRules.{is_coordinated, has_coordinated};
+ghost use Rattle.signal_rules.specs.Lanes.{used_rings};
 
 use crate::lookup::{has_split, phase_at, phases_of, split_at};
 use crate::sequence::has_sequence;

@@ -9,7 +9,8 @@ use Rattle.signal_rules.specs.Lookup.{phase_at, split_at, pattern_at, phases, ha
 use Rattle.signal_rules.specs.PhaseRules.{yellow_is_right, red_is_right, walk_is_long, clears_crossing, clears_setback, lead_is_right, where_walked, mates_agree}
 use Rattle.signal_rules.specs.SequenceRule.{rows_are_right}
 use Rattle.signal_rules.specs.SplitRule.{split_is_right, time_is_right}
-use Rattle.signal_rules.specs.PatternRules.{has_rows, offset_is_right, has_coordinated, lanes_fill_cycle, lanes_agree}
+use Rattle.signal_rules.specs.PatternRules.{has_rows, offset_is_right, has_coordinated}
+use Rattle.signal_rules.specs.Lanes.{lanes_fill_cycle, lanes_agree}
 use Rattle.signal_rules.specs.Violations.{Findings, broken, phase_findings, pattern_findings, for_phase, for_sequence, for_split, for_pattern, violations_at, violations_of, split_rows, split_subjects}
 use Rattle.signal_rules.specs.declared.violation.Rule.TheVariants as rule
 use Rattle.signal_rules.specs.declared.violation.Subject.TheVariants as subject

@@ -6,7 +6,7 @@ use Rattle.std.specs.List.{list_all}
 use Rattle.signal_records.specs.TimingSet.{Rows}
 use Rattle.signal_rules.specs.Lookup.{is_in, lists}
 use Rattle.signal_rules.proofs.Among.{all_at}
-use Rattle.signal_rules.specs.PatternRules.{list_each_other, all_list_each_other, phases_at}
+use Rattle.signal_rules.specs.Lanes.{list_each_other, all_list_each_other, phases_at}
 
 -- a test of all members, at one in the middle
 pub all_middle : (T : ℕ → Bool) (before after : List ℕ) (p : ℕ) → list_all T (before ++ p ∷ after) ≡ true → T p ≡ true

@@ -10,8 +10,9 @@ use Rattle.signal_values.specs.Numbers.{numbers}
 use Rattle.signal_rules.specs.{CutPoints.timed, Lookup.phase_at, Lookup.sequence_at, Lookup.split_at, Lookup.phases, Lookup.has_sequence}
 use Rattle.signal_rules.specs.Lookup.{is_in, lists, the_mates, phase_numbers, ring_numbers, last_sequence, last_split, last_pattern}
 use Rattle.signal_rules.specs.{Lookup.sequence_numbers, Lookup.split_numbers, Lookup.pattern_numbers, PatternRules.has_splits}
-use Rattle.signal_rules.specs.PatternRules.{has_rows, time_of, lane, is_used, used_rings, lanes, lanes_fill_cycle, list_each_other}
-use Rattle.signal_rules.specs.{PatternRules.all_list_each_other, PatternRules.phases_at, PatternRules.lanes_agree, PatternRules.offset_is_right, PatternRules.has_coordinated, SequenceRule.in_ring}
+use Rattle.signal_rules.specs.PatternRules.{has_rows}
+use Rattle.signal_rules.specs.Lanes.{time_of, lane, is_used, used_rings, lanes, lanes_fill_cycle, list_each_other}
+use Rattle.signal_rules.specs.{Lanes.all_list_each_other, Lanes.phases_at, Lanes.lanes_agree, PatternRules.offset_is_right, PatternRules.has_coordinated, SequenceRule.in_ring}
 use Rattle.signal_rules.specs.SequenceRule.{ring_phases, or_empty, ring_row, has_each_once, has_no_other, row_is_right}
 use Rattle.signal_rules.specs.{SplitRule.time_is_right, Starts.times}
 use Rattle.signal_rules.proofs.{CutPoints.at_number, Among.in_numbers, Among.in_filter, Among.all_at, Among.any_at, Among.contains}

@@ -1,5 +1,5 @@
 use Rattle.std.proofs.Common.{◌≡◌, ◌+◌, ◌*◌, ◌≤◌, length, drop}
-use Rattle.signal_rules.specs.{CutPoints.timed, PatternRules.lane, Starts.times}
+use Rattle.signal_rules.specs.{CutPoints.timed, Lanes.lane, Starts.times}
 use Rattle.signal_reasons.proofs.lanes.lane_seconds.Given as goal
 
 -- the seconds of the phases so far

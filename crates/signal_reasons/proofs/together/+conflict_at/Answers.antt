@@ -1,5 +1,5 @@
 use Rattle.std.proofs.Common.{rules}
-use Rattle.signal_rules.specs.{Lookup.is_in, PatternRules.used_rings}
+use Rattle.signal_rules.specs.{Lookup.is_in, Lanes.used_rings}
 use Rattle.signal_reasons.proofs.Parts.{first_passes, later_pass, later_apart, mated_from}
 use Rattle.signal_reasons.proofs.Tests.{then_none}
 use Rattle.signal_reasons.proofs.together.+conflict_at.Goals as goal

@@ -1,7 +1,7 @@
 use Rattle.std.proofs.Common.{ap, subst, ◌∙◌, below_more, arith}
 use Rattle.std.specs.List.{list_all}
 use Rattle.signal_records.specs.PhaseList.{is_distinct}
-use Rattle.signal_rules.specs.{Lookup.is_in, PatternRules.used_rings}
+use Rattle.signal_rules.specs.{Lookup.is_in, Lanes.used_rings}
 use Rattle.signal_reasons.specs.PatternReasons.{AreMatedIn}
 use Rattle.signal_reasons.proofs.Rings.{used_distinct, used_among}
 use Rattle.signal_reasons.proofs.Stretches.{used_filled, agree_all, agree_among}

@@ -1,6 +1,6 @@
 use Rattle.std.proofs.Common.{sym, subst, ◌∙◌, below_more, arith}
 use Rattle.std.proofs.lemmas.List.{get_or_default}
-use Rattle.signal_rules.specs.{Lookup.is_in, PatternRules.used_rings}
+use Rattle.signal_rules.specs.{Lookup.is_in, Lanes.used_rings}
 use Rattle.signal_rules.proofs.Among.{all_at, contains}
 use Rattle.signal_street.specs.{Timing.TimesIn, StreetLaws.AreConcurrent}
 use Rattle.signal_reasons.proofs.Rings.{among_at, apart_at}

@@ -1,5 +1,5 @@
 use Rattle.std.proofs.Common.{◌+◌, ap, ◌∙◌}
-use Rattle.signal_rules.specs.PatternRules.{time_of}
+use Rattle.signal_rules.specs.Lanes.{time_of}
 use Rattle.signal_reasons.proofs.Stretches.{times_on, over_by}
 use Rattle.signal_reasons.proofs.together.timing_at.Goals as goal
 

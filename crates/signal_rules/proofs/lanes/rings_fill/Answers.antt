@@ -1,7 +1,7 @@
 use Rattle.std.proofs.Common.{◌≡◌, ℕ, Bool, List, ◌++◌, eqb, length, sym, ap, ◌∙◌}
 use Rattle.std.proofs.lemmas.List.Folds.{list_all_at}
 use Rattle.signal_records.specs.{declared.record.Pattern.Pattern, TimingSet.Rows}
-use Rattle.signal_rules.specs.{SequenceRule.ring_row, PatternRules.lane, CutPoints.timed, Starts.times, Slots.spans_from}
+use Rattle.signal_rules.specs.{SequenceRule.ring_row, Lanes.lane, CutPoints.timed, Starts.times, Slots.spans_from}
 use Rattle.signal_rules.proofs.Steps.{all_passed, flat_map_step}
 use Rattle.signal_rules.proofs.lanes.rings_fill.Goals as goal
 

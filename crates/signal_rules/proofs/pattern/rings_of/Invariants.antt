@@ -1,5 +1,5 @@
 use Rattle.std.proofs.Common.{◌≡◌, ◌++◌, filter}
-use Rattle.signal_rules.specs.{Lookup.is_in, PatternRules.used_rings}
+use Rattle.signal_rules.specs.{Lookup.is_in, Lanes.used_rings}
 use Rattle.signal_rules.proofs.pattern.rings_of.Given as goal
 
 abbrev pub invariant-loop-ring : goal.invariant-loop-ring
