@@ -1,18 +1,15 @@
 -- Where no phase has a lead, today's violations are those of version 1.
-use Rattle.std.proofs.Common.{◌≡◌, ℕ, ◌+◌, ◌*◌, Bool, true, false, not, [], ◌∷◌, ◌++◌, filter, map, Option, Some, None, refl, ap, ◌∙◌, arith}
+use Rattle.std.proofs.Common.{◌≡◌, ℕ, Bool, true, false, not, [], ◌∷◌, ◌++◌, filter, map, Option, Some, None, option_map, refl, ap, sym, ◌∙◌}
 use Rattle.std.specs.List.{flat_map}
-use Rattle.std.specs.Prelude.{IfSome, ◌==◌, ◌&&◌, ◌||◌, nat_le}
+use Rattle.std.specs.Prelude.{IfSome}
 use Rattle.signal_records.specs.declared.record.{Ped.Ped, Phase.Phase, Split.Split}
-use Rattle.signal_records.specs.{declared.record.SplitMode.SplitMode, Need.need_of, TimingSet.Rows}
-use Rattle.signal_records.specs.declared.record.SplitMode.TheVariants.{PedestrianRecall, MaximumVehicleAndPedestrianRecall}
+use Rattle.signal_records.specs.TimingSet.{Rows}
 use Rattle.signal_rules.specs.declared.violation.{Rule.Rule, Subject.Subject}
 use Rattle.signal_rules.specs.declared.violation.Rule.TheVariants as rule
 use Rattle.signal_rules.specs.declared.violation.Subject.TheVariants as subject
-use Rattle.signal_rules.specs.Lookup.{phase_at, split_at}
-use Rattle.signal_rules.specs.PhaseRules.{where_walked, lead_is_right}
-use Rattle.signal_rules.specs.SplitRule.{split_is_right, time_fits_mode, coordination_is_right}
-use Rattle.signal_rules.specs.Violations.{Findings, broken, violations_at, violations_of, for_phase, for_split, subjects}
-use Rattle.signal_rules.specs.BeforeLead.{HasNoLead, need_before_lead, phase_findings_before, for_phase_before, split_was_right, for_split_before, violations_before_at, violations_before_lead}
+use Rattle.signal_rules.specs.{Lookup.phase_at, Lookup.split_at, PhaseRules.where_walked, PhaseRules.lead_is_right, SplitRule.split_is_right}
+use Rattle.signal_rules.specs.Violations.{Findings, broken, violations_at, violations_of, phase_findings, for_phase, for_split, subjects}
+use Rattle.signal_rules.specs.BeforeLead.{HasNoLead, is_of_lead, no_lead, without_lead, for_split_before, violations_before_at, violations_before_lead}
 
 -- a rule that holds is no violation
 dropped : (fs : Findings) → filter (λ (f : Rule × Bool). not f.1) (fs ++ (rule.V14, true) ∷ []) ≡ filter (λ (f : Rule × Bool). not f.1) fs
@@ -25,36 +22,34 @@ no_lead_right : (ped : Option Ped) → IfSome ped (λ p. p.lead ≡ 0) → where
 no_lead_right None none = refl
 no_lead_right (Some p) none = rw none refl
 
-zero_first : (n : ℕ) → 0 + n ≡ n
-zero_first n = omega arith
+-- what has no lead is the same without it
+ped_same : (ped : Option Ped) → IfSome ped (λ p. p.lead ≡ 0) → option_map no_lead ped ≡ ped
+ped_same None none = refl
+ped_same (Some p) none = ap (λ (n : ℕ). Some (record { walk = p.walk; clear = p.clear; width = p.width; setback = p.setback; short = p.short; lead = n })) (sym none)
 
--- and the need is as it was
-need_same : (phase : Phase) (mode : SplitMode) (ped : Option Ped) → phase.ped ≡ ped → IfSome ped (λ p. p.lead ≡ 0) → need_of phase mode ≡ need_before_lead phase mode
-need_same phase PedestrianRecall None is none = rw (is, zero_first phase.min_green) refl
-need_same phase MaximumVehicleAndPedestrianRecall None is none = rw (is, zero_first phase.min_green) refl
-need_same phase PedestrianRecall (Some p) is none = rw (is, none, zero_first phase.min_green) refl
-need_same phase MaximumVehicleAndPedestrianRecall (Some p) is none = rw (is, none, zero_first phase.min_green) refl
-need_same phase _ ped is none = rw (zero_first phase.min_green) refl
+phase_same : (phase : Option Phase) → HasNoLead phase → option_map without_lead phase ≡ phase
+phase_same None none = refl
+phase_same (Some p) none = ap (λ (ped : Option Ped). Some (record { ring = p.ring; min_green = p.min_green; passage = p.passage; max1 = p.max1; yellow = p.yellow; red = p.red; mates = p.mates; ped = ped })) (ped_same p.ped none)
 
 module _ (set : Rows) where
-  phase_same : (p : ℕ) (phase : Option Phase) → HasNoLead phase → broken (subject.Phase p) (for_phase set p phase) ≡ broken (subject.Phase p) (for_phase_before set p phase)
-  phase_same p None none = refl
-  phase_same p (Some phase) none =
-      ap (λ (b : Bool). broken (subject.Phase p) (phase_findings_before set p phase ++ (rule.V14, b) ∷ [])) (no_lead_right phase.ped none)
-      ∙ ap (map (λ (f : Rule × Bool). record { subject = subject.Phase p; rule = f.0 })) (dropped (phase_findings_before set p phase))
+  -- the rules of a phase but V14
+  before : ℕ → Phase → Findings
+  before p phase = filter (λ f. not (is_of_lead f.0)) (phase_findings set p phase)
 
-  split_same : (phase : Option Phase) (split : Split) → HasNoLead phase → split_is_right phase split ≡ split_was_right phase split
-  split_same None split none = refl
-  split_same (Some phase) split none =
-      ap (λ (n : ℕ). time_fits_mode split && (split.time == 0 || nat_le n (10 * split.time)) && coordination_is_right split) (need_same phase split.mode phase.ped refl none)
+  of_phase : (p : ℕ) (phase : Option Phase) → HasNoLead phase → broken (subject.Phase p) (for_phase set p phase) ≡ broken (subject.Phase p) (filter (λ f. not (is_of_lead f.0)) (for_phase set p phase))
+  unfolding before
+  of_phase p None none = refl
+  of_phase p (Some phase) none =
+      ap (λ (b : Bool). broken (subject.Phase p) (before p phase ++ (rule.V14, b) ∷ [])) (no_lead_right phase.ped none)
+      ∙ ap (map (λ (f : Rule × Bool). record { subject = subject.Phase p; rule = f.0 })) (dropped (before p phase))
 
-  row_same : (n p : ℕ) (split : Option Split) → HasNoLead (phase_at set p) → broken (subject.Split n p) (for_split set p split) ≡ broken (subject.Split n p) (for_split_before set p split)
-  row_same n p None none = refl
-  row_same n p (Some split) none = ap (λ (b : Bool). broken (subject.Split n p) ((rule.V8, b) ∷ [])) (split_same (phase_at set p) split none)
+  of_split : (n p : ℕ) (split : Option Split) → HasNoLead (phase_at set p) → broken (subject.Split n p) (for_split set p split) ≡ broken (subject.Split n p) (for_split_before set p split)
+  of_split n p None none = refl
+  of_split n p (Some split) none = ap (λ (phase : Option Phase). broken (subject.Split n p) ((rule.V8, split_is_right phase split) ∷ [])) (sym (phase_same (phase_at set p) none))
 
   at_same : (s : Subject) → ((p : ℕ) → HasNoLead (phase_at set p)) → violations_at set s ≡ violations_before_at set s
-  at_same (subject.Phase p) none = phase_same p (phase_at set p) (none p)
-  at_same (subject.Split n p) none = row_same n p (split_at set n p) (none p)
+  at_same (subject.Phase p) none = of_phase p (phase_at set p) (none p)
+  at_same (subject.Split n p) none = of_split n p (split_at set n p) (none p)
   at_same _ none = refl
 
   pub same_violations : ((p : ℕ) → HasNoLead (phase_at set p)) → violations_of set ≡ violations_before_lead set
