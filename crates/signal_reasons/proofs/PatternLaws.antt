@@ -5,35 +5,21 @@ use Rattle.std.proofs.lemmas.Bool.Decides.{nat_tests}
 use Rattle.signal_records.specs.{declared.record.Pattern.Pattern, declared.record.Phase.Phase, declared.record.Split.Split, TimingSet.Rows}
 use Rattle.signal_rules.specs.Lookup.{phase_at, split_at, sequence_at, phases, ring_numbers, is_in, lists, the_mates, has_sequence}
 use Rattle.signal_rules.specs.PatternRules.{has_splits, is_coordinated, has_coordinated}
-use Rattle.signal_rules.specs.Lanes.{time_of, lane, used_rings, lanes, lanes_fill_cycle, lanes_agree, list_each_other, all_list_each_other, phases_at}
-use Rattle.signal_rules.specs.{CutPoints.timed, Starts.times}
+use Rattle.signal_rules.specs.Lanes.{lane, used_rings, lanes, lanes_fill_cycle, lanes_agree, list_each_other, all_list_each_other, phases_at}
 use Rattle.signal_rules.proofs.{Among.contains, CutPoints.at_number, Starts.fill_by_rings}
-use Rattle.signal_street.specs.Timing.{order, time_or_none, split_time, TimesIn}
+use Rattle.signal_street.specs.Timing.{order, split_time, TimesIn}
 use Rattle.signal_street.specs.StreetLaws.{Lists, AreConcurrent}
 use Rattle.signal_street.proofs.Members.{pair_at}
 use Rattle.signal_street.proofs.Places.{length_is, lane_at}
-use Rattle.signal_street.proofs.Patterns.{order_is}
 use Rattle.signal_reasons.specs.declared.reason.PatternReason.{PatternReason}
 use Rattle.signal_reasons.specs.declared.reason.PatternReason.TheVariants as pattern
 use Rattle.signal_reasons.specs.PatternReasons.{pattern_rule, IsUsed, TimeTogether, IsPatternReason}
 use Rattle.signal_reasons.specs.Reasons.{pattern_keeps}
 use Rattle.signal_reasons.proofs.Tests.{fails_among, passes_none, first_fails, second_fails}
 
--- ---- rows and times are those of the rules
-
-same_time : (o : Option Split) → time_or_none o ≡ time_of o
-same_time None = refl
-same_time (Some split) = refl
-
-pub times_are : (set : Rows) (row : Pattern) → split_time set row ≡ times set row.split
-times_are set row = λ i p. same_time (split_at set row.split p) i
-
-pub lane_is : (set : Rows) (row : Pattern) (ring : ℕ) → timed (split_time set row) (order set row ring) ≡ lane set row.seq row.split ring
-lane_is set row ring = ap (λ (time : ℕ → ℕ). timed time (order set row ring)) (times_are set row) ∙ ap (timed (times set row.split)) (order_is set row ring)
-
 -- the seconds of a ring are the length of its lane
 pub seconds_are : (set : Rows) (row : Pattern) (ring : ℕ) → sum_by (split_time set row) (order set row ring) ≡ length (lane set row.seq row.split ring)
-seconds_are set row ring = sym (length_is (split_time set row) (order set row ring)) ∙ ap length (lane_is set row ring)
+seconds_are set row ring = sym (length_is (split_time set row) (order set row ring))
 
 -- ---- V9, V10 and V11
 
@@ -62,7 +48,7 @@ other_sum set row ring sum cycle used e f differ =
 -- ---- V13
 
 pub in_lane : (set : Rows) (row : Pattern) (ring p second : ℕ) → TimesIn set row ring p second → get_or (lane set row.seq row.split ring) second 0 ≡ p
-in_lane set row ring p second t = ap (λ l. get_or l second 0) (sym (lane_is set row ring)) ∙ lane_at (split_time set row) (order set row ring) p second t
+in_lane set row ring p second t = lane_at (split_time set row) (order set row ring) p second t
 
 listed : (set : Rows) (p q : ℕ) → lists set p q ≡ true → Lists set p q
 listed set p q h = by_phase (phase_at set p) refl h where

@@ -9,10 +9,10 @@ use Rattle.signal_rules.specs.{Lookup.is_in, Lookup.lists, Lookup.the_mates, Seq
 use Rattle.signal_rules.specs.Lanes.{lane, lanes, used_rings, lanes_fill_cycle, lanes_agree, list_each_other, all_list_each_other, phases_at}
 use Rattle.signal_rules.proofs.{CutPoints.all_numbers, Starts.fill_by_rings, Steps.one_left}
 use Rattle.signal_street.specs.{Timing.order, Timing.split_time, Timing.BeginsIn, Timing.TimesIn, StreetLaws.Lists, StreetLaws.AreConcurrent}
-use Rattle.signal_street.proofs.{Places.alone_at, Places.filled_at, Places.length_is, Places.times_within, Patterns.order_is}
+use Rattle.signal_street.proofs.{Places.alone_at, Places.filled_at, Places.length_is, Places.times_within}
 use Rattle.signal_reasons.specs.PatternReasons.{AreMatedIn, IsUsed, TimeTogether}
 use Rattle.signal_reasons.specs.Together.{TimesOn, AreFilled, AreMatedBefore, at_second, agree_at}
-use Rattle.signal_reasons.proofs.PatternLaws.{times_are, seconds_are, in_lane}
+use Rattle.signal_reasons.proofs.PatternLaws.{seconds_are, in_lane}
 use Rattle.signal_reasons.proofs.Tests.{is_among, passes_all}
 
 -- ---- one ring
@@ -22,8 +22,8 @@ begins_at : (set : Rows) (row : Pattern) (ring : ℕ) (items : List ℕ) (i p be
 begins_at set row ring items i p begin e lt is over = record {
   before = take i items;
   after = drop (i + 1) items;
-  placed = order_is set row ring ∙ sym e ∙ sym (take-append-drop i items) ∙ ap (λ l. take i items ++ l) (one_left items i p lt is);
-  over = over ∙ ap (λ (time : ℕ → ℕ). sum_by time (take i items)) (sym (times_are set row));
+  placed = sym e ∙ sym (take-append-drop i items) ∙ ap (λ l. take i items ++ l) (one_left items i p lt is);
+  over = over;
 }
 
 pub times_on : (set : Rows) (row : Pattern) (ring : ℕ) (items : List ℕ) (i p begin until second : ℕ) → items ≡ ring_row set row.seq ring → i < length items → p ≡ get_or items i p → begin ≡ sum_by (times set row.split) (take i items)
@@ -34,7 +34,7 @@ times_on set row ring items i p begin until second e lt is over begun ends befor
     begin = begin;
     begins = begins_at set row ring items i p begin e lt is over;
     begun = later begin second t begun low;
-    unended = within t until begin (times set row.split p) (split_time set row p) ends (λ k. times_are set row k p) high;
+    unended = within t until begin (times set row.split p) (split_time set row p) ends refl high;
   },
 ) where
   later : (a b c : ℕ) → a ≤ b → b ≤ c → a ≤ c

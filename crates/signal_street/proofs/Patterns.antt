@@ -7,16 +7,16 @@ use Rattle.signal_records.specs.declared.record.Pattern.{Pattern}
 use Rattle.signal_values.specs.{declared.number.TheConstants.PHASES, declared.number.TheConstants.RINGS}
 use Rattle.signal_records.specs.{declared.record.Phase.Phase, declared.record.Split.Split, TimingSet.Rows}
 use Rattle.signal_values.specs.Numbers.{numbers}
-use Rattle.signal_rules.specs.{CutPoints.timed, Lookup.phase_at, Lookup.sequence_at, Lookup.split_at, Lookup.phases, Lookup.has_sequence}
+use Rattle.signal_rules.specs.{Lookup.phase_at, Lookup.split_at, Lookup.phases, Lookup.has_sequence}
 use Rattle.signal_rules.specs.Lookup.{is_in, lists, the_mates, phase_numbers, ring_numbers, last_sequence, last_split, last_pattern}
 use Rattle.signal_rules.specs.{Lookup.sequence_numbers, Lookup.split_numbers, Lookup.pattern_numbers, PatternRules.has_splits}
 use Rattle.signal_rules.specs.PatternRules.{has_rows}
-use Rattle.signal_rules.specs.Lanes.{time_of, lane, is_used, used_rings, lanes, lanes_fill_cycle, list_each_other}
+use Rattle.signal_rules.specs.Lanes.{lane, is_used, used_rings, lanes, lanes_fill_cycle, list_each_other}
 use Rattle.signal_rules.specs.{Lanes.all_list_each_other, Lanes.phases_at, Lanes.lanes_agree, PatternRules.offset_is_right, PatternRules.has_coordinated, SequenceRule.in_ring}
-use Rattle.signal_rules.specs.SequenceRule.{ring_phases, or_empty, ring_row, has_each_once, has_no_other, row_is_right}
-use Rattle.signal_rules.specs.{SplitRule.time_is_right, Starts.times}
+use Rattle.signal_rules.specs.SequenceRule.{ring_phases, ring_row, has_each_once, has_no_other, row_is_right}
+use Rattle.signal_rules.specs.{SplitRule.time_is_right}
 use Rattle.signal_rules.proofs.{CutPoints.at_number, Among.in_numbers, Among.in_filter, Among.all_at, Among.any_at, Among.contains}
-use Rattle.signal_street.specs.Timing.{HasPhase, HasPattern, phases_or_none, order, time_or_none, split_time, TimesIn}
+use Rattle.signal_street.specs.Timing.{HasPhase, HasPattern, order, split_time, TimesIn}
 use Rattle.signal_street.specs.StreetLaws.{Lists, AreConcurrent}
 use Rattle.signal_street.proofs.Members.{all_middle, some_value, pair_at}
 use Rattle.signal_street.proofs.Places.{places, length_is, times_within, lane_at}
@@ -42,24 +42,6 @@ split_number = in_range last_split
 
 pattern_number : (n : ℕ) → IsInRange 1 last_pattern n → is_in n pattern_numbers ≡ true
 pattern_number = in_range last_pattern
-
--- the rows and times here are those of the rules
-same_row : (o : Option (List ℕ)) → phases_or_none o ≡ or_empty o
-same_row None = refl
-same_row (Some ps) = refl
-
-same_time : (o : Option Split) → time_or_none o ≡ time_of o
-same_time None = refl
-same_time (Some split) = refl
-
-pub order_is : (set : Rows) (pattern : Pattern) (ring : ℕ) → order set pattern ring ≡ ring_row set pattern.seq ring
-order_is set pattern ring = same_row (sequence_at set pattern.seq ring)
-
-times_are : (set : Rows) (pattern : Pattern) → split_time set pattern ≡ times set pattern.split
-times_are set pattern = λ i p. same_time (split_at set pattern.split p) i
-
-lane_is : (set : Rows) (pattern : Pattern) (ring : ℕ) → timed (split_time set pattern) (order set pattern ring) ≡ lane set pattern.seq pattern.split ring
-lane_is set pattern ring = ap (λ (time : ℕ → ℕ). timed time (order set pattern ring)) (times_are set pattern) ∙ ap (timed (times set pattern.split)) (order_is set pattern ring)
 
 -- a phase that is found in a ring is of that ring
 pub of_ring : (ring : ℕ) (o : Option Phase) (phase : Phase) → o ≡ Some phase → in_ring ring o ≡ true → ring ≡ phase.ring
@@ -92,7 +74,7 @@ module _ (set : Rows) (clean : IsClean set) (n : ℕ) (pattern : Pattern) (has :
   pub owned : (ring p : ℕ) (before after : List ℕ) → IsInRange 1 RINGS ring → order set pattern ring ≡ before ++ p ∷ after → in_ring ring (phase_at set p) ≡ true
   owned ring p before after range placed =
       let parts : (has_each_once set ring (ring_row set pattern.seq ring) ≡ true) × (has_no_other set ring (ring_row set pattern.seq ring) ≡ true) = and_parts (has_each_once set ring (ring_row set pattern.seq ring)) (has_no_other set ring (ring_row set pattern.seq ring)) (row_right ring range) in
-      all_middle (λ q. in_ring ring (phase_at set q)) before after p (ap (has_no_other set ring) (sym placed ∙ order_is set pattern ring) ∙ parts.1)
+      all_middle (λ q. in_ring ring (phase_at set q)) before after p (ap (has_no_other set ring) (sym placed) ∙ parts.1)
 
   -- and stands there once
   pub once : (ring p : ℕ) → IsInRange 1 RINGS ring → IsInRange 1 PHASES p → in_ring ring (phase_at set p) ≡ true → places (order set pattern ring) p ≡ 1
@@ -100,7 +82,7 @@ module _ (set : Rows) (clean : IsClean set) (n : ℕ) (pattern : Pattern) (has :
       let parts : (has_each_once set ring (ring_row set pattern.seq ring) ≡ true) × (has_no_other set ring (ring_row set pattern.seq ring) ≡ true) = and_parts (has_each_once set ring (ring_row set pattern.seq ring)) (has_no_other set ring (ring_row set pattern.seq ring)) (row_right ring range) in
       let among : is_in p (ring_phases set ring) ≡ true = in_filter (λ q. in_ring ring (phase_at set q)) phase_numbers p is (phase_number p number) in
       let one : eqb (places (ring_row set pattern.seq ring) p) 1 ≡ true = all_at (λ q. eqb (places (ring_row set pattern.seq ring) q) 1) (ring_phases set ring) p parts.0 among in
-      ap (λ row. places row p) (order_is set pattern ring) ∙ eqb-true (places (ring_row set pattern.seq ring) p) 1 one
+      eqb-true (places (ring_row set pattern.seq ring) p) 1 one
 
   used : (ring p : ℕ) → IsInRange 1 RINGS ring → IsInRange 1 PHASES p → in_ring ring (phase_at set p) ≡ true → is_in ring (used_rings set) ≡ true
   used ring p range number is =
@@ -111,7 +93,7 @@ module _ (set : Rows) (clean : IsClean set) (n : ℕ) (pattern : Pattern) (has :
   full ring p range number is =
       let each : list_all (λ r. eqb (length (lane set pattern.seq pattern.split r)) pattern.cycle) (used_rings set) ≡ true = sym (list_all-map (λ (l : List ℕ). eqb (length l) pattern.cycle) (lane set pattern.seq pattern.split) (used_rings set)) ∙ rules.1 in
       let one : length (lane set pattern.seq pattern.split ring) ≡ pattern.cycle = eqb-true (length (lane set pattern.seq pattern.split ring)) pattern.cycle (all_at (λ r. eqb (length (lane set pattern.seq pattern.split r)) pattern.cycle) (used_rings set) ring each (used ring p range number is)) in
-      sym (length_is (split_time set pattern) (order set pattern ring)) ∙ ap length (lane_is set pattern ring) ∙ one
+      sym (length_is (split_time set pattern) (order set pattern ring)) ∙ one
 
   -- what times in a ring is of the ring
   pub timing_owned : (ring p second : ℕ) → IsInRange 1 RINGS ring → TimesIn set pattern ring p second → in_ring ring (phase_at set p) ≡ true
@@ -125,8 +107,8 @@ module _ (set : Rows) (clean : IsClean set) (n : ℕ) (pattern : Pattern) (has :
       let lt : second < pattern.cycle = before_end _ _ _ (times_within (split_time set pattern) (order set pattern ring) p second t) (full ring p range_of_ring number_of_p p_owned) in
       let all : all_list_each_other set (phases_at (map (lane set pattern.seq pattern.split) (used_rings set)) second) ≡ true = at_number (λ s. all_list_each_other set (phases_at (lanes set pattern) s)) pattern.cycle 0 rules.2 second (omega arith) (omega arith) in
       let pair : list_each_other set (get_or (lane set pattern.seq pattern.split ring) second 0) (get_or (lane set pattern.seq pattern.split other) second 0) ≡ true = pair_at set (lane set pattern.seq pattern.split) second (used_rings set) ring other all (used ring p range_of_ring number_of_p p_owned) (used other q range_of_other number_of_q q_owned) apart in
-      let at_ring : get_or (lane set pattern.seq pattern.split ring) second 0 ≡ p = ap (λ l. get_or l second 0) (sym (lane_is set pattern ring)) ∙ lane_at (split_time set pattern) (order set pattern ring) p second t in
-      let at_other : get_or (lane set pattern.seq pattern.split other) second 0 ≡ q = ap (λ l. get_or l second 0) (sym (lane_is set pattern other)) ∙ lane_at (split_time set pattern) (order set pattern other) q second u in
+      let at_ring : get_or (lane set pattern.seq pattern.split ring) second 0 ≡ p = lane_at (split_time set pattern) (order set pattern ring) p second t in
+      let at_other : get_or (lane set pattern.seq pattern.split other) second 0 ≡ q = lane_at (split_time set pattern) (order set pattern other) q second u in
       let both : list_each_other set p q ≡ true = ap (λ k. list_each_other set k q) (sym at_ring) ∙ ap (λ k. list_each_other set (get_or (lane set pattern.seq pattern.split ring) second 0) k) (sym at_other) ∙ pair in
       let parts : (lists set p q ≡ true) × (lists set q p ≡ true) = and_parts (lists set p q) (lists set q p) both in
       (listed set p q parts.0, listed set q p parts.1) where

@@ -5,8 +5,8 @@ use Rattle.std.specs.Int.{IsInRange}
 use Rattle.signal_records.specs.{declared.record.Pattern.Pattern, declared.record.Ped.Ped}
 use Rattle.signal_values.specs.declared.number.TheConstants.{RINGS}
 use Rattle.signal_records.specs.{declared.record.Phase.Phase, declared.record.Split.Split, TimingSet.Rows}
-use Rattle.signal_rules.specs.{Lookup.phase_at, Lookup.split_at, SplitRule.time_is_right}
-use Rattle.signal_street.specs.Timing.{HasPhase, HasPattern, order, time_or_none, split_time, BeginsIn, TimesIn, IsTiming}
+use Rattle.signal_rules.specs.{Lanes.time_of, Lookup.phase_at, Lookup.split_at, SplitRule.time_is_right}
+use Rattle.signal_street.specs.Timing.{HasPhase, HasPattern, order, split_time, BeginsIn, TimesIn, IsTiming}
 use Rattle.signal_street.specs.Intervals.{CallsPedestrian, FitsCrossing, FitsSplit, clear_end}
 use Rattle.signal_street.specs.StreetLaws.{AreConcurrent, OnlyConcurrentPhasesTime, TimesOnce, FillsCycle, CalledWalkLiesWithin, WalkersHaveTheStreet}
 use Rattle.signal_street.proofs.Clean.{IsClean, phase_rules}
@@ -53,7 +53,7 @@ module _ (set : Rows) (clean : IsClean set) (n : ℕ) (pattern : Pattern) (has :
       },
     ) where
       time : split_time set pattern p ≡ split.time
-      time = ap time_or_none row
+      time = ap time_of row
 
       low : (a b second : ℕ) → a ≡ b → a ≤ second → b ≤ second
       low a b second e le = omega arith
@@ -64,7 +64,7 @@ module _ (set : Rows) (clean : IsClean set) (n : ℕ) (pattern : Pattern) (has :
     pub ends_in_cycle : (split : Split) → split_at set pattern.split p ≡ Some split → begin_at (split_time set pattern) (order set pattern phase.ring) p + split.time ≤ pattern.cycle
     ends_in_cycle split row =
         bound _ _ _ _ _ (ends_within (split_time set pattern) (order set pattern phase.ring) p (begin_at (split_time set pattern) (order set pattern phase.ring) p) own_place)
-        (ap time_or_none row) (full set clean n pattern has phase.ring p of_p.0.ring of_p.0.number (in_own_ring (phase_at set p) phase of_p.1)) where
+        (ap time_of row) (full set clean n pattern has phase.ring p of_p.0.ring of_p.0.number (in_own_ring (phase_at set p) phase of_p.1)) where
           bound : (begin own sum time cycle : ℕ) → begin + own ≤ sum → own ≡ time → sum ≡ cycle → begin + time ≤ cycle
           bound begin own sum time cycle le e f = omega arith
 

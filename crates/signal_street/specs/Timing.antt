@@ -1,13 +1,12 @@
 -- When the phases of a pattern time, in seconds of its cycle, which count from 0.
-use Rattle.std.specs.Prelude.{◌≡◌, ℕ, ◌+◌, ◌*◌, ◌<◌, ◌≤◌, List, [], ◌∷◌, ◌++◌, sum_by, Option, Some, None}
+use Rattle.std.specs.Prelude.{◌≡◌, ℕ, ◌+◌, ◌*◌, ◌<◌, ◌≤◌, List, ◌∷◌, ◌++◌, sum_by, Some}
 use Rattle.std.specs.Int.{IsInRange}
 use Rattle.signal_values.specs.declared.number.TheConstants.{PHASES, RINGS}
 use Rattle.signal_records.specs.declared.record.Pattern.{Pattern}
 use Rattle.signal_records.specs.declared.record.Phase.{Phase}
-use Rattle.signal_records.specs.declared.record.Split.{Split}
 use Rattle.signal_records.specs.TimingSet.{Rows}
 use Rattle.signal_records.specs.Within.{current_limits, IsPhaseWithin, IsPatternWithin}
-use Rattle.signal_rules.specs.Lookup.{phase_at, sequence_at, split_at, pattern_at}
+use Rattle.signal_rules.specs.{Lookup.phase_at, Lookup.split_at, Lookup.pattern_at, SequenceRule.ring_row, Lanes.time_of}
 
 -- the set has the phase, with its numbers in the ranges that they have in each row of a program
 abbrev pub HasPhase : Rows → ℕ → Phase → Type 0
@@ -17,21 +16,13 @@ HasPhase set p phase = IsPhaseWithin current_limits p phase × (phase_at set p �
 abbrev pub HasPattern : Rows → ℕ → Pattern → Type 0
 HasPattern set n pattern = IsPatternWithin n pattern × (pattern_at set n ≡ Some pattern)
 
-abbrev pub phases_or_none : Option (List ℕ) → List ℕ
-phases_or_none None = []
-phases_or_none (Some ps) = ps
-
 -- sequenceData: the phases of a ring, in the order in which they run; a ring without a row has none
 abbrev pub order : Rows → Pattern → ℕ → List ℕ
-order set pattern ring = phases_or_none (sequence_at set pattern.seq ring)
-
-abbrev pub time_or_none : Option Split → ℕ
-time_or_none None = 0
-time_or_none (Some split) = split.time
+order set pattern ring = ring_row set pattern.seq ring
 
 -- splitTime of a phase, in seconds; a phase without a row has none
 abbrev pub split_time : Rows → Pattern → ℕ → ℕ
-split_time set pattern p = time_or_none (split_at set pattern.split p)
+split_time set pattern p = time_of (split_at set pattern.split p)
 
 -- in a row of phases that have times, a phase begins when the times of those before it are over
 pub record Begins (time : ℕ → ℕ) (row : List ℕ) (p begin : ℕ) : Type 0 where
