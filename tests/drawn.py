@@ -68,13 +68,15 @@ def send(program, theme, seed, count, tally):
 
 
 def told_and_came(text):
-    """What a row has that is no more than requests, or plans that are verified: each with what is
-    told of it, and what the model says."""
+    """What a row has that is no more than requests, plans that are verified, or pictures and pages:
+    each with what is told of it, and what the model says."""
     office = Office()
     for asked, told in rows.plain(text) or ():
         yield asked, told, rows.played(office, asked)
     for plan, explain, told in rows.checked(text):
         yield plan, told, rows.verified(plan, explain)
+    for asked, told, came in rows.drawn(text):
+        yield asked, told, came
 
 
 def play_rows():
@@ -84,7 +86,8 @@ def play_rows():
     wrong = [it for it in all_told if it[2] != it[3]]
     if wrong:
         sys.exit("\n".join(["drawn.py: the model answers rows otherwise", *map(str, wrong)]))
-    print(f"{len(all_told)} requests and plans of worked rows: the model answers as they tell")
+    print(f"{len(all_told)} requests, plans, pictures and pages of worked rows: the model answers "
+          "as they tell")
 
 
 def main():

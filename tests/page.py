@@ -5,11 +5,14 @@
 
 The program is the one that ./office runs, where none is named. It makes an office whose names and
 texts look like markup or run from right to left, and the page of each intersection; checks in the
-browser's own document that each name and text is text, and that nothing but a table's own box is
-wider than the screen; and puts pictures at 1280 and at 400 pixels of width, light and dark, and one
+browser's own document that each name and text is text, that nothing but a table's or a picture's
+own box is wider than the screen, that each element is displayed as the browser computes its style,
+and has letters of 11 pixels or more, each section, broken rule and change among them, on both
+screens and on paper; and puts pictures at 1280 and at 390 pixels of width, light and dark, and one
 page as it is printed, into FOLDER, or into a folder of its own. It prints `ok` at the end.
 """
 import html.parser
+import json
 import pathlib
 import shutil
 import subprocess
@@ -17,6 +20,36 @@ import sys
 import tempfile
 
 TOP = pathlib.Path(__file__).resolve().parent.parent
+SCREENS = 1280, 390
+LEAST_LETTERS = 11  # pixels
+# What each element of the body is shown as. The link past the head stands outside the page until
+# somebody goes to it by the keyboard.
+LOOKED_AT = """
+const lost = [], small = [];
+const ground = it => {
+  const color = getComputedStyle(it).backgroundColor;
+  return color !== 'rgba(0, 0, 0, 0)' || !it.parentElement ? color : ground(it.parentElement);
+};
+for (const it of document.body.querySelectorAll('*')) {
+  const style = getComputedStyle(it), box = it.getBoundingClientRect();
+  if (it.closest('.skip') || it.tagName === 'SCRIPT') continue;
+  const own = [...it.childNodes].some(x => x.nodeType === 3 && x.data.trim());
+  const name = it.tagName + '.' + it.getAttribute('class') + ': ' + it.textContent.slice(0, 40);
+  if (style.display === 'none' || style.visibility !== 'visible' || Number(style.opacity) < 1
+      || style.clipPath !== 'none' || own && (box.width < 1 || box.height < 1 || box.left < 0)
+      || style.overflowY === 'hidden' && it.scrollHeight > it.clientHeight + 1
+      || own && !it.closest('svg') && [ground(it), 'rgba(0, 0, 0, 0)'].includes(style.color))
+    lost.push(name);
+  const svg = it.closest('svg');
+  const scale = svg ? svg.getBoundingClientRect().width / svg.viewBox.baseVal.width : 1;
+  if (own && parseFloat(style.fontSize) * scale < LEAST) small.push(name);
+}
+const count = x => document.querySelectorAll(x).length;
+document.title = JSON.stringify({
+  width: document.body.scrollWidth, lost, small, sections: count('section'), rules: count('tr.why'),
+  changes: count('.changes tbody tr'), bare: count('tbody:empty'),
+});
+"""
 NAME = "<script>alert(1)</script>&\""
 CLERK = "\u202eO'Neil <b>"
 FOUND = "\u05e9\u05dc\u05d5\u05dd </bdi><img src=x onerror=alert(2)> &amp; \"x\""
@@ -107,17 +140,20 @@ class Browser:
             fail(f"chromium ended with status {done.returncode} on {page.name}")
         return done.stdout.decode()
 
-    def document(self, page):
-        return Document(self.run(page, "--dump-dom"))
+    def document(self, page, *words):
+        return Document(self.run(page, "--dump-dom", *words))
 
-    def width(self, page, screen):
-        """How wide the page is on a screen, by a copy of it that says so in its title."""
+    def looked_at(self, page, screen, paper=False):
+        """What a copy of the page tells of itself in its title: how wide it is on a screen, which
+        elements are not displayed or have small letters, and how much it has of what counts."""
         copy = self.folder / f"measured-{page.name}"
-        narrow = f"document.documentElement.style.width = '{screen}px'"
-        measure = "document.title = document.body.scrollWidth"
-        text = page.read_text().replace("</body>", f"<script>{narrow}; {measure}</script></body>")
-        copy.write_text(text)
-        return int(self.document(copy).names[0])
+        narrow = f"document.documentElement.style.width = '{screen}px';"
+        text = page.read_text()
+        if paper:
+            text = text.replace("@media print {", "@media all {")
+        script = f"<script>{narrow}{LOOKED_AT.replace('LEAST', str(LEAST_LETTERS))}</script>"
+        copy.write_text(text.replace("</body>", f"{script}</body>"))
+        return json.loads(self.document(copy, f"--window-size={screen},2600").names[0])
 
     def picture(self, page, target, screen, *words):
         self.run(page, f"--screenshot={target}", f"--window-size={screen}", *words)
@@ -167,15 +203,32 @@ def check(browser, pages):
     if drafted.names[1] != "Main St & 3rd Ave" or CLERK not in drafted.names:
         fail(f"the names of 12 are shown as {drafted.names}")
     for page in pages.values():
-        for screen in (1280, 400):
-            width = browser.width(page, screen)
-            if width > screen:
-                fail(f"{page.name} is {width} pixels wide on a screen of {screen}")
+        for screen in SCREENS:
+            look_at(browser, page, screen)
+        look_at(browser, page, 1280, paper=True)
+
+
+def look_at(browser, page, screen, paper=False):
+    """Each element of a page is displayed, in letters that can be read, and the page has all of its
+    sections, broken rules and changes."""
+    text, told = page.read_text(), browser.looked_at(page, screen, paper)
+    where = "on paper" if paper else f"on a screen of {screen}"
+    if told["width"] > screen:
+        fail(f"{page.name} is {told['width']} pixels wide {where}")
+    for what, names in (("not displayed", told["lost"]), ("too small", told["small"])):
+        if names and not (paper and what == "too small"):
+            fail(f"{page.name} has elements that are {what} {where}: {names[:5]}")
+    marks = ("<tr class='added'", "<tr class='removed'", "<tr class='before'", "<tr class='after'")
+    counts = {"sections": text.count("<section "), "rules": text.count("<tr class='why'>"),
+              "changes": sum(map(text.count, marks)), "bare": 0}
+    for what, count in counts.items():
+        if told[what] != count:
+            fail(f"{page.name} shows {told[what]} {what}, and has {count}")
 
 
 def draw(browser, pages, target):
     for name, page in pages.items():
-        for screen in ("1280,2600", "400,2600"):
+        for screen in ("1280,2600", "390,2600"):
             size = screen.partition(",")[0]
             browser.picture(page, target / f"{name}-{size}.png", screen)
     dark = "--blink-settings=preferredColorScheme=0"

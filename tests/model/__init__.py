@@ -12,6 +12,8 @@ tests/drawn.py holds it against the program, as tests/lives.py does over files.
     office.py     the commands, the transaction's table, imports
     wire.py       routes, faults, and answers to the letter
     commands.py   what commands of the program do and print
+    pictures.py   pictures of patterns
+    pages.py      pages of intersections and plans, with the style in page.css
     tables.py     the rows that are kept in a file, today and in version 1
     heads.py      requests as bytes, and how a stream may end
     planning.py   plans that are drawn, and changes of them

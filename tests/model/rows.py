@@ -1,4 +1,5 @@
 """Row files: requests with the answers that must come, as crates/office_rows plays them."""
+import itertools
 import pathlib
 import shlex
 
@@ -66,12 +67,12 @@ def verified(text, explain):
 
 def asked_of(words):
     """A command's name, the flags that have a value, and its other words."""
-    name, *rest = words
+    name, *rest = words or [""]
     flags, others = {}, []
     while rest:
         word = rest.pop(0)
         if word in ("--db", "--file", "--clerk"):
-            flags[word] = rest.pop(0)
+            flags[word] = rest.pop(0) if rest else None
         else:
             others.append(word)
     return name, flags, others
@@ -112,12 +113,12 @@ def shown(offices, files, words):
             return pictures.picture(office.find(int(rest[0])).committed, int(rest[1]))
         elif name == "diagram" and flags.get("--file") in files:
             return pictures.picture(plan_of(csv), int(rest[0]))
-    except (Refused, KeyError):
-        pass
+    except (Refused, KeyError, IndexError, ValueError):
+        pass  # refused, or words that ask for nothing
     return None
 
 
-def drawn(text):
+def drawn_at(text):
     """Each picture and page that a row prints: the number of the line that asks for it, and its
     lines as the model draws it."""
     offices, files, name, base = {}, {}, None, None
@@ -137,9 +138,20 @@ def drawn(text):
                 yield number, picture.split("\n")[:-1]
 
 
+def drawn(text):
+    """Each picture and page of a row that tells its lines: the line that asks for it, what it
+    tells, and what the model draws."""
+    lines = text.split("\n")
+    for number, came in drawn_at(text):
+        told = [it.removeprefix("out ") for it in itertools.takewhile(
+            lambda it: it.startswith("out "), lines[number + 1:])]
+        if told and told != ["*"]:
+            yield lines[number], told, came
+
+
 def redrawn(text):
-    """A row with its pictures and pages as the model draws them."""
-    lines, found = text.split("\n"), dict(drawn(text))
+    """A row with the pictures and pages that it tells as the model draws them."""
+    lines, found = text.split("\n"), dict(drawn_at(text))
     after, skipping = [], False
     for number, line in enumerate(lines):
         skipping = skipping and line.startswith("out ")

@@ -9,7 +9,7 @@ use Rattle.office_machine.specs.Step.{state_shown, cabinet_shown}
 use Rattle.signal_records.specs.TimingSet.{after_changes}
 use Rattle.signal_records.specs.declared.record.Change.{Change}
 use Rattle.signal_page.specs.declared.shown.IntersectionShown.{IntersectionShown}
-use Rattle.signal_page.specs.Page.{IsPage, plan_page_text}
+use Rattle.signal_page.specs.Page.{IsPage, IsPlanPage}
 
 -- an intersection of an office: the committed set as that, the draft as the draft, and the register
 abbrev pub shown_of : Register → ℕ → Intersection → IntersectionShown
@@ -30,4 +30,4 @@ IsPageOf office id text =
 pub record IsPageOfFile (bytes text : List ℕ) : Type 0 where
   pub changes : List Change
   pub spelled : changes_of bytes ≡ Ok changes
-  pub text_is : text ≡ plan_page_text (after_changes empty changes)
+  pub page : IsPlanPage (after_changes empty changes) text

@@ -2,3 +2,4 @@ pub mod Escaping
 pub mod Markup
 pub mod Restored
 pub mod Parts
+pub mod Empty

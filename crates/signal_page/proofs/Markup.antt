@@ -1,19 +1,22 @@
 -- The tags of a page are its own, whatever names and texts of others hold.
-use Rattle.std.proofs.Common.{◌≡◌, ℕ, suc, eqb, Bool, true, false, List, [], ◌∷◌, ◌++◌, map, flat_map}
+use Rattle.std.proofs.Common.{◌≡◌, ℕ, suc, ◌+◌, ◌≤◌, ◌⊎◌, inl, inr, arith, eqb, Bool, true, false, List, [], ◌∷◌, ◌++◌, map, flat_map}
 use Rattle.std.proofs.Common.{filter, length, codes, Option, Some, None, refl, sym, ap, ap₂, ◌∙◌}
-use Rattle.std.proofs.lemmas.List.Elements.{filter-append}
+use Rattle.std.proofs.{lemmas.List.Elements.filter-append, lemmas.List.length-append}
 use Rattle.std.specs.Prelude.{cond, decimal, is_some, not, option_map}
 use Rattle.cabinet_core.specs.{Orders.is_open, Overdue.greater, Overdue.latest_day, declared.record.CabinetView.CabinetView}
 use Rattle.cabinet_core.specs.{declared.record.Closing.Closing, declared.record.Inspection.Inspection, declared.record.Order.Order}
 use Rattle.cabinet_core.specs.declared.record.UsedLine.{UsedLine}
 use Rattle.office_machine.specs.declared.reply.IntersectionState.{IntersectionState}
 use Rattle.signal_compare.specs.declared.difference.Difference.{Difference}
+use Rattle.signal_reasons.specs.declared.reason.Explained.{Explained}
 use Rattle.signal_page.specs.{declared.shown.IntersectionShown.IntersectionShown, Words.escaped_byte, Words.escaped, Words.isolated}
 use Rattle.signal_page.specs.{Reading.is_markup, Reading.marks, Blank.blank_state, Blank.blank_inspection, Blank.blank_closing}
 use Rattle.signal_page.specs.{Blank.blank_order, Blank.blank_line, Blank.blank_view, Blank.blank, Cells.row_heading, Cells.text_cell}
-use Rattle.signal_page.specs.{State.fact, State.owner_text, State.due_text, State.draft_facts, State.cabinet_facts, Register.day_cell}
+use Rattle.signal_page.specs.{State.fact, State.owner_text, State.last_text, State.due_text, State.draft_facts, State.cabinet_facts, Register.day_cell}
 use Rattle.signal_page.specs.Register.{part_used, part_of, parts_cell, order_cells, closing_cells, open_by, open_row, closed_by, closed_row}
 use Rattle.signal_page.specs.Register.{open_orders, closed_orders, inspection_row, inspections_part, due_note, register_part}
+use Rattle.office_files.specs.Cells.{when_empty}
+use Rattle.signal_page.specs.Tables.{none_row, rows_or_none}
 use Rattle.signal_page.specs.Page.{header, plan_section, draft_section, cabinet_section, page_end, page_text}
 
 -- ---- texts with the same markup characters
@@ -45,6 +48,45 @@ each : {A : Type 0} (f g : A → List ℕ) (blanked : A → A)
     → (xs : List A) → Alike (flat_map f xs) (flat_map g (map blanked xs))
 each f g blanked h [] = same []
 each f g blanked h (x ∷ xs) = joined (h x) (each f g blanked h xs)
+
+-- ---- rows that are empty, or have markup characters
+
+-- a row is empty, or is one with tags
+abbrev pub IsRow : List ℕ → Type 0
+IsRow a = (a ≡ []) ⊎ (1 ≤ length (marks a))
+
+pub each_marked : {A : Type 0} (f : A → List ℕ) → ((x : A) → IsRow (f x)) → (xs : List A) → IsRow (flat_map f xs)
+unfolding marks
+each_marked f h [] = inl refl
+each_marked f h (x ∷ xs) = step (h x) (each_marked f h xs) where
+  several : length (filter is_markup (f x ++ flat_map f xs)) ≡ length (filter is_markup (f x)) + length (filter is_markup (flat_map f xs))
+  several = ap length (filter-append is_markup (f x) (flat_map f xs)) ∙ length-append (filter is_markup (f x)) (filter is_markup (flat_map f xs))
+
+  step : IsRow (f x) → IsRow (flat_map f xs) → IsRow (f x ++ flat_map f xs)
+  step (inl none) (inl left) = inl (rw (none, left) refl)
+  step (inl none) (inr some) = inr (omega (arith, several, some))
+  step (inr some) left = inr (omega (arith, several, some))
+
+-- where texts with the same markup characters stand in a table, both are empty or none is
+pub table_alike : {a b : List ℕ} (columns : ℕ) → Alike a b → IsRow a → IsRow b → Alike (rows_or_none columns a) (rows_or_none columns b)
+unfolding marks
+table_alike {a = a} {b = b} columns p first second = joined p (equal _ _ (both first second)) where
+  same_count : length (filter is_markup a) ≡ length (filter is_markup b)
+  same_count = ap length p.marked
+
+  some_text : (c : List ℕ) → 1 ≤ length (filter is_markup c) → when_empty c (none_row columns) ≡ []
+  some_text [] h = absurd (omega (arith, h))
+  some_text (x ∷ xs) h = refl
+
+  both : IsRow a → IsRow b → when_empty a (none_row columns) ≡ when_empty b (none_row columns)
+  both (inl none) (inl left) = rw (none, left) refl
+  both (inl none) (inr some) =
+      let count : length (filter is_markup a) ≡ 0 = ap (λ (xs : List ℕ). length (filter is_markup xs)) none in
+      absurd (omega (arith, same_count, count, some))
+  both (inr some) (inl left) =
+      let count : length (filter is_markup b) ≡ 0 = ap (λ (xs : List ℕ). length (filter is_markup xs)) left in
+      absurd (omega (arith, same_count, count, some))
+  both (inr some) (inr left) = some_text a some ∙ sym (some_text b left)
 
 -- ---- names and texts have none
 
@@ -120,7 +162,9 @@ cabinet_facts_alike : (interval : ℕ) (inspections : List Inspection) (orders :
 unfolding cabinet_facts
 cabinet_facts_alike interval inspections orders =
     joined
-    (equal _ _ (ap (λ (o : Option ℕ). fact (codes "Next inspection due") (due_text interval o)) (sym (latest_same inspections))))
+    (joined
+    (equal _ _ (ap (λ (o : Option ℕ). fact (codes "Last inspection") (last_text o)) (sym (latest_same inspections))))
+    (equal _ _ (ap (λ (o : Option ℕ). fact (codes "Next inspection due") (due_text interval o)) (sym (latest_same inspections)))))
     (fact_alike (codes "Open orders") _ _ (equal _ _ (ap decimal (sym (count_same orders)))))
 
 -- ---- above the plan
@@ -129,8 +173,9 @@ header_alike : (shown : IntersectionShown) → Alike (header shown) (header (bla
 unfolding header
 header_alike shown =
     before _ (before _ (before _ (joined (joined (before _ (joined (before _ (before _ (after _ (escaped_alike shown.state.name []))))
-    (isolated_alike shown.state.name []))) (draft_facts_alike shown.state))
-    (cabinet_facts_alike shown.state.interval shown.cabinet.view.inspections shown.cabinet.view.orders))))
+    (isolated_alike shown.state.name [])))
+    (cabinet_facts_alike shown.state.interval shown.cabinet.view.inspections shown.cabinet.view.orders))
+    (draft_facts_alike shown.state))))
 
 -- ---- the register
 
@@ -140,7 +185,7 @@ part_alike order line = by_test (eqb line.order order) where
   by_test : (t : Bool) → Alike (cond t (part_used line) []) (cond t (part_used (blank_line line)) [])
   by_test true =
       before (codes "</div>")
-      (after (codes "<div>" ++ decimal line.count ++ codes " &times; ") (isolated_alike line.part []))
+      (after (codes "<div>" ++ decimal line.line ++ codes ": " ++ decimal line.count ++ codes " &times; ") (isolated_alike line.part []))
   by_test false = same []
 
 parts_alike : (lines : List UsedLine) (order : ℕ) → Alike (parts_cell lines order) (parts_cell (map blank_line lines) order)
@@ -174,15 +219,33 @@ closed_alike lines order = by_closing order.closing where
       before (codes "</tr>\n")
       (joined (after (codes "<tr>") (order_alike lines order)) (closing_alike closing))
 
+open_marked : (lines : List UsedLine) (order : Order) → IsRow (open_row lines order)
+unfolding marks
+open_marked lines order = by_closing order.closing where
+  by_closing : (closing : Option Closing) → IsRow (open_by lines order closing)
+  by_closing None = inr (omega arith)
+  by_closing (Some closing) = inl refl
+
+closed_marked : (lines : List UsedLine) (order : Order) → IsRow (closed_row lines order)
+unfolding marks
+closed_marked lines order = by_closing order.closing where
+  by_closing : (closing : Option Closing) → IsRow (closed_by lines order closing)
+  by_closing None = inl refl
+  by_closing (Some closing) = inr (omega arith)
+
 open_orders_alike : (lines : List UsedLine) (orders : List Order) → Alike (open_orders lines orders) (open_orders (map blank_line lines) (map blank_order orders))
 unfolding open_orders
 open_orders_alike lines orders =
-    before _ (after _ (each (open_row lines) (open_row (map blank_line lines)) blank_order (open_alike lines) orders))
+    before _ (after _ (table_alike 5 (each (open_row lines) (open_row (map blank_line lines)) blank_order (open_alike lines) orders)
+    (each_marked (open_row lines) (λ order. open_marked lines order) orders)
+    (each_marked (open_row (map blank_line lines)) (λ order. open_marked (map blank_line lines) order) (map blank_order orders))))
 
 closed_orders_alike : (lines : List UsedLine) (orders : List Order) → Alike (closed_orders lines orders) (closed_orders (map blank_line lines) (map blank_order orders))
 unfolding closed_orders
 closed_orders_alike lines orders =
-    before _ (after _ (each (closed_row lines) (closed_row (map blank_line lines)) blank_order (closed_alike lines) orders))
+    before _ (after _ (table_alike 7 (each (closed_row lines) (closed_row (map blank_line lines)) blank_order (closed_alike lines) orders)
+    (each_marked (closed_row lines) (λ order. closed_marked lines order) orders)
+    (each_marked (closed_row (map blank_line lines)) (λ order. closed_marked (map blank_line lines) order) (map blank_order orders))))
 
 inspection_alike : (inspection : Inspection) → Alike (inspection_row inspection) (inspection_row (blank_inspection inspection))
 unfolding inspection_row
@@ -192,10 +255,16 @@ inspection_alike inspection =
     (after (codes "<tr>" ++ row_heading inspection.number ++ day_cell inspection.day)
     (text_cell_alike inspection.clerk [])) (text_cell_alike inspection.text []))
 
+inspection_marked : (inspection : Inspection) → IsRow (inspection_row inspection)
+unfolding marks inspection_row
+inspection_marked inspection = inr (omega arith)
+
 inspections_alike : (inspections : List Inspection) → Alike (inspections_part inspections) (inspections_part (map blank_inspection inspections))
 unfolding inspections_part
 inspections_alike inspections =
-    before _ (after _ (each inspection_row inspection_row blank_inspection inspection_alike inspections))
+    before _ (after _ (table_alike 4 (each inspection_row inspection_row blank_inspection inspection_alike inspections)
+    (each_marked inspection_row inspection_marked inspections)
+    (each_marked inspection_row inspection_marked (map blank_inspection inspections))))
 
 register_alike : (interval : ℕ) (view : CabinetView) → Alike (register_part interval view) (register_part interval (blank_view view))
 unfolding register_part
@@ -215,13 +284,14 @@ cabinet_alike shown =
 
 -- ---- the page
 
-page_alike : (shown : IntersectionShown) (differences : List Difference) → Alike (page_text shown differences) (page_text (blank shown) differences)
+page_alike : (shown : IntersectionShown) (differences : List Difference) (reasons : List Explained) → Alike (page_text shown differences reasons) (page_text (blank shown) differences reasons)
 unfolding page_text
-page_alike shown differences =
+page_alike shown differences reasons =
     before page_end
-    (joined (before (draft_section shown.draft differences) (before (plan_section shown.committed) (header_alike shown)))
+    (joined
+    (before (draft_section shown.committed shown.draft differences reasons) (before (plan_section shown.committed) (header_alike shown)))
     (cabinet_alike shown))
 
 -- a page has the tags that it has with its names and texts empty
-pub own_markup : (shown : IntersectionShown) (differences : List Difference) (text : List ℕ) → text ≡ page_text shown differences → marks text ≡ marks (page_text (blank shown) differences)
-own_markup shown differences text is = ap marks is ∙ (page_alike shown differences).marked
+pub own_markup : (shown : IntersectionShown) (differences : List Difference) (reasons : List Explained) (text : List ℕ) → text ≡ page_text shown differences reasons → marks text ≡ marks (page_text (blank shown) differences reasons)
+own_markup shown differences reasons text is = ap marks is ∙ (page_alike shown differences reasons).marked

@@ -1,15 +1,17 @@
 -- What a draft changes of the plan that runs, told by words.
-use Rattle.std.specs.Prelude.{ℕ, false, List, [], ◌++◌, flat_map, codes}
+use Rattle.std.specs.Prelude.{ℕ, Bool, if◌then◌else◌, List, [], ◌++◌, flat_map, codes}
+use Rattle.std.specs.List.{list_any}
 use Rattle.office_files.specs.Cells.{when_empty}
 use Rattle.signal_compare.specs.declared.difference.Difference.{Difference}
 use Rattle.signal_compare.specs.declared.difference.Difference.TheVariants as difference
 use Rattle.signal_records.specs.declared.record.Row.{Row}
+use Rattle.signal_records.specs.TimingSet.{Rows}
 use Rattle.signal_page.specs.declared.changes.Mark.{Mark}
 use Rattle.signal_page.specs.declared.changes.Mark.TheVariants.{Removed, Added, Before, After}
 use Rattle.signal_page.specs.declared.rows.Kind.{Kind}
 use Rattle.signal_page.specs.declared.rows.Kind.TheVariants.{Phases, Sequences, Splits, Patterns}
 use Rattle.signal_page.specs.Cells.{words_heading}
-use Rattle.signal_page.specs.Rows.{row_in}
+use Rattle.signal_page.specs.Rows.{row_in, is_of}
 use Rattle.signal_page.specs.Tables.{name_of, headings, table_opening, table_body, table_end}
 
 -- how a row opens that was removed or added, or that was changed, as it was and as it is to be
@@ -19,25 +21,40 @@ opening_of Added = codes "<tr class='added'><td class='w'>added</td>"
 opening_of Before = codes "<tr class='before'><td class='w'>changed from</td>"
 opening_of After = codes "<tr class='after'><td class='w'>changed to</td>"
 
-abbrev pub marked_row : Kind → Mark → Row → List ℕ
-marked_row kind mark row = row_in kind (opening_of mark) false [] row
+-- a row of a set
+abbrev pub marked_row : Kind → Mark → Rows → Row → List ℕ
+marked_row kind mark set row = row_in kind (opening_of mark) set [] row
 
--- a difference in the table of a kind
-abbrev pub change_rows : Kind → Difference → List ℕ
-change_rows kind (difference.Removed row) = marked_row kind Removed row
-change_rows kind (difference.Added row) = marked_row kind Added row
-change_rows kind (difference.Changed before after) =
-    marked_row kind Before before ++ marked_row kind After after
+-- a difference of two sets in the table of a kind, each row as its own set has it
+abbrev pub change_rows : Kind → Rows → Rows → Difference → List ℕ
+change_rows kind runs draft (difference.Removed row) = marked_row kind Removed runs row
+change_rows kind runs draft (difference.Added row) = marked_row kind Added draft row
+change_rows kind runs draft (difference.Changed before after) =
+    marked_row kind Before runs before ++ marked_row kind After draft after
 
-unfoldable pub change_table : Kind → List Difference → List ℕ
-change_table kind differences =
-    table_opening (name_of kind) ++ words_heading (codes "Change") ++ headings kind ++ table_body
-    ++ flat_map (change_rows kind) differences ++ table_end
+unfoldable pub whole_change_table : Kind → Rows → Rows → List Difference → List ℕ
+whole_change_table kind runs draft differences =
+    table_opening (name_of kind) (codes " that change") ++ words_heading (codes "Change")
+    ++ headings kind ++ table_body ++ flat_map (change_rows kind runs draft) differences
+    ++ table_end
 
--- the four tables of changes, or that there is none
-unfoldable pub changes_part : List Difference → List ℕ
-changes_part differences =
+abbrev pub is_change_of : Kind → Difference → Bool
+is_change_of kind (difference.Removed row) = is_of kind row
+is_change_of kind (difference.Added row) = is_of kind row
+is_change_of kind (difference.Changed before after) = is_of kind before
+
+-- there is one where a row of the kind changes
+abbrev pub change_table : Kind → Rows → Rows → List Difference → List ℕ
+change_table kind runs draft differences =
+    if list_any (is_change_of kind) differences
+    then whole_change_table kind runs draft differences else []
+
+-- the tables of changes, or that there is none
+unfoldable pub changes_part : Rows → Rows → List Difference → List ℕ
+changes_part runs draft differences =
     codes "<div class='changes'>\n<h3>What it changes</h3>\n"
     ++ when_empty differences (codes "<p>It changes nothing of the plan that runs.</p>\n")
-    ++ change_table Patterns differences ++ change_table Sequences differences
-    ++ change_table Splits differences ++ change_table Phases differences ++ codes "</div>\n"
+    ++ change_table Patterns runs draft differences
+    ++ change_table Sequences runs draft differences
+    ++ change_table Splits runs draft differences ++ change_table Phases runs draft differences
+    ++ codes "</div>\n"

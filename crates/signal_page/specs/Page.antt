@@ -1,17 +1,18 @@
 -- The page of an intersection, and that of a plan alone.
-use Rattle.std.specs.Prelude.{◌≡◌, ℕ, true, false, List, [], ◌++◌, codes, decimal, Option, Some, None}
+use Rattle.std.specs.Prelude.{◌≡◌, ℕ, List, [], ◌++◌, codes, decimal, Option, Some, None}
 use Rattle.cabinet_core.specs.Overdue.{latest_day}
 use Rattle.signal_compare.specs.declared.difference.Difference.{Difference}
 use Rattle.signal_compare.specs.Difference.{AreTold}
 use Rattle.signal_records.specs.TimingSet.{Rows}
-use Rattle.signal_rules.specs.Violations.{violations_of}
+use Rattle.signal_reasons.specs.declared.reason.Explained.{Explained}
+use Rattle.signal_reasons.specs.Reasons.{AreReasons}
 use Rattle.signal_page.specs.declared.shown.IntersectionShown.{IntersectionShown}
 use Rattle.signal_page.specs.declared.style.TheConstants.{STYLE}
 use Rattle.signal_page.specs.Words.{escaped, isolated}
 use Rattle.signal_page.specs.Reading.{marks}
 use Rattle.signal_page.specs.Blank.{blank}
 use Rattle.signal_page.specs.State.{draft_facts, cabinet_facts}
-use Rattle.signal_page.specs.Plan.{plan_part, violations_note}
+use Rattle.signal_page.specs.Plan.{plan_part, reasons_note}
 use Rattle.signal_page.specs.Changes.{changes_part}
 use Rattle.signal_page.specs.Register.{register_part}
 
@@ -51,27 +52,28 @@ unfoldable pub header : IntersectionShown → List ℕ
 header shown =
     head_opening ++ title shown.state.id ++ escaped shown.state.name ++ head_end
     ++ title shown.state.id ++ isolated shown.state.name ++ codes "</h1>\n<dl>\n"
-    ++ draft_facts shown.state
     ++ cabinet_facts shown.state.interval (latest_day shown.cabinet.view.inspections)
     shown.cabinet.view.orders
+    ++ draft_facts shown.state
     ++ codes "</dl>\n" ++ links shown.draft ++ codes "</header>\n<main id='main'>\n"
 
 unfoldable pub plan_section : Rows → List ℕ
 plan_section committed =
     codes "<section id='plan' aria-labelledby='plan-title'>\n"
-    ++ codes "<h2 id='plan-title'>The plan that runs</h2>\n" ++ plan_part false [] committed
+    ++ codes "<h2 id='plan-title'>The plan that runs</h2>\n" ++ plan_part (codes " of the plan that runs") [] committed
     ++ codes "</section>\n"
 
-unfoldable pub open_draft_section : Rows → List Difference → List ℕ
-open_draft_section draft differences =
+unfoldable pub open_draft_section : Rows → Rows → List Difference → List Explained → List ℕ
+open_draft_section committed draft differences reasons =
     codes "<section id='draft' aria-labelledby='draft-title'>\n"
-    ++ codes "<h2 id='draft-title'>The draft</h2>\n" ++ violations_note (violations_of draft)
-    ++ changes_part differences ++ codes "<h3>The whole draft</h3>\n"
-    ++ plan_part true (violations_of draft) draft ++ codes "</section>\n"
+    ++ codes "<h2 id='draft-title'>The draft</h2>\n" ++ reasons_note reasons
+    ++ changes_part committed draft differences ++ codes "<h3>The whole draft</h3>\n"
+    ++ plan_part (codes " of the draft") reasons draft ++ codes "</section>\n"
 
-abbrev pub draft_section : Option Rows → List Difference → List ℕ
-draft_section None differences = []
-draft_section (Some draft) differences = open_draft_section draft differences
+abbrev pub draft_section : Rows → Option Rows → List Difference → List Explained → List ℕ
+draft_section committed None differences reasons = []
+draft_section committed (Some draft) differences reasons =
+    open_draft_section committed draft differences reasons
 
 unfoldable pub cabinet_section : IntersectionShown → List ℕ
 cabinet_section shown =
@@ -79,30 +81,45 @@ cabinet_section shown =
     ++ codes "<h2 id='cabinet-title'>The cabinet</h2>\n"
     ++ register_part shown.state.interval shown.cabinet.view ++ codes "</section>\n"
 
--- the page, by what the draft changes
-unfoldable pub page_text : IntersectionShown → List Difference → List ℕ
-page_text shown differences =
-    header shown ++ plan_section shown.committed ++ draft_section shown.draft differences
-    ++ cabinet_section shown ++ page_end
+-- the page, by what the draft changes, and by why it breaks rules
+unfoldable pub page_text : IntersectionShown → List Difference → List Explained → List ℕ
+page_text shown differences reasons =
+    header shown ++ plan_section shown.committed
+    ++ draft_section shown.committed shown.draft differences reasons ++ cabinet_section shown
+    ++ page_end
 
 -- what a draft changes of the committed plan; nothing where there is none
 abbrev pub AreChanges : Rows → Option Rows → List Difference → Type 0
 AreChanges committed None differences = differences ≡ []
 AreChanges committed (Some draft) differences = AreTold committed draft differences
 
--- The text is the page of an intersection, with the changes of its draft. And whatever its names and
--- texts hold, all characters of which tags and attributes are made are the page's own: with those
--- names and texts empty, it has the same ones in the same order.
+-- why a draft breaks rules: all that it breaks, each with a true reason; nothing where there is none
+abbrev pub AreDraftReasons : Option Rows → List Explained → Type 0
+AreDraftReasons None reasons = reasons ≡ []
+AreDraftReasons (Some draft) reasons = AreReasons draft reasons
+
+-- The text is the page of an intersection, with the changes of its draft and the reasons of the rules
+-- that it breaks. And whatever its names and texts hold, all characters of which tags and attributes
+-- are made are the page's own: with those names and texts empty, it has the same ones in the same
+-- order.
 pub record IsPage (shown : IntersectionShown) (text : List ℕ) : Type 0 where
   pub differences : List Difference
   pub changes : AreChanges shown.committed shown.draft differences
-  pub text_is : text ≡ page_text shown differences
-  pub markup : marks text ≡ marks (page_text (blank shown) differences)
+  pub reasons : List Explained
+  pub why : AreDraftReasons shown.draft reasons
+  pub text_is : text ≡ page_text shown differences reasons
+  pub markup : marks text ≡ marks (page_text (blank shown) differences reasons)
 
 -- ---- the page of a plan
 
-unfoldable pub plan_page_text : Rows → List ℕ
-plan_page_text plan =
+unfoldable pub plan_page_text : Rows → List Explained → List ℕ
+plan_page_text plan reasons =
     head_opening ++ codes "Timing plan" ++ head_end
-    ++ codes "Timing plan</h1>\n</header>\n<main id='main'>\n"
-    ++ violations_note (violations_of plan) ++ plan_part true (violations_of plan) plan ++ page_end
+    ++ codes "Timing plan</h1>\n</header>\n<main id='main'>\n" ++ reasons_note reasons
+    ++ plan_part [] reasons plan ++ page_end
+
+-- the text is the page of a plan, with all rules that it breaks, each with a true reason
+pub record IsPlanPage (plan : Rows) (text : List ℕ) : Type 0 where
+  pub reasons : List Explained
+  pub why : AreReasons plan reasons
+  pub text_is : text ≡ plan_page_text plan reasons

@@ -12,17 +12,18 @@ use Rattle.cabinet_core.specs.declared.record.UsedLine.{UsedLine}
 use Rattle.office_files.specs.Records.{is_line_of}
 use Rattle.signal_page.specs.Words.{isolated}
 use Rattle.signal_page.specs.Cells.{heading, words_heading, row_heading, text_cell}
-use Rattle.signal_page.specs.Tables.{table_opening, table_body, table_end}
+use Rattle.signal_page.specs.Tables.{table_opening, table_body, table_end, rows_or_none}
 
 unfoldable pub day_cell : ℕ → List ℕ
 day_cell day = codes "<td class='d'>" ++ day_text day ++ codes "</td>"
 
 -- ---- orders
 
--- a part that was used for the order of a number
+-- a line of an order: its number, and the part that was used
 unfoldable pub part_used : UsedLine → List ℕ
 part_used line =
-    codes "<div>" ++ decimal line.count ++ codes " &times; " ++ isolated line.part ++ codes "</div>"
+    codes "<div>" ++ decimal line.line ++ codes ": " ++ decimal line.count ++ codes " &times; "
+    ++ isolated line.part ++ codes "</div>"
 
 abbrev pub part_of : ℕ → UsedLine → List ℕ
 part_of order line = if is_line_of order line then part_used line else []
@@ -59,18 +60,18 @@ closed_row lines order = closed_by lines order order.closing
 unfoldable pub order_headings : List ℕ
 order_headings =
     heading (codes "Order") ++ words_heading (codes "Opened") ++ words_heading (codes "Clerk")
-    ++ words_heading (codes "Work") ++ words_heading (codes "Parts used (pieces)")
+    ++ words_heading (codes "Work") ++ words_heading (codes "Lines: parts used (pieces)")
 
 unfoldable pub open_orders : List UsedLine → List Order → List ℕ
 open_orders lines orders =
-    table_opening (codes "Open orders") ++ order_headings ++ table_body
-    ++ flat_map (open_row lines) orders ++ table_end
+    table_opening (codes "Open orders") [] ++ order_headings ++ table_body
+    ++ rows_or_none 5 (flat_map (open_row lines) orders) ++ table_end
 
 unfoldable pub closed_orders : List UsedLine → List Order → List ℕ
 closed_orders lines orders =
-    table_opening (codes "Closed orders") ++ order_headings ++ words_heading (codes "Closed")
-    ++ words_heading (codes "Closed by") ++ table_body ++ flat_map (closed_row lines) orders
-    ++ table_end
+    table_opening (codes "Closed orders") [] ++ order_headings ++ words_heading (codes "Closed")
+    ++ words_heading (codes "Closed by") ++ table_body
+    ++ rows_or_none 7 (flat_map (closed_row lines) orders) ++ table_end
 
 -- ---- inspections
 
@@ -86,8 +87,8 @@ inspection_headings =
 
 unfoldable pub inspections_part : List Inspection → List ℕ
 inspections_part inspections =
-    table_opening (codes "Inspections") ++ inspection_headings ++ table_body
-    ++ flat_map inspection_row inspections ++ table_end
+    table_opening (codes "Inspections") [] ++ inspection_headings ++ table_body
+    ++ rows_or_none 4 (flat_map inspection_row inspections) ++ table_end
 
 -- ---- the register
 

@@ -1,18 +1,21 @@
 -- The rows of a timing set as rows of tables, a table for each kind.
-use Rattle.std.specs.Prelude.{ℕ, Bool, true, false, if◌then◌else◌, List, [], ◌++◌, codes}
+use Rattle.std.specs.Prelude.{ℕ, ◌*◌, Bool, true, false, if◌then◌else◌, List, [], ◌++◌, codes}
 use Rattle.std.specs.Prelude.{Option, Some, None}
+use Rattle.signal_records.specs.declared.record.Pattern.{Pattern}
 use Rattle.signal_records.specs.declared.record.Ped.{Ped}
 use Rattle.signal_records.specs.declared.record.Phase.{Phase}
 use Rattle.signal_records.specs.declared.record.Row.{Row}
 use Rattle.signal_records.specs.declared.record.Row.TheVariants as row
 use Rattle.signal_records.specs.declared.record.SplitMode.{SplitMode}
 use Rattle.signal_records.specs.declared.record.SplitMode.TheVariants as mode
-use Rattle.signal_rules.specs.declared.violation.Violation.{Violation}
+use Rattle.signal_records.specs.TimingSet.{Rows}
+use Rattle.signal_reasons.specs.declared.reason.Explained.{Explained}
 use Rattle.signal_page.specs.declared.rows.Kind.{Kind}
 use Rattle.signal_page.specs.declared.rows.Kind.TheVariants.{Phases, Sequences, Splits, Patterns}
 use Rattle.signal_page.specs.Cells.{row_heading, number_cell, tenths_cell, flag_cell, list_cell}
 use Rattle.signal_page.specs.Cells.{words_cell}
-use Rattle.signal_page.specs.Rules.{subject_of, told_beside}
+use Rattle.signal_page.specs.Needs.{need_at, need_cells, coordinated}
+use Rattle.signal_page.specs.Rules.{subject_of, reasons_below}
 
 abbrev pub mode_words : SplitMode → List ℕ
 mode_words mode.NoRecall = codes "none"
@@ -40,17 +43,30 @@ interval_cells p phase =
     ++ tenths_cell phase.passage ++ number_cell phase.max1 ++ tenths_cell phase.yellow
     ++ tenths_cell phase.red
 
--- the cells of a row
-abbrev pub row_cells : Row → List ℕ
-row_cells (row.Phase p phase) =
-    interval_cells p phase ++ ped_cells phase.ped ++ list_cell phase.mates
-row_cells (row.Seq n ring seq) = row_heading n ++ number_cell ring ++ list_cell seq.list
-row_cells (row.Split n p split) =
-    row_heading n ++ number_cell p ++ number_cell split.time ++ words_cell (mode_words split.mode)
-    ++ flag_cell split.coord
-row_cells (row.Pattern n pattern) =
+-- the cells of a pattern before its coordinated phases
+unfoldable pub pattern_cells : ℕ → Pattern → List ℕ
+pattern_cells n pattern =
     row_heading n ++ number_cell pattern.cycle ++ number_cell pattern.offset
     ++ number_cell pattern.split ++ number_cell pattern.seq
+
+-- the cells of a row of a set; two numbers name a sequence's row and a split
+abbrev pub row_cells : Rows → Row → List ℕ
+row_cells set (row.Phase p phase) =
+    interval_cells p phase ++ ped_cells phase.ped ++ list_cell phase.mates
+row_cells set (row.Seq n ring seq) = row_heading n ++ row_heading ring ++ list_cell seq.list
+row_cells set (row.Split n p split) =
+    row_heading n ++ row_heading p ++ number_cell split.time
+    ++ need_cells (10 * split.time) (need_at set p split) ++ words_cell (mode_words split.mode)
+    ++ flag_cell split.coord
+row_cells set (row.Pattern n pattern) =
+    pattern_cells n pattern ++ list_cell (coordinated set pattern.split)
+
+-- how many columns the table of a kind has
+abbrev pub columns : Kind → ℕ
+columns Phases = 14
+columns Sequences = 3
+columns Splits = 7
+columns Patterns = 6
 
 abbrev pub is_of : Kind → Row → Bool
 is_of Phases (row.Phase p phase) = true
@@ -59,12 +75,13 @@ is_of Splits (row.Split n p split) = true
 is_of Patterns (row.Pattern n pattern) = true
 is_of kind other = false
 
--- a row with how it opens, and the rules that it breaks where the table tells them
-unfoldable pub whole_row : List ℕ → Bool → List Violation → Row → List ℕ
-whole_row opening told violations r =
-    opening ++ row_cells r ++ told_beside told violations (subject_of r) ++ codes "</tr>\n"
+-- a row with how it opens, and below it the rules that it breaks
+unfoldable pub whole_row : Kind → List ℕ → Rows → List Explained → Row → List ℕ
+whole_row kind opening set reasons r =
+    opening ++ row_cells set r ++ codes "</tr>\n"
+    ++ reasons_below (columns kind) reasons (subject_of r)
 
 -- it stands in the table of its kind, and in no other
-abbrev pub row_in : Kind → List ℕ → Bool → List Violation → Row → List ℕ
-row_in kind opening told violations r =
-    if is_of kind r then whole_row opening told violations r else []
+abbrev pub row_in : Kind → List ℕ → Rows → List Explained → Row → List ℕ
+row_in kind opening set reasons r =
+    if is_of kind r then whole_row kind opening set reasons r else []

@@ -35,6 +35,11 @@ abbrev pub due_text : ℕ → Option ℕ → List ℕ
 due_text interval None = codes "never inspected"
 due_text interval (Some latest) = day_text (latest + interval)
 
+-- the day of the latest inspection
+abbrev pub last_text : Option ℕ → List ℕ
+last_text None = codes "none"
+last_text (Some latest) = day_text latest
+
 -- ---- how it is told
 
 -- what is told, and its name
@@ -52,5 +57,6 @@ draft_facts state =
 
 unfoldable pub cabinet_facts : ℕ → Option ℕ → List Order → List ℕ
 cabinet_facts interval latest orders =
-    fact (codes "Next inspection due") (due_text interval latest)
+    fact (codes "Last inspection") (last_text latest)
+    ++ fact (codes "Next inspection due") (due_text interval latest)
     ++ fact (codes "Open orders") (decimal (length (filter is_open orders)))

@@ -1,11 +1,13 @@
 -- The tables of a timing set, with units in their headings.
-use Rattle.std.specs.Prelude.{ℕ, Bool, if◌then◌else◌, List, [], ◌++◌, flat_map, codes}
+use Rattle.std.specs.Prelude.{ℕ, ◌==◌, if◌then◌else◌, List, [], ◌++◌, flat_map, codes, decimal}
+use Rattle.office_files.specs.Cells.{when_empty}
 use Rattle.signal_records.specs.declared.record.Row.{Row}
-use Rattle.signal_rules.specs.declared.violation.Violation.{Violation}
+use Rattle.signal_records.specs.TimingSet.{Rows}
+use Rattle.signal_reasons.specs.declared.reason.Explained.{Explained}
 use Rattle.signal_page.specs.declared.rows.Kind.{Kind}
 use Rattle.signal_page.specs.declared.rows.Kind.TheVariants.{Phases, Sequences, Splits, Patterns}
 use Rattle.signal_page.specs.Cells.{heading, words_heading}
-use Rattle.signal_page.specs.Rows.{row_in}
+use Rattle.signal_page.specs.Rows.{row_in, columns}
 
 -- the name of a table
 abbrev pub name_of : Kind → List ℕ
@@ -24,7 +26,7 @@ interval_headings =
 
 unfoldable pub crossing_headings : List ℕ
 crossing_headings =
-    heading (codes "Walk (s)") ++ heading (codes "Clearance (s)") ++ heading (codes "Crossing (ft)")
+    heading (codes "Walk (s)") ++ heading (codes "Pedestrian clearance (s)") ++ heading (codes "Crossing (ft)")
     ++ heading (codes "Setback (ft)") ++ words_heading (codes "Short walk")
     ++ heading (codes "Lead (s)") ++ words_heading (codes "Concurrent phases")
 
@@ -35,12 +37,14 @@ sequence_headings =
 unfoldable pub split_headings : List ℕ
 split_headings =
     heading (codes "Split") ++ heading (codes "Phase") ++ heading (codes "Time (s)")
-    ++ words_heading (codes "Mode") ++ words_heading (codes "Coordinated")
+    ++ heading (codes "Need (s)") ++ heading (codes "Spare (s)") ++ words_heading (codes "Mode")
+    ++ words_heading (codes "Coordinated")
 
 unfoldable pub pattern_headings : List ℕ
 pattern_headings =
     heading (codes "Pattern") ++ heading (codes "Cycle (s)") ++ heading (codes "Offset (s)")
     ++ heading (codes "Split") ++ heading (codes "Sequence")
+    ++ words_heading (codes "Coordinated phases")
 
 abbrev pub headings : Kind → List ℕ
 headings Phases = interval_headings ++ crossing_headings
@@ -48,16 +52,13 @@ headings Sequences = sequence_headings
 headings Splits = split_headings
 headings Patterns = pattern_headings
 
--- the heading of the rules that rows break, in a table that tells them
-abbrev pub told_heading : Bool → List ℕ
-told_heading told = if told then words_heading (codes "Rules broken") else []
-
 -- ---- a table, which scrolls in a box of its own where the page is narrow
 
-unfoldable pub table_opening : List ℕ → List ℕ
-table_opening name =
-    codes "<div class='scroll' role='group' tabindex='0' aria-label='" ++ name
-    ++ codes "'>\n<table>\n<caption>" ++ name ++ codes "</caption>\n<thead><tr>"
+-- its name, and what it is of
+unfoldable pub table_opening : List ℕ → List ℕ → List ℕ
+table_opening name whose =
+    codes "<div class='scroll' role='group' tabindex='0' aria-label='" ++ name ++ whose
+    ++ codes "'>\n<table>\n<caption>" ++ name ++ whose ++ codes "</caption>\n<thead><tr>"
 
 unfoldable pub table_body : List ℕ
 table_body = codes "</tr></thead>\n<tbody>"
@@ -65,14 +66,28 @@ table_body = codes "</tr></thead>\n<tbody>"
 unfoldable pub table_end : List ℕ
 table_end = codes "</tbody>\n</table>\n</div>\n"
 
--- the table of a kind
-unfoldable pub table : Kind → Bool → List Violation → List Row → List ℕ
-table kind told violations rows =
-    table_opening (name_of kind) ++ headings kind ++ told_heading told ++ table_body
-    ++ flat_map (row_in kind (codes "<tr>") told violations) rows ++ table_end
+-- what stands in a table of so many columns that has no row
+unfoldable pub none_row : ℕ → List ℕ
+none_row columns =
+    codes "<tr><td class='none' colspan='" ++ decimal columns ++ codes "'>none</td></tr>\n"
 
--- the four tables
-unfoldable pub tables : Bool → List Violation → List Row → List ℕ
-tables told violations rows =
-    table Patterns told violations rows ++ table Sequences told violations rows
-    ++ table Splits told violations rows ++ table Phases told violations rows
+-- the rows of a table of so many columns
+abbrev pub rows_or_none : ℕ → List ℕ → List ℕ
+rows_or_none columns rows = rows ++ when_empty rows (none_row columns)
+
+-- the same by the length of the text with its rows, and before them
+abbrev pub none_since : ℕ → ℕ → ℕ → List ℕ
+none_since now before columns = if now == before then none_row columns else []
+
+-- the table of a kind
+unfoldable pub table : Kind → List ℕ → Rows → List Explained → List Row → List ℕ
+table kind whose set reasons rows =
+    table_opening (name_of kind) whose ++ headings kind ++ table_body
+    ++ rows_or_none (columns kind) (flat_map (row_in kind (codes "<tr>") set reasons) rows)
+    ++ table_end
+
+-- the four tables of a plan
+unfoldable pub tables : List ℕ → Rows → List Explained → List Row → List ℕ
+tables whose set reasons rows =
+    table Patterns whose set reasons rows ++ table Sequences whose set reasons rows
+    ++ table Splits whose set reasons rows ++ table Phases whose set reasons rows

@@ -1,17 +1,18 @@
 //! What a draft changes of the plan that runs.
 
 ghost use Rattle.std.specs.Prelude.{◌≡◌, ◌++◌, OnOk, codes, flat_map, string_bytes};
+ghost use Rattle.std.specs.List.{list_any};
 ghost use Rattle.office_files.specs.Cells.{when_empty};
 ghost use Rattle.signal_page.specs.Changes.{opening_of, marked_row, change_rows, change_table};
-ghost use Rattle.signal_page.specs.Changes.{changes_part};
+ghost use Rattle.signal_page.specs.Changes.{whole_change_table, is_change_of, changes_part};
 
 use crate::cells::push_words_heading;
-use crate::rows::{Kind, push_row_in};
+use crate::rows::{Kind, is_of, push_row_in};
 use crate::tables::{begin_rows, end_table, name_of, open_table, push_headings};
 use crate::words::push_markup;
 use signal_compare::Difference;
-use signal_records::Row;
-use std::alloc::AllocError;
+use signal_records::{NoMemory, Row, TimingSet};
+use std::alloc::{AllocError, Global};
 
 /// What became of a row.
 #[derive(Clone, Copy)]
@@ -36,52 +37,118 @@ fn opening_of(mark: Mark) -> &'static str
     }
 }
 
-fn push_marked(text: &mut String, kind: Kind, mark: Mark, row: &Row) -> Result<(), AllocError>
+/// Appends a row of a set.
+fn push_marked(
+    alloc: Global,
+    text: &mut String,
+    kind: Kind,
+    mark: Mark,
+    set: &TimingSet,
+    row: &Row,
+) -> Result<(), NoMemory>
     ensures { OnOk result (string_bytes text.new
-        ≡ string_bytes text.old ++ marked_row kind mark row.now) }
+        ≡ string_bytes text.old ++ marked_row kind mark set.now row.now) }
 {
-    push_row_in(text, kind, opening_of(mark), false, &[], row)
+    push_row_in(alloc, text, kind, opening_of(mark), set, &[], row)
 }
 
-/// Appends a difference in the table of a kind.
-fn push_change(text: &mut String, kind: Kind, difference: &Difference) -> Result<(), AllocError>
+/// Appends a difference in the table of a kind, each row as its own set has it.
+fn push_change(
+    alloc: Global,
+    text: &mut String,
+    kind: Kind,
+    runs: &TimingSet,
+    draft: &TimingSet,
+    difference: &Difference,
+) -> Result<(), NoMemory>
     ensures { OnOk result (string_bytes text.new
-        ≡ string_bytes text.old ++ change_rows kind difference.now) }
+        ≡ string_bytes text.old ++ change_rows kind runs.now draft.now difference.now) }
 {
     match difference {
-        Difference::Removed(row) => push_marked(text, kind, Mark::Removed, row),
-        Difference::Added(row) => push_marked(text, kind, Mark::Added, row),
+        Difference::Removed(row) => push_marked(alloc, text, kind, Mark::Removed, runs, row),
+        Difference::Added(row) => push_marked(alloc, text, kind, Mark::Added, draft, row),
         Difference::Changed { before, after } => {
-            push_marked(text, kind, Mark::Before, before)?;
-            push_marked(text, kind, Mark::After, after)
+            push_marked(alloc, text, kind, Mark::Before, runs, before)?;
+            push_marked(alloc, text, kind, Mark::After, draft, after)
         }
     }
 }
 
-fn push_changes(text: &mut String, kind: Kind, differences: &[Difference]) -> Result<(), AllocError>
-    ensures { OnOk result (string_bytes text.new
-        ≡ string_bytes text.old ++ flat_map (change_rows kind) differences.now) }
+fn push_changes(
+    alloc: Global,
+    text: &mut String,
+    kind: Kind,
+    runs: &TimingSet,
+    draft: &TimingSet,
+    differences: &[Difference],
+) -> Result<(), NoMemory>
+    ensures { OnOk result (string_bytes text.new ≡ string_bytes text.old
+        ++ flat_map (change_rows kind runs.now draft.now) differences.now) }
 {
     for difference in differences {
-        push_change(text, kind, difference)?;
+        push_change(alloc, text, kind, runs, draft, difference)?;
     }
     Ok(())
 }
 
-/// Appends the table of the changes of a kind.
+/// Whether a difference is one of a row of a kind.
+fn is_change_of(kind: Kind, difference: &Difference) -> bool
+    ensures { result ≡ is_change_of kind difference.now }
+{
+    match difference {
+        Difference::Removed(row) | Difference::Added(row) => is_of(kind, row),
+        Difference::Changed { before, .. } => is_of(kind, before),
+    }
+}
+
+/// Whether a row of a kind changes.
+fn changes_any(kind: Kind, differences: &[Difference]) -> bool
+    ensures { result ≡ list_any (is_change_of kind) differences.now }
+{
+    for difference in differences {
+        if is_change_of(kind, difference) {
+            return true;
+        }
+    }
+    false
+}
+
+/// Appends the table of the changes of a kind, where there are any.
 fn push_change_table(
+    alloc: Global,
     text: &mut String,
     kind: Kind,
+    runs: &TimingSet,
+    draft: &TimingSet,
     differences: &[Difference],
-) -> Result<(), AllocError>
+) -> Result<(), NoMemory>
     ensures { OnOk result (string_bytes text.new
-        ≡ string_bytes text.old ++ change_table kind differences.now) }
+        ≡ string_bytes text.old ++ change_table kind runs.now draft.now differences.now) }
 {
-    open_table(text, name_of(kind))?;
+    if changes_any(kind, differences) {
+        push_whole_change_table(alloc, text, kind, runs, draft, differences)
+    } else {
+        Ok(())
+    }
+}
+
+/// Appends the table of the changes of a kind.
+fn push_whole_change_table(
+    alloc: Global,
+    text: &mut String,
+    kind: Kind,
+    runs: &TimingSet,
+    draft: &TimingSet,
+    differences: &[Difference],
+) -> Result<(), NoMemory>
+    ensures { OnOk result (string_bytes text.new
+        ≡ string_bytes text.old ++ whole_change_table kind runs.now draft.now differences.now) }
+{
+    open_table(text, name_of(kind), " that change")?;
     push_words_heading(text, "Change")?;
     push_headings(text, kind)?;
     begin_rows(text)?;
-    push_changes(text, kind, differences)?;
+    push_changes(alloc, text, kind, runs, draft, differences)?;
     end_table(text)
 }
 
@@ -100,17 +167,20 @@ fn push_no_changes(text: &mut String, differences: &[Difference]) -> Result<(), 
 
 /// Appends the tables of changes, or that there is none.
 pub(crate) fn push_changes_part(
+    alloc: Global,
     text: &mut String,
+    runs: &TimingSet,
+    draft: &TimingSet,
     differences: &[Difference],
-) -> Result<(), AllocError>
+) -> Result<(), NoMemory>
     ensures { OnOk result (string_bytes text.new
-        ≡ string_bytes text.old ++ changes_part differences.now) }
+        ≡ string_bytes text.old ++ changes_part runs.now draft.now differences.now) }
 {
     push_markup(text, "<div class='changes'>\n<h3>What it changes</h3>\n")?;
     push_no_changes(text, differences)?;
-    push_change_table(text, Kind::Patterns, differences)?;
-    push_change_table(text, Kind::Sequences, differences)?;
-    push_change_table(text, Kind::Splits, differences)?;
-    push_change_table(text, Kind::Phases, differences)?;
+    push_change_table(alloc, text, Kind::Patterns, runs, draft, differences)?;
+    push_change_table(alloc, text, Kind::Sequences, runs, draft, differences)?;
+    push_change_table(alloc, text, Kind::Splits, runs, draft, differences)?;
+    push_change_table(alloc, text, Kind::Phases, runs, draft, differences)?;
     push_markup(text, "</div>\n")
 }

@@ -6,19 +6,19 @@ ghost use Rattle.signal_page.specs.Reading.{unescaped};
 ghost use Rattle.signal_page.specs.Page.{head_opening, head_end, page_end, title, draft_link};
 ghost use Rattle.signal_page.specs.Page.{links, header, plan_section, open_draft_section};
 ghost use Rattle.signal_page.specs.Page.{draft_section, cabinet_section, page_text};
-ghost use Rattle.signal_page.specs.Page.{AreChanges, IsPage, plan_page_text};
+ghost use Rattle.signal_page.specs.Page.{AreChanges, AreDraftReasons, IsPage, plan_page_text};
+ghost use Rattle.signal_page.specs.Page.{IsPlanPage};
 
 use crate::changes::push_changes_part;
 use crate::facts::{push_cabinet_facts, push_draft_facts};
-use crate::plan::{push_plan, push_violations_note};
+use crate::plan::{push_plan, push_reasons_note};
 use crate::register::push_register;
 use crate::shown::IntersectionShown;
 use crate::style::STYLE;
 use crate::words::{push_escaped, push_isolated, push_markup};
-use cabinet_core::latest;
 use signal_compare::{Difference, compare};
+use signal_reasons::{Explained, reasons};
 use signal_records::{InterId, NoMemory, TimingSet};
-use signal_rules::violations;
 use std::alloc::{AllocError, Global};
 use std::fmt::Write;
 
@@ -94,7 +94,7 @@ fn push_header(text: &mut String, shown: &IntersectionShown) -> Result<(), Alloc
     ensures { OnOk result (string_bytes text.new ≡ string_bytes text.old ++ header shown.now) }
 {
     let name = shown.state.name.as_str();
-    let last = latest(shown.cabinet.view.inspections.as_slice());
+    let inspections = shown.cabinet.view.inspections.as_slice();
     let orders = shown.cabinet.view.orders.as_slice();
     open_head(text)?;
     push_title(text, shown.state.id)?;
@@ -103,8 +103,8 @@ fn push_header(text: &mut String, shown: &IntersectionShown) -> Result<(), Alloc
     push_title(text, shown.state.id)?;
     push_isolated(text, name)?;
     push_markup(text, "</h1>\n<dl>\n")?;
+    push_cabinet_facts(text, shown.state.interval, inspections, orders)?;
     push_draft_facts(text, &shown.state)?;
-    push_cabinet_facts(text, shown.state.interval, last, orders)?;
     push_markup(text, "</dl>\n")?;
     push_links(text, &shown.draft)?;
     push_markup(text, "</header>\n<main id='main'>\n")
@@ -121,7 +121,7 @@ fn push_plan_section(
 {
     push_markup(text, "<section id='plan' aria-labelledby='plan-title'>\n")?;
     push_markup(text, "<h2 id='plan-title'>The plan that runs</h2>\n")?;
-    push_plan(alloc, text, false, &[], committed)?;
+    push_plan(alloc, text, " of the plan that runs", &[], committed)?;
     push_markup(text, "</section>\n")
 }
 
@@ -130,19 +130,20 @@ fn push_plan_section(
 fn push_open_draft(
     alloc: Global,
     text: &mut String,
+    committed: &TimingSet,
     draft: &TimingSet,
     differences: &[Difference],
+    reasons: &[Explained],
 ) -> Result<(), NoMemory>
-    ensures { OnOk result (string_bytes text.new
-        ≡ string_bytes text.old ++ open_draft_section draft.now differences.now) }
+    ensures { OnOk result (string_bytes text.new ≡ string_bytes text.old
+        ++ open_draft_section committed.now draft.now differences.now reasons.now) }
 {
-    let broken = violations(alloc, draft)?;
     push_markup(text, "<section id='draft' aria-labelledby='draft-title'>\n")?;
     push_markup(text, "<h2 id='draft-title'>The draft</h2>\n")?;
-    push_violations_note(text, &broken)?;
-    push_changes_part(text, differences)?;
+    push_reasons_note(text, reasons)?;
+    push_changes_part(alloc, text, committed, draft, differences)?;
     push_markup(text, "<h3>The whole draft</h3>\n")?;
-    push_plan(alloc, text, true, &broken, draft)?;
+    push_plan(alloc, text, " of the draft", reasons, draft)?;
     push_markup(text, "</section>\n")
 }
 
@@ -150,15 +151,17 @@ fn push_open_draft(
 fn push_draft_section(
     alloc: Global,
     text: &mut String,
+    committed: &TimingSet,
     draft: &Option<TimingSet>,
     differences: &[Difference],
+    reasons: &[Explained],
 ) -> Result<(), NoMemory>
-    ensures { OnOk result (string_bytes text.new
-        ≡ string_bytes text.old ++ draft_section draft.now differences.now) }
+    ensures { OnOk result (string_bytes text.new ≡ string_bytes text.old
+        ++ draft_section committed.now draft.now differences.now reasons.now) }
 {
     match draft {
         None => Ok(()),
-        Some(draft) => push_open_draft(alloc, text, draft, differences),
+        Some(draft) => push_open_draft(alloc, text, committed, draft, differences, reasons),
     }
 }
 
@@ -194,26 +197,44 @@ fn changes_of(
     }
 }
 
-/// The page by the changes of the draft.
+/// Why the draft breaks rules; nothing where there is none.
+fn draft_reasons(alloc: Global, draft: &Option<TimingSet>) -> Result<Vec<Explained>, NoMemory>
+    ensures { IfOk result (λ found. AreDraftReasons draft.now found.items) }
+{
+    match draft {
+        None => Ok(Vec::new(alloc)),
+        Some(draft) => reasons(alloc, draft),
+    }
+}
+
+/// The page by the changes of the draft, and by why it breaks rules.
 fn whole_page(
     alloc: Global,
     shown: &IntersectionShown,
     differences: &[Difference],
+    reasons: &[Explained],
 ) -> Result<Vec<u8>, NoMemory>
-    ensures { IfOk result (λ text. text.items ≡ page_text shown.now differences.now) }
+    ensures { IfOk result (λ text. text.items ≡ page_text shown.now differences.now reasons.now) }
 {
     let mut text = String::new(alloc);
     push_header(&mut text, shown)?;
     push_plan_section(alloc, &mut text, &shown.committed)?;
-    push_draft_section(alloc, &mut text, &shown.draft, differences)?;
+    push_draft_section(
+        alloc,
+        &mut text,
+        &shown.committed,
+        &shown.draft,
+        differences,
+        reasons,
+    )?;
     push_cabinet_section(alloc, &mut text, shown)?;
     end_page(&mut text)?;
     Ok(text.into_bytes())
 }
 
 /// The page of an intersection: how it stands, the pictures and tables of the plan that runs, its
-/// draft with the rules that it breaks beside their rows and what it changes, and the register of
-/// its cabinet, open orders first. It is one HTML text, which needs nothing else.
+/// draft with what it changes and the rules that it breaks, each with its reason below its row, and
+/// the register of its cabinet, open orders first. It is one HTML text, which needs nothing else.
 pub fn intersection_page(alloc: Global, shown: &IntersectionShown) -> Result<Vec<u8>, NoMemory>
     // It is that of its definition, and whatever names and texts hold, its tags are its own.
     ensures page { IfOk result (λ text. IsPage shown.now text.items) }
@@ -221,22 +242,34 @@ pub fn intersection_page(alloc: Global, shown: &IntersectionShown) -> Result<Vec
     ensures read { (words : List ℕ) → unescaped (escaped words) ≡ words }
 {
     let differences = changes_of(alloc, &shown.committed, &shown.draft)?;
-    whole_page(alloc, shown, &differences)
+    let reasons = draft_reasons(alloc, &shown.draft)?;
+    whole_page(alloc, shown, &differences, &reasons)
 }
 
-/// The page of a plan alone: how many rules it breaks, its pictures, and its tables with the rules
-/// that each row breaks beside it.
-pub fn plan_page(alloc: Global, plan: &TimingSet) -> Result<Vec<u8>, NoMemory>
-    ensures { IfOk result (λ text. text.items ≡ plan_page_text plan.now) }
+/// The page of a plan alone, by why it breaks rules.
+fn whole_plan_page(
+    alloc: Global,
+    plan: &TimingSet,
+    reasons: &[Explained],
+) -> Result<Vec<u8>, NoMemory>
+    ensures { IfOk result (λ text. text.items ≡ plan_page_text plan.now reasons.now) }
 {
-    let broken = violations(alloc, plan)?;
     let mut text = String::new(alloc);
     open_head(&mut text)?;
     push_markup(&mut text, "Timing plan")?;
     end_head(&mut text)?;
     push_markup(&mut text, "Timing plan</h1>\n</header>\n<main id='main'>\n")?;
-    push_violations_note(&mut text, &broken)?;
-    push_plan(alloc, &mut text, true, &broken, plan)?;
+    push_reasons_note(&mut text, reasons)?;
+    push_plan(alloc, &mut text, "", reasons, plan)?;
     end_page(&mut text)?;
     Ok(text.into_bytes())
+}
+
+/// The page of a plan alone: how many rules it breaks, its pictures, and its tables with the rules
+/// that each row breaks below it, each with its reason.
+pub fn plan_page(alloc: Global, plan: &TimingSet) -> Result<Vec<u8>, NoMemory>
+    ensures { IfOk result (λ text. IsPlanPage plan.now text.items) }
+{
+    let broken = reasons(alloc, plan)?;
+    whole_plan_page(alloc, plan, &broken)
 }

@@ -3,11 +3,13 @@
 ghost use Rattle.std.specs.Prelude.{◌≡◌, ◌+◌, ◌++◌, OnOk, codes, decimal};
 ghost use Rattle.std.specs.Prelude.{string_bytes};
 ghost use Rattle.cabinet_core.specs.Day.{day_text};
-ghost use Rattle.signal_page.specs.State.{state_words, verdict_words, owner_text, due_text, fact};
+ghost use Rattle.cabinet_core.specs.Overdue.{latest_day};
+ghost use Rattle.signal_page.specs.State.{state_words, verdict_words, owner_text, due_text, last_text};
+ghost use Rattle.signal_page.specs.State.{fact};
 ghost use Rattle.signal_page.specs.State.{draft_facts, cabinet_facts};
 
 use crate::words::push_isolated;
-use cabinet_core::{Day, Order, due, open_count, push_date};
+use cabinet_core::{Day, Inspection, Order, due, latest, open_count, push_date};
 use draft_core::state::{DbState, Verdict};
 use office_machine::reply::IntersectionState;
 use signal_records::{Interval, Words};
@@ -119,6 +121,26 @@ fn push_due(text: &mut String, interval: Interval, latest: Option<Day>) -> Resul
     }
 }
 
+fn push_last(text: &mut String, latest: Option<Day>) -> Result<(), AllocError>
+    ensures { OnOk result (string_bytes text.new ≡ string_bytes text.old ++ last_text latest) }
+{
+    match latest {
+        None => text.push_str("none"),
+        Some(latest) => push_date(text, latest.date()),
+    }
+}
+
+/// Appends the day of the latest inspection.
+#[tactic(auto, unfolding(crate::specs::State::fact))]
+fn push_last_fact(text: &mut String, name: &str, latest: Option<Day>) -> Result<(), AllocError>
+    ensures { OnOk result (string_bytes text.new
+        ≡ string_bytes text.old ++ fact name.now (last_text latest)) }
+{
+    open_fact(text, name)?;
+    push_last(text, latest)?;
+    end_fact(text)
+}
+
 /// Appends the due day.
 #[tactic(auto, unfolding(crate::specs::State::fact))]
 fn push_due_fact(
@@ -154,12 +176,13 @@ pub(crate) fn push_draft_facts(
 pub(crate) fn push_cabinet_facts(
     text: &mut String,
     interval: Interval,
-    latest: Option<Day>,
+    inspections: &[Inspection],
     orders: &[Order],
 ) -> Result<(), AllocError>
-    ensures { OnOk result (string_bytes text.new
-        ≡ string_bytes text.old ++ cabinet_facts interval latest orders.now) }
+    ensures { OnOk result (string_bytes text.new ≡ string_bytes text.old
+        ++ cabinet_facts interval (latest_day inspections.now) orders.now) }
 {
-    push_due_fact(text, "Next inspection due", interval, latest)?;
+    push_last_fact(text, "Last inspection", latest(inspections))?;
+    push_due_fact(text, "Next inspection due", interval, latest(inspections))?;
     push_number_fact(text, "Open orders", open_count(orders))
 }

@@ -8,6 +8,7 @@ mod cells;
 mod changes;
 mod document;
 mod facts;
+mod needs;
 mod plan;
 mod register;
 mod rows;

@@ -7,10 +7,11 @@ ghost use Rattle.signal_page.specs.Register.{closing_cells, open_row, closed_row
 ghost use Rattle.signal_page.specs.Register.{open_orders, closed_orders, inspection_row};
 ghost use Rattle.signal_page.specs.Register.{inspection_headings, inspections_part, due_words};
 ghost use Rattle.signal_page.specs.Register.{due_on, due_note, register_part};
+ghost use Rattle.signal_page.specs.Tables.{rows_or_none};
 
 use crate::cells::{push_heading, push_row_heading, push_text, push_words_heading};
 use crate::facts::push_due_day;
-use crate::tables::{begin_rows, end_table, open_table};
+use crate::tables::{begin_rows, end_table, open_table, push_none_since};
 use crate::words::{push_isolated, push_markup};
 use cabinet_core::{CabinetView, Closing, Day, Inspection, Order, UsedLine, latest, write_day};
 use signal_records::{Interval, NoMemory, RecordNo};
@@ -25,13 +26,14 @@ fn push_day(alloc: Global, text: &mut String, day: Day) -> Result<(), NoMemory>
     write!(text, "<td class='d'>{spelling}</td>")
 }
 
-/// Appends a part that was used.
+/// Appends a line of an order: its number, and the part that was used.
 fn push_part(text: &mut String, line: &UsedLine) -> Result<(), AllocError>
     ensures { OnOk result (string_bytes text.new
         ≡ string_bytes text.old ++ part_used line.now) }
 {
+    let number = line.line.get();
     let count = line.count.get();
-    write!(text, "<div>{count} &times; ")?;
+    write!(text, "<div>{number}: {count} &times; ")?;
     push_isolated(text, line.part.as_str())?;
     push_markup(text, "</div>")
 }
@@ -138,7 +140,6 @@ fn push_closed(
 }
 
 /// Appends the headings of orders.
-#[tactic(auto, unfolding(crate::specs::Register::order_headings))]
 fn push_order_headings(text: &mut String) -> Result<(), AllocError>
     ensures { OnOk result (string_bytes text.new ≡ string_bytes text.old ++ order_headings) }
 {
@@ -146,7 +147,7 @@ fn push_order_headings(text: &mut String) -> Result<(), AllocError>
     push_words_heading(text, "Opened")?;
     push_words_heading(text, "Clerk")?;
     push_words_heading(text, "Work")?;
-    push_words_heading(text, "Parts used (pieces)")
+    push_words_heading(text, "Lines: parts used (pieces)")
 }
 
 fn push_each_open(
@@ -164,6 +165,20 @@ fn push_each_open(
     Ok(())
 }
 
+fn push_open_rows(
+    alloc: Global,
+    text: &mut String,
+    lines: &[UsedLine],
+    orders: &[Order],
+) -> Result<(), NoMemory>
+    ensures { OnOk result (string_bytes text.new
+        ≡ string_bytes text.old ++ rows_or_none 5 (flat_map (open_row lines.now) orders.now)) }
+{
+    let before = text.len();
+    push_each_open(alloc, text, lines, orders)?;
+    push_none_since(text, before, 5)
+}
+
 /// Appends the open orders.
 fn push_open_orders(
     alloc: Global,
@@ -174,10 +189,10 @@ fn push_open_orders(
     ensures { OnOk result (string_bytes text.new
         ≡ string_bytes text.old ++ open_orders lines.now orders.now) }
 {
-    open_table(text, "Open orders")?;
+    open_table(text, "Open orders", "")?;
     push_order_headings(text)?;
     begin_rows(text)?;
-    push_each_open(alloc, text, lines, orders)?;
+    push_open_rows(alloc, text, lines, orders)?;
     end_table(text)
 }
 
@@ -196,6 +211,20 @@ fn push_each_closed(
     Ok(())
 }
 
+fn push_closed_rows(
+    alloc: Global,
+    text: &mut String,
+    lines: &[UsedLine],
+    orders: &[Order],
+) -> Result<(), NoMemory>
+    ensures { OnOk result (string_bytes text.new
+        ≡ string_bytes text.old ++ rows_or_none 7 (flat_map (closed_row lines.now) orders.now)) }
+{
+    let before = text.len();
+    push_each_closed(alloc, text, lines, orders)?;
+    push_none_since(text, before, 7)
+}
+
 /// Appends the closed orders.
 fn push_closed_orders(
     alloc: Global,
@@ -206,12 +235,12 @@ fn push_closed_orders(
     ensures { OnOk result (string_bytes text.new
         ≡ string_bytes text.old ++ closed_orders lines.now orders.now) }
 {
-    open_table(text, "Closed orders")?;
+    open_table(text, "Closed orders", "")?;
     push_order_headings(text)?;
     push_words_heading(text, "Closed")?;
     push_words_heading(text, "Closed by")?;
     begin_rows(text)?;
-    push_each_closed(alloc, text, lines, orders)?;
+    push_closed_rows(alloc, text, lines, orders)?;
     end_table(text)
 }
 
@@ -247,6 +276,19 @@ fn push_each_inspection(
     Ok(())
 }
 
+fn push_inspection_rows(
+    alloc: Global,
+    text: &mut String,
+    inspections: &[Inspection],
+) -> Result<(), NoMemory>
+    ensures { OnOk result (string_bytes text.new
+        ≡ string_bytes text.old ++ rows_or_none 4 (flat_map inspection_row inspections.now)) }
+{
+    let before = text.len();
+    push_each_inspection(alloc, text, inspections)?;
+    push_none_since(text, before, 4)
+}
+
 /// Appends the headings of inspections.
 #[tactic(auto, unfolding(crate::specs::Register::inspection_headings))]
 fn push_inspection_headings(text: &mut String) -> Result<(), AllocError>
@@ -267,10 +309,10 @@ fn push_inspections(
     ensures { OnOk result (string_bytes text.new
         ≡ string_bytes text.old ++ inspections_part inspections.now) }
 {
-    open_table(text, "Inspections")?;
+    open_table(text, "Inspections", "")?;
     push_inspection_headings(text)?;
     begin_rows(text)?;
-    push_each_inspection(alloc, text, inspections)?;
+    push_inspection_rows(alloc, text, inspections)?;
     end_table(text)
 }
 

@@ -2,14 +2,17 @@
 
 ghost use Rattle.std.specs.Prelude.{◌≡◌, ◌++◌, OnOk, string_bytes};
 ghost use Rattle.signal_page.specs.Rows.{mode_words, crossing_cells, ped_cells, interval_cells};
-ghost use Rattle.signal_page.specs.Rows.{row_cells, is_of, whole_row, row_in};
+ghost use Rattle.signal_page.specs.Rows.{pattern_cells, row_cells, columns, is_of, whole_row, row_in};
 
 use crate::cells::{push_flag, push_list, push_number, push_row_heading, push_tenths, push_words};
-use crate::rules::{push_told_beside, subject_of};
+use crate::needs::{push_coordinated, push_need};
+use crate::rules::{push_reasons_below, subject_of};
 use crate::words::push_markup;
-use signal_records::{Ped, Phase, PhaseNo, Row, SplitMode};
-use signal_rules::Violation;
-use std::alloc::AllocError;
+use signal_reasons::Explained;
+use signal_records::{
+    NoMemory, Pattern, PatternNo, Ped, Phase, PhaseNo, Row, SplitMode, TimingSet,
+};
+use std::alloc::{AllocError, Global};
 
 /// The kinds of rows, each of which has a table.
 #[derive(Clone, Copy)]
@@ -75,9 +78,23 @@ fn push_intervals(text: &mut String, p: PhaseNo, phase: &Phase) -> Result<(), Al
     push_tenths(text, u32::from(phase.red))
 }
 
-/// Appends the cells of a row.
-fn push_cells(text: &mut String, row: &Row) -> Result<(), AllocError>
-    ensures { OnOk result (string_bytes text.new ≡ string_bytes text.old ++ row_cells row.now) }
+/// Appends the cells of a pattern before its coordinated phases.
+#[tactic(auto, unfolding(crate::specs::Rows::pattern_cells))]
+fn push_pattern(text: &mut String, n: PatternNo, pattern: &Pattern) -> Result<(), AllocError>
+    ensures { OnOk result (string_bytes text.new
+        ≡ string_bytes text.old ++ pattern_cells n pattern.now) }
+{
+    push_row_heading(text, n.get())?;
+    push_number(text, pattern.cycle.get())?;
+    push_number(text, u32::from(pattern.offset))?;
+    push_number(text, pattern.split.get())?;
+    push_number(text, pattern.seq.get())
+}
+
+/// Appends the cells of a row of a set.
+fn push_cells(alloc: Global, text: &mut String, set: &TimingSet, row: &Row) -> Result<(), NoMemory>
+    ensures { OnOk result (string_bytes text.new
+        ≡ string_bytes text.old ++ row_cells set.now row.now) }
 {
     match row {
         Row::Phase(p, phase) => {
@@ -87,28 +104,38 @@ fn push_cells(text: &mut String, row: &Row) -> Result<(), AllocError>
         }
         Row::Seq(n, ring, seq) => {
             push_row_heading(text, n.get())?;
-            push_number(text, ring.get())?;
+            push_row_heading(text, ring.get())?;
             push_list(text, seq.list.as_slice())
         }
         Row::Split(n, p, split) => {
             push_row_heading(text, n.get())?;
-            push_number(text, p.get())?;
+            push_row_heading(text, p.get())?;
             push_number(text, u32::from(split.time))?;
+            push_need(text, set, *p, split)?;
             push_words(text, mode_words(split.mode))?;
             push_flag(text, split.coord)
         }
         Row::Pattern(n, pattern) => {
-            push_row_heading(text, n.get())?;
-            push_number(text, pattern.cycle.get())?;
-            push_number(text, u32::from(pattern.offset))?;
-            push_number(text, pattern.split.get())?;
-            push_number(text, pattern.seq.get())
+            push_pattern(text, *n, pattern)?;
+            push_coordinated(alloc, text, set, pattern.split)
         }
     }
 }
 
+/// How many columns the table of a kind has.
+pub(crate) fn columns(kind: Kind) -> u32
+    ensures { result ≡ columns kind }
+{
+    match kind {
+        Kind::Phases => 14,
+        Kind::Sequences => 3,
+        Kind::Splits => 7,
+        Kind::Patterns => 6,
+    }
+}
+
 /// Whether a row is of a kind.
-fn is_of(kind: Kind, row: &Row) -> bool
+pub(crate) fn is_of(kind: Kind, row: &Row) -> bool
     ensures { result ≡ is_of kind row.now }
 {
     match (kind, row) {
@@ -120,37 +147,40 @@ fn is_of(kind: Kind, row: &Row) -> bool
     }
 }
 
-/// Appends a row with how it opens, and the rules that it breaks where the table tells them.
+/// Appends a row with how it opens, and below it the rules that it breaks.
 fn push_whole_row(
+    alloc: Global,
     text: &mut String,
+    kind: Kind,
     opening: &str,
-    told: bool,
-    violations: &[Violation],
+    set: &TimingSet,
+    reasons: &[Explained],
     row: &Row,
-) -> Result<(), AllocError>
+) -> Result<(), NoMemory>
     ensures { OnOk result (string_bytes text.new
-        ≡ string_bytes text.old ++ whole_row opening.now told violations.now row.now) }
+        ≡ string_bytes text.old ++ whole_row kind opening.now set.now reasons.now row.now) }
 {
     push_markup(text, opening)?;
-    push_cells(text, row)?;
-    push_told_beside(text, told, violations, &subject_of(row))?;
-    push_markup(text, "</tr>\n")
+    push_cells(alloc, text, set, row)?;
+    push_markup(text, "</tr>\n")?;
+    push_reasons_below(text, columns(kind), reasons, &subject_of(row))
 }
 
 /// Appends a row in the table of its kind, and nothing in another.
 pub(crate) fn push_row_in(
+    alloc: Global,
     text: &mut String,
     kind: Kind,
     opening: &str,
-    told: bool,
-    violations: &[Violation],
+    set: &TimingSet,
+    reasons: &[Explained],
     row: &Row,
-) -> Result<(), AllocError>
+) -> Result<(), NoMemory>
     ensures { OnOk result (string_bytes text.new
-        ≡ string_bytes text.old ++ row_in kind opening.now told violations.now row.now) }
+        ≡ string_bytes text.old ++ row_in kind opening.now set.now reasons.now row.now) }
 {
     if is_of(kind, row) {
-        push_whole_row(text, opening, told, violations, row)
+        push_whole_row(alloc, text, kind, opening, set, reasons, row)
     } else {
         Ok(())
     }

@@ -30,14 +30,17 @@ h3 { margin: 1.6rem 0 0.6rem; font-size: 1.1rem; }
 h1, dd, bdi { overflow-wrap: anywhere; }
 p { margin: 0.6rem 0; }
 a { color: var(--link); }
-a:focus-visible, .scroll:focus-visible { outline: 3px solid var(--link); outline-offset: 2px; }
+a:focus-visible, .scroll:focus-visible, figure:focus-visible {
+  outline: 3px solid var(--link); outline-offset: 2px;
+}
 .skip { position: absolute; left: -99rem; }
 .skip:focus {
   left: 0.6rem; top: 0.6rem; padding: 0.5rem 0.9rem; background: var(--card); border-radius: 0.4rem;
 }
 dl {
-  display: grid; grid-template-columns: repeat(auto-fit, minmax(9.5rem, 1fr)); margin: 0;
-  overflow: hidden; background: var(--card); border: 1px solid var(--line); border-radius: 0.6rem;
+  display: grid; grid-template-columns: repeat(auto-fit, minmax(max(9.5rem, 24%), 1fr));
+  margin: 0; overflow: hidden; background: var(--card); border: 1px solid var(--line);
+  border-radius: 0.6rem;
 }
 dl div { padding: 0.6rem 0.9rem; box-shadow: 1px 1px 0 var(--line); }
 dt { color: var(--quiet); font-size: 0.82rem; }
@@ -49,7 +52,8 @@ nav ul {
 figure, .scroll {
   margin: 1rem 0; background: var(--card); border: 1px solid var(--line); border-radius: 0.6rem;
 }
-figure { padding: 0.6rem; background: #ffffff; }
+figure { padding: 0.6rem; background: #ffffff; overflow-x: auto; }
+figure p { position: sticky; left: 0; margin: 0.4rem 0 0; color: #1b2430; }
 svg { display: block; max-width: 100%; height: auto; margin: 0 auto; }
 .scroll {
   display: inline-block; max-width: 100%; margin: 0 0.8rem 1rem 0; overflow-x: auto;
@@ -65,11 +69,15 @@ thead th {
 tbody th { font-weight: 600; }
 tbody tr { border-top: 1px solid var(--line); }
 tbody tr:nth-child(even) { background: var(--stripe); }
-.w, .d, .b { text-align: left; }
+.w, .d, .why td { text-align: left; }
 td:has(bdi) { min-width: 9rem; }
 .d { white-space: nowrap; }
-.b p { margin: 0; min-width: 14rem; color: var(--red); font-weight: 600; }
-tbody tr:has(.b p), tbody tr.removed { background: var(--red-ground); }
+.why p {
+  position: sticky; left: 0.7rem; display: inline-block; max-width: min(44rem, 100vw - 4rem);
+  margin: 0; color: var(--red); font-weight: 600;
+}
+tbody tr.why { border-top: 0; }
+tbody tr.why, tbody tr:has(+ .why), tbody tr.removed { background: var(--red-ground); }
 tbody tr.added { background: var(--green-ground); }
 tbody tr.before, tbody tr.after { background: var(--blue-ground); }
 tbody tr.after { border-top-style: dashed; }
@@ -79,15 +87,10 @@ tbody tr.after { border-top-style: dashed; }
 .added td:first-child { color: var(--green); font-weight: 600; }
 .before td:first-child, .after td:first-child { color: var(--blue); font-weight: 600; }
 .changes td:first-child { white-space: nowrap; }
-.changes .scroll:has(tbody:empty) { display: none; }
-tbody:empty::after {
-  content: 'none'; display: block; padding: 0.4rem 0.7rem; color: var(--quiet);
-}
 .broken, .sound { padding: 0.6rem 0.9rem; border-left: 0.3rem solid; border-radius: 0.2rem; }
 .broken { color: var(--red); background: var(--red-ground); }
 .sound { color: var(--green); background: var(--green-ground); }
-.none { color: var(--quiet); }
-.none ~ .scroll { display: none; }
+.none { color: var(--quiet); text-align: left; }
 @media print {
   :root {
     --ground: #ffffff; --card: #ffffff; --ink: #000000; --quiet: #000000; --line: #999999;
@@ -97,12 +100,11 @@ tbody:empty::after {
   @page { size: landscape; margin: 12mm; }
   body { font-size: 10pt; }
   header, main { max-width: none; padding: 0; }
-  nav, .skip { display: none; }
   .scroll { overflow: visible; border: 0; }
   h2, h3, caption { break-after: avoid; }
   figure, tr, dl { break-inside: avoid; }
-  figure { border: 0; padding: 0; }
-  svg { width: auto; max-width: 72%; max-height: 165mm; margin: 0; }
+  figure { border: 0; padding: 0; overflow: visible; }
+  svg { width: auto; min-width: 0 !important; max-width: 72%; max-height: 165mm; margin: 0; }
   dl { grid-template-columns: repeat(auto-fit, minmax(7rem, 1fr)); }
   th, td { padding: 0.25rem 0.5rem; }
 }

@@ -1,17 +1,18 @@
 //! The tables of a timing set, with units in their headings.
 
-ghost use Rattle.std.specs.Prelude.{◌≡◌, ◌++◌, OnOk, codes, flat_map, string_bytes};
-ghost use Rattle.signal_page.specs.Rows.{row_in};
+ghost use Rattle.std.specs.Prelude.{◌≡◌, ◌++◌, OnOk, codes, flat_map, length, string_bytes};
+ghost use Rattle.signal_page.specs.Rows.{row_in, columns};
 ghost use Rattle.signal_page.specs.Tables.{name_of, interval_headings, crossing_headings};
 ghost use Rattle.signal_page.specs.Tables.{sequence_headings, split_headings, pattern_headings};
-ghost use Rattle.signal_page.specs.Tables.{headings, told_heading, table_opening, table_body};
+ghost use Rattle.signal_page.specs.Tables.{headings, table_opening, table_body};
+ghost use Rattle.signal_page.specs.Tables.{none_row, rows_or_none, none_since};
 ghost use Rattle.signal_page.specs.Tables.{table_end, table, tables};
 
 use crate::cells::{push_heading, push_words_heading};
-use crate::rows::{Kind, push_row_in};
-use signal_records::Row;
-use signal_rules::Violation;
-use std::alloc::AllocError;
+use crate::rows::{Kind, columns, push_row_in};
+use signal_reasons::Explained;
+use signal_records::{NoMemory, Row, TimingSet};
+use std::alloc::{AllocError, Global};
 use std::fmt::Write;
 
 /// The name of a table.
@@ -44,7 +45,7 @@ fn push_crossing_headings(text: &mut String) -> Result<(), AllocError>
     ensures { OnOk result (string_bytes text.new ≡ string_bytes text.old ++ crossing_headings) }
 {
     push_heading(text, "Walk (s)")?;
-    push_heading(text, "Clearance (s)")?;
+    push_heading(text, "Pedestrian clearance (s)")?;
     push_heading(text, "Crossing (ft)")?;
     push_heading(text, "Setback (ft)")?;
     push_words_heading(text, "Short walk")?;
@@ -68,6 +69,8 @@ fn push_split_headings(text: &mut String) -> Result<(), AllocError>
     push_heading(text, "Split")?;
     push_heading(text, "Phase")?;
     push_heading(text, "Time (s)")?;
+    push_heading(text, "Need (s)")?;
+    push_heading(text, "Spare (s)")?;
     push_words_heading(text, "Mode")?;
     push_words_heading(text, "Coordinated")
 }
@@ -80,7 +83,8 @@ fn push_pattern_headings(text: &mut String) -> Result<(), AllocError>
     push_heading(text, "Cycle (s)")?;
     push_heading(text, "Offset (s)")?;
     push_heading(text, "Split")?;
-    push_heading(text, "Sequence")
+    push_heading(text, "Sequence")?;
+    push_words_heading(text, "Coordinated phases")
 }
 
 /// Appends the headings of a table's columns.
@@ -98,26 +102,16 @@ pub(crate) fn push_headings(text: &mut String, kind: Kind) -> Result<(), AllocEr
     }
 }
 
-/// Appends the heading of the rules that rows break, in a table that tells them.
-fn push_told_heading(text: &mut String, told: bool) -> Result<(), AllocError>
-    ensures { OnOk result (string_bytes text.new ≡ string_bytes text.old ++ told_heading told) }
-{
-    if told {
-        push_words_heading(text, "Rules broken")
-    } else {
-        Ok(())
-    }
-}
-
-/// Opens a table up to its headings, in a box that scrolls where the page is narrow.
-pub(crate) fn open_table(text: &mut String, name: &str) -> Result<(), AllocError>
+/// Opens a table up to its headings, by its name and what it is of, in a box that scrolls where the
+/// page is narrow.
+pub(crate) fn open_table(text: &mut String, name: &str, whose: &str) -> Result<(), AllocError>
     ensures { OnOk result (string_bytes text.new
-        ≡ string_bytes text.old ++ table_opening name.now) }
+        ≡ string_bytes text.old ++ table_opening name.now whose.now) }
 {
     write!(
         text,
-        "<div class='scroll' role='group' tabindex='0' aria-label='{name}'>\n<table>\n\
-         <caption>{name}</caption>\n<thead><tr>"
+        "<div class='scroll' role='group' tabindex='0' aria-label='{name}{whose}'>\n<table>\n\
+         <caption>{name}{whose}</caption>\n<thead><tr>"
     )
 }
 
@@ -129,6 +123,33 @@ pub(crate) fn begin_rows(text: &mut String) -> Result<(), AllocError>
     text.push_str("</tr></thead>\n<tbody>")
 }
 
+/// Appends that a table has no row, where none was appended since the text had a length.
+pub(crate) fn push_none_since(
+    text: &mut String,
+    before: usize,
+    columns: u32,
+) -> Result<(), AllocError>
+    ensures { OnOk result (string_bytes text.new ≡ string_bytes text.old
+        ++ none_since (length (string_bytes text.old)) before columns) }
+{
+    if text.len() == before {
+        push_none(text, columns)
+    } else {
+        Ok(())
+    }
+}
+
+/// Appends that a table of so many columns has no row.
+#[tactic(auto, unfolding(crate::specs::Tables::none_row))]
+fn push_none(text: &mut String, columns: u32) -> Result<(), AllocError>
+    ensures { OnOk result (string_bytes text.new ≡ string_bytes text.old ++ none_row columns) }
+{
+    write!(
+        text,
+        "<tr><td class='none' colspan='{columns}'>none</td></tr>\n"
+    )
+}
+
 /// Ends a table.
 #[tactic(auto, unfolding(crate::specs::Tables::table_end))]
 pub(crate) fn end_table(text: &mut String) -> Result<(), AllocError>
@@ -138,53 +159,75 @@ pub(crate) fn end_table(text: &mut String) -> Result<(), AllocError>
 }
 
 /// Appends the rows of a kind.
-fn push_rows(
+fn push_each_row(
+    alloc: Global,
     text: &mut String,
     kind: Kind,
-    told: bool,
-    violations: &[Violation],
+    set: &TimingSet,
+    reasons: &[Explained],
     rows: &[Row],
-) -> Result<(), AllocError>
+) -> Result<(), NoMemory>
     ensures { OnOk result (string_bytes text.new ≡ string_bytes text.old
-        ++ flat_map (row_in kind (codes "<tr>") told violations.now) rows.now) }
+        ++ flat_map (row_in kind (codes "<tr>") set.now reasons.now) rows.now) }
 {
     for row in rows {
-        push_row_in(text, kind, "<tr>", told, violations, row)?;
+        push_row_in(alloc, text, kind, "<tr>", set, reasons, row)?;
     }
     Ok(())
 }
 
-/// Appends the table of a kind.
-fn push_table(
+/// Appends the rows of a kind, or that there is none.
+fn push_rows(
+    alloc: Global,
     text: &mut String,
     kind: Kind,
-    told: bool,
-    violations: &[Violation],
+    set: &TimingSet,
+    reasons: &[Explained],
     rows: &[Row],
-) -> Result<(), AllocError>
-    ensures { OnOk result (string_bytes text.new
-        ≡ string_bytes text.old ++ table kind told violations.now rows.now) }
+) -> Result<(), NoMemory>
+    ensures { OnOk result (string_bytes text.new ≡ string_bytes text.old
+        ++ rows_or_none (columns kind)
+        (flat_map (row_in kind (codes "<tr>") set.now reasons.now) rows.now)) }
 {
-    open_table(text, name_of(kind))?;
+    let before = text.len();
+    push_each_row(alloc, text, kind, set, reasons, rows)?;
+    push_none_since(text, before, columns(kind))
+}
+
+/// Appends the table of a kind, with what it is of.
+fn push_table(
+    alloc: Global,
+    text: &mut String,
+    kind: Kind,
+    whose: &str,
+    set: &TimingSet,
+    reasons: &[Explained],
+    rows: &[Row],
+) -> Result<(), NoMemory>
+    ensures { OnOk result (string_bytes text.new
+        ≡ string_bytes text.old ++ table kind whose.now set.now reasons.now rows.now) }
+{
+    open_table(text, name_of(kind), whose)?;
     push_headings(text, kind)?;
-    push_told_heading(text, told)?;
     begin_rows(text)?;
-    push_rows(text, kind, told, violations, rows)?;
+    push_rows(alloc, text, kind, set, reasons, rows)?;
     end_table(text)
 }
 
-/// Appends the four tables.
+/// Appends the four tables of a set by its rows, with what they are of.
 pub(crate) fn push_tables(
+    alloc: Global,
     text: &mut String,
-    told: bool,
-    violations: &[Violation],
+    whose: &str,
+    set: &TimingSet,
+    reasons: &[Explained],
     rows: &[Row],
-) -> Result<(), AllocError>
+) -> Result<(), NoMemory>
     ensures { OnOk result (string_bytes text.new
-        ≡ string_bytes text.old ++ tables told violations.now rows.now) }
+        ≡ string_bytes text.old ++ tables whose.now set.now reasons.now rows.now) }
 {
-    push_table(text, Kind::Patterns, told, violations, rows)?;
-    push_table(text, Kind::Sequences, told, violations, rows)?;
-    push_table(text, Kind::Splits, told, violations, rows)?;
-    push_table(text, Kind::Phases, told, violations, rows)
+    push_table(alloc, text, Kind::Patterns, whose, set, reasons, rows)?;
+    push_table(alloc, text, Kind::Sequences, whose, set, reasons, rows)?;
+    push_table(alloc, text, Kind::Splits, whose, set, reasons, rows)?;
+    push_table(alloc, text, Kind::Phases, whose, set, reasons, rows)
 }

@@ -1,19 +1,14 @@
-use Rattle.std.proofs.Common.{string_bytes}
+use Rattle.std.proofs.Common.{List, ap, ◌∙◌}
+use Rattle.std.proofs.lemmas.Result.{IfOk-weaker}
+use Rattle.signal_reasons.specs.declared.reason.Explained.{Explained}
 use Rattle.signal_page.specs.Page.{plan_page_text}
-use Rattle.signal_page.proofs.Parts.{from_start, two}
 use Rattle.signal_page.proofs.document.plan_page.Goals as goal
 
 pub returns : goal.returns
-unfolding plan_page_text
 returns c =
-    let to1 = c.in_ok-open_head.ensures in
-    let to2 = two _ _ _ _ _ to1 c.in_ok-push_markup.ensures in
-    let to3 = two _ _ _ _ _ to2 c.in_ok-end_head.ensures in
-    let to4 = two _ _ _ _ _ to3 c.in_ok-push_markup-2.ensures in
-    let next5 = rw (c.deref.ensures.value, c.in_ok-broken.ensures) at c.in_ok-push_violations_note.ensures in
-    let to5 = two _ _ _ _ _ to4 next5 in
-    let next6 = rw (c.deref-2.ensures.value, c.in_ok-broken.ensures) at c.in_ok-push_plan.ensures in
-    let to6 = two _ _ _ _ _ to5 next6 in
-    let to7 = two _ _ _ _ _ to6 c.in_ok-end_page.ensures in
-    from_start _ (string_bytes c.end_page.new.text) c.into_bytes.result.items _ c.new-text.ensures.bytes
-    to7 (cc c.into_bytes.ensures.value)
+    let same = ap (λ (found : List Explained). plan_page_text c.args.plan.now found) c.deref.ensures.value in
+    IfOk-weaker c.whole_plan_page.result _ _ (λ text is. record {
+      reasons = c.in_ok-broken.broken.items;
+      why = c.in_ok-broken.ensures.told;
+      text_is = is ∙ same;
+    }) c.whole_plan_page.ensures

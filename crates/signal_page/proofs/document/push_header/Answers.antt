@@ -15,9 +15,9 @@ returns c =
     let next6 = rw (c.as_str-name.ensures.text) at c.in_ok-push_isolated.ensures in
     let to6 = two _ _ _ _ _ to5 next6 in
     let to7 = two _ _ _ _ _ to6 c.in_ok-push_markup.ensures in
-    let to8 = two _ _ _ _ _ to7 c.in_ok-push_draft_facts.ensures in
-    let next9 = rw (c.latest-last.ensures, c.as_slice.ensures.records, c.as_slice-orders.ensures.records) at c.in_ok-push_cabinet_facts.ensures in
-    let to9 = two _ _ _ _ _ to8 next9 in
+    let next8 = rw (c.as_slice-inspections.ensures.records, c.as_slice-orders.ensures.records) at c.in_ok-push_cabinet_facts.ensures in
+    let to8 = two _ _ _ _ _ to7 next8 in
+    let to9 = two _ _ _ _ _ to8 c.in_ok-push_draft_facts.ensures in
     let to10 = two _ _ _ _ _ to9 c.in_ok-push_markup-2.ensures in
     let to11 = two _ _ _ _ _ to10 c.in_ok-push_links.ensures in
     on_ok_weaker c.push_markup-3.result (λ last. two _ _ _ _ _ to11 last) c.push_markup-3.ensures

@@ -4,4 +4,4 @@ use Rattle.signal_page.proofs.plan.push_pictures.Given as goal
 
 abbrev pub invariant-loop-row : goal.invariant-loop-row
 invariant-loop-row l =
-    string_bytes l.text ≡ string_bytes l.fn.text ++ flat_map (picture_for l.set) (take l.row-index l.rows)
+    string_bytes l.text ≡ string_bytes l.fn.text ++ flat_map (picture_for l.set l.rows) (take l.row-index l.rows)

@@ -1,11 +1,11 @@
 use Rattle.std.proofs.{Common.string_bytes, lemmas.Result.on_ok_weaker}
-use Rattle.signal_page.specs.Rules.{notes_beside}
+use Rattle.signal_page.specs.Plan.{whole_figure}
 use Rattle.signal_page.proofs.Parts.{two}
-use Rattle.signal_page.proofs.rules.push_notes_beside.Goals as goal
+use Rattle.signal_page.proofs.plan.push_whole_figure.Goals as goal
 
 pub returns : goal.returns
-unfolding notes_beside
+unfolding whole_figure
 returns c =
     let to1 = c.in_ok-push_markup.ensures in
-    let to2 = two (string_bytes c.args.text.now) _ _ _ _ to1 c.in_ok-push_each_beside.ensures in
+    let to2 = two (string_bytes c.args.text.now) _ _ _ _ to1 c.in_ok-push_figure_parts.ensures in
     on_ok_weaker c.push_markup-2.result (λ last. two (string_bytes c.args.text.now) _ _ _ _ to2 last) c.push_markup-2.ensures
