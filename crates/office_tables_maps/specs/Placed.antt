@@ -1,29 +1,32 @@
--- What is known of the trees that keep the tables in memory.
-use Rattle.std.specs.Prelude.{ℕ, List, Option}
-use Rattle.signal_records.specs.declared.record.Row.{Row}
-use Rattle.cabinet_core.specs.declared.record.Inspection.{Inspection}
-use Rattle.cabinet_core.specs.declared.record.Order.{Order}
-use Rattle.cabinet_core.specs.declared.record.UsedLine.{UsedLine}
-use Rattle.cabinet_core.specs.declared.record.Delivery.{Delivery}
-use Rattle.office_tables_shelf.specs.declared.rows.IntersectionRow.{IntersectionRow}
+-- The tables that maps of records stand for, and what is known of these.
+use Rattle.office_tables_shelf.specs.Content.{Content}
+use Rattle.office_tables_maps.specs.MapCabinet.{inspection_rows, order_rows, used_rows}
+use Rattle.office_tables_maps.specs.MapCabinet.{part_rows, delivery_rows}
 use Rattle.office_tables_maps.specs.MapCabinet.{AreInspectionsPlaced, AreOrdersPlaced}
 use Rattle.office_tables_maps.specs.MapCabinet.{AreUsedPlaced, ArePartsWithin, AreDeliveriesPlaced}
+use Rattle.office_tables_maps.specs.MapShelf.{intersection_rows, timing_rows, draft_rows}
 use Rattle.office_tables_maps.specs.MapShelf.{AreIntersectionsWithin, AreRowsPlaced, AreLeftPlaced}
-use Rattle.office_tables_maps.specs.declared.place.DeliveryPlace.{DeliveryPlace}
-use Rattle.office_tables_maps.specs.declared.place.LinePlace.{LinePlace}
-use Rattle.office_tables_maps.specs.declared.place.Place.{Place}
-use Rattle.office_tables_maps.specs.declared.place.RecordPlace.{RecordPlace}
+use Rattle.office_tables_maps.specs.declared.maps.Maps.TheInside.{Inside}
+
+abbrev pub tables_of : Inside → Content
+tables_of maps = record {
+  intersection = intersection_rows maps.intersection.entries;
+  timing = timing_rows maps.timing.entries;
+  draft = draft_rows maps.draft.entries;
+  inspection = inspection_rows maps.inspection.entries;
+  work_order = order_rows maps.work_order.entries;
+  part = part_rows maps.part.entries;
+  delivery = delivery_rows maps.delivery.entries;
+  used_part = used_rows maps.used_part.entries;
+}
 
 -- each record stands under its own key, within its limits
-pub record AreTreesPlaced (intersection : List (ℕ × IntersectionRow)) (timing : List (Place × Row))
-    (draft : List (Place × Option Row)) (inspection : List (RecordPlace × Inspection))
-    (work_order : List (RecordPlace × Order)) (used_part : List (LinePlace × UsedLine))
-    (part : List (List ℕ × ℕ)) (delivery : List (DeliveryPlace × Delivery)) : Type 0 where
-  pub intersections : AreIntersectionsWithin intersection
-  pub rows : AreRowsPlaced timing
-  pub left : AreLeftPlaced draft
-  pub inspections : AreInspectionsPlaced inspection
-  pub orders : AreOrdersPlaced work_order
-  pub used : AreUsedPlaced used_part
-  pub parts : ArePartsWithin part
-  pub deliveries : AreDeliveriesPlaced delivery
+pub record AreMapsPlaced (maps : Inside) : Type 0 where
+  pub intersections : AreIntersectionsWithin maps.intersection.entries
+  pub rows : AreRowsPlaced maps.timing.entries
+  pub left : AreLeftPlaced maps.draft.entries
+  pub inspections : AreInspectionsPlaced maps.inspection.entries
+  pub orders : AreOrdersPlaced maps.work_order.entries
+  pub used : AreUsedPlaced maps.used_part.entries
+  pub parts : ArePartsWithin maps.part.entries
+  pub deliveries : AreDeliveriesPlaced maps.delivery.entries

@@ -34,30 +34,16 @@ pub struct Maps {
 }
 
 impl Model for Maps {
-    ghost use Rattle.office_tables_maps.specs.MapCabinet.{inspection_rows, order_rows, used_rows};
-    ghost use Rattle.office_tables_maps.specs.MapCabinet.{part_rows, delivery_rows};
-    ghost use Rattle.office_tables_maps.specs.MapShelf.{intersection_rows, timing_rows, draft_rows};
-    ghost use Rattle.office_tables_maps.specs.Placed.{AreTreesPlaced};
+    ghost use Rattle.office_tables_maps.specs.Placed.{tables_of, AreMapsPlaced};
     ghost use Rattle.office_tables_shelf.specs.Content.{Content, content_code};
 
     ghost Value = { Content };
 
     ghost coded = { content_code };
 
-    ghost view = { λ s. record {
-      intersection = intersection_rows s.intersection.entries;
-      timing = timing_rows s.timing.entries;
-      draft = draft_rows s.draft.entries;
-      inspection = inspection_rows s.inspection.entries;
-      work_order = order_rows s.work_order.entries;
-      part = part_rows s.part.entries;
-      delivery = delivery_rows s.delivery.entries;
-      used_part = used_rows s.used_part.entries;
-    } };
+    ghost view = { tables_of };
 
-    ghost invariant = { λ s. AreTreesPlaced s.intersection.entries s.timing.entries
-        s.draft.entries s.inspection.entries s.work_order.entries s.used_part.entries
-        s.part.entries s.delivery.entries };
+    ghost invariant = { AreMapsPlaced };
 }
 
 impl Maps {

@@ -7,15 +7,17 @@ use Rattle.office_tables_maps.proofs.maps.Maps.copied.Goals as goal
 
 pub invariant_of-result : goal.invariant_of-result
 invariant_of-result c =
-    let intersection : c.in_ok-intersection.intersection.entries ≡ c.self.inside.intersection.entries = c.in_ok-intersection.ensures in
-    let part : c.in_ok-part.part.entries ≡ c.self.inside.part.entries = c.in_ok-part.ensures in
-    let timing : c.in_ok-timing.timing.entries ≡ c.self.inside.timing.entries = same_clones c.self.inside.timing.entries c.in_ok-timing.timing.entries c.in_ok-timing.ensures.cases in
-    let draft : c.in_ok-draft.draft.entries ≡ c.self.inside.draft.entries = c.in_ok-draft.ensures in
-    let inspection : c.in_ok-inspection.inspection.entries ≡ c.self.inside.inspection.entries = same_clones c.self.inside.inspection.entries c.in_ok-inspection.inspection.entries c.in_ok-inspection.ensures.cases in
-    let work_order : c.in_ok-work_order.work_order.entries ≡ c.self.inside.work_order.entries = same_clones c.self.inside.work_order.entries c.in_ok-work_order.work_order.entries c.in_ok-work_order.ensures.cases in
-    let used_part : c.in_ok-used_part.used_part.entries ≡ c.self.inside.used_part.entries = same_clones c.self.inside.used_part.entries c.in_ok-used_part.used_part.entries c.in_ok-used_part.ensures.cases in
-    let delivery : c.in_ok-delivery.delivery.entries ≡ c.self.inside.delivery.entries = same_clones c.self.inside.delivery.entries c.in_ok-delivery.delivery.entries c.in_ok-delivery.ensures.cases in
-    rw (intersection, timing, draft, inspection, work_order, used_part, part, delivery) c.self.invariant
+    let maps = c.self.inside in
+    let placed = c.self.invariant in record {
+      intersections = rw c.in_ok-intersection.ensures placed.intersections;
+      rows = rw (same_clones maps.timing.entries c.in_ok-timing.timing.entries c.in_ok-timing.ensures.cases) placed.rows;
+      left = rw c.in_ok-draft.ensures placed.left;
+      inspections = rw (same_clones maps.inspection.entries c.in_ok-inspection.inspection.entries c.in_ok-inspection.ensures.cases) placed.inspections;
+      orders = rw (same_clones maps.work_order.entries c.in_ok-work_order.work_order.entries c.in_ok-work_order.ensures.cases) placed.orders;
+      used = rw (same_clones maps.used_part.entries c.in_ok-used_part.used_part.entries c.in_ok-used_part.ensures.cases) placed.used;
+      parts = rw c.in_ok-part.ensures placed.parts;
+      deliveries = rw (same_clones maps.delivery.entries c.in_ok-delivery.delivery.entries c.in_ok-delivery.ensures.cases) placed.deliveries;
+    }
 
 pub returns : goal.returns
 returns c =
