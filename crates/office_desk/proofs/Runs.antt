@@ -4,14 +4,14 @@ use Rattle.std.proofs.lemmas.Bool.Decides.{nat_tests}
 use Rattle.std.specs.Prelude.{◌==◌, Result, Err}
 use Rattle.draft_core.specs.declared.timing.Reach.{Reach}
 use Rattle.draft_core.specs.declared.timing.Reach.TheVariants as reach
-use Rattle.office_tables_shelf.specs.{Change.AddNew, Change.changed_by, Content.Content, Counts.counts_after, Counts.writes_in, Shelf.IsKept}
-use Rattle.office_tables_shelf.specs.declared.{counts.WriteCounts.WriteCounts, rows.RowChange.RowChange, shelf.ShelfFault.ShelfFault}
+use Rattle.office_tables_shelf.specs.{Change.AddNew, Change.changed_by, Content.Content, Counts.counts_after, Counts.writes_in, Keeps.KeepsShelf}
+use Rattle.office_tables_shelf.specs.declared.{rows.RowChange.RowChange, shelf.Shelf.Ghosts, shelf.ShelfFault.ShelfFault}
 use Rattle.office_tables_shelf.specs.declared.shelf.ShelfFault.TheVariants.{Damaged}
 use Rattle.office_tables_shelf.specs.RegisterStands.{RegisterStandsSound}
-use Rattle.office_desk.specs.Answers.{AnswersAny, Answers, EndsIn, IsAfterStep}
+use Rattle.office_desk.specs.Answers.{AnswersAny, Answers, IsAfterStep}
 use Rattle.office_desk.specs.Deciding.{AddsNothing, DecidesIdly, IsAnswered, IsDecision, IsIdle}
 use Rattle.office_desk.specs.Damage.{HasDamageIn, IsTurnedAway, MeetsAfter, MeetsCabinetDamage, MeetsImportDamage, MeetsDamage}
-use Rattle.office_desk.specs.{Blaming.BlamesRightly, Changes.IsRefused, Changes.RiseAtMost, Changes.most_writes, Running.AreRun, Running.IsRun, Running.RunsAny, Running.RunsTo}
+use Rattle.office_desk.specs.{Blaming.BlamesRightly, Changes.IsRefused, Changes.most_writes, Running.AreRun, Running.HoldsTables, Running.IsRun, Running.MakesTables, Running.RunsAny, Running.RunsTo, Running.TellsTables}
 use Rattle.office_desk.specs.{Named.IsNamedFor, Named.RefusesBy, Named.numbers_of, StandFor.StandForSound}
 use Rattle.office_desk_timing.specs.Decisions.{refusal_of}
 use Rattle.office_desk_decisions.specs.declared.decided.Decided.{Decided}
@@ -234,120 +234,115 @@ after_step tables new command decided answers accepted made office stands =
     own next (inl left) stand = absurd (accepted (subst IsRefused (sym left.0) tt))
     own next (inr is) stand = subst (StandForSound (changed_by tables decided.changes.items)) (ap (λ (p : Reply × Office). p.1) (sym is)) stand
 
-module _ {S : Type 0} (is_clean is_honest : S → Type 0) (content : S → Content) (written : S → WriteCounts) (may_leave : S → Content → Type 0)
-    (command : Command) (decided : Decided) (old mid : S)
-    (kept : IsKept is_honest content written may_leave old mid)
-    (is : IsAnswered (is_honest mid) (content old) command decided)
-    (told : IsAnswered (is_clean mid) (content old) command decided)
-    (clean_before : is_clean mid → is_clean old)
-    (shut : is_clean mid → is_honest mid ⊎ DecidesIdly command decided) where
+module _ {S : Type 0} (g : Ghosts S) (law : (s : S) → g.is_honest s → g.is_clean s) (command : Command) (decided : Decided) (old mid : S)
+    (kept : KeepsShelf g old mid)
+    (is : IsAnswered (g.is_clean mid) (g.content old) command decided)
+    (clean_before : g.is_clean mid → g.is_clean old)
+    (shut : g.is_clean mid → g.is_honest mid ⊎ DecidesIdly command decided) where
+  held_still : (tables : Content) → HoldsTables g old tables → HoldsTables g mid tables
+  held_still tables held honest = kept.same_content honest ∙ held (kept.honest_before honest)
+
   -- there was nothing to be written
-  pub unwritten_run : decided.changes.items ≡ [] → IsRun is_clean is_honest content written may_leave command decided.reply old mid
+  pub unwritten_step : decided.changes.items ≡ [] → TellsTables g old mid (λ tables. AnswersAny tables command decided.reply tables)
+  unwritten_step none clean tables held = ⊎_elim
+      (λ honest. subst (λ t. AnswersAny t command decided.reply t) (held (kept.honest_before honest))
+      (same_answers _ _ _ _ decided.changes.items (is.step clean) (ap (changed_by (g.content old)) (sym none))))
+      (λ (idle : DecidesIdly command decided). idle_answers tables command decided.reply idle.idle) (shut clean)
+
+  pub unwritten_run : decided.changes.items ≡ [] → IsRun g command decided.reply old mid
   unwritten_run none = record {
     clean = clean_before;
     honest = kept.honest_before;
-    shut = λ clean. ⊎_elim inl (λ (idle : DecidesIdly command decided). inr (idle.idle, kept.same_content)) (shut clean);
-    ends = λ clean. (
-      content old,
-      same_answers _ _ _ _ decided.changes.items (told.step clean) (ap (changed_by (content old)) (sym none)),
-      kept.same_content,
-    );
-    told = record {
-      writes = λ clean. no_rise (content old) command _ _ kept.same_counts;
-      blames = told.blames;
-      damaged = told.damaged;
-      turned_away = told.turned_away;
+    step = record {
+      ends = λ clean tables held. (tables, unwritten_step none clean tables held, held_still tables held);
+      shut = λ clean. ⊎_elim inl (λ (idle : DecidesIdly command decided). inr (idle.idle, kept.same_content)) (shut clean);
+      refused = λ refused. kept.same_content;
+      named = is.named;
+      blames = is.blames;
+      damaged = λ said clean tables held. ⊎_elim
+          (λ honest. subst (λ t. MeetsDamage t command) (held (kept.honest_before honest)) (is.damaged said clean))
+          (λ (idle : DecidesIdly command decided). absurd (idle_says command decided.reply idle.idle refusal.Damaged (λ e. cc) said)) (shut clean);
+      turned_away = λ clean tables held damage. ⊎_elim
+          (λ honest. is.turned_away clean (subst (λ t. MeetsDamage t command) (sym (held (kept.honest_before honest))) damage))
+          (λ (idle : DecidesIdly command decided). idle_turned_away tables command decided.reply idle.idle damage) (shut clean);
     };
-    step = λ honest. same_answers _ _ _ _ decided.changes.items (is.step honest) (kept.same_content honest ∙ ap (changed_by (content old)) (sym none));
-    refused = λ refused. kept.same_content;
-    unwritten = λ refused. kept.same_counts;
-    writes = λ honest. no_rise (content old) command _ _ kept.same_counts;
-    named = is.named;
-    blames = is.blames;
-    damaged = is.damaged;
-    turned_away = is.turned_away;
-    crash = λ tables left. inl (kept.same_outcomes tables left);
-    settled = λ honest answered changed. absurd (changed (kept.same_content honest));
-    made = λ answered wrote. absurd (wrote kept.same_counts);
-    still_open = λ answered wrote. absurd (wrote kept.same_counts);
+    rows = record {
+      most = λ clean. no_rise (g.content old) command _ _ kept.same_counts;
+      none = λ refused. kept.same_counts;
+      still_open = λ answered wrote. absurd (wrote kept.same_counts);
+    };
+    stop = record {
+      crash = λ tables left. inl (kept.same_outcomes tables left);
+      settled = λ honest answered changed. absurd (changed (kept.same_content honest));
+      made = λ answered wrote. absurd (wrote kept.same_counts);
+    };
   }
 
-  module _ (new : S) (some : decided.changes.items ≢ []) (clean : is_clean new → is_clean mid) (honest : is_honest new → is_honest mid)
-      (crash : (tables : Content) → may_leave new tables → may_leave mid tables ⊎ (is_honest mid × (tables ≡ changed_by (content mid) decided.changes.items))) where
-    left_by : (tables : Content) → may_leave new tables → may_leave old tables ⊎ (is_honest old × IsAfterStep (content old) command tables)
+  module _ (new : S) (some : decided.changes.items ≢ []) (clean : g.is_clean new → g.is_clean mid) (honest : g.is_honest new → g.is_honest mid)
+      (crash : (tables : Content) → g.may_leave new tables → g.may_leave mid tables ⊎ (g.is_honest mid × (tables ≡ changed_by (g.content mid) decided.changes.items))) where
+    left_by : (tables : Content) → g.may_leave new tables → g.may_leave old tables ⊎ (g.is_honest old × IsAfterStep (g.content old) command tables)
     left_by tables left =
         elim (crash tables left) [
           | inl before ↦ inl (kept.same_outcomes tables before)
           | inr made ↦ inr (
             kept.honest_before made.0,
-            after_step (content old) tables command decided (is.step made.0) (λ refused. some (is.refused refused)) (made.1 ∙ ap (λ t. changed_by t decided.changes.items) (kept.same_content made.0)),
+            after_step (g.content old) tables command decided (is.step (law mid made.0)) (λ refused. some (is.refused refused)) (made.1 ∙ ap (λ t. changed_by t decided.changes.items) (kept.same_content made.0)),
           )
         ]
 
     -- the changes were made
-    pub applied_run : (is_clean new → is_honest new) → (is_honest new → content new ≡ changed_by (content mid) decided.changes.items) → written new ≡ counts_after (written mid) decided.changes.items
-        → ((tables : Content) → may_leave new tables → tables ≡ content new) → IsRun is_clean is_honest content written may_leave command decided.reply old new
+    pub applied_run : (g.is_clean new → g.is_honest new) → (g.is_honest new → g.content new ≡ changed_by (g.content mid) decided.changes.items) → g.written new ≡ counts_after (g.written mid) decided.changes.items
+        → ((tables : Content) → g.may_leave new tables → tables ≡ g.content new) → IsRun g command decided.reply old new
     applied_run still_open made counted settled = record {
       clean = λ now. clean_before (clean now);
       honest = λ now. kept.honest_before (honest now);
-      shut = λ now. inl (still_open now);
-      ends = λ now. (content new, answers (still_open now), λ _. refl);
-      told = record {
-        writes = λ now. rises (still_open now);
-        blames = blames_later _ _ _ _ _ clean told.blames;
-        damaged = λ said now. told.damaged said (clean now);
-        turned_away = λ now. told.turned_away (clean now);
+      step = record {
+        ends = λ now tables held. (g.content new, subst (λ t. AnswersAny t command decided.reply (g.content new)) (same_held now tables held) (answers now), λ _. refl);
+        shut = λ now. inl (still_open now);
+        refused = λ refused. absurd (some (is.refused refused));
+        named = is.named;
+        blames = blames_later _ _ _ _ _ clean is.blames;
+        damaged = λ said now tables held. subst (λ t. MeetsDamage t command) (same_held now tables held) (is.damaged said (clean now));
+        turned_away = λ now tables held damage. is.turned_away (clean now) (subst (λ t. MeetsDamage t command) (sym (same_held now tables held)) damage);
       };
-      step = answers;
-      refused = λ refused. absurd (some (is.refused refused));
-      unwritten = λ refused. absurd (some (is.refused refused));
-      writes = rises;
-      named = is.named;
-      blames = blames_later _ _ _ _ _ honest is.blames;
-      damaged = λ told now. is.damaged told (honest now);
-      turned_away = λ now. is.turned_away (honest now);
-      crash = left_by;
-      settled = λ now answered changed. settled;
-      made = λ answered wrote. settled;
-      still_open = λ answered wrote. still_open;
+      rows = record {
+        most = λ now. rise_at_most (g.content old) command decided.changes.items (g.written old) (g.written new) (is.writes (clean now)) (counted ∙ ap (λ counts. counts_after counts decided.changes.items) kept.same_counts);
+        none = λ refused. absurd (some (is.refused refused));
+        still_open = λ answered wrote. still_open;
+      };
+      stop = record { crash = left_by; settled = λ now answered changed. settled; made = λ answered wrote. settled };
     }
       where
-        answers : is_honest new → AnswersAny (content old) command decided.reply (content new)
-        answers now = same_answers _ _ _ _ decided.changes.items (is.step (honest now)) (made now ∙ ap (λ t. changed_by t decided.changes.items) (kept.same_content (honest now)))
+        same_held : g.is_clean new → (tables : Content) → HoldsTables g old tables → g.content old ≡ tables
+        same_held now tables held = held (kept.honest_before (honest (still_open now)))
 
-        rises : is_honest new → RiseAtMost (content old) command (written old) (written new)
-        rises now = rise_at_most (content old) command decided.changes.items (written old) (written new) (is.writes (honest now)) (counted ∙ ap (λ counts. counts_after counts decided.changes.items) kept.same_counts)
+        answers : g.is_clean new → AnswersAny (g.content old) command decided.reply (g.content new)
+        answers now = same_answers _ _ _ _ decided.changes.items (is.step (clean now)) (made (still_open now) ∙ ap (λ t. changed_by t decided.changes.items) (kept.same_content (honest (still_open now))))
 
     -- they were refused
-    pub failed_run : (is_honest new → content new ≡ content mid) → written new ≡ written mid → IsRun is_clean is_honest content written may_leave command (Refused Unavailable) old new
+    pub failed_run : (g.is_honest new → g.content new ≡ g.content mid) → g.written new ≡ g.written mid → IsRun g command (Refused Unavailable) old new
     failed_run same uncounted = record {
       clean = λ now. clean_before (clean now);
       honest = λ now. kept.honest_before (honest now);
-      shut = λ now. inr (inl refl, λ now. same now ∙ kept.same_content (honest now));
-      ends = λ now. (
-        content old,
-        unavailable_answers (content old) command (Refused Unavailable) [] refl refl,
-        λ now. same now ∙ kept.same_content (honest now),
-      );
-      told = record {
-        writes = λ now. no_rise (content old) command _ _ (uncounted ∙ kept.same_counts);
+      step = record {
+        ends = λ now tables held. (tables, unavailable_answers tables command (Refused Unavailable) [] refl refl, λ now. same now ∙ held_still tables held (honest now));
+        shut = λ now. inr (inl refl, stays);
+        refused = λ refused. stays;
+        named = unavailable_named command;
         blames = unavailable_blames _ _ command _ refl;
         damaged = λ told. absurd (let f : Refused Unavailable ≡ Refused refusal.Damaged = told in cc);
-        turned_away = λ now damaged. inl (inr refl);
+        turned_away = λ now tables held damage. inl (inr refl);
       };
-      step = λ now. same_answers _ _ _ _ [] (unavailable_answers _ _ _ _ refl refl) (same now ∙ kept.same_content (honest now));
-      refused = λ refused now. same now ∙ kept.same_content (honest now);
-      unwritten = λ refused. uncounted ∙ kept.same_counts;
-      writes = λ now. no_rise (content old) command _ _ (uncounted ∙ kept.same_counts);
-      named = unavailable_named command;
-      blames = unavailable_blames _ _ command _ refl;
-      damaged = λ told. absurd (let f : Refused Unavailable ≡ Refused refusal.Damaged = told in cc);
-      turned_away = λ now damaged. inl (inr refl);
-      crash = left_by;
-      settled = λ now answered. absurd (answered refl);
-      made = λ answered. absurd (answered refl);
-      still_open = λ answered. absurd (answered refl);
+      rows = record {
+        most = λ now. no_rise (g.content old) command _ _ (uncounted ∙ kept.same_counts);
+        none = λ refused. uncounted ∙ kept.same_counts;
+        still_open = λ answered. absurd (answered refl);
+      };
+      stop = record { crash = left_by; settled = λ now answered. absurd (answered refl); made = λ answered. absurd (answered refl) };
     }
+      where
+        stays : g.is_honest new → g.content new ≡ g.content old
+        stays now = same now ∙ kept.same_content (honest now)
 
 -- ---- commands in turn
 
@@ -372,51 +367,35 @@ one_then tables mid last c r cs rs first rest office stands =
     let later = rest now.next now.stand in
     runs_to office later.last (c ∷ cs) (r ∷ rs) last stands.sound (now.next, now.step, later.run) (stands.sound, later.sound) later.stand
 
-module _ {S : Type 0} (is_clean is_honest : S → Type 0) (content : S → Content) (written : S → WriteCounts) (may_leave : S → Content → Type 0) where
-  pub one_more : (commands : List Command) (replies : List Reply) (old mid new : S) (command : Command) (reply : Reply) → AreRun is_clean is_honest content written may_leave commands replies old mid
-      → IsRun is_clean is_honest content written may_leave command reply mid new → AreRun is_clean is_honest content written may_leave (commands ++ command ∷ []) (replies ++ reply ∷ []) old new
-  one_more [] [] old mid new command reply same run = (new, subst (λ (s : S). IsRun is_clean is_honest content written may_leave command reply s new) same run, refl)
+module _ {S : Type 0} (g : Ghosts S) where
+  pub one_more : (commands : List Command) (replies : List Reply) (old mid new : S) (command : Command) (reply : Reply) → AreRun g commands replies old mid
+      → IsRun g command reply mid new → AreRun g (commands ++ command ∷ []) (replies ++ reply ∷ []) old new
+  one_more [] [] old mid new command reply same run = (new, subst (λ (s : S). IsRun g command reply s new) same run, refl)
   one_more (c ∷ cs) (r ∷ rs) old mid new command reply all run = (all.0, all.1, one_more cs rs all.0 mid new command reply all.2 run)
   one_more _ _ old mid new command reply all run = absurd all
 
   -- what holds after each command only where it held before, held before the first
-  first_holds : (P : S → Type 0) → ((c : Command) (r : Reply) (old mid : S) → IsRun is_clean is_honest content written may_leave c r old mid → P mid → P old)
-      → (commands : List Command) (replies : List Reply) (old new : S) → AreRun is_clean is_honest content written may_leave commands replies old new → P new → P old
+  first_holds : (P : S → Type 0) → ((c : Command) (r : Reply) (old mid : S) → IsRun g c r old mid → P mid → P old)
+      → (commands : List Command) (replies : List Reply) (old new : S) → AreRun g commands replies old new → P new → P old
   first_holds P before [] [] old new same holds = subst P same holds
   first_holds P before (c ∷ cs) (r ∷ rs) old new all holds = before c r old all.0 all.1 (first_holds P before cs rs all.0 new all.2 holds)
   first_holds P before _ _ old new all holds = absurd all
 
-  pub honest_first : (commands : List Command) (replies : List Reply) (old new : S) → AreRun is_clean is_honest content written may_leave commands replies old new → is_honest new → is_honest old
-  honest_first = first_holds is_honest (λ c r old mid run. run.honest)
+  pub honest_first : (commands : List Command) (replies : List Reply) (old new : S) → AreRun g commands replies old new → g.is_honest new → g.is_honest old
+  honest_first = first_holds g.is_honest (λ c r old mid run. run.honest)
 
-  pub clean_first : (commands : List Command) (replies : List Reply) (old new : S) → AreRun is_clean is_honest content written may_leave commands replies old new → is_clean new → is_clean old
-  clean_first = first_holds is_clean (λ c r old mid run. run.clean)
+  pub clean_first : (commands : List Command) (replies : List Reply) (old new : S) → AreRun g commands replies old new → g.is_clean new → g.is_clean old
+  clean_first = first_holds g.is_clean (λ c r old mid run. run.clean)
 
   -- what each command makes of the office before it is a run
-  pub run_any : (commands : List Command) (replies : List Reply) (old new : S) → AreRun is_clean is_honest content written may_leave commands replies old new → is_honest new → RunsAny (content old) commands replies (content new)
-  run_any [] [] old new same honest = λ office stands. runs_to office office [] [] (content new) stands.sound refl stands.sound (subst (λ (s : S). StandForSound (content s) office) (sym same) stands)
-  run_any (c ∷ cs) (r ∷ rs) old new all honest =
-      one_then (content old) (content all.0) (content new) c r cs rs (all.1.step (honest_first cs rs all.0 new all.2 honest)) (run_any cs rs all.0 new all.2 honest)
-  run_any _ _ old new all honest = absurd all
-
-  -- The tables of a run on a clean disk: those of the shelf while it is open, and once it was shut they stay.
-  next_tables : (c : Command) (r : Reply) (old mid : S) → IsRun is_clean is_honest content written may_leave c r old mid → is_clean mid → (tables : Content) → (is_honest old → content old ≡ tables)
-      → EndsIn (is_honest mid) (content mid) (AnswersAny tables c r)
-  next_tables c r old mid run clean tables same =
-      elim (run.shut clean) [
-        | inl honest ↦ (content mid, subst (λ t. AnswersAny t c r (content mid)) (same (run.honest honest)) (run.step honest), λ _. refl)
-        | inr idle ↦ (tables, idle_answers tables c r idle.0, λ honest. idle.1 honest ∙ same (run.honest honest))
-      ]
-
-  pub run_ends : (commands : List Command) (replies : List Reply) (old new : S) → AreRun is_clean is_honest content written may_leave commands replies old new → is_clean new
-      → (tables : Content) → (is_honest old → content old ≡ tables) → EndsIn (is_honest new) (content new) (RunsAny tables commands replies)
-  run_ends [] [] old new all clean tables same = (
+  pub run_ends : (commands : List Command) (replies : List Reply) (old new : S) → AreRun g commands replies old new → MakesTables g old new (λ tables. RunsAny tables commands replies)
+  run_ends [] [] old new all clean tables held = (
     tables,
     λ office stands. runs_to office office [] [] tables stands.sound refl stands.sound stands,
-    λ honest. ap content all ∙ same (subst is_honest all honest),
+    λ honest. ap g.content all ∙ held (subst g.is_honest all honest),
   )
-  run_ends (c ∷ cs) (r ∷ rs) old new all clean tables same =
-      let next = next_tables c r old all.0 all.1 (clean_first cs rs all.0 new all.2 clean) tables same in
+  run_ends (c ∷ cs) (r ∷ rs) old new all clean tables held =
+      let next = all.1.step.ends (clean_first cs rs all.0 new all.2 clean) tables held in
       let rest = run_ends cs rs all.0 new all.2 clean next.0 next.2 in
       (rest.0, one_then tables next.0 rest.0 c r cs rs next.1 rest.1, rest.2)
-  run_ends _ _ old new all clean tables same = absurd all
+  run_ends _ _ old new all clean tables held = absurd all

@@ -1,7 +1,7 @@
 -- What running commands promises, of the shelf before and after them.
 use Rattle.std.specs.Prelude.{◌≡◌, ◌≢◌, ◌⊎◌, ℕ, List, [], ◌∷◌}
 use Rattle.office_tables_shelf.specs.Content.{Content}
-use Rattle.office_tables_shelf.specs.declared.counts.WriteCounts.{WriteCounts}
+use Rattle.office_tables_shelf.specs.declared.shelf.Shelf.{Ghosts}
 use Rattle.office_desk.specs.Answers.{AnswersAny, EndsIn, IsAfterStep}
 use Rattle.office_desk.specs.Changes.{IsRefused, RiseAtMost}
 use Rattle.office_desk.specs.Damage.{IsTurnedAway, MeetsDamage}
@@ -20,48 +20,62 @@ use Rattle.office_machine.specs.declared.reply.Reply.TheVariants.{Refused}
 use Rattle.office_tables_standing.specs.StandFor.{StandForSound}
 use Rattle.signal_street.specs.StreetLaws.{StreetLaws}
 
--- What is said of a reply and of the rows that were written, with no word of the new tables.
-pub record IsReply (is_clean : Type 0) (tables : Content) (command : Command) (reply : Reply) (before after : WriteCounts) : Type 0 where
-  pub writes : is_clean → RiseAtMost tables command before after
-  pub blames : BlamesRightly is_clean tables command reply
-  pub damaged : reply ≡ Refused Damaged → is_clean → MeetsDamage tables command
-  pub turned_away : is_clean → MeetsDamage tables command → IsTurnedAway command reply
+-- where its database is open, the shelf holds these tables
+abbrev pub HoldsTables : {S : Type 0} → Ghosts S → S → Content → Type 0
+HoldsTables g shelf tables = g.is_honest shelf → g.content shelf ≡ tables
+
+-- What is said on a clean disk alone is said of the tables that an open database held, whether or not a failure has shut it.
+abbrev pub TellsTables : {S : Type 0} → Ghosts S → (old new : S) → (Content → Type 0) → Type 0
+TellsTables g old new Says = g.is_clean new → (tables : Content) → HoldsTables g old tables → Says tables
+
+-- the same of what was made of them, which an open database holds then
+abbrev pub MakesTables : {S : Type 0} → Ghosts S → (old new : S) → (Content → Content → Type 0) → Type 0
+MakesTables g old new Makes = TellsTables g old new (λ tables. EndsIn (g.is_honest new) (g.content new) (Makes tables))
 
 -- nothing was done, and the tables of an open database are as they were
 abbrev pub WasIdle : Type 0 → (old new : Content) → Command → Reply → Type 0
 WasIdle is_honest old new command reply = IsIdle command reply × (is_honest → new ≡ old)
 
--- The reply and the tables are one step, and a refusal leaves content and counts; the rows written are at most those of the kind of command; a
--- refusal is one that is named for it, and a row that is no record is told and not passed. On a clean disk alone: where a failure has shut the
--- database, nothing was done; the reply is still that of a step, and what an open database holds is the office after it. A crash leaves what it
--- could before, or the office after the command's own step; that alone where the command changed the tables, or wrote rows, and was answered.
-pub record IsRun {S : Type 0} (is_clean is_honest : S → Type 0) (content : S → Content) (written : S → WriteCounts) (may_leave : S → Content → Type 0)
-    (command : Command) (reply : Reply) (old new : S) : Type 0 where
-  pub clean : is_clean new → is_clean old
-  pub honest : is_honest new → is_honest old
-  pub shut : is_clean new → is_honest new ⊎ WasIdle (is_honest new) (content old) (content new) command reply
-  pub ends : is_clean new → EndsIn (is_honest new) (content new) (AnswersAny (content old) command reply)
-  pub told : IsReply (is_clean new) (content old) command reply (written old) (written new)
-  pub step : is_honest new → AnswersAny (content old) command reply (content new)
-  pub refused : IsRefused reply → is_honest new → content new ≡ content old
-  pub unwritten : IsRefused reply → written new ≡ written old
-  pub writes : is_honest new → RiseAtMost (content old) command (written old) (written new)
+-- The reply and the tables are one step of the office, and a refusal leaves the tables; it is one that is named for the command, and a row that is
+-- no record is told and not passed. Where a failure has shut the database, nothing was done: the reply is still that of a step, and what an open
+-- database holds is the office after it.
+pub record IsStepped {S : Type 0} (g : Ghosts S) (command : Command) (reply : Reply) (old new : S) : Type 0 where
+  pub ends : MakesTables g old new (λ tables. AnswersAny tables command reply)
+  pub shut : g.is_clean new → g.is_honest new ⊎ WasIdle (g.is_honest new) (g.content old) (g.content new) command reply
+  pub refused : IsRefused reply → g.is_honest new → g.content new ≡ g.content old
   pub named : IsNamedFor command reply
-  pub blames : BlamesRightly (is_honest new) (content old) command reply
-  pub damaged : reply ≡ Refused Damaged → is_honest new → MeetsDamage (content old) command
-  pub turned_away : is_honest new → MeetsDamage (content old) command → IsTurnedAway command reply
-  pub crash : (tables : Content) → may_leave new tables → may_leave old tables ⊎ (is_honest old × IsAfterStep (content old) command tables)
-  pub settled : is_honest new → reply ≢ Refused Unavailable → content new ≢ content old → (tables : Content) → may_leave new tables → tables ≡ content new
-  pub made : reply ≢ Refused Unavailable → written new ≢ written old → (tables : Content) → may_leave new tables → tables ≡ content new
-  pub still_open : reply ≢ Refused Unavailable → written new ≢ written old → is_clean new → is_honest new
+  pub blames : BlamesRightly (g.is_clean new) (g.content old) command reply
+  pub damaged : reply ≡ Refused Damaged → TellsTables g old new (λ tables. MeetsDamage tables command)
+  pub turned_away : TellsTables g old new (λ tables. MeetsDamage tables command → IsTurnedAway command reply)
+
+-- The rows written are at most those of the kind of command, and none where it is refused; once some were, an answer left the database open.
+pub record IsWritten {S : Type 0} (g : Ghosts S) (command : Command) (reply : Reply) (old new : S) : Type 0 where
+  pub most : g.is_clean new → RiseAtMost (g.content old) command (g.written old) (g.written new)
+  pub none : IsRefused reply → g.written new ≡ g.written old
+  pub still_open : reply ≢ Refused Unavailable → g.written new ≢ g.written old → g.is_clean new → g.is_honest new
+
+-- A crash leaves what it could before, or the office after the command's own step; that alone where the command changed the tables, or wrote rows,
+-- and was answered.
+pub record IsStopped {S : Type 0} (g : Ghosts S) (command : Command) (reply : Reply) (old new : S) : Type 0 where
+  pub crash : (tables : Content) → g.may_leave new tables → g.may_leave old tables ⊎ (g.is_honest old × IsAfterStep (g.content old) command tables)
+  pub settled : g.is_honest new → reply ≢ Refused Unavailable → g.content new ≢ g.content old → (tables : Content) → g.may_leave new tables → tables ≡ g.content new
+  pub made : reply ≢ Refused Unavailable → g.written new ≢ g.written old → (tables : Content) → g.may_leave new tables → tables ≡ g.content new
+
+-- A command was run: the step that it took, the rows that were written, and what a stop may leave.
+pub record IsRun {S : Type 0} (g : Ghosts S) (command : Command) (reply : Reply) (old new : S) : Type 0 where
+  pub clean : g.is_clean new → g.is_clean old
+  pub honest : g.is_honest new → g.is_honest old
+  pub step : IsStepped g command reply old new
+  pub rows : IsWritten g command reply old new
+  pub stop : IsStopped g command reply old new
 
 -- commands that were run in turn, each on the shelf as those before it left it
-abbrev pub AreRun : {S : Type 0} → (is_clean is_honest : S → Type 0) → (S → Content) → (S → WriteCounts) → (S → Content → Type 0) → List Command → List Reply → (old new : S) → Type 0
-AreRun is_clean is_honest content written may_leave [] [] old new = new ≡ old
-AreRun {S} is_clean is_honest content written may_leave (command ∷ commands) (reply ∷ replies) old new =
-    (mid : S) × IsRun is_clean is_honest content written may_leave command reply old mid × AreRun is_clean is_honest content written may_leave commands replies mid new
-AreRun is_clean is_honest content written may_leave [] (reply ∷ replies) old new = ⊥
-AreRun is_clean is_honest content written may_leave (command ∷ commands) [] old new = ⊥
+abbrev pub AreRun : {S : Type 0} → Ghosts S → List Command → List Reply → (old new : S) → Type 0
+AreRun g [] [] old new = new ≡ old
+AreRun {S} g (command ∷ commands) (reply ∷ replies) old new =
+    (mid : S) × IsRun g command reply old mid × AreRun g commands replies mid new
+AreRun g [] (reply ∷ replies) old new = ⊥
+AreRun g (command ∷ commands) [] old new = ⊥
 
 -- ---- what a run of them means
 

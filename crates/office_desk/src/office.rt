@@ -7,12 +7,12 @@ ghost use Rattle.office_tables_shelf.specs.Change.{changed_by};
 ghost use Rattle.office_tables_shelf.specs.Counts.{counts_after};
 ghost use Rattle.office_tables_shelf.specs.Damage.{HasAnyDamagedIntersection};
 ghost use Rattle.office_tables_shelf.specs.Keeps.{KeepsShelf};
-ghost use Rattle.office_desk.specs.Answers.{EndsIn};
 ghost use Rattle.office_desk.specs.Damage.{MeetsDamage};
 ghost use Rattle.office_desk.specs.Deciding.{DecidesIdly, IsAnswered};
 ghost use Rattle.office_machine.specs.Office.{Office as OfficeState};
-ghost use Rattle.office_desk.specs.Running.{AreRun, IsRun, RunsAny};
+ghost use Rattle.office_desk.specs.Running.{AreRun, IsRun, MakesTables, RunsAny};
 ghost use Rattle.office_desk.specs.StandFor.{StandForSound};
+ghost use Rattle.office_desk_timing.specs.Listing.{ListsRows};
 ghost use Rattle.office_machine.specs.Listed.{intersections_of};
 ghost use Rattle.office_machine.specs.Step.{overdue_on};
 
@@ -78,10 +78,8 @@ impl<S: Shelf> Office<S> {
     /// memory or the shelf refuses, it answers Unavailable; where a stored row is no record,
     /// Damaged.
     pub fn decide(&mut self, alloc: Global, command: &Command) -> Decided
-        ensures answers { IsAnswered (S.is_honest self.new) (S.content self.old)
+        ensures answers { IsAnswered (S.is_clean self.new) (S.content self.old)
             command.now result }
-        // The same on a clean disk alone: what a failure has shut gives an idle answer alone.
-        ensures told { IsAnswered (S.is_clean self.new) (S.content self.old) command.now result }
         ensures clean { S.is_clean self.new → S.is_clean self.old }
         ensures shut { S.is_clean self.new →
             S.is_honest self.new ⊎ DecidesIdly command.now result }
@@ -122,8 +120,7 @@ impl<S: Shelf> Office<S> {
     /// Runs one command: decides it, and makes its changes. Where memory or the shelf refuses, it
     /// answers Unavailable and changes nothing; where a stored row is no record, Damaged.
     pub fn run(&mut self, alloc: Global, command: &Command) -> Reply
-        ensures ran { IsRun S.is_clean S.is_honest S.content S.written S.may_leave
-            command.now result self.old self.new }
+        ensures ran { IsRun S.Shelf command.now result self.old self.new }
     {
         let decided = self.decide(alloc, command);
         match self.apply(alloc, decided.changes.as_slice()) {
@@ -134,13 +131,10 @@ impl<S: Shelf> Office<S> {
 
     /// Runs commands in turn. Room for the replies is taken first: refused, nothing is run.
     pub fn run_all(&mut self, alloc: Global, commands: &[Command]) -> Result<Vec<Reply>, NoMemory>
-        ensures run { IfOk result (λ replies. S.is_honest self.new → RunsAny (S.content self.old) commands.now replies.items (S.content self.new)) }
-        ensures ends { IfOk result (λ replies. S.is_clean self.new →
-            EndsIn (S.is_honest self.new) (S.content self.new)
-            (RunsAny (S.content self.old) commands.now replies.items)) }
+        ensures ends { IfOk result (λ replies. MakesTables S.Shelf self.old self.new
+            (λ tables. RunsAny tables commands.now replies.items)) }
         ensures each { IfOk result (λ replies.
-            AreRun S.is_clean S.is_honest S.content S.written S.may_leave
-            commands.now replies.items self.old self.new) }
+            AreRun S.Shelf commands.now replies.items self.old self.new) }
         ensures clean { S.is_clean self.new → S.is_clean self.old }
         ensures honest { S.is_honest self.new → S.is_honest self.old }
         ensures err { OnErr result (self.new ≡ self.old) }
@@ -185,6 +179,9 @@ impl<S: Shelf> Office<S> {
     pub fn intersections(&mut self, alloc: Global) -> Result<Vec<ListedIntersection>, Refusal>
         ensures all { IfOk result (λ found. S.is_honest self.new → (office : OfficeState) →
             StandForSound (S.content self.old) office → found.items ≡ intersections_of office) }
+        // One for each row of the table, whatever that holds besides.
+        ensures lists { IfOk result (λ found. S.is_honest self.new →
+            ListsRows (S.content self.old) found.items) }
         ensures whole { IfOk result (λ _. S.is_honest self.new →
             ¬ HasAnyDamagedIntersection (S.content self.old)) }
         ensures refused { IfErr result (λ why.

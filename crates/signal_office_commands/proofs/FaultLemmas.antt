@@ -1,6 +1,6 @@
 -- What the fault of a refused query tells.
 use Rattle.std.proofs.Common.{◌≡◌, ◌≢◌, ◌⊎◌, inl, inr, ℕ, Option, Some, None, Result, Ok, Err, refl, sym, ap, subst, ◌∙◌, arith}
-use Rattle.std.specs.{FinMap.get, Prelude.IfErr, Result.IsErrAnd}
+use Rattle.std.specs.{FinMap.get, Option.IsSome, Prelude.IfErr, Result.IsErrAnd}
 use Rattle.cabinet_core.specs.declared.refusal.CabinetRefusal.{CabinetRefusal}
 use Rattle.cabinet_core.specs.declared.refusal.CabinetRefusal.TheVariants as cabinet
 use Rattle.draft_core.specs.declared.refusal.DraftRefusal.{DraftRefusal}
@@ -10,6 +10,7 @@ use Rattle.office_desk.specs.{Answers.Answers, Named.number_of}
 use Rattle.office_machine.specs.{Office.Office, Office.Intersection, Step.Step, Step.answered, Step.shown, declared.command.Command.Command}
 use Rattle.office_machine.specs.{declared.refusal.Refusal.Refusal, declared.reply.Reply.Reply, declared.reply.Reply.TheVariants.Refused}
 use Rattle.office_machine.specs.declared.refusal.Refusal.TheVariants as refusal
+use Rattle.signal_office_commands.specs.Cabinet.{IsThere}
 use Rattle.signal_office_commands.specs.Fault.{IsFaultOfQuery, TellsUnknown}
 use Rattle.signal_office_commands.specs.Refused.{fault_of, fault_of_record, record_refusal}
 use Rattle.signal_office_faults.specs.declared.fault.Fault.{Fault}
@@ -116,3 +117,10 @@ pub refused_tells : (tables : Content) (office : Office) (id : ℕ) (asked : Com
     → answered office asked ≡ (shown (get office.intersections id) make, office) → ((i : Intersection) → make i ≡ Refused refused → ⊥)
     → Answers office asked (Refused refused) tables → TellsUnknown office id (fault_of refused)
 refused_tells tables office id asked refused make is differs answers = step_tells office answers.next id asked refused make is differs answers.step
+
+no_some : IsSome {T = Intersection} None → ⊥
+no_some is = cc
+
+-- nor one of memory of an intersection that the office has
+pub known_tells_memory : (office : Office) (id : ℕ) → IsThere office id → TellsUnknown office id told.Memory
+known_tells_memory office id there = record { unknown = λ e. cc; missing = λ none. absurd (no_some (subst IsSome none there)) }

@@ -1,6 +1,7 @@
 pub mod AskingLemmas
 mod EditLemmas
 pub mod FaultLemmas
+pub mod HonestLemmas
 pub mod OrderLemmas
 pub mod QueryLemmas
 pub mod RefusedLemmas

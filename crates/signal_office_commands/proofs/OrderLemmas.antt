@@ -1,12 +1,18 @@
 -- The open orders of the intersections, one after the other.
-use Rattle.std.proofs.Common.{◌≡◌, ◌≢◌, ◌<◌, ◌+◌, ◌++◌, ◌⊎◌, inl, inr, ℕ, zero, suc, List, [], ◌∷◌, map, flat_map, length, get_or, take, Some, None, refl, ap, sym, subst, ◌∙◌, arith, append-nil}
+use Rattle.std.proofs.Common.{Option, ◌≡◌, ◌≢◌, ◌<◌, ◌+◌, ◌++◌, ◌⊎◌, inl, inr, ℕ, zero, suc, List, [], ◌∷◌, map, flat_map, length, get_or, take, Some, None, refl, ap, sym, subst, ◌∙◌, arith, append-nil}
 use Rattle.std.proofs.{lemmas.Grind.flat_map-append, lemmas.List.take_more}
-use Rattle.std.specs.{FinMap.entries, FinMap.get, List.AllByRecursion}
+use Rattle.std.specs.{FinMap.entries, FinMap.get, List.AllByRecursion, Option.IsSome}
+use Rattle.office_tables_shelf.specs.{Cells.Cell, Content.Content, Damage.HasAnyDamagedIntersection, Rows.intersection_columns, Rows.intersection_key, declared.rows.IntersectionRow.IntersectionRow}
+use Rattle.office_tables_shelf.proofs.{ListLemmas.all_more, ListedRows.table_row}
+use Rattle.office_desk.specs.Damage.{MeetsDamage}
+use Rattle.office_desk_timing.specs.Listing.{ListsRows, listed_in}
+use Rattle.office_machine.specs.declared.command.Command.TheVariants as command
 use Rattle.office_machine.specs.{Listed.intersection_listed, Listed.intersections_of, Office.Office, Office.Intersection}
 use Rattle.office_machine.specs.declared.intersections.ListedIntersection.{ListedIntersection}
 use Rattle.office_desk.proofs.{IntersectionTable.Entry, ListedIntersections.each_there}
 use Rattle.office_listings.specs.declared.orders.OpenOrder.{OpenOrder}
-use Rattle.signal_office_commands.specs.{Fault.IsFaultOfQuery, Fault.TellsUnknown, Listing.open_in, Listing.open_on}
+use Rattle.signal_office_commands.specs.{Fault.IsFaultOfQuery, Fault.TellsUnknown, Listing.AreOpen, Listing.MeetsOrdersDamage, Listing.TellsOrders, Listing.open_in, Listing.open_on}
+use Rattle.signal_office_commands.proofs.FaultLemmas.{known_tells_memory}
 use Rattle.signal_office_faults.specs.declared.fault.Fault.{Fault}
 use Rattle.signal_office_faults.specs.declared.fault.Fault.TheVariants as told
 
@@ -61,3 +67,50 @@ listed_fault fault (inr damaged) = inr (inr (inr damaged))
 pub listed_known : (fault : Fault) → (fault ≡ told.Store) ⊎ (fault ≡ told.Damaged) → fault ≢ told.UnknownIntersection
 listed_known fault (inl store) = λ e. cc
 listed_known fault (inr damaged) = λ e. cc
+
+-- ---- each row that was read is a record
+
+-- no row of these intersections' cabinets is damaged
+abbrev pub AreWhole : Content → List ListedIntersection → Type 0
+AreWhole tables = AllByRecursion (λ (listed : ListedIntersection). ¬ MeetsDamage tables (command.Cabinet listed.id))
+
+-- nor one of the next
+pub whole_more : (tables : Content) (list : List ListedIntersection) (i : ℕ) (listed : ListedIntersection) → i < length list → listed ≡ get_or list i listed
+    → AreWhole tables (take i list) → ¬ MeetsDamage tables (command.Cabinet listed.id) → AreWhole tables (take (i + 1) list)
+whole_more tables list i listed low at whole one =
+    let next : take (i + 1) list ≡ take i list ++ listed ∷ [] = take_more list i listed low ∙ ap (λ x. take i list ++ x ∷ []) (sym at) in
+    subst (AreWhole tables) (sym next) (all_more (λ (x : ListedIntersection). ¬ MeetsDamage tables (command.Cabinet x.id)) (take i list) listed whole one)
+
+each_row : (tables : Content) (rows : List (ℕ × IntersectionRow)) → AreWhole tables (map (listed_in tables) rows)
+    → AllByRecursion (λ (e : ℕ × IntersectionRow). ¬ MeetsDamage tables (command.Cabinet e.0)) rows
+each_row tables [] whole = tt
+each_row tables (e ∷ rows) whole = (whole.0, each_row tables rows whole.1)
+
+some_stored : (o : Option (List Cell)) → IsSome o → (columns : List Cell) × (o ≡ Some columns)
+some_stored None there = absurd cc
+some_stored (Some columns) there = (columns, refl)
+
+same_number : (a b : ℕ) → intersection_key a ≡ intersection_key b → a ≡ b
+same_number a b same = cc
+
+-- a damaged row of a cabinet is of an intersection that is there
+there_at : (tables : Content) (id : ℕ) → MeetsDamage tables (command.Cabinet id) → (columns : List Cell) × (get tables.intersection (intersection_key id) ≡ Some columns)
+there_at tables id (inl row) = (row.columns, row.stored)
+there_at tables id (inr cabinet) = some_stored (get tables.intersection (intersection_key id)) cabinet.0
+
+-- where those of all that are listed were read, none is damaged
+pub all_whole : (tables : Content) (list : List ListedIntersection) → ListsRows tables list → ¬ HasAnyDamagedIntersection tables → AreWhole tables list
+    → ¬ MeetsOrdersDamage tables None
+all_whole tables list lists sound whole (inl damaged) = sound damaged
+all_whole tables list lists sound whole (inr damaged) =
+    let id = damaged.0 in
+    let stored = there_at tables id damaged.1 in
+    let is = table_row (λ e. intersection_key e.0) (λ e. intersection_columns e.1)
+    (λ e. ¬ MeetsDamage tables (command.Cabinet e.0)) tables.intersection lists.rows (intersection_key id)
+    stored.0 lists.lists (each_row tables lists.rows (subst (AreWhole tables) lists.found_is whole)) stored.1 in
+    is.1 (subst (λ n. MeetsDamage tables (command.Cabinet n)) (same_number id is.0.0 is.2) damaged.1)
+
+-- out of memory tells of no unknown intersection
+pub open_tells : (office : Office) (id : Option ℕ) (orders : List OpenOrder) → AreOpen office id orders → TellsOrders office id told.Memory
+open_tells office None orders open_orders = λ e. cc
+open_tells office (Some id) orders open_orders = known_tells_memory office id open_orders.0

@@ -20,7 +20,9 @@ use Rattle.office_machine.specs.declared.reply.Reply.TheVariants as reply
 use Rattle.signal_office_faults.specs.declared.fault.Fault.{Fault}
 use Rattle.signal_office_commands.specs.{Asking.Answered, Showing.state_shown, Showing.timing_shown, Showing.draft_shown}
 use Rattle.signal_office_commands.specs.{Showing.cabinet_shown, Intersection.ShowsOpen, Intersection.ShowsDraftIn}
-use Rattle.signal_office_commands.specs.{Intersection.ShowsIntersection, Paging.shown_of, Paging.IsPageOf}
+use Rattle.office_desk.specs.Damage.{IsImport, IsTurnedAway, MeetsDamage}
+use Rattle.office_machine.specs.declared.refusal.Refusal.{Refusal}
+use Rattle.signal_office_commands.specs.{Intersection.MeetsPageDamage, Intersection.ShowsIntersection, Paging.shown_of, Paging.IsPageOf}
 use Rattle.signal_page.specs.{declared.shown.IntersectionShown.IntersectionShown, Page.IsPage}
 
 -- what is made of a reply that is not Unavailable is made of the office's own answer
@@ -134,3 +136,35 @@ page_shown tables office id it text shows stands page =
     by_all (all_shown tables office id it shows stands) where
       by_all : ((i : Intersection) × (get office.intersections id ≡ Some i) × (it ≡ shown_of office.register id i)) → IsPageOf office id text
       by_all (i, there, is) = (i, there, subst (λ (x : IntersectionShown). IsPage x text) is page)
+
+-- ---- no damaged row was read for the page
+
+shown_passes : {A : Type 0} (made : Reply → Result A Fault) (tables : Content) (asked : Command) (value : A)
+    → ((why : Refusal) → made (reply.Refused why) ≢ Ok value) → ¬ IsImport asked
+    → Answered made tables asked tables (Ok value) → ¬ MeetsDamage tables asked
+shown_passes made tables asked value refused query shows damage = by_reply (shows.turned_away damage) where
+  by_reply : IsTurnedAway asked shows.reply → ⊥
+  by_reply (inl (inl damaged)) = refused refusal.Damaged (ap made (sym damaged) ∙ sym shows.made_is)
+  by_reply (inl (inr unavailable)) = refused refusal.Unavailable (ap made (sym unavailable) ∙ sym shows.made_is)
+  by_reply (inr import) = query import.0
+
+open_passes : (tables : Content) (id : ℕ) (draft : Option Rows) → ShowsOpen tables id (Ok draft) → ¬ MeetsDamage tables (command.Draft id)
+open_passes tables id None shows damage = shows
+open_passes tables id (Some rows) shows damage =
+    shown_passes draft_shown tables (command.Draft id) rows (λ why e. cc) (λ import. import) shows damage
+
+draft_passes : (tables : Content) (id : ℕ) (state : DbState) (draft : Option Rows) → ShowsDraftIn tables id state (Ok draft)
+    → state ≢ Normal → ¬ MeetsDamage tables (command.Draft id)
+draft_passes tables id Normal draft shows other damage = other refl
+draft_passes tables id Transaction draft shows other damage = open_passes tables id draft shows damage
+draft_passes tables id Verify draft shows other damage = open_passes tables id draft shows damage
+draft_passes tables id Done draft shows other damage = open_passes tables id draft shows damage
+
+pub page_whole : (tables : Content) (id : ℕ) (it : IntersectionShown) → ShowsIntersection tables id it → ¬ MeetsPageDamage tables id it.state.state
+page_whole tables id it shows (inl state) =
+    shown_passes state_shown tables (command.State id) it.state (λ why e. cc) (λ import. import) shows.state state
+page_whole tables id it shows (inr (inl timing)) =
+    shown_passes timing_shown tables (command.Timing id) it.committed (λ why e. cc) (λ import. import) shows.timing timing
+page_whole tables id it shows (inr (inr (inl cabinet))) =
+    shown_passes cabinet_shown tables (command.Cabinet id) it.cabinet (λ why e. cc) (λ import. import) shows.cabinet cabinet
+page_whole tables id it shows (inr (inr (inr (other, draft)))) = draft_passes tables id it.state.state it.draft shows.draft other draft

@@ -1,6 +1,7 @@
 //! A draft that is dropped.
 
 ghost use Rattle.signal_office_commands.specs.Commands.{Abandons};
+ghost use Rattle.office_desk.specs.Running.{MakesTables};
 
 use crate::editing::moved;
 use office_desk::office::Office;
@@ -17,9 +18,10 @@ pub fn abandon_draft<S: Shelf>(
     id: InterId,
     clerk: &Words<40>,
 ) -> Result<(), Fault>
+    ensures clean { S.is_clean office.new → S.is_clean office.old }
     ensures honest { S.is_honest office.new → S.is_honest office.old }
-    ensures abandons { S.is_honest office.new →
-        Abandons id clerk.now (S.content office.old) (S.content office.new) result }
+    ensures abandons { MakesTables S.Shelf office.old office.new
+        (λ old new. Abandons id clerk.now old new result) }
 {
     let clerk = clerk.clone()?;
     let reply = office.run(alloc, &Command::Abandon { id, clerk });

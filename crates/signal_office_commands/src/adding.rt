@@ -2,6 +2,7 @@
 
 ghost use Rattle.std.specs.Prelude.{◌≡◌};
 ghost use Rattle.signal_office_commands.specs.Commands.{Adds, entered_told};
+ghost use Rattle.office_desk.specs.Running.{MakesTables};
 
 use crate::refused::fault_of;
 use office_desk::office::Office;
@@ -42,9 +43,10 @@ pub fn add_intersection<S: Shelf>(
     interval: Interval,
     name: &Words<120>,
 ) -> Result<Entered, Fault>
+    ensures clean { S.is_clean office.new → S.is_clean office.old }
     ensures honest { S.is_honest office.new → S.is_honest office.old }
-    ensures adds { S.is_honest office.new →
-        Adds id interval name.now (S.content office.old) (S.content office.new) result }
+    ensures adds { MakesTables S.Shelf office.old office.new
+        (λ old new. Adds id interval name.now old new result) }
 {
     let name = name.clone()?;
     let reply = office.run(alloc, &Command::AddIntersection { id, interval, name });

@@ -2,10 +2,10 @@
 
 ghost use Rattle.std.specs.Prelude.{◌≡◌, Err, IfOk, IfErr};
 ghost use Rattle.office_tables_shelf.specs.Keeps.{KeepsShelf};
-ghost use Rattle.office_machine.specs.Office.{Office as OfficeState};
-ghost use Rattle.office_desk.specs.StandFor.{StandForSound};
 ghost use Rattle.signal_office_commands.specs.Fault.{IsFaultOfQuery, TellsUnknown};
 ghost use Rattle.signal_office_commands.specs.Cabinet.{IsRegisterOf, MeetsRegisterDamage};
+ghost use Rattle.office_desk.specs.Running.{TellsTables};
+ghost use Rattle.signal_office_commands.specs.Asking.{TellsOffice};
 
 use crate::querying::{cabinet_asked, state_asked};
 use office_desk::office::Office;
@@ -24,16 +24,20 @@ pub fn cabinet_of<S: Shelf>(
 ) -> Result<Vec<u8>, Fault>
     // It changes nothing.
     ensures kept { KeepsShelf S.Shelf office.old office.new }
-    ensures register { IfOk result (λ text. S.is_honest office.new → (before : OfficeState) →
-        StandForSound (S.content office.old) before → IsRegisterOf before id text.items) }
+    ensures clean { S.is_clean office.new → S.is_clean office.old }
+    ensures register { IfOk result (λ text. TellsOffice S.Shelf office.old office.new
+        (λ before. IsRegisterOf before id text.items)) }
+    // No row that is read and is no record is passed over.
+    ensures whole { IfOk result (λ _. TellsTables S.Shelf office.old office.new
+        (λ tables. ¬ MeetsRegisterDamage tables id)) }
     // Where it fails, the intersection is unknown, memory or the database refused, or a row that
     // is read is no record.
     ensures refused { IfErr result IsFaultOfQuery }
-    ensures damaged { result ≡ Err Fault.Damaged → S.is_honest office.new →
-        MeetsRegisterDamage (S.content office.old) id }
+    ensures damaged { result ≡ Err Fault.Damaged → TellsTables S.Shelf office.old office.new
+        (λ tables. MeetsRegisterDamage tables id) }
     // An unknown intersection is told where the office has none, and only there.
-    ensures fault { IfErr result (λ fault. S.is_honest office.new → (before : OfficeState) →
-        StandForSound (S.content office.old) before → TellsUnknown before id fault) }
+    ensures fault { IfErr result (λ fault. TellsOffice S.Shelf office.old office.new
+        (λ before. TellsUnknown before id fault)) }
 {
     let state = state_asked(alloc, office, id)?;
     let cabinet = cabinet_asked(alloc, office, id)?;

@@ -3,12 +3,12 @@
 ghost use Rattle.std.specs.Prelude.{◌≢◌, IfOk, IfErr};
 ghost use Rattle.office_files.specs.Changes.{changes_of};
 ghost use Rattle.office_files.specs.Plan.{IsPlan};
-ghost use Rattle.office_desk.specs.StandFor.{StandForSound};
-ghost use Rattle.office_machine.specs.Office.{Office as OfficeState};
 ghost use Rattle.office_tables_shelf.specs.Keeps.{KeepsShelf};
 ghost use Rattle.signal_office_commands.specs.Comparing.{ComparesDraft, ComparesFiles, IsFirstBad};
 ghost use Rattle.signal_office_commands.specs.Comparing.{ComparesNoDraft, IsOtherUnread};
 ghost use Rattle.signal_office_commands.specs.Fault.{TellsUnknown};
+ghost use Rattle.office_desk.specs.Running.{TellsTables};
+ghost use Rattle.signal_office_commands.specs.Asking.{TellsOffice};
 
 use crate::showing::{draft_in, timing_in};
 use office_desk::office::Office;
@@ -53,13 +53,14 @@ pub fn draft_differences<S: Shelf>(
     id: InterId,
 ) -> Result<Vec<Difference>, Fault>
     ensures kept { KeepsShelf S.Shelf office.old office.new }
-    ensures found { IfOk result (λ found. S.is_honest office.new →
-        ComparesDraft (S.content office.old) id found.items) }
-    ensures fault { IfErr result (λ why. S.is_honest office.new →
-        ComparesNoDraft (S.content office.old) id why) }
+    ensures clean { S.is_clean office.new → S.is_clean office.old }
+    ensures found { IfOk result (λ found. TellsTables S.Shelf office.old office.new
+        (λ tables. ComparesDraft tables id found.items)) }
+    ensures fault { IfErr result (λ why. TellsTables S.Shelf office.old office.new
+        (λ tables. ComparesNoDraft tables id why)) }
     // An unknown intersection is told where the office has none, and only there.
-    ensures unknown { IfErr result (λ why. S.is_honest office.new → (before : OfficeState) →
-        StandForSound (S.content office.old) before → TellsUnknown before id why) }
+    ensures unknown { IfErr result (λ why. TellsOffice S.Shelf office.old office.new
+        (λ before. TellsUnknown before id why)) }
 {
     let committed = timing_in(alloc, office, id)?;
     let draft = draft_in(alloc, office, id)?;

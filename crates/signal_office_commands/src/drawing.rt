@@ -1,12 +1,12 @@
 //! The pictures of patterns.
 
 ghost use Rattle.std.specs.Prelude.{◌≢◌, IfOk, IfErr};
-ghost use Rattle.office_desk.specs.StandFor.{StandForSound};
-ghost use Rattle.office_machine.specs.Office.{Office as OfficeState};
 ghost use Rattle.office_tables_shelf.specs.Keeps.{KeepsShelf};
 ghost use Rattle.signal_office_commands.specs.Drawing.{Draws, DrawsFile, DrawsNoFile};
 ghost use Rattle.signal_office_commands.specs.Drawing.{DrawsTiming, DrawsNoTiming, DrawsNone};
 ghost use Rattle.signal_office_commands.specs.Fault.{TellsUnknown};
+ghost use Rattle.office_desk.specs.Running.{TellsTables};
+ghost use Rattle.signal_office_commands.specs.Asking.{TellsOffice};
 
 use crate::showing::timing_in;
 use office_desk::office::Office;
@@ -45,13 +45,14 @@ pub fn diagram_of<S: Shelf>(
     pattern: PatternNo,
 ) -> Result<Vec<u8>, Fault>
     ensures kept { KeepsShelf S.Shelf office.old office.new }
-    ensures draws { IfOk result (λ text. S.is_honest office.new →
-        DrawsTiming (S.content office.old) id pattern text.items) }
-    ensures fault { IfErr result (λ why. S.is_honest office.new →
-        DrawsNoTiming (S.content office.old) id pattern why) }
+    ensures clean { S.is_clean office.new → S.is_clean office.old }
+    ensures draws { IfOk result (λ text. TellsTables S.Shelf office.old office.new
+        (λ tables. DrawsTiming tables id pattern text.items)) }
+    ensures fault { IfErr result (λ why. TellsTables S.Shelf office.old office.new
+        (λ tables. DrawsNoTiming tables id pattern why)) }
     // An unknown intersection is told where the office has none, and only there.
-    ensures unknown { IfErr result (λ why. S.is_honest office.new → (before : OfficeState) →
-        StandForSound (S.content office.old) before → TellsUnknown before id why) }
+    ensures unknown { IfErr result (λ why. TellsOffice S.Shelf office.old office.new
+        (λ before. TellsUnknown before id why)) }
 {
     let plan = timing_in(alloc, office, id)?;
     draw(alloc, &plan, pattern)

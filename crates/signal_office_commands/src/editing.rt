@@ -5,6 +5,7 @@ ghost use Rattle.signal_office_commands.specs.Editing.{begun, commit_commands, c
 ghost use Rattle.signal_office_commands.specs.Editing.{drafted};
 ghost use Rattle.signal_office_commands.specs.Editing.{edit_commands, edit_told, moved, opened};
 ghost use Rattle.signal_office_commands.specs.Editing.{is_due, Does, EditsAs, Goes};
+ghost use Rattle.office_desk.specs.Running.{MakesTables};
 
 use crate::refused::fault_of;
 use draft_core::changes::Changes;
@@ -102,9 +103,10 @@ fn run_edit<S: Shelf>(
     office: &mut Office<S>,
     commands: &[Command],
 ) -> Result<Violations, Fault>
+    ensures clean { S.is_clean office.new → S.is_clean office.old }
     ensures honest { S.is_honest office.new → S.is_honest office.old }
-    ensures does { S.is_honest office.new → Does edit_told (S.content office.old)
-        commands.now (S.content office.new) result }
+    ensures does { MakesTables S.Shelf office.old office.new
+        (λ old new. Does edit_told old commands.now new result) }
 {
     edit_told(office.run_all(alloc, commands)?)
 }
@@ -115,9 +117,10 @@ fn run_commit<S: Shelf>(
     office: &mut Office<S>,
     commands: &[Command],
 ) -> Result<(), Fault>
+    ensures clean { S.is_clean office.new → S.is_clean office.old }
     ensures honest { S.is_honest office.new → S.is_honest office.old }
-    ensures does { S.is_honest office.new → Does commit_told (S.content office.old)
-        commands.now (S.content office.new) result }
+    ensures does { MakesTables S.Shelf office.old office.new
+        (λ old new. Does commit_told old commands.now new result) }
 {
     commit_told(&office.run_all(alloc, commands)?)
 }
@@ -131,9 +134,10 @@ fn edit_draft<S: Shelf>(
     clerk: &Words<40>,
     changes: Changes,
 ) -> Result<Violations, Fault>
+    ensures clean { S.is_clean office.new → S.is_clean office.old }
     ensures honest { S.is_honest office.new → S.is_honest office.old }
-    ensures does { S.is_honest office.new → Does edit_told (S.content office.old)
-        (edit_commands id clerk.now changes) (S.content office.new) result }
+    ensures does { MakesTables S.Shelf office.old office.new
+        (λ old new. Does edit_told old (edit_commands id clerk.now changes) new result) }
 {
     let (first, second) = (clerk.clone()?, clerk.clone()?);
     let commands = [
@@ -155,9 +159,10 @@ fn commit_draft<S: Shelf>(
     id: InterId,
     clerk: &Words<40>,
 ) -> Result<(), Fault>
+    ensures clean { S.is_clean office.new → S.is_clean office.old }
     ensures honest { S.is_honest office.new → S.is_honest office.old }
-    ensures does { S.is_honest office.new → Does commit_told (S.content office.old)
-        (commit_commands id clerk.now) (S.content office.new) result }
+    ensures does { MakesTables S.Shelf office.old office.new
+        (λ old new. Does commit_told old (commit_commands id clerk.now) new result) }
 {
     let (first, second, third) = (clerk.clone()?, clerk.clone()?, clerk.clone()?);
     let commands = [
@@ -183,9 +188,10 @@ fn commit_where_due<S: Shelf>(
     clerk: &Words<40>,
     due: bool,
 ) -> Result<(), Fault>
+    ensures clean { S.is_clean office.new → S.is_clean office.old }
     ensures honest { S.is_honest office.new → S.is_honest office.old }
-    ensures goes { S.is_honest office.new →
-        Goes due id clerk.now (S.content office.old) (S.content office.new) result }
+    ensures goes { MakesTables S.Shelf office.old office.new
+        (λ old new. Goes due id clerk.now old new result) }
 {
     if due {
         return commit_draft(alloc, office, id, clerk);
@@ -204,9 +210,10 @@ pub fn edit_plan<S: Shelf>(
     bytes: &[u8],
     commit: bool,
 ) -> Result<Edited, Fault>
+    ensures clean { S.is_clean office.new → S.is_clean office.old }
     ensures honest { S.is_honest office.new → S.is_honest office.old }
-    ensures edits { S.is_honest office.new → EditsAs bytes.now id clerk.now commit
-        (S.content office.old) (S.content office.new) result }
+    ensures edits { MakesTables S.Shelf office.old office.new
+        (λ old new. EditsAs bytes.now id clerk.now commit old new result) }
 {
     let changes = Changes::new(read_timing_csv(alloc, bytes)?);
     let violations = edit_draft(alloc, office, id, clerk, changes)?;

@@ -5,6 +5,7 @@ ghost use Rattle.office_files.specs.Changes.{changes_of};
 ghost use Rattle.office_tables_shelf.specs.Keeps.{KeepsShelf};
 ghost use Rattle.signal_office_commands.specs.Explaining.{ExplainsPlan, ExplainsDraft};
 ghost use Rattle.signal_office_commands.specs.Showing.{ShowsDraft};
+ghost use Rattle.office_desk.specs.Running.{TellsTables};
 
 use crate::showing::draft_in;
 use office_desk::office::Office;
@@ -34,10 +35,11 @@ pub fn draft_reasons<S: Shelf>(
     id: InterId,
 ) -> Result<Vec<Explained>, Fault>
     ensures kept { KeepsShelf S.Shelf office.old office.new }
-    ensures found { IfOk result (λ found. S.is_honest office.new →
-        ExplainsDraft (S.content office.old) id found.items) }
-    ensures fault { IfErr result (λ why. why ≢ Fault.Memory → S.is_honest office.new →
-        ShowsDraft (S.content office.old) id (Err why)) }
+    ensures clean { S.is_clean office.new → S.is_clean office.old }
+    ensures found { IfOk result (λ found. TellsTables S.Shelf office.old office.new
+        (λ tables. ExplainsDraft tables id found.items)) }
+    ensures fault { IfErr result (λ why. why ≢ Fault.Memory → TellsTables S.Shelf office.old office.new
+        (λ tables. ShowsDraft tables id (Err why))) }
 {
     let draft = draft_in(alloc, office, id)?;
     let found = reasons(alloc, &draft)?;

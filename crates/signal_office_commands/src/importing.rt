@@ -2,6 +2,7 @@
 
 ghost use Rattle.signal_office_commands.specs.Importing.{Imports, import_told};
 ghost use Rattle.std.specs.Prelude.{◌≡◌};
+ghost use Rattle.office_desk.specs.Running.{MakesTables};
 
 use crate::refused::fault_of;
 use office_desk::office::Office;
@@ -41,9 +42,10 @@ pub fn import_csv<S: Shelf>(
     office: &mut Office<S>,
     bytes: &[u8],
 ) -> Result<Imported, Fault>
+    ensures clean { S.is_clean office.new → S.is_clean office.old }
     ensures honest { S.is_honest office.new → S.is_honest office.old }
-    ensures imports { S.is_honest office.new →
-        Imports bytes.now (S.content office.old) (S.content office.new) result }
+    ensures imports { MakesTables S.Shelf office.old office.new
+        (λ old new. Imports bytes.now old new result) }
 {
     let records = Records::new(read_records_csv(alloc, bytes)?);
     let reply = office.run(alloc, &Command::Import { records });

@@ -4,6 +4,7 @@ ghost use Rattle.std.specs.Prelude.{IfErr, IfOk, ◌≢◌};
 ghost use Rattle.office_tables_shelf.specs.Keeps.{KeepsShelf};
 ghost use Rattle.signal_office_commands.specs.Intersection.{IsRefusedShowing, ShowsDraftIn};
 ghost use Rattle.signal_office_commands.specs.Intersection.{ShowsIntersection};
+ghost use Rattle.office_desk.specs.Running.{TellsTables};
 
 use crate::showing::{cabinet_in, draft_in, state_in, timing_in};
 use draft_core::state::DbState;
@@ -22,7 +23,9 @@ fn draft_where_open<S: Shelf>(
     state: DbState,
 ) -> Result<Option<TimingSet>, Fault>
     ensures kept { KeepsShelf S.Shelf office.old office.new }
-    ensures shown { S.is_honest office.new → ShowsDraftIn (S.content office.old) id state result }
+    ensures clean { S.is_clean office.new → S.is_clean office.old }
+    ensures shown { TellsTables S.Shelf office.old office.new
+        (λ tables. ShowsDraftIn tables id state result) }
 {
     match state {
         DbState::Normal => Ok(None),
@@ -37,10 +40,11 @@ pub(crate) fn intersection_in<S: Shelf>(
     id: InterId,
 ) -> Result<IntersectionShown, Fault>
     ensures kept { KeepsShelf S.Shelf office.old office.new }
-    ensures shown { IfOk result (λ shown. S.is_honest office.new →
-        ShowsIntersection (S.content office.old) id shown) }
-    ensures fault { IfErr result (λ why. S.is_honest office.new →
-        IsRefusedShowing (S.content office.old) id why) }
+    ensures clean { S.is_clean office.new → S.is_clean office.old }
+    ensures shown { IfOk result (λ shown. TellsTables S.Shelf office.old office.new
+        (λ tables. ShowsIntersection tables id shown)) }
+    ensures fault { IfErr result (λ why. TellsTables S.Shelf office.old office.new
+        (λ tables. IsRefusedShowing tables id why)) }
 {
     let state = state_in(alloc, office, id)?;
     let committed = timing_in(alloc, office, id)?;

@@ -4,9 +4,9 @@ ghost use Rattle.std.specs.Prelude.{◌≡◌, ◌⊎◌, Err, IfOk, IfErr};
 ghost use Rattle.office_tables_shelf.specs.Damage.{HasAnyDamagedIntersection};
 ghost use Rattle.office_tables_shelf.specs.Keeps.{KeepsShelf};
 ghost use Rattle.office_machine.specs.Listed.{intersections_of};
-ghost use Rattle.office_machine.specs.Office.{Office as OfficeState};
-ghost use Rattle.office_desk.specs.StandFor.{StandForSound};
 ghost use Rattle.signal_office_commands.specs.Listing.{list_written};
+ghost use Rattle.office_desk.specs.Running.{TellsTables};
+ghost use Rattle.signal_office_commands.specs.Asking.{TellsOffice};
 
 use crate::querying::intersections_asked;
 use office_desk::office::Office;
@@ -31,17 +31,17 @@ fn list_written(alloc: Global, csv: bool, list: &[ListedIntersection]) -> Result
 pub fn list_of<S: Shelf>(alloc: Global, office: &mut Office<S>, csv: bool) -> Result<Vec<u8>, Fault>
     // It changes nothing.
     ensures kept { KeepsShelf S.Shelf office.old office.new }
-    ensures list { IfOk result (λ text. S.is_honest office.new → (before : OfficeState) →
-        StandForSound (S.content office.old) before →
-        text.items ≡ list_written csv (intersections_of before)) }
+    ensures clean { S.is_clean office.new → S.is_clean office.old }
+    ensures list { IfOk result (λ text. TellsOffice S.Shelf office.old office.new
+        (λ before. text.items ≡ list_written csv (intersections_of before))) }
     // No row of an intersection that is no record is passed over.
-    ensures whole { IfOk result (λ _. S.is_honest office.new →
-        ¬ HasAnyDamagedIntersection (S.content office.old)) }
+    ensures whole { IfOk result (λ _. TellsTables S.Shelf office.old office.new
+        (λ tables. ¬ HasAnyDamagedIntersection tables)) }
     // Where it fails, memory or the database refused, or the row of an intersection is no record.
     ensures fault { IfErr result (λ why.
         (why ≡ Fault.Memory) ⊎ ((why ≡ Fault.Store) ⊎ (why ≡ Fault.Damaged))) }
-    ensures damaged { result ≡ Err Fault.Damaged → S.is_honest office.new →
-        HasAnyDamagedIntersection (S.content office.old) }
+    ensures damaged { result ≡ Err Fault.Damaged → TellsTables S.Shelf office.old office.new
+        HasAnyDamagedIntersection }
 {
     let list = intersections_asked(alloc, office)?;
     Ok(list_written(alloc, csv, list.as_slice())?)

@@ -3,14 +3,13 @@
 ghost use Rattle.std.specs.Prelude.{◌≡◌, ◌++◌, Err, None, IfOk, IfErr, OnOk};
 ghost use Rattle.office_tables_shelf.specs.Keeps.{KeepsShelf};
 ghost use Rattle.office_desk.specs.Damage.{MeetsDamage};
-ghost use Rattle.office_machine.specs.Office.{Office as OfficeState};
-ghost use Rattle.office_desk.specs.StandFor.{StandForSound};
 ghost use Rattle.office_machine.specs.declared.command.Command.TheVariants as command;
-ghost use Rattle.office_listings.specs.Orders.{orders_listing};
 ghost use Rattle.signal_office_commands.specs.Fault.{IsFaultOfQuery, TellsUnknown};
 ghost use Rattle.signal_office_commands.specs.Cabinet.{IsThere};
 ghost use Rattle.signal_office_commands.specs.Listing.{open_on, AreOpen, TellsOrders};
 ghost use Rattle.signal_office_commands.specs.Listing.{MeetsOrdersDamage, IsOrdersListOf};
+ghost use Rattle.office_desk.specs.Running.{TellsTables};
+ghost use Rattle.signal_office_commands.specs.Asking.{TellsOffice};
 
 use crate::querying::{cabinet_asked, intersections_asked};
 use office_desk::office::Office;
@@ -28,14 +27,16 @@ fn add_orders_on<S: Shelf>(
     id: InterId,
 ) -> Result<(), Fault>
     ensures kept { KeepsShelf S.Shelf office.old office.new }
-    ensures added { OnOk result (S.is_honest office.new → (before : OfficeState) →
-        StandForSound (S.content office.old) before →
-        IsThere before id × (found.new.items ≡ found.old.items ++ open_on before id)) }
+    ensures clean { S.is_clean office.new → S.is_clean office.old }
+    ensures added { OnOk result (TellsOffice S.Shelf office.old office.new
+        (λ before. IsThere before id × (found.new.items ≡ found.old.items ++ open_on before id))) }
+    ensures whole { OnOk result (TellsTables S.Shelf office.old office.new
+        (λ tables. ¬ MeetsDamage tables (command.Cabinet id))) }
     ensures refused { IfErr result IsFaultOfQuery }
-    ensures damaged { result ≡ Err Fault.Damaged → S.is_honest office.new →
-        MeetsDamage (S.content office.old) (command.Cabinet id) }
-    ensures fault { IfErr result (λ fault. S.is_honest office.new → (before : OfficeState) →
-        StandForSound (S.content office.old) before → TellsUnknown before id fault) }
+    ensures damaged { result ≡ Err Fault.Damaged → TellsTables S.Shelf office.old office.new
+        (λ tables. MeetsDamage tables (command.Cabinet id)) }
+    ensures fault { IfErr result (λ fault. TellsOffice S.Shelf office.old office.new
+        (λ before. TellsUnknown before id fault)) }
 {
     let cabinet = cabinet_asked(alloc, office, id)?;
     add_open_orders(found, &cabinet)?;
@@ -45,13 +46,16 @@ fn add_orders_on<S: Shelf>(
 /// The open orders of all intersections, by the numbers of these.
 fn all_orders<S: Shelf>(alloc: Global, office: &mut Office<S>) -> Result<Vec<OpenOrder>, Fault>
     ensures kept { KeepsShelf S.Shelf office.old office.new }
-    ensures open { IfOk result (λ found. S.is_honest office.new → (before : OfficeState) →
-        StandForSound (S.content office.old) before → AreOpen before None found.items) }
+    ensures clean { S.is_clean office.new → S.is_clean office.old }
+    ensures open { IfOk result (λ found. TellsOffice S.Shelf office.old office.new
+        (λ before. AreOpen before None found.items)) }
+    ensures whole { IfOk result (λ _. TellsTables S.Shelf office.old office.new
+        (λ tables. ¬ MeetsOrdersDamage tables None)) }
     ensures refused { IfErr result IsFaultOfQuery }
-    ensures damaged { result ≡ Err Fault.Damaged → S.is_honest office.new →
-        MeetsOrdersDamage (S.content office.old) None }
-    ensures fault { IfErr result (λ fault. S.is_honest office.new → (before : OfficeState) →
-        StandForSound (S.content office.old) before → TellsOrders before None fault) }
+    ensures damaged { result ≡ Err Fault.Damaged → TellsTables S.Shelf office.old office.new
+        (λ tables. MeetsOrdersDamage tables None) }
+    ensures fault { IfErr result (λ fault. TellsOffice S.Shelf office.old office.new
+        (λ before. TellsOrders before None fault)) }
 {
     let list = intersections_asked(alloc, office)?;
     let mut found = Vec::new(alloc);
@@ -68,13 +72,16 @@ fn orders_asked<S: Shelf>(
     id: Option<InterId>,
 ) -> Result<Vec<OpenOrder>, Fault>
     ensures kept { KeepsShelf S.Shelf office.old office.new }
-    ensures open { IfOk result (λ found. S.is_honest office.new → (before : OfficeState) →
-        StandForSound (S.content office.old) before → AreOpen before id found.items) }
+    ensures clean { S.is_clean office.new → S.is_clean office.old }
+    ensures open { IfOk result (λ found. TellsOffice S.Shelf office.old office.new
+        (λ before. AreOpen before id found.items)) }
+    ensures whole { IfOk result (λ _. TellsTables S.Shelf office.old office.new
+        (λ tables. ¬ MeetsOrdersDamage tables id)) }
     ensures refused { IfErr result IsFaultOfQuery }
-    ensures damaged { result ≡ Err Fault.Damaged → S.is_honest office.new →
-        MeetsOrdersDamage (S.content office.old) id }
-    ensures fault { IfErr result (λ fault. S.is_honest office.new → (before : OfficeState) →
-        StandForSound (S.content office.old) before → TellsOrders before id fault) }
+    ensures damaged { result ≡ Err Fault.Damaged → TellsTables S.Shelf office.old office.new
+        (λ tables. MeetsOrdersDamage tables id) }
+    ensures fault { IfErr result (λ fault. TellsOffice S.Shelf office.old office.new
+        (λ before. TellsOrders before id fault)) }
 {
     let Some(id) = id else {
         return all_orders(alloc, office);
@@ -93,17 +100,21 @@ pub fn orders_of<S: Shelf>(
 ) -> Result<Vec<u8>, Fault>
     // It changes nothing.
     ensures kept { KeepsShelf S.Shelf office.old office.new }
-    ensures orders { IfOk result (λ text. S.is_honest office.new → (before : OfficeState) →
-        StandForSound (S.content office.old) before → IsOrdersListOf before id text.items) }
+    ensures clean { S.is_clean office.new → S.is_clean office.old }
+    ensures orders { IfOk result (λ text. TellsOffice S.Shelf office.old office.new
+        (λ before. IsOrdersListOf before id text.items)) }
+    // No row that is read and is no record is passed over.
+    ensures whole { IfOk result (λ _. TellsTables S.Shelf office.old office.new
+        (λ tables. ¬ MeetsOrdersDamage tables id)) }
     // Where it fails, the intersection is unknown, memory or the database refused, or a row that
     // is read is no record.
     ensures refused { IfErr result IsFaultOfQuery }
-    ensures damaged { result ≡ Err Fault.Damaged → S.is_honest office.new →
-        MeetsOrdersDamage (S.content office.old) id }
+    ensures damaged { result ≡ Err Fault.Damaged → TellsTables S.Shelf office.old office.new
+        (λ tables. MeetsOrdersDamage tables id) }
     // An unknown intersection is told where one was asked for that the office does not have, and
     // only there.
-    ensures fault { IfErr result (λ fault. S.is_honest office.new → (before : OfficeState) →
-        StandForSound (S.content office.old) before → TellsOrders before id fault) }
+    ensures fault { IfErr result (λ fault. TellsOffice S.Shelf office.old office.new
+        (λ before. TellsOrders before id fault)) }
 {
     let found = orders_asked(alloc, office, id)?;
     Ok(orders_text(alloc, found.as_slice())?)

@@ -3,10 +3,11 @@
 ghost use Rattle.std.specs.Prelude.{◌≡◌, ◌⊎◌, IfOk, IfErr, Err};
 ghost use Rattle.office_tables_shelf.specs.Keeps.{KeepsShelf};
 ghost use Rattle.office_desk.specs.Damage.{MeetsDamage};
-ghost use Rattle.office_machine.specs.Office.{Office as OfficeState};
-ghost use Rattle.office_desk.specs.StandFor.{StandForSound};
 ghost use Rattle.signal_office_commands.specs.Overdue.{IsReportOf};
 ghost use Rattle.office_machine.specs.declared.command.Command.TheVariants as command;
+ghost use Rattle.office_desk.specs.Running.{TellsTables};
+ghost use Rattle.signal_office_commands.specs.Asking.{TellsOffice};
+ghost use Rattle.signal_office_commands.specs.Overdue.{IsWholeReport};
 
 use crate::refused::fault_of;
 use cabinet_core::Day;
@@ -26,11 +27,16 @@ pub fn overdue_of<S: Shelf>(
 ) -> Result<Vec<u8>, Fault>
     // It changes nothing.
     ensures kept { KeepsShelf S.Shelf office.old office.new }
-    ensures report { IfOk result (λ text. S.is_honest office.new → (before : OfficeState) → StandForSound (S.content office.old) before →
-        IsReportOf before day most text.items) }
+    ensures clean { S.is_clean office.new → S.is_clean office.old }
+    ensures report { IfOk result (λ text. TellsOffice S.Shelf office.old office.new
+        (λ before. IsReportOf before day most text.items)) }
+    // A report of fewer than it may tell passes over no row that is no record.
+    ensures whole { IfOk result (λ text. TellsTables S.Shelf office.old office.new
+        (λ tables. IsWholeReport tables day most text.items)) }
     // Where it fails, memory or the database refused, or a row that is read is no record.
     ensures fault { IfErr result (λ why. (why ≡ Fault.Memory) ⊎ ((why ≡ Fault.Store) ⊎ (why ≡ Fault.Damaged))) }
-    ensures damaged { result ≡ Err Fault.Damaged → S.is_honest office.new → MeetsDamage (S.content office.old) (command.Overdue day) }
+    ensures damaged { result ≡ Err Fault.Damaged → TellsTables S.Shelf office.old office.new
+        (λ tables. MeetsDamage tables (command.Overdue day)) }
 {
     match office.overdue_first(alloc, day, most) {
         Ok(rows) => Ok(overdue_text(alloc, day, rows.as_slice())?),

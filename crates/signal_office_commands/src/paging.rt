@@ -2,12 +2,13 @@
 
 ghost use Rattle.std.specs.Prelude.{◌≡◌, ◌≢◌, Err, IfErr, IfOk};
 ghost use Rattle.office_files.specs.Changes.{changes_of};
-ghost use Rattle.office_machine.specs.Office.{Office as OfficeState};
-ghost use Rattle.office_desk.specs.StandFor.{StandForSound};
 ghost use Rattle.office_tables_shelf.specs.Keeps.{KeepsShelf};
 ghost use Rattle.signal_office_commands.specs.Fault.{TellsUnknown};
 ghost use Rattle.signal_office_commands.specs.Intersection.{IsRefusedShowing};
 ghost use Rattle.signal_office_commands.specs.Paging.{IsPageOf, IsPageOfFile};
+ghost use Rattle.office_desk.specs.Running.{TellsTables};
+ghost use Rattle.signal_office_commands.specs.Asking.{TellsOffice};
+ghost use Rattle.signal_office_commands.specs.Intersection.{IsWholePage};
 
 use crate::intersection::intersection_in;
 use office_desk::office::Office;
@@ -26,15 +27,19 @@ pub fn page_of<S: Shelf>(
 ) -> Result<Vec<u8>, Fault>
     // It changes nothing.
     ensures kept { KeepsShelf S.Shelf office.old office.new }
+    ensures clean { S.is_clean office.new → S.is_clean office.old }
     // The page shows the plan that runs as that, the draft as the draft, and the register.
-    ensures page { IfOk result (λ text. S.is_honest office.new → (before : OfficeState) →
-        StandForSound (S.content office.old) before → IsPageOf before id text.items) }
+    ensures page { IfOk result (λ text. TellsOffice S.Shelf office.old office.new
+        (λ before. IsPageOf before id text.items)) }
+    // No row that is read for it and is no record is passed over.
+    ensures whole { IfOk result (λ text. TellsTables S.Shelf office.old office.new
+        (λ tables. IsWholePage tables id text.items)) }
     // Where it fails, memory was refused, or one of the queries.
-    ensures fault { IfErr result (λ why. why ≢ Fault.Memory → S.is_honest office.new →
-        IsRefusedShowing (S.content office.old) id why) }
+    ensures fault { IfErr result (λ why. why ≢ Fault.Memory → TellsTables S.Shelf office.old office.new
+        (λ tables. IsRefusedShowing tables id why)) }
     // An unknown intersection is told where the office has none, and only there.
-    ensures unknown { IfErr result (λ why. S.is_honest office.new → (before : OfficeState) →
-        StandForSound (S.content office.old) before → TellsUnknown before id why) }
+    ensures unknown { IfErr result (λ why. TellsOffice S.Shelf office.old office.new
+        (λ before. TellsUnknown before id why)) }
 {
     let shown = intersection_in(alloc, office, id)?;
     Ok(intersection_page(alloc, &shown)?)

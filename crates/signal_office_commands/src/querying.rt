@@ -5,11 +5,12 @@ ghost use Rattle.office_tables_shelf.specs.Damage.{HasAnyDamagedIntersection};
 ghost use Rattle.office_tables_shelf.specs.Keeps.{KeepsShelf};
 ghost use Rattle.office_desk.specs.Damage.{MeetsDamage};
 ghost use Rattle.office_machine.specs.Listed.{intersections_of};
-ghost use Rattle.office_machine.specs.Office.{Office as OfficeState};
-ghost use Rattle.office_desk.specs.StandFor.{StandForSound};
 ghost use Rattle.office_machine.specs.declared.command.Command.TheVariants as command;
 ghost use Rattle.signal_office_commands.specs.Fault.{IsFaultOfQuery, TellsUnknown};
 ghost use Rattle.signal_office_commands.specs.Cabinet.{IsCabinetOf, IsStateOf};
+ghost use Rattle.office_desk.specs.Running.{TellsTables};
+ghost use Rattle.signal_office_commands.specs.Asking.{TellsOffice};
+ghost use Rattle.office_desk_timing.specs.Listing.{ListsRows};
 
 use crate::asking::ask;
 use crate::refused::fault_of;
@@ -28,13 +29,16 @@ pub(crate) fn intersections_asked<S: Shelf>(
     office: &mut Office<S>,
 ) -> Result<Vec<ListedIntersection>, Fault>
     ensures kept { KeepsShelf S.Shelf office.old office.new }
-    ensures all { IfOk result (λ found. S.is_honest office.new → (before : OfficeState) →
-        StandForSound (S.content office.old) before → found.items ≡ intersections_of before) }
-    ensures whole { IfOk result (λ _. S.is_honest office.new →
-        ¬ HasAnyDamagedIntersection (S.content office.old)) }
+    ensures clean { S.is_clean office.new → S.is_clean office.old }
+    ensures all { IfOk result (λ found. TellsOffice S.Shelf office.old office.new
+        (λ before. found.items ≡ intersections_of before)) }
+    ensures lists { IfOk result (λ found. TellsTables S.Shelf office.old office.new
+        (λ tables. ListsRows tables found.items)) }
+    ensures whole { IfOk result (λ _. TellsTables S.Shelf office.old office.new
+        (λ tables. ¬ HasAnyDamagedIntersection tables)) }
     ensures refused { IfErr result (λ why. (why ≡ Fault.Store) ⊎ (why ≡ Fault.Damaged)) }
-    ensures damaged { result ≡ Err Fault.Damaged → S.is_honest office.new →
-        HasAnyDamagedIntersection (S.content office.old) }
+    ensures damaged { result ≡ Err Fault.Damaged → TellsTables S.Shelf office.old office.new
+        HasAnyDamagedIntersection }
 {
     match office.intersections(alloc) {
         Ok(found) => Ok(found),
@@ -49,13 +53,16 @@ pub(crate) fn state_asked<S: Shelf>(
     id: InterId,
 ) -> Result<IntersectionState, Fault>
     ensures kept { KeepsShelf S.Shelf office.old office.new }
-    ensures state { IfOk result (λ state. S.is_honest office.new → (before : OfficeState) →
-        StandForSound (S.content office.old) before → IsStateOf before id state) }
+    ensures clean { S.is_clean office.new → S.is_clean office.old }
+    ensures state { IfOk result (λ state. TellsOffice S.Shelf office.old office.new
+        (λ before. IsStateOf before id state)) }
+    ensures whole { IfOk result (λ _. TellsTables S.Shelf office.old office.new
+        (λ tables. ¬ MeetsDamage tables (command.State id))) }
     ensures refused { IfErr result IsFaultOfQuery }
-    ensures damaged { result ≡ Err Fault.Damaged → S.is_honest office.new →
-        MeetsDamage (S.content office.old) (command.State id) }
-    ensures fault { IfErr result (λ fault. S.is_honest office.new → (before : OfficeState) →
-        StandForSound (S.content office.old) before → TellsUnknown before id fault) }
+    ensures damaged { result ≡ Err Fault.Damaged → TellsTables S.Shelf office.old office.new
+        (λ tables. MeetsDamage tables (command.State id)) }
+    ensures fault { IfErr result (λ fault. TellsOffice S.Shelf office.old office.new
+        (λ before. TellsUnknown before id fault)) }
 {
     match ask(alloc, office, Command::State { id }) {
         Reply::State(state) => Ok(state),
@@ -71,13 +78,16 @@ pub(crate) fn cabinet_asked<S: Shelf>(
     id: InterId,
 ) -> Result<CabinetShown, Fault>
     ensures kept { KeepsShelf S.Shelf office.old office.new }
-    ensures cabinet { IfOk result (λ cabinet. S.is_honest office.new → (before : OfficeState) →
-        StandForSound (S.content office.old) before → IsCabinetOf before id cabinet) }
+    ensures clean { S.is_clean office.new → S.is_clean office.old }
+    ensures cabinet { IfOk result (λ cabinet. TellsOffice S.Shelf office.old office.new
+        (λ before. IsCabinetOf before id cabinet)) }
+    ensures whole { IfOk result (λ _. TellsTables S.Shelf office.old office.new
+        (λ tables. ¬ MeetsDamage tables (command.Cabinet id))) }
     ensures refused { IfErr result IsFaultOfQuery }
-    ensures damaged { result ≡ Err Fault.Damaged → S.is_honest office.new →
-        MeetsDamage (S.content office.old) (command.Cabinet id) }
-    ensures fault { IfErr result (λ fault. S.is_honest office.new → (before : OfficeState) →
-        StandForSound (S.content office.old) before → TellsUnknown before id fault) }
+    ensures damaged { result ≡ Err Fault.Damaged → TellsTables S.Shelf office.old office.new
+        (λ tables. MeetsDamage tables (command.Cabinet id)) }
+    ensures fault { IfErr result (λ fault. TellsOffice S.Shelf office.old office.new
+        (λ before. TellsUnknown before id fault)) }
 {
     match ask(alloc, office, Command::Cabinet { id }) {
         Reply::Cabinet(cabinet) => Ok(cabinet),

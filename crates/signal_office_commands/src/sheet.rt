@@ -3,11 +3,11 @@
 ghost use Rattle.std.specs.Prelude.{◌≡◌, Err, IfOk, IfErr};
 ghost use Rattle.office_tables_shelf.specs.Keeps.{KeepsShelf};
 ghost use Rattle.office_desk.specs.Damage.{MeetsDamage};
-ghost use Rattle.office_machine.specs.Office.{Office as OfficeState};
-ghost use Rattle.office_desk.specs.StandFor.{StandForSound};
 ghost use Rattle.office_machine.specs.declared.command.Command.TheVariants as command;
 ghost use Rattle.signal_office_commands.specs.Fault.{IsFaultOfQuery, TellsUnknown};
 ghost use Rattle.signal_office_commands.specs.Sheet.{IsSheetOf, IsTimingOf};
+ghost use Rattle.office_desk.specs.Running.{TellsTables};
+ghost use Rattle.signal_office_commands.specs.Asking.{TellsOffice};
 
 use crate::asking::ask;
 use crate::refused::fault_of;
@@ -27,13 +27,16 @@ fn timing_in<S: Shelf>(
     id: InterId,
 ) -> Result<RunningTiming, Fault>
     ensures kept { KeepsShelf S.Shelf office.old office.new }
-    ensures timing { IfOk result (λ timing. S.is_honest office.new → (before : OfficeState) →
-        StandForSound (S.content office.old) before → IsTimingOf before id timing) }
+    ensures clean { S.is_clean office.new → S.is_clean office.old }
+    ensures timing { IfOk result (λ timing. TellsOffice S.Shelf office.old office.new
+        (λ before. IsTimingOf before id timing)) }
+    ensures whole { IfOk result (λ _. TellsTables S.Shelf office.old office.new
+        (λ tables. ¬ MeetsDamage tables (command.Timing id))) }
     ensures refused { IfErr result IsFaultOfQuery }
-    ensures damaged { result ≡ Err Fault.Damaged → S.is_honest office.new →
-        MeetsDamage (S.content office.old) (command.Timing id) }
-    ensures fault { IfErr result (λ fault. S.is_honest office.new → (before : OfficeState) →
-        StandForSound (S.content office.old) before → TellsUnknown before id fault) }
+    ensures damaged { result ≡ Err Fault.Damaged → TellsTables S.Shelf office.old office.new
+        (λ tables. MeetsDamage tables (command.Timing id)) }
+    ensures fault { IfErr result (λ fault. TellsOffice S.Shelf office.old office.new
+        (λ before. TellsUnknown before id fault)) }
 {
     match ask(alloc, office, Command::Timing { id }) {
         Reply::Timing(timing) => Ok(timing),
@@ -51,17 +54,21 @@ pub fn sheet_of<S: Shelf>(
 ) -> Result<Vec<u8>, Fault>
     // It changes nothing.
     ensures kept { KeepsShelf S.Shelf office.old office.new }
+    ensures clean { S.is_clean office.new → S.is_clean office.old }
     // The sheet is that of the set that the office runs, whatever is being drafted.
-    ensures sheet { IfOk result (λ text. S.is_honest office.new → (before : OfficeState) → StandForSound (S.content office.old) before →
-        IsSheetOf before id text.items) }
+    ensures sheet { IfOk result (λ text. TellsOffice S.Shelf office.old office.new
+        (λ before. IsSheetOf before id text.items)) }
+    // No row that is read and is no record is passed over.
+    ensures whole { IfOk result (λ _. TellsTables S.Shelf office.old office.new
+        (λ tables. ¬ MeetsDamage tables (command.Timing id))) }
     // Where it fails, the intersection is unknown, memory or the database refused, or a row of it
     // is no record.
     ensures refused { IfErr result IsFaultOfQuery }
-    ensures damaged { result ≡ Err Fault.Damaged → S.is_honest office.new →
-        MeetsDamage (S.content office.old) (command.Timing id) }
+    ensures damaged { result ≡ Err Fault.Damaged → TellsTables S.Shelf office.old office.new
+        (λ tables. MeetsDamage tables (command.Timing id)) }
     // An unknown intersection is told where the office has none, and only there.
-    ensures fault { IfErr result (λ fault. S.is_honest office.new → (before : OfficeState) → StandForSound (S.content office.old) before →
-        TellsUnknown before id fault) }
+    ensures fault { IfErr result (λ fault. TellsOffice S.Shelf office.old office.new
+        (λ before. TellsUnknown before id fault)) }
 {
     let timing = timing_in(alloc, office, id)?;
     Ok(timing_sheet(alloc, id, &timing.name, timing.revision, &timing.rows)?)

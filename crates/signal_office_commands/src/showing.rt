@@ -6,6 +6,7 @@ ghost use Rattle.signal_office_commands.specs.Showing.{state_shown, timing_shown
 ghost use Rattle.signal_office_commands.specs.Showing.{cabinet_shown};
 ghost use Rattle.signal_office_commands.specs.Showing.{ShowsState, ShowsTiming, ShowsDraft};
 ghost use Rattle.signal_office_commands.specs.Showing.{ShowsCabinet};
+ghost use Rattle.office_desk.specs.Running.{TellsTables};
 
 use crate::asking::ask;
 use crate::refused::fault_of;
@@ -68,7 +69,9 @@ pub fn state_in<S: Shelf>(
     id: InterId,
 ) -> Result<IntersectionState, Fault>
     ensures kept { KeepsShelf S.Shelf office.old office.new }
-    ensures shown { S.is_honest office.new → ShowsState (S.content office.old) id result }
+    ensures clean { S.is_clean office.new → S.is_clean office.old }
+    ensures shown { TellsTables S.Shelf office.old office.new
+        (λ tables. ShowsState tables id result) }
 {
     state_shown(ask(alloc, office, Command::State { id }))
 }
@@ -80,7 +83,9 @@ pub fn timing_in<S: Shelf>(
     id: InterId,
 ) -> Result<TimingSet, Fault>
     ensures kept { KeepsShelf S.Shelf office.old office.new }
-    ensures shown { S.is_honest office.new → ShowsTiming (S.content office.old) id result }
+    ensures clean { S.is_clean office.new → S.is_clean office.old }
+    ensures shown { TellsTables S.Shelf office.old office.new
+        (λ tables. ShowsTiming tables id result) }
 {
     timing_shown(ask(alloc, office, Command::Timing { id }))
 }
@@ -92,7 +97,9 @@ pub fn draft_in<S: Shelf>(
     id: InterId,
 ) -> Result<TimingSet, Fault>
     ensures kept { KeepsShelf S.Shelf office.old office.new }
-    ensures shown { S.is_honest office.new → ShowsDraft (S.content office.old) id result }
+    ensures clean { S.is_clean office.new → S.is_clean office.old }
+    ensures shown { TellsTables S.Shelf office.old office.new
+        (λ tables. ShowsDraft tables id result) }
 {
     draft_shown(ask(alloc, office, Command::Draft { id }))
 }
@@ -104,7 +111,9 @@ pub fn cabinet_in<S: Shelf>(
     id: InterId,
 ) -> Result<CabinetShown, Fault>
     ensures kept { KeepsShelf S.Shelf office.old office.new }
-    ensures shown { S.is_honest office.new → ShowsCabinet (S.content office.old) id result }
+    ensures clean { S.is_clean office.new → S.is_clean office.old }
+    ensures shown { TellsTables S.Shelf office.old office.new
+        (λ tables. ShowsCabinet tables id result) }
 {
     cabinet_shown(ask(alloc, office, Command::Cabinet { id }))
 }

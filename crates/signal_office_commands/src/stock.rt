@@ -4,10 +4,10 @@ ghost use Rattle.std.specs.Prelude.{◌≡◌, ◌⊎◌, Err, IfOk, IfErr};
 ghost use Rattle.cabinet_core.specs.Stock.{stock_of};
 ghost use Rattle.office_tables_shelf.specs.Keeps.{KeepsShelf};
 ghost use Rattle.office_desk.specs.Damage.{MeetsDamage};
-ghost use Rattle.office_machine.specs.Office.{Office as OfficeState};
-ghost use Rattle.office_desk.specs.StandFor.{StandForSound};
 ghost use Rattle.office_machine.specs.declared.command.Command.TheVariants as command;
 ghost use Rattle.signal_office_commands.specs.Listing.{stock_written};
+ghost use Rattle.office_desk.specs.Running.{TellsTables};
+ghost use Rattle.signal_office_commands.specs.Asking.{TellsOffice};
 
 use crate::asking::ask;
 use crate::refused::fault_of;
@@ -34,11 +34,14 @@ fn stock_written(alloc: Global, csv: bool, parts: &[(PartCode, Hand)]) -> Result
 /// Each part that was ever delivered, with how many are on hand.
 fn stock_asked<S: Shelf>(alloc: Global, office: &mut Office<S>) -> Result<Stock, Fault>
     ensures kept { KeepsShelf S.Shelf office.old office.new }
-    ensures stock { IfOk result (λ parts. S.is_honest office.new → (before : OfficeState) →
-        StandForSound (S.content office.old) before → parts ≡ stock_of before.register) }
+    ensures clean { S.is_clean office.new → S.is_clean office.old }
+    ensures stock { IfOk result (λ parts. TellsOffice S.Shelf office.old office.new
+        (λ before. parts ≡ stock_of before.register)) }
+    ensures whole { IfOk result (λ _. TellsTables S.Shelf office.old office.new
+        (λ tables. ¬ MeetsDamage tables command.Stock)) }
     ensures refused { IfErr result (λ why. (why ≡ Fault.Store) ⊎ (why ≡ Fault.Damaged)) }
-    ensures damaged { result ≡ Err Fault.Damaged → S.is_honest office.new →
-        MeetsDamage (S.content office.old) command.Stock }
+    ensures damaged { result ≡ Err Fault.Damaged → TellsTables S.Shelf office.old office.new
+        (λ tables. MeetsDamage tables command.Stock) }
 {
     match ask(alloc, office, Command::Stock) {
         Reply::Stock(parts) => Ok(parts),
@@ -56,14 +59,17 @@ pub fn stock_of<S: Shelf>(
 ) -> Result<Vec<u8>, Fault>
     // It changes nothing.
     ensures kept { KeepsShelf S.Shelf office.old office.new }
-    ensures stock { IfOk result (λ text. S.is_honest office.new → (before : OfficeState) →
-        StandForSound (S.content office.old) before →
-        text.items ≡ stock_written csv (stock_of before.register)) }
+    ensures clean { S.is_clean office.new → S.is_clean office.old }
+    ensures stock { IfOk result (λ text. TellsOffice S.Shelf office.old office.new
+        (λ before. text.items ≡ stock_written csv (stock_of before.register))) }
+    // No row that is read and is no record is passed over.
+    ensures whole { IfOk result (λ _. TellsTables S.Shelf office.old office.new
+        (λ tables. ¬ MeetsDamage tables command.Stock)) }
     // Where it fails, memory or the database refused, or the row of a part is no record.
     ensures fault { IfErr result (λ why.
         (why ≡ Fault.Memory) ⊎ ((why ≡ Fault.Store) ⊎ (why ≡ Fault.Damaged))) }
-    ensures damaged { result ≡ Err Fault.Damaged → S.is_honest office.new →
-        MeetsDamage (S.content office.old) command.Stock }
+    ensures damaged { result ≡ Err Fault.Damaged → TellsTables S.Shelf office.old office.new
+        (λ tables. MeetsDamage tables command.Stock) }
 {
     let parts = stock_asked(alloc, office)?;
     Ok(stock_written(alloc, csv, parts.as_slice())?)

@@ -28,7 +28,7 @@ returns-in-Ok-apply-clause-deals g c clean before tables request is_read keeps =
                 let same = keeps.held (kept.honest_before honest) in
                 subst (λ t. AnswersAny t c.args.asked.now.command c.decide-decided.result.reply t) same
                 (subst (λ changes. AnswersAny (g.S.Shelf.content c.args.office.now) c.args.asked.now.command c.decide-decided.result.reply (changed_by (g.S.Shelf.content c.args.office.now) changes)) none
-                (c.decide-decided.ensures.answers.step honest))
+                (c.decide-decided.ensures.answers.step (c.apply.ensures.clean clean)))
             | inr idle ↦ idle_answers tables c.args.asked.now.command c.decide-decided.result.reply idle.idle
           ] in
           subst (λ shelf. DealsBy office_protocol storage c.args.office.now shelf tables before request (Ok c.in-Ok.answer)) (sym (c.apply.ensures.idle (value ∙ none)).0)
@@ -42,11 +42,11 @@ returns-in-Ok-apply-clause-deals g c clean before tables request is_read keeps =
           let made : g.S.Shelf.content c.apply.new.self ≡ changed_by (g.S.Shelf.content c.args.office.now) c.decide-decided.result.changes.items =
           c.in-Ok-apply.ensures.ok honest ∙ (λ i. changed_by (kept.same_content read i) (value i)) in
           let few : (table : Table) → writes_in table c.decide-decided.result.changes.items ≤ most_writes tables c.args.asked.now.command table =
-          λ table. subst (λ t. writes_in table c.decide-decided.result.changes.items ≤ most_writes t c.args.asked.now.command table) same (c.decide-decided.ensures.answers.writes read table) in
+          λ table. subst (λ t. writes_in table c.decide-decided.result.changes.items ≤ most_writes t c.args.asked.now.command table) same (c.decide-decided.ensures.answers.writes (c.apply.ensures.clean clean) table) in
           deals_made g.S.Shelf.is_honest g.S.Shelf.content g.S.Shelf.written g.S.Shelf.may_leave tables before request keeps.stands c.args.asked.now c.decide-decided.result.reply is_read c.in-Ok.ensures.told
           c.args.office.now c.apply.new.self c.in-Ok.answer
           (subst (λ t. AnswersAny t c.args.asked.now.command c.decide-decided.result.reply (g.S.Shelf.content c.apply.new.self)) same
-          (subst (AnswersAny (g.S.Shelf.content c.args.office.now) c.args.asked.now.command c.decide-decided.result.reply) (sym made) (c.decide-decided.ensures.answers.step read)))
+          (subst (AnswersAny (g.S.Shelf.content c.args.office.now) c.args.asked.now.command c.decide-decided.result.reply) (sym made) (c.decide-decided.ensures.answers.step (c.apply.ensures.clean clean))))
           c.in-Ok.ensures.text
           (rise_at_most tables c.args.asked.now.command c.decide-decided.result.changes.items _ _ few (c.in-Ok-apply.ensures.written_ok ∙ (λ i. counts_after (kept.same_counts i) (value i))))
           (λ query. changed (c.decide-decided.ensures.answers.query query)) (λ refused. changed (c.decide-decided.ensures.answers.refused refused)) (c.in-Ok-apply.ensures.settled some)
@@ -68,6 +68,6 @@ returns-clause-deals g c clean before tables request is_read keeps =
           let is : left ≡ changed_by (g.S.Shelf.content c.args.office.now) c.decide-decided.result.changes.items = made.1 ∙ (λ i. changed_by (kept.same_content made.0 i) (c.as_slice.ensures.value i)) in
           inr (after_step g.S.Shelf.is_honest g.S.Shelf.content g.S.Shelf.written g.S.Shelf.may_leave tables before request keeps.stands c.args.asked.now c.decide-decided.result.reply is_read c.in-Ok.ensures.told left (bytes_of c.in-Ok.answer)
           (subst (λ t. AnswersAny t c.args.asked.now.command c.decide-decided.result.reply left) same
-          (subst (AnswersAny (g.S.Shelf.content c.args.office.now) c.args.asked.now.command c.decide-decided.result.reply) (sym is) (c.decide-decided.ensures.answers.step made.0)))
+          (subst (AnswersAny (g.S.Shelf.content c.args.office.now) c.args.asked.now.command c.decide-decided.result.reply) (sym is) (c.decide-decided.ensures.answers.step (c.apply.ensures.clean clean))))
           c.in-Ok.ensures.text)
     ])

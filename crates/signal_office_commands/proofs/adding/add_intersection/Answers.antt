@@ -1,19 +1,20 @@
-use Rattle.std.proofs.Common.{inl, subst}
-use Rattle.office_desk.specs.Answers.{AnswersAny}
+use Rattle.std.proofs.Common.{inl, rules, subst}
+use Rattle.office_desk.specs.Running.{IsRun}
 use Rattle.office_machine.specs.declared.command.Command.TheVariants as command
+use Rattle.signal_office_commands.proofs.AskingLemmas.{command_answered}
 use Rattle.signal_office_commands.proofs.adding.add_intersection.Goals as goal
 
 pub returns-clause-adds : goal.returns-clause-adds
-returns-clause-adds g c = λ honest.
-    let old = g.S.Shelf.content c.args.office.now in
-    let new = g.S.Shelf.content c.run-reply.new.self in
-    inl (record {
-      reply = c.run-reply.result;
-      step =
-          subst (λ name. AnswersAny old (command.AddIntersection c.args.id c.args.interval name) c.run-reply.result new)
-          c.in_ok-name.ensures.cases (c.run-reply.ensures.ran.step honest);
-      made_is = c.entered_told.ensures;
-    })
+returns-clause-adds g c = λ clean tables held.
+    let ran = subst (λ name. IsRun g.S.Shelf (command.AddIntersection c.args.id c.args.interval name) c.run-reply.result c.args.office.now c.run-reply.new.self) c.in_ok-name.ensures.cases c.run-reply.ensures.ran in
+    let made = command_answered g.S.Shelf _ _ _ c.run-reply.result ran _ _ c.entered_told.ensures clean tables held in
+    (made.0, inl made.1, made.2)
 
 pub returns-clause-honest : goal.returns-clause-honest
 returns-clause-honest g c = c.run-reply.ensures.ran.honest
+
+pub returns-clause-clean : goal.returns-clause-clean
+returns-clause-clean g c = c.run-reply.ensures.ran.clean
+
+pub returns-in_err-name-clause-adds : goal.returns-in_err-name-clause-adds
+returns-in_err-name-clause-adds g c = λ clean tables held. (tables, search rules, held)

@@ -4,27 +4,32 @@ use Rattle.signal_office_commands.proofs.drawing.diagram_of.Goals as goal
 
 pub returns-clause-draws : goal.returns-clause-draws
 returns-clause-draws g c =
-    IfOk-weaker c.draw.result _ _ (λ text draws honest. record {
+    IfOk-weaker c.draw.result _ _ (λ text draws clean tables held. record {
       plan = c.in_ok-plan.plan;
-      plan_is = c.in_ok-plan.ensures.shown honest;
+      plan_is = c.in_ok-plan.ensures.shown clean tables held;
       draws = draws;
     }) c.draw.ensures.draws
 
 pub returns-clause-fault : goal.returns-clause-fault
 returns-clause-fault g c =
-    IfErr-weaker c.draw.result _ _ (λ why none honest.
-    inr (c.in_ok-plan.plan, c.in_ok-plan.ensures.shown honest, none))
+    IfErr-weaker c.draw.result _ _ (λ why none clean tables held.
+    inr (c.in_ok-plan.plan, c.in_ok-plan.ensures.shown clean tables held, none))
     c.draw.ensures.fault
 
 pub returns-in_err-plan-clause-unknown : goal.returns-in_err-plan-clause-unknown
 returns-in_err-plan-clause-unknown g c =
-    on_fault _ c.in_err-plan.field-0.0 _ c.from_residual.ensures.1 (λ honest before stands.
-    drawing_tells (g.S.Shelf.content c.args.office.now) before c.args.id c.args.pattern _
-    (inl (c.in_err-plan.ensures.shown honest)) stands)
+    on_fault _ c.in_err-plan.field-0.0 _ c.from_residual.ensures.1 (λ clean tables held before stands.
+    drawing_tells tables before c.args.id c.args.pattern _
+    (inl (c.in_err-plan.ensures.shown clean tables held)) stands)
 
 pub returns-clause-unknown : goal.returns-clause-unknown
 returns-clause-unknown g c =
-    IfErr-weaker c.draw.result _ _ (λ why none honest before stands.
-    drawing_tells (g.S.Shelf.content c.args.office.now) before c.args.id c.args.pattern why
-    (inr (c.in_ok-plan.plan, c.in_ok-plan.ensures.shown honest, none)) stands)
+    IfErr-weaker c.draw.result _ _ (λ why none clean tables held before stands.
+    drawing_tells tables before c.args.id c.args.pattern why
+    (inr (c.in_ok-plan.plan, c.in_ok-plan.ensures.shown clean tables held, none)) stands)
     c.draw.ensures.fault
+
+pub returns-in_err-plan-clause-fault : goal.returns-in_err-plan-clause-fault
+returns-in_err-plan-clause-fault g c =
+    on_fault _ c.in_err-plan.field-0.0 _ c.from_residual.ensures.1 (λ clean tables held.
+    inl (c.in_err-plan.ensures.shown clean tables held))

@@ -1,23 +1,20 @@
-use Rattle.std.proofs.Common.{inl, subst}
-use Rattle.office_desk.specs.Answers.{AnswersAny}
+use Rattle.std.proofs.Common.{inl, rules, subst}
+use Rattle.office_desk.specs.Running.{IsRun}
 use Rattle.office_machine.specs.declared.command.Command.TheVariants as command
+use Rattle.signal_office_commands.proofs.AskingLemmas.{command_answered}
 use Rattle.signal_office_commands.proofs.importing.import_csv.Goals as goal
 
 pub returns-clause-imports : goal.returns-clause-imports
-returns-clause-imports g c = λ honest.
-    let old = g.S.Shelf.content c.args.office.now in
-    let new = g.S.Shelf.content c.run-reply.new.self in
-    inl (
-      c.in_ok-read_records_csv.field-0.items,
-      c.in_ok-read_records_csv.ensures.commands,
-      record {
-        reply = c.run-reply.result;
-        step =
-            subst (λ records. AnswersAny old (command.Import records) c.run-reply.result new)
-            c.new-records.ensures (c.run-reply.ensures.ran.step honest);
-        made_is = c.import_told.ensures;
-      },
-    )
+returns-clause-imports g c = λ clean tables held.
+    let ran = subst (λ records. IsRun g.S.Shelf (command.Import records) c.run-reply.result c.args.office.now c.run-reply.new.self) c.new-records.ensures c.run-reply.ensures.ran in
+    let made = command_answered g.S.Shelf _ _ _ c.run-reply.result ran _ _ c.import_told.ensures clean tables held in
+    (made.0, inl (c.in_ok-read_records_csv.field-0.items, c.in_ok-read_records_csv.ensures.commands, made.1), made.2)
 
 pub returns-clause-honest : goal.returns-clause-honest
 returns-clause-honest g c = c.run-reply.ensures.ran.honest
+
+pub returns-clause-clean : goal.returns-clause-clean
+returns-clause-clean g c = c.run-reply.ensures.ran.clean
+
+pub returns-in_err-read_records_csv-clause-imports : goal.returns-in_err-read_records_csv-clause-imports
+returns-in_err-read_records_csv-clause-imports g c = λ clean tables held. (tables, search rules, held)

@@ -1,16 +1,22 @@
 use Rattle.std.proofs.Common.{◌≡◌, take}
-use Rattle.office_tables_shelf.specs.Shelf.{IsKept}
-use Rattle.office_desk.specs.StandFor.{StandForSound}
-use Rattle.office_machine.specs.{Listed.intersections_of, Office.Office}
-use Rattle.signal_office_commands.proofs.OrderLemmas.{open_of}
+use Rattle.office_tables_shelf.specs.{Damage.HasAnyDamagedIntersection, Keeps.KeepsShelf}
+use Rattle.office_desk.specs.Running.{TellsTables}
+use Rattle.office_desk_timing.specs.Listing.{ListsRows}
+use Rattle.office_machine.specs.Listed.{intersections_of}
+use Rattle.signal_office_commands.specs.Asking.{TellsOffice}
+use Rattle.signal_office_commands.proofs.OrderLemmas.{AreWhole, open_of}
 use Rattle.signal_office_commands.proofs.orders.all_orders.Given as goal
 
--- the orders of the first intersections of the list, which are those of the office
+-- the orders of the first intersections of the list, which are those of the office, and whose rows are no damaged ones
 abbrev pub invariant-loop-listed : goal.invariant-loop-listed
 invariant-loop-listed g l =
     let shelf = g.S.Shelf in
     record {
-      all : shelf.is_honest l.office → (before : Office) → StandForSound (shelf.content l.fn.office) before → l.listed-items ≡ intersections_of before;
-      orders : shelf.is_honest l.office → (before : Office) → StandForSound (shelf.content l.fn.office) before → l.found.items ≡ open_of before (take l.listed-index l.listed-items);
-      kept : IsKept shelf.is_honest shelf.content shelf.written shelf.may_leave l.fn.office l.office;
+      all : TellsOffice shelf l.fn.office l.office (λ before. l.listed-items ≡ intersections_of before);
+      lists : TellsTables shelf l.fn.office l.office (λ tables. ListsRows tables l.listed-items);
+      sound : TellsTables shelf l.fn.office l.office (λ tables. ¬ HasAnyDamagedIntersection tables);
+      orders : TellsOffice shelf l.fn.office l.office (λ before. l.found.items ≡ open_of before (take l.listed-index l.listed-items));
+      whole : TellsTables shelf l.fn.office l.office (λ tables. AreWhole tables (take l.listed-index l.listed-items));
+      kept : KeepsShelf shelf l.fn.office l.office;
+      clean : shelf.is_clean l.office → shelf.is_clean l.fn.office;
     }

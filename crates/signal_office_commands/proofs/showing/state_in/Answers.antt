@@ -1,9 +1,9 @@
+use Rattle.signal_office_commands.proofs.AskingLemmas.{query_answered}
 use Rattle.signal_office_commands.proofs.showing.state_in.Goals as goal
 
 pub returns-clause-shown : goal.returns-clause-shown
-returns-clause-shown g c = λ honest.
-    record {
-      reply = c.ask.result;
-      step = c.ask.ensures.step honest;
-      made_is = c.state_shown.ensures;
-    }
+returns-clause-shown g c =
+    query_answered g.S.Shelf _ _ _ c.ask.result c.ask.ensures.ran _ _ c.state_shown.ensures c.ask.ensures.step
+
+pub returns-clause-clean : goal.returns-clause-clean
+returns-clause-clean g c = c.ask.ensures.ran.clean

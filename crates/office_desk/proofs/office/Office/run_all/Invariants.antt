@@ -4,9 +4,8 @@ use Rattle.office_desk.proofs.office.Office.run_all.Given as goal
 
 abbrev pub invariant-loop-command : goal.invariant-loop-command
 invariant-loop-command g l =
-    let shelf = g.S.Shelf in
     record {
-      each : AreRun shelf.is_clean shelf.is_honest shelf.content shelf.written shelf.may_leave (take l.command-index l.commands) l.replies.items l.fn.self l.self;
+      each : AreRun g.S.Shelf (take l.command-index l.commands) l.replies.items l.fn.self l.self;
       count : vec_len l.replies ≡ l.command-index;
       room : length l.commands ≤ vec_capacity l.replies;
     }
