@@ -1,7 +1,7 @@
 -- What files that hold today's tables are found to hold.
 use Rattle.std.proofs.Common.{◌≡◌, inl, inr, IsTrue, sym, ap, subst, ◌∙◌}
 use Rattle.std.proofs.Math.Logic.{∥∥₁_elim}
-use Rattle.sqlite.specs.{Closing.HoldsAlone, Closing.IsCopied, Effect.Database, Files.file_state, Held.Held, Recovery.Image, Tree.Trees}
+use Rattle.sqlite.specs.{Closing.HoldsAlone, Closing.IsCopied, Effect.Database, Files.file_state, Held.Held, Recovery.Image, State.HasCleanDisk, Tree.Trees}
 use Rattle.sqlite.specs.declared.FileStore.{FileStore}
 use Rattle.sqlite_disk.specs.declared.Disk.{Ghosts as Disk}
 use Rattle.sqlite_disk.specs.declared.Files.{Files}
@@ -9,9 +9,13 @@ use Rattle.sqlite_trees.specs.Props.{Trees-set}
 use Rattle.office_desk.specs.StandFor.{StandForSound}
 use Rattle.office_machine.specs.Office.{Office}
 use Rattle.office_tables.specs.{Content.Content, Stored.content_now, Stored.content_of}
-use Rattle.office_tables_open.specs.{Lacking.Hold, SqlShelf.IsCurrent, Version.AreToday}
+use Rattle.office_tables_open.specs.{Lacking.Hold, SqlShelf.IsCurrent, SqlShelf.MayLeave, Version.AreToday}
 use Rattle.office_tables_open.proofs.LackingLemmas.{hold_office}
+use Rattle.signal_office_faults.specs.declared.fault.Fault.{Fault}
 use Rattle.signal_office_file.specs.Files.{AreThoseOf, HoldIn, IsImageOf, KeepTables, StandInBoth}
+use Rattle.signal_office_file.specs.Left.{IsCleanFile, IsUnclosed, LeavesDatabases, LeavesToday, MayLeaveOf}
+use Rattle.signal_office_file.specs.declared.left.FileLeft.{FileLeft}
+use Rattle.signal_office_file.specs.declared.left.FileLeft.TheVariants as left
 
 -- files that hold a database alone are read as that database
 pub held_alone : (image : Image) (db trees : Trees) → HoldsAlone image db → AreThoseOf image trees → trees ≡ db
@@ -50,3 +54,21 @@ module _ {D : Type 0} (g : Disk D) (files : Files D) where
   pub stand_in_both : (tables : Content) (office : Office) → KeepTables g files tables → StandForSound tables office → StandInBoth g files office
   stand_in_both tables office it stands image is found holds =
       subst (λ t. StandForSound t office) (sym (found_tables tables it image is found holds)) stands
+
+-- ---- what is left where a database could not be closed
+
+module _ {D : Type 0} {g : Disk D} (conn : Held (FileStore D g)) (told : Fault) where
+  pub unclosed_today : (back : FileLeft D g) → IsCurrent (file_state conn) → IsUnclosed conn told back → LeavesToday back
+  unclosed_today (left.Database back) current it = λ clean trees may. current.left (it.clean clean) trees (it.crash trees may)
+  unclosed_today _ current it = tt
+
+  -- a stop leaves no more of it than of the connection
+  pub unclosed_leaves : (back : FileLeft D g) → IsUnclosed conn told back → LeavesToday back → IsCleanFile back
+      → LeavesDatabases back × HasCleanDisk (file_state conn) × ((tables : Content) → MayLeaveOf back tables → MayLeave (file_state conn) tables)
+  unclosed_leaves (left.Database back) it today clean = (
+    it.sound clean,
+    it.clean clean,
+    λ tables may. (it.clean clean, may.0, it.crash may.0 may.1, sym (hold_today may.0 tables (today clean may.0 may.1) may.2)),
+  )
+  unclosed_leaves (left.Closed back) none today clean = absurd none
+  unclosed_leaves (left.Unopened back) none today clean = absurd none

@@ -2,3 +2,4 @@ pub mod FilesLemmas
 mod LeftLemmas
 mod MigratingLemmas
 mod InFileLemmas
+pub mod ServingLemmas

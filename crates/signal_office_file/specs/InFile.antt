@@ -13,7 +13,7 @@ use Rattle.signal_office_in_file.specs.Ended.{FileView, file_view}
 use Rattle.signal_office_in_file.specs.declared.Ended.{Ended}
 use Rattle.signal_office_in_file.specs.declared.Ended.TheVariants.{Unopened, Refused, Closed, Unclosed}
 use Rattle.signal_office_file.specs.Files.{AreNew, HoldIn, KeepTables}
-use Rattle.signal_office_file.specs.Left.{IsCleanFile, IsRefusedIn}
+use Rattle.signal_office_file.specs.Left.{IsCleanFile, IsRefusedIn, LeavesDatabases, MayLeaveOf}
 use Rattle.signal_office_file.specs.Migrating.{ClosedMigrated}
 use Rattle.signal_office_file.specs.Told.{told_of}
 use Rattle.signal_office_file.specs.declared.left.FileLeft.{FileLeft}
@@ -47,6 +47,18 @@ module _ {D : Type 0} {g : Disk D} where
 -- what the jobs know of two files
 abbrev pub files_view : {D : Type 0} (g : Disk D) → Files D → FileView (FileLeft D g)
 files_view g files = file_view (HoldIn (image_of g files)) IsCleanFile IsKept (λ back why. IsRefusedFor files why back)
+
+-- Work over two files ended, and they were closed after it, on a disk that returned what was written: so before it.
+abbrev pub WasClean : {D : Type 0} (g : Disk D) {T : Type 0} → Files D → Ended T (FileLeft D g) → Type 0
+WasClean g files (Closed done back) = IsCleanFile back → AreClean g files.log files.db
+WasClean g files _ = Unit {0}
+
+-- They could not be closed: a stop leaves of them the tables that they held, or what one leaves of the work.
+abbrev pub IsLeftOpen : {D : Type 0} (g : Disk D) {T : Type 0} → Files D → (leaves : Content → Content → Type 0) → Ended T (FileLeft D g) → Type 0
+IsLeftOpen g files leaves (Unclosed why back) =
+    IsCleanFile back → LeavesDatabases back × ((tables : Content) → ∥ MayLeaveOf back tables ∥₁
+    → (old : Content) × HoldIn (image_of g files) old × ∥ (tables ≡ old) ⊎ leaves old tables ∥₁)
+IsLeftOpen g files leaves _ = Unit {0}
 
 -- the same of files that held this as they were opened
 abbrev pub IsRefusedAt : {D : Type 0} {g : Disk D} → Image → FileLeft D g → Fault → Type 0

@@ -1,7 +1,7 @@
 -- Why a file was refused, and what is left of it.
 use Rattle.std.specs.Prelude.{◌≡◌, ◌≢◌, ◌⊎◌, Option, None, Some, Result}
 use Rattle.sqlite.specs.Files.{FailsToOpenFiles, Finds, IsCleanLeft, IsOpened, LeavesFiles, file_state, over_files}
-use Rattle.sqlite.specs.Held.{Held}
+use Rattle.sqlite.specs.Held.{AreDatabases, Held}
 use Rattle.sqlite.specs.State.{HasCleanDisk, store_error}
 use Rattle.sqlite.specs.WalReads.{AreClean}
 use Rattle.sqlite.specs.Tree.{Trees}
@@ -12,7 +12,10 @@ use Rattle.sqlite.specs.declared.file.Leftover.TheVariants as rest
 use Rattle.sqlite_disk.specs.declared.Disk.{Ghosts as Disk}
 use Rattle.sqlite_disk.specs.declared.Files.{Files}
 use Rattle.sqlite_trees.specs.declared.error.StoreError.{StoreError}
+use Rattle.office_tables.specs.Content.{Content}
+use Rattle.office_tables_open.specs.Lacking.{Hold}
 use Rattle.office_tables_open.specs.Opening.{IsCleanStore, IsRefused, store_left}
+use Rattle.office_tables_open.specs.Version.{AreToday}
 use Rattle.office_tables_open.specs.declared.open.OpenFault.{OpenFault}
 use Rattle.signal_office_faults.specs.declared.fault.Fault.{Fault}
 use Rattle.signal_office_faults.specs.declared.fault.Fault.TheVariants as fault
@@ -87,8 +90,25 @@ module _ {D : Type 0} {g : Disk D} where
     pub told_is : told ≡ told_of_error (store_error cause)
     pub clean : IsCleanStore over_files (store_left over_files back) → HasCleanDisk (file_state conn)
     pub crash : (trees : Trees) → over_files.recovers (store_left over_files back) trees → (file_state conn).may_leave trees
+    pub sound : IsCleanStore over_files (store_left over_files back) → AreDatabases (over_files.recovers (store_left over_files back))
 
   abbrev pub IsUnclosed : Held (FileStore D g) → Fault → FileLeft D g → Type 0
   IsUnclosed conn told (left.Closed back) = ⊥
   IsUnclosed conn told (left.Unopened back) = ⊥
   IsUnclosed conn told (left.Database back) = StaysOpened conn told back
+
+  -- whatever a stop leaves of the database that is not closed has today's version
+  abbrev pub LeavesToday : FileLeft D g → Type 0
+  LeavesToday (left.Database back) =
+      IsCleanStore over_files (store_left over_files back) → (trees : Trees) → over_files.recovers (store_left over_files back) trees → AreToday trees
+  LeavesToday _ = Unit {0}
+
+  -- and a schema that it obeys
+  abbrev pub LeavesDatabases : FileLeft D g → Type 0
+  LeavesDatabases (left.Database back) = AreDatabases (over_files.recovers (store_left over_files back))
+  LeavesDatabases _ = ⊥
+
+  -- a stop leaves these tables of it; a table that is missing holds nothing
+  abbrev pub MayLeaveOf : FileLeft D g → Content → Type 0
+  MayLeaveOf (left.Database back) tables = (trees : Trees) × over_files.recovers (store_left over_files back) trees × Hold trees tables
+  MayLeaveOf _ tables = ⊥

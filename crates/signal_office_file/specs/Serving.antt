@@ -1,18 +1,26 @@
 -- The office over the tables in files: what was opened, and what was served.
-use Rattle.std.specs.Prelude.{◌≡◌, ℕ, List, IsTrue}
+use Rattle.std.specs.Prelude.{◌≡◌, ℕ, List, Result, IsTrue}
+use Rattle.sqlite.specs.Files.{file_state}
 use Rattle.sqlite.specs.Held.{Held}
 use Rattle.sqlite.specs.Recovery.{Image}
 use Rattle.sqlite.specs.State.{State}
+use Rattle.sqlite_disk.specs.declared.Disk.{Ghosts as Disk}
 use Rattle.office_tables.specs.Calls.{IsHonest}
 use Rattle.office_tables.specs.Content.{Content}
 use Rattle.office_tables.specs.Stored.{content_now}
 use Rattle.office_tables_open.specs.SqlShelf.{MayLeave, SqlView}
 use Rattle.office_tables_shelf.specs.Counts.{no_writes}
+use Rattle.office_tables_shelf.specs.declared.counts.WriteCounts.{WriteCounts}
 use Rattle.office_machine.specs.Office.{Office}
-use Rattle.office_http.specs.Laws.{Serves}
-use Rattle.office_http.specs.Protocol.{office_storage}
+use Rattle.office_desk.specs.StandFor.{StandForSound}
+use Rattle.office_http.specs.Laws.{KeepsLaws, Serves}
+use Rattle.office_http.specs.Protocol.{office_protocol, office_storage}
 use Rattle.office_http_framing.specs.Front.{PlainRequest}
-use Rattle.office_http_framing.specs.Stops.{Storage}
+use Rattle.office_http_framing.specs.Protocol.{Run}
+use Rattle.office_http_framing.specs.Serve.{Did, Ends}
+use Rattle.office_http_framing.specs.Stops.{Leaves, Storage}
+use Rattle.office_http_framing.specs.declared.engine.Served.{Served}
+use Rattle.office_http_framing.specs.declared.engine.ServeFault.{ServeFault}
 use Rattle.signal_office_file.specs.Files.{HoldIn}
 
 -- how the office is stored in the tables of a database, whose connection has these states
@@ -30,3 +38,31 @@ pub record AreOpenedIn {S : Type 0} (state_of : Held S → State) (image : Image
 pub record ServesFiles {S : Type 0} (state_of : Held S → State) (held : Content) (before : Office) (last : SqlView S) (after : Office) (requests : List PlainRequest) (answers : List (List ℕ)) : Type 0 where
   pub kept : Content
   pub serves : Serves (sql_storage state_of) (λ tables. tables ≡ held) held no_writes before last kept after requests answers
+
+-- ---- what a stop leaves of a stream that was served over tables
+
+module _ {S : Type 0} (state_of : Held S → State) where
+  -- A stop leaves these tables after the requests: those after the last answer that was no 503, or after a later request that was answered 503.
+  pub record MayBeFound (old : Content) (before after : Office) (requests : List PlainRequest) (answers : List (List ℕ)) (found : Content) : Type 0 where
+    pub run : Run office_protocol before requests answers after
+    pub kept : Content
+    pub counts : WriteCounts
+    pub leaves : Leaves office_protocol (sql_storage state_of) (λ tables. tables ≡ old) old no_writes before requests answers after run (λ left. left ≡ found) kept counts
+
+  -- the requests were run from the office, and a stop after them leaves these tables
+  pub record RunsToAStop (old : Content) (before after : Office) (found : Content) (requests : List PlainRequest) (answers : List (List ℕ)) : Type 0 where
+    pub laws : KeepsLaws before requests answers after
+    pub found_so : ∥ MayBeFound old before after requests answers found ∥₁
+
+  -- a stream was served so from whichever office the tables stood for
+  abbrev pub IsServedToAStop : ℕ → Ends → Ends → Content → Result Served ServeFault → Content → Type 0
+  IsServedToAStop limit start end old outcome found =
+      (before : Office) → StandForSound old before → (after : Office) × Did office_protocol (RunsToAStop old before after found) limit start end outcome
+
+  -- the same, however that ended
+  abbrev pub IsCutShort : ℕ → Ends → Ends → Content → Content → Type 0
+  IsCutShort limit start end old found = (outcome : Result Served ServeFault) × IsServedToAStop limit start end old outcome found
+
+-- the same over files
+abbrev pub IsCutShortIn : {D : Type 0} (g : Disk D) → ℕ → Ends → Ends → Content → Content → Type 0
+IsCutShortIn {D} g limit start end old found = IsCutShort (file_state {D = D} {g = g}) limit start end old found

@@ -6,7 +6,7 @@ ghost use Rattle.sqlite.specs.Files.{file_state};
 ghost use Rattle.sqlite.specs.WalReads.{AreClean};
 ghost use Rattle.office_tables.specs.Stored.{content_now};
 ghost use Rattle.signal_office_file.specs.Files.{AreUsable, KeepTables};
-ghost use Rattle.signal_office_file.specs.Left.{IsUnclosed};
+ghost use Rattle.signal_office_file.specs.Left.{IsUnclosed, LeavesToday};
 
 use crate::fault::fault_of_database;
 use crate::left::{FileLeft, Refused};
@@ -39,6 +39,7 @@ pub fn close_office<D: Disk + Drop>(office: FileOffice<D>) -> Result<Files<D>, R
     ensures usable { IfOk result (AreUsable D.Disk) }
     // Where that fails, a stop leaves no more of it than before.
     ensures unclosed { IfErr result (λ e. IsUnclosed office.conn e.0 e.1) }
+    ensures current { IfErr result (λ e. LeavesToday e.1) }
 {
     close_file(office.into_shelf().into_conn())
 }

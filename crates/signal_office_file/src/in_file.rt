@@ -4,10 +4,11 @@ ghost use Rattle.std.specs.Prelude.{◌≡◌};
 ghost use Rattle.office_http_framing.specs.Serve.{ends_of};
 ghost use Rattle.signal_office_in_file.specs.Ended.{Answers, EndsOver, IsCounted};
 ghost use Rattle.sqlite.specs.WalFiles.{image_at};
-ghost use Rattle.signal_office_file.specs.InFile.{IsMigrated, IsMigratedAt, IsRefusedAt};
-ghost use Rattle.signal_office_file.specs.InFile.{IsRefusedFor, files_view, map_left};
-ghost use Rattle.signal_office_file.specs.InFile.{rows_counted, view_at};
+ghost use Rattle.signal_office_file.specs.InFile.{IsLeftOpen, IsMigrated, IsMigratedAt};
+ghost use Rattle.signal_office_file.specs.InFile.{IsRefusedAt, IsRefusedFor, WasClean};
+ghost use Rattle.signal_office_file.specs.InFile.{files_view, map_left, rows_counted, view_at};
 ghost use Rattle.signal_office_file.specs.Left.{IsCleanFile};
+ghost use Rattle.signal_office_file.specs.Serving.{IsCutShortIn};
 
 use crate::closing::close_office;
 use crate::left::FileLeft;
@@ -35,7 +36,7 @@ where
 }
 
 /// Does a task over the tables in the two files, and closes them.
-fn done_in<D: Disk + Drop, Done: Drop, T: OfficeTask<Done>, W: Sink>(
+pub fn done_in<D: Disk + Drop, Done: Drop, T: OfficeTask<Done>, W: Sink>(
     rt: &HostRuntime,
     alloc: Global,
     files: Files<D>,
@@ -43,9 +44,10 @@ fn done_in<D: Disk + Drop, Done: Drop, T: OfficeTask<Done>, W: Sink>(
     task: &T,
     out: &mut W,
 ) -> Ended<Result<Done, Fault>, FileLeft<D>>
-    ensures { EndsOver (files_view D.Disk files)
+    ensures ends { EndsOver (files_view D.Disk files)
         (λ old done new. T.does task.now old done new (W.told out.old) (W.told out.new))
         (out.new ≡ out.old) result }
+    ensures clean { WasClean D.Disk files result }
 {
     let office = match open_file(alloc, files, options) {
         Ok(office) => office,
@@ -60,7 +62,7 @@ fn done_in<D: Disk + Drop, Done: Drop, T: OfficeTask<Done>, W: Sink>(
 
 /// Answers the requests of the source over the tables in the two files, and closes them. What was
 /// answered stands in the files before that.
-fn answered_in<D: Disk + Drop, R: Source, W: Sink>(
+pub fn answered_in<D: Disk + Drop, R: Source, W: Sink>(
     alloc: Global,
     files: Files<D>,
     options: Options,
@@ -68,10 +70,15 @@ fn answered_in<D: Disk + Drop, R: Source, W: Sink>(
     out: &mut W,
     max_requests: u32,
 ) -> Ended<Result<Served, ServeFault>, FileLeft<D>>
-    ensures { EndsOver (files_view D.Disk files)
+    ensures ends { EndsOver (files_view D.Disk files)
         (Answers max_requests (ends_of (R.told source.old) (W.told out.old))
         (ends_of (R.told source.new) (W.told out.new)))
         ((source.new ≡ source.old) × (out.new ≡ out.old)) result }
+    ensures clean { WasClean D.Disk files result }
+    // Where they could not be closed, a stop leaves of them what one leaves of the stream.
+    ensures unclosed { IsLeftOpen D.Disk files (IsCutShortIn D.Disk max_requests
+        (ends_of (R.told source.old) (W.told out.old))
+        (ends_of (R.told source.new) (W.told out.new))) result }
 {
     let (office, served) = match serve_file(alloc, files, options, source, out, max_requests) {
         Ok(served) => served,

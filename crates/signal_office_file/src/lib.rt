@@ -13,7 +13,7 @@ mod serving;
 mod streaming;
 
 pub use closing::close_office;
-pub use in_file::{SystemFile, TablesInFile};
+pub use in_file::{SystemFile, TablesInFile, answered_in, done_in};
 pub use left::{FileLeft, Refused};
 pub use migrating::migrate_file;
 pub use opening::{FileOffice, open_file};

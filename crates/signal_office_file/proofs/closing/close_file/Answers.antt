@@ -11,4 +11,5 @@ returns-in-Err-clause-unclosed g c =
       told_is = c.fault_of_database.ensures ∙ ap told_of_error it.kind.1;
       clean = λ clean. omega (arith, clean, quiet.clean);
       crash = λ trees left. quiet.outcomes trees left;
+      sound = λ clean. it.err.0.sound clean;
     }

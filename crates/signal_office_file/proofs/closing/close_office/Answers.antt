@@ -1,11 +1,11 @@
 use Rattle.std.proofs.Common.{subst, ap, ◌∙◌}
-use Rattle.std.proofs.lemmas.Result.{IfOk-weaker}
+use Rattle.std.proofs.lemmas.Result.{IfErr-weaker, IfOk-weaker}
 use Rattle.std.specs.Prelude.{IfErr, IfOk}
 use Rattle.sqlite.specs.{Closing.IsCopied, Files.file_state, WalReads.AreClean}
 use Rattle.sqlite_store.specs.Laws.{stays_at}
 use Rattle.office_tables.specs.Stored.{content_now}
 use Rattle.signal_office_file.specs.{Files.KeepTables, Left.IsUnclosed}
-use Rattle.signal_office_file.proofs.FilesLemmas.{kept_tables}
+use Rattle.signal_office_file.proofs.FilesLemmas.{kept_tables, unclosed_today}
 use Rattle.signal_office_file.proofs.closing.close_office.Goals as goal
 
 pub returns-clause-copied : goal.returns-clause-copied
@@ -25,3 +25,7 @@ pub returns-clause-unclosed : goal.returns-clause-unclosed
 returns-clause-unclosed g c =
     let same = c.into_conn.ensures.same ∙ ap (λ shelf. shelf.conn) c.into_shelf.ensures in
     subst (λ conn. IfErr c.close_file.result (λ e. IsUnclosed conn e.0 e.1)) same c.close_file.ensures.unclosed
+
+pub returns-clause-current : goal.returns-clause-current
+returns-clause-current g c =
+    IfErr-weaker c.close_file.result _ _ (λ e unclosed. unclosed_today c.into_conn.result e.0 e.1 c.into_conn.ensures.current unclosed) c.close_file.ensures.unclosed

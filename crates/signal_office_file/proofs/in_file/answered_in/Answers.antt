@@ -1,14 +1,16 @@
-use Rattle.std.proofs.Common.{sym, subst}
+use Rattle.std.proofs.Common.{inr, sym, subst}
+use Rattle.std.proofs.Math.Logic.{∥∥₁_map}
 use Rattle.sqlite.specs.Files.{file_state}
 use Rattle.office_desk.specs.StandFor.{StandForSound}
 use Rattle.office_http.specs.Protocol.{office_protocol}
 use Rattle.office_http_framing.proofs.ServeLemmas.{Did-weaker}
 use Rattle.office_tables.specs.{Calls.IsHonest, Stored.content_now}
+use Rattle.signal_office_file.proofs.{FilesLemmas.unclosed_leaves, ServingLemmas.served_to_a_stop}
 use Rattle.signal_office_file.proofs.in_file.answered_in.Goals as goal
 
 -- closed on a clean disk, the database was open to the end, and holds what was kept
-pub returns-in-Ok-close_office : goal.returns-in-Ok-close_office
-returns-in-Ok-close_office g c clean =
+pub returns-in-Ok-close_office-clause-ends : goal.returns-in-Ok-close_office-clause-ends
+returns-in-Ok-close_office-clause-ends g c clean =
     let closed = c.in-Ok-close_office.ensures in
     let served = c.in-Ok.served in
     let honest : IsHonest (file_state served.0.conn) = ((closed.copied clean).was_clean, (closed.copied clean).was_open) in
@@ -26,4 +28,21 @@ returns-in-Ok-close_office g c clean =
                 }) ran.1,
           )),
       closed.kept clean,
+    )
+
+pub returns-in-Ok-close_office-clause-clean : goal.returns-in-Ok-close_office-clause-clean
+returns-in-Ok-close_office-clause-clean g c clean = c.in-Ok.ensures.clean (c.in-Ok-close_office.ensures.copied clean).was_clean
+
+pub returns-in-Err-close_office-clause-unclosed : goal.returns-in-Err-close_office-clause-unclosed
+returns-in-Err-close_office-clause-unclosed g c clean =
+    let back = c.in-Err-close_office.ensures in
+    let served = c.in-Ok.served in
+    let left = unclosed_leaves served.0.conn c.in-Err-close_office.fault c.in-Err-close_office.left back.unclosed back.current clean in
+    let did = c.in-Ok.ensures.did left.1 in (
+      left.0,
+      λ tables may. (
+        did.0,
+        did.1,
+        ∣ inr (served.1, served_to_a_stop file_state did.0 served.0 c.args.max_requests _ _ served.1 tables did.2 (∥∥₁_map may (λ m. left.2 tables m))) ∣₁,
+      ),
     )

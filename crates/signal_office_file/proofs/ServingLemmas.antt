@@ -1,0 +1,44 @@
+-- What a stop leaves of a stream that was served.
+use Rattle.std.proofs.Common.{◌≡◌, Result, List, [], ◌∷◌, ℕ, sym, subst}
+use Rattle.std.proofs.Math.Logic.{∥∥₁_map}
+use Rattle.sqlite.specs.{Held.Held, State.State}
+use Rattle.office_machine.specs.Office.{Office}
+use Rattle.office_tables.specs.Content.{Content}
+use Rattle.office_tables_open.specs.SqlShelf.{MayLeave, SqlView}
+use Rattle.office_desk.specs.StandFor.{StandForSound}
+use Rattle.office_http.specs.Protocol.{office_protocol}
+use Rattle.office_http_framing.specs.{Front.PlainRequest, Protocol.Protocol, Protocol.Run, Serve.Did, Serve.Ends, Stops.Leaves, Stops.Storage}
+use Rattle.office_http_framing.specs.declared.{engine.Served.Served, engine.ServeFault.ServeFault}
+use Rattle.office_http_framing.proofs.ServeLemmas.{Did-weaker}
+use Rattle.signal_office_file.specs.Serving.{IsServedToAStop, ServesFiles, sql_storage}
+
+-- of less that a crash leaves at the end the same holds
+leaves_less : {Machine State Stored : Type 0} (protocol : Protocol State) (storage : Storage Machine State Stored) (may : Stored → Type 0) (held : Stored) (old : storage.Counts)
+    (before : State) (requests : List PlainRequest) (answers : List (List ℕ)) (after : State) (run : Run protocol before requests answers after)
+    (more less : Stored → Type 0) (kept : Stored) (new : storage.Counts) → ((left : Stored) → less left → more left)
+    → Leaves protocol storage may held old before requests answers after run more kept new → Leaves protocol storage may held old before requests answers after run less kept new
+leaves_less protocol storage may held old before [] [] after run more less kept new fewer it = ((λ left end. it.0 left (fewer left end)), it.1, it.2)
+leaves_less protocol storage may held old before (request ∷ requests) (answer ∷ answers) after run more less kept new fewer it =
+    (it.0, it.1, it.2, leaves_less protocol storage _ it.0 it.1 run.0 requests answers after run.2 more less kept new fewer it.3)
+leaves_less protocol storage may held old before [] (answer ∷ answers) after run more less kept new fewer it = it
+leaves_less protocol storage may held old before (request ∷ requests) [] after run more less kept new fewer it = it
+
+-- whatever a stop leaves of the connection at the end, it leaves of the stream
+pub served_to_a_stop : {S : Type 0} (state_of : Held S → State) (held : Content) (last : SqlView S) (limit : ℕ) (start end : Ends) (outcome : Result Served ServeFault) (found : Content)
+    → ((before : Office) → StandForSound held before → (after : Office) × Did office_protocol (ServesFiles state_of held before last after) limit start end outcome)
+    → ∥ MayLeave (state_of last.conn) found ∥₁ → IsServedToAStop state_of limit start end held outcome found
+served_to_a_stop state_of held last limit start end outcome found did may before stands =
+    let ran = did before stands in (
+      ran.0,
+      Did-weaker office_protocol _ _ limit start end outcome
+          (λ requests answers it. record {
+            laws = it.serves.laws;
+            found_so = ∥∥₁_map may (λ m. record {
+              run = it.serves.ran.run;
+              kept = it.kept;
+              counts = last.counts;
+              leaves = leaves_less office_protocol (sql_storage state_of) _ _ _ _ requests answers ran.0 it.serves.ran.run _ _ it.kept last.counts
+                  (λ left is. subst (MayLeave (state_of last.conn)) (sym is) m) it.serves.ran.leaves;
+            });
+          }) ran.1,
+    )
