@@ -284,21 +284,21 @@ def order_cells(register, id, number, order):
 
 
 def cabinet_part(register, id, interval):
-    """The cabinet: the due day, open orders, closed orders, inspections."""
+    """The cabinet: the due day, open orders, closed orders, inspections, the last number first."""
     due, orders = register.due(id, interval), records_of(register.orders, id)
     said = (f"The next inspection is due on <strong>{due}</strong>." if due
             else "It was never inspected.")
     yield f"<p>{said} Days from one inspection to the next: {interval}.</p>\n"
     yield table("Open orders", ORDERS, [
         f"<tr>{order_cells(register, id, number, it)}</tr>\n"
-        for number, it in orders if not it.closed])
+        for number, it in reversed(orders) if not it.closed])
     yield table("Closed orders", [*ORDERS, ["Closed"], ["Closed by"]], [
         f"<tr>{order_cells(register, id, number, it)}{cell(it.closed, 'd')}"
-        f"{word(isolated(it.closer))}</tr>\n" for number, it in orders if it.closed])
+        f"{word(isolated(it.closer))}</tr>\n" for number, it in reversed(orders) if it.closed])
     yield table("Inspections", INSPECTIONS, [
         f"<tr>{first(number)}{cell(it.day, 'd')}{word(isolated(it.clerk))}"
         f"{word(isolated(it.text))}</tr>\n"
-        for number, it in records_of(register.inspections, id)])
+        for number, it in reversed(records_of(register.inspections, id))])
 
 
 def page(office, id):

@@ -3,3 +3,4 @@ pub mod Markup
 pub mod Restored
 pub mod Parts
 pub mod Empty
+pub mod Newest

@@ -2,7 +2,7 @@
 use Rattle.std.proofs.Common.{◌≡◌, ℕ, suc, ◌+◌, ◌≤◌, ◌⊎◌, inl, inr, arith, eqb, Bool, true, false, List, [], ◌∷◌, ◌++◌, map, flat_map}
 use Rattle.std.proofs.Common.{filter, length, codes, Option, Some, None, refl, sym, ap, ap₂, ◌∙◌}
 use Rattle.std.proofs.{lemmas.List.Elements.filter-append, lemmas.List.length-append}
-use Rattle.std.specs.Prelude.{cond, decimal, is_some, not, option_map}
+use Rattle.std.specs.Prelude.{cond, reverse, decimal, is_some, not, option_map}
 use Rattle.cabinet_core.specs.{Orders.is_open, Overdue.greater, Overdue.latest_day, declared.record.CabinetView.CabinetView}
 use Rattle.cabinet_core.specs.{declared.record.Closing.Closing, declared.record.Inspection.Inspection, declared.record.Order.Order}
 use Rattle.cabinet_core.specs.declared.record.UsedLine.{UsedLine}
@@ -17,6 +17,7 @@ use Rattle.signal_page.specs.Register.{part_used, part_of, parts_cell, order_cel
 use Rattle.signal_page.specs.Register.{open_orders, closed_orders, inspection_row, inspections_part, due_note, register_part}
 use Rattle.office_files.specs.Cells.{when_empty}
 use Rattle.signal_page.specs.Tables.{none_row, rows_or_none}
+use Rattle.signal_page.proofs.Newest.{reversed_map}
 use Rattle.signal_page.specs.Page.{header, plan_section, draft_section, cabinet_section, page_end, page_text}
 
 -- ---- texts with the same markup characters
@@ -48,6 +49,12 @@ each : {A : Type 0} (f g : A → List ℕ) (blanked : A → A)
     → (xs : List A) → Alike (flat_map f xs) (flat_map g (map blanked xs))
 each f g blanked h [] = same []
 each f g blanked h (x ∷ xs) = joined (h x) (each f g blanked h xs)
+
+-- the same of the last one first
+each_back : {A : Type 0} (f g : A → List ℕ) (blanked : A → A)
+    → ((x : A) → Alike (f x) (g (blanked x)))
+    → (xs : List A) → Alike (flat_map f (reverse xs)) (flat_map g (reverse (map blanked xs)))
+each_back f g blanked h xs = rw (reversed_map blanked xs) (each f g blanked h (reverse xs))
 
 -- ---- rows that are empty, or have markup characters
 
@@ -236,16 +243,16 @@ closed_marked lines order = by_closing order.closing where
 open_orders_alike : (lines : List UsedLine) (orders : List Order) → Alike (open_orders lines orders) (open_orders (map blank_line lines) (map blank_order orders))
 unfolding open_orders
 open_orders_alike lines orders =
-    before _ (after _ (table_alike 5 (each (open_row lines) (open_row (map blank_line lines)) blank_order (open_alike lines) orders)
-    (each_marked (open_row lines) (λ order. open_marked lines order) orders)
-    (each_marked (open_row (map blank_line lines)) (λ order. open_marked (map blank_line lines) order) (map blank_order orders))))
+    before _ (after _ (table_alike 5 (each_back (open_row lines) (open_row (map blank_line lines)) blank_order (open_alike lines) orders)
+    (each_marked (open_row lines) (λ order. open_marked lines order) (reverse orders))
+    (each_marked (open_row (map blank_line lines)) (λ order. open_marked (map blank_line lines) order) (reverse (map blank_order orders)))))
 
 closed_orders_alike : (lines : List UsedLine) (orders : List Order) → Alike (closed_orders lines orders) (closed_orders (map blank_line lines) (map blank_order orders))
 unfolding closed_orders
 closed_orders_alike lines orders =
-    before _ (after _ (table_alike 7 (each (closed_row lines) (closed_row (map blank_line lines)) blank_order (closed_alike lines) orders)
-    (each_marked (closed_row lines) (λ order. closed_marked lines order) orders)
-    (each_marked (closed_row (map blank_line lines)) (λ order. closed_marked (map blank_line lines) order) (map blank_order orders))))
+    before _ (after _ (table_alike 7 (each_back (closed_row lines) (closed_row (map blank_line lines)) blank_order (closed_alike lines) orders)
+    (each_marked (closed_row lines) (λ order. closed_marked lines order) (reverse orders))
+    (each_marked (closed_row (map blank_line lines)) (λ order. closed_marked (map blank_line lines) order) (reverse (map blank_order orders)))))
 
 inspection_alike : (inspection : Inspection) → Alike (inspection_row inspection) (inspection_row (blank_inspection inspection))
 unfolding inspection_row
@@ -262,9 +269,9 @@ inspection_marked inspection = inr (omega arith)
 inspections_alike : (inspections : List Inspection) → Alike (inspections_part inspections) (inspections_part (map blank_inspection inspections))
 unfolding inspections_part
 inspections_alike inspections =
-    before _ (after _ (table_alike 4 (each inspection_row inspection_row blank_inspection inspection_alike inspections)
-    (each_marked inspection_row inspection_marked inspections)
-    (each_marked inspection_row inspection_marked (map blank_inspection inspections))))
+    before _ (after _ (table_alike 4 (each_back inspection_row inspection_row blank_inspection inspection_alike inspections)
+    (each_marked inspection_row inspection_marked (reverse inspections))
+    (each_marked inspection_row inspection_marked (reverse (map blank_inspection inspections)))))
 
 register_alike : (interval : ℕ) (view : CabinetView) → Alike (register_part interval view) (register_part interval (blank_view view))
 unfolding register_part

@@ -1,7 +1,7 @@
 -- The register of a cabinet in the page: the due day, open orders first, then closed ones, and the
--- inspections.
+-- inspections, each with the greatest numbers first.
 use Rattle.std.specs.Prelude.{ℕ, ◌+◌, if◌then◌else◌, List, [], ◌++◌, flat_map, codes, decimal}
-use Rattle.std.specs.Prelude.{Option, Some, None}
+use Rattle.std.specs.Prelude.{Option, Some, None, reverse}
 use Rattle.cabinet_core.specs.Day.{day_text}
 use Rattle.cabinet_core.specs.Overdue.{latest_day}
 use Rattle.cabinet_core.specs.declared.record.CabinetView.{CabinetView}
@@ -65,13 +65,13 @@ order_headings =
 unfoldable pub open_orders : List UsedLine → List Order → List ℕ
 open_orders lines orders =
     table_opening (codes "Open orders") [] ++ order_headings ++ table_body
-    ++ rows_or_none 5 (flat_map (open_row lines) orders) ++ table_end
+    ++ rows_or_none 5 (flat_map (open_row lines) (reverse orders)) ++ table_end
 
 unfoldable pub closed_orders : List UsedLine → List Order → List ℕ
 closed_orders lines orders =
     table_opening (codes "Closed orders") [] ++ order_headings ++ words_heading (codes "Closed")
     ++ words_heading (codes "Closed by") ++ table_body
-    ++ rows_or_none 7 (flat_map (closed_row lines) orders) ++ table_end
+    ++ rows_or_none 7 (flat_map (closed_row lines) (reverse orders)) ++ table_end
 
 -- ---- inspections
 
@@ -88,7 +88,7 @@ inspection_headings =
 unfoldable pub inspections_part : List Inspection → List ℕ
 inspections_part inspections =
     table_opening (codes "Inspections") [] ++ inspection_headings ++ table_body
-    ++ rows_or_none 4 (flat_map inspection_row inspections) ++ table_end
+    ++ rows_or_none 4 (flat_map inspection_row (reverse inspections)) ++ table_end
 
 -- ---- the register
 

@@ -1,7 +1,7 @@
 //! The register of a cabinet in the page: the due day, open orders first, then closed ones, and the
 //! inspections.
 
-ghost use Rattle.std.specs.Prelude.{◌≡◌, ◌+◌, ◌++◌, OnOk, flat_map, string_bytes};
+ghost use Rattle.std.specs.Prelude.{◌≡◌, ◌+◌, ◌++◌, OnOk, flat_map, reverse, string_bytes};
 ghost use Rattle.signal_page.specs.Register.{day_cell, part_used, part_of, parts_cell, order_cells};
 ghost use Rattle.signal_page.specs.Register.{closing_cells, open_row, closed_row, order_headings};
 ghost use Rattle.signal_page.specs.Register.{open_orders, closed_orders, inspection_row};
@@ -157,9 +157,10 @@ fn push_each_open(
     orders: &[Order],
 ) -> Result<(), NoMemory>
     ensures { OnOk result (string_bytes text.new
-        ≡ string_bytes text.old ++ flat_map (open_row lines.now) orders.now) }
+        ≡ string_bytes text.old ++ flat_map (open_row lines.now) (reverse orders.now)) }
 {
-    for order in orders {
+    for back in 0..orders.len() {
+        let order = &orders[orders.len() - 1 - back];
         push_open(alloc, text, lines, order)?;
     }
     Ok(())
@@ -172,7 +173,8 @@ fn push_open_rows(
     orders: &[Order],
 ) -> Result<(), NoMemory>
     ensures { OnOk result (string_bytes text.new
-        ≡ string_bytes text.old ++ rows_or_none 5 (flat_map (open_row lines.now) orders.now)) }
+        ≡ string_bytes text.old ++ rows_or_none 5
+        (flat_map (open_row lines.now) (reverse orders.now))) }
 {
     let before = text.len();
     push_each_open(alloc, text, lines, orders)?;
@@ -203,9 +205,10 @@ fn push_each_closed(
     orders: &[Order],
 ) -> Result<(), NoMemory>
     ensures { OnOk result (string_bytes text.new
-        ≡ string_bytes text.old ++ flat_map (closed_row lines.now) orders.now) }
+        ≡ string_bytes text.old ++ flat_map (closed_row lines.now) (reverse orders.now)) }
 {
-    for order in orders {
+    for back in 0..orders.len() {
+        let order = &orders[orders.len() - 1 - back];
         push_closed(alloc, text, lines, order)?;
     }
     Ok(())
@@ -218,7 +221,8 @@ fn push_closed_rows(
     orders: &[Order],
 ) -> Result<(), NoMemory>
     ensures { OnOk result (string_bytes text.new
-        ≡ string_bytes text.old ++ rows_or_none 7 (flat_map (closed_row lines.now) orders.now)) }
+        ≡ string_bytes text.old ++ rows_or_none 7
+        (flat_map (closed_row lines.now) (reverse orders.now))) }
 {
     let before = text.len();
     push_each_closed(alloc, text, lines, orders)?;
@@ -268,9 +272,10 @@ fn push_each_inspection(
     inspections: &[Inspection],
 ) -> Result<(), NoMemory>
     ensures { OnOk result (string_bytes text.new
-        ≡ string_bytes text.old ++ flat_map inspection_row inspections.now) }
+        ≡ string_bytes text.old ++ flat_map inspection_row (reverse inspections.now)) }
 {
-    for inspection in inspections {
+    for back in 0..inspections.len() {
+        let inspection = &inspections[inspections.len() - 1 - back];
         push_inspection(alloc, text, inspection)?;
     }
     Ok(())
@@ -282,7 +287,8 @@ fn push_inspection_rows(
     inspections: &[Inspection],
 ) -> Result<(), NoMemory>
     ensures { OnOk result (string_bytes text.new
-        ≡ string_bytes text.old ++ rows_or_none 4 (flat_map inspection_row inspections.now)) }
+        ≡ string_bytes text.old ++ rows_or_none 4
+        (flat_map inspection_row (reverse inspections.now))) }
 {
     let before = text.len();
     push_each_inspection(alloc, text, inspections)?;

@@ -1,7 +1,10 @@
-use Rattle.std.proofs.Common.{◌≡◌, ◌++◌, string_bytes, take, flat_map}
+use Rattle.std.proofs.Common.{◌≡◌, ◌++◌, string_bytes, flat_map}
+use Rattle.std.specs.Prelude.{reverse}
 use Rattle.signal_page.specs.Register.{closed_row}
+use Rattle.signal_page.proofs.Newest.{left}
 use Rattle.signal_page.proofs.register.push_each_closed.Given as goal
 
-abbrev pub invariant-loop-order : goal.invariant-loop-order
-invariant-loop-order l =
-    string_bytes l.text ≡ string_bytes l.fn.text ++ flat_map (closed_row l.lines) (take l.order-index l.orders)
+-- what was written, and what is left
+abbrev pub invariant-loop-back : goal.invariant-loop-back
+invariant-loop-back l =
+    string_bytes l.text ++ flat_map (closed_row l.lines) (left l.orders l.back) ≡ string_bytes l.fn.text ++ flat_map (closed_row l.lines) (reverse l.orders)
