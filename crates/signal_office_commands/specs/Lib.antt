@@ -16,3 +16,4 @@ pub mod Refused
 pub mod Sheet
 pub mod Showing
 pub mod Explaining
+pub mod Telling

@@ -1,6 +1,7 @@
 //! Why the program ends with a fault.
 
-ghost use Rattle.std.specs.Prelude.{◌≤◌};
+ghost use Rattle.std.specs.Prelude.{◌≡◌, ◌≤◌};
+ghost use Rattle.signal_office_faults.specs.Lines.{status_of};
 
 use office_files::{BadRow, CsvFault};
 use office_http_framing::ends::WriteFailed;
@@ -53,7 +54,8 @@ pub enum Fault {
 impl Fault {
     /// The status with which the program ends: 2 where the words were refused, else 1.
     pub fn status(self) -> u8
-        ensures { 1 ≤ result }
+        ensures status { result ≡ status_of self }
+        ensures bad { 1 ≤ result }
     {
         match self {
             Fault::Words => 2,
@@ -64,6 +66,11 @@ impl Fault {
 
 /// Writes the line that says it on standard error, without the line's end.
 impl fmt::Display for Fault {
+    ghost use Rattle.std.specs.Prelude.{Some};
+    ghost use Rattle.signal_office_faults.specs.Lines.{line_text};
+
+    ghost output = { λ fault. Some (line_text fault) };
+
     fn fmt<W: fmt::Write>(&self, f: &mut fmt::Formatter<W>) -> fmt::Result {
         match self {
             Fault::Read => f.write_str("fault: read"),
@@ -106,6 +113,11 @@ impl From<NoMemory> for Fault {
 }
 
 impl From<WriteFailed> for Fault {
+    ghost use Rattle.std.specs.Prelude.{◌≡◌};
+    ghost use Rattle.signal_office_faults.specs.declared.fault.Fault.TheVariants as told;
+
+    ghost from_gives = { λ _ fault. fault ≡ told.Write };
+
     fn from(_: WriteFailed) -> Fault {
         Fault::Write
     }
@@ -123,6 +135,11 @@ impl From<CsvFault> for Fault {
 }
 
 impl From<ServeFault> for Fault {
+    ghost use Rattle.std.specs.Prelude.{◌≡◌};
+    ghost use Rattle.signal_office_faults.specs.Lines.{fault_of_stream};
+
+    ghost from_gives = { λ cause fault. fault ≡ fault_of_stream cause };
+
     fn from(fault: ServeFault) -> Fault {
         match fault {
             ServeFault::Read { .. } => Fault::Read,

@@ -1,12 +1,17 @@
 //! Files of the system: the bytes of one, and whether it is there.
 
+ghost use Rattle.std.specs.Prelude.{IfErr};
+ghost use Rattle.signal_office_faults.specs.Lines.{IsUnreadFile};
+
 use crate::fault::Fault;
 use std::alloc::{AllocError, Global};
 use std::fs;
 use std::io::ErrorKind;
 
 /// The bytes of a file.
-pub fn read_file(rt: &HostRuntime, path: &str) -> Result<Vec<u8>, Fault> {
+pub fn read_file(rt: &HostRuntime, path: &str) -> Result<Vec<u8>, Fault>
+    ensures { IfErr result IsUnreadFile }
+{
     match fs::read(rt, path) {
         Ok(bytes) => Ok(bytes),
         Err(error) if error.kind() == ErrorKind::OutOfMemory => Err(Fault::Memory),

@@ -1,5 +1,5 @@
 -- What a task does over the tables of a file, and what it may do to a file that is not there.
-use Rattle.std.specs.Prelude.{◌≡◌, ◌≢◌, ℕ, List, [], ◌∷◌, ◌++◌, codes, decimal, Bool, true, false, Option, Result, Ok, Err, IfOk, ⊤}
+use Rattle.std.specs.Prelude.{◌≡◌, ◌≢◌, ℕ, List, [], ◌∷◌, ◌++◌, codes, decimal, Bool, true, false, Option, Result, Ok, Err, ⊤}
 use Rattle.office_desk.specs.StandFor.{StandForSound}
 use Rattle.office_http.specs.Laws.{KeepsLaws}
 use Rattle.office_http.specs.Listening.{Connected, connection_limit}
@@ -30,6 +30,7 @@ use Rattle.signal_office_faults.specs.declared.fault.Fault.{Fault}
 use Rattle.signal_office_faults.specs.declared.fault.Fault.TheVariants as fault
 use Rattle.signal_office_jobs.specs.Done.{TellsAs, commit_line, compared_status, compared_text, edited_status, status_of, text_of}
 use Rattle.signal_office_jobs.specs.Serving.{ServesPort}
+use Rattle.signal_office_jobs.specs.Shown.{ShowsAs}
 use Rattle.signal_office_jobs.specs.declared.done.Done.{Done}
 use Rattle.signal_office_jobs.specs.declared.task.Task.{Task}
 use Rattle.signal_office_jobs.specs.declared.task.Task.TheVariants.{Serve, Show, Add, Import, Edit, Abandon, Compare}
@@ -114,7 +115,7 @@ ComparesAs id csv old (Err why) = why ≢ fault.Memory → ComparesNoDraft old i
 -- What a task makes of the tables, what it gives, and what its output took. A task that only shows leaves both as they were.
 abbrev pub TaskDoes : Task → Content → Result Done Fault → Content → Told → Told → Type 0
 TaskDoes (Serve port count) old result new start end = ServesAs port count old result new start end
-TaskDoes (Show shown) old result new start end = (new ≡ old) × (end ≡ start) × IfOk result (λ done. status_of done ≡ 0)
+TaskDoes (Show shown) old result new start end = (new ≡ old) × (end ≡ start) × ShowsAs shown old result
 TaskDoes (Add id interval name) old result new start end = AddsAs id interval name.now old result new × (end ≡ start)
 TaskDoes (Import csv) old result new start end = ImportsAs csv.now old result new × (end ≡ start)
 TaskDoes (Edit id clerk csv commit explain) old result new start end = EditsBy csv.now id clerk.now commit explain old result new × (end ≡ start)

@@ -5,7 +5,8 @@ ghost use Rattle.office_files.specs.Violations.{violations_text};
 ghost use Rattle.signal_office_jobs.specs.Done.{TellsAs, checked_status, commit_line};
 ghost use Rattle.signal_office_jobs.specs.Done.{compared_status, compared_text, edited_status};
 ghost use Rattle.signal_office_jobs.specs.Done.{explained_status, status_of, text_of};
-ghost use Rattle.signal_office_jobs.specs.Tasks.{entered_line, imported_line};
+ghost use Rattle.signal_office_jobs.specs.Printing.{Prints, PrintsDone, joined, migrated_line};
+ghost use Rattle.signal_office_jobs.specs.Tasks.{Tells, entered_line, imported_line};
 ghost use Rattle.signal_reasons.specs.Texts.{explained_text_of};
 
 use office_files::{changes_csv, violation_text};
@@ -142,9 +143,52 @@ impl Done {
         Ok(Done { text, status })
     }
 
+    /// How many rows a migration wrote anew.
+    pub(crate) fn migrating(alloc: Global, rows: u128) -> Result<Done, Fault>
+        ensures { TellsAs (migrated_line rows) 0 result }
+    {
+        let line = format!(in alloc; "migrated {rows} rows\n")?;
+        Ok(Done::with(line.into_bytes()))
+    }
+
     /// Prints it, and gives the status.
-    pub(crate) fn print<W: Sink>(&self, out: &mut W) -> Result<u8, Fault> {
-        write_all(out, &self.text)?;
-        Ok(self.status)
+    pub(crate) fn print<W: Sink>(&self, out: &mut W) -> Result<u8, Fault>
+        ensures { Prints (text_of self.now) (status_of self.now) (W.told out.old) (W.told out.new)
+            result }
+    {
+        match write_all(out, &self.text) {
+            Ok(()) => Ok(self.status),
+            Err(_) => Err(Fault::Write),
+        }
+    }
+}
+
+/// Tells how many rows a migration wrote anew, or its fault.
+pub(crate) fn migrated(alloc: Global, outcome: Result<u128, Fault>) -> Result<Done, Fault>
+    ensures { Tells migrated_line (λ _. 0) outcome result }
+{
+    match outcome {
+        Ok(rows) => Done::migrating(alloc, rows),
+        Err(fault) => Err(fault),
+    }
+}
+
+/// Prints what a command came to, and gives its status.
+pub(crate) fn print_done<W: Sink>(done: Result<Done, Fault>, out: &mut W) -> Result<u8, Fault>
+    ensures { PrintsDone done (W.told out.old) (W.told out.new) result }
+{
+    match done {
+        Ok(done) => done.print(out),
+        Err(fault) => Err(fault),
+    }
+}
+
+/// What came of two steps, of which the second is the result of the first.
+pub(crate) fn joined<T>(outcome: Result<Result<T, Fault>, Fault>) -> Result<T, Fault>
+    ensures { result ≡ joined outcome }
+{
+    match outcome {
+        Ok(done) => done,
+        Err(fault) => Err(fault),
     }
 }

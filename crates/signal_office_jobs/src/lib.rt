@@ -3,7 +3,9 @@
 #![tactic(auto)]
 
 mod done;
+mod in_file;
 mod memory;
+mod plans;
 mod program;
 mod serving;
 mod task;

@@ -1,30 +1,52 @@
 //! What the program's words ask for, from a source of bytes to its two outputs.
 
-use crate::done::Done;
+ghost use Rattle.std.specs.Prelude.{◌≡◌, map, option_map};
+ghost use Rattle.office_http_framing.specs.Serve.{ends_of};
+ghost use Rattle.signal_office_line.specs.Job.{asked, batch, serve};
+ghost use Rattle.signal_office_jobs.specs.Printed.{Does, Printed, ServesNew, office_files};
+ghost use Rattle.signal_office_jobs.specs.Printed.{status_over, stream_status};
+ghost use Rattle.signal_office_jobs.specs.Runs.{DoesFound, EndsWith, RunsWords, ShowsRefusal};
+ghost use Rattle.signal_office_jobs.specs.Runs.{asked_in};
+ghost use Rattle.signal_office_jobs.specs.Printing.{Prints};
+
+use crate::done::print_done;
+use crate::in_file::{abandon, add, edit_plan, import, in_file, migrate, overdue, show_of};
 use crate::memory::{open_in_memory, serve_new_office};
-use crate::serving::serve_port;
+use crate::plans::{compare_plans, draw_plan, page_plan, verify_file};
+use crate::task;
 use crate::task::{Shown, Task};
-use cabinet_core::read_day;
-use office_desk::office::Office;
-use office_http::{Sink, Source, write_all};
-use office_tables_shelf::shelf::Shelf;
-use signal_office_commands::{
-    Fault, compare_files, diagram_in, page_in, reasons_in, report, violations_in,
-};
-use signal_office_faults::{is_missing, read_file};
+use office_http::{ServeFault, Served, Sink, Source, write_all};
+use signal_office_commands::{Fault, report};
 use signal_office_in_file::OfficeInFile;
-use signal_office_line::{Edit, Job, JobFault, Plan, Plans, job_of};
-use signal_records::{InterId, Interval, PatternNo, Words};
+use signal_office_line::{Job, JobFault, Plan, Plans, job_of};
+use signal_records::PatternNo;
 use std::alloc::Global;
 
 /// The most requests of one run of `batch`.
 const BATCH_LIMIT: u32 = 1_000_000;
 
-/// The most intersections that an office has.
-const ALL_INTERSECTIONS: u32 = 9_999;
-
 /// The status where the words are refused.
 const WORDS_REFUSED: u8 = 2;
+
+/// The status of a stream that was served, or why it was not served to its end.
+fn stream_status(outcome: Result<Served, ServeFault>) -> Result<u8, Fault>
+    ensures { result ≡ stream_status outcome }
+{
+    match outcome {
+        Ok(_) => Ok(0),
+        Err(fault) => Err(Fault::from(fault)),
+    }
+}
+
+/// The same of one over a file, whose fault comes first.
+fn status_over(outcome: Result<Result<Served, ServeFault>, Fault>) -> Result<u8, Fault>
+    ensures { result ≡ status_over outcome }
+{
+    match outcome {
+        Ok(outcome) => stream_status(outcome),
+        Err(fault) => Err(fault),
+    }
+}
 
 /// Answers the requests of the source over tables in memory, or in a file where one is given.
 fn batch<F: OfficeInFile, R: Source, W: Sink>(
@@ -33,59 +55,31 @@ fn batch<F: OfficeInFile, R: Source, W: Sink>(
     db: &Option<&str>,
     source: &mut R,
     out: &mut W,
-) -> Result<u8, Fault> {
+) -> Result<u8, Fault>
+    ensures { let files = office_files F.held F.is_clean F.keeps F.refused F.migrated in
+        Does files (batch (option_map (λ path. path.now) db.now))
+        (ends_of (R.told source.old) (W.told out.old))
+        (ends_of (R.told source.new) (W.told out.new)) result }
+{
     match db {
-        None => serve_new_office(alloc, source, out, BATCH_LIMIT)?,
-        Some(path) => F::answer(rt, alloc, path, source, out, BATCH_LIMIT).told()??,
-    };
-    Ok(0)
+        None => stream_status(serve_new_office(alloc, source, out, BATCH_LIMIT)),
+        Some(path) => { status_over(F::answer(rt, alloc, path, source, out, BATCH_LIMIT).told()) }
+    }
 }
 
-/// Prints the violations of the plan in a CSV file, with their reasons where that is asked.
-fn verify_file<W: Sink>(
+/// Serves connections on a port by a new office over tables in memory.
+fn serve_in_memory<W: Sink>(
     rt: &HostRuntime,
     alloc: Global,
-    path: &str,
-    explain: bool,
-    out: &mut W,
-) -> Result<u8, Fault> {
-    let bytes = read_file(rt, path)?;
-    let done = if explain {
-        Done::explaining(alloc, &reasons_in(alloc, &bytes)?)?
-    } else {
-        Done::checking(alloc, &violations_in(alloc, &bytes)?)?
-    };
-    done.print(out)
-}
-
-/// Serves connections on a port by an office, which is dropped then.
-fn serve_office<S: Shelf + Drop, W: Sink>(
-    rt: &HostRuntime,
-    alloc: Global,
-    mut office: Office<S>,
     port: u16,
     count: u32,
     out: &mut W,
-) -> Result<u8, Fault> {
-    let (_, served) = serve_port(rt, alloc, &mut office, port, count, out);
-    served?;
-    Ok(0)
-}
-
-/// Does a task over the office of a file, and prints what it gives. A file that is not there, or is
-/// empty with no log beside it, is made only for a task that makes its file.
-fn in_file<F: OfficeInFile, W: Sink>(
-    rt: &HostRuntime,
-    alloc: Global,
-    path: &str,
-    task: &Task<'_>,
-    out: &mut W,
-) -> Result<u8, Fault> {
-    if !task.makes_file() && is_missing(rt, alloc, path)? {
-        return Err(Fault::File);
-    }
-    let done = F::do_task::<Done, Task<'_>, W>(rt, alloc, path, task, out).told()??;
-    done.print(out)
+) -> Result<u8, Fault>
+    ensures { ServesNew port count (W.told out.old) (W.told out.new) result }
+{
+    let mut office = open_in_memory(alloc);
+    let done = task::serve(rt, alloc, &mut office, port, count, out);
+    print_done(done, out)
 }
 
 /// Serves connections on a port by an office over tables in memory, or in a file where one is
@@ -97,122 +91,15 @@ fn serve<F: OfficeInFile, W: Sink>(
     count: u32,
     db: &Option<&str>,
     out: &mut W,
-) -> Result<u8, Fault> {
+) -> Result<u8, Fault>
+    ensures { Printed (office_files F.held F.is_clean F.keeps F.refused F.migrated)
+        (serve port count (option_map (λ path. path.now) db.now)) (W.told out.old)
+        (W.told out.new) result }
+{
     match db {
-        None => serve_office(rt, alloc, open_in_memory(alloc), port, count, out),
+        None => serve_in_memory(rt, alloc, port, count, out),
         Some(path) => in_file::<F, W>(rt, alloc, path, &Task::Serve { port, count }, out),
     }
-}
-
-/// Prints what is shown of the office of a file.
-fn show_of<F: OfficeInFile, W: Sink>(
-    rt: &HostRuntime,
-    alloc: Global,
-    path: &str,
-    shown: Shown,
-    out: &mut W,
-) -> Result<u8, Fault> {
-    in_file::<F, W>(rt, alloc, path, &Task::Show(shown), out)
-}
-
-/// Prints the report of the intersections that are overdue on the day of a word, which is read
-/// before the file is opened.
-fn overdue<F: OfficeInFile, W: Sink>(
-    rt: &HostRuntime,
-    alloc: Global,
-    path: &str,
-    first: Option<u32>,
-    word: &str,
-    out: &mut W,
-) -> Result<u8, Fault> {
-    let Some(day) = read_day(word.as_bytes()) else {
-        return Err(Fault::Day);
-    };
-    let most = first.unwrap_or(ALL_INTERSECTIONS) as usize;
-    show_of::<F, W>(rt, alloc, path, Shown::Overdue { day, most }, out)
-}
-
-/// Adds an intersection, whose name is read before the file is opened.
-fn add<F: OfficeInFile, W: Sink>(
-    rt: &HostRuntime,
-    alloc: Global,
-    db: &str,
-    id: InterId,
-    interval: Interval,
-    name: &str,
-    out: &mut W,
-) -> Result<u8, Fault> {
-    let Some(name) = &Words::new(alloc, name.as_bytes())? else {
-        return Err(Fault::Name);
-    };
-    let task = Task::Add { id, interval, name };
-    in_file::<F, W>(rt, alloc, db, &task, out)
-}
-
-/// Brings the tables of a file to today's version, and prints how many rows were written anew. A
-/// file that is not there, or is empty with no log beside it, has no version and is not made.
-fn migrate<F: OfficeInFile, W: Sink>(
-    rt: &HostRuntime,
-    alloc: Global,
-    path: &str,
-    out: &mut W,
-) -> Result<u8, Fault> {
-    if is_missing(rt, alloc, path)? {
-        return Err(Fault::Version);
-    }
-    let rows = F::migrate(rt, alloc, path).told()??;
-    let line = format!(in alloc; "migrated {rows} rows\n")?;
-    write_all(out, line.as_bytes())?;
-    Ok(0)
-}
-
-/// Takes the records of a CSV file into the office of a file.
-fn import<F: OfficeInFile, W: Sink>(
-    rt: &HostRuntime,
-    alloc: Global,
-    db: &str,
-    csv: &str,
-    out: &mut W,
-) -> Result<u8, Fault> {
-    let csv = &read_file(rt, csv)?;
-    in_file::<F, W>(rt, alloc, db, &Task::Import { csv }, out)
-}
-
-/// Changes a plan by a CSV file.
-fn edit_plan<F: OfficeInFile, W: Sink>(
-    rt: &HostRuntime,
-    alloc: Global,
-    edit: &Edit<'_>,
-    out: &mut W,
-) -> Result<u8, Fault> {
-    let Some(clerk) = &Words::new(alloc, edit.clerk.as_bytes())? else {
-        return Err(Fault::Clerk);
-    };
-    let csv = &read_file(rt, edit.csv)?;
-    let (id, commit, explain) = (edit.id, edit.commit, edit.explain);
-    let task = Task::Edit {
-        id,
-        clerk,
-        csv,
-        commit,
-        explain,
-    };
-    in_file::<F, W>(rt, alloc, edit.db, &task, out)
-}
-
-/// Drops the draft of an intersection, for a clerk whose name is read before the file is opened.
-fn abandon<F: OfficeInFile, W: Sink>(
-    rt: &HostRuntime,
-    alloc: Global,
-    db: &str,
-    clerk: &str,
-    id: InterId,
-    out: &mut W,
-) -> Result<u8, Fault> {
-    let Some(clerk) = &Words::new(alloc, clerk.as_bytes())? else {
-        return Err(Fault::Clerk);
-    };
-    in_file::<F, W>(rt, alloc, db, &Task::Abandon { id, clerk }, out)
 }
 
 /// Prints what two plans differ in.
@@ -222,14 +109,15 @@ fn compare<F: OfficeInFile, W: Sink>(
     plans: &Plans<'_>,
     csv: bool,
     out: &mut W,
-) -> Result<u8, Fault> {
-    match *plans {
-        Plans::Draft { db, id } => in_file::<F, W>(rt, alloc, db, &Task::Compare { id, csv }, out),
-        Plans::Files { first, second } => {
-            let (first, second) = (read_file(rt, first)?, read_file(rt, second)?);
-            let differences = compare_files(alloc, &first, &second)?;
-            Done::comparing(alloc, &differences, csv)?.print(out)
+) -> Result<u8, Fault>
+    ensures { Printed (office_files F.held F.is_clean F.keeps F.refused F.migrated)
+        (asked (Job.Compare plans.now csv)) (W.told out.old) (W.told out.new) result }
+{
+    match plans {
+        Plans::Draft { db, id } => {
+            in_file::<F, W>(rt, alloc, db, &Task::Compare { id: *id, csv }, out)
         }
+        Plans::Files { first, second } => compare_plans(rt, alloc, first, second, csv, out),
     }
 }
 
@@ -240,19 +128,15 @@ fn diagram<F: OfficeInFile, W: Sink>(
     plan: &Plan<'_>,
     pattern: PatternNo,
     out: &mut W,
-) -> Result<u8, Fault> {
-    match *plan {
-        Plan::Committed { db, id } => show_of::<F, W>(
-            rt,
-            alloc,
-            db,
-            Shown::Diagram { id, pattern },
-            out,
-        ),
-        Plan::File { csv } => {
-            let bytes = read_file(rt, csv)?;
-            Done::with(diagram_in(alloc, &bytes, pattern)?).print(out)
+) -> Result<u8, Fault>
+    ensures { Printed (office_files F.held F.is_clean F.keeps F.refused F.migrated)
+        (asked (Job.Diagram plan.now pattern)) (W.told out.old) (W.told out.new) result }
+{
+    match plan {
+        Plan::Committed { db, id } => {
+            show_of::<F, W>(rt, alloc, db, Shown::Diagram { id: *id, pattern }, out)
         }
+        Plan::File { csv } => draw_plan(rt, alloc, csv, pattern, out),
     }
 }
 
@@ -262,13 +146,13 @@ fn page<F: OfficeInFile, W: Sink>(
     alloc: Global,
     plan: &Plan<'_>,
     out: &mut W,
-) -> Result<u8, Fault> {
-    match *plan {
-        Plan::Committed { db, id } => show_of::<F, W>(rt, alloc, db, Shown::Page { id }, out),
-        Plan::File { csv } => {
-            let bytes = read_file(rt, csv)?;
-            Done::with(page_in(alloc, &bytes)?).print(out)
-        }
+) -> Result<u8, Fault>
+    ensures { Printed (office_files F.held F.is_clean F.keeps F.refused F.migrated)
+        (asked (Job.Page plan.now)) (W.told out.old) (W.told out.new) result }
+{
+    match plan {
+        Plan::Committed { db, id } => show_of::<F, W>(rt, alloc, db, Shown::Page { id: *id }, out),
+        Plan::File { csv } => page_plan(rt, alloc, csv, out),
     }
 }
 
@@ -279,7 +163,11 @@ fn run_job<F: OfficeInFile, R: Source, W: Sink>(
     job: &Job<'_>,
     source: &mut R,
     out: &mut W,
-) -> Result<u8, Fault> {
+) -> Result<u8, Fault>
+    ensures { let files = office_files F.held F.is_clean F.keeps F.refused F.migrated in
+        Does files (asked job.now) (ends_of (R.told source.old) (W.told out.old))
+        (ends_of (R.told source.new) (W.told out.new)) result }
+{
     match job {
         Job::Batch { db } => batch::<F, R, W>(rt, alloc, db, source, out),
         Job::Serve { port, count, db } => serve::<F, W>(rt, alloc, *port, *count, db, out),
@@ -310,20 +198,64 @@ fn run_job<F: OfficeInFile, R: Source, W: Sink>(
     }
 }
 
+/// Prints a text as a whole, and gives the status.
+fn print_text<W: Sink>(text: &str, status: u8, out: &mut W) -> Result<u8, Fault>
+    ensures { Prints text.now status (W.told out.old) (W.told out.new) result }
+{
+    match write_all(out, text.as_bytes()) {
+        Ok(()) => Ok(status),
+        Err(_) => Err(Fault::Write),
+    }
+}
+
 /// Prints help on standard output, and why words are refused on standard error.
 fn show<W: Sink, E: Sink>(
     alloc: Global,
     error: &clap::Error,
     out: &mut W,
     err: &mut E,
-) -> Result<u8, Fault> {
+) -> Result<u8, Fault>
+    ensures { ShowsRefusal error.now (W.told out.old) (W.told out.new) (E.told err.old)
+        (E.told err.new) result }
+{
     let text = error.to_string(alloc)?;
     if error.use_stderr() {
-        write_all(err, text.as_bytes())?;
-        return Ok(WORDS_REFUSED);
+        print_text(text.as_str(), WORDS_REFUSED, err)
+    } else {
+        print_text(text.as_str(), 0, out)
     }
-    write_all(out, text.as_bytes())?;
-    Ok(0)
+}
+
+/// Does what was found in the words, and gives the status.
+fn do_found<F: OfficeInFile, R: Source, W: Sink, E: Sink>(
+    rt: &HostRuntime,
+    alloc: Global,
+    found: &Result<Job<'_>, JobFault>,
+    source: &mut R,
+    out: &mut W,
+    err: &mut E,
+) -> Result<u8, Fault>
+    ensures { let files = office_files F.held F.is_clean F.keeps F.refused F.migrated in
+        DoesFound files (asked_in found.now)
+        (ends_of (R.told source.old) (W.told out.old))
+        (ends_of (R.told source.new) (W.told out.new))
+        (E.told err.old) (E.told err.new) result }
+{
+    match found {
+        Ok(job) => run_job::<F, R, W>(rt, alloc, job, source, out),
+        Err(JobFault::Refused(error)) => show(alloc, error, out, err),
+        Err(JobFault::NoMemory) => Err(Fault::Memory),
+    }
+}
+
+/// Gives the status, or says a fault and gives that of it.
+fn end_with<E: Sink>(alloc: Global, done: Result<u8, Fault>, err: &mut E) -> u8
+    ensures { EndsWith done (E.told err.old) (E.told err.new) result }
+{
+    match done {
+        Ok(status) => status,
+        Err(fault) => report(alloc, err, fault),
+    }
 }
 
 /// Does what the words ask for, over offices in files as `F` opens them, and gives the status:
@@ -336,14 +268,17 @@ pub fn run_words<F: OfficeInFile, R: Source, W: Sink, E: Sink>(
     source: &mut R,
     out: &mut W,
     err: &mut E,
-) -> u8 {
-    let done = match job_of(alloc, words) {
-        Ok(job) => run_job::<F, R, W>(rt, alloc, &job, source, out),
-        Err(JobFault::Refused(error)) => show(alloc, &error, out, err),
-        Err(JobFault::NoMemory) => Err(Fault::Memory),
-    };
-    match done {
-        Ok(status) => status,
-        Err(fault) => report(alloc, err, fault),
-    }
+) -> u8
+    // What the words ask for is done, over the office of the file that it names: what is printed is
+    // the text of that, with its status, or a part of it where the output failed; a fault is said
+    // by its line, with status 1. Words that are refused, or ask for help, do nothing else.
+    ensures { let files = office_files F.held F.is_clean F.keeps F.refused F.migrated in
+        RunsWords files (map (λ word. word.now) words.now)
+        (ends_of (R.told source.old) (W.told out.old))
+        (ends_of (R.told source.new) (W.told out.new))
+        (E.told err.old) (E.told err.new) result }
+{
+    let found = job_of(alloc, words);
+    let done = do_found::<F, R, W, E>(rt, alloc, &found, source, out, err);
+    end_with(alloc, done, err)
 }

@@ -2,7 +2,7 @@
 
 ghost use Rattle.std.specs.Prelude.{◌≡◌, ◌≢◌, true, false, Err, IfErr, IfOk};
 ghost use Rattle.office_tables_shelf.specs.Keeps.{KeepsShelf};
-ghost use Rattle.signal_office_jobs.specs.Done.{status_of};
+ghost use Rattle.signal_office_jobs.specs.Shown.{IsNotShown, ShowsAs, ShowsText};
 ghost use Rattle.signal_office_jobs.specs.Tasks.{AbandonsAs, AddsAs, ComparesAs, EditsBy};
 ghost use Rattle.signal_office_jobs.specs.Tasks.{ImportsAs, IsBroken, ServesAs, TaskDoes};
 ghost use Rattle.signal_office_commands.specs.Showing.{ShowsDraft};
@@ -112,7 +112,11 @@ fn export<S: Shelf>(
     id: InterId,
     view: View,
 ) -> Result<Vec<u8>, Fault>
-    ensures { KeepsShelf S.Shelf office.old office.new }
+    ensures kept { KeepsShelf S.Shelf office.old office.new }
+    ensures text { IfOk result (λ text. S.is_honest office.new →
+        ShowsText (Shown.Export id view) (S.content office.old) text.items) }
+    ensures fault { IfErr result (λ why. S.is_honest office.new →
+        IsNotShown (Shown.Export id view) (S.content office.old) why) }
 {
     match view {
         View::Timing => timing_csv_of(alloc, office, id),
@@ -123,7 +127,11 @@ fn export<S: Shelf>(
 
 /// What is printed of an office.
 fn shown_of<S: Shelf>(alloc: Global, office: &mut Office<S>, shown: Shown) -> Result<Vec<u8>, Fault>
-    ensures { KeepsShelf S.Shelf office.old office.new }
+    ensures kept { KeepsShelf S.Shelf office.old office.new }
+    ensures text { IfOk result (λ text. S.is_honest office.new →
+        ShowsText shown (S.content office.old) text.items) }
+    ensures fault { IfErr result (λ why. S.is_honest office.new →
+        IsNotShown shown (S.content office.old) why) }
 {
     match shown {
         Shown::Sheet { id } => sheet_of(alloc, office, id),
@@ -139,7 +147,7 @@ fn shown_of<S: Shelf>(alloc: Global, office: &mut Office<S>, shown: Shown) -> Re
 }
 
 /// Serves so many connections on a port.
-fn serve<S: Shelf, W: Sink>(
+pub(crate) fn serve<S: Shelf, W: Sink>(
     rt: &HostRuntime,
     alloc: Global,
     office: &mut Office<S>,
@@ -160,7 +168,7 @@ fn serve<S: Shelf, W: Sink>(
 /// Gives what is shown of the office.
 fn show<S: Shelf>(alloc: Global, office: &mut Office<S>, shown: Shown) -> Result<Done, Fault>
     ensures kept { KeepsShelf S.Shelf office.old office.new }
-    ensures status { IfOk result (λ done. status_of done ≡ 0) }
+    ensures does { S.is_honest office.new → ShowsAs shown (S.content office.old) result }
 {
     Ok(Done::with(shown_of(alloc, office, shown)?))
 }

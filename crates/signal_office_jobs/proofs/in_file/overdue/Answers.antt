@@ -1,0 +1,21 @@
+use Rattle.std.proofs.Common.{inl, inr, subst}
+use Rattle.signal_office_in_file.specs.Ended.{file_view}
+use Rattle.signal_office_jobs.proofs.PrintingLemmas.{fails}
+use Rattle.signal_office_jobs.proofs.in_file.overdue.Goals as goal
+use Rattle.signal_office_jobs.specs.Printed.{Shows}
+use Rattle.signal_office_jobs.specs.declared.task.Shown.TheVariants as shown
+
+pub returns-in_err-day : goal.returns-in_err-day
+returns-in_err-day g c = inr (_, c.in_err-day.ensures, fails _ _ c.from_residual.result c.from_residual.ensures.1)
+
+pub returns : goal.returns
+returns g c =
+    let f = g.F.OfficeInFile in
+    let view = file_view f.held f.is_clean f.keeps f.refused in
+    let told = g.W.Sink.told in
+    inl (
+      c.in_ok-day.day,
+      c.in_ok-day.ensures,
+      subst (λ most. Shows view (shown.Overdue c.in_ok-day.day most) (told c.args.out.now) (told c.show_of.new.out) c.show_of.result)
+          c.most_of-most.ensures c.show_of.ensures,
+    )

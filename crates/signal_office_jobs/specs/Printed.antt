@@ -1,0 +1,162 @@
+-- What each job prints, the status or fault that comes of it, and what becomes of the office.
+use Rattle.std.specs.Prelude.{◌≡◌, ◌≢◌, ℕ, Bool, true, false, List, Option, Some, None, Result, Ok, Err, unwrap_or}
+use Rattle.office_desk.specs.StandFor.{StandForSound}
+use Rattle.office_files.specs.Changes.{changes_of}
+use Rattle.office_files.specs.declared.fault.CsvFault.{CsvFault}
+use Rattle.office_files.specs.declared.fault.CsvFault.TheVariants as file
+use Rattle.office_files.specs.Violations.{violations_text}
+use Rattle.office_http.specs.Protocol.{office_protocol}
+use Rattle.office_http_framing.specs.Ends.{Told}
+use Rattle.office_http_framing.specs.Serve.{Did, Ends, TellsFault}
+use Rattle.office_http_framing.specs.declared.engine.ServeFault.{ServeFault}
+use Rattle.office_http_framing.specs.declared.engine.Served.{Served}
+use Rattle.office_machine.specs.Office.{Office}
+use Rattle.office_tables_shelf.specs.Content.{Content}
+use Rattle.signal_compare.specs.declared.difference.Difference.{Difference}
+use Rattle.signal_office_commands.specs.Comparing.{ComparesFiles, IsFirstBad}
+use Rattle.signal_office_commands.specs.Drawing.{DrawsFile, DrawsNoFile}
+use Rattle.signal_office_commands.specs.Explaining.{ExplainsPlan}
+use Rattle.signal_office_commands.specs.Paging.{IsPageOfFile}
+use Rattle.signal_office_commands.specs.Plan.{AreOfPlan}
+use Rattle.signal_office_faults.specs.Lines.{fault_of_stream}
+use Rattle.signal_office_faults.specs.declared.fault.Fault.{Fault}
+use Rattle.signal_office_faults.specs.declared.fault.Fault.TheVariants as fault
+use Rattle.signal_office_in_file.specs.Ended.{Answers, EndsOver, FileView, file_view, told_by}
+use Rattle.signal_office_in_file.specs.declared.Ended.{Ended}
+use Rattle.signal_office_line.specs.Job.{Asked}
+use Rattle.signal_office_line.specs.Job as job
+use Rattle.signal_reasons.specs.Texts.{explained_text_of}
+use Rattle.signal_reasons.specs.declared.reason.Explained.{Explained}
+use Rattle.signal_rules.specs.declared.violation.Violation.{Violation}
+use Rattle.signal_office_jobs.specs.Done.{checked_status, compared_status, compared_text, explained_status, status_of, text_of}
+use Rattle.signal_office_jobs.specs.Memory.{ServesInMemory, new_office}
+use Rattle.signal_office_jobs.specs.Printing.{InFoundFile, InNewFile, Looking, Made, MigratesFile, Naming, OnDay, Output, PrintsDone, Reading, Silent}
+use Rattle.signal_office_jobs.specs.Shown.{ShowsAs}
+use Rattle.signal_office_jobs.specs.Tasks.{AbandonsAs, AddsAs, ComparesAs, EditsBy, ImportsAs, ServesAs}
+use Rattle.signal_office_jobs.specs.declared.done.Done.{Done}
+use Rattle.signal_office_jobs.specs.declared.task.Shown.{Shown}
+use Rattle.signal_office_jobs.specs.declared.task.Shown.TheVariants as shown
+
+-- what is known of the files of offices, and of the migration of one
+pub record OfficeFiles (Left : Type 0) : Type 1 where
+  pub view : FileView Left
+  pub migrated : Left → ℕ → Type 0
+
+abbrev pub office_files : {Left : Type 0} → (Content → Type 0) → (Left → Type 0) → (Left → Content → Type 0) → (Left → Fault → Type 0)
+    → (Left → ℕ → Type 0) → OfficeFiles Left
+office_files held is_clean keeps refused migrated = record { view = file_view held is_clean keeps refused; migrated = migrated }
+
+-- what a run does from the start of its input and output to their ends, and the status or the fault that comes of it
+abbrev pub Run : Type 1
+Run = Ends → Ends → Result ℕ Fault → Type 0
+
+-- ---- requests
+
+-- the most requests of one run
+abbrev pub batch_limit : ℕ
+batch_limit = 1_000_000
+
+-- a stream that was served to its end has status 0; else why it was not is told
+abbrev pub stream_status : Result Served ServeFault → Result ℕ Fault
+stream_status (Ok served) = Ok 0
+stream_status (Err why) = Err (fault_of_stream why)
+
+-- the same over a file, whose fault comes first
+abbrev pub status_over : Result (Result Served ServeFault) Fault → Result ℕ Fault
+status_over (Ok outcome) = stream_status outcome
+status_over (Err why) = Err why
+
+-- the requests were answered by a new office in memory
+abbrev pub BatchInMemory : Run
+BatchInMemory start end result =
+    (outcome : Result Served ServeFault) × (after : Office) × Did office_protocol (ServesInMemory after) batch_limit start end outcome
+    × TellsFault start end outcome × (result ≡ stream_status outcome)
+
+-- the same by the office of a file
+abbrev pub BatchOver : {Left : Type 0} → FileView Left → Run
+BatchOver {Left} view start end result =
+    (ended : Ended (Result Served ServeFault) Left) × EndsOver view (Answers batch_limit start end) (end ≡ start) ended
+    × (result ≡ status_over (told_by ended))
+
+-- a port was served by a new office in memory
+abbrev pub ServesNew : (port count : ℕ) → Output
+ServesNew port count start end result =
+    (old : Content) × StandForSound old new_office × (new : Content) × (done : Result Done Fault) × (middle : Told)
+    × ServesAs port count old done new start middle × PrintsDone done middle end result
+
+-- ---- the plan in a CSV file
+
+-- why a file gives no plan: its first bad record, or that memory was refused
+abbrev pub IsNoPlan : (csv : List ℕ) → Fault → Type 0
+IsNoPlan csv why = (cause : CsvFault) × (why ≡ fault.Csv cause) × (cause ≢ file.NoMemory → changes_of csv ≡ Err cause)
+
+-- its violations, or with their reasons, and the status that tells whether there are any; or its first bad record
+abbrev pub Checks : (explain : Bool) → (csv : List ℕ) → Result Done Fault → Type 0
+Checks explain csv (Err why) = why ≢ fault.Memory → IsNoPlan csv why
+Checks false csv (Ok done) =
+    (found : List Violation) × AreOfPlan csv found × (text_of done ≡ violations_text found) × (status_of done ≡ checked_status found)
+Checks true csv (Ok done) =
+    (found : List Explained) × ExplainsPlan csv found × (text_of done ≡ explained_text_of found) × (status_of done ≡ explained_status found)
+
+-- what it and another differ in, and the status that tells whether they do; or the first bad record
+abbrev pub Compares : (csv : Bool) → (first second : List ℕ) → Result Done Fault → Type 0
+Compares csv first second (Ok done) =
+    (found : List Difference) × ComparesFiles first second found × (text_of done ≡ compared_text csv found) × (status_of done ≡ compared_status found)
+Compares csv first second (Err why) = why ≢ fault.Memory → IsFirstBad first second why
+
+-- the picture of a pattern; or the first bad record, or that the plan lacks the pattern
+abbrev pub DrawsPlan : (pattern : ℕ) → (csv : List ℕ) → Result Done Fault → Type 0
+DrawsPlan pattern csv (Ok done) = DrawsFile csv pattern (text_of done) × (status_of done ≡ 0)
+DrawsPlan pattern csv (Err why) = why ≢ fault.Memory → DrawsNoFile csv pattern why
+
+-- its page, or the first bad record
+abbrev pub PagesPlan : (csv : List ℕ) → Result Done Fault → Type 0
+PagesPlan csv (Ok done) = IsPageOfFile csv (text_of done) × (status_of done ≡ 0)
+PagesPlan csv (Err why) = why ≢ fault.Memory → IsNoPlan csv why
+
+-- ---- the jobs
+
+-- what is shown of the office of a file, which has to be there
+abbrev pub Shows : {Left : Type 0} → FileView Left → Shown → Output
+Shows view it = InFoundFile view (Looking (ShowsAs it))
+
+-- the most intersections of an office
+abbrev pub all_intersections : ℕ
+all_intersections = 9_999
+
+-- WHAT IS PRINTED for each job; the answers of `batch` are said by `Does`.
+abbrev pub Printed : {Left : Type 0} → OfficeFiles Left → Asked → Output
+Printed files (job.batch db) start end result = ⊥
+Printed files (job.serve port count None) start end result = ServesNew port count start end result
+Printed files (job.serve port count (Some db)) start end result = InNewFile files.view (ServesAs port count) start end result
+Printed files (job.add db id interval name) start end result =
+    Naming 120 name fault.Name (InNewFile files.view (Silent (AddsAs id interval name))) start end result
+Printed files (job.list db csv) start end result = Shows files.view (shown.List csv) start end result
+Printed files (job.stock db csv) start end result = Shows files.view (shown.Stock csv) start end result
+Printed files (job.orders db id) start end result = Shows files.view (shown.Orders id) start end result
+Printed files (job.cabinet db id) start end result = Shows files.view (shown.Cabinet id) start end result
+Printed files (job.sheet db id) start end result = Shows files.view (shown.Sheet id) start end result
+Printed files (job.overdue db first day) start end result =
+    OnDay day (λ on. Shows files.view (shown.Overdue on (unwrap_or first all_intersections))) start end result
+Printed files (job.verify_file csv explain) start end result = Reading (λ plan. Made (Checks explain plan)) start end result
+Printed files (job.migrate db) start end result = MigratesFile files.view files.migrated start end result
+Printed files (job.import_records db csv) start end result =
+    Reading (λ records. InNewFile files.view (Silent (ImportsAs records))) start end result
+Printed files (job.export db id what) start end result = Shows files.view (shown.Export id what) start end result
+Printed files (job.edit db clerk id csv commit explain) start end result =
+    Naming 40 clerk fault.Clerk (Reading (λ plan. InFoundFile files.view (Silent (EditsBy plan id clerk commit explain)))) start end result
+Printed files (job.abandon db clerk id) start end result =
+    Naming 40 clerk fault.Clerk (InFoundFile files.view (Silent (AbandonsAs id clerk))) start end result
+Printed files (job.compare_files first second csv) start end result =
+    Reading (λ plan. Reading (λ other. Made (Compares csv plan other))) start end result
+Printed files (job.compare_draft db id csv) start end result = InFoundFile files.view (Looking (ComparesAs id csv)) start end result
+Printed files (job.diagram db id pattern) start end result = Shows files.view (shown.Diagram id pattern) start end result
+Printed files (job.diagram_file csv pattern) start end result = Reading (λ plan. Made (DrawsPlan pattern plan)) start end result
+Printed files (job.page db id) start end result = Shows files.view (shown.Page id) start end result
+Printed files (job.page_file csv) start end result = Reading (λ plan. Made (PagesPlan plan)) start end result
+
+-- what each job does: the input is read by `batch` alone
+abbrev pub Does : {Left : Type 0} → OfficeFiles Left → Asked → Run
+Does files (job.batch None) start end result = BatchInMemory start end result
+Does files (job.batch (Some db)) start end result = BatchOver files.view start end result
+Does files other start end result = (end.source ≡ start.source) × Printed files other start.sink end.sink result

@@ -1,0 +1,130 @@
+-- What a command prints, as its outputs take it.
+use Rattle.std.specs.Prelude.{◌≡◌, ◌⊎◌, ℕ, Bool, true, false, List, ◌++◌, codes, decimal, Result, Ok, Err}
+use Rattle.std.specs.Io.KnownBytes.{Appends}
+use Rattle.cabinet_core.specs.Day.{SpellsDay}
+use Rattle.office_http_framing.specs.Ends.{AppendsPart, FailsOrGivesNone, Told}
+use Rattle.office_tables_shelf.specs.Content.{Content}
+use Rattle.signal_office_faults.specs.Lines.{IsUnreadFile}
+use Rattle.signal_office_faults.specs.declared.fault.Fault.{Fault}
+use Rattle.signal_office_faults.specs.declared.fault.Fault.TheVariants as fault
+use Rattle.signal_office_in_file.specs.Ended.{EndsOver, FileView, IsCounted, told_by}
+use Rattle.signal_office_in_file.specs.declared.Ended.{Ended}
+use Rattle.signal_office_jobs.specs.Done.{status_of, text_of}
+use Rattle.signal_office_jobs.specs.Tasks.{Tells}
+use Rattle.signal_office_jobs.specs.declared.done.Done.{Done}
+use Rattle.signal_values.specs.Words.{AreWords}
+
+-- what an output took from its start to its end, and the status that came of it, or the fault
+abbrev pub Output : Type 1
+Output = Told → Told → Result ℕ Fault → Type 0
+
+-- nothing was printed, and the fault is told
+abbrev pub Fails : Fault → Output
+Fails why start end result = (end ≡ start) × (result ≡ Err why)
+
+-- The text was printed, whole, and its status is given; or the output failed or took no byte, and holds the text up to some place.
+abbrev pub Prints : (text : List ℕ) → (status : ℕ) → Told → Told → Result ℕ Fault → Type 0
+Prints text status start end (Ok given) = Appends start.bytes end.bytes text × (given ≡ status)
+Prints text status start end (Err why) =
+    (why ≡ fault.Write) × AppendsPart start.bytes end.bytes text × FailsOrGivesNone start.counts end.counts
+
+-- what a command came to is printed
+abbrev pub PrintsDone : Result Done Fault → Output
+PrintsDone (Ok done) = Prints (text_of done) (status_of done)
+PrintsDone (Err why) = Fails why
+
+-- what came of both steps: the first, of which the second is the result
+abbrev pub joined : {A : Type 0} → Result (Result A Fault) Fault → Result A Fault
+joined (Ok done) = done
+joined (Err why) = Err why
+
+-- something was made of it, and that is printed
+abbrev pub Made : (Result Done Fault → Type 0) → Output
+Made makes start end result = (done : Result Done Fault) × makes done × PrintsDone done start end result
+
+-- ---- words of the command line
+
+-- the text that a word is, of so many bytes at most; or it is none, and refused, or memory for it was
+abbrev pub IsNamed : (most : ℕ) → (word : List ℕ) → (refusal : Fault) → Result (List ℕ) Fault → Type 0
+IsNamed most word refusal (Ok name) = AreWords most word × (name ≡ word)
+IsNamed most word refusal (Err why) =
+    ((AreWords most word → ⊥) × (why ≡ refusal)) ⊎ (AreWords most word × (why ≡ fault.Memory))
+
+-- the word is such a text, and this is done; or it is not taken, and that is told
+abbrev pub Naming : (most : ℕ) → (word : List ℕ) → (refusal : Fault) → Output → Output
+Naming most word refusal next start end result =
+    (AreWords most word × next start end result)
+    ⊎ ((why : Fault) × IsNamed most word refusal (Err why) × Fails why start end result)
+
+-- the day that a word spells, or that it spells none
+abbrev pub IsDay : (word : List ℕ) → Result ℕ Fault → Type 0
+IsDay word (Ok day) = SpellsDay word day
+IsDay word (Err why) = ((day : ℕ) → SpellsDay word day → ⊥) × (why ≡ fault.Day)
+
+-- the word spells a day, and this is done on it; or it spells none, and that is told
+abbrev pub OnDay : (word : List ℕ) → (ℕ → Output) → Output
+OnDay word next start end result =
+    ((day : ℕ) × SpellsDay word day × next day start end result)
+    ⊎ ((why : Fault) × IsDay word (Err why) × Fails why start end result)
+
+-- ---- files of the system
+
+-- A file of the system gave these bytes, and this is done with them; or it was not read.
+abbrev pub Reading : (List ℕ → Output) → Output
+Reading next start end result =
+    ((bytes : List ℕ) × next bytes start end result) ⊎ ((why : Fault) × IsUnreadFile why × Fails why start end result)
+
+-- ---- the file of an office
+
+-- what a task does to tables and to its output, and what it gives
+abbrev pub Effect : Type 1
+Effect = Content → Result Done Fault → Content → Told → Told → Type 0
+
+-- it prints nothing before the file is closed
+abbrev pub Silent : (Content → Result Done Fault → Content → Type 0) → Effect
+Silent makes old done new start end = makes old done new × (end ≡ start)
+
+-- it leaves the tables as they were, too
+abbrev pub Looking : (Content → Result Done Fault → Type 0) → Effect
+Looking shows old done new start end = (new ≡ old) × (end ≡ start) × shows old done
+
+-- The task was done over the tables that the file held, and what it came to is printed once the file is closed, which holds the tables after it; or the file was
+-- refused or not closed, and that is told.
+pub record WorksOver {Left : Type 0} (view : FileView Left) (does : Effect) (start end : Told) (result : Result ℕ Fault) : Type 0 where
+  pub ended : Ended (Result Done Fault) Left
+  pub middle : Told
+  pub over : EndsOver view (λ old done new. does old done new start middle) (middle ≡ start) ended
+  pub prints : PrintsDone (joined (told_by ended)) middle end result
+
+-- The file is not there, or empty without a log, and is not to be made; or memory for the name of its log was refused.
+abbrev pub IsMissing : (absent : Fault) → Fault → Type 0
+IsMissing absent why = (why ≡ absent) ⊎ (why ≡ fault.Memory)
+
+-- the same of a file that is made where there is none, or of one that has to be there
+abbrev pub InFile : {Left : Type 0} → FileView Left → (makes : Bool) → Effect → Output
+InFile view makes does start end result =
+    WorksOver view does start end result
+    ⊎ ((makes ≡ false) × (why : Fault) × IsMissing fault.File why × Fails why start end result)
+
+abbrev pub InNewFile : {Left : Type 0} → FileView Left → Effect → Output
+InNewFile view = InFile view true
+
+abbrev pub InFoundFile : {Left : Type 0} → FileView Left → Effect → Output
+InFoundFile view = InFile view false
+
+-- the line that tells how many rows were written anew
+abbrev pub migrated_line : ℕ → List ℕ
+migrated_line rows = codes "migrated " ++ decimal rows ++ codes " rows\n"
+
+-- The tables of a file were brought to today's version, and the line tells how many rows were written anew, as they were counted; or they were not, and that is
+-- told.
+pub record Migrates {Left : Type 0} (view : FileView Left) (migrated : Left → ℕ → Type 0) (start end : Told) (result : Result ℕ Fault) : Type 0 where
+  pub ended : Ended (Result ℕ Fault) Left
+  pub counted : IsCounted view.is_clean migrated view.refused ended
+  pub done : Result Done Fault
+  pub tells : Tells migrated_line (λ _. 0) (joined (told_by ended)) done
+  pub prints : PrintsDone done start end result
+
+abbrev pub MigratesFile : {Left : Type 0} → FileView Left → (migrated : Left → ℕ → Type 0) → Output
+MigratesFile view migrated start end result =
+    Migrates view migrated start end result ⊎ ((why : Fault) × IsMissing fault.Version why × Fails why start end result)

@@ -1,0 +1,217 @@
+//! Jobs over the office of a file.
+
+ghost use Rattle.std.specs.Prelude.{◌≡◌, Option, unwrap_or};
+ghost use Rattle.signal_office_in_file.specs.Ended.{file_view};
+ghost use Rattle.signal_office_faults.specs.declared.fault.Fault.TheVariants as fault;
+ghost use Rattle.signal_office_jobs.specs.Printed.{Shows, all_intersections};
+ghost use Rattle.signal_office_jobs.specs.Printing.{InFile, InFoundFile, InNewFile, IsDay};
+ghost use Rattle.signal_office_jobs.specs.Printing.{IsNamed, MigratesFile, Naming, OnDay};
+ghost use Rattle.signal_office_jobs.specs.Printing.{Reading, Silent};
+ghost use Rattle.signal_office_jobs.specs.Tasks.{AbandonsAs, AddsAs, EditsBy, ImportsAs};
+ghost use Rattle.signal_office_jobs.specs.Tasks.{TaskDoes, makes_file};
+
+use crate::done::{Done, joined, migrated, print_done};
+use crate::task::{Shown, Task};
+use cabinet_core::{Day, read_day};
+use office_http::Sink;
+use signal_office_commands::Fault;
+use signal_office_faults::{is_missing, read_file};
+use signal_office_in_file::OfficeInFile;
+use signal_office_line::Edit;
+use signal_records::{InterId, Interval, Words};
+use std::alloc::Global;
+
+/// The most intersections that an office has.
+const ALL_INTERSECTIONS: u32 = 9_999;
+
+/// The name that a word is, if it is one.
+fn named<const MAX: usize>(alloc: Global, word: &str, refusal: Fault) -> Result<Words<MAX>, Fault>
+    ensures { IsNamed MAX word.now refusal result }
+{
+    match Words::new(alloc, word.as_bytes())? {
+        Some(name) => Ok(name),
+        None => Err(refusal),
+    }
+}
+
+/// The day that a word spells, if it spells one.
+fn day_of(word: &str) -> Result<Day, Fault>
+    ensures { IsDay word.now result }
+{
+    match read_day(word.as_bytes()) {
+        Some(day) => Ok(day),
+        None => Err(Fault::Day),
+    }
+}
+
+/// Does a task over the office of a file, and prints what it gives. A file that is not there, or is
+/// empty with no log beside it, is made only for a task that makes its file.
+pub(crate) fn in_file<F: OfficeInFile, W: Sink>(
+    rt: &HostRuntime,
+    alloc: Global,
+    path: &str,
+    task: &Task<'_>,
+    out: &mut W,
+) -> Result<u8, Fault>
+    ensures { InFile (file_view F.held F.is_clean F.keeps F.refused) (makes_file task.now)
+        (TaskDoes task.now) (W.told out.old) (W.told out.new) result }
+{
+    if !task.makes_file() && is_missing(rt, alloc, path)? {
+        return Err(Fault::File);
+    }
+    let ended = F::do_task::<Done, Task<'_>, W>(rt, alloc, path, task, out);
+    print_done(joined(ended.told()), out)
+}
+
+/// Prints what is shown of the office of a file.
+pub(crate) fn show_of<F: OfficeInFile, W: Sink>(
+    rt: &HostRuntime,
+    alloc: Global,
+    path: &str,
+    shown: Shown,
+    out: &mut W,
+) -> Result<u8, Fault>
+    ensures { Shows (file_view F.held F.is_clean F.keeps F.refused) shown (W.told out.old)
+        (W.told out.new) result }
+{
+    in_file::<F, W>(rt, alloc, path, &Task::Show(shown), out)
+}
+
+/// How many intersections are listed at most.
+fn most_of(first: Option<u32>) -> usize
+    ensures { result ≡ unwrap_or first all_intersections }
+{
+    first.unwrap_or(ALL_INTERSECTIONS) as usize
+}
+
+/// Prints the report of the intersections that are overdue on the day of a word, which is read
+/// before the file is opened.
+pub(crate) fn overdue<F: OfficeInFile, W: Sink>(
+    rt: &HostRuntime,
+    alloc: Global,
+    path: &str,
+    first: Option<u32>,
+    word: &str,
+    out: &mut W,
+) -> Result<u8, Fault>
+    ensures { let view = file_view F.held F.is_clean F.keeps F.refused in
+        OnDay word.now
+        (λ day. Shows view (Shown.Overdue day (unwrap_or first all_intersections)))
+        (W.told out.old) (W.told out.new) result }
+{
+    let day = day_of(word)?;
+    let most = most_of(first);
+    show_of::<F, W>(rt, alloc, path, Shown::Overdue { day, most }, out)
+}
+
+/// Adds an intersection, whose name is read before the file is opened.
+pub(crate) fn add<F: OfficeInFile, W: Sink>(
+    rt: &HostRuntime,
+    alloc: Global,
+    db: &str,
+    id: InterId,
+    interval: Interval,
+    name: &str,
+    out: &mut W,
+) -> Result<u8, Fault>
+    ensures { let view = file_view F.held F.is_clean F.keeps F.refused in
+        Naming 120 name.now fault.Name (InNewFile view (Silent (AddsAs id interval name.now)))
+        (W.told out.old) (W.told out.new) result }
+{
+    let name = &named(alloc, name, Fault::Name)?;
+    let task = Task::Add { id, interval, name };
+    in_file::<F, W>(rt, alloc, db, &task, out)
+}
+
+/// Brings the tables of a file to today's version, and prints how many rows were written anew. A
+/// file that is not there, or is empty with no log beside it, has no version and is not made.
+pub(crate) fn migrate<F: OfficeInFile, W: Sink>(
+    rt: &HostRuntime,
+    alloc: Global,
+    path: &str,
+    out: &mut W,
+) -> Result<u8, Fault>
+    ensures { MigratesFile (file_view F.held F.is_clean F.keeps F.refused) F.migrated
+        (W.told out.old) (W.told out.new) result }
+{
+    if is_missing(rt, alloc, path)? {
+        return Err(Fault::Version);
+    }
+    let ended = F::migrate(rt, alloc, path);
+    print_done(migrated(alloc, joined(ended.told())), out)
+}
+
+/// Takes the records of a CSV file into the office of a file.
+pub(crate) fn import<F: OfficeInFile, W: Sink>(
+    rt: &HostRuntime,
+    alloc: Global,
+    db: &str,
+    csv: &str,
+    out: &mut W,
+) -> Result<u8, Fault>
+    ensures { let view = file_view F.held F.is_clean F.keeps F.refused in
+        Reading (λ records. InNewFile view (Silent (ImportsAs records)))
+        (W.told out.old) (W.told out.new) result }
+{
+    let csv = &read_file(rt, csv)?;
+    in_file::<F, W>(rt, alloc, db, &Task::Import { csv }, out)
+}
+
+/// Changes a plan by a CSV file, for a clerk whose name is known.
+fn edit_by<F: OfficeInFile, W: Sink>(
+    rt: &HostRuntime,
+    alloc: Global,
+    edit: &Edit<'_>,
+    clerk: &Words<40>,
+    out: &mut W,
+) -> Result<u8, Fault>
+    ensures { let view = file_view F.held F.is_clean F.keeps F.refused in
+        Reading (λ plan. InFoundFile view
+        (Silent (EditsBy plan edit.now.id clerk.now edit.now.commit edit.now.explain)))
+        (W.told out.old) (W.told out.new) result }
+{
+    let csv = &read_file(rt, edit.csv)?;
+    let (id, commit, explain) = (edit.id, edit.commit, edit.explain);
+    let task = Task::Edit {
+        id,
+        clerk,
+        csv,
+        commit,
+        explain,
+    };
+    in_file::<F, W>(rt, alloc, edit.db, &task, out)
+}
+
+/// Changes a plan by a CSV file. The name of the clerk is read first.
+pub(crate) fn edit_plan<F: OfficeInFile, W: Sink>(
+    rt: &HostRuntime,
+    alloc: Global,
+    edit: &Edit<'_>,
+    out: &mut W,
+) -> Result<u8, Fault>
+    ensures { let view = file_view F.held F.is_clean F.keeps F.refused in
+        let clerk = edit.now.clerk.now in
+        Naming 40 clerk fault.Clerk (Reading (λ plan. InFoundFile view
+        (Silent (EditsBy plan edit.now.id clerk edit.now.commit edit.now.explain))))
+        (W.told out.old) (W.told out.new) result }
+{
+    let clerk = &named(alloc, edit.clerk, Fault::Clerk)?;
+    edit_by::<F, W>(rt, alloc, edit, clerk, out)
+}
+
+/// Drops the draft of an intersection, for a clerk whose name is read before the file is opened.
+pub(crate) fn abandon<F: OfficeInFile, W: Sink>(
+    rt: &HostRuntime,
+    alloc: Global,
+    db: &str,
+    clerk: &str,
+    id: InterId,
+    out: &mut W,
+) -> Result<u8, Fault>
+    ensures { let view = file_view F.held F.is_clean F.keeps F.refused in
+        Naming 40 clerk.now fault.Clerk (InFoundFile view (Silent (AbandonsAs id clerk.now)))
+        (W.told out.old) (W.told out.new) result }
+{
+    let clerk = &named(alloc, clerk, Fault::Clerk)?;
+    in_file::<F, W>(rt, alloc, db, &Task::Abandon { id, clerk }, out)
+}
