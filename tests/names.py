@@ -37,7 +37,7 @@ MEANT = {
         "IsDeliveryAt IsInspectionAt IsOrderAt",
 }
 LEFT = """
-    Adds Answers AreInOrder AreWithin FollowsLine IsAfterStep IsFound IsKept IsOneOf IsQuery IsThere
+    Adds Answers AreInOrder AreWithin FollowsLine IsAfterStep IsFound IsKept IsLeftOpen IsOneOf IsQuery IsThere
     Keeps Lacks Line Lists ListsRows Migrates Puts Ran Reads Rows Run StaysOpen Tells Writes
     agree_at begun changes_of clearance command_of counted greatest intersection_rows is_among
     is_numeral is_of keyed list listed moved open_by open_orders opening_of parts

@@ -7,7 +7,7 @@ use Rattle.signal_office_faults.specs.declared.fault.Fault.{Fault}
 use Rattle.signal_office_in_file.specs.Ended.{EndsOver, FileView}
 use Rattle.signal_office_in_file.specs.declared.Ended.{Ended}
 use Rattle.signal_office_in_file.specs.declared.Ended.TheVariants.{Unopened, Refused, Closed, Unclosed}
-use Rattle.signal_office_jobs.specs.Printing.{Fails}
+use Rattle.signal_office_jobs.specs.Printing.{TellsNothing}
 
 -- work over a file is also what follows from it
 pub ends_weaker : {Left T : Type 0} (view : FileView Left) (does follows : Content → T → Content → Type 0) (untouched quiet : Type 0)
@@ -20,6 +20,6 @@ ends_weaker view does follows untouched quiet weaker still (Closed done left) it
 ends_weaker view does follows untouched quiet weaker still (Unclosed why left) it = tt
 
 -- a fault that is handed on, where nothing was printed
-pub fails : (why : Fault) (start : Told) (result : Result ℕ Fault) → IsErrAnd result (λ it. it ≡ why) → Fails why start start result
+pub fails : (why : Fault) (start : Told) (result : Result ℕ Fault) → IsErrAnd result (λ it. it ≡ why) → TellsNothing why start start result
 fails why start (Ok status) is = absurd is
 fails why start (Err it) is = (refl, ap Err is)

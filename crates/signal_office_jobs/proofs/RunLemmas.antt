@@ -7,8 +7,8 @@ use Rattle.clap.specs.Walk.{Text}
 use Rattle.office_http_framing.specs.Ends.{Told}
 use Rattle.office_http_framing.specs.Serve.{Ends}
 use Rattle.signal_office_faults.specs.declared.fault.Fault.{Fault}
-use Rattle.signal_office_jobs.specs.Printed.{Does, OfficeFiles, Printed}
-use Rattle.signal_office_jobs.specs.Runs.{IsFound, asked_in}
+use Rattle.signal_office_jobs.specs.Printed.{JobDoes, OfficeFiles, Printed}
+use Rattle.signal_office_jobs.specs.Runs.{IsFound, job_asked}
 use Rattle.signal_office_line.specs.CommandLine.{signal_app}
 use Rattle.signal_office_line.specs.Job.{Asked, asked, job_in}
 use Rattle.signal_office_line.specs.Refusals.{IsRefusedBy, clap_refusals, refusals_of}
@@ -18,8 +18,8 @@ use Rattle.signal_office_line.specs.declared.job.JobFault.TheVariants.{NoMemory}
 
 -- a job is known by its variant
 pub done_so : {Left : Type 0} (files : OfficeFiles Left) (job is : Asked) (start end : Ends) (result : Result ℕ Fault)
-    → job ≡ is → Does files is start end result → Does files job start end result
-done_so files job is start end result same it = subst (λ (x : Asked). Does files x start end result) (sym same) it
+    → job ≡ is → JobDoes files is start end result → JobDoes files job start end result
+done_so files job is start end result same it = subst (λ (x : Asked). JobDoes files x start end result) (sym same) it
 
 pub printed_so : {Left : Type 0} (files : OfficeFiles Left) (job is : Asked) (start end : Told) (result : Result ℕ Fault)
     → job ≡ is → Printed files is start end result → Printed files job start end result
@@ -30,6 +30,6 @@ pub found_in : (words : List Text) (found : Result Job JobFault) → IfOk found 
     → IfOk found (λ job. job_in (subcommand_of signal_app words) ≡ Some (asked job))
     → IfErr found (λ why. IsRefusedBy (refusals_of words) why)
     → IfErr found (λ why. takes signal_app words ≡ true → is_some (job_in (subcommand_of signal_app words)) ≡ true → why ≡ NoMemory)
-    → IsFound words (asked_in found)
+    → IsFound words (job_asked found)
 found_in words (Ok job) taken states refused answered = (taken, states)
 found_in words (Err why) taken states refused answered = (refused, answered)

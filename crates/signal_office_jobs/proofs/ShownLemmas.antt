@@ -1,45 +1,58 @@
--- What is shown, from what the commands say of their texts and faults.
+-- What is shown on an honest disk, from what the commands say on a clean one of their texts and faults.
 use Rattle.std.proofs.Common.{◌≡◌, ℕ, List, Ok, Err, ap, subst, sym}
 use Rattle.std.specs.Prelude.{◌≢◌, ◌⊎◌, Result, IfErr, IfOk}
+use Rattle.office_desk.specs.Running.{TellsTables}
+use Rattle.office_tables_shelf.specs.{Content.Content, declared.shelf.Shelf.Ghosts}
+use Rattle.signal_office_commands.proofs.HonestLemmas.{honest_err, honest_ok, honest_tells}
 use Rattle.signal_office_commands.specs.Fault.{IsFaultOfQuery}
 use Rattle.signal_office_faults.specs.declared.fault.Fault.{Fault}
 use Rattle.signal_office_faults.specs.declared.fault.Fault.TheVariants as fault
-use Rattle.office_tables_shelf.specs.Content.{Content}
 use Rattle.signal_office_jobs.specs.Shown.{IsFaultOfAll, IsFaultOfOne, IsNotShown, ShowsText}
 use Rattle.signal_office_jobs.specs.declared.task.Shown.{Shown}
 
-module _ {A : Type 0} (honest : Type 0) where
-  pub of_all : (damaged : Type 0) (r : Result A Fault) → IfErr r (λ why. (why ≡ fault.Memory) ⊎ ((why ≡ fault.Store) ⊎ (why ≡ fault.Damaged)))
-      → (r ≡ Err fault.Damaged → honest → damaged) → IfErr r (λ why. honest → IsFaultOfAll damaged why)
+module _ {S A : Type 0} (g : Ghosts S) (law : (shelf : S) → g.is_honest shelf → g.is_clean shelf) (old new : S) where
+  -- what is told on a clean disk of the tables that the shelf held
+  abbrev Tells : (Content → Type 0) → Type 0
+  Tells says = TellsTables g old new says
+
+  abbrev Honest : (Content → Type 0) → Type 0
+  Honest says = g.is_honest new → says (g.content old)
+
+  pub of_all : (damaged : Content → Type 0) (r : Result A Fault) → IfErr r (λ why. (why ≡ fault.Memory) ⊎ ((why ≡ fault.Store) ⊎ (why ≡ fault.Damaged)))
+      → (r ≡ Err fault.Damaged → Tells damaged) → IfErr r (λ why. Honest (λ tables. IsFaultOfAll (damaged tables) why))
   of_all damaged (Ok x) refused met = tt
-  of_all damaged (Err why) refused met = λ h. (refused, λ is. met (ap Err is) h)
+  of_all damaged (Err why) refused met = λ h. (refused, λ is. honest_tells g law old new damaged (met (ap Err is)) h)
 
-  pub of_one : (damaged : Type 0) (unknown : Fault → Type 0) (r : Result A Fault) → IfErr r IsFaultOfQuery
-      → (r ≡ Err fault.Damaged → honest → damaged) → IfErr r (λ why. honest → unknown why)
-      → IfErr r (λ why. honest → IsFaultOfOne damaged (unknown why) why)
+  pub of_one : (damaged : Content → Type 0) (unknown : Fault → Content → Type 0) (r : Result A Fault) → IfErr r IsFaultOfQuery
+      → (r ≡ Err fault.Damaged → Tells damaged) → IfErr r (λ why. Tells (unknown why))
+      → IfErr r (λ why. Honest (λ tables. IsFaultOfOne (damaged tables) (unknown why tables) why))
   of_one damaged unknown (Ok x) refused met is = tt
-  of_one damaged unknown (Err why) refused met is = λ h. (refused, λ same. met (ap Err same) h, is h)
+  of_one damaged unknown (Err why) refused met is =
+      λ h. (refused, (λ same. honest_tells g law old new damaged (met (ap Err same)) h), honest_tells g law old new (unknown why) is h)
 
-  pub and_unknown : (P Q : Fault → Type 0) (r : Result A Fault) → IfErr r (λ why. honest → P why) → IfErr r (λ why. honest → Q why)
-      → IfErr r (λ why. honest → P why × Q why)
+  pub and_unknown : (P Q : Fault → Content → Type 0) (r : Result A Fault) → IfErr r (λ why. Tells (P why)) → IfErr r (λ why. Tells (Q why))
+      → IfErr r (λ why. Honest (λ tables. P why tables × Q why tables))
   and_unknown P Q (Ok x) p q = tt
-  and_unknown P Q (Err why) p q = λ h. (p h, q h)
+  and_unknown P Q (Err why) p q = λ h. (honest_tells g law old new (P why) p h, honest_tells g law old new (Q why) q h)
 
-  pub paged : (P Q : Fault → Type 0) (r : Result A Fault) → IfErr r (λ why. why ≢ fault.Memory → honest → P why) → IfErr r (λ why. honest → Q why)
-      → IfErr r (λ why. honest → (why ≢ fault.Memory → P why) × Q why)
+  pub paged : (P Q : Fault → Content → Type 0) (r : Result A Fault) → IfErr r (λ why. why ≢ fault.Memory → Tells (P why)) → IfErr r (λ why. Tells (Q why))
+      → IfErr r (λ why. Honest (λ tables. (why ≢ fault.Memory → P why tables) × Q why tables))
   paged P Q (Ok x) p q = tt
-  paged P Q (Err why) p q = λ h. (λ not. p not h, q h)
+  paged P Q (Err why) p q = λ h. ((λ not. honest_tells g law old new (P why) (p not) h), honest_tells g law old new (Q why) q h)
 
-  pub listed : (P : A → Type 0) (Q : Type 0) (r : Result A Fault) → IfOk r (λ text. honest → P text) → IfOk r (λ _. honest → Q)
-      → IfOk r (λ text. honest → P text × Q)
-  listed P Q (Ok x) p q = λ h. (p h, q h)
-  listed P Q (Err why) p q = tt
+  -- a text, and that no damaged row was passed over for it
+  pub and_whole : (P Q : A → Content → Type 0) (r : Result A Fault) → IfOk r (λ text. Tells (P text)) → IfOk r (λ text. Tells (Q text))
+      → IfOk r (λ text. Tells (λ tables. P text tables × Q text tables))
+  and_whole P Q (Ok x) p q = λ clean tables holds. (p clean tables holds, q clean tables holds)
+  and_whole P Q (Err why) p q = tt
 
   -- what is asked for is known by its variant
-  pub text_so : (tables : Content) (r : Result A Fault) (items : A → List ℕ) (it is : Shown) → it ≡ is
-      → IfOk r (λ text. honest → ShowsText is tables (items text)) → IfOk r (λ text. honest → ShowsText it tables (items text))
-  text_so tables r items it is same told = subst (λ (x : Shown). IfOk r (λ text. honest → ShowsText x tables (items text))) (sym same) told
+  pub text_so : (r : Result A Fault) (items : A → List ℕ) (it is : Shown) → it ≡ is
+      → IfOk r (λ text. Tells (λ tables. ShowsText is tables (items text))) → IfOk r (λ text. Honest (λ tables. ShowsText it tables (items text)))
+  text_so r items it is same told =
+      subst (λ (x : Shown). IfOk r (λ text. Honest (λ tables. ShowsText x tables (items text)))) (sym same)
+      (honest_ok g law old new r (λ text tables. ShowsText is tables (items text)) told)
 
-  pub fault_so : (tables : Content) (r : Result A Fault) (it is : Shown) → it ≡ is
-      → IfErr r (λ why. honest → IsNotShown is tables why) → IfErr r (λ why. honest → IsNotShown it tables why)
-  fault_so tables r it is same told = subst (λ (x : Shown). IfErr r (λ why. honest → IsNotShown x tables why)) (sym same) told
+  pub fault_so : (r : Result A Fault) (it is : Shown) → it ≡ is
+      → IfErr r (λ why. Honest (λ tables. IsNotShown is tables why)) → IfErr r (λ why. Honest (λ tables. IsNotShown it tables why))
+  fault_so r it is same told = subst (λ (x : Shown). IfErr r (λ why. Honest (λ tables. IsNotShown x tables why))) (sym same) told

@@ -124,7 +124,7 @@ Shows view it = InFoundFile view (Looking (ShowsAs it))
 abbrev pub all_intersections : ℕ
 all_intersections = 9_999
 
--- WHAT IS PRINTED for each job; the answers of `batch` are said by `Does`.
+-- WHAT IS PRINTED for each job; the answers of `batch` are said by `JobDoes`.
 abbrev pub Printed : {Left : Type 0} → OfficeFiles Left → Asked → Output
 Printed files (job.batch db) start end result = ⊥
 Printed files (job.serve port count None) start end result = ServesNew port count start end result
@@ -156,7 +156,7 @@ Printed files (job.page db id) start end result = Shows files.view (shown.Page i
 Printed files (job.page_file csv) start end result = Reading (λ plan. Made (PagesPlan plan)) start end result
 
 -- what each job does: the input is read by `batch` alone
-abbrev pub Does : {Left : Type 0} → OfficeFiles Left → Asked → Run
-Does files (job.batch None) start end result = BatchInMemory start end result
-Does files (job.batch (Some db)) start end result = BatchOver files.view start end result
-Does files other start end result = (end.source ≡ start.source) × Printed files other start.sink end.sink result
+abbrev pub JobDoes : {Left : Type 0} → OfficeFiles Left → Asked → Run
+JobDoes files (job.batch None) start end result = BatchInMemory start end result
+JobDoes files (job.batch (Some db)) start end result = BatchOver files.view start end result
+JobDoes files other start end result = (end.source ≡ start.source) × Printed files other start.sink end.sink result

@@ -19,8 +19,8 @@ abbrev pub Output : Type 1
 Output = Told → Told → Result ℕ Fault → Type 0
 
 -- nothing was printed, and the fault is told
-abbrev pub Fails : Fault → Output
-Fails why start end result = (end ≡ start) × (result ≡ Err why)
+abbrev pub TellsNothing : Fault → Output
+TellsNothing why start end result = (end ≡ start) × (result ≡ Err why)
 
 -- The text was printed, whole, and its status is given; or the output failed or took no byte, and holds the text up to some place.
 abbrev pub Prints : (text : List ℕ) → (status : ℕ) → Told → Told → Result ℕ Fault → Type 0
@@ -31,7 +31,7 @@ Prints text status start end (Err why) =
 -- what a command came to is printed
 abbrev pub PrintsDone : Result Done Fault → Output
 PrintsDone (Ok done) = Prints (text_of done) (status_of done)
-PrintsDone (Err why) = Fails why
+PrintsDone (Err why) = TellsNothing why
 
 -- what came of both steps: the first, of which the second is the result
 abbrev pub joined : {A : Type 0} → Result (Result A Fault) Fault → Result A Fault
@@ -45,34 +45,34 @@ Made makes start end result = (done : Result Done Fault) × makes done × Prints
 -- ---- words of the command line
 
 -- the text that a word is, of so many bytes at most; or it is none, and refused, or memory for it was
-abbrev pub IsNamed : (most : ℕ) → (word : List ℕ) → (refusal : Fault) → Result (List ℕ) Fault → Type 0
-IsNamed most word refusal (Ok name) = AreWords most word × (name ≡ word)
-IsNamed most word refusal (Err why) =
+abbrev pub IsNameRead : (most : ℕ) → (word : List ℕ) → (refusal : Fault) → Result (List ℕ) Fault → Type 0
+IsNameRead most word refusal (Ok name) = AreWords most word × (name ≡ word)
+IsNameRead most word refusal (Err why) =
     ((AreWords most word → ⊥) × (why ≡ refusal)) ⊎ (AreWords most word × (why ≡ fault.Memory))
 
 -- the word is such a text, and this is done; or it is not taken, and that is told
 abbrev pub Naming : (most : ℕ) → (word : List ℕ) → (refusal : Fault) → Output → Output
 Naming most word refusal next start end result =
     (AreWords most word × next start end result)
-    ⊎ ((why : Fault) × IsNamed most word refusal (Err why) × Fails why start end result)
+    ⊎ ((why : Fault) × IsNameRead most word refusal (Err why) × TellsNothing why start end result)
 
 -- the day that a word spells, or that it spells none
-abbrev pub IsDay : (word : List ℕ) → Result ℕ Fault → Type 0
-IsDay word (Ok day) = SpellsDay word day
-IsDay word (Err why) = ((day : ℕ) → SpellsDay word day → ⊥) × (why ≡ fault.Day)
+abbrev pub IsDayRead : (word : List ℕ) → Result ℕ Fault → Type 0
+IsDayRead word (Ok day) = SpellsDay word day
+IsDayRead word (Err why) = ((day : ℕ) → SpellsDay word day → ⊥) × (why ≡ fault.Day)
 
 -- the word spells a day, and this is done on it; or it spells none, and that is told
 abbrev pub OnDay : (word : List ℕ) → (ℕ → Output) → Output
 OnDay word next start end result =
     ((day : ℕ) × SpellsDay word day × next day start end result)
-    ⊎ ((why : Fault) × IsDay word (Err why) × Fails why start end result)
+    ⊎ ((why : Fault) × IsDayRead word (Err why) × TellsNothing why start end result)
 
 -- ---- files of the system
 
 -- A file of the system gave these bytes, and this is done with them; or it was not read.
 abbrev pub Reading : (List ℕ → Output) → Output
 Reading next start end result =
-    ((bytes : List ℕ) × next bytes start end result) ⊎ ((why : Fault) × IsUnreadFile why × Fails why start end result)
+    ((bytes : List ℕ) × next bytes start end result) ⊎ ((why : Fault) × IsUnreadFile why × TellsNothing why start end result)
 
 -- ---- the file of an office
 
@@ -104,7 +104,7 @@ IsMissing absent why = (why ≡ absent) ⊎ (why ≡ fault.Memory)
 abbrev pub InFile : {Left : Type 0} → FileView Left → (makes : Bool) → Effect → Output
 InFile view makes does start end result =
     WorksOver view does start end result
-    ⊎ ((makes ≡ false) × (why : Fault) × IsMissing fault.File why × Fails why start end result)
+    ⊎ ((makes ≡ false) × (why : Fault) × IsMissing fault.File why × TellsNothing why start end result)
 
 abbrev pub InNewFile : {Left : Type 0} → FileView Left → Effect → Output
 InNewFile view = InFile view true
@@ -127,4 +127,4 @@ pub record Migrates {Left : Type 0} (view : FileView Left) (migrated : Left → 
 
 abbrev pub MigratesFile : {Left : Type 0} → FileView Left → (migrated : Left → ℕ → Type 0) → Output
 MigratesFile view migrated start end result =
-    Migrates view migrated start end result ⊎ ((why : Fault) × IsMissing fault.Version why × Fails why start end result)
+    Migrates view migrated start end result ⊎ ((why : Fault) × IsMissing fault.Version why × TellsNothing why start end result)

@@ -19,13 +19,13 @@ use Rattle.signal_office_line.specs.Refusals.{IsRefusedBy, clap_refusals, refusa
 use Rattle.signal_office_line.specs.declared.job.Job.{Job}
 use Rattle.signal_office_line.specs.declared.job.JobFault.{JobFault}
 use Rattle.signal_office_line.specs.declared.job.JobFault.TheVariants.{Refused, NoMemory}
-use Rattle.signal_office_jobs.specs.Printed.{Does, OfficeFiles}
+use Rattle.signal_office_jobs.specs.Printed.{JobDoes, OfficeFiles}
 use Rattle.signal_office_jobs.specs.Printing.{Prints}
 
 -- what was found, as the words have it
-abbrev pub asked_in : Result Job JobFault → Result Asked JobFault
-asked_in (Ok job) = Ok (asked job)
-asked_in (Err why) = Err why
+abbrev pub job_asked : Result Job JobFault → Result Asked JobFault
+job_asked (Ok job) = Ok (asked job)
+job_asked (Err why) = Err why
 
 -- The words ask for this job, as `clap` finds its command and values; or they are refused, as `clap` refuses them or for a value. Words that ask for a job are
 -- refused only where memory ran out.
@@ -52,7 +52,7 @@ ShowsRefusal error out ended err said result =
 
 -- What was found is done: the job, or the refusal is shown, or that memory ran out.
 abbrev pub DoesFound : {Left : Type 0} → OfficeFiles Left → Result Asked JobFault → (start end : Ends) → (err said : Told) → Result ℕ Fault → Type 0
-DoesFound files (Ok job) start end err said result = Does files job start end result × (said ≡ err)
+DoesFound files (Ok job) start end err said result = JobDoes files job start end result × (said ≡ err)
 DoesFound files (Err (Refused error)) start end err said result =
     (end.source ≡ start.source) × ShowsRefusal error start.sink end.sink err said result
 DoesFound files (Err NoMemory) start end err said result = (end ≡ start) × (said ≡ err) × (result ≡ Err fault.Memory)

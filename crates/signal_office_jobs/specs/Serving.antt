@@ -15,12 +15,12 @@ listening_line port = codes "listening on 127.0.0.1:" ++ decimal port ++ codes "
 
 -- The line was written; or memory for it was refused, and nothing was written; or the sink failed or took no byte, and holds
 -- the line up to some place.
-abbrev pub SaysLine : ℕ → Told → Told → Result ⊤ Fault → Type 0
-SaysLine port old new (Ok done) = Appends old.bytes new.bytes (listening_line port)
-SaysLine port old new (Err fault.Memory) = new ≡ old
-SaysLine port old new (Err fault.Write) =
+abbrev pub SaysListening : ℕ → Told → Told → Result ⊤ Fault → Type 0
+SaysListening port old new (Ok done) = Appends old.bytes new.bytes (listening_line port)
+SaysListening port old new (Err fault.Memory) = new ≡ old
+SaysListening port old new (Err fault.Write) =
     AppendsPart old.bytes new.bytes (listening_line port) × FailsOrGivesNone old.counts new.counts
-SaysLine port old new (Err why) = ⊥
+SaysListening port old new (Err why) = ⊥
 
 -- the fault that tells why a listener was not served to the last connection
 abbrev pub fault_of_stop : ServeStop → Fault
@@ -45,4 +45,4 @@ ServesOnceSaid count (Ok done) counts served result =
 abbrev pub ServesPort : ℕ → ℕ → Told → Told → Option ListenCounts → List Connected → Result ⊤ Fault → Type 0
 ServesPort port count old new None served result = (result ≡ Err fault.Bind) × (new ≡ old) × (served ≡ [])
 ServesPort port count old new (Some counts) served result =
-    (said : Result ⊤ Fault) × SaysLine port old new said × ServesOnceSaid count said counts served result
+    (said : Result ⊤ Fault) × SaysListening port old new said × ServesOnceSaid count said counts served result

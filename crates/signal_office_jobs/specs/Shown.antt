@@ -12,9 +12,9 @@ use Rattle.signal_office_commands.specs.Cabinet.{IsRegisterOf, MeetsRegisterDama
 use Rattle.signal_office_commands.specs.Drawing.{DrawsTiming, DrawsNoTiming}
 use Rattle.signal_office_commands.specs.Exporting.{ExportsTiming, ExportsDraft, ExportsCabinet}
 use Rattle.signal_office_commands.specs.Fault.{IsFaultOfQuery, IsUnshown, TellsUnknown}
-use Rattle.signal_office_commands.specs.Intersection.{IsRefusedShowing}
+use Rattle.signal_office_commands.specs.Intersection.{IsRefusedShowing, IsWholePage}
 use Rattle.signal_office_commands.specs.Listing.{IsOrdersListOf, MeetsOrdersDamage, TellsOrders, list_written, stock_written}
-use Rattle.signal_office_commands.specs.Overdue.{IsReportOf}
+use Rattle.signal_office_commands.specs.Overdue.{IsReportOf, IsWholeReport}
 use Rattle.signal_office_commands.specs.Paging.{IsPageOf}
 use Rattle.signal_office_commands.specs.Sheet.{IsSheetOf}
 use Rattle.signal_office_commands.specs.Showing.{ShowsTiming, ShowsDraft, ShowsCabinet}
@@ -30,20 +30,22 @@ use Rattle.signal_office_jobs.specs.declared.task.Shown.TheVariants as shown
 abbrev pub OfOffice : Content → (Office → Type 0) → Type 0
 OfOffice tables says = (before : Office) → StandForSound tables before → says before
 
--- the text is what was asked for, of the office that the tables stand for
+-- the text is what was asked for, of the office that the tables stand for, and no row that is read for a report and is no record was passed over
 abbrev pub ShowsText : Shown → Content → (text : List ℕ) → Type 0
-ShowsText (shown.Sheet id) tables text = OfOffice tables (λ office. IsSheetOf office id text)
-ShowsText (shown.Overdue day most) tables text = OfOffice tables (λ office. IsReportOf office day most text)
+ShowsText (shown.Sheet id) tables text = OfOffice tables (λ office. IsSheetOf office id text) × ¬ MeetsDamage tables (command.Timing id)
+ShowsText (shown.Overdue day most) tables text =
+    OfOffice tables (λ office. IsReportOf office day most text) × IsWholeReport tables day most text
 ShowsText (shown.List csv) tables text =
     OfOffice tables (λ office. text ≡ list_written csv (intersections_of office)) × ¬ HasAnyDamagedIntersection tables
-ShowsText (shown.Stock csv) tables text = OfOffice tables (λ office. text ≡ stock_written csv (stock_of office.register))
-ShowsText (shown.Orders id) tables text = OfOffice tables (λ office. IsOrdersListOf office id text)
-ShowsText (shown.Cabinet id) tables text = OfOffice tables (λ office. IsRegisterOf office id text)
+ShowsText (shown.Stock csv) tables text =
+    OfOffice tables (λ office. text ≡ stock_written csv (stock_of office.register)) × ¬ MeetsDamage tables command.Stock
+ShowsText (shown.Orders id) tables text = OfOffice tables (λ office. IsOrdersListOf office id text) × ¬ MeetsOrdersDamage tables id
+ShowsText (shown.Cabinet id) tables text = OfOffice tables (λ office. IsRegisterOf office id text) × ¬ MeetsRegisterDamage tables id
 ShowsText (shown.Export id view.Timing) tables text = ExportsTiming tables id text
 ShowsText (shown.Export id view.Draft) tables text = ExportsDraft tables id text
 ShowsText (shown.Export id view.Cabinet) tables text = ExportsCabinet tables id text
 ShowsText (shown.Diagram id pattern) tables text = DrawsTiming tables id pattern text
-ShowsText (shown.Page id) tables text = OfOffice tables (λ office. IsPageOf office id text)
+ShowsText (shown.Page id) tables text = OfOffice tables (λ office. IsPageOf office id text) × IsWholePage tables id text
 
 -- memory or the database refused, or a row that is read is no record
 abbrev pub IsFaultOfAll : (damaged : Type 0) → Fault → Type 0

@@ -4,8 +4,8 @@ ghost use Rattle.std.specs.Prelude.{◌≡◌, Option, unwrap_or};
 ghost use Rattle.signal_office_in_file.specs.Ended.{file_view};
 ghost use Rattle.signal_office_faults.specs.declared.fault.Fault.TheVariants as fault;
 ghost use Rattle.signal_office_jobs.specs.Printed.{Shows, all_intersections};
-ghost use Rattle.signal_office_jobs.specs.Printing.{InFile, InFoundFile, InNewFile, IsDay};
-ghost use Rattle.signal_office_jobs.specs.Printing.{IsNamed, MigratesFile, Naming, OnDay};
+ghost use Rattle.signal_office_jobs.specs.Printing.{InFile, InFoundFile, InNewFile, IsDayRead};
+ghost use Rattle.signal_office_jobs.specs.Printing.{IsNameRead, MigratesFile, Naming, OnDay};
 ghost use Rattle.signal_office_jobs.specs.Printing.{Reading, Silent};
 ghost use Rattle.signal_office_jobs.specs.Tasks.{AbandonsAs, AddsAs, EditsBy, ImportsAs};
 ghost use Rattle.signal_office_jobs.specs.Tasks.{TaskDoes, makes_file};
@@ -26,7 +26,7 @@ const ALL_INTERSECTIONS: u32 = 9_999;
 
 /// The name that a word is, if it is one.
 fn named<const MAX: usize>(alloc: Global, word: &str, refusal: Fault) -> Result<Words<MAX>, Fault>
-    ensures { IsNamed MAX word.now refusal result }
+    ensures { IsNameRead MAX word.now refusal result }
 {
     match Words::new(alloc, word.as_bytes())? {
         Some(name) => Ok(name),
@@ -36,7 +36,7 @@ fn named<const MAX: usize>(alloc: Global, word: &str, refusal: Fault) -> Result<
 
 /// The day that a word spells, if it spells one.
 fn day_of(word: &str) -> Result<Day, Fault>
-    ensures { IsDay word.now result }
+    ensures { IsDayRead word.now result }
 {
     match read_day(word.as_bytes()) {
         Some(day) => Ok(day),

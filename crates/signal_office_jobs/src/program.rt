@@ -3,10 +3,10 @@
 ghost use Rattle.std.specs.Prelude.{◌≡◌, map, option_map};
 ghost use Rattle.office_http_framing.specs.Serve.{ends_of};
 ghost use Rattle.signal_office_line.specs.Job.{asked, batch, serve};
-ghost use Rattle.signal_office_jobs.specs.Printed.{Does, Printed, ServesNew, office_files};
+ghost use Rattle.signal_office_jobs.specs.Printed.{JobDoes, Printed, ServesNew, office_files};
 ghost use Rattle.signal_office_jobs.specs.Printed.{status_over, stream_status};
 ghost use Rattle.signal_office_jobs.specs.Runs.{DoesFound, EndsWith, RunsWords, ShowsRefusal};
-ghost use Rattle.signal_office_jobs.specs.Runs.{asked_in};
+ghost use Rattle.signal_office_jobs.specs.Runs.{job_asked};
 ghost use Rattle.signal_office_jobs.specs.Printing.{Prints};
 
 use crate::done::print_done;
@@ -57,7 +57,7 @@ fn batch<F: OfficeInFile, R: Source, W: Sink>(
     out: &mut W,
 ) -> Result<u8, Fault>
     ensures { let files = office_files F.held F.is_clean F.keeps F.refused F.migrated in
-        Does files (batch (option_map (λ path. path.now) db.now))
+        JobDoes files (batch (option_map (λ path. path.now) db.now))
         (ends_of (R.told source.old) (W.told out.old))
         (ends_of (R.told source.new) (W.told out.new)) result }
 {
@@ -165,7 +165,7 @@ fn run_job<F: OfficeInFile, R: Source, W: Sink>(
     out: &mut W,
 ) -> Result<u8, Fault>
     ensures { let files = office_files F.held F.is_clean F.keeps F.refused F.migrated in
-        Does files (asked job.now) (ends_of (R.told source.old) (W.told out.old))
+        JobDoes files (asked job.now) (ends_of (R.told source.old) (W.told out.old))
         (ends_of (R.told source.new) (W.told out.new)) result }
 {
     match job {
@@ -236,7 +236,7 @@ fn do_found<F: OfficeInFile, R: Source, W: Sink, E: Sink>(
     err: &mut E,
 ) -> Result<u8, Fault>
     ensures { let files = office_files F.held F.is_clean F.keeps F.refused F.migrated in
-        DoesFound files (asked_in found.now)
+        DoesFound files (job_asked found.now)
         (ends_of (R.told source.old) (W.told out.old))
         (ends_of (R.told source.new) (W.told out.new))
         (E.told err.old) (E.told err.new) result }

@@ -6,7 +6,7 @@ ghost use Rattle.office_tables_shelf.specs.Content.{Content};
 ghost use Rattle.office_http_framing.specs.Stops.{Keeps};
 ghost use Rattle.office_http.specs.Listening.{Connected, Listens};
 ghost use Rattle.office_http.specs.Protocol.{office_storage};
-ghost use Rattle.signal_office_jobs.specs.Serving.{SaysLine, ServesPort, fault_of_stop};
+ghost use Rattle.signal_office_jobs.specs.Serving.{SaysListening, ServesPort, fault_of_stop};
 
 use office_desk::office::Office;
 use office_http::{FromListener, ServeStop, Sink, serve_each, write_all};
@@ -17,7 +17,7 @@ use std::net::{Ipv4Addr, SocketAddr, TcpListener};
 
 /// Says that a port of 127.0.0.1 is listened on.
 fn say<W: Sink>(alloc: Global, port: u16, out: &mut W) -> Result<(), Fault>
-    ensures { SaysLine port (W.told out.old) (W.told out.new) result }
+    ensures { SaysListening port (W.told out.old) (W.told out.new) result }
 {
     let line = format!(in alloc; "listening on 127.0.0.1:{port}\n")?;
     match write_all(out, line.as_bytes()) {
