@@ -10,7 +10,7 @@ use Rattle.signal_office_faults.specs.declared.fault.Fault.TheVariants as fault
 use Rattle.signal_office_jobs.specs.Shown.{IsFaultOfAll, IsFaultOfOne, IsNotShown, ShowsText}
 use Rattle.signal_office_jobs.specs.declared.task.Shown.{Shown}
 
-module _ {S A : Type 0} (g : Ghosts S) (law : (shelf : S) → g.is_honest shelf → g.is_clean shelf) (old new : S) where
+module _ {S : Type 0} (g : Ghosts S) (law : (shelf : S) → g.is_honest shelf → g.is_clean shelf) (old new : S) where
   -- what is told on a clean disk of the tables that the shelf held
   abbrev Tells : (Content → Type 0) → Type 0
   Tells says = TellsTables g old new says
@@ -18,41 +18,45 @@ module _ {S A : Type 0} (g : Ghosts S) (law : (shelf : S) → g.is_honest shelf 
   abbrev Honest : (Content → Type 0) → Type 0
   Honest says = g.is_honest new → says (g.content old)
 
-  pub of_all : (damaged : Content → Type 0) (r : Result A Fault) → IfErr r (λ why. (why ≡ fault.Memory) ⊎ ((why ≡ fault.Store) ⊎ (why ≡ fault.Damaged)))
+  pub of_all : {A : Type 0} (damaged : Content → Type 0) (r : Result A Fault) → IfErr r (λ why. (why ≡ fault.Memory) ⊎ ((why ≡ fault.Store) ⊎ (why ≡ fault.Damaged)))
       → (r ≡ Err fault.Damaged → Tells damaged) → IfErr r (λ why. Honest (λ tables. IsFaultOfAll (damaged tables) why))
   of_all damaged (Ok x) refused met = tt
   of_all damaged (Err why) refused met = λ h. (refused, λ is. honest_tells g law old new damaged (met (ap Err is)) h)
 
-  pub of_one : (damaged : Content → Type 0) (unknown : Fault → Content → Type 0) (r : Result A Fault) → IfErr r IsFaultOfQuery
+  pub of_one : {A : Type 0} (damaged : Content → Type 0) (unknown : Fault → Content → Type 0) (r : Result A Fault) → IfErr r IsFaultOfQuery
       → (r ≡ Err fault.Damaged → Tells damaged) → IfErr r (λ why. Tells (unknown why))
       → IfErr r (λ why. Honest (λ tables. IsFaultOfOne (damaged tables) (unknown why tables) why))
   of_one damaged unknown (Ok x) refused met is = tt
   of_one damaged unknown (Err why) refused met is =
       λ h. (refused, (λ same. honest_tells g law old new damaged (met (ap Err same)) h), honest_tells g law old new (unknown why) is h)
 
-  pub and_unknown : (P Q : Fault → Content → Type 0) (r : Result A Fault) → IfErr r (λ why. Tells (P why)) → IfErr r (λ why. Tells (Q why))
+  pub and_unknown : {A : Type 0} (P Q : Fault → Content → Type 0) (r : Result A Fault) → IfErr r (λ why. Tells (P why)) → IfErr r (λ why. Tells (Q why))
       → IfErr r (λ why. Honest (λ tables. P why tables × Q why tables))
   and_unknown P Q (Ok x) p q = tt
   and_unknown P Q (Err why) p q = λ h. (honest_tells g law old new (P why) p h, honest_tells g law old new (Q why) q h)
 
-  pub paged : (P Q : Fault → Content → Type 0) (r : Result A Fault) → IfErr r (λ why. why ≢ fault.Memory → Tells (P why)) → IfErr r (λ why. Tells (Q why))
+  pub paged : {A : Type 0} (P Q : Fault → Content → Type 0) (r : Result A Fault) → IfErr r (λ why. why ≢ fault.Memory → Tells (P why)) → IfErr r (λ why. Tells (Q why))
       → IfErr r (λ why. Honest (λ tables. (why ≢ fault.Memory → P why tables) × Q why tables))
   paged P Q (Ok x) p q = tt
   paged P Q (Err why) p q = λ h. ((λ not. honest_tells g law old new (P why) (p not) h), honest_tells g law old new (Q why) q h)
 
   -- a text, and that no damaged row was passed over for it
-  pub and_whole : (P Q : A → Content → Type 0) (r : Result A Fault) → IfOk r (λ text. Tells (P text)) → IfOk r (λ text. Tells (Q text))
+  pub and_whole : {A : Type 0} (P Q : A → Content → Type 0) (r : Result A Fault) → IfOk r (λ text. Tells (P text)) → IfOk r (λ text. Tells (Q text))
       → IfOk r (λ text. Tells (λ tables. P text tables × Q text tables))
   and_whole P Q (Ok x) p q = λ clean tables holds. (p clean tables holds, q clean tables holds)
   and_whole P Q (Err why) p q = tt
 
   -- what is asked for is known by its variant
-  pub text_so : (r : Result A Fault) (items : A → List ℕ) (it is : Shown) → it ≡ is
+  pub text_so : {A : Type 0} (r : Result A Fault) (items : A → List ℕ) (it is : Shown) → it ≡ is
       → IfOk r (λ text. Tells (λ tables. ShowsText is tables (items text))) → IfOk r (λ text. Honest (λ tables. ShowsText it tables (items text)))
   text_so r items it is same told =
       subst (λ (x : Shown). IfOk r (λ text. Honest (λ tables. ShowsText x tables (items text)))) (sym same)
       (honest_ok g law old new r (λ text tables. ShowsText is tables (items text)) told)
 
-  pub fault_so : (r : Result A Fault) (it is : Shown) → it ≡ is
+  pub fault_so : {A : Type 0} (r : Result A Fault) (it is : Shown) → it ≡ is
       → IfErr r (λ why. Honest (λ tables. IsNotShown is tables why)) → IfErr r (λ why. Honest (λ tables. IsNotShown it tables why))
   fault_so r it is same told = subst (λ (x : Shown). IfErr r (λ why. Honest (λ tables. IsNotShown x tables why))) (sym same) told
+
+  -- a fault of which something is told where it is not that memory ran out
+  pub not_memory : (why : Fault) (says : Content → Type 0) → (why ≢ fault.Memory → Tells says) → why ≢ fault.Memory → Honest says
+  not_memory why says told not = honest_tells g law old new says (told not)
