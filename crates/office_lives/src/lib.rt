@@ -2,6 +2,9 @@
 //! from the public contracts alone, over any disk.
 #![tactic(auto)]
 
+mod commands;
 mod lives;
+mod stopping;
 
-pub use lives::{Twice, migrated_and_served, served_after_a_stop, served_twice};
+pub use commands::{Around, served_around};
+pub use lives::{Outcome, Twice, migrated_and_served, served_after_a_stop, served_twice};

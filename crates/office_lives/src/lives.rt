@@ -1,18 +1,17 @@
 //! Two runs over the same files, closed or stopped in between.
 
 ghost use Rattle.std.specs.Prelude.{◌∷◌, [], IfSome};
-ghost use Rattle.sqlite.specs.Files.{file_state, image_of};
-ghost use Rattle.sqlite.specs.State.{HasCleanDisk};
-ghost use Rattle.sqlite.specs.Tree.{Trees};
+ghost use Rattle.sqlite.specs.Files.{image_of};
 ghost use Rattle.sqlite.specs.WalReads.{AreClean};
 ghost use Rattle.office_http_framing.specs.Serve.{ends_of};
 ghost use Rattle.office_tables.specs.Content.{Content};
-ghost use Rattle.signal_office_file.specs.Files.{AreThoseOf, HoldIn, KeepTables};
+ghost use Rattle.signal_office_file.specs.Files.{HoldIn, KeepTables};
 ghost use Rattle.office_lives.specs.Life.{HoldFormerly, Life, Made};
 ghost use Rattle.office_lives.specs.Life.{in_order, migrated, to_a_stop};
 
+use crate::stopping::stopped;
 use office_http::{ServeFault, Served, Sink, Source};
-use signal_office_file::{FileOffice, close_office, migrate_file, serve_file};
+use signal_office_file::{close_office, migrate_file, serve_file};
 use signal_office_in_file::Ended;
 use sqlite::Options;
 use sqlite_disk::{Crash, Disk, Files};
@@ -22,7 +21,7 @@ use std::alloc::Global;
 pub const MOST: u32 = 1_000;
 
 /// How a stream ended.
-type Outcome = Result<Served, ServeFault>;
+pub type Outcome = Result<Served, ServeFault>;
 
 /// How two streams ended, and the files after them.
 #[derive(Drop)]
@@ -33,7 +32,7 @@ pub struct Twice<D: Disk> {
 }
 
 /// Serves a stream by the office over the tables in the two files, and closes them.
-fn served_once<D: Disk + Drop, R: Source, W: Sink>(
+pub(crate) fn served_once<D: Disk + Drop, R: Source, W: Sink>(
     alloc: Global,
     files: Files<D>,
     reader: &mut R,
@@ -84,23 +83,6 @@ pub fn served_twice<D: Disk + Drop, R: Source, W: Sink>(
         second,
         files,
     })
-}
-
-/// Stops an office, at whichever call its disk fell silent: the files as the next run finds them,
-/// without what was not synced.
-fn stopped<D: Crash + Drop>(office: FileOffice<D>) -> Files<D>
-    ensures clean { AreClean D.Disk result.log result.db →
-        HasCleanDisk (file_state office.conn) }
-    // What an open finds in them is what a stop may leave.
-    ensures found { AreClean D.Disk result.log result.db → (trees : Trees) →
-        AreThoseOf (image_of D.Disk result) trees →
-        ∥ (file_state office.conn).may_leave trees ∥₁ }
-{
-    let store = office.into_shelf().into_conn().into_store();
-    let Files { mut log, mut db } = store.close();
-    log.crash();
-    db.crash();
-    Files { log, db }
 }
 
 /// Serves a first stream, stops, and serves a second one over what a stop leaves of the files. A

@@ -1,0 +1,84 @@
+//! A command among the runs over the same files.
+
+ghost use Rattle.std.specs.Prelude.{◌∷◌, [], IfSome};
+ghost use Rattle.sqlite.specs.Files.{image_of};
+ghost use Rattle.sqlite.specs.WalReads.{AreClean};
+ghost use Rattle.office_http_framing.specs.Serve.{ends_of};
+ghost use Rattle.office_tables.specs.Content.{Content};
+ghost use Rattle.signal_office_file.specs.Files.{HoldIn, KeepTables};
+ghost use Rattle.office_lives.specs.Life.{Life, command, in_order};
+
+use crate::lives::{MOST, Outcome, served_once};
+use office_http::{Sink, Source};
+use signal_office_faults::Fault;
+use signal_office_file::done_in;
+use signal_office_in_file::{Ended, OfficeTask};
+use sqlite::Options;
+use sqlite_disk::{Disk, Files};
+use std::alloc::Global;
+
+/// How two streams ended with a command between them, what that gave, and the files after them.
+#[derive(Drop)]
+pub struct Around<D: Disk, Done> {
+    pub first: Outcome,
+    pub done: Result<Done, Fault>,
+    pub second: Outcome,
+    pub files: Files<D>,
+}
+
+/// Does a task by the office over the tables in the two files, and closes them.
+fn done_once<D: Disk + Drop, Done: Drop, T: OfficeTask<Done>, W: Sink>(
+    rt: &HostRuntime,
+    alloc: Global,
+    files: Files<D>,
+    task: &T,
+    out: &mut W,
+) -> Option<(Result<Done, Fault>, Files<D>)>
+    ensures clean { IfSome result (λ it. AreClean D.Disk it.1.log it.1.db →
+        AreClean D.Disk files.log files.db) }
+    ensures made { IfSome result (λ it. AreClean D.Disk it.1.log it.1.db →
+        (old : Content) × (new : Content) × HoldIn (image_of D.Disk files) old
+        × T.does task.now old it.0 new (W.told out.old) (W.told out.new)
+        × KeepTables D.Disk it.1 new) }
+{
+    match done_in(rt, alloc, files, Options::new(1), task, out) {
+        Ended::Closed(done, left) => Some((done, left.closed()?)),
+        _ => None,
+    }
+}
+
+/// Serves a first stream, does a command over the files that came back, and serves a second stream
+/// over those that came back from it. The files are closed each time.
+pub fn served_around<D: Disk + Drop, Done: Drop, T: OfficeTask<Done>, R: Source, W: Sink>(
+    rt: &HostRuntime,
+    alloc: Global,
+    files: Files<D>,
+    first_reader: &mut R,
+    first_writer: &mut W,
+    task: &T,
+    out: &mut W,
+    second_reader: &mut R,
+    second_writer: &mut W,
+) -> Option<Around<D, Done>>
+    ensures { IfSome result (λ it. AreClean D.Disk it.files.log it.files.db →
+        (old : Content) × (last : Content) × HoldIn (image_of D.Disk files) old
+        × Life D.Disk old (in_order MOST
+        (ends_of (R.told first_reader.old) (W.told first_writer.old))
+        (ends_of (R.told first_reader.new) (W.told first_writer.new)) it.first
+        ∷ command (λ found made. T.does task.now found it.done made
+        (W.told out.old) (W.told out.new))
+        ∷ in_order MOST
+        (ends_of (R.told second_reader.old) (W.told second_writer.old))
+        (ends_of (R.told second_reader.new) (W.told second_writer.new)) it.second
+        ∷ []) last × KeepTables D.Disk it.files last) }
+{
+    let (first, files) = served_once(alloc, files, first_reader, first_writer)?;
+    let (done, files) = done_once(rt, alloc, files, task, out)?;
+    let (second, files) = served_once(alloc, files, second_reader, second_writer)?;
+    Some(Around {
+        first,
+        done,
+        second,
+        files,
+    })
+}

@@ -1,0 +1,43 @@
+//! What a stop leaves of the two files: without what was not synced.
+
+ghost use Rattle.std.specs.Prelude.{IsTrue};
+ghost use Rattle.sqlite.specs.Files.{file_state, image_of};
+ghost use Rattle.sqlite.specs.Held.{AreDatabases};
+ghost use Rattle.sqlite.specs.State.{HasCleanDisk};
+ghost use Rattle.sqlite.specs.Tree.{Trees};
+ghost use Rattle.sqlite.specs.WalReads.{AreClean};
+ghost use Rattle.sqlite_store.specs.FileStore.{recovers, view};
+ghost use Rattle.sqlite_trees.specs.View.{IsClean};
+ghost use Rattle.office_tables_open.specs.SqlShelf.{IsCurrent};
+ghost use Rattle.signal_office_file.specs.Files.{AreThoseOf};
+
+use signal_office_file::FileOffice;
+use sqlite::FileStore;
+use sqlite_disk::{Crash, Files};
+
+/// The files of a store as the next run finds them.
+fn crashed<D: Crash + Drop>(store: FileStore<D>) -> Files<D>
+    ensures clean { AreClean D.Disk result.log result.db → IsClean (view store) }
+    // What an open finds in them is what a stop may leave.
+    ensures found { AreClean D.Disk result.log result.db → IsTrue (view store).is_numbered →
+        AreDatabases (recovers store) → (trees : Trees) →
+        AreThoseOf (image_of D.Disk result) trees → ∥ recovers store trees ∥₁ }
+{
+    let Files { mut log, mut db } = store.close();
+    log.crash();
+    db.crash();
+    Files { log, db }
+}
+
+/// Stops an office, at whichever call its disk fell silent: the files as the next run finds them.
+pub(crate) fn stopped<D: Crash + Drop>(office: FileOffice<D>) -> Files<D>
+    ensures clean { AreClean D.Disk result.log result.db →
+        HasCleanDisk (file_state office.conn) }
+    // What an open finds in them is what a stop may leave.
+    ensures found { AreClean D.Disk result.log result.db → (trees : Trees) →
+        AreThoseOf (image_of D.Disk result) trees →
+        ∥ (file_state office.conn).may_leave trees ∥₁ }
+    ensures current { IsCurrent (file_state office.conn) }
+{
+    crashed(office.into_shelf().into_conn().into_store())
+}
