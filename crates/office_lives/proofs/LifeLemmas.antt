@@ -1,7 +1,8 @@
 -- From one run over a file to the next.
-use Rattle.std.proofs.Common.{◌≡◌, inl, inr, Some, Ok, Err, refl, sym, ap, subst}
+use Rattle.std.proofs.Common.{◌≡◌, inl, inr, Some, Result, Ok, Err, refl, sym, ap, subst}
 use Rattle.std.specs.Prelude.{IfSome}
-use Rattle.sqlite.specs.{Files.image_of, WalReads.AreClean}
+use Rattle.sqlite.specs.{Files.image_of, Held.Held, WalReads.AreClean}
+use Rattle.sqlite.specs.declared.FileStore.{FileStore}
 use Rattle.sqlite_disk.specs.declared.Disk.{Ghosts as Disk}
 use Rattle.sqlite_disk.specs.declared.Files.{Files}
 use Rattle.office_tables.specs.{Content.Content, Migrate.IsBrought, Stored.content_of}
@@ -10,7 +11,7 @@ use Rattle.office_tables_migration.proofs.Migration.{stand_anew}
 use Rattle.office_tables_open.specs.{Version.AreToday, declared.open.OpenFault.OpenFault}
 use Rattle.signal_office_file.specs.Files.{HoldIn, KeepTables}
 use Rattle.signal_office_file.specs.InFile.{IsKept}
-use Rattle.signal_office_file.specs.Left.{IsCleanFile, closed_of}
+use Rattle.signal_office_file.specs.Left.{IsCleanFile, closed_of, database_of}
 use Rattle.signal_office_file.specs.Migrating.{ClosedMigrated, IsClosedMigrated, told_of_outcome}
 use Rattle.signal_office_file.specs.declared.left.FileLeft.{FileLeft}
 use Rattle.signal_office_file.specs.declared.left.FileLeft.TheVariants as left
@@ -45,3 +46,11 @@ module _ {D : Type 0} (g : Disk D) where
       subst (λ (c : Files D). AreClean g c.log c.db → (old : Content) × (new : Content) × HoldIn (image_of g files) old × does old new × KeepTables g c new) same ended
   closed_after files does (left.Unopened it) closed is ended = absurd (cc)
   closed_after files does (left.Database it) closed is ended = absurd (cc)
+
+  -- where a database is left, that is what is left
+  pub database_is : (file : FileLeft D g) (back : Result (Held (FileStore D g)) (FileStore D g)) → Some back ≡ database_of file → left.Database back ≡ file
+  database_is (left.Database it) back is =
+      let same : back ≡ it = cc in
+      ap left.Database same
+  database_is (left.Closed it) back is = absurd (cc)
+  database_is (left.Unopened it) back is = absurd (cc)

@@ -3,8 +3,10 @@
 #![tactic(auto)]
 
 mod commands;
+mod failing;
 mod lives;
 mod stopping;
 
 pub use commands::{Around, served_around};
+pub use failing::{served_over, served_unclosed};
 pub use lives::{Outcome, Twice, migrated_and_served, served_after_a_stop, served_twice};

@@ -1,6 +1,6 @@
 //! What a stop leaves of the two files: without what was not synced.
 
-ghost use Rattle.std.specs.Prelude.{IsTrue};
+ghost use Rattle.std.specs.Prelude.{IfSome, IsTrue};
 ghost use Rattle.sqlite.specs.Files.{file_state, image_of};
 ghost use Rattle.sqlite.specs.Held.{AreDatabases};
 ghost use Rattle.sqlite.specs.State.{HasCleanDisk};
@@ -8,10 +8,13 @@ ghost use Rattle.sqlite.specs.Tree.{Trees};
 ghost use Rattle.sqlite.specs.WalReads.{AreClean};
 ghost use Rattle.sqlite_store.specs.FileStore.{recovers, view};
 ghost use Rattle.sqlite_trees.specs.View.{IsClean};
+ghost use Rattle.office_tables.specs.Content.{Content};
 ghost use Rattle.office_tables_open.specs.SqlShelf.{IsCurrent};
-ghost use Rattle.signal_office_file.specs.Files.{AreThoseOf};
+ghost use Rattle.signal_office_file.specs.Files.{AreThoseOf, HoldIn};
+ghost use Rattle.signal_office_file.specs.Left.{IsCleanFile, LeavesDatabases, MayLeaveOf};
+ghost use Rattle.office_lives.specs.Life.{IsNumbered};
 
-use signal_office_file::FileOffice;
+use signal_office_file::{FileLeft, FileOffice};
 use sqlite::FileStore;
 use sqlite_disk::{Crash, Files};
 
@@ -40,4 +43,19 @@ pub(crate) fn stopped<D: Crash + Drop>(office: FileOffice<D>) -> Files<D>
     ensures current { IsCurrent (file_state office.conn) }
 {
     crashed(office.into_shelf().into_conn().into_store())
+}
+
+/// The files that could not be closed, as the next run finds them after the process ended.
+pub(crate) fn abandoned<D: Crash + Drop>(left: FileLeft<D>) -> Option<Files<D>>
+    ensures clean { IfSome result (λ files. AreClean D.Disk files.log files.db →
+        IsCleanFile left) }
+    ensures found { IfSome result (λ files. AreClean D.Disk files.log files.db →
+        LeavesDatabases left → IsNumbered left → (tables : Content) →
+        HoldIn (image_of D.Disk files) tables → ∥ MayLeaveOf left tables ∥₁) }
+{
+    let back = left.database()?;
+    match back {
+        Ok(conn) => Some(crashed(conn.into_store())),
+        Err(store) => Some(crashed(store)),
+    }
 }

@@ -68,6 +68,11 @@ module _ {D : Type 0} {g : Disk D} where
   closed_of (left.Closed back) = Some back
   closed_of _ = None
 
+  -- the database that is not closed, where it is that
+  abbrev pub database_of : FileLeft D g → Option (Result (Held (FileStore D g)) (FileStore D g))
+  database_of (left.Database back) = Some back
+  database_of _ = None
+
   -- the disk has returned what was written to what is left
   abbrev pub IsCleanFile : FileLeft D g → Type 0
   IsCleanFile (left.Closed back) = AreClean g back.log back.db

@@ -1,7 +1,7 @@
 //! What is left of a file that was refused, or could not be closed.
 
 ghost use Rattle.std.specs.Prelude.{◌≡◌};
-ghost use Rattle.signal_office_file.specs.Left.{closed_of};
+ghost use Rattle.signal_office_file.specs.Left.{closed_of, database_of};
 
 use office_tables::open::Left;
 use signal_office_faults::Fault;
@@ -27,6 +27,17 @@ impl<D: Disk + Drop> FileLeft<D> {
             FileLeft::Closed(files) => Some(files),
             FileLeft::Unopened(_left) => None,
             FileLeft::Database(_left) => None,
+        }
+    }
+
+    /// The database that was not closed: its connection, or its store. Anything else is let go.
+    pub fn database(self) -> Option<Left<FileStore<D>>>
+        ensures { result ≡ database_of self }
+    {
+        match self {
+            FileLeft::Closed(_files) => None,
+            FileLeft::Unopened(_left) => None,
+            FileLeft::Database(left) => Some(left),
         }
     }
 }
