@@ -2,6 +2,7 @@
 //! files that stop at each of their calls.
 #![tactic(auto)]
 
+mod asking;
 pub mod calls;
 pub mod lives;
 mod migrating;

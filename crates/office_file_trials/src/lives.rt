@@ -1,8 +1,12 @@
-//! Two runs over the same files, closed, stopped or migrated in between: the second goes on from
-//! what the first left.
+//! Runs over the same files in turn, closed, stopped, not closed or migrated in between: each goes
+//! on from what the one before it left.
 
+use crate::asking::Asked;
 use crate::migrating::former;
-use office_lives::{migrated_and_served, served_after_a_stop, served_twice};
+use office_lives::{
+    migrated_and_served, served_after_a_stop, served_around, served_over, served_twice,
+    served_unclosed,
+};
 use office_row_files::ends::{Cut, Feed, Keep};
 use office_row_files::trouble::{Trouble, compare, holds};
 use office_trial_files::stopping;
@@ -56,14 +60,60 @@ fn live_on(alloc: Global) -> Result<(), Trouble> {
     )
 }
 
-/// Lets files live through two runs.
+/// A command adds the intersection between two streams, and the second one shows it.
+fn live_around(rt: &HostRuntime, alloc: Global) -> Result<(), Trouble> {
+    let files = stopping(alloc, &[], true, u64::MAX)?;
+    let (mut first, mut second) = (source(0, 0), source(93, 127));
+    let (mut one, mut out, mut two) = (sink(alloc), sink(alloc), sink(alloc));
+    let task = Asked::adding(alloc)?;
+    let lived = served_around(
+        rt,
+        alloc,
+        files,
+        &mut first,
+        &mut one,
+        &task,
+        &mut out,
+        &mut second,
+        &mut two,
+    );
+    holds(lived.is_some(), "a command between two streams")?;
+    compare(alloc, "a stream after a command", told(89, 273), &two.bytes)
+}
+
+/// The database file fails as it is closed, after the first request was answered, and the next run
+/// goes on from what is left.
+fn live_unclosed(alloc: Global) -> Result<(), Trouble> {
+    for calls in 0..64 {
+        let files = stopping(alloc, &[], false, calls)?;
+        let (mut first, mut one) = (source(0, 93), sink(alloc));
+        let left = served_unclosed(alloc, files, &mut first, &mut one);
+        if one.bytes.as_slice() != told(0, 89) {
+            continue;
+        }
+        if let Some(left) = left {
+            let (mut second, mut two) = (source(93, 127), sink(alloc));
+            let lived = served_over(alloc, left, &mut second, &mut two);
+            holds(lived.is_some(), "a run over a file that was not closed")?;
+            return compare(alloc, "a stream over it", told(89, 273), &two.bytes);
+        }
+    }
+    Err(Trouble::Unprepared("a file that is not closed"))
+}
+
+/// Lets files live through two runs and more.
 pub fn try_lives(rt: &HostRuntime) -> Result<(), Trouble> {
     let alloc = rt.alloc();
     live_twice(alloc, false)?;
     live_twice(alloc, true)?;
     live_on(alloc)?;
+    live_around(rt, alloc)?;
+    live_unclosed(alloc)?;
     println!(rt;
         "two runs over the same files, closed, stopped or migrated in between: the second goes on"
+    )?;
+    println!(rt;
+        "a command between two runs, and a run over files that were not closed: it goes on"
     )?;
     Ok(())
 }
