@@ -1,13 +1,16 @@
-"""Measures the program beside Python over `sqlite3` that does the same work, and prints one table.
+"""Measures the program beside two that do the same work, in Python over `sqlite3` and in C over
+libsqlite3, and prints one table.
 
-    python3 bench/all.py [PROGRAM] [--only WORK] [--times N] [--instructions] [--write]
+    python3 bench/all.py [PROGRAM] [--only WORK] [--times N] [--instructions | --clock] [--write]
 
 The program is the one at that path, or the one that `./office` built. A figure is the processor
-seconds of the least of three runs, less those of a run without the work, and memory the most that
-the program held. Of requests and reports the answers of both programs are compared. With
---instructions, which needs valgrind, a twentieth of each stream is done once, and instructions are
-counted: seconds swing by a third on many machines, and these do not. With --times each stream is
-so many times as long. With --write the table is put into docs/MEASUREMENTS.md.
+seconds of the least of three runs, less those of a run without the work; memory is the most that
+the program held. The answers of all programs are compared. The C program is built if there is a
+compiler `cc` and SQLite's header (Debian's `libsqlite3-dev`), and does the streams of requests
+alone. With --instructions, which needs valgrind, a twentieth of each stream is done once, and
+instructions are counted: seconds swing by a third on many machines, and these do not. With --clock
+the streams over a file are measured by the clock, in the folder for temporary files. With --times
+each stream is so many times as long. With --write the table is put into docs/MEASUREMENTS.md.
 """
 import argparse
 import dataclasses
@@ -21,6 +24,7 @@ import sys
 import tempfile
 import time
 
+import baseline
 import work
 
 HERE = pathlib.Path(__file__).resolve().parent
@@ -33,6 +37,9 @@ PAUSE = 0.005  # seconds between two looks at what a program holds
 DAY = "2027-03-02"
 VALGRIND = ("valgrind", "--tool=callgrind", "--callgrind-out-file=/dev/null")
 PYTHON = (sys.executable, str(HERE / "baseline.py"))
+KEPT = ("adding", "over a file: adding", "new imports", "overdue", "opening")  # of former states
+HEAD = ["Work", "Office", "C", "by office", "Python", "by office", "Python that checks"]
+HEAD += ["by office"]
 
 
 @dataclasses.dataclass
@@ -118,13 +125,18 @@ def awaited(child):
     return usage.ru_utime + usage.ru_stime, held
 
 
+by_clock = False  # whether `ran` tells the seconds of the clock
+
+
 def ran(words, requests, folder):
     """The processor seconds of a run, the MiB that it held, what it told, and its answers."""
     names = [os.path.join(folder, it) for it in ("requests", "answers", "told")]
     pathlib.Path(names[0]).write_bytes(requests)
     with open(names[0], "rb") as source, open(names[1], "wb") as sink, open(names[2], "wb") as told:
+        begun = time.monotonic()
         child = subprocess.Popen(words, stdin=source, stdout=sink, stderr=told)
         seconds, held = awaited(child)
+        seconds = time.monotonic() - begun if by_clock else seconds
     answers, said = (pathlib.Path(it).read_bytes() for it in names[1:])
     if child.returncode:
         sys.exit(f"{' '.join(words)} ended with {child.returncode}: {said.decode()[-400:]}")
@@ -177,20 +189,38 @@ def served(program, at_once):
     return awaited(server)[0], held
 
 
+def built(folder):
+    """The words of the C program; none where it can't be built."""
+    path, source = os.path.join(folder, "baseline"), str(HERE / "baseline.c")
+    words = ["cc", "-O2", "-o", path, source, "-lsqlite3"]
+    if not shutil.which("cc") or subprocess.run(words, stderr=subprocess.DEVNULL).returncode:
+        print("all.py: bench/baseline.c was not built: no cc or no libsqlite3", file=sys.stderr)
+        return ()
+    return path, baseline.PRAGMAS + baseline.SCHEMA
+
+
+def peers(it, c):
+    """The programs that do the work too, each as its words, or none."""
+    own = it.arguments(it.theirs)
+    yield [*c, *own[1:]] if c and own[0] == "serve" else []
+    yield [*PYTHON, *own]
+    yield [*PYTHON, *own, "--checking"] if it.checked else []
+
+
 def shown(value, counts):
     return f"{value / 1e6:,.1f}" if counts else f"{value:.2f}"
 
 
-def row(program, it, folder, counts):
+def row(program, it, folder, counts, c):
     ours, held, answers = cost([program, *it.arguments(it.words)], it, folder, counts)
     cells = [it.name, shown(ours, counts)]
-    for words in ((), ("--checking",)):
-        if words and not it.checked:
+    for words in peers(it, c):
+        if not words:
             cells += ["-", "-"]
             continue
-        theirs, _, wanted = cost([*PYTHON, *it.arguments(it.theirs), *words], it, folder, counts)
+        theirs, _, wanted = cost(words, it, folder, counts)
         if answers != wanted:
-            sys.exit(f"{it.name}: the two programs answer differently")
+            sys.exit(f"{it.name}: {words[0]} answers differently")
         cells += [shown(theirs, counts), f"{theirs / ours:.2f}"]
     return cells if counts else [*cells, f"{held:.0f}"]
 
@@ -198,15 +228,17 @@ def row(program, it, folder, counts):
 def rows(program, only, times, counts):
     with tempfile.TemporaryDirectory() as folder:
         long = times / 20 if counts else times
-        works = [*streams(long), *over_files(long, folder), *on_files(program, folder)]
+        works = [*over_files(long, folder)]
+        works = works if by_clock else [*streams(long), *works, *on_files(program, folder)]
+        c = built(folder)
         for it in works:
             if only in it.name:
-                yield row(program, it, folder, counts)
-    for at_once in () if counts else (1, 100):
+                yield row(program, it, folder, counts, c)
+    for at_once in () if counts or by_clock else (1, 100):
         name = f"one kept connection, 10,000 requests, {at_once} at once"
         if only in name:
             ours, held = min(served(program, at_once) for _ in range(RUNS))
-            yield [name, shown(ours, counts), *["-"] * 4, f"{held:.0f}"]
+            yield [name, shown(ours, counts), *["-"] * 6, f"{held:.0f}"]
 
 
 def main():
@@ -215,28 +247,29 @@ def main():
     parser.add_argument("--only", default="")
     parser.add_argument("--times", type=float, default=1)
     parser.add_argument("--instructions", action="store_true")
+    parser.add_argument("--clock", action="store_true")
     parser.add_argument("--write", action="store_true")
     asked = parser.parse_args()
     if asked.write and (asked.only or asked.times != 1):
         parser.error("--write wants the whole table, with streams of their own length")
+    global by_clock
     program, counts = found([asked.program] if asked.program else []), asked.instructions
-    unit = "million instructions" if counts else "processor seconds"
-    head = ["Work", f"Office, {unit}", "Python", "Python by office"]
-    head += ["Python that checks", "by office"]
+    by_clock = asked.clock
     told = []
     for it in rows(program, asked.only, asked.times, counts):
         told.append(it)
         print(" | ".join(it), file=sys.stderr, flush=True)
-    text = measured.table(head if counts else [*head, "Office, MiB"], told)
+    text = measured.table(HEAD if counts else [*HEAD, "Office, MiB"], told)
     print(text, end="")
     if not asked.write:
         return
     heading = measured.paragraph(f"{measured.state()}; {measured.machine()}:")
-    measured.written("instructions" if counts else "speed", f"{heading}\n{text}")
-    if not counts:
-        compared = [it for it in told if it[3] != "-"]
-        head = ["State", *(it[0].partition(", ")[0] for it in compared)]
-        cells = [measured.state(), *(it[3] for it in compared)]
+    part = "instructions" if counts else "clock" if by_clock else "speed"
+    measured.written(part, f"{heading}\n{text}")
+    if part == "speed":
+        chosen = [it for it in told if it[0].startswith(KEPT)]
+        head = ["State", *(it[0].rpartition(", ")[0] for it in chosen)]
+        cells = [measured.state(), *(it[1] for it in chosen)]
         measured.add_state("speed of three states", head, cells)
 
 

@@ -24,6 +24,7 @@ EPOCH = datetime.date(1970, 1, 1)
 KINDS = {"phase": 1, "seq": 2, "split": 3, "pattern": 4}
 STATES = ("normal", "transaction", "verify", "done")
 STEPS = {"verify": 2, "check": 3}
+PRAGMAS = "PRAGMA journal_mode = WAL; PRAGMA synchronous = FULL;"
 SCHEMA = """
 CREATE TABLE intersection (id INTEGER PRIMARY KEY, name TEXT NOT NULL, days INTEGER NOT NULL,
   revision INTEGER NOT NULL, state INTEGER NOT NULL, owner TEXT) STRICT;
@@ -176,7 +177,7 @@ def answer_to(db, method, path, body):
 
 def serve(source, sink, path=":memory:"):
     db = sqlite3.connect(path, isolation_level=None)
-    db.executescript("PRAGMA journal_mode = WAL; PRAGMA synchronous = FULL;" + SCHEMA)
+    db.executescript(PRAGMAS + SCHEMA)
     while line := source.readline():
         method, target, _version = line.split(b" ", 2)
         length = 0

@@ -20,7 +20,7 @@ import gate
 import measured
 
 MINUTES = (10, 20, 30, 40, 50)
-COLUMNS = 3  # crates side by side
+COLUMNS = 2  # crates side by side
 HEAD = ["State and machine", "Crates", *(f"{it} min" for it in MINUTES), "All"]
 
 
@@ -54,14 +54,13 @@ def built(folder):
 
 def by_crate(sums):
     """The text of a table of what each crate took, in the order of crates.txt."""
-    cells = [(f"`{name}`", f"{sums[name]:.0f}") for name in gate.below() if name in sums]
+    cells = [(name, f"{sums[name]:.0f}") for name in gate.drawing.crates()[0] if name in sums]
     cells.append(("together", f"{sum(sums.values()):,.0f}"))
     cells += [("", "")] * (-len(cells) % COLUMNS)
     many = len(cells) // COLUMNS
     columns = [cells[at * many:(at + 1) * many] for at in range(COLUMNS)]
     rows = [[cell for pair in row for cell in pair] for row in zip(*columns)]
-    head = measured.line(["Crate", "s"] * COLUMNS) + "|---|---:" * COLUMNS + "|\n"
-    return head + "".join(map(measured.line, rows))
+    return measured.block(["crate", "s"] * COLUMNS, rows)
 
 
 def main():

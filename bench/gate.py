@@ -23,7 +23,7 @@ import measured
 
 TICKS = os.sysconf("SC_CLK_TCK")
 PAUSE = 0.2  # seconds between two looks at the processes
-HEAD = ["Crate", "Proof, tests and programs, s", "Edits, s"]
+HEAD = ["crate", "proof, s", "edits, s"]
 STATE = ["State", "Proofs, min", "Edits, min", "All, min", "By the clock, min", "Machine"]
 REST = "linking, runs, all else"
 
@@ -117,7 +117,7 @@ def of_record(text):
     """The heading of a record, and its rows."""
     lines = text.splitlines()
     rows = [line.split() for line in lines if line and not line.startswith("#")]
-    rows = [(name.replace("_", " ") if "," in name else f"`{name}`", int(proof), int(edits))
+    rows = [(name.replace("_", " ") if "," in name else name, int(proof), int(edits))
             for name, proof, edits in rows]
     return lines[0][2:].split("; "), rows
 
@@ -139,13 +139,13 @@ def main():
         run(words[0])
     heading, rows = of_record(pathlib.Path(words[0]).read_text())
     state, machine, clock, last = heading
-    order = [f"`{name}`" for name in drawing.crates()[0]]
+    order = [*drawing.crates()[0]]
     rows.sort(key=lambda it: order.index(it[0]) if it[0] in order else len(order))
     proofs, edits = (sum(row[column] for row in rows) for column in (1, 2))
     cells = [[name, f"{proof:,}", f"{edit:,}" if edit else ""] for name, proof, edit in rows]
-    text = measured.table(HEAD, [*cells, ["together", f"{proofs:,}", f"{edits:,}"]])
+    text = measured.block(HEAD, [*cells, ["together", f"{proofs:,}", f"{edits:,}"]])
     text = measured.paragraph(f"{state}; {machine}; {last}:") + "\n" + text
-    took, chain = longest_chain({name.strip("`"): proof for name, proof, _ in rows})
+    took, chain = longest_chain({name: proof for name, proof, _ in rows})
     names = ", ".join(f"`{it}`" for it in chain)
     told = f"The longest chain of crates takes {took / 60:.0f} minutes by itself: {names}."
     text += "\n" + measured.paragraph(told)

@@ -5,7 +5,7 @@ functions, each with its share of 100 of a run, with what it calls.
 
 A twentieth of each stream is done, and the whole of a file. The functions are those of this
 repository, of the database's calls and of the readers of JSON and CSV, and those that give and take
-memory; each has at least five of 100 in some work. With --write the table is put into
+memory; each has at least eight of 100 in some work. With --write the table is put into
 docs/MEASUREMENTS.md. Needs valgrind.
 """
 import pathlib
@@ -19,7 +19,8 @@ import drawing
 from program import found
 
 WORKS = ("adding", "changed in all", "changed in 4", "opening")
-LEAST = 5  # of 100
+HEADS = ("add and ask", "all rows", "4 rows", "opening")  # of these works
+LEAST = 8  # of 100
 OTHERS = {"sqlite", "serde_json", "json", "csv"}
 MEMORY = {
     "rattle_alloc": "memory taken", "rattle_realloc": "memory grown",
@@ -59,8 +60,9 @@ def main():
     names = {name for _, column in columns for name, share in column.items() if share >= LEAST}
     share = lambda column, name: f"{column[name]:.0f}" if column.get(name, 0) >= 0.5 else ""
     order = sorted(names, key=lambda name: [-column.get(name, 0) for _, column in columns])
-    rows = [[MEMORY.get(name, f"`{name}`"), *(share(column, name) for _, column in columns)] for name in order]
-    text = bench.measured.table(["Function, of 100", *(title for title, _ in columns)], rows)
+    shown = lambda name: [MEMORY.get(name, name), *(share(it, name) for _, it in columns)]
+    rows = [shown(name) for name in order]
+    text = bench.measured.block(["Function, of 100", *HEADS], rows)
     print(text, end="")
     if "--write" in sys.argv:
         heading = bench.measured.paragraph(f"{bench.measured.state()}:")

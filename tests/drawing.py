@@ -1,24 +1,45 @@
 #!/usr/bin/env python3
-"""Draws which crate stands on which, from crates.txt, as the picture docs/crates.svg.
+"""Draws from crates.txt which crate uses which: docs/crates.svg, and docs/layers.svg by layers.
 
-    tests/drawing.py             sees that docs/crates.svg is that picture
-    tests/drawing.py --write     writes it
+    tests/drawing.py             checks that both pictures are up to date
+    tests/drawing.py --write     writes them
 
-A crate stands above all that it stands on. A line leads from it to each of these, but to none that
-it reaches by other lines; lines that lead to one crate run together. Builds nothing, and draws the
-same picture each time.
+A crate stands above all that it uses. A line leads from it to each of these, except to those that
+other lines reach; lines that lead to one crate run together. Builds nothing, and draws the same
+pictures each time.
 """
 import pathlib
 import sys
 
 TOP = pathlib.Path(__file__).resolve().parent.parent
 PICTURE = TOP / "docs" / "crates.svg"
+LAYERS_PICTURE = TOP / "docs" / "layers.svg"
 TESTS = {"signal_core_tests", "office_row_files", "office_trial_files", "office_row_tables"}
 TESTS |= {"office_trials", "office_file_trials", "office_rows"}
 MOST = 4  # crates side by side
 LETTER, EDGE, HEIGHT, STEP = 7.3, 9, 26, 58  # of a name, beside it, of a box, of a layer, in pixels
 APART, NEAR, MARGIN = 22, 12, 10  # between boxes, beside a line, around all
 SWEEPS = 80
+# Each layer: its column and row in the picture, what it does, what it knows, and its crates by the
+# fronts of their names. The first that fits counts.
+LAYERS = {
+    "program": (1, 0, "words, files, a port", "all layers", ("signal_office",)),
+    "bytes": (2, 2, "requests in a stream (1, 6)", "no office", ("office_http_framing",)),
+    "wire": (1, 1, "reads requests (2), writes answers (4)", "machine, no rows",
+             ("office_http",)),
+    "texts": (0, 2, "CSV, lists, pictures, pages", "plans and replies", (
+        "office_files", "office_listings", "signal_page", "signal_diagram", "signal_compare")),
+    "desk": (1, 2, "reads, decides, gives changes (3)", "machine and tables", ("office_desk",)),
+    "tables": (1, 3, "eight maps: memory or SQL (5)", "rows and records", ("office_tables",)),
+    "machine": (1, 4, "what each command means", "no storage", ("office_machine",)),
+    "transaction": (0, 5, "draft, owner, commit", "rules", ("draft_",)),
+    "register": (2, 5, "inspections, orders, parts", "its records", ("cabinet_core",)),
+    "rules": (0, 6, "V1 to V14, reasons, street", "a plan",
+              ("signal_rules", "signal_reasons", "signal_street")),
+    "records": (1, 7, "rows of a plan, numbers, texts", "nothing else",
+                ("signal_records", "signal_values")),
+}
+ACROSS, BOX, DEEP, DOWN = 300, 280, 50, 78  # of the layers' picture: columns, boxes, rows
 
 STYLE = """
   rect { fill: #eef2f7; stroke: #5b6b7f }
@@ -264,21 +285,69 @@ def picture():
     yield "</svg>"
 
 
+def layer_of(name):
+    """The layer of a crate; none of a test."""
+    fits = (it for it, (*_, fronts) in LAYERS.items() if name.startswith(fronts))
+    return None if name in TESTS or name == "office_lives" else next(fits)
+
+
+def layer_arrows():
+    """The layers that each layer uses and reaches by no other one."""
+    uses = {layer: [] for layer in LAYERS}
+    for name, others in crates()[0].items():
+        if (high := layer_of(name)):
+            found = {layer_of(it) for it in others} - {high}
+            uses[high] += sorted(found - {*uses[high]})
+    return arrows_of(uses)
+
+
+def layers_picture():
+    high = DOWN * max(row for _, row, *_ in LAYERS.values()) + DEEP + 2 * MARGIN
+    wide = 2 * ACROSS + BOX + 2 * MARGIN
+    yield f'<svg xmlns="http://www.w3.org/2000/svg" viewBox="0 0 {wide} {high}" role="img">'
+    yield "<title>The layers, and which uses which</title>"
+    yield f"<style>{STYLE} text.name {{ font-weight: bold }} text {{ font-size: 11px }}</style>"
+    yield ('<marker id="end" viewBox="0 0 8 8" refX="7" refY="4" markerWidth="7" markerHeight="7" '
+           'orient="auto"><path d="M0 0L8 4L0 8z"/></marker>')
+    yield f'<rect class="paper" width="{wide}" height="{high}"/>'
+    middle = {it: MARGIN + ACROSS * column + BOX // 2 for it, (column, *_) in LAYERS.items()}
+    top = {it: MARGIN + DOWN * row for it, (_, row, *_) in LAYERS.items()}
+    for upper, lowers in layer_arrows().items():
+        for lower in lowers:
+            begin, end = top[upper] + DEEP, top[lower]
+            half = (begin + end) // 2
+            x, to = middle[upper], middle[lower]
+            yield (f'<path marker-end="url(#end)" d="M{x} {begin}C{x} {half} {to} {half} '
+                   f'{to} {end}"/>')
+    kinds = {"program": "program", "wire": "http", "bytes": "http", "desk": "desk",
+             "tables": "tables"}
+    for name, (_, _, does, knows, _) in LAYERS.items():
+        yield (f'<rect class="{kinds.get(name, "rules")}" x="{middle[name] - BOX // 2}" '
+               f'y="{top[name]}" width="{BOX}" height="{DEEP}" rx="5"/>')
+        lines = ((name, 15, ' class="name"'), (does, 30, ""), (f"knows {knows}", 43, ""))
+        for text, down, kind in lines:
+            yield f'<text{kind} x="{middle[name]}" y="{top[name] + down}">{text}</text>'
+    yield "</svg>"
+
+
 def drawn():
-    return "\n".join(picture()) + "\n"
+    """Each picture's file, and its text."""
+    yield PICTURE, "\n".join(picture()) + "\n"
+    yield LAYERS_PICTURE, "\n".join(layers_picture()) + "\n"
 
 
 def is_drawn():
-    return PICTURE.exists() and PICTURE.read_text() == drawn()
+    return all(path.exists() and path.read_text() == text for path, text in drawn())
 
 
 def main():
     if sys.argv[1:] not in ([], ["--write"]):
         sys.exit("drawing.py: it takes no words, or --write")
     if sys.argv[1:]:
-        PICTURE.write_text(drawn())
+        for path, text in drawn():
+            path.write_text(text)
     elif not is_drawn():
-        sys.exit("docs/crates.svg is another picture: tests/drawing.py --write")
+        sys.exit("docs/crates.svg or docs/layers.svg is out of date: tests/drawing.py --write")
     print("ok")
 
 

@@ -20,6 +20,14 @@ def table(head, rows):
     return line(head) + "|---|" + "---:|" * (len(head) - 1) + "\n" + "".join(map(line, rows))
 
 
+def block(head, rows):
+    """A table as it is read without a browser: in columns, names left and numbers right."""
+    sides = ["<" if at == 0 or title == head[0] else ">" for at, title in enumerate(head)]
+    widths = [max(len(row[at]) for row in [head, *rows]) for at in range(len(head))]
+    shown = lambda row: "  ".join(f"{it:{side}{w}}" for it, side, w in zip(row, sides, widths))
+    return "".join(f"    {shown(row)}".rstrip() + "\n" for row in [head, *rows])
+
+
 def parted(name):
     """The document before the marks of that name, between them, and after them."""
     begin, end = f"<!-- {name}: begin -->\n", f"<!-- {name}: end -->\n"
@@ -32,7 +40,7 @@ def parted(name):
 
 
 def written(name, text):
-    """Puts a text between the marks of that name in the place of what stands there."""
+    """Replaces the text between the marks of that name."""
     before, _, after = parted(name)
     DOCUMENT.write_text(before + text + after)
 
@@ -41,12 +49,16 @@ def paragraph(text):
     return textwrap.fill(text, 100, break_on_hyphens=False) + "\n"
 
 
+def rows_of(name):
+    """The rows of the table of that name."""
+    lines = [it for it in parted(name)[1].splitlines() if it.startswith("| ")][1:]
+    return [[cell.strip() for cell in re.split(r"(?<!\\)\|", it)[1:-1]] for it in lines]
+
+
 def add_state(name, head, cells):
     """Puts a row into the table of that name, in the place of one of the same day, of which its
     first cell tells. The last three stay."""
-    lines = [it for it in parted(name)[1].splitlines() if it.startswith("| ")][1:]
-    rows = [[cell.strip() for cell in it.strip("|").split("|")] for it in lines]
-    rows = [*(row for row in rows if row[0][:DAY] != cells[0][:DAY]), cells]
+    rows = [*(row for row in rows_of(name) if row[0][:DAY] != cells[0][:DAY]), cells]
     written(name, table(head, rows[-STATES:]))
 
 

@@ -1,9 +1,8 @@
 #!/usr/bin/env python3
-"""Prints the lines of each crate, blank ones in, and its must-fail edits, as the first table of
-docs/MEASUREMENTS.md.
+"""Counts the lines of each crate, blank ones too, and its edits.
 
-    tests/sizes.py [--write]      with --write that table is replaced, and the row of today's state
-                                  put into the one below it
+    tests/sizes.py [--write]      with --write the table of docs/MEASUREMENTS.md is replaced, and
+                                  today's row is added to those of former states
 
 Builds nothing.
 """
@@ -15,7 +14,7 @@ import measured
 
 TOP = pathlib.Path(__file__).resolve().parent.parent
 TESTS = drawing.TESTS - {"office_rows"}
-KINDS = ["Code", "Tests", "Specs", "Proofs", "Edits of the gate", "Other edits"]
+KINDS = ["code", "tests", "specs", "proofs", "gate edits", "other edits"]
 
 
 def lines(folder, kind):
@@ -31,7 +30,7 @@ def row(name):
 
 
 def shown(name, counts):
-    return [name, *(f"{it:,}" for it in counts)]
+    return [name, *(f"{it:,}" if it else "" for it in counts)]
 
 
 def main():
@@ -39,12 +38,12 @@ def main():
         sys.exit("usage: tests/sizes.py [--write]")
     found = {name: row(name) for name in drawing.crates()[0]}
     together = [sum(column) for column in zip(*found.values())]
-    rows = [shown(f"`{name}`", counts) for name, counts in found.items()]
-    text = measured.table(["Crate", *KINDS], [*rows, shown("together", together)])
+    rows = [shown(name, counts) for name, counts in found.items()]
+    text = measured.block(["crate", *KINDS], [*rows, shown("together", together)])
     if not sys.argv[1:]:
         print(text, end="")
         return
-    measured.written("lines", text)
+    measured.written("lines", f"{measured.state()}:\n\n{text}")
     cells = shown(measured.state(), together)
     measured.add_state("lines of three states", ["State", *KINDS], cells)
 

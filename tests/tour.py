@@ -1,15 +1,15 @@
 #!/usr/bin/env python3
-"""Runs each command that the README's tour and docs/REFERENCE.md show, and compares what it prints
-with what stands below it.
+"""Runs each command that README, docs/REFERENCE.md and docs/ARCHITECTURE.md show, and compares what
+it prints with what stands below it.
 
     tests/tour.py [PROGRAM]
 
-A command stands on a line that begins with four spaces and `$ `; a backslash at its end carries it
-on to the next line. What it prints stands below it, four spaces in, up to the next command or the
-end of the block. One that ends in ` &` runs on, once its first line was seen, until its document
-is done. The commands of a document run in order in one new folder, in which `./office` is the
-program and all else is as in the repository. Needs bash, and curl for what is asked by HTTP. It
-prints a line for each command, and ends with status 1 where one printed something else.
+A command is an indented line that begins with `$ `; a backslash at its end continues it on the next
+line. What it prints stands below it, up to the next command or the end of the block. One that ends
+in ` &` runs on, once its first line was seen, until its document is done. The commands of a
+document run in order in one new folder, in which `./office` is the program and everything else is
+as in the repository. Needs bash, and curl for requests over HTTP. It prints a line for each
+command, and ends with status 1 if one printed something else.
 """
 import os
 import pathlib
@@ -19,26 +19,24 @@ import signal
 import subprocess
 import sys
 import tempfile
+import textwrap
 
 from program import TOP, found
 
-PARTS = (("README.md", {"A tour", "Over HTTP"}), ("docs/REFERENCE.md", None))
+DOCUMENTS = ("README.md", "docs/REFERENCE.md", "docs/ARCHITECTURE.md")
 LONGEST = 60  # seconds of one command
 CURL = 'silent\nshow-error\nnoproxy = "*"\n'
 
 
-def blocks(text, parts):
-    """The indented blocks of a document, or of those of its parts that are named."""
-    part, block = None, []
+def blocks(text):
+    """The indented blocks of a document, without their indents."""
+    block = []
     for line in [*text.splitlines(), "the end"]:
         if line.startswith("    ") or not line.strip():
-            block.append(line[4:].rstrip())
-            continue
-        if block and (parts is None or part in parts):
-            yield block
-        block = []
-        heading = re.match(r"#+ (.*)", line)
-        part = heading[1].strip() if heading else part
+            block.append(line)
+        elif block:
+            yield textwrap.dedent("\n".join(block)).splitlines()
+            block = []
 
 
 def commands(block):
@@ -99,14 +97,14 @@ class Tour:
             process.wait()
 
 
-def wrong_in(document, parts, program):
+def wrong_in(document, program):
     """How many commands of a document printed something else, and how many there are."""
     wrong = count = 0
     with tempfile.TemporaryDirectory() as room:
         furnish(pathlib.Path(room), program)
         tour = Tour(pathlib.Path(room))
         try:
-            for block in blocks((TOP / document).read_text(), parts):
+            for block in blocks((TOP / document).read_text()):
                 for command, wanted in commands(block):
                     found_text, count = tour.run(command, wanted), count + 1
                     is_right = found_text == wanted
@@ -121,8 +119,8 @@ def wrong_in(document, parts, program):
 
 def main():
     program, wrong = found(sys.argv[1:2]), 0
-    for document, parts in PARTS:
-        several, count = wrong_in(document, parts, program)
+    for document in DOCUMENTS:
+        several, count = wrong_in(document, program)
         wrong += several
         print(f"{document}: {count} commands, of which {several} printed something else")
     sys.exit(1 if wrong else 0)

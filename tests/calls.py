@@ -1,0 +1,146 @@
+#!/usr/bin/env python3
+"""Writes docs/CALLS.md from the sources: each public call of a library, its clauses, and the files
+of the definitions that these name.
+
+    tests/calls.py             checks that the page is what the sources say
+    tests/calls.py --write     writes it
+
+A call is a `pub fn`, a method of a `pub trait`, or a method of an impl of a trait that states a
+named clause. Private functions are left out. Builds nothing.
+"""
+import dataclasses
+import pathlib
+import re
+import sys
+
+import drawing
+
+TOP = pathlib.Path(__file__).resolve().parent.parent
+PAGE = TOP / "docs" / "CALLS.md"
+BEGIN, END = "<!-- calls: begin -->\n", "<!-- calls: end -->\n"
+PROGRAM, WIDTH = "signal_office", 34
+CALL = re.compile(r"( *)(pub )?(?:pub\([^)]*\) )?(?:const )?fn (\w+)")
+CLAUSE = re.compile(r" *(ensures|requires)(?: (\w+))? (\{.*)")
+OWN = drawing.crates()[0]
+USED = re.compile(r"ghost use Rattle\.(\w+)\.specs\.(\w+)\.\{([^}]*)\}")
+
+
+@dataclasses.dataclass
+class Call:
+    owner: str
+    name: str
+    is_public: bool
+    clauses: list = dataclasses.field(default_factory=list)  # ensures or requires, name, text
+
+    def is_shown(self, kind):
+        """It is public, of a public trait, or states a named clause beside those of its trait."""
+        states = kind == "trait impl" and any(name for _, name, _ in self.clauses)
+        return self.is_public or kind == "trait" or states
+
+    def named(self):
+        """The clauses by name, those of what the caller shows with a star."""
+        named = [(name or "-") + "*" * (kind == "requires") for kind, name, _ in self.clauses]
+        return [*dict.fromkeys(named)]
+
+
+def owner_of(line):
+    """The type or trait whose calls begin with this line, and what it is."""
+    trait = re.match(r"(pub )?(?:pub\([^)]*\) )?trait (\w+)", line)
+    if trait:
+        return trait[2], "trait" if trait[1] else "private trait"
+    depth, at = 0, len("impl")
+    while line[at:at + 1] == "<" or depth:
+        depth += {"<": 1, ">": -1}.get(line[at], 0)
+        at += 1
+        if not depth:
+            break
+        while line[at] not in "<>":
+            at += 1
+    kind = "trait impl" if " for " in line else "impl"
+    return re.match(r"\W*(\w+)", line[at:].split(" for ")[-1])[1], kind
+
+
+def calls_in(text):
+    """The calls of a file that the page shows, each with its clauses."""
+    owner, kind, found, open_clause, depth = "", "", [], None, 0
+    for line in text.splitlines():
+        if open_clause is not None:
+            open_clause[2] += "\n" + line
+            depth += line.count("{") - line.count("}")
+            open_clause = open_clause if depth > 0 else None
+            continue
+        if line.startswith("}"):
+            owner, kind = "", ""
+        elif re.match(r"impl\b|(?:pub(?:\([^)]*\))? )?trait ", line):
+            owner, kind = owner_of(line)
+        call, clause = CALL.match(line), CLAUSE.match(line)
+        if call:
+            found.append((Call(owner if call[1] else "", call[3], bool(call[2])), kind))
+        elif clause and found:
+            said = [clause[1], clause[2], clause[3]]
+            found[-1][0].clauses.append(said)
+            depth = clause[3].count("{") - clause[3].count("}")
+            open_clause = said if depth > 0 else None
+    return [call for call, kind in found if call.is_shown(kind)]
+
+
+def definitions_of(text, crate):
+    """For each name that a file takes from definitions, the file where it is defined."""
+    found = {}
+    for of, file, names in USED.findall(text):
+        for name in filter(None, map(str.strip, names.split(","))):
+            place = file if of == crate else f"{of}/{file}"
+            found[name.split(" as ")[-1]] = place if of in OWN else None
+    return {name: place for name, place in found.items() if place}
+
+
+def shown(crate):
+    """The lines of a crate's calls: each name once, with what all calls of that name say."""
+    lines = {}
+    for path in sorted((TOP / "crates" / crate / "src").rglob("*.rt")):
+        text = path.read_text()
+        files = definitions_of(text, crate)
+        for call in calls_in(text):
+            words = {word for _, _, said in call.clauses for word in re.findall(r"[\w◌]+", said)}
+            places = sorted({files[word] for word in words if word in files})
+            name = f"{call.owner}::{call.name}" if call.owner else call.name
+            if name in lines and not call.owner:
+                name = f"{path.stem}::{call.name}"
+            lines[name] = call.named(), places
+    for name, (clauses, places) in sorted(lines.items()):
+        yield f"    {name:{WIDTH}} {' '.join(clauses) or 'none'}  {' '.join(places)}".rstrip()
+
+
+def table():
+    named, _ = drawing.crates()
+    for crate in named:
+        lines = [*shown(crate)] if crate not in drawing.TESTS and crate != PROGRAM else []
+        if lines:
+            yield "\n".join([f"## {crate}", "", *lines, "", ""])
+
+
+def written(text):
+    """The page with this table between its marks."""
+    before, _, rest = text.partition(BEGIN)
+    return before + BEGIN + "\n" + "".join(table()) + END + rest.partition(END)[2]
+
+
+def is_written():
+    return written(PAGE.read_text()) == PAGE.read_text()
+
+
+def main():
+    if sys.argv[1:] not in ([], ["--check"], ["--write"]):
+        sys.exit("usage: tests/calls.py [--check|--write]")
+    text = PAGE.read_text()
+    if BEGIN not in text or END not in text:
+        sys.exit(f"{PAGE.name} lacks the marks of the table")
+    if sys.argv[1:] == ["--write"]:
+        PAGE.write_text(written(text))
+    elif not is_written():
+        sys.exit(f"{PAGE.name} is not what the sources say: tests/calls.py --write")
+    print("ok")
+
+
+if __name__ == "__main__":
+    main()
