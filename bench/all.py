@@ -37,9 +37,8 @@ PAUSE = 0.005  # seconds between two looks at what a program holds
 DAY = "2027-03-02"
 VALGRIND = ("valgrind", "--tool=callgrind", "--callgrind-out-file=/dev/null")
 PYTHON = (sys.executable, str(HERE / "baseline.py"))
-KEPT = ("adding", "over a file: adding", "new imports", "overdue", "opening")  # of former states
-HEAD = ["Work", "Office", "C", "by office", "Python", "by office", "Python that checks"]
-HEAD += ["by office"]
+KEPT = ("add", "file: add", "new imports", "overdue", "opening")  # of former states
+HEAD = ["work", "office", "C", "Python", "Python checks"]
 
 
 @dataclasses.dataclass
@@ -66,15 +65,15 @@ def streams(times):
 
     count, plans, several = round(200_000 * times), round(200 * times), max(1, round(5 * times))
     first, imports = work.many_intersections(), list(work.imports(several))
-    yield stream(f"adding and asking, {count:,} requests", [], work.adding_and_asking(count))
+    yield stream(f"add and ask, {count:,} requests", [], work.adding_and_asking(count))
     for many, every, four in (("all", 1, 0), ("4", 0, 1)):
-        title = f"whole plans changed in {many} of 60 rows, {plans:,} transactions"
+        title = f"plans, {many} of 60 rows changed, {plans:,} times"
         yield stream(title, work.committed(), work.transactions(plans, every, four), True)
     records = f"{several * work.IMPORTED:,} records"
     yield stream(f"new imports, {records}", first, imports, True)
     yield stream(f"imports sent again, {records}", [*first, *imports], imports, True)
     count = round(20_000 * times)
-    yield stream(f"inspections into one cabinet, {count:,} requests", [work.opened(12)],
+    yield stream(f"inspections of one cabinet, {count:,}", [work.opened(12)],
                  work.inspections(count))
 
 
@@ -83,7 +82,7 @@ def over_files(times, folder):
     and a sync for each request that changes something."""
     for it in streams(times / 10):
         yield dataclasses.replace(
-            it, name=f"over a file: {it.name}", words=("batch", "--db", "FILE"),
+            it, name=f"file: {it.name}", words=("batch", "--db", "FILE"),
             theirs=("serve", "FILE"), made=os.path.join(folder, "stream.db"),
         )
 
@@ -91,14 +90,14 @@ def over_files(times, folder):
 def on_files(program, folder):
     """The works on files, which are made first."""
     for name, words, theirs, size, fill in (
-        ("overdue over 9,999 intersections", ("overdue", "--db", "FILE", DAY),
+        ("overdue, 9,999 intersections", ("overdue", "--db", "FILE", DAY),
          ("overdue", "FILE", DAY), 9_999, work.with_inspections),
-        ("opening a file of 120,000 rows", ("batch", "--db", "FILE"),
+        ("opening, 120,000 rows", ("batch", "--db", "FILE"),
          ("open", "FILE"), 2_000, work.with_plans),
-        ("migrating a file of 120,000 rows", ("migrate", "--db", "FILE"),
+        ("migrating, 120,000 rows", ("migrate", "--db", "FILE"),
          ("migrate", "FILE"), 2_000, work.with_old_plans),
     ):
-        path = os.path.join(folder, f"{name.split()[0]}.db")
+        path = os.path.join(folder, f"{words[0]}.db")
         work.filled(program, path, size, fill)
         yield Work(name, words, theirs, file=path, made=path + ".copy")
 
@@ -216,12 +215,12 @@ def row(program, it, folder, counts, c):
     cells = [it.name, shown(ours, counts)]
     for words in peers(it, c):
         if not words:
-            cells += ["-", "-"]
+            cells.append("")
             continue
         theirs, _, wanted = cost(words, it, folder, counts)
         if answers != wanted:
             sys.exit(f"{it.name}: {words[0]} answers differently")
-        cells += [shown(theirs, counts), f"{theirs / ours:.2f}"]
+        cells.append(shown(theirs, counts))
     return cells if counts else [*cells, f"{held:.0f}"]
 
 
@@ -235,10 +234,10 @@ def rows(program, only, times, counts):
             if only in it.name:
                 yield row(program, it, folder, counts, c)
     for at_once in () if counts or by_clock else (1, 100):
-        name = f"one kept connection, 10,000 requests, {at_once} at once"
+        name = f"one connection, 10,000 requests, {at_once} at once"
         if only in name:
             ours, held = min(served(program, at_once) for _ in range(RUNS))
-            yield [name, shown(ours, counts), *["-"] * 6, f"{held:.0f}"]
+            yield [name, shown(ours, counts), *[""] * 3, f"{held:.0f}"]
 
 
 def main():
@@ -259,7 +258,7 @@ def main():
     for it in rows(program, asked.only, asked.times, counts):
         told.append(it)
         print(" | ".join(it), file=sys.stderr, flush=True)
-    text = measured.table(HEAD if counts else [*HEAD, "Office, MiB"], told)
+    text = measured.block(HEAD if counts else [*HEAD, "office, MiB"], told)
     print(text, end="")
     if not asked.write:
         return

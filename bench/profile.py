@@ -18,7 +18,7 @@ import all as bench
 import drawing
 from program import found
 
-WORKS = ("adding", "changed in all", "changed in 4", "opening")
+WORKS = ("add and ask", "all of 60", "4 of 60", "opening")
 HEADS = ("add and ask", "all rows", "4 rows", "opening")  # of these works
 LEAST = 8  # of 100
 OTHERS = {"sqlite", "serde_json", "json", "csv"}

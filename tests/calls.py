@@ -94,21 +94,31 @@ def definitions_of(text, crate):
     return {name: place for name, place in found.items() if place}
 
 
-def shown(crate):
-    """The lines of a crate's calls: each name once, with what all calls of that name say."""
-    lines = {}
+def found_in(crate):
+    """What each call of a crate says, by its type or trait and its name."""
+    found = {}
     for path in sorted((TOP / "crates" / crate / "src").rglob("*.rt")):
         text = path.read_text()
         files = definitions_of(text, crate)
         for call in calls_in(text):
             words = {word for _, _, said in call.clauses for word in re.findall(r"[\w◌]+", said)}
             places = sorted({files[word] for word in words if word in files})
-            name = f"{call.owner}::{call.name}" if call.owner else call.name
-            if name in lines and not call.owner:
-                name = f"{path.stem}::{call.name}"
-            lines[name] = call.named(), places
-    for name, (clauses, places) in sorted(lines.items()):
-        yield f"    {name:{WIDTH}} {' '.join(clauses) or 'none'}  {' '.join(places)}".rstrip()
+            key = call.owner, call.name
+            if key in found and not call.owner:
+                key = path.stem, call.name
+            found[key] = " ".join(call.named()) or "none", " ".join(places)
+    return found
+
+
+def shown(crate):
+    """The lines of a crate's calls. Calls of one type that say the same share a line."""
+    groups = {}
+    for (owner, name), said in sorted(found_in(crate).items()):
+        groups.setdefault((owner, said), []).append(name)
+    for (owner, (clauses, places)), names in groups.items():
+        listed = names[0] if len(names) == 1 else f"{{{','.join(names)}}}"
+        name = f"{owner}::{listed}" if owner else ", ".join(names)
+        yield f"    {name:{WIDTH}} {clauses}  {places}".rstrip()
 
 
 def table():
