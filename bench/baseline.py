@@ -1,12 +1,12 @@
-"""The work of bench/all.py by Python over its `sqlite3`: a yardstick, and no more. It reads, writes
-and answers what the office does, and checks next to nothing of what the office checks; with
---checking it also tests rows, plans and records, by the rules of tests/model.
+"""The work of bench/all.py in Python over `sqlite3`, to compare with. It reads, writes and answers
+what the office does, and checks next to nothing; with --checking it also tests rows, plans and
+records, by the rules of tests/model.
 
     python3 bench/baseline.py serve [FILE] [--checking]   answers requests, over tables in memory
                                                           or in a file
     python3 bench/baseline.py overdue FILE DAY     prints the report
     python3 bench/baseline.py open FILE            has SQLite check the file
-    python3 bench/baseline.py migrate FILE         makes a file of version 1 one of version 2
+    python3 bench/baseline.py migrate FILE         brings a file of version 1 to version 2
 """
 import csv
 import datetime

@@ -1,12 +1,11 @@
 #!/usr/bin/env python3
 """Counts what reasons cost: the instructions of `verify-file` with `--explain` and without, of a
-plan of 1,000 rows in which 200 rules are broken, beside those of a plan of no rows.
+plan of 1,000 rows that breaks 200 rules, minus those of an empty plan.
 
     python3 bench/explain.py [PROGRAM] [--write]
 
-The program is the one at that path, or the one that `./office` built. Needs valgrind. With --write
-the figures are put into docs/MEASUREMENTS.md. Ends with status 1 where reasons take more than twice
-what the rules take.
+By default the program is the one that `./office` built. Needs valgrind. With --write the figures go
+into docs/MEASUREMENTS.md. Ends with status 1 if reasons take more than twice what the rules take.
 """
 import argparse
 import pathlib

@@ -1,10 +1,10 @@
-"""Measures the first build: clones the repository, runs `./office batch` there on no request, and
-tells how many crates were proved after how many minutes, and what each took of the processors.
+"""Measures the first build: clones the repository, runs `./office batch` there without requests,
+and says how many crates were proved after how many minutes, and what each took.
 
     python3 bench/first_build.py [--write]
 
-With --write both go into docs/MEASUREMENTS.md. It takes the time of the build, in which nothing
-else should run, and some gigabytes below the folder for temporary files.
+With --write both go into docs/MEASUREMENTS.md. Nothing else should run meanwhile. It needs some
+gigabytes in the folder for temporary files.
 """
 import collections
 import pathlib

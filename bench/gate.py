@@ -1,12 +1,11 @@
-"""Runs the gate and tells what it costs, crate by crate, in processor seconds.
+"""Runs the gate and says what it costs, crate by crate, in processor seconds.
 
     python3 bench/gate.py RECORD [--write]
 
-Where there is no file RECORD, `rt ci` is run at the top of the repository, with --anew where the
-kit keeps work between runs, so that nothing is taken from earlier ones; what it prints is handed
-on, and RECORD is made: a line for each crate with the seconds of its proofs, with its tests and its
-programs, and of its must-fail edits. With --write the table of RECORD is put into
-docs/MEASUREMENTS.md. Needs /proc, as Linux has it.
+If there is no file RECORD, it runs `rt ci` at the top of the repository (with --anew if the kit has
+it, so that nothing is taken from earlier runs), passes on what that prints, and writes RECORD: a
+line for each crate with the seconds of its proofs, tests and programs, and of its must-fail edits.
+With --write the table of RECORD goes into docs/MEASUREMENTS.md. Needs /proc, as Linux has it.
 """
 import collections
 import os

@@ -1,12 +1,11 @@
-"""Tells where the program's instructions go, for some of the works of bench/all.py: a table of
+"""Says where the program's instructions go, for some of the works of bench/all.py: a table of
 functions, each with its share of 100 of a run, with what it calls.
 
     python3 bench/profile.py [PROGRAM] [--write]
 
-A twentieth of each stream is done, and the whole of a file. The functions are those of this
-repository, of the database's calls and of the readers of JSON and CSV, and those that give and take
-memory; each has at least eight of 100 in some work. With --write the table is put into
-docs/MEASUREMENTS.md. Needs valgrind.
+It does a twentieth of each stream, and the whole of a file. It lists functions of this repository,
+of the database, of the readers of JSON and CSV, and of memory, with at least eight of 100 in some
+work. With --write the table goes into docs/MEASUREMENTS.md. Needs valgrind.
 """
 import pathlib
 import re

@@ -1,4 +1,4 @@
-"""What bench/all.py has done: streams of requests, and files with many rows."""
+"""The work that bench/all.py measures: streams of requests, and files with many rows."""
 import csv
 import datetime
 import io

@@ -1,6 +1,6 @@
-"""Runs of the program over a disk that refuses, or that end in the middle: a library between the
-program and the system counts its calls of files, and ends the program at one of them, has no more
-room, or fails."""
+"""Runs of the program over a disk that fails, or that are killed: a library between the program and
+the system counts its calls of files, and at one of them ends the program, has no more room, or
+fails."""
 import contextlib
 import dataclasses
 import os

@@ -1,13 +1,13 @@
 #!/usr/bin/env python3
-"""Draws requests, has the office in Python (tests/model) answer them, and makes row files of both,
+"""Draws requests, has the second office (tests/model) answer them, and writes both as row files,
 which crates/office_rows plays.
 
-    tests/draw_rows.py                          sees that the stored rows are what is drawn today
-    tests/draw_rows.py SEED COUNT               tells what would be drawn, and how often
+    tests/draw_rows.py                          checks that the stored rows are what is drawn today
+    tests/draw_rows.py SEED COUNT               says what would be drawn, and how often
     tests/draw_rows.py SEED COUNT --write       writes crates/office_rows/data/drawn_*.row
 
-Each route has to be answered, and each refusal but 18, each fault of a row and each broken rule has
-to come; what does not is told, and the status is 1. Builds nothing, and needs no program.
+Each route must be answered, and each refusal but 18, each fault of a row and each broken rule must
+come up; if one does not, it says so and ends with status 1. Builds nothing; needs no program.
 """
 import itertools
 import random

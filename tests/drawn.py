@@ -1,13 +1,13 @@
 #!/usr/bin/env python3
-"""Holds the program against the office in Python (tests/model): drawn requests are sent to its
-`batch`, over tables in memory, and each answer has to be that of the model, byte for byte. First
-the model has to answer the requests and plans of the worked rows as they tell.
+"""Compares the program with the second office (tests/model): drawn requests go to its `batch`, over
+tables in memory, and each answer must be the model's, byte for byte. First the model must answer
+the requests and plans of the worked rows as they say.
 
     tests/drawn.py [PROGRAM [SEED COUNT]]
 
-COUNT requests are sent in streams of 1,000, each to a new office; by default 20,000. Each stream
+COUNT requests (20,000 by default) are sent in streams of 1,000, each to a new office. Each stream
 ends in a fault of its framing, a last request, or a part of one. Prints what was drawn, and ends
-with status 1 at the first answer that differs, of which it tells the request.
+with status 1 at the first answer that differs, with its request.
 """
 import itertools
 import json

@@ -1,8 +1,8 @@
 #!/usr/bin/env bash
-# Checks a file that the program writes with a tool that is none of ours: the stock sqlite3 where
-# it is there, and else the module sqlite3 of python3. It prints `ok` at the end.
+# Checks a file of the program with another tool: stock sqlite3 if it is there, else the module
+# sqlite3 of python3. Prints `ok` at the end.
 #
-#     tests/file.sh [PROGRAM]      the program that ./office built, where none is named
+#     tests/file.sh [PROGRAM]      by default the program that ./office built
 set -eu
 top=$(cd "$(dirname "$0")/.." && pwd)
 program=$(python3 "$top/tests/program.py" "${@:1:1}") || exit 2

@@ -1,12 +1,12 @@
 #!/usr/bin/env python3
-"""Runs the program on what it must not be broken by, with real files: files that are none of its
-own, that another process holds, that can't be written, a full disk, an output whose reader is gone,
-and random bytes. Each run must end by itself within 30 seconds with its status and its line on
-standard error, never by a signal, and what it refused must stay byte for byte.
+"""Runs the program on what must not break it, with real files: files that are not its own, that
+another process has open, that can't be written; a full disk, an output without a reader, random
+bytes. Each run must end by itself within 30 seconds with its status and its line on standard error,
+never by a signal. What it refused must stay byte for byte.
 
-    tests/hostile.py [PROGRAM]      the program that ./office built, where none is named
+    tests/hostile.py [PROGRAM]      by default the program that ./office built
 
-As root it also tries a file without leave to write and a full disk. Prints a line a case, and ok.
+As root it also tries a file without write permission and a full disk. Prints a line a case, and ok.
 """
 import os
 import random

@@ -1,12 +1,12 @@
 #!/usr/bin/env python3
-"""Sees that what definitions, contracts and proofs import of this repository is there.
+"""Checks that what definitions, contracts and proofs import of this repository is there.
 
     tests/imports.py
 
-Each file that an import names is there, its crate is the own one or one that the own one stands on,
-and the name stands in it as a definition, of another crate as a public one. What is made of the
-sources (`declared`, `contracts`, the goals of a proof) is passed over. A check finds the same, but
-only in the crates above, after it has proved those below.
+Each file that an import names must exist, in the crate itself or in one that it uses, and the name
+must be defined in it, publicly if the crate is another. What is made of the sources (`declared`,
+`contracts`, the goals of a proof) is skipped. A check finds the same, but only after it has proved
+the crates below.
 
 Builds nothing. Prints what is wrong, and ends with status 1 then.
 """

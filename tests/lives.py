@@ -1,20 +1,19 @@
 #!/usr/bin/env python3
 """Runs the program again and again over files, where many runs are killed, or have a disk that is
-full or fails, and holds what it answers each time against the office in Python (tests/model).
+full or fails, and compares each answer with the second office (tests/model).
 
     tests/lives.py [PROGRAM [SEED COUNT [FILE]]]
 
-COUNT runs are drawn, by default 1,000, some one after the other over each of some files: requests
-to `batch` and `serve`, and other commands. Some files begin as ones of version 1. After a run that
-ended in order the next one has to find exactly the office after it. After another it has to find
-the office after the last request that changed it and was answered otherwise than by Unavailable, or
-after a later one that was answered so, or that was not answered when the run was killed. What a
-file holds at the end is also read by Python's sqlite3.
+COUNT runs (1,000 by default) are drawn, over some files in turn: requests to `batch` and `serve`,
+and other commands. Some files begin as version 1. After a run that ended in order, the next one
+must find exactly its office. After any other run it must find the office after the last request
+that changed it and was not answered Unavailable, or after a later one that was, or that was not
+answered when the run was killed. Python's sqlite3 also reads what a file holds at the end.
 
-Prints how many runs were off, and ends with status 1 where one was: it tells the seed, the file and
-the run, and where a copy of the file as it was before that run is kept. FILE is the number of the
-only file to be tried, so that it is seen again; a kill at some moment may come at another one then.
-Needs a C compiler, `cc`. Takes half a minute, and little more for each further 1,000 runs.
+Prints how many runs were wrong, and ends with status 1 if one was: with the seed, the file, the
+run, and a copy of the file as it was before that run. FILE is the number of one file to try alone,
+to see it again; a kill may come at another moment then. Needs a C compiler, `cc`. Takes half a
+minute, and little more for each further 1,000 runs.
 """
 import collections
 import concurrent.futures

@@ -1,18 +1,18 @@
 #!/usr/bin/env python3
-"""Refuses each allocation in turn, by an allocator that is loaded before the system's, and sees
-what comes of it.
+"""Refuses each allocation in turn, by an allocator that is loaded before the system's, and checks
+the outcome.
 
     tests/memory.py [PROGRAM]
 
-- Streams of requests to `batch`, over tables in memory and in a file: each answer is the one that
-  the office in Python (tests/model) gives, where a request that was answered Unavailable changes
-  nothing; or the program tells of memory or of the database before the first. What the file holds
-  then is the office after the last request that was not answered so, or after a later one.
-- Commands of the program: each prints what it ever prints, or tells of memory or of the database,
-  and prints the same when it is run again.
+- Streams of requests to `batch`, over tables in memory and in a file: each answer is that of the
+  second office (tests/model), in which a request answered Unavailable changes nothing; or the
+  program reports memory or the database before the first. The file then holds the office after the
+  last request that was not answered so, or after a later one.
+- Commands of the program: each prints what it always prints, or reports memory or the database, and
+  prints the same when it is run again.
 
-Each ends with the run that was refused nothing. Prints how often which came, and ends with status 1
-where anything else did. Needs a C compiler, `cc`. Takes some minutes.
+Each ends with the run in which nothing was refused. Prints how often each outcome came, and ends
+with status 1 if any other came. Needs a C compiler, `cc`. Takes some minutes.
 """
 import collections
 import concurrent.futures

@@ -1,14 +1,13 @@
 #!/usr/bin/env python3
-"""Finds names that two crates define among their definitions: a name is to have one meaning.
+"""Finds names that two crates define among their definitions: a name should have one meaning.
 
     tests/names.py
 
-A name that crates share on purpose stands in MEANT, with what it says in each of them; one that
-still says different things stands in LEFT until one of its crates changes. Fields of records are
-passed over, since a record's name stands beside them, and so is what a crate hands on.
+MEANT lists the names that crates share on purpose, with what each says; LEFT those that still mean
+different things. Fields of records are skipped, and so is what a crate re-exports.
 
-Builds nothing. Prints each name that stands in neither list and in two crates, and ends with status
-1 then. A name of a list that stands in one crate alone is told too.
+Builds nothing. Prints each name that is in neither list and in two crates, and ends with status 1
+then. It also reports a listed name that is in one crate only.
 """
 import collections
 import pathlib

@@ -1,16 +1,16 @@
 #!/usr/bin/env python3
 """Runs each command over a standard output that is closed, full, or takes one byte at a time, and
-over words that are not UTF-8. A library between the program and the system (it needs a C compiler,
+with words that are not UTF-8. A library between the program and the system (it needs a C compiler,
 `cc`) takes one byte of each write, and perhaps no more after the first.
 
-    tests/outputs.py [PROGRAM]      the program that ./office built, where none is named
+    tests/outputs.py [PROGRAM]      by default the program that ./office built
 
-- An output that takes one byte at a time gets the whole text, with the status as ever.
-- One that is closed, full, or has room for one byte gets what it has room for, and the command ends
-  with status 1 and `fault: write`; what it did to the office stays done.
+- An output that takes one byte at a time gets the whole text, with the usual status.
+- One that is closed, full, or has room for one byte gets what fits, and the command ends with
+  status 1 and `fault: write`; what it did to the office stays done.
 - A word that is not UTF-8 is refused with status 2 and one line, and nothing is done.
 
-Prints a line for each command, and ends with status 1 where anything else came.
+Prints a line for each command, and ends with status 1 if anything else happened.
 """
 import hashlib
 import os

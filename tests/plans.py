@@ -1,12 +1,12 @@
 #!/usr/bin/env python3
-"""Holds the program against the office in Python (tests/model): drawn plans are verified, with
-reasons and without, and what is printed has to be what the model says, byte for byte.
+"""Compares the program with the second office (tests/model) on drawn plans, with reasons and
+without: what is printed must be what the model says, byte for byte.
 
     tests/plans.py [PROGRAM [SEED COUNT]]
 
-COUNT plans are drawn, by default 20,000. Most break some rule, since rows of a plan that breaks
-none are changed. Prints how often each rule was broken and each reason told, and ends with status
-1 at the first plan that is told otherwise, or where a rule or a reason did not come.
+COUNT plans are drawn, 20,000 by default. Most break some rule, since rows of a good plan are
+changed. Prints how often each rule was broken and each reason given, and ends with status 1 at the
+first plan that differs, or if a rule or a reason did not come up.
 """
 import collections
 import concurrent.futures

@@ -1,5 +1,5 @@
 """What a run of the program may leave in its file: the offices (tests/model) of which the next run
-has to find one. A run is requests to `batch` or `serve`, or another command."""
+must find one. A run is requests to `batch` or `serve`, or another command."""
 import dataclasses
 import functools
 import json

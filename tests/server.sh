@@ -1,13 +1,13 @@
 #!/usr/bin/env bash
-# Starts the program as a server on the loopback network over a file, asks it over one connection
-# that is kept open, makes a whole transaction and a run of the cabinet register over seventeen
-# more, and compares what it answers. Then come clients that send nothing, half a head, or read
-# nothing of a large answer, each of which the server ends after 30 seconds, and clients that close
-# in the middle: after each the next one is answered. It waits for the server's end, and prints the
-# timing sheet from the file. Needs curl and Python 3, and takes some two minutes. Prints ok.
+# Starts the program as a server on the loopback network over a file, sends requests over one
+# connection that is kept open, then a whole transaction and the cabinet register over seventeen
+# more, and compares the answers. Then come clients that send nothing, half a head, or read nothing
+# of a large answer, each of which the server ends after 30 seconds, and clients that close in the
+# middle; after each the next one is answered. It waits for the server's end, and prints the timing
+# sheet from the file. Needs curl and Python 3, and takes some two minutes. Prints ok.
 #
-#     tests/server.sh [PROGRAM [PORT]]      the program that ./office built, and a port that is
-#                                           free, where none is named
+#     tests/server.sh [PROGRAM [PORT]]      by default the program that ./office built, and a free
+#                                           port
 set -eu
 top=$(cd "$(dirname "$0")/.." && pwd)
 program=$(python3 "$top/tests/program.py" "${@:1:1}") || exit 2

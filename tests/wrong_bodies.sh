@@ -1,11 +1,10 @@
 #!/usr/bin/env bash
-# Tries the wrong bodies that the gate passes over: those in the folders wrong-bodies, each an edit
-# in the form of those in must-fail. Each has to be refused by the prover. It works on a copy, and
-# takes a proof of each crate, some four minutes of a processor, and three quarters of a minute for
-# each edit: it tells beforehand what that comes to. It prints a line for each edit, and ends with
-# status 1 where one is not refused. Needs the kit of Rattle on the path.
+# Tries the edits that the gate skips: those in wrong-bodies, in the form of those in must-fail. The
+# prover must refuse each. It works on a copy, and takes a proof of each crate, some four minutes of
+# a processor, and three quarters of a minute for each edit; it says beforehand how long. Prints a
+# line for each edit, and ends with status 1 if one is not refused. Needs the kit of Rattle.
 #
-#     tests/wrong_bodies.sh [CRATE..]      all crates that have some, where none is named
+#     tests/wrong_bodies.sh [CRATE..]      by default all crates that have some
 set -eu
 top=$(cd "$(dirname "$0")/.." && pwd)
 [ -n "$(command -v rt)" ] || {
