@@ -44,7 +44,7 @@ fn play_run(rt: &HostRuntime, line: usize, talk: &Talk<'_>, cut: Cut) -> Result<
 /// Has the program end for want of memory, which it tells.
 pub(crate) fn play_want_of_memory(alloc: Global) -> Result<(), Trouble> {
     let mut err = Keep::new(alloc, None, Cut::Whole);
-    let status = report(alloc, &mut err, Fault::Memory);
+    let status = report(&mut err, Fault::Memory);
     if err.bytes.as_slice() != b"fault: memory\n".as_slice() {
         return Err(Trouble::differs(alloc, 0, b"fault: memory", &err.bytes));
     }

@@ -30,7 +30,7 @@ fn run(rt: &HostRuntime) -> Result<u8, Fault> {
 fn main(rt: HostRuntime) -> ExitCode {
     let status = match run(&rt) {
         Ok(status) => status,
-        Err(fault) => report(rt.alloc(), &mut ToWrite::new(rt.stderr()), fault),
+        Err(fault) => report(&mut ToWrite::new(rt.stderr()), fault),
     };
     ExitCode::from(status)
 }

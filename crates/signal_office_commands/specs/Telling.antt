@@ -11,10 +11,6 @@ SaysLine line old new =
     Appends old.bytes new.bytes line
     ⊎ (AppendsPart old.bytes new.bytes line × FailsOrGivesNone old.counts new.counts)
 
--- the one line of the fault, or where memory for it was refused, that of this
-abbrev pub IsLineOf : Fault → List ℕ → Type 0
-IsLineOf why line = (line ≡ line_text why ++ codes "\n") ⊎ (line ≡ codes "fault: memory\n")
-
--- that line is said
+-- the one line of the fault is said
 abbrev pub SaysFault : Fault → Told → Told → Type 0
-SaysFault why old new = (line : List ℕ) × IsLineOf why line × SaysLine line old new
+SaysFault why old new = SaysLine (line_text why ++ codes "\n") old new

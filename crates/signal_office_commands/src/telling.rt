@@ -5,8 +5,7 @@ ghost use Rattle.signal_office_commands.specs.Telling.{SaysFault, SaysLine};
 ghost use Rattle.signal_office_faults.specs.Lines.{status_of};
 
 use office_http_framing::ends::{Sink, write_all};
-use signal_office_faults::Fault;
-use std::alloc::Global;
+use signal_office_faults::{Fault, line_of};
 
 /// Says a line, as far as the output takes it.
 fn say<W: Sink>(err: &mut W, line: &[u8])
@@ -15,22 +14,12 @@ fn say<W: Sink>(err: &mut W, line: &[u8])
     let _ = write_all(err, line);
 }
 
-/// Says a fault, as far as the output takes it.
-fn say_fault<W: Sink>(alloc: Global, err: &mut W, fault: Fault)
-    ensures { SaysFault fault (W.told err.old) (W.told err.new) }
-{
-    let Ok(line) = format!(in alloc; "{fault}\n") else {
-        return say(err, b"fault: memory\n");
-    };
-    say(err, line.as_bytes())
-}
-
 /// Says a fault on standard error, as far as that takes it, and gives the status.
-pub fn report<W: Sink>(alloc: Global, err: &mut W, fault: Fault) -> u8
+pub fn report<W: Sink>(err: &mut W, fault: Fault) -> u8
     ensures line { SaysFault fault (W.told err.old) (W.told err.new) }
     ensures status { result ≡ status_of fault }
     ensures bad { 1 ≤ result }
 {
-    say_fault(alloc, err, fault);
+    say(err, line_of(fault).as_str().as_bytes());
     fault.status()
 }

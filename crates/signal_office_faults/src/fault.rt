@@ -8,7 +8,6 @@ use office_http_framing::ends::WriteFailed;
 use office_http_framing::engine::ServeFault;
 use office_machine::refusal::Refusal;
 use signal_records::NoMemory;
-use std::fmt;
 
 /// Why the program ends with a fault, or refuses its words.
 #[derive(Clone, Copy)]
@@ -60,43 +59,6 @@ impl Fault {
         match self {
             Fault::Words => 2,
             _ => 1,
-        }
-    }
-}
-
-/// Writes the line that says it on standard error, without the line's end.
-impl fmt::Display for Fault {
-    ghost use Rattle.std.specs.Prelude.{Some};
-    ghost use Rattle.signal_office_faults.specs.Lines.{line_text};
-
-    ghost output = { λ fault. Some (line_text fault) };
-
-    fn fmt<W: fmt::Write>(&self, f: &mut fmt::Formatter<W>) -> fmt::Result {
-        match self {
-            Fault::Read => f.write_str("fault: read"),
-            Fault::Write => f.write_str("fault: write"),
-            Fault::Memory => f.write_str("fault: memory"),
-            Fault::Store => f.write_str("fault: store"),
-            Fault::Version => f.write_str("fault: version"),
-            Fault::Damaged => f.write_str("fault: damaged"),
-            Fault::Bind => f.write_str("fault: bind"),
-            Fault::File => f.write_str("fault: file"),
-            Fault::UnknownIntersection => f.write_str("fault: unknown intersection"),
-            Fault::UnknownPattern => f.write_str("fault: unknown pattern"),
-            Fault::Day => f.write_str("fault: day"),
-            Fault::Clerk => f.write_str("fault: clerk"),
-            Fault::Name => f.write_str("fault: name"),
-            Fault::Refused(refusal) => {
-                let name = refusal.name();
-                write!(f, "fault: {name}")
-            }
-            Fault::Record { at, refusal } => {
-                let name = refusal.name();
-                write!(f, "fault: record {at}: {name}")
-            }
-            Fault::Csv(fault) => write!(f, "fault: {fault}"),
-            Fault::OtherCsv(bad) => write!(f, "fault: other {bad}"),
-            Fault::Words => f.write_str("the command line is not UTF-8"),
         }
     }
 }

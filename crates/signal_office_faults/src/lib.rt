@@ -4,6 +4,8 @@
 
 mod fault;
 mod files;
+mod line;
 
 pub use fault::Fault;
 pub use files::{is_missing, read_file};
+pub use line::line_of;

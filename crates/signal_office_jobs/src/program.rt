@@ -249,12 +249,12 @@ fn do_found<F: OfficeInFile, R: Source, W: Sink, E: Sink>(
 }
 
 /// Gives the status, or says a fault and gives that of it.
-fn end_with<E: Sink>(alloc: Global, done: Result<u8, Fault>, err: &mut E) -> u8
+fn end_with<E: Sink>(done: Result<u8, Fault>, err: &mut E) -> u8
     ensures { EndsWith done (E.told err.old) (E.told err.new) result }
 {
     match done {
         Ok(status) => status,
-        Err(fault) => report(alloc, err, fault),
+        Err(fault) => report(err, fault),
     }
 }
 
@@ -280,5 +280,5 @@ pub fn run_words<F: OfficeInFile, R: Source, W: Sink, E: Sink>(
 {
     let found = job_of(alloc, words);
     let done = do_found::<F, R, W, E>(rt, alloc, &found, source, out, err);
-    end_with(alloc, done, err)
+    end_with(done, err)
 }

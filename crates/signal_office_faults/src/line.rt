@@ -1,0 +1,134 @@
+//! The line that says a fault, written without memory.
+
+ghost use Rattle.std.specs.Prelude.{◌≡◌, ◌≤◌, ◌+◌, ◌++◌, length, codes, decimal};
+ghost use Rattle.arrayvec.specs.ArrayString.{array_string_len};
+ghost use Rattle.office_files.specs.CsvFault.{bad_row_text, fault_text};
+ghost use Rattle.office_machine.specs.Refusal.{line_of};
+ghost use Rattle.signal_records.specs.RowFault.{fault_name};
+ghost use Rattle.signal_office_faults.specs.Lines.{line_text};
+
+use crate::fault::Fault;
+use arrayvec::ArrayString;
+use itoa::Buffer;
+use office_files::{BadRow, CsvFault};
+use office_machine::refusal::Refusal;
+use signal_records::RowFault;
+
+/// The bytes of the longest line, and more.
+const ROOM: usize = 256;
+
+/// The name of a refusal.
+#[tactic(auto, using(crate::proofs::Short::short_refusal))]
+fn refusal_name(refusal: Refusal) -> &'static str
+    ensures value { result.now ≡ (line_of refusal).name }
+    ensures short { length result.now ≤ 24 }
+{
+    refusal.name()
+}
+
+/// The name of a row's fault.
+#[tactic(auto, using(crate::proofs::Short::short_fault))]
+fn fault_name(fault: RowFault) -> &'static str
+    ensures value { result.now ≡ fault_name fault }
+    ensures short { length result.now ≤ 24 }
+{
+    fault.name()
+}
+
+/// Writes a number behind the line.
+fn push_number(line: &mut ArrayString<ROOM>, number: usize)
+    requires { array_string_len line.old ≤ 200 }
+    ensures bytes { line.new.bytes ≡ line.old.bytes ++ decimal number }
+    ensures len { array_string_len line.new ≤ array_string_len line.old + 40 }
+{
+    let mut digits = Buffer::new();
+    line.push_str(digits.format(number));
+}
+
+/// Writes a bad record behind the line, as `record 4: Number 3`.
+fn push_bad_row(line: &mut ArrayString<ROOM>, bad: &BadRow)
+    requires { array_string_len line.old ≤ 24 }
+    ensures bytes { line.new.bytes ≡ line.old.bytes ++ bad_row_text bad.now }
+    ensures len { array_string_len line.new ≤ 200 }
+{
+    line.push_str("record ");
+    push_number(line, bad.at);
+    line.push_str(": ");
+    line.push_str(fault_name(bad.fault));
+    if let Some(field) = bad.fault.field() {
+        line.push_str(" ");
+        push_number(line, field.into());
+    }
+}
+
+/// Writes what is wrong with a CSV file behind the line.
+fn push_csv_fault(line: &mut ArrayString<ROOM>, fault: &CsvFault)
+    requires { array_string_len line.old ≤ 24 }
+    ensures bytes { line.new.bytes ≡ line.old.bytes ++ fault_text fault.now }
+    ensures len { array_string_len line.new ≤ 200 }
+{
+    match fault {
+        CsvFault::NoMemory => line.push_str("memory"),
+        CsvFault::Row(bad) => push_bad_row(line, bad),
+    }
+}
+
+/// The line of a refused record.
+fn push_record(line: &mut ArrayString<ROOM>, at: usize, refusal: Refusal)
+    requires { array_string_len line.old ≤ 24 }
+    ensures bytes { line.new.bytes ≡ line.old.bytes ++ codes "fault: record " ++ decimal at
+        ++ codes ": " ++ (line_of refusal).name }
+    ensures len { array_string_len line.new ≤ 200 }
+{
+    line.push_str("fault: record ");
+    push_number(line, at);
+    line.push_str(": ");
+    line.push_str(refusal_name(refusal));
+}
+
+/// Writes the line that says a fault, without the line's end.
+fn push_fault(line: &mut ArrayString<ROOM>, fault: Fault)
+    requires { array_string_len line.old ≡ 0 }
+    ensures bytes { line.new.bytes ≡ line.old.bytes ++ line_text fault }
+    ensures len { array_string_len line.new ≤ 200 }
+{
+    match fault {
+        Fault::Read => line.push_str("fault: read"),
+        Fault::Write => line.push_str("fault: write"),
+        Fault::Memory => line.push_str("fault: memory"),
+        Fault::Store => line.push_str("fault: store"),
+        Fault::Version => line.push_str("fault: version"),
+        Fault::Damaged => line.push_str("fault: damaged"),
+        Fault::Bind => line.push_str("fault: bind"),
+        Fault::File => line.push_str("fault: file"),
+        Fault::UnknownIntersection => line.push_str("fault: unknown intersection"),
+        Fault::UnknownPattern => line.push_str("fault: unknown pattern"),
+        Fault::Day => line.push_str("fault: day"),
+        Fault::Clerk => line.push_str("fault: clerk"),
+        Fault::Name => line.push_str("fault: name"),
+        Fault::Refused(refusal) => {
+            line.push_str("fault: ");
+            line.push_str(refusal_name(refusal));
+        }
+        Fault::Record { at, refusal } => push_record(line, at, refusal),
+        Fault::Csv(fault) => {
+            line.push_str("fault: ");
+            push_csv_fault(line, &fault);
+        }
+        Fault::OtherCsv(bad) => {
+            line.push_str("fault: other ");
+            push_bad_row(line, &bad);
+        }
+        Fault::Words => line.push_str("the command line is not UTF-8"),
+    }
+}
+
+/// The line that says a fault on standard error, with the line's end.
+pub fn line_of(fault: Fault) -> ArrayString<ROOM>
+    ensures { result.bytes ≡ line_text fault ++ codes "\n" }
+{
+    let mut line = ArrayString::new();
+    push_fault(&mut line, fault);
+    line.push_str("\n");
+    line
+}
