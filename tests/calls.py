@@ -38,9 +38,10 @@ class Call:
         return self.is_public or kind == "trait" or states
 
     def named(self):
-        """The clauses by name, those of what the caller shows with a star."""
-        named = [(name or "-") + "*" * (kind == "requires") for kind, name, _ in self.clauses]
-        return [*dict.fromkeys(named)]
+        """The clauses by name, those of what the caller must show with a star."""
+        named = [(name or "*" * (kind == "requires")) + "*" * (kind == "requires" and bool(name))
+                 for kind, name, _ in self.clauses]
+        return [*dict.fromkeys(filter(None, named))]
 
 
 def owner_of(line):
@@ -106,7 +107,8 @@ def found_in(crate):
             key = call.owner, call.name
             if key in found and not call.owner:
                 key = path.stem, call.name
-            found[key] = " ".join(call.named()) or "none", " ".join(places)
+            said = call.named() if call.clauses else ["none"]
+            found[key] = " ".join([*said, *places])
     return found
 
 
@@ -115,10 +117,10 @@ def shown(crate):
     groups = {}
     for (owner, name), said in sorted(found_in(crate).items()):
         groups.setdefault((owner, said), []).append(name)
-    for (owner, (clauses, places)), names in groups.items():
+    for (owner, said), names in groups.items():
         listed = names[0] if len(names) == 1 else f"{{{','.join(names)}}}"
         name = f"{owner}::{listed}" if owner else ", ".join(names)
-        yield f"    {name:{WIDTH}} {clauses}  {places}".rstrip()
+        yield f"    {name:{WIDTH}} {said}".rstrip()
 
 
 def table():
