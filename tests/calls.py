@@ -108,7 +108,8 @@ def found_in(crate):
             if key in found and not call.owner:
                 key = path.stem, call.name
             said = call.named() if call.clauses else ["none"]
-            found[key] = " ".join([*said, *places])
+            own = [it for it in places if "/" not in it]
+            found[key] = " ".join([*said, *(own or places)])
     return found
 
 
