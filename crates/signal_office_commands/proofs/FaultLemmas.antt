@@ -10,6 +10,9 @@ use Rattle.office_desk.specs.{Answers.Answers, Named.number_of}
 use Rattle.office_machine.specs.{Office.Office, Office.Intersection, Step.Step, Step.answered, Step.shown, declared.command.Command.Command}
 use Rattle.office_machine.specs.{declared.refusal.Refusal.Refusal, declared.reply.Reply.Reply, declared.reply.Reply.TheVariants.Refused}
 use Rattle.office_machine.specs.declared.refusal.Refusal.TheVariants as refusal
+use Rattle.office_files.specs.declared.fault.CsvFault.{CsvFault}
+use Rattle.office_files.specs.declared.fault.CsvFault.TheVariants as file
+use Rattle.signal_office_commands.specs.Asking.{IsUnread}
 use Rattle.signal_office_commands.specs.Cabinet.{IsThere}
 use Rattle.signal_office_commands.specs.Fault.{IsFaultOfQuery, TellsUnknown}
 use Rattle.signal_office_commands.specs.Refused.{fault_of, fault_of_record, record_refusal}
@@ -20,6 +23,11 @@ use Rattle.signal_office_faults.specs.declared.fault.Fault.TheVariants as told
 pub on_fault : {A : Type 0} (result : Result A Fault) (fault : Fault) (P : Fault → Type 0) → IsErrAnd result (λ why. why ≡ fault) → P fault → IfErr result P
 on_fault (Ok x) fault P is holds = tt
 on_fault (Err why) fault P is holds = subst P (sym is) holds
+
+-- a file that was not read
+pub unread : {A : Type 0} {read : Result A CsvFault} (fault : CsvFault) → (fault ≢ file.NoMemory → read ≡ Err fault) → IsUnread read (told.Csv fault)
+unread file.NoMemory is = (file.NoMemory, refl, inl refl)
+unread (file.Row bad) is = (file.Row bad, refl, inr (is (λ e. cc)))
 
 -- ---- which faults tell of which refusals
 

@@ -5,6 +5,10 @@ pub mod HonestLemmas
 pub mod OrderLemmas
 pub mod QueryLemmas
 pub mod RefusedLemmas
+mod ReplacingLemmas
+mod RevisedLemmas
+mod RevisingLemmas
+mod StandingLemmas
 pub mod SheetLemmas
 pub mod ShownLemmas
 pub mod UnknownLemmas

@@ -44,13 +44,13 @@ state_found : (id : ℕ) (found : Option Intersection) (state : IntersectionStat
 state_found id None state e = cc
 state_found id (Some i) state e = (i, refl, cc)
 
-timing_found : (found : Option Intersection) (rows : Rows)
+pub timing_found : (found : Option Intersection) (rows : Rows)
     → timing_shown (shown found (λ i. reply.Timing (timing_of_intersection i))) ≡ Ok rows
     → (i : Intersection) × (found ≡ Some i) × (rows ≡ i.timing.committed)
 timing_found None rows e = cc
 timing_found (Some i) rows e = (i, refl, cc)
 
-rows_drafted : (draft : Option Draft) (rows : Rows) → draft_shown (draft_of_intersection draft) ≡ Ok rows
+pub rows_drafted : (draft : Option Draft) (rows : Rows) → draft_shown (draft_of_intersection draft) ≡ Ok rows
     → Some rows ≡ option_map (λ (d : Draft). d.set) draft
 rows_drafted None rows e = cc
 rows_drafted (Some d) rows e = cc

@@ -1,5 +1,5 @@
 -- An unknown intersection is told where the office has none, and only there.
-use Rattle.std.proofs.Common.{◌≡◌, ◌≢◌, inl, inr, ℕ, Option, Some, None, Result, Ok, Err, refl, sym, ap, ◌∙◌}
+use Rattle.std.proofs.Common.{◌≡◌, ◌≢◌, inl, inr, ℕ, List, Option, Some, None, Result, Ok, Err, refl, sym, ap, ◌∙◌}
 use Rattle.std.specs.FinMap.{get}
 use Rattle.draft_core.specs.Transaction.{Draft}
 use Rattle.office_tables_shelf.specs.Content.{Content}
@@ -11,7 +11,7 @@ use Rattle.office_machine.specs.Step.{draft_shown as draft_of_intersection, cabi
 use Rattle.office_machine.specs.declared.command.Command.TheVariants as command
 use Rattle.office_machine.specs.declared.refusal.Refusal.TheVariants as refusal
 use Rattle.office_machine.specs.declared.reply.Reply.TheVariants as reply
-use Rattle.signal_office_commands.specs.{Asking.Answered, Comparing.ComparesNoDraft, Drawing.DrawsNoTiming, Fault.IsUnshown, Fault.TellsUnknown, Showing.state_shown, Showing.timing_shown}
+use Rattle.signal_office_commands.specs.{Asking.Answered, Comparing.ComparesNoDraft, Comparing.ComparesNoRunning, Drawing.DrawsNoTiming, Fault.IsUnshown, Fault.TellsUnknown, Showing.state_shown, Showing.timing_shown}
 use Rattle.signal_office_commands.specs.Showing.{ShowsTiming, ShowsDraft, ShowsCabinet}
 use Rattle.signal_records.specs.TimingSet.{Rows}
 use Rattle.signal_office_commands.specs.{Showing.draft_shown, Showing.cabinet_shown, Intersection.IsRefusedShowing}
@@ -129,3 +129,12 @@ pub comparing_tells : (tables : Content) (office : Office) (id : ℕ) (why : Fau
     → ComparesNoDraft tables id why → StandForSound tables office → TellsUnknown office id why
 comparing_tells tables office id why (inl refused) stands = refused_tells tables office id why (inr (inl refused)) stands
 comparing_tells tables office id why (inr unshown) stands = draft_tells tables office id why unshown stands
+
+-- a bad record and want of memory are told of an intersection that is there
+pub running_tells : (tables : Content) (office : Office) (id : ℕ) (bytes : List ℕ) (why : Fault)
+    → ComparesNoRunning tables id bytes why → StandForSound tables office → TellsUnknown office id why
+running_tells tables office id bytes why (inl refused) stands = refused_tells tables office id why (inr (inl refused)) stands
+running_tells tables office id bytes why (inr (rows, shows, inl (cause, is, unread))) stands =
+    timing_there tables office id rows why shows stands (λ e. let same = is in cc)
+running_tells tables office id bytes why (inr (rows, shows, inr memory)) stands =
+    timing_there tables office id rows why shows stands (λ e. let same = memory in cc)

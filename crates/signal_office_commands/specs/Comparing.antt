@@ -46,3 +46,17 @@ pub record ComparesDraft (tables : Content) (id : ℕ) (found : List Difference)
 abbrev pub ComparesNoDraft : Content → ℕ → Fault → Type 0
 ComparesNoDraft tables id why =
     ShowsTiming tables id (Err why) ⊎ IsUnshown (ShowsDraft tables id) why
+
+-- they are those of a committed timing set and the plan of a file
+pub record ComparesRunning (tables : Content) (id : ℕ) (bytes : List ℕ) (found : List Difference) : Type 0 where
+  pub committed : Rows
+  pub plan : Rows
+  pub timing_is : ShowsTiming tables id (Ok committed)
+  pub plan_is : IsPlan bytes plan
+  pub told : AreTold committed plan found
+
+-- no timing set is shown; or one is, and the file was not read, or memory was refused
+abbrev pub ComparesNoRunning : Content → ℕ → List ℕ → Fault → Type 0
+ComparesNoRunning tables id bytes why =
+    ShowsTiming tables id (Err why)
+    ⊎ ((committed : Rows) × ShowsTiming tables id (Ok committed) × (IsUnread (changes_of bytes) why ⊎ (why ≡ told.Memory)))

@@ -13,6 +13,9 @@ pub mod Overdue
 pub mod Paging
 pub mod Plan
 pub mod Refused
+pub mod Standing
+pub mod Revising
+pub mod Replacing
 pub mod Sheet
 pub mod Showing
 pub mod Explaining

@@ -5,7 +5,8 @@ ghost use Rattle.office_files.specs.Changes.{changes_of};
 ghost use Rattle.office_files.specs.Plan.{IsPlan};
 ghost use Rattle.office_tables_shelf.specs.Keeps.{KeepsShelf};
 ghost use Rattle.signal_office_commands.specs.Comparing.{ComparesDraft, ComparesFiles, IsFirstBad};
-ghost use Rattle.signal_office_commands.specs.Comparing.{ComparesNoDraft, IsOtherUnread};
+ghost use Rattle.signal_office_commands.specs.Comparing.{ComparesNoDraft, ComparesNoRunning};
+ghost use Rattle.signal_office_commands.specs.Comparing.{ComparesRunning, IsOtherUnread};
 ghost use Rattle.signal_office_commands.specs.Fault.{TellsUnknown};
 ghost use Rattle.office_desk.specs.Running.{TellsTables};
 ghost use Rattle.signal_office_commands.specs.Asking.{TellsOffice};
@@ -65,4 +66,28 @@ pub fn draft_differences<S: Shelf>(
     let committed = timing_in(alloc, office, id)?;
     let draft = draft_in(alloc, office, id)?;
     Ok(compare(alloc, &committed, &draft)?)
+}
+
+/// What the plan in a CSV file differs in from the committed timing set of an intersection, in the
+/// order of their keys. The office is as it was. The first bad record is told only where the office
+/// shows a timing set.
+pub fn running_differences<S: Shelf>(
+    alloc: Global,
+    office: &mut Office<S>,
+    id: InterId,
+    bytes: &[u8],
+) -> Result<Vec<Difference>, Fault>
+    ensures kept { KeepsShelf S.Shelf office.old office.new }
+    ensures clean { S.is_clean office.new → S.is_clean office.old }
+    ensures found { IfOk result (λ found. TellsTables S.Shelf office.old office.new
+        (λ tables. ComparesRunning tables id bytes.now found.items)) }
+    ensures fault { IfErr result (λ why. TellsTables S.Shelf office.old office.new
+        (λ tables. ComparesNoRunning tables id bytes.now why)) }
+    // An unknown intersection is told where the office has none, and only there.
+    ensures unknown { IfErr result (λ why. TellsOffice S.Shelf office.old office.new
+        (λ before. TellsUnknown before id why)) }
+{
+    let committed = timing_in(alloc, office, id)?;
+    let plan = read_plan_csv(alloc, bytes)?;
+    Ok(compare(alloc, &committed, &plan)?)
 }

@@ -41,7 +41,7 @@ pub(crate) fn moved(reply: &Reply) -> Result<(), Fault>
 }
 
 /// The same of the first step, where a transaction may be under way.
-fn begun(reply: &Reply) -> Result<(), Fault>
+pub(crate) fn begun(reply: &Reply) -> Result<(), Fault>
     ensures { result ≡ begun reply.now }
 {
     match reply {
@@ -59,7 +59,7 @@ fn opened(first: &Reply, second: &Reply) -> Result<(), Fault>
 }
 
 /// The rules that a shown draft breaks.
-fn drafted(reply: Reply) -> Result<Violations, Fault>
+pub(crate) fn drafted(reply: Reply) -> Result<Violations, Fault>
     ensures { result ≡ drafted reply }
 {
     match reply {
@@ -174,14 +174,14 @@ fn commit_draft<S: Shelf>(
 }
 
 /// Whether a draft is to be committed: where that is asked, and it breaks no rule.
-fn is_due(commit: bool, violations: &Violations) -> bool
+pub(crate) fn is_due(commit: bool, violations: &Violations) -> bool
     ensures { result ≡ is_due commit violations.now }
 {
     commit && violations.as_slice().is_empty()
 }
 
 /// Commits the draft where that is due, and leaves it open else.
-fn commit_where_due<S: Shelf>(
+pub(crate) fn commit_where_due<S: Shelf>(
     alloc: Global,
     office: &mut Office<S>,
     id: InterId,

@@ -1,0 +1,2 @@
+mod PaddedLemmas
+mod GoodLemmas

@@ -1,0 +1,44 @@
+//! The records of a CSV file.
+
+ghost use Rattle.std.specs.Prelude.{◌≡◌, ◌≤◌, ◌⊎◌, ◌++◌, [], ◌∷◌, true, map, is_err, IfOk, IfErr};
+ghost use Rattle.std.specs.Prelude.{OnErr, Ok, vec_capacity, vec_len};
+ghost use Rattle.csv.specs.Reading.{error_kind, stops_reader};
+ghost use Rattle.csv.specs.Records.{fields_of};
+ghost use Rattle.csv.specs.declared.record.ByteRecord.{ByteRecord as Record};
+ghost use Rattle.office_files.specs.Csv.{csv_records};
+
+use csv::{ByteRecord, Error, ReaderBuilder};
+use signal_records::NoMemory;
+use std::alloc::Global;
+
+/// The records of a file, of which none is a header and which may differ in length.
+pub(crate) fn read_records(alloc: Global, text: &[u8]) -> Result<Vec<ByteRecord>, NoMemory>
+    ensures { IfOk result (λ records. map fields_of records.items ≡ csv_records text.now) }
+{
+    let reader = ReaderBuilder::new()
+        .has_headers(false)
+        .flexible(true)
+        .from_reader(alloc, text);
+    let mut records = Vec::new(alloc);
+    for record in reader.into_byte_records() {
+        keep(&mut records, record)?;
+    }
+    Ok(records)
+}
+
+/// Keeps a record that was read. A reader over a slice stops only where memory runs out: a slice
+/// can't fail to be read, and records may differ in length. So out of memory is told only where the
+/// reader told it, or where there was no room left.
+fn keep(records: &mut Vec<ByteRecord>, read: Result<ByteRecord, Error>) -> Result<(), NoMemory>
+    requires { IfErr read (λ error. stops_reader (error_kind error) ≡ true) }
+    ensures kept { IfOk result (λ _. (found : Record)
+        × (read ≡ Ok found) × (records.new.items ≡ records.old.items ++ found ∷ [])) }
+    ensures memory { OnErr result ((is_err read ≡ true)
+        ⊎ (vec_capacity records.old ≤ vec_len records.old)) }
+{
+    match read {
+        Ok(record) => records.push(record)?,
+        Err(_) => return Err(NoMemory),
+    }
+    Ok(())
+}

@@ -1,0 +1,225 @@
+-- The plan that a revision leaves, from what stood and what was done.
+use Rattle.std.proofs.Common.{◌≡◌, ◌≢◌, inl, inr, ℕ, Bool, true, false, ◌&&◌, not, List, Option, Some, None, Result, Ok, Err, refl, sym, ap, subst, ◌∙◌}
+use Rattle.std.specs.{FinMap.empty, FinMap.get, Prelude.is_none, Prelude.option_map}
+use Rattle.draft_core.specs.Transaction.{Draft, TimingSide}
+use Rattle.draft_core.specs.declared.refusal.DraftRefusal.TheVariants.{NotTransaction}
+use Rattle.office_desk.specs.StandFor.{StandForSound}
+use Rattle.office_machine.specs.{Office.Office, Office.Intersection, Step.Step, Step.answered, Step.shown, declared.command.Command.Command, declared.reply.Reply.Reply}
+use Rattle.office_machine.specs.Step.{draft_shown as draft_of_intersection, timing_shown as timing_of_intersection}
+use Rattle.office_machine.specs.declared.command.Command.TheVariants as command
+use Rattle.office_machine.specs.declared.refusal.Refusal.TheVariants as refusal
+use Rattle.office_machine.specs.declared.reply.Reply.TheVariants as reply
+use Rattle.office_tables_shelf.specs.Content.{Content}
+use Rattle.signal_office_commands.proofs.{EditLemmas.was_run, RevisingLemmas.held_base, RevisingLemmas.revised_draft, RevisingLemmas.revised_set, ShownLemmas.timing_found, ShownLemmas.rows_drafted}
+use Rattle.office_files.specs.Changes.{changes_of}
+use Rattle.signal_office_commands.specs.{Asking.Answered, Asking.Ran, Editing.Goes, Editing.commit_commands, Editing.commit_told, Editing.is_due, Showing.ShowsDraft, Showing.ShowsTiming, Showing.draft_shown, Showing.timing_shown}
+use Rattle.signal_office_commands.specs.Replacing.{LeavesPlan, LeftPlan, TellsNoChange, base_at, draft_set, plan_wanted}
+use Rattle.signal_office_commands.specs.Revising.{Drafts, Ends, Finishes, Revises, Stays, WouldBe, outcome_of}
+use Rattle.signal_office_commands.specs.Standing.{AreWanted, ShowsIfOpen, base_from, base_of, if_open}
+use Rattle.signal_office_commands.specs.declared.revising.{EditMode.EditMode, Outcome.TheVariants.Open, Outcome.TheVariants.Same, Outcome.TheVariants.Committed, Revised.Revised}
+use Rattle.signal_office_commands.specs.declared.standing.StandingPlan.{StandingPlan}
+use Rattle.signal_office_faults.specs.declared.fault.Fault.{Fault}
+use Rattle.signal_office_faults.specs.declared.fault.Fault.TheVariants as told
+use Rattle.signal_records.specs.TimingSet.{Rows, after_changes}
+use Rattle.signal_records.specs.declared.record.Change.{Change}
+use Rattle.signal_rules.specs.declared.violation.Violation.{Violation}
+
+-- ---- what stands, of the office
+
+-- what is made of a reply that is not Unavailable is made of the office's own answer
+made_of : {A : Type 0} (made : Reply → Result A Fault) (tables : Content) (office : Office) (asked : Command) (value : Result A Fault)
+    → made (reply.Refused refusal.Unavailable) ≢ value → Answered made tables asked tables value → StandForSound tables office
+    → made (answered office asked).0 ≡ value
+made_of {A} made tables office asked value available shows stands = by_step (shows.step office stands).step where
+  by_step : Step office asked shows.reply (shows.step office stands).next → made (answered office asked).0 ≡ value
+  by_step (inl h) = absurd (available (ap made (sym h.0) ∙ sym shows.made_is))
+  by_step (inr h) = ap (λ (p : Reply × Office). made p.0) h ∙ sym shows.made_is
+
+not_open : (why : Fault) (draft : Option Rows) → Ok draft ≡ if_open (Err why) → (draft ≡ None) × (why ≡ told.Refused (refusal.Draft NotTransaction))
+not_open (told.Refused (refusal.Draft NotTransaction)) draft e = (cc, refl)
+not_open _ draft e = absurd cc
+
+none_drafted : (draft : Option Draft) (why : Fault) → draft_shown (draft_of_intersection draft) ≡ Err why → None ≡ option_map (λ (d : Draft). d.set) draft
+none_drafted None why e = refl
+none_drafted (Some d) why e = absurd cc
+
+draft_standing : (tables : Content) (office : Office) (id : ℕ) (i : Intersection) (it : Result Rows Fault) (draft : Option Rows)
+    → get office.intersections id ≡ Some i → StandForSound tables office → ShowsDraft tables id it → Ok draft ≡ if_open it → draft ≡ draft_set i.timing
+draft_standing tables office id i (Ok rows) draft there stands shows e =
+    let is : draft ≡ Some rows = cc in
+    is ∙ rows_drafted i.timing.draft rows (rw there at (made_of draft_shown tables office (command.Draft id) (Ok rows) (λ e. cc) shows stands))
+draft_standing tables office id i (Err why) draft there stands shows e =
+    let none = not_open why draft e in
+    let available : draft_shown (reply.Refused refusal.Unavailable) ≢ Err why = λ same. let other = none.1 in absurd cc in
+    none.0 ∙ none_drafted i.timing.draft why (rw there at (made_of draft_shown tables office (command.Draft id) (Err why) available shows stands))
+
+same_base : (standing : StandingPlan) (side : TimingSide) → standing.committed ≡ side.committed → standing.draft ≡ draft_set side → base_of standing ≡ base_at side
+same_base standing side committed draft = ap (λ set. base_from set standing.draft) committed ∙ ap (base_from side.committed) draft
+
+made_plan : (replace : Bool) (base : Rows) (asked wanted : List Change) → AreWanted replace base asked wanted → after_changes base wanted ≡ plan_wanted replace base asked
+made_plan true base asked wanted is = is
+made_plan false base asked wanted is = ap (after_changes base) is
+
+-- ---- what was done
+
+not_same : (commit : Bool) (standing : StandingPlan) (changes : List Change) (committed wanted : Rows)
+    → standing.committed ≡ committed → after_changes (base_of standing) changes ≡ wanted
+    → WouldBe commit standing changes false → TellsNoChange commit committed wanted false
+not_same false standing changes committed wanted was is would = refl
+not_same true standing changes committed wanted was is would = λ same. would (was ∙ same ∙ sym is)
+
+-- where the draft would be the committed set, a commit was asked for
+is_asked : (commit : Bool) (standing : StandingPlan) (changes : List Change) → WouldBe commit standing changes true
+    → (commit ≡ true) × (standing.committed ≡ after_changes (base_of standing) changes)
+is_asked false standing changes would = absurd cc
+is_asked true standing changes would = (refl, would)
+
+tells_same : (commit : Bool) (committed wanted : Rows) → commit ≡ true → committed ≡ wanted → TellsNoChange commit committed wanted true
+tells_same true committed wanted asked is = is
+tells_same false committed wanted asked is = cc
+
+-- such a draft is not due
+never : (commit : Bool) (violations : List Violation) → is_due (commit && not true) violations ≡ false
+never true violations = refl
+never false violations = refl
+
+apart : {A E : Type 0} (x : A) (e : E) → Ok x ≡ Err e → ⊥
+apart x e same = cc
+
+module _ (bytes : List ℕ) (id : ℕ) (clerk : List ℕ) (mode : EditMode) (old new : Content) (asked : List Change) (spelled : changes_of bytes ≡ Ok asked)
+    (standing : StandingPlan) (changes : List Change) (before : Office) (stands : StandForSound old before) (i : Intersection) (there : get before.intersections id ≡ Some i)
+    (was : standing.committed ≡ i.timing.committed) (base : base_of standing ≡ base_at i.timing)
+    (is : after_changes (base_of standing) changes ≡ plan_wanted mode.replace (base_at i.timing) asked) where
+  abbrev wanted : Rows
+  wanted = plan_wanted mode.replace (base_at i.timing) asked
+
+  -- of the intersection as it is after the edit
+  record After (middle : Content) : Type 0 where
+    office : Office
+    stand : StandForSound middle office
+    it : Intersection
+    found : get office.intersections id ≡ Some it
+    draft : Draft
+    held : it.timing.draft ≡ Some draft
+    set : draft.set ≡ wanted
+    committed : it.timing.committed ≡ i.timing.committed
+
+  after_edit : (commit same : Bool) (violations : List Violation) (outcome : Result Unit Fault) (drafts : Drafts commit same id clerk changes old new violations outcome) → After drafts.middle
+  after_edit commit same violations outcome drafts =
+      let run = drafts.edit.run before stands in
+      let made = revised_draft before run.last id clerk changes drafts.edit.replies violations i there run.run drafts.edit.made_is in
+      record {
+        office = run.last;
+        stand = run.stand;
+        it = made.0;
+        found = made.1;
+        draft = made.2.draft;
+        held = made.2.held;
+        set = made.2.set ∙ ap (λ set. after_changes set changes) (sym base) ∙ is;
+        committed = made.2.committed;
+      }
+
+  -- the draft stays open
+  opened : (middle : Content) → After middle → new ≡ middle → TellsNoChange mode.commit i.timing.committed wanted false → LeftPlan bytes id mode before new Open
+  opened middle after same told = record {
+    asked = asked;
+    spelled = spelled;
+    was = i;
+    there = there;
+    after = after.office;
+    stands = subst (λ tables. StandForSound tables after.office) (sym same) after.stand;
+    is = after.it;
+    still = after.found;
+    left = ap (option_map (λ (d : Draft). d.set)) after.held ∙ ap Some after.set;
+    told = told;
+  }
+
+  -- it is the committed set
+  kept_same : (middle : Content) → After middle → new ≡ middle → mode.commit ≡ true → standing.committed ≡ after_changes (base_of standing) changes → LeftPlan bytes id mode before new Same
+  kept_same middle after same commit would = record {
+    asked = asked;
+    spelled = spelled;
+    was = i;
+    there = there;
+    after = after.office;
+    stands = subst (λ tables. StandForSound tables after.office) (sym same) after.stand;
+    is = after.it;
+    still = after.found;
+    left = ap Some (after.committed ∙ sym was ∙ would ∙ is);
+    told = tells_same mode.commit i.timing.committed wanted commit (sym was ∙ would ∙ is);
+  }
+
+  -- it was committed
+  settled : (middle : Content) → After middle → Ran commit_told middle (commit_commands id clerk) new (Ok tt) → TellsNoChange mode.commit i.timing.committed wanted false
+      → LeftPlan bytes id mode before new Committed
+  settled middle after ran told =
+      let run = ran.run after.office after.stand in
+      let made = revised_set after.office run.last id clerk ran.replies tt after.it after.found run.run ran.made_is in
+      record {
+        asked = asked;
+        spelled = spelled;
+        was = i;
+        there = there;
+        after = run.last;
+        stands = run.stand;
+        is = made.0;
+        still = made.1;
+        left = ap Some (made.2 ∙ held_base after.it.timing after.draft after.held ∙ after.set);
+        told = told;
+      }
+
+  -- nothing was done
+  stayed : new ≡ old → mode.commit ≡ true → standing.committed ≡ after_changes (base_of standing) changes → LeftPlan bytes id mode before new Same
+  stayed same commit would = record {
+    asked = asked;
+    spelled = spelled;
+    was = i;
+    there = there;
+    after = before;
+    stands = subst (λ tables. StandForSound tables before) (sym same) stands;
+    is = i;
+    still = there;
+    left = ap Some (sym was ∙ would ∙ is);
+    told = tells_same mode.commit i.timing.committed wanted commit (sym was ∙ would ∙ is);
+  }
+
+  by_due : (middle : Content) → After middle → (due : Bool) → Goes due id clerk middle new (Ok tt) → TellsNoChange mode.commit i.timing.committed wanted false
+      → LeftPlan bytes id mode before new (outcome_of false due)
+  by_due middle after true goes says = settled middle after (was_run tt told.Memory goes) says
+  by_due middle after false goes says = opened middle after goes.1 says
+
+  finished : (same : Bool) (done : Revised) → WouldBe mode.commit standing changes same → Finishes mode.commit same id clerk changes old new (Ok done)
+      → LeftPlan bytes id mode before new done.outcome
+  finished true done would finishes =
+      let commit = is_asked mode.commit standing changes would in
+      let after = after_edit mode.commit true done.violations (Ok tt) finishes.0 in
+      let idle : Goes false id clerk finishes.0.middle new (Ok tt) = subst (λ due. Goes due id clerk finishes.0.middle new (Ok tt)) (never mode.commit done.violations) finishes.0.goes in
+      subst (LeftPlan bytes id mode before new) (sym finishes.1) (kept_same finishes.0.middle after idle.1 commit.0 commit.1)
+  finished false done would finishes =
+      subst (LeftPlan bytes id mode before new) (sym finishes.1)
+      (by_due finishes.0.middle (after_edit mode.commit false done.violations (Ok tt) finishes.0) (is_due (mode.commit && not false) done.violations) finishes.0.goes
+      (not_same mode.commit standing changes i.timing.committed wanted was is would))
+
+  by_idle : (idle same : Bool) (done : Revised) → idle ≡ (same && is_none standing.draft) → WouldBe mode.commit standing changes same
+      → Stays idle mode.commit same id clerk changes old new (Ok done) → LeftPlan bytes id mode before new done.outcome
+  by_idle true true done e would stays =
+      let outcome : Same ≡ done.outcome = let is = stays.0 in cc in
+      let commit = is_asked mode.commit standing changes would in
+      subst (LeftPlan bytes id mode before new) outcome (stayed stays.1 commit.0 commit.1)
+  by_idle true false done e would stays = absurd cc
+  by_idle false same done e would stays = finished same done would stays
+
+-- the plan that is left is the one that was asked for
+pub leaves : (bytes : List ℕ) (id : ℕ) (clerk : List ℕ) (mode : EditMode) (old new : Content) (done : Revised)
+    → Revises bytes id clerk mode old new (Ok done) → LeavesPlan bytes id mode done.outcome old new
+leaves bytes id clerk mode old new done r before stands = by_ends r.ends where
+  by_ends : Ends mode.commit r.standing id clerk r.changes old new (Ok done) → LeftPlan bytes id mode before new done.outcome
+  by_ends (inl memory) = absurd (apart done told.Memory memory.0)
+  by_ends (inr (same, would, stays)) =
+      let timing = timing_found (get before.intersections id) r.standing.committed
+      (made_of timing_shown old before (command.Timing id) (Ok r.standing.committed) (λ e. cc) r.shows.0 stands) in
+      let draft = draft_standing old before id timing.0 r.shows.1.0 r.standing.draft timing.1 stands r.shows.1.1 r.shows.1.2 in
+      let base = same_base r.standing timing.0.timing timing.2 draft in
+      by_idle bytes id clerk mode old new r.asked r.spelled r.standing r.changes before stands timing.0 timing.1 timing.2 base
+      (made_plan mode.replace (base_of r.standing) r.asked r.changes r.wanted ∙ ap (λ set. plan_wanted mode.replace set r.asked) base)
+      (same && is_none r.standing.draft) same done refl would stays

@@ -1,0 +1,56 @@
+-- A revision that was made, and one that was not.
+use Rattle.std.proofs.Common.{◌≡◌, ◌⊎◌, ◌&&◌, not, ℕ, Bool, List, Result, Ok, Err, inl, inr, subst, sym, ap, ◌∙◌}
+use Rattle.std.specs.{Prelude.IfOk, Prelude.is_none, Result.IsErrAnd}
+use Rattle.office_desk.specs.Running.{MakesTables}
+use Rattle.office_tables_shelf.specs.{Content.Content, declared.shelf.Shelf.Ghosts}
+use Rattle.signal_office_commands.proofs.{EditLemmas.was_run, ReplacingLemmas.leaves}
+use Rattle.signal_office_commands.specs.{Editing.Does, Editing.Goes, Editing.is_due, Replacing.LeavesPlan}
+use Rattle.signal_office_commands.specs.Revising.{Drafts, Ends, Finishes, RevisesAs, Stays, WouldBe, revise_commands, revise_told}
+use Rattle.signal_office_commands.specs.declared.revising.{EditMode.EditMode, Revised.Revised}
+use Rattle.signal_office_commands.specs.declared.standing.StandingPlan.{StandingPlan}
+use Rattle.signal_office_faults.specs.declared.fault.Fault.{Fault}
+use Rattle.signal_office_faults.specs.declared.fault.Fault.TheVariants as told
+use Rattle.signal_records.specs.declared.record.Change.{Change}
+use Rattle.signal_rules.specs.declared.violation.Violation.{Violation}
+
+pub err_is : {A : Type 0} (result : Result A Fault) (fault : Fault) → IsErrAnd result (λ why. why ≡ fault) → result ≡ Err fault
+err_is (Ok x) fault is = absurd is
+err_is (Err why) fault is = ap Err is
+
+module _ (commit same : Bool) (id : ℕ) (clerk : List ℕ) (changes : List Change) (old new : Content) where
+  pub drafts : (middle : Content) (violations : List Violation) (may due : Bool) (outcome : Result Unit Fault)
+      → Does revise_told old (revise_commands id clerk changes) middle (Ok violations) → may ≡ (commit && not same) → due ≡ is_due may violations
+      → Goes due id clerk middle new outcome → Drafts commit same id clerk changes old new violations outcome
+  drafts middle violations may due outcome does may_is due_is goes = record {
+    middle = middle;
+    edit = was_run violations told.Memory does;
+    goes = subst (λ (d : Bool). Goes d id clerk middle new outcome) (due_is ∙ ap (λ m. is_due m violations) may_is) goes;
+  }
+
+  pub finishes_not : (result : Result Revised Fault) (fault : Fault) → IsErrAnd result (λ why. why ≡ fault)
+      → Does revise_told old (revise_commands id clerk changes) new (Err fault)
+      ⊎ ((violations : List Violation) × Drafts commit same id clerk changes old new violations (Err fault))
+      → Finishes commit same id clerk changes old new result
+  finishes_not (Ok done) fault is fails = absurd is
+  finishes_not (Err why) fault is fails =
+      subst (λ (w : Fault). Finishes commit same id clerk changes old new (Err w)) (sym is) fails
+
+pub ends_so : (commit : Bool) (standing : StandingPlan) (id : ℕ) (clerk : List ℕ) (changes : List Change) (old new : Content) (result : Result Revised Fault) (same idle : Bool)
+    → WouldBe commit standing changes same → idle ≡ (same && is_none standing.draft) → Stays idle commit same id clerk changes old new result
+    → Ends commit standing id clerk changes old new result
+ends_so commit standing id clerk changes old new result same idle would is stays =
+    inr (same, would, subst (λ (b : Bool). Stays b commit same id clerk changes old new result) is stays)
+
+apart : {A E : Type 0} (x : A) (e : E) → Ok x ≡ Err e → ⊥
+apart x e same = cc
+
+pub plan_left_by : {S : Type 0} (g : Ghosts S) (old new : S) (bytes : List ℕ) (id : ℕ) (clerk : List ℕ) (mode : EditMode) (result : Result Revised Fault)
+    → MakesTables g old new (λ before after. RevisesAs bytes id clerk mode before after result)
+    → IfOk result (λ done. MakesTables g old new (λ before after. LeavesPlan bytes id mode done.outcome before after))
+plan_left_by g old new bytes id clerk mode (Err why) makes = tt
+plan_left_by g old new bytes id clerk mode (Ok done) makes = λ clean tables held.
+    let made = makes clean tables held in
+    (made.0, by_made made.0 tables made.1, made.2) where
+      by_made : (after before : Content) → RevisesAs bytes id clerk mode before after (Ok done) → LeavesPlan bytes id mode done.outcome before after
+      by_made after before (inl revises) = leaves bytes id clerk mode before after done revises
+      by_made after before (inr (why, is, none, how)) = absurd (apart done why is)

@@ -1,0 +1,12 @@
+use Rattle.std.proofs.Common.{inl, rules, subst, sym}
+use Rattle.office_desk.specs.Running.{HoldsTables}
+use Rattle.signal_office_commands.proofs.revising.run_revision.Goals as goal
+
+pub returns-clause-does : goal.returns-clause-does
+returns-clause-does g c = λ clean tables held.
+    let ends = c.in_ok-run_all.ensures.ends clean tables held in
+    (ends.0, inl (record { replies = c.in_ok-run_all.field-0.items; run = ends.1; made_is = c.revise_told.ensures }), ends.2)
+
+pub returns-in_err-run_all-clause-does : goal.returns-in_err-run_all-clause-does
+returns-in_err-run_all-clause-does g c = λ clean tables held.
+    (tables, search rules, subst (λ shelf. HoldsTables g.S.Shelf shelf tables) (sym c.in_err-run_all.ensures.err) held)

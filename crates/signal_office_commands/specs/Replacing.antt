@@ -1,0 +1,59 @@
+-- The plan that a revision leaves.
+use Rattle.std.specs.Prelude.{◌≡◌, ℕ, Bool, true, false, List, Option, Some, option_map, Ok}
+use Rattle.std.specs.FinMap.{empty, get}
+use Rattle.draft_core.specs.Transaction.{Draft, TimingSide}
+use Rattle.office_files.specs.Changes.{changes_of}
+use Rattle.office_desk.specs.StandFor.{StandForSound}
+use Rattle.office_machine.specs.Office.{Intersection, Office}
+use Rattle.office_tables_shelf.specs.Content.{Content}
+use Rattle.signal_office_commands.specs.Standing.{TellsSame, base_from}
+use Rattle.signal_office_commands.specs.declared.revising.EditMode.{EditMode}
+use Rattle.signal_office_commands.specs.declared.revising.Outcome.{Outcome}
+use Rattle.signal_office_commands.specs.declared.revising.Outcome.TheVariants.{Open, Same, Committed}
+use Rattle.signal_records.specs.TimingSet.{Rows, after_changes}
+use Rattle.signal_records.specs.declared.record.Change.{Change}
+
+-- the draft as a set, where a clerk holds one
+abbrev pub draft_set : TimingSide → Option Rows
+draft_set side = option_map (λ (d : Draft). d.set) side.draft
+
+-- what a transaction goes on with
+abbrev pub base_at : TimingSide → Rows
+base_at side = base_from side.committed (draft_set side)
+
+-- the plan that a file asks for: its own, where it is the whole plan; else what it makes of what stood
+abbrev pub plan_wanted : (replace : Bool) → Rows → List Change → Rows
+plan_wanted true base asked = after_changes empty asked
+plan_wanted false base asked = after_changes base asked
+
+-- the plan that is left: the draft that stays open, or the committed set
+abbrev pub plan_left : Outcome → TimingSide → Option Rows
+plan_left Open side = draft_set side
+plan_left Same side = Some side.committed
+plan_left Committed side = Some side.committed
+
+abbrev pub is_same : Outcome → Bool
+is_same Same = true
+is_same other = false
+
+-- that nothing changes is told exactly where a commit is asked for and the plan is the committed set
+abbrev pub TellsNoChange : (commit : Bool) → (committed wanted : Rows) → (told : Bool) → Type 0
+TellsNoChange false committed wanted told = told ≡ false
+TellsNoChange true committed wanted told = TellsSame committed wanted told
+
+-- of one office: what its intersection had, and has after it
+pub record LeftPlan (bytes : List ℕ) (id : ℕ) (mode : EditMode) (before : Office) (new : Content) (outcome : Outcome) : Type 0 where
+  pub asked : List Change
+  pub spelled : changes_of bytes ≡ Ok asked
+  pub was : Intersection
+  pub there : get before.intersections id ≡ Some was
+  pub after : Office
+  pub stands : StandForSound new after
+  pub is : Intersection
+  pub still : get after.intersections id ≡ Some is
+  pub left : plan_left outcome is.timing ≡ Some (plan_wanted mode.replace (base_at was.timing) asked)
+  pub told : TellsNoChange mode.commit was.timing.committed (plan_wanted mode.replace (base_at was.timing) asked) (is_same outcome)
+
+-- THE PLAN THAT IS LEFT is the one that the file asks for, whichever sound office the old tables stood for.
+abbrev pub LeavesPlan : List ℕ → ℕ → EditMode → Outcome → Content → Content → Type 0
+LeavesPlan bytes id mode outcome old new = (before : Office) → StandForSound old before → LeftPlan bytes id mode before new outcome
