@@ -1,6 +1,7 @@
 -- What a run does, from what was found in its words.
 use Rattle.std.proofs.Common.{◌≡◌, ℕ, List, [], Ok, Err, Some, true, subst, sym}
 use Rattle.std.specs.Prelude.{IfErr, IfOk, Result, is_some}
+use Rattle.std.specs.Borrow.{Bor}
 use Rattle.clap.specs.Simple.{subcommand_of}
 use Rattle.clap.specs.Takes.{takes}
 use Rattle.clap.specs.Walk.{Text}
@@ -26,7 +27,7 @@ pub printed_so : {Left : Type 0} (files : OfficeFiles Left) (job is : Asked) (st
 printed_so files job is start end result same it = subst (λ (x : Asked). Printed files x start end result) (sym same) it
 
 -- what is found is what the words ask for
-pub found_in : (words : List Text) (found : Result Job JobFault) → IfOk found (λ job. clap_refusals words ≡ [])
+pub found_in : (words : List Text) (found : Result (Job (Bor Text)) JobFault) → IfOk found (λ job. clap_refusals words ≡ [])
     → IfOk found (λ job. job_in (subcommand_of signal_app words) ≡ Some (asked job))
     → IfErr found (λ why. IsRefusedBy (refusals_of words) why)
     → IfErr found (λ why. takes signal_app words ≡ true → is_some (job_in (subcommand_of signal_app words)) ≡ true → why ≡ NoMemory)

@@ -8,7 +8,7 @@ use Rattle.signal_office_commands.specs.Fault.{IsFaultOfQuery}
 use Rattle.signal_office_faults.specs.declared.fault.Fault.{Fault}
 use Rattle.signal_office_faults.specs.declared.fault.Fault.TheVariants as fault
 use Rattle.signal_office_jobs.specs.Shown.{IsFaultOfAll, IsFaultOfOne, IsNotShown, ShowsText}
-use Rattle.signal_office_jobs.specs.declared.task.Shown.{Shown}
+use Rattle.signal_office_line.specs.declared.shows.Shown.{Shown}
 
 module _ {S : Type 0} (g : Ghosts S) (law : (shelf : S) → g.is_honest shelf → g.is_clean shelf) (old new : S) where
   -- what is told on a clean disk of the tables that the shelf held

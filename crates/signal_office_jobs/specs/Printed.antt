@@ -24,7 +24,9 @@ use Rattle.signal_office_faults.specs.declared.fault.Fault.TheVariants as fault
 use Rattle.signal_office_in_file.specs.Ended.{Answers, EndsOver, FileView, file_view, told_by}
 use Rattle.signal_office_in_file.specs.declared.Ended.{Ended}
 use Rattle.signal_office_line.specs.Job.{Asked}
-use Rattle.signal_office_line.specs.Job as job
+use Rattle.signal_office_line.specs.declared.job.Job.TheVariants as job
+use Rattle.signal_office_line.specs.declared.shows.PlanShown.{PlanShown}
+use Rattle.signal_office_line.specs.declared.shows.PlanShown.TheVariants as plan
 use Rattle.signal_reasons.specs.Texts.{explained_text_of}
 use Rattle.signal_reasons.specs.declared.reason.Explained.{Explained}
 use Rattle.signal_rules.specs.declared.violation.Violation.{Violation}
@@ -34,8 +36,8 @@ use Rattle.signal_office_jobs.specs.Printing.{InFoundFile, InNewFile, Looking, M
 use Rattle.signal_office_jobs.specs.Shown.{ShowsAs}
 use Rattle.signal_office_jobs.specs.Tasks.{AbandonsAs, AddsAs, ComparesAs, EditsBy, ImportsAs, ServesAs}
 use Rattle.signal_office_jobs.specs.declared.done.Done.{Done}
-use Rattle.signal_office_jobs.specs.declared.task.Shown.{Shown}
-use Rattle.signal_office_jobs.specs.declared.task.Shown.TheVariants as shown
+use Rattle.signal_office_line.specs.declared.shows.Shown.{Shown}
+use Rattle.signal_office_line.specs.declared.shows.Shown.TheVariants as shown
 
 -- what is known of the files of offices, and of the migration of one
 pub record OfficeFiles (Left : Type 0) : Type 1 where
@@ -90,29 +92,25 @@ ServesNew port count start end result =
 abbrev pub IsNoPlan : (csv : List ℕ) → Fault → Type 0
 IsNoPlan csv why = (cause : CsvFault) × (why ≡ fault.Csv cause) × (cause ≢ file.NoMemory → changes_of csv ≡ Err cause)
 
--- its violations, or with their reasons, and the status that tells whether there are any; or its first bad record
-abbrev pub Checks : (explain : Bool) → (csv : List ℕ) → Result Done Fault → Type 0
-Checks explain csv (Err why) = why ≢ fault.Memory → IsNoPlan csv why
-Checks false csv (Ok done) =
-    (found : List Violation) × AreOfPlan csv found × (text_of done ≡ violations_text found) × (status_of done ≡ checked_status found)
-Checks true csv (Ok done) =
-    (found : List Explained) × ExplainsPlan csv found × (text_of done ≡ explained_text_of found) × (status_of done ≡ explained_status found)
-
 -- what it and another differ in, and the status that tells whether they do; or the first bad record
 abbrev pub Compares : (csv : Bool) → (first second : List ℕ) → Result Done Fault → Type 0
 Compares csv first second (Ok done) =
     (found : List Difference) × ComparesFiles first second found × (text_of done ≡ compared_text csv found) × (status_of done ≡ compared_status found)
 Compares csv first second (Err why) = why ≢ fault.Memory → IsFirstBad first second why
 
--- the picture of a pattern; or the first bad record, or that the plan lacks the pattern
-abbrev pub DrawsPlan : (pattern : ℕ) → (csv : List ℕ) → Result Done Fault → Type 0
-DrawsPlan pattern csv (Ok done) = DrawsFile csv pattern (text_of done) × (status_of done ≡ 0)
-DrawsPlan pattern csv (Err why) = why ≢ fault.Memory → DrawsNoFile csv pattern why
-
--- its page, or the first bad record
-abbrev pub PagesPlan : (csv : List ℕ) → Result Done Fault → Type 0
-PagesPlan csv (Ok done) = IsPageOfFile csv (text_of done) × (status_of done ≡ 0)
-PagesPlan csv (Err why) = why ≢ fault.Memory → IsNoPlan csv why
+-- What is shown of it, or why it is not. Its violations, or those with their reasons, and the status that tells whether there are any.
+abbrev pub ShowsPlan : PlanShown → (csv : List ℕ) → Result Done Fault → Type 0
+ShowsPlan (plan.Violations false) csv (Ok done) =
+    (found : List Violation) × AreOfPlan csv found × (text_of done ≡ violations_text found) × (status_of done ≡ checked_status found)
+ShowsPlan (plan.Violations true) csv (Ok done) =
+    (found : List Explained) × ExplainsPlan csv found × (text_of done ≡ explained_text_of found) × (status_of done ≡ explained_status found)
+ShowsPlan (plan.Violations explain) csv (Err why) = why ≢ fault.Memory → IsNoPlan csv why
+-- the picture of a pattern; or also that the plan lacks the pattern
+ShowsPlan (plan.Diagram pattern) csv (Ok done) = DrawsFile csv pattern (text_of done) × (status_of done ≡ 0)
+ShowsPlan (plan.Diagram pattern) csv (Err why) = why ≢ fault.Memory → DrawsNoFile csv pattern why
+-- its page
+ShowsPlan plan.Page csv (Ok done) = IsPageOfFile csv (text_of done) × (status_of done ≡ 0)
+ShowsPlan plan.Page csv (Err why) = why ≢ fault.Memory → IsNoPlan csv why
 
 -- ---- the jobs
 
@@ -126,37 +124,29 @@ all_intersections = 9_999
 
 -- WHAT IS PRINTED for each job; the answers of `batch` are said by `JobDoes`.
 abbrev pub Printed : {Left : Type 0} → OfficeFiles Left → Asked → Output
-Printed files (job.batch db) start end result = ⊥
-Printed files (job.serve port count None) start end result = ServesNew port count start end result
-Printed files (job.serve port count (Some db)) start end result = InNewFile files.view (ServesAs port count) start end result
-Printed files (job.add db id interval name) start end result =
-    Naming 120 name fault.Name (InNewFile files.view (Silent (AddsAs id interval name))) start end result
-Printed files (job.list db csv) start end result = Shows files.view (shown.List csv) start end result
-Printed files (job.stock db csv) start end result = Shows files.view (shown.Stock csv) start end result
-Printed files (job.orders db id) start end result = Shows files.view (shown.Orders id) start end result
-Printed files (job.cabinet db id) start end result = Shows files.view (shown.Cabinet id) start end result
-Printed files (job.sheet db id) start end result = Shows files.view (shown.Sheet id) start end result
-Printed files (job.overdue db first day) start end result =
+Printed files (job.Batch db) start end result = ⊥
+Printed files (job.Serve port count None) start end result = ServesNew port count start end result
+Printed files (job.Serve port count (Some db)) start end result = InNewFile files.view (ServesAs port count) start end result
+Printed files (job.Show db it) start end result = Shows files.view it start end result
+Printed files (job.Overdue db first day) start end result =
     OnDay day (λ on. Shows files.view (shown.Overdue on (unwrap_or first all_intersections))) start end result
-Printed files (job.verify_file csv explain) start end result = Reading (λ plan. Made (Checks explain plan)) start end result
-Printed files (job.migrate db) start end result = MigratesFile files.view files.migrated start end result
-Printed files (job.import_records db csv) start end result =
+Printed files (job.Add db id interval name) start end result =
+    Naming 120 name fault.Name (InNewFile files.view (Silent (AddsAs id interval name))) start end result
+Printed files (job.Migrate db) start end result = MigratesFile files.view files.migrated start end result
+Printed files (job.Import db csv) start end result =
     Reading (λ records. InNewFile files.view (Silent (ImportsAs records))) start end result
-Printed files (job.export db id what) start end result = Shows files.view (shown.Export id what) start end result
-Printed files (job.edit db clerk id csv commit explain) start end result =
-    Naming 40 clerk fault.Clerk (Reading (λ plan. InFoundFile files.view (Silent (EditsBy plan id clerk commit explain)))) start end result
-Printed files (job.abandon db clerk id) start end result =
+Printed files (job.Edit e) start end result =
+    Naming 40 e.clerk fault.Clerk
+    (Reading (λ plan. InFoundFile files.view (Silent (EditsBy plan e.id e.clerk e.commit e.explain)))) start end result
+Printed files (job.Abandon db clerk id) start end result =
     Naming 40 clerk fault.Clerk (InFoundFile files.view (Silent (AbandonsAs id clerk))) start end result
-Printed files (job.compare_files first second csv) start end result =
+Printed files (job.CompareDraft db id csv) start end result = InFoundFile files.view (Looking (ComparesAs id csv)) start end result
+Printed files (job.CompareFiles first second csv) start end result =
     Reading (λ plan. Reading (λ other. Made (Compares csv plan other))) start end result
-Printed files (job.compare_draft db id csv) start end result = InFoundFile files.view (Looking (ComparesAs id csv)) start end result
-Printed files (job.diagram db id pattern) start end result = Shows files.view (shown.Diagram id pattern) start end result
-Printed files (job.diagram_file csv pattern) start end result = Reading (λ plan. Made (DrawsPlan pattern plan)) start end result
-Printed files (job.page db id) start end result = Shows files.view (shown.Page id) start end result
-Printed files (job.page_file csv) start end result = Reading (λ plan. Made (PagesPlan plan)) start end result
+Printed files (job.ShowPlan csv it) start end result = Reading (λ plan. Made (ShowsPlan it plan)) start end result
 
 -- what each job does: the input is read by `batch` alone
 abbrev pub JobDoes : {Left : Type 0} → OfficeFiles Left → Asked → Run
-JobDoes files (job.batch None) start end result = BatchInMemory start end result
-JobDoes files (job.batch (Some db)) start end result = BatchOver files.view start end result
+JobDoes files (job.Batch None) start end result = BatchInMemory start end result
+JobDoes files (job.Batch (Some db)) start end result = BatchOver files.view start end result
 JobDoes files other start end result = (end.source ≡ start.source) × Printed files other start.sink end.sink result

@@ -1,5 +1,6 @@
 -- What a run of the program does: the words, what is found in them, and how it ends.
 use Rattle.std.specs.Prelude.{◌≡◌, ◌⊎◌, ℕ, true, is_some, List, [], Some, Result, Ok, Err}
+use Rattle.std.specs.Borrow.{Bor}
 use Rattle.clap.specs.Simple.{subcommand_of}
 use Rattle.clap.specs.Takes.{takes}
 use Rattle.clap.specs.Values.{kind_of}
@@ -23,7 +24,7 @@ use Rattle.signal_office_jobs.specs.Printed.{JobDoes, OfficeFiles}
 use Rattle.signal_office_jobs.specs.Printing.{Prints}
 
 -- what was found, as the words have it
-abbrev pub job_asked : Result Job JobFault → Result Asked JobFault
+abbrev pub job_asked : Result (Job (Bor Text)) JobFault → Result Asked JobFault
 job_asked (Ok job) = Ok (asked job)
 job_asked (Err why) = Err why
 

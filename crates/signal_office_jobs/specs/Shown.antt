@@ -20,11 +20,11 @@ use Rattle.signal_office_commands.specs.Sheet.{IsSheetOf}
 use Rattle.signal_office_commands.specs.Showing.{ShowsTiming, ShowsDraft, ShowsCabinet}
 use Rattle.signal_office_faults.specs.declared.fault.Fault.{Fault}
 use Rattle.signal_office_faults.specs.declared.fault.Fault.TheVariants as fault
-use Rattle.signal_office_line.specs.declared.job.View.TheVariants as view
+use Rattle.signal_office_line.specs.declared.shows.View.TheVariants as view
 use Rattle.signal_office_jobs.specs.Done.{status_of, text_of}
 use Rattle.signal_office_jobs.specs.declared.done.Done.{Done}
-use Rattle.signal_office_jobs.specs.declared.task.Shown.{Shown}
-use Rattle.signal_office_jobs.specs.declared.task.Shown.TheVariants as shown
+use Rattle.signal_office_line.specs.declared.shows.Shown.{Shown}
+use Rattle.signal_office_line.specs.declared.shows.Shown.TheVariants as shown
 
 -- this holds of each sound office that the tables stand for
 abbrev pub OfOffice : Content → (Office → Type 0) → Type 0

@@ -11,13 +11,13 @@ ghost use Rattle.signal_office_jobs.specs.Tasks.{AbandonsAs, AddsAs, EditsBy, Im
 ghost use Rattle.signal_office_jobs.specs.Tasks.{TaskDoes, makes_file};
 
 use crate::done::{Done, joined, migrated, print_done};
-use crate::task::{Shown, Task};
+use crate::task::Task;
 use cabinet_core::{Day, read_day};
 use office_http::Sink;
 use signal_office_commands::Fault;
 use signal_office_faults::{is_missing, read_file};
 use signal_office_in_file::OfficeInFile;
-use signal_office_line::Edit;
+use signal_office_line::{Edit, Shown};
 use signal_records::{InterId, Interval, Words};
 use std::alloc::Global;
 
@@ -161,7 +161,7 @@ pub(crate) fn import<F: OfficeInFile, W: Sink>(
 fn edit_by<F: OfficeInFile, W: Sink>(
     rt: &HostRuntime,
     alloc: Global,
-    edit: &Edit<'_>,
+    edit: &Edit<&str>,
     clerk: &Words<40>,
     out: &mut W,
 ) -> Result<u8, Fault>
@@ -186,7 +186,7 @@ fn edit_by<F: OfficeInFile, W: Sink>(
 pub(crate) fn edit_plan<F: OfficeInFile, W: Sink>(
     rt: &HostRuntime,
     alloc: Global,
-    edit: &Edit<'_>,
+    edit: &Edit<&str>,
     out: &mut W,
 ) -> Result<u8, Fault>
     ensures { let view = file_view F.held F.is_clean F.keeps F.refused in

@@ -2,7 +2,7 @@
 
 ghost use Rattle.std.specs.Prelude.{◌≡◌, map, option_map};
 ghost use Rattle.office_http_framing.specs.Serve.{ends_of};
-ghost use Rattle.signal_office_line.specs.Job.{asked, batch, serve};
+ghost use Rattle.signal_office_line.specs.Job.{asked};
 ghost use Rattle.signal_office_jobs.specs.Printed.{JobDoes, Printed, ServesNew, office_files};
 ghost use Rattle.signal_office_jobs.specs.Printed.{status_over, stream_status};
 ghost use Rattle.signal_office_jobs.specs.Runs.{DoesFound, EndsWith, RunsWords, ShowsRefusal};
@@ -12,14 +12,13 @@ ghost use Rattle.signal_office_jobs.specs.Printing.{Prints};
 use crate::done::print_done;
 use crate::in_file::{abandon, add, edit_plan, import, in_file, migrate, overdue, show_of};
 use crate::memory::{open_in_memory, serve_new_office};
-use crate::plans::{compare_plans, draw_plan, page_plan, verify_file};
+use crate::plans::{compare_plans, show_plan};
 use crate::task;
-use crate::task::{Shown, Task};
+use crate::task::Task;
 use office_http::{ServeFault, Served, Sink, Source, write_all};
 use signal_office_commands::{Fault, report};
 use signal_office_in_file::OfficeInFile;
-use signal_office_line::{Job, JobFault, Plan, Plans, job_of};
-use signal_records::PatternNo;
+use signal_office_line::{Job, JobFault, job_of};
 use std::alloc::Global;
 
 /// The most requests of one run of `batch`.
@@ -57,7 +56,7 @@ fn batch<F: OfficeInFile, R: Source, W: Sink>(
     out: &mut W,
 ) -> Result<u8, Fault>
     ensures { let files = office_files F.held F.is_clean F.keeps F.refused F.migrated in
-        JobDoes files (batch (option_map (λ path. path.now) db.now))
+        JobDoes files (Job.Batch (option_map (λ path. path.now) db.now))
         (ends_of (R.told source.old) (W.told out.old))
         (ends_of (R.told source.new) (W.told out.new)) result }
 {
@@ -93,7 +92,7 @@ fn serve<F: OfficeInFile, W: Sink>(
     out: &mut W,
 ) -> Result<u8, Fault>
     ensures { Printed (office_files F.held F.is_clean F.keeps F.refused F.migrated)
-        (serve port count (option_map (λ path. path.now) db.now)) (W.told out.old)
+        (Job.Serve port count (option_map (λ path. path.now) db.now)) (W.told out.old)
         (W.told out.new) result }
 {
     match db {
@@ -102,65 +101,11 @@ fn serve<F: OfficeInFile, W: Sink>(
     }
 }
 
-/// Prints what two plans differ in.
-fn compare<F: OfficeInFile, W: Sink>(
-    rt: &HostRuntime,
-    alloc: Global,
-    plans: &Plans<'_>,
-    csv: bool,
-    out: &mut W,
-) -> Result<u8, Fault>
-    ensures { Printed (office_files F.held F.is_clean F.keeps F.refused F.migrated)
-        (asked (Job.Compare plans.now csv)) (W.told out.old) (W.told out.new) result }
-{
-    match plans {
-        Plans::Draft { db, id } => {
-            in_file::<F, W>(rt, alloc, db, &Task::Compare { id: *id, csv }, out)
-        }
-        Plans::Files { first, second } => compare_plans(rt, alloc, first, second, csv, out),
-    }
-}
-
-/// Prints the picture of a pattern.
-fn diagram<F: OfficeInFile, W: Sink>(
-    rt: &HostRuntime,
-    alloc: Global,
-    plan: &Plan<'_>,
-    pattern: PatternNo,
-    out: &mut W,
-) -> Result<u8, Fault>
-    ensures { Printed (office_files F.held F.is_clean F.keeps F.refused F.migrated)
-        (asked (Job.Diagram plan.now pattern)) (W.told out.old) (W.told out.new) result }
-{
-    match plan {
-        Plan::Committed { db, id } => {
-            show_of::<F, W>(rt, alloc, db, Shown::Diagram { id: *id, pattern }, out)
-        }
-        Plan::File { csv } => draw_plan(rt, alloc, csv, pattern, out),
-    }
-}
-
-/// Prints the page of an intersection, or of a plan alone.
-fn page<F: OfficeInFile, W: Sink>(
-    rt: &HostRuntime,
-    alloc: Global,
-    plan: &Plan<'_>,
-    out: &mut W,
-) -> Result<u8, Fault>
-    ensures { Printed (office_files F.held F.is_clean F.keeps F.refused F.migrated)
-        (asked (Job.Page plan.now)) (W.told out.old) (W.told out.new) result }
-{
-    match plan {
-        Plan::Committed { db, id } => show_of::<F, W>(rt, alloc, db, Shown::Page { id: *id }, out),
-        Plan::File { csv } => page_plan(rt, alloc, csv, out),
-    }
-}
-
 /// Does a job, and gives the status.
 fn run_job<F: OfficeInFile, R: Source, W: Sink>(
     rt: &HostRuntime,
     alloc: Global,
-    job: &Job<'_>,
+    job: &Job<&str>,
     source: &mut R,
     out: &mut W,
 ) -> Result<u8, Fault>
@@ -171,7 +116,7 @@ fn run_job<F: OfficeInFile, R: Source, W: Sink>(
     match job {
         Job::Batch { db } => batch::<F, R, W>(rt, alloc, db, source, out),
         Job::Serve { port, count, db } => serve::<F, W>(rt, alloc, *port, *count, db, out),
-        Job::Sheet { db, id } => show_of::<F, W>(rt, alloc, db, Shown::Sheet { id: *id }, out),
+        Job::Show { db, shown } => show_of::<F, W>(rt, alloc, db, *shown, out),
         Job::Overdue { db, first, day } => overdue::<F, W>(rt, alloc, db, *first, day, out),
         Job::Add {
             db,
@@ -179,22 +124,17 @@ fn run_job<F: OfficeInFile, R: Source, W: Sink>(
             interval,
             name,
         } => add::<F, W>(rt, alloc, db, *id, *interval, name, out),
-        Job::List { db, csv } => show_of::<F, W>(rt, alloc, db, Shown::List { csv: *csv }, out),
-        Job::Stock { db, csv } => show_of::<F, W>(rt, alloc, db, Shown::Stock { csv: *csv }, out),
-        Job::Orders { db, id } => show_of::<F, W>(rt, alloc, db, Shown::Orders { id: *id }, out),
-        Job::Cabinet { db, id } => show_of::<F, W>(rt, alloc, db, Shown::Cabinet { id: *id }, out),
-        Job::VerifyFile { csv, explain } => verify_file(rt, alloc, csv, *explain, out),
         Job::Migrate { db } => migrate::<F, W>(rt, alloc, db, out),
         Job::Import { db, csv } => import::<F, W>(rt, alloc, db, csv, out),
-        Job::Export { db, id, view } => {
-            let (id, view) = (*id, *view);
-            show_of::<F, W>(rt, alloc, db, Shown::Export { id, view }, out)
-        }
         Job::Edit(edit) => edit_plan::<F, W>(rt, alloc, edit, out),
         Job::Abandon { db, clerk, id } => abandon::<F, W>(rt, alloc, db, clerk, *id, out),
-        Job::Compare { plans, csv } => compare::<F, W>(rt, alloc, plans, *csv, out),
-        Job::Diagram { plan, pattern } => diagram::<F, W>(rt, alloc, plan, *pattern, out),
-        Job::Page { plan } => page::<F, W>(rt, alloc, plan, out),
+        Job::CompareDraft { db, id, csv } => {
+            in_file::<F, W>(rt, alloc, db, &Task::Compare { id: *id, csv: *csv }, out)
+        }
+        Job::CompareFiles { first, second, csv } => {
+            compare_plans(rt, alloc, first, second, *csv, out)
+        }
+        Job::ShowPlan { csv, shown } => show_plan(rt, alloc, csv, *shown, out),
     }
 }
 
@@ -230,7 +170,7 @@ fn show<W: Sink, E: Sink>(
 fn do_found<F: OfficeInFile, R: Source, W: Sink, E: Sink>(
     rt: &HostRuntime,
     alloc: Global,
-    found: &Result<Job<'_>, JobFault>,
+    found: &Result<Job<&str>, JobFault>,
     source: &mut R,
     out: &mut W,
     err: &mut E,

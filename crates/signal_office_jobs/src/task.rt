@@ -9,7 +9,6 @@ ghost use Rattle.signal_office_commands.specs.Showing.{ShowsDraft};
 
 use crate::done::Done;
 use crate::serving::serve_port;
-use cabinet_core::Day;
 use office_desk::office::Office;
 use office_files::violation_text;
 use office_http::Sink;
@@ -20,33 +19,10 @@ use signal_office_commands::{
     overdue_of, page_of, sheet_of, stock_of, timing_csv_of,
 };
 use signal_office_in_file::OfficeTask;
-use signal_office_line::View;
+use signal_office_line::{Shown, View};
 use signal_reasons::explained_text;
-use signal_records::{InterId, Interval, PatternNo, Words};
+use signal_records::{InterId, Interval, Words};
 use std::alloc::Global;
-
-/// What is printed of an office, which stays as it is.
-#[derive(Clone, Copy)]
-pub enum Shown {
-    /// The timing sheet of an intersection.
-    Sheet { id: InterId },
-    /// The report of the intersections that are overdue on a day, at most so many.
-    Overdue { day: Day, most: usize },
-    /// All intersections, as a text or as CSV.
-    List { csv: bool },
-    /// What is on hand of each part, as a text or as CSV.
-    Stock { csv: bool },
-    /// The open orders of an intersection, or of all.
-    Orders { id: Option<InterId> },
-    /// The register of an intersection's cabinet.
-    Cabinet { id: InterId },
-    /// What is kept of an intersection, as CSV.
-    Export { id: InterId, view: View },
-    /// A pattern of an intersection's committed timing set.
-    Diagram { id: InterId, pattern: PatternNo },
-    /// The page of an intersection.
-    Page { id: InterId },
-}
 
 /// What an office over the tables of a file is opened for.
 #[derive(Clone, Copy)]

@@ -4,7 +4,8 @@ use Rattle.std.proofs.Common.{get_or, length, refl, sym, ap, ap₂, subst, ◌�
 use Rattle.std.proofs.lemmas.List.{map-append, take_more}
 use Rattle.clap.specs.{declared.builder.command.Command.Command, declared.builder.arg.Arg.Arg, Walk.Rule, Walk.rule_of, Simple.App}
 use Rattle.clap.specs.{Simple.with_rule, Simple.with_subcommand, Built.AddsArg, Built.AddsSubcommand}
-use Rattle.signal_office_line.specs.{Arguments.rule_for, CommandLine.Reads, CommandLine.with_rules, declared.arguments.Argument.Argument}
+use Rattle.signal_office_line.specs.{Arguments.app_for, Arguments.rule_for, CommandLine.Reads, CommandLine.with_rules, CommandLine.with_subcommands}
+use Rattle.signal_office_line.specs.{declared.arguments.Argument.Argument, declared.arguments.Usage.Usage}
 
 neither : (x y z : Bool) → x ≡ (y || z) → y ≡ false → z ≡ false → x ≡ false
 neither x y z e f g = rw (f, g) at e
@@ -39,3 +40,20 @@ Reads-more c app arguments i none low reads =
     (sym (ap (λ (xs : List Argument). with_rules app (map rule_for xs)) (take_more arguments i none low)
     ∙ ap (with_rules app) (map-append rule_for (take i arguments) (next ∷ []))
     ∙ with_rules-more app (map rule_for (take i arguments)) (rule_for next))) reads
+
+with_subcommands-more : (app : App) (subs : List App) (sub : App)
+    → with_subcommands app (subs ++ sub ∷ []) ≡ with_subcommand (with_subcommands app subs) sub.top
+with_subcommands-more app [] sub = refl
+with_subcommands-more app (first ∷ subs) sub = with_subcommands-more (with_subcommand app first.top) subs sub
+
+-- the next of some commands
+pub Reads-next : (c : Command) (app : App) (commands : List Usage) (i : ℕ) (none : Usage)
+    → i < length commands
+    → Reads c (with_subcommand (with_subcommands app (map app_for (take i commands))) (app_for (get_or commands i none)).top)
+    → Reads c (with_subcommands app (map app_for (take (i + 1) commands)))
+Reads-next c app commands i none low reads =
+    let next = get_or commands i none in
+    subst (Reads c)
+    (sym (ap (λ (xs : List Usage). with_subcommands app (map app_for xs)) (take_more commands i none low)
+    ∙ ap (with_subcommands app) (map-append app_for (take i commands) (next ∷ []))
+    ∙ with_subcommands-more app (map app_for (take i commands)) (app_for next))) reads

@@ -1,6 +1,7 @@
 -- Why a command line states no job.
 use Rattle.std.specs.Prelude.{◌≡◌, ◌≢◌, ◌⊎◌, ⊤, List, [], ◌∷◌, Option, Some, None, option_map}
 use Rattle.std.specs.Prelude.{Result, Ok, Err}
+use Rattle.std.specs.Borrow.{Bor}
 use Rattle.std.specs.declared.alloc.AllocError.{AllocError}
 use Rattle.clap.specs.Faults.{fault_of}
 use Rattle.clap.specs.Kinds.{IsAmong, Kinds, or_else}
@@ -44,7 +45,7 @@ IsToldAs error fault =
 
 -- what is told of the words, by what `clap` answered to them: the job that its command states, if
 -- any, or its refusal
-abbrev pub IsJudged : Result ArgMatches Error → Result (Option Job) JobFault → Type 0
+abbrev pub IsJudged : Result ArgMatches Error → Result (Option (Job (Bor Text))) JobFault → Type 0
 IsJudged (Ok matches) (Ok found) = option_map asked found ≡ job_in (subcommand_rows_of matches)
 IsJudged (Err error) (Err fault) = IsToldAs error fault
 IsJudged (Ok matches) (Err fault) = ⊥

@@ -1,10 +1,10 @@
 //! The arguments that commands take, and how `clap` is told of them.
 
 ghost use Rattle.std.specs.Prelude.{◌≡◌, IfOk, false, map};
-ghost use Rattle.clap.specs.Simple.{App, new_app, with_subcommand};
+ghost use Rattle.clap.specs.Simple.{App, with_subcommand};
 ghost use Rattle.clap.specs.Walk.{rule_of};
-ghost use Rattle.signal_office_line.specs.CommandLine.{Reads, with_rules};
-ghost use Rattle.signal_office_line.specs.Arguments.{rule_for};
+ghost use Rattle.signal_office_line.specs.CommandLine.{Reads, with_subcommands};
+ghost use Rattle.signal_office_line.specs.Arguments.{app_for, rule_for};
 
 use clap::{Arg, ArgAction, Command};
 use std::alloc::{AllocError, Global};
@@ -46,6 +46,10 @@ pub(crate) enum Form<'a> {
 #[derive(Clone, Copy)]
 pub(crate) struct Argument<'a>(pub &'a str, pub Form<'a>, pub &'a str);
 
+/// A command: its name, what the help says of it, and its arguments in their order.
+#[derive(Clone, Copy)]
+pub(crate) struct Usage<'a>(pub &'a str, pub &'a str, pub &'a [Argument<'a>]);
+
 /// An argument as `clap` takes it.
 fn arg_of<'a>(alloc: Global, argument: &Argument<'a>) -> Arg<'a>
     ensures rule { rule_of result ≡ rule_for argument.now }
@@ -62,16 +66,11 @@ fn arg_of<'a>(alloc: Global, argument: &Argument<'a>) -> Arg<'a>
     }
 }
 
-/// The command of a name, with what its help says of it, and its arguments in their order.
-pub(crate) fn command_of<'a>(
-    alloc: Global,
-    name: &'a str,
-    about: &'a str,
-    arguments: &[Argument<'a>],
-) -> Result<Command<'a>, AllocError>
-    ensures { IfOk result (λ c. Reads c
-        (with_rules (new_app name.entry.now) (map rule_for arguments.now))) }
+/// A command as `clap` takes it.
+fn command_of<'a>(alloc: Global, usage: &Usage<'a>) -> Result<Command<'a>, AllocError>
+    ensures { IfOk result (λ c. Reads c (app_for usage.now)) }
 {
+    let Usage(name, about, arguments) = *usage;
     let mut command = Command::new(alloc, name).about(about);
     for argument in arguments {
         command = command.arg(arg_of(alloc, argument))?;
@@ -80,7 +79,7 @@ pub(crate) fn command_of<'a>(
 }
 
 /// The program with one command more. It alone lets commands go, where memory runs out.
-pub(crate) fn with_command<'a>(
+fn with_command<'a>(
     program: Result<Command<'a>, AllocError>,
     command: Result<Command<'a>, AllocError>,
 ) -> Result<Command<'a>, AllocError>
@@ -89,4 +88,20 @@ pub(crate) fn with_command<'a>(
         IfOk result (λ c. Reads c (with_subcommand app inner.top)) }
 {
     program?.subcommand(command?)
+}
+
+/// The program with these commands more, in their order.
+pub(crate) fn with_commands<'a>(
+    alloc: Global,
+    program: Command<'a>,
+    commands: &[Usage<'a>],
+) -> Result<Command<'a>, AllocError>
+    ensures { (app : App) → Reads program.entry app →
+        IfOk result (λ c. Reads c (with_subcommands app (map app_for commands.now))) }
+{
+    let mut program = program;
+    for usage in commands {
+        program = with_command(Ok(program), command_of(alloc, usage))?;
+    }
+    Ok(program)
 }

@@ -12,148 +12,92 @@ ghost use Rattle.signal_office_line.specs.Refusals.{clap_refusals, refusals_of};
 
 use crate::command_line::command_line;
 use crate::jobs::job_at;
+use crate::shows::{PlanShown, Shown};
 use clap::error::ErrorKind;
 use clap::{ArgMatches, Error};
-use signal_values::{InterId, Interval, PatternNo};
+use signal_values::{InterId, Interval};
 use std::alloc::{AllocError, Global};
-
-/// What of an intersection is exported as CSV.
-#[derive(Clone, Copy)]
-pub enum View {
-    /// Its committed timing set.
-    Timing,
-    /// The draft of its timing set.
-    Draft,
-    /// Its cabinet.
-    Cabinet,
-}
 
 /// An edit of an intersection's plan by a CSV file, in a transaction of a clerk. The draft is
 /// committed where that is asked, and its violations are printed with
 /// their reasons where that is.
 #[derive(Clone, Copy)]
-pub struct Edit<'a> {
-    pub db: &'a str,
-    pub clerk: &'a str,
+pub struct Edit<T> {
+    pub db: T,
+    pub clerk: T,
     pub id: InterId,
-    pub csv: &'a str,
+    pub csv: T,
     pub commit: bool,
     pub explain: bool,
 }
 
-/// Two plans that are compared.
+/// What the words ask the program to do. A word `T` that names a file, a clerk, an intersection or
+/// a day may name none: a job that reads such a word, or a file, before it opens the office's is a
+/// variant of its own, as is one that writes or tells by its status.
 #[derive(Clone, Copy)]
-pub enum Plans<'a> {
-    /// Those in two CSV files.
-    Files { first: &'a str, second: &'a str },
-    /// The committed timing set of an intersection, and its draft.
-    Draft { db: &'a str, id: InterId },
-}
-
-/// A plan that is drawn, or shown as a page.
-#[derive(Clone, Copy)]
-pub enum Plan<'a> {
-    /// That of an intersection: to be drawn, its committed timing set.
-    Committed { db: &'a str, id: InterId },
-    /// That in a CSV file.
-    File { csv: &'a str },
-}
-
-/// What the words ask the program to do. A word that names a file, a clerk, an intersection or a
-/// day may name none.
-#[derive(Clone, Copy)]
-pub enum Job<'a> {
+pub enum Job<T> {
     /// Answer the requests on standard input, over a file or memory.
     Batch {
-        db: Option<&'a str>,
+        db: Option<T>,
     },
     /// Answer so many connections on a port, 1 to 65535. The count is 1 to 1,000,000, the most
     /// where none is given.
     Serve {
         port: u16,
         count: u32,
-        db: Option<&'a str>,
+        db: Option<T>,
     },
-    /// Add an intersection.
-    Add {
-        db: &'a str,
-        id: InterId,
-        interval: Interval,
-        name: &'a str,
-    },
-    /// Print all intersections, as a text or as CSV.
-    List {
-        db: &'a str,
-        csv: bool,
-    },
-    /// Print what is on hand of each part, as a text or as CSV.
-    Stock {
-        db: &'a str,
-        csv: bool,
-    },
-    /// Print the open orders of an intersection, or of all.
-    Orders {
-        db: &'a str,
-        id: Option<InterId>,
-    },
-    /// Print the register of an intersection's cabinet.
-    Cabinet {
-        db: &'a str,
-        id: InterId,
-    },
-    /// Print the timing sheet of an intersection.
-    Sheet {
-        db: &'a str,
-        id: InterId,
+    /// Print what is shown of an office.
+    Show {
+        db: T,
+        shown: Shown,
     },
     /// Print the intersections that are overdue on a day, at most so many, 1 to 9999.
     Overdue {
-        db: &'a str,
+        db: T,
         first: Option<u32>,
-        day: &'a str,
+        day: T,
     },
-    /// Check the plan in a CSV file. Its violations are printed with their reasons where that is
-    /// asked.
-    VerifyFile {
-        csv: &'a str,
-        explain: bool,
+    /// Add an intersection.
+    Add {
+        db: T,
+        id: InterId,
+        interval: Interval,
+        name: T,
     },
     /// Bring the tables of a file to today's version.
     Migrate {
-        db: &'a str,
+        db: T,
     },
     /// Take the records of a CSV file in turn: all of them, or none.
     Import {
-        db: &'a str,
-        csv: &'a str,
-    },
-    /// Print what is kept of an intersection as CSV.
-    Export {
-        db: &'a str,
-        id: InterId,
-        view: View,
+        db: T,
+        csv: T,
     },
     /// Change a plan by a CSV file.
-    Edit(Edit<'a>),
+    Edit(Edit<T>),
     /// Drop the draft of an intersection, whoever holds it.
     Abandon {
-        db: &'a str,
-        clerk: &'a str,
+        db: T,
+        clerk: T,
         id: InterId,
     },
-    /// Print what two plans differ in, as a text or as CSV.
-    Compare {
-        plans: Plans<'a>,
+    /// Print what an intersection's draft changes, as a text or as CSV.
+    CompareDraft {
+        db: T,
+        id: InterId,
         csv: bool,
     },
-    /// Draw a pattern of a plan.
-    Diagram {
-        plan: Plan<'a>,
-        pattern: PatternNo,
+    /// Print what the plans in two CSV files differ in, as a text or as CSV.
+    CompareFiles {
+        first: T,
+        second: T,
+        csv: bool,
     },
-    /// Print the page of an intersection, or of a plan alone.
-    Page {
-        plan: Plan<'a>,
+    /// Print what is shown of the plan in a CSV file.
+    ShowPlan {
+        csv: T,
+        shown: PlanShown,
     },
 }
 
@@ -205,7 +149,7 @@ fn value_refusal(alloc: Global) -> Result<Error, AllocError>
 
 /// What the words ask for, if anything, by what `clap` answered to them. Out of memory is told
 /// exactly where `clap` told it.
-fn judged<'a>(answer: Result<ArgMatches<'a>, Error>) -> Result<Option<Job<'a>>, JobFault>
+fn judged<'a>(answer: Result<ArgMatches<'a>, Error>) -> Result<Option<Job<&'a str>>, JobFault>
     ensures { IsJudged answer.entry result }
 {
     match answer {
@@ -229,7 +173,7 @@ fn value_refused(answer: Result<Error, AllocError>) -> JobFault
 }
 
 /// What the words ask for, the first being the program's name.
-pub fn job_of<'a>(alloc: Global, words: &'a [&'a str]) -> Result<Job<'a>, JobFault>
+pub fn job_of<'a>(alloc: Global, words: &'a [&'a str]) -> Result<Job<&'a str>, JobFault>
     // Words that `clap` refuses state no job.
     ensures taken { IfOk result (λ job.
         clap_refusals (map (λ word. word.now) words.entry.now) ≡ []) }

@@ -3,16 +3,16 @@
 ghost use Rattle.std.specs.Prelude.{◌≡◌, option_map};
 ghost use Rattle.clap.specs.Matches.{found_of};
 ghost use Rattle.clap.specs.Walk.{rows_of};
-ghost use Rattle.signal_office_line.specs.Job.{abandon_at, asked, batch_at, compare_at, diagram_at};
-ghost use Rattle.signal_office_line.specs.Job.{edit_at, export_at, import_at, job_at, migrate_at};
-ghost use Rattle.signal_office_line.specs.Job.{number_at, overdue_at, page_at, serve_at, sheet_at};
-ghost use Rattle.signal_office_line.specs.Job.{verify_file_at, view_of};
+ghost use Rattle.signal_office_line.specs.Job.{abandon_at, add_at, asked, batch_at, compare_at};
+ghost use Rattle.signal_office_line.specs.Job.{diagram_at, edit_at, import_at, job_at, migrate_at};
+ghost use Rattle.signal_office_line.specs.Job.{number_at, overdue_at, page_at, serve_at, show_at};
+ghost use Rattle.signal_office_line.specs.Job.{verify_file_at};
 
-use crate::job::{Edit, Job, Plan, Plans, View};
-use crate::kept::{add, cabinet, list, orders, stock};
+use crate::job::{Edit, Job};
+use crate::shows::{PlanShown, Shown, shown_at};
 use crate::values::{choice, flag, intersection, number, word};
 use clap::ArgMatches;
-use signal_values::PatternNo;
+use signal_values::{Interval, PatternNo};
 
 /// The most connections that a server serves.
 const MOST_CONNECTIONS: u32 = 1_000_000;
@@ -24,8 +24,15 @@ fn pattern(matches: &ArgMatches<'_>, id: &str) -> Option<PatternNo>
     PatternNo::new(number(matches, id, 48)?)
 }
 
+/// The days from one inspection to the next.
+fn interval(matches: &ArgMatches<'_>, id: &str) -> Option<Interval>
+    ensures { result ≡ number_at 3_650 id.now (rows_of (found_of matches.now)) }
+{
+    Interval::new(number(matches, id, 3_650)?)
+}
+
 /// `batch [--db FILE]`.
-fn batch<'a>(matches: &ArgMatches<'a>) -> Option<Job<'a>>
+fn batch<'a>(matches: &ArgMatches<'a>) -> Option<Job<&'a str>>
     ensures { option_map asked result ≡ batch_at (rows_of (found_of matches.entry.now)) }
 {
     let db = word(matches, "db");
@@ -33,7 +40,7 @@ fn batch<'a>(matches: &ArgMatches<'a>) -> Option<Job<'a>>
 }
 
 /// `serve --port N [--count K] [--db FILE]`.
-fn serve<'a>(matches: &ArgMatches<'a>) -> Option<Job<'a>>
+fn serve<'a>(matches: &ArgMatches<'a>) -> Option<Job<&'a str>>
     ensures { option_map asked result ≡ serve_at (rows_of (found_of matches.entry.now)) }
 {
     let port = number(matches, "port", 65_535)? as u16;
@@ -42,17 +49,8 @@ fn serve<'a>(matches: &ArgMatches<'a>) -> Option<Job<'a>>
     Some(Job::Serve { port, count, db })
 }
 
-/// `sheet --db FILE ID`.
-fn sheet<'a>(matches: &ArgMatches<'a>) -> Option<Job<'a>>
-    ensures { option_map asked result ≡ sheet_at (rows_of (found_of matches.entry.now)) }
-{
-    let db = word(matches, "db")?;
-    let id = intersection(matches, "ID")?;
-    Some(Job::Sheet { db, id })
-}
-
 /// `overdue --db FILE [--first N] DAY`.
-fn overdue<'a>(matches: &ArgMatches<'a>) -> Option<Job<'a>>
+fn overdue<'a>(matches: &ArgMatches<'a>) -> Option<Job<&'a str>>
     ensures { option_map asked result ≡ overdue_at (rows_of (found_of matches.entry.now)) }
 {
     let db = word(matches, "db")?;
@@ -61,17 +59,34 @@ fn overdue<'a>(matches: &ArgMatches<'a>) -> Option<Job<'a>>
     Some(Job::Overdue { db, first, day })
 }
 
+/// `add --db FILE ID INTERVAL NAME`.
+fn add<'a>(matches: &ArgMatches<'a>) -> Option<Job<&'a str>>
+    ensures { option_map asked result ≡ add_at (rows_of (found_of matches.entry.now)) }
+{
+    let db = word(matches, "db")?;
+    let id = intersection(matches, "ID")?;
+    let interval = interval(matches, "INTERVAL")?;
+    let name = word(matches, "NAME")?;
+    Some(Job::Add {
+        db,
+        id,
+        interval,
+        name,
+    })
+}
+
 /// `verify-file [--explain] CSV`.
-fn verify_file<'a>(matches: &ArgMatches<'a>) -> Option<Job<'a>>
+fn verify_file<'a>(matches: &ArgMatches<'a>) -> Option<Job<&'a str>>
     ensures { option_map asked result ≡ verify_file_at (rows_of (found_of matches.entry.now)) }
 {
     let csv = word(matches, "CSV")?;
     let explain = flag(matches, "explain");
-    Some(Job::VerifyFile { csv, explain })
+    let shown = PlanShown::Violations { explain };
+    Some(Job::ShowPlan { csv, shown })
 }
 
 /// `migrate --db FILE`.
-fn migrate<'a>(matches: &ArgMatches<'a>) -> Option<Job<'a>>
+fn migrate<'a>(matches: &ArgMatches<'a>) -> Option<Job<&'a str>>
     ensures { option_map asked result ≡ migrate_at (rows_of (found_of matches.entry.now)) }
 {
     let db = word(matches, "db")?;
@@ -79,7 +94,7 @@ fn migrate<'a>(matches: &ArgMatches<'a>) -> Option<Job<'a>>
 }
 
 /// `import --db FILE CSV`.
-fn import<'a>(matches: &ArgMatches<'a>) -> Option<Job<'a>>
+fn import<'a>(matches: &ArgMatches<'a>) -> Option<Job<&'a str>>
     ensures { option_map asked result ≡ import_at (rows_of (found_of matches.entry.now)) }
 {
     let db = word(matches, "db")?;
@@ -87,30 +102,8 @@ fn import<'a>(matches: &ArgMatches<'a>) -> Option<Job<'a>>
     Some(Job::Import { db, csv })
 }
 
-/// What is exported: the committed timing set where no flag asks for something else.
-fn view_of(draft: bool, cabinet: bool) -> Option<View>
-    ensures { result ≡ view_of draft cabinet }
-{
-    match (draft, cabinet) {
-        (false, false) => Some(View::Timing),
-        (true, false) => Some(View::Draft),
-        (false, true) => Some(View::Cabinet),
-        (true, true) => None,
-    }
-}
-
-/// `export --db FILE [--draft] [--cabinet] ID`.
-fn export<'a>(matches: &ArgMatches<'a>) -> Option<Job<'a>>
-    ensures { option_map asked result ≡ export_at (rows_of (found_of matches.entry.now)) }
-{
-    let db = word(matches, "db")?;
-    let id = intersection(matches, "ID")?;
-    let view = view_of(flag(matches, "draft"), flag(matches, "cabinet"))?;
-    Some(Job::Export { db, id, view })
-}
-
 /// `edit --db FILE --clerk NAME [--commit] [--explain] ID CSV`.
-fn edit<'a>(matches: &ArgMatches<'a>) -> Option<Job<'a>>
+fn edit<'a>(matches: &ArgMatches<'a>) -> Option<Job<&'a str>>
     ensures { option_map asked result ≡ edit_at (rows_of (found_of matches.entry.now)) }
 {
     let db = word(matches, "db")?;
@@ -130,7 +123,7 @@ fn edit<'a>(matches: &ArgMatches<'a>) -> Option<Job<'a>>
 }
 
 /// `abandon --db FILE --clerk NAME ID`.
-fn abandon<'a>(matches: &ArgMatches<'a>) -> Option<Job<'a>>
+fn abandon<'a>(matches: &ArgMatches<'a>) -> Option<Job<&'a str>>
     ensures { option_map asked result ≡ abandon_at (rows_of (found_of matches.entry.now)) }
 {
     let db = word(matches, "db")?;
@@ -140,27 +133,25 @@ fn abandon<'a>(matches: &ArgMatches<'a>) -> Option<Job<'a>>
 }
 
 /// `compare [--csv] PLAN OTHER`, or `compare --db FILE [--csv] ID`.
-fn compare<'a>(matches: &ArgMatches<'a>) -> Option<Job<'a>>
+fn compare<'a>(matches: &ArgMatches<'a>) -> Option<Job<&'a str>>
     ensures { option_map asked result ≡ compare_at (rows_of (found_of matches.entry.now)) }
 {
     let csv = flag(matches, "csv");
     match (word(matches, "db"), word(matches, "OTHER")) {
         (None, Some(second)) => {
             let first = word(matches, "PLAN")?;
-            let plans = Plans::Files { first, second };
-            Some(Job::Compare { plans, csv })
+            Some(Job::CompareFiles { first, second, csv })
         }
         (Some(db), None) => {
             let id = intersection(matches, "PLAN")?;
-            let plans = Plans::Draft { db, id };
-            Some(Job::Compare { plans, csv })
+            Some(Job::CompareDraft { db, id, csv })
         }
         _ => None,
     }
 }
 
 /// `diagram --db FILE ID PATTERN`, or `diagram --file CSV PATTERN`.
-fn diagram<'a>(matches: &ArgMatches<'a>) -> Option<Job<'a>>
+fn diagram<'a>(matches: &ArgMatches<'a>) -> Option<Job<&'a str>>
     ensures { option_map asked result ≡ diagram_at (rows_of (found_of matches.entry.now)) }
 {
     let (db, file) = (word(matches, "db"), word(matches, "file"));
@@ -168,60 +159,63 @@ fn diagram<'a>(matches: &ArgMatches<'a>) -> Option<Job<'a>>
         (Some(db), None, Some(_)) => {
             let id = intersection(matches, "ID")?;
             let pattern = pattern(matches, "PATTERN")?;
-            let plan = Plan::Committed { db, id };
-            Some(Job::Diagram { plan, pattern })
+            let shown = Shown::Diagram { id, pattern };
+            Some(Job::Show { db, shown })
         }
         (None, Some(csv), None) => {
             let pattern = pattern(matches, "ID")?;
-            let plan = Plan::File { csv };
-            Some(Job::Diagram { plan, pattern })
+            let shown = PlanShown::Diagram { pattern };
+            Some(Job::ShowPlan { csv, shown })
         }
         _ => None,
     }
 }
 
 /// `page --db FILE ID`, or `page --file CSV`.
-fn page<'a>(matches: &ArgMatches<'a>) -> Option<Job<'a>>
+fn page<'a>(matches: &ArgMatches<'a>) -> Option<Job<&'a str>>
     ensures { option_map asked result ≡ page_at (rows_of (found_of matches.entry.now)) }
 {
     let (db, file) = (word(matches, "db"), word(matches, "file"));
     match (db, file, word(matches, "ID")) {
         (Some(db), None, Some(_)) => {
             let id = intersection(matches, "ID")?;
-            let plan = Plan::Committed { db, id };
-            Some(Job::Page { plan })
+            let shown = Shown::Page { id };
+            Some(Job::Show { db, shown })
         }
         (None, Some(csv), None) => {
-            let plan = Plan::File { csv };
-            Some(Job::Page { plan })
+            let shown = PlanShown::Page;
+            Some(Job::ShowPlan { csv, shown })
         }
         _ => None,
     }
 }
 
+/// A command that shows something of an office.
+fn show<'a>(name: &str, matches: &ArgMatches<'a>) -> Option<Job<&'a str>>
+    ensures { option_map asked result ≡ show_at name.now (rows_of (found_of matches.entry.now)) }
+{
+    let db = word(matches, "db")?;
+    let shown = shown_at(name, matches)?;
+    Some(Job::Show { db, shown })
+}
+
 /// What the command of a name asks for, where its values are there and its numbers in their ranges.
-pub(crate) fn job_at<'a>(name: &str, matches: &ArgMatches<'a>) -> Option<Job<'a>>
+pub(crate) fn job_at<'a>(name: &str, matches: &ArgMatches<'a>) -> Option<Job<&'a str>>
     ensures { option_map asked result ≡ job_at name.now (rows_of (found_of matches.entry.now)) }
 {
     match name {
         "batch" => batch(matches),
         "serve" => serve(matches),
-        "sheet" => sheet(matches),
         "overdue" => overdue(matches),
         "add" => add(matches),
-        "list" => list(matches),
-        "stock" => stock(matches),
-        "orders" => orders(matches),
-        "cabinet" => cabinet(matches),
         "verify-file" => verify_file(matches),
         "migrate" => migrate(matches),
         "import" => import(matches),
-        "export" => export(matches),
         "edit" => edit(matches),
         "abandon" => abandon(matches),
         "compare" => compare(matches),
         "diagram" => diagram(matches),
         "page" => page(matches),
-        _ => None,
+        _ => show(name, matches),
     }
 }

@@ -3,7 +3,7 @@ use Rattle.signal_office_in_file.specs.Ended.{file_view}
 use Rattle.signal_office_jobs.proofs.PrintingLemmas.{fails}
 use Rattle.signal_office_jobs.proofs.in_file.overdue.Goals as goal
 use Rattle.signal_office_jobs.specs.Printed.{Shows}
-use Rattle.signal_office_jobs.specs.declared.task.Shown.TheVariants as shown
+use Rattle.signal_office_line.specs.declared.shows.Shown.TheVariants as shown
 
 pub returns-in_err-day : goal.returns-in_err-day
 returns-in_err-day g c = inr (_, c.in_err-day.ensures, fails _ _ c.from_residual.result c.from_residual.ensures.1)

@@ -4,7 +4,7 @@ use Rattle.signal_office_commands.specs.Showing.{ShowsCabinet, ShowsDraft, Shows
 use Rattle.signal_office_jobs.specs.Shown.{OfOffice}
 use Rattle.signal_office_jobs.proofs.ShownLemmas.{and_unknown, fault_so, text_so}
 use Rattle.signal_office_jobs.proofs.task.export.Goals as goal
-use Rattle.signal_office_jobs.specs.declared.task.Shown.TheVariants as shown
+use Rattle.signal_office_line.specs.declared.shows.Shown.TheVariants as shown
 
 pub returns-in-Timing-clause-text : goal.returns-in-Timing-clause-text
 returns-in-Timing-clause-text g c =

@@ -16,12 +16,12 @@ pub loop-argument-preserved : goal.loop-argument-preserved
 loop-argument-preserved c =
     let added = Reads-arg _ _ _ _ _ c.loop-argument.invariant c.arg_of.ensures.rule
     c.arg_of.ensures.local c.in_ok-command.ensures in
-    Reads-more _ _ c.args.arguments.now c.loop-argument.argument-index _
+    Reads-more _ _ c.args.usage.now.2.now c.loop-argument.argument-index _
     c.loop-argument-test.true added
 
 pub returns : goal.returns
 returns c =
     subst (λ (xs : List Argument). Reads c.loop-argument.command
-    (with_rules (new_app c.args.name.now) (map rule_for xs)))
-    (take_all c.loop-argument.argument-index c.args.arguments.now c.loop-argument-test.false)
+    (with_rules (new_app c.args.usage.now.0.now) (map rule_for xs)))
+    (take_all c.loop-argument.argument-index c.args.usage.now.2.now c.loop-argument-test.false)
     c.loop-argument.invariant

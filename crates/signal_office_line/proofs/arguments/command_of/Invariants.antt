@@ -6,4 +6,4 @@ use Rattle.signal_office_line.proofs.arguments.command_of.Given as goal
 -- the command has the arguments that came so far
 abbrev pub invariant-loop-argument : goal.invariant-loop-argument
 invariant-loop-argument l =
-    Reads l.command (with_rules (new_app l.name) (map rule_for (take l.argument-index l.arguments)))
+    Reads l.command (with_rules (new_app l.usage.0.now) (map rule_for (take l.argument-index l.arguments)))

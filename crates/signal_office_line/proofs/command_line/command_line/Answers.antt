@@ -1,17 +1,15 @@
 use Rattle.std.proofs.Common.{ap, ◌∙◌, true}
 use Rattle.clap.specs.{declared.builder.command.Command.Command, declared.builder.command.Command.TheOpen.Command-F, Simple.app_of_fields}
 use Rattle.clap.specs.Simple.{on_top}
-use Rattle.signal_office_line.specs.CommandLine.{Reads}
+use Rattle.signal_office_line.specs.CommandLine.{signal_top}
 use Rattle.signal_office_line.proofs.command_line.command_line.Goals as goal
 
 pub returns : goal.returns
 returns c =
-    let named : Reads c.subcommand_required-program.result _ = record {
+    c.with_commands.ensures signal_top (record {
       app_is = ap app_of_fields c.subcommand_required-program.ensures
           ∙ ap (on_top (λ s. record s { subcommand_required = true }))
           (ap app_of_fields c.about.ensures ∙ c.new.ensures.app);
       local = ap (λ (x : Command-F Command). x.has_globals) c.subcommand_required-program.ensures
           ∙ (ap (λ (x : Command-F Command). x.has_globals) c.about.ensures ∙ c.new.ensures.local);
-    } in
-    c.with_plans.ensures _ (c.in_ok-program-3.ensures _
-    (c.in_ok-program-2.ensures _ (c.in_ok-program.ensures _ named)))
+    })

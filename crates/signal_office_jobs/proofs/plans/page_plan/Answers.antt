@@ -1,9 +1,0 @@
-use Rattle.std.proofs.Common.{inl, inr}
-use Rattle.signal_office_jobs.proofs.PrintingLemmas.{fails}
-use Rattle.signal_office_jobs.proofs.plans.page_plan.Goals as goal
-
-pub returns-in_err-bytes : goal.returns-in_err-bytes
-returns-in_err-bytes g c = inr (_, c.in_err-bytes.ensures, fails _ _ c.from_residual.result c.from_residual.ensures.1)
-
-pub returns : goal.returns
-returns g c = inl (_, (c.paged.result, c.paged.ensures, c.print_done.ensures))
