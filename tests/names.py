@@ -23,7 +23,7 @@ MEANT = {
     "a result is the wanted one, unless memory ran out: each crate has faults of its own": "Gives",
     "the number, name and status of a refusal, of each layer": "line_of status_of",
     "a value of a kind at a place, a field or a key, where each reader has it":
-        "change_at day_at flag_at list_at number_at row_at words_at list_of number_in number_of "
+        "change_at day_at flag_at number_at row_at words_at list_of number_in number_of "
         "part_of phase_in phases_in rows_in body_of",
     "what something is, as cells, columns or texts, of each table, file or page":
         "columns_of key_of order_cells ped_columns place_of row_of row_shown shown text title "
@@ -37,10 +37,10 @@ MEANT = {
 }
 LEFT = """
     Adds Answers AreInOrder AreWithin FollowsLine IsAfterStep IsFound IsKept IsLeftOpen IsOneOf IsQuery IsThere
-    Keeps Lacks Line Lists ListsRows Migrates Puts Ran Reads Rows Run StaysOpen Tells Writes
+    Keeps Lacks Line Lists ListsRows Migrates Puts Ran Rows Run StaysOpen Writes
     agree_at begun changes_of clearance command_of counted greatest intersection_rows is_among
-    is_numeral is_of keyed list listed moved open_by open_orders opening_of parts
-    refusals_of rows_of subject_of
+    is_of keyed list listed moved open_by open_orders opening_of parts
+    rows_of subject_of
 """
 
 

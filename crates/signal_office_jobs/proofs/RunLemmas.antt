@@ -9,10 +9,10 @@ use Rattle.office_http_framing.specs.Ends.{Told}
 use Rattle.office_http_framing.specs.Serve.{Ends}
 use Rattle.signal_office_faults.specs.declared.fault.Fault.{Fault}
 use Rattle.signal_office_jobs.specs.Printed.{JobDoes, OfficeFiles, Printed}
-use Rattle.signal_office_jobs.specs.Runs.{IsFound, job_asked}
+use Rattle.signal_office_jobs.specs.Runs.{IsFoundInWords, job_asked}
 use Rattle.signal_office_line.specs.CommandLine.{signal_app}
 use Rattle.signal_office_line.specs.Job.{Asked, asked, job_in}
-use Rattle.signal_office_line.specs.Refusals.{IsRefusedBy, clap_refusals, refusals_of}
+use Rattle.signal_office_line.specs.Refusals.{IsRefusedBy, clap_refusals, word_refusals}
 use Rattle.signal_office_line.specs.declared.job.Job.{Job}
 use Rattle.signal_office_line.specs.declared.job.JobFault.{JobFault}
 use Rattle.signal_office_line.specs.declared.job.JobFault.TheVariants.{NoMemory}
@@ -29,8 +29,8 @@ printed_so files job is start end result same it = subst (λ (x : Asked). Printe
 -- what is found is what the words ask for
 pub found_in : (words : List Text) (found : Result (Job (Bor Text)) JobFault) → IfOk found (λ job. clap_refusals words ≡ [])
     → IfOk found (λ job. job_in (subcommand_of signal_app words) ≡ Some (asked job))
-    → IfErr found (λ why. IsRefusedBy (refusals_of words) why)
+    → IfErr found (λ why. IsRefusedBy (word_refusals words) why)
     → IfErr found (λ why. takes signal_app words ≡ true → is_some (job_in (subcommand_of signal_app words)) ≡ true → why ≡ NoMemory)
-    → IsFound words (job_asked found)
+    → IsFoundInWords words (job_asked found)
 found_in words (Ok job) taken states refused answered = (taken, states)
 found_in words (Err why) taken states refused answered = (refused, answered)

@@ -1,13 +1,13 @@
 -- What is shown on an honest disk, from what the commands say on a clean one of their texts and faults.
 use Rattle.std.proofs.Common.{◌≡◌, ℕ, List, Ok, Err, ap, subst, sym}
-use Rattle.std.specs.Prelude.{◌≢◌, ◌⊎◌, Result, IfErr, IfOk}
+use Rattle.std.specs.Prelude.{◌≢◌, ◌⊎◌, Result, IfErr, IfOk, MatchResult}
 use Rattle.office_desk.specs.Running.{TellsTables}
 use Rattle.office_tables_shelf.specs.{Content.Content, declared.shelf.Shelf.Ghosts}
-use Rattle.signal_office_commands.proofs.HonestLemmas.{honest_err, honest_ok, honest_tells}
+use Rattle.signal_office_commands.proofs.HonestLemmas.{honest_tells}
 use Rattle.signal_office_commands.specs.Fault.{IsFaultOfQuery}
 use Rattle.signal_office_faults.specs.declared.fault.Fault.{Fault}
 use Rattle.signal_office_faults.specs.declared.fault.Fault.TheVariants as fault
-use Rattle.signal_office_jobs.specs.Shown.{IsFaultOfAll, IsFaultOfOne, IsNotShown, ShowsText}
+use Rattle.signal_office_jobs.specs.Shown.{IsFaultOfAll, IsFaultOfOne, IsShown}
 use Rattle.signal_office_line.specs.declared.shows.Shown.{Shown}
 
 module _ {S : Type 0} (g : Ghosts S) (law : (shelf : S) → g.is_honest shelf → g.is_clean shelf) (old new : S) where
@@ -47,15 +47,15 @@ module _ {S : Type 0} (g : Ghosts S) (law : (shelf : S) → g.is_honest shelf �
   and_whole P Q (Err why) p q = tt
 
   -- what is asked for is known by its variant
-  pub text_so : {A : Type 0} (r : Result A Fault) (items : A → List ℕ) (it is : Shown) → it ≡ is
-      → IfOk r (λ text. Tells (λ tables. ShowsText is tables (items text))) → IfOk r (λ text. Honest (λ tables. ShowsText it tables (items text)))
-  text_so r items it is same told =
-      subst (λ (x : Shown). IfOk r (λ text. Honest (λ tables. ShowsText x tables (items text)))) (sym same)
-      (honest_ok g law old new r (λ text tables. ShowsText is tables (items text)) told)
-
-  pub fault_so : {A : Type 0} (r : Result A Fault) (it is : Shown) → it ≡ is
-      → IfErr r (λ why. Honest (λ tables. IsNotShown is tables why)) → IfErr r (λ why. Honest (λ tables. IsNotShown it tables why))
-  fault_so r it is same told = subst (λ (x : Shown). IfErr r (λ why. Honest (λ tables. IsNotShown x tables why))) (sym same) told
+  pub shown_so : {A : Type 0} (r : Result A Fault) (items : A → List ℕ) (it is : Shown) → it ≡ is
+      → IfOk r (λ text. Tells (λ tables. IsShown is tables (Ok (items text))))
+      → IfErr r (λ why. Honest (λ tables. IsShown is tables (Err why)))
+      → Honest (λ tables. MatchResult r (λ text. IsShown it tables (Ok (items text))) (λ why. IsShown it tables (Err why)))
+  shown_so (Ok text) items it is same told none = λ h.
+      subst (λ (x : Shown). IsShown x (g.content old) (Ok (items text))) (sym same)
+      (honest_tells g law old new (λ tables. IsShown is tables (Ok (items text))) told h)
+  shown_so (Err why) items it is same told none = λ h.
+      subst (λ (x : Shown). IsShown x (g.content old) (Err why)) (sym same) (none h)
 
   -- a fault of which something is told where it is not that memory ran out
   pub not_memory : (why : Fault) (says : Content → Type 0) → (why ≢ fault.Memory → Tells says) → why ≢ fault.Memory → Honest says

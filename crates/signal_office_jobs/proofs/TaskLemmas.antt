@@ -14,11 +14,11 @@ use Rattle.office_tables_shelf.specs.Content.{Content}
 use Rattle.office_tables_shelf.specs.declared.shelf.Shelf.{Ghosts}
 use Rattle.signal_office_faults.specs.declared.fault.Fault.{Fault}
 use Rattle.signal_office_jobs.specs.Serving.{ServesPort}
-use Rattle.signal_office_jobs.specs.Tasks.{InTurn, ServesAs, Tells}
+use Rattle.signal_office_jobs.specs.Tasks.{InTurn, ServesAs, TellsOutcome}
 use Rattle.signal_office_jobs.specs.declared.done.Done.{Done}
 
 -- a fault that is passed on
-pub told_on : (why : Fault) (result : Result Done Fault) → IsErrAnd result (λ fault. fault ≡ why) → Tells {A = ⊤} (λ _. []) (λ _. 0) (Err why) result
+pub told_on : (why : Fault) (result : Result Done Fault) → IsErrAnd result (λ fault. fault ≡ why) → TellsOutcome {A = ⊤} (λ _. []) (λ _. 0) (Err why) result
 told_on why (Ok done) is = absurd is
 told_on why (Err fault) is = ap Err is
 
@@ -55,7 +55,7 @@ module _ {S : Type 0} (g : Ghosts S) where
   )
 
   pub serves : (port count : ℕ) (old new : S) (start end : Told) (counts : Option ListenCounts) (outcome : Result ⊤ Fault) (result : Result Done Fault)
-      → Tells (λ _. []) (λ _. 0) outcome result → (served : List Connected) × ServesPort port count start end counts served outcome
+      → TellsOutcome (λ _. []) (λ _. 0) outcome result → (served : List Connected) × ServesPort port count start end counts served outcome
       → ((before : Office) (tables : Content) → Keeps storage old tables before
       → (served : List Connected) × Listens storage old tables before new served × ServesPort port count start end counts served outcome)
       → g.is_honest new → ServesAs port count (g.content old) result (g.content new) start end

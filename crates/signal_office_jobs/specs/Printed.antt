@@ -49,8 +49,8 @@ abbrev pub office_files : {Left : Type 0} → (Content → Type 0) → (Left →
 office_files held is_clean keeps refused migrated = record { view = file_view held is_clean keeps refused; migrated = migrated }
 
 -- what a run does from the start of its input and output to their ends, and the status or the fault that comes of it
-abbrev pub Run : Type 1
-Run = Ends → Ends → Result ℕ Fault → Type 0
+abbrev pub Exchange : Type 1
+Exchange = Ends → Ends → Result ℕ Fault → Type 0
 
 -- ---- requests
 
@@ -69,13 +69,13 @@ status_over (Ok outcome) = stream_status outcome
 status_over (Err why) = Err why
 
 -- the requests were answered by a new office in memory
-abbrev pub BatchInMemory : Run
+abbrev pub BatchInMemory : Exchange
 BatchInMemory start end result =
     (outcome : Result Served ServeFault) × (after : Office) × Did office_protocol (ServesInMemory after) batch_limit start end outcome
     × TellsFault start end outcome × (result ≡ stream_status outcome)
 
 -- the same by the office of a file
-abbrev pub BatchOver : {Left : Type 0} → FileView Left → Run
+abbrev pub BatchOver : {Left : Type 0} → FileView Left → Exchange
 BatchOver {Left} view start end result =
     (ended : Ended (Result Served ServeFault) Left) × EndsOver view (Answers batch_limit start end) (end ≡ start) ended
     × (result ≡ status_over (told_by ended))
@@ -146,7 +146,7 @@ Printed files (job.CompareFiles first second csv) start end result =
 Printed files (job.ShowPlan csv it) start end result = Reading (λ plan. Made (ShowsPlan it plan)) start end result
 
 -- what each job does: the input is read by `batch` alone
-abbrev pub JobDoes : {Left : Type 0} → OfficeFiles Left → Asked → Run
+abbrev pub JobDoes : {Left : Type 0} → OfficeFiles Left → Asked → Exchange
 JobDoes files (job.Batch None) start end result = BatchInMemory start end result
 JobDoes files (job.Batch (Some db)) start end result = BatchOver files.view start end result
 JobDoes files other start end result = (end.source ≡ start.source) × Printed files other start.sink end.sink result

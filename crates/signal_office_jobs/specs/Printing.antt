@@ -10,7 +10,7 @@ use Rattle.signal_office_faults.specs.declared.fault.Fault.TheVariants as fault
 use Rattle.signal_office_in_file.specs.Ended.{EndsOver, FileView, IsCounted, told_by}
 use Rattle.signal_office_in_file.specs.declared.Ended.{Ended}
 use Rattle.signal_office_jobs.specs.Done.{status_of, text_of}
-use Rattle.signal_office_jobs.specs.Tasks.{Tells}
+use Rattle.signal_office_jobs.specs.Tasks.{TellsOutcome}
 use Rattle.signal_office_jobs.specs.declared.done.Done.{Done}
 use Rattle.signal_values.specs.Words.{AreWords}
 
@@ -118,13 +118,13 @@ migrated_line rows = codes "migrated " ++ decimal rows ++ codes " rows\n"
 
 -- The tables of a file were brought to today's version, and the line tells how many rows were written anew, as they were counted; or they were not, and that is
 -- told.
-pub record Migrates {Left : Type 0} (view : FileView Left) (migrated : Left → ℕ → Type 0) (start end : Told) (result : Result ℕ Fault) : Type 0 where
+pub record TellsMigration {Left : Type 0} (view : FileView Left) (migrated : Left → ℕ → Type 0) (start end : Told) (result : Result ℕ Fault) : Type 0 where
   pub ended : Ended (Result ℕ Fault) Left
   pub counted : IsCounted view.is_clean migrated view.refused ended
   pub done : Result Done Fault
-  pub tells : Tells migrated_line (λ _. 0) (joined (told_by ended)) done
+  pub tells : TellsOutcome migrated_line (λ _. 0) (joined (told_by ended)) done
   pub prints : PrintsDone done start end result
 
 abbrev pub MigratesFile : {Left : Type 0} → FileView Left → (migrated : Left → ℕ → Type 0) → Output
 MigratesFile view migrated start end result =
-    Migrates view migrated start end result ⊎ ((why : Fault) × IsMissing fault.Version why × TellsNothing why start end result)
+    TellsMigration view migrated start end result ⊎ ((why : Fault) × IsMissing fault.Version why × TellsNothing why start end result)

@@ -16,7 +16,7 @@ use Rattle.signal_office_faults.specs.declared.fault.Fault.{Fault}
 use Rattle.signal_office_faults.specs.declared.fault.Fault.TheVariants as fault
 use Rattle.signal_office_line.specs.CommandLine.{signal_app}
 use Rattle.signal_office_line.specs.Job.{Asked, asked, job_in}
-use Rattle.signal_office_line.specs.Refusals.{IsRefusedBy, clap_refusals, refusals_of}
+use Rattle.signal_office_line.specs.Refusals.{IsRefusedBy, clap_refusals, word_refusals}
 use Rattle.signal_office_line.specs.declared.job.Job.{Job}
 use Rattle.signal_office_line.specs.declared.job.JobFault.{JobFault}
 use Rattle.signal_office_line.specs.declared.job.JobFault.TheVariants.{Refused, NoMemory}
@@ -30,10 +30,10 @@ job_asked (Err why) = Err why
 
 -- The words ask for this job, as `clap` finds its command and values; or they are refused, as `clap` refuses them or for a value. Words that ask for a job are
 -- refused only where memory ran out.
-abbrev pub IsFound : List Text → Result Asked JobFault → Type 0
-IsFound words (Ok job) = (clap_refusals words ≡ []) × (job_in (subcommand_of signal_app words) ≡ Some job)
-IsFound words (Err why) =
-    IsRefusedBy (refusals_of words) why
+abbrev pub IsFoundInWords : List Text → Result Asked JobFault → Type 0
+IsFoundInWords words (Ok job) = (clap_refusals words ≡ []) × (job_in (subcommand_of signal_app words) ≡ Some job)
+IsFoundInWords words (Err why) =
+    IsRefusedBy (word_refusals words) why
     × (takes signal_app words ≡ true → is_some (job_in (subcommand_of signal_app words)) ≡ true → why ≡ NoMemory)
 
 -- the words ask for help
@@ -66,7 +66,7 @@ EndsWith (Err why) said ended status = SaysFault why said ended × (status ≡ s
 -- A RUN OF THE PROGRAM, by its words: what they ask for is done, and its status is that of the run.
 pub record RunsWords {Left : Type 0} (files : OfficeFiles Left) (words : List Text) (start end : Ends) (err ended : Told) (status : ℕ) : Type 0 where
   pub found : Result Asked JobFault
-  pub is_found : IsFound words found
+  pub is_found : IsFoundInWords words found
   pub result : Result ℕ Fault
   pub said : Told
   pub does : DoesFound files found start end err said result

@@ -30,23 +30,6 @@ use Rattle.signal_office_line.specs.declared.shows.Shown.TheVariants as shown
 abbrev pub OfOffice : Content → (Office → Type 0) → Type 0
 OfOffice tables says = (before : Office) → StandForSound tables before → says before
 
--- the text is what was asked for, of the office that the tables stand for, and no row that is read for a report and is no record was passed over
-abbrev pub ShowsText : Shown → Content → (text : List ℕ) → Type 0
-ShowsText (shown.Sheet id) tables text = OfOffice tables (λ office. IsSheetOf office id text) × ¬ MeetsDamage tables (command.Timing id)
-ShowsText (shown.Overdue day most) tables text =
-    OfOffice tables (λ office. IsReportOf office day most text) × IsWholeReport tables day most text
-ShowsText (shown.List csv) tables text =
-    OfOffice tables (λ office. text ≡ list_written csv (intersections_of office)) × ¬ HasAnyDamagedIntersection tables
-ShowsText (shown.Stock csv) tables text =
-    OfOffice tables (λ office. text ≡ stock_written csv (stock_of office.register)) × ¬ MeetsDamage tables command.Stock
-ShowsText (shown.Orders id) tables text = OfOffice tables (λ office. IsOrdersListOf office id text) × ¬ MeetsOrdersDamage tables id
-ShowsText (shown.Cabinet id) tables text = OfOffice tables (λ office. IsRegisterOf office id text) × ¬ MeetsRegisterDamage tables id
-ShowsText (shown.Export id view.Timing) tables text = ExportsTiming tables id text
-ShowsText (shown.Export id view.Draft) tables text = ExportsDraft tables id text
-ShowsText (shown.Export id view.Cabinet) tables text = ExportsCabinet tables id text
-ShowsText (shown.Diagram id pattern) tables text = DrawsTiming tables id pattern text
-ShowsText (shown.Page id) tables text = OfOffice tables (λ office. IsPageOf office id text) × IsWholePage tables id text
-
 -- memory or the database refused, or a row that is read is no record
 abbrev pub IsFaultOfAll : (damaged : Type 0) → Fault → Type 0
 IsFaultOfAll damaged why =
@@ -56,29 +39,49 @@ IsFaultOfAll damaged why =
 abbrev pub IsFaultOfOne : (damaged : Type 0) → (unknown : Type 0) → Fault → Type 0
 IsFaultOfOne damaged unknown why = IsFaultOfQuery why × (why ≡ fault.Damaged → damaged) × unknown
 
--- why nothing is shown
-abbrev pub IsNotShown : Shown → Content → Fault → Type 0
-IsNotShown (shown.Sheet id) tables why =
-    IsFaultOfOne (MeetsDamage tables (command.Timing id)) (OfOffice tables (λ office. TellsUnknown office id why)) why
-IsNotShown (shown.Overdue day most) tables why = IsFaultOfAll (MeetsDamage tables (command.Overdue day)) why
-IsNotShown (shown.List csv) tables why = IsFaultOfAll (HasAnyDamagedIntersection tables) why
-IsNotShown (shown.Stock csv) tables why = IsFaultOfAll (MeetsDamage tables command.Stock) why
-IsNotShown (shown.Orders id) tables why =
-    IsFaultOfOne (MeetsOrdersDamage tables id) (OfOffice tables (λ office. TellsOrders office id why)) why
-IsNotShown (shown.Cabinet id) tables why =
-    IsFaultOfOne (MeetsRegisterDamage tables id) (OfOffice tables (λ office. TellsUnknown office id why)) why
-IsNotShown (shown.Export id view.Timing) tables why =
-    IsUnshown (ShowsTiming tables id) why × OfOffice tables (λ office. TellsUnknown office id why)
-IsNotShown (shown.Export id view.Draft) tables why =
-    IsUnshown (ShowsDraft tables id) why × OfOffice tables (λ office. TellsUnknown office id why)
-IsNotShown (shown.Export id view.Cabinet) tables why =
-    IsUnshown (ShowsCabinet tables id) why × OfOffice tables (λ office. TellsUnknown office id why)
-IsNotShown (shown.Diagram id pattern) tables why =
-    DrawsNoTiming tables id pattern why × OfOffice tables (λ office. TellsUnknown office id why)
-IsNotShown (shown.Page id) tables why =
-    (why ≢ fault.Memory → IsRefusedShowing tables id why) × OfOffice tables (λ office. TellsUnknown office id why)
+-- the text says this of the office that the tables stand for, and no row that is read for it and is no record was passed over
+abbrev pub IsWholeText : (says : Office → Type 0) → (damaged : Type 0) → Content → Type 0
+IsWholeText says damaged tables = OfOffice tables says × ¬ damaged
+
+-- a text of all intersections or of the stock, or why there is none
+abbrev pub OfAll : (says : Office → List ℕ → Type 0) → (damaged : Type 0) → Content → Result (List ℕ) Fault → Type 0
+OfAll says damaged tables (Ok text) = IsWholeText (λ office. says office text) damaged tables
+OfAll says damaged tables (Err why) = IsFaultOfAll damaged why
+
+-- the same of one intersection, which may be unknown
+abbrev pub OfOne : (says : Office → List ℕ → Type 0) → (damaged : Type 0) → (unknown : Office → Fault → Type 0)
+    → Content → Result (List ℕ) Fault → Type 0
+OfOne says damaged unknown tables (Ok text) = IsWholeText (λ office. says office text) damaged tables
+OfOne says damaged unknown tables (Err why) = IsFaultOfOne damaged (OfOffice tables (λ office. unknown office why)) why
+
+-- the same, where the commands say both of the tables
+abbrev pub OfTables : (says : List ℕ → Type 0) → (fault : Fault → Type 0) → (id : ℕ) → Content → Result (List ℕ) Fault → Type 0
+OfTables says fault id tables (Ok text) = says text
+OfTables says fault id tables (Err why) = fault why × OfOffice tables (λ office. TellsUnknown office id why)
+
+-- WHAT IS SHOWN of the tables as what was asked for, or why nothing is
+abbrev pub IsShown : Shown → Content → Result (List ℕ) Fault → Type 0
+IsShown (shown.Sheet id) tables =
+    OfOne (λ office text. IsSheetOf office id text) (MeetsDamage tables (command.Timing id)) (λ office why. TellsUnknown office id why) tables
+IsShown (shown.Overdue day most) tables (Ok text) = OfOffice tables (λ office. IsReportOf office day most text) × IsWholeReport tables day most text
+IsShown (shown.Overdue day most) tables (Err why) = IsFaultOfAll (MeetsDamage tables (command.Overdue day)) why
+IsShown (shown.List csv) tables =
+    OfAll (λ office text. text ≡ list_written csv (intersections_of office)) (HasAnyDamagedIntersection tables) tables
+IsShown (shown.Stock csv) tables =
+    OfAll (λ office text. text ≡ stock_written csv (stock_of office.register)) (MeetsDamage tables command.Stock) tables
+IsShown (shown.Orders id) tables =
+    OfOne (λ office text. IsOrdersListOf office id text) (MeetsOrdersDamage tables id) (λ office why. TellsOrders office id why) tables
+IsShown (shown.Cabinet id) tables =
+    OfOne (λ office text. IsRegisterOf office id text) (MeetsRegisterDamage tables id) (λ office why. TellsUnknown office id why) tables
+IsShown (shown.Export id view.Timing) tables = OfTables (ExportsTiming tables id) (λ why. IsUnshown (ShowsTiming tables id) why) id tables
+IsShown (shown.Export id view.Draft) tables = OfTables (ExportsDraft tables id) (λ why. IsUnshown (ShowsDraft tables id) why) id tables
+IsShown (shown.Export id view.Cabinet) tables = OfTables (ExportsCabinet tables id) (λ why. IsUnshown (ShowsCabinet tables id) why) id tables
+IsShown (shown.Diagram id pattern) tables = OfTables (DrawsTiming tables id pattern) (λ why. DrawsNoTiming tables id pattern why) id tables
+IsShown (shown.Page id) tables =
+    OfTables (λ text. OfOffice tables (λ office. IsPageOf office id text) × IsWholePage tables id text)
+    (λ why. why ≢ fault.Memory → IsRefusedShowing tables id why) id tables
 
 -- what is shown is told with status 0, or why it is not
 abbrev pub ShowsAs : Shown → Content → Result Done Fault → Type 0
-ShowsAs it tables (Ok done) = ShowsText it tables (text_of done) × (status_of done ≡ 0)
-ShowsAs it tables (Err why) = IsNotShown it tables why
+ShowsAs it tables (Ok done) = IsShown it tables (Ok (text_of done)) × (status_of done ≡ 0)
+ShowsAs it tables (Err why) = IsShown it tables (Err why)

@@ -44,9 +44,9 @@ makes_file (Import csv) = true
 makes_file _ = false
 
 -- The result tells of what was done: its fault; or, where it was done, this text and status, or that memory for the text was refused.
-abbrev pub Tells : {A : Type 0} → (text : A → List ℕ) → (status : A → ℕ) → Result A Fault → Result Done Fault → Type 0
-Tells text status (Ok done) result = TellsAs (text done) (status done) result
-Tells text status (Err why) result = result ≡ Err why
+abbrev pub TellsOutcome : {A : Type 0} → (text : A → List ℕ) → (status : A → ℕ) → Result A Fault → Result Done Fault → Type 0
+TellsOutcome text status (Ok done) result = TellsAs (text done) (status done) result
+TellsOutcome text status (Err why) result = result ≡ Err why
 
 -- The connections were served one after the other, each from the office that the one before it left: the answers to its requests keep the laws of the office.
 abbrev pub InTurn : Office → List Connected → Office → Type 0
@@ -61,7 +61,7 @@ InTurn before (connection ∷ connections) after =
 pub record ServesAs (port count : ℕ) (old : Content) (result : Result Done Fault) (new : Content) (start end : Told) : Type 0 where
   pub counts : Option ListenCounts
   pub outcome : Result ⊤ Fault
-  pub tells : Tells (λ _. []) (λ _. 0) outcome result
+  pub tells : TellsOutcome (λ _. []) (λ _. 0) outcome result
   pub ended : (served : List Connected) × ServesPort port count start end counts served outcome
   pub served : (before : Office) → StandForSound old before → (connections : List Connected) × ServesPort port count start end counts connections outcome
       × (after : Office) × InTurn before connections after × StandForSound new after
@@ -77,10 +77,10 @@ imported_line imported = codes "added " ++ decimal imported.added ++ codes ", sa
 
 -- one command was done, and the result tells what came of it
 abbrev pub AddsAs : (id interval : ℕ) → (name : List ℕ) → Content → Result Done Fault → Content → Type 0
-AddsAs id interval name old result new = (entered : Result Entered Fault) × Adds id interval name old new entered × Tells entered_line (λ _. 0) entered result
+AddsAs id interval name old result new = (entered : Result Entered Fault) × Adds id interval name old new entered × TellsOutcome entered_line (λ _. 0) entered result
 
 abbrev pub ImportsAs : (csv : List ℕ) → Content → Result Done Fault → Content → Type 0
-ImportsAs csv old result new = (imported : Result Imported Fault) × Imports csv old new imported × Tells imported_line (λ _. 0) imported result
+ImportsAs csv old result new = (imported : Result Imported Fault) × Imports csv old new imported × TellsOutcome imported_line (λ _. 0) imported result
 
 -- The rules that an edited draft breaks, as they are told: where that is asked and the draft stays open, those of the draft that the tables hold, each with
 -- its reason.
@@ -104,7 +104,7 @@ EditsBy csv id clerk commit explain old result new =
     (edited : Result Edited Fault) × EditsAs csv id clerk commit old new edited × TellsEdit commit explain id new edited result
 
 abbrev pub AbandonsAs : (id : ℕ) → (clerk : List ℕ) → Content → Result Done Fault → Content → Type 0
-AbandonsAs id clerk old result new = (moved : Result ⊤ Fault) × Abandons id clerk old new moved × Tells (λ _. codes "abandoned\n") (λ _. 0) moved result
+AbandonsAs id clerk old result new = (moved : Result ⊤ Fault) × Abandons id clerk old new moved × TellsOutcome (λ _. codes "abandoned\n") (λ _. 0) moved result
 
 -- what the draft differs in is told, and the status whether it does; a fault is what its query is refused with, or that memory was refused
 abbrev pub ComparesAs : ℕ → Bool → Content → Result Done Fault → Type 0

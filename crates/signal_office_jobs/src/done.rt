@@ -6,7 +6,7 @@ ghost use Rattle.signal_office_jobs.specs.Done.{TellsAs, checked_status, commit_
 ghost use Rattle.signal_office_jobs.specs.Done.{compared_status, compared_text, edited_status};
 ghost use Rattle.signal_office_jobs.specs.Done.{explained_status, status_of, text_of};
 ghost use Rattle.signal_office_jobs.specs.Printing.{Prints, PrintsDone, joined, migrated_line};
-ghost use Rattle.signal_office_jobs.specs.Tasks.{Tells, entered_line, imported_line};
+ghost use Rattle.signal_office_jobs.specs.Tasks.{TellsOutcome, entered_line, imported_line};
 ghost use Rattle.signal_reasons.specs.Texts.{explained_text_of};
 
 use office_files::{changes_csv, violation_text};
@@ -163,9 +163,9 @@ impl Done {
     }
 }
 
-/// Tells how many rows a migration wrote anew, or its fault.
+/// TellsOutcome how many rows a migration wrote anew, or its fault.
 pub(crate) fn migrated(alloc: Global, outcome: Result<u128, Fault>) -> Result<Done, Fault>
-    ensures { Tells migrated_line (λ _. 0) outcome result }
+    ensures { TellsOutcome migrated_line (λ _. 0) outcome result }
 {
     match outcome {
         Ok(rows) => Done::migrating(alloc, rows),

@@ -1,8 +1,8 @@
 //! What is done over the office of a file.
 
-ghost use Rattle.std.specs.Prelude.{◌≡◌, ◌≢◌, true, false, Err, IfErr, IfOk};
+ghost use Rattle.std.specs.Prelude.{◌≡◌, ◌≢◌, true, false, Ok, Err, IfErr, IfOk, MatchResult};
 ghost use Rattle.office_tables_shelf.specs.Keeps.{KeepsShelf};
-ghost use Rattle.signal_office_jobs.specs.Shown.{IsNotShown, ShowsAs, ShowsText};
+ghost use Rattle.signal_office_jobs.specs.Shown.{IsShown, ShowsAs};
 ghost use Rattle.signal_office_jobs.specs.Tasks.{AbandonsAs, AddsAs, ComparesAs, EditsBy};
 ghost use Rattle.signal_office_jobs.specs.Tasks.{ImportsAs, IsBroken, ServesAs, TaskDoes};
 ghost use Rattle.signal_office_commands.specs.Showing.{ShowsDraft};
@@ -24,7 +24,8 @@ use signal_reasons::explained_text;
 use signal_records::{InterId, Interval, Words};
 use std::alloc::Global;
 
-/// What an office over the tables of a file is opened for.
+/// What an office over the tables of a file is opened for: a job whose names and CSV file are read,
+/// which comes before the file is opened.
 #[derive(Clone, Copy)]
 pub enum Task<'a> {
     /// So many connections on a port.
@@ -89,10 +90,9 @@ fn export<S: Shelf>(
     view: View,
 ) -> Result<Vec<u8>, Fault>
     ensures kept { KeepsShelf S.Shelf office.old office.new }
-    ensures text { IfOk result (λ text. S.is_honest office.new →
-        ShowsText (Shown.Export id view) (S.content office.old) text.items) }
-    ensures fault { IfErr result (λ why. S.is_honest office.new →
-        IsNotShown (Shown.Export id view) (S.content office.old) why) }
+    ensures shown { S.is_honest office.new → MatchResult result
+        (λ text. IsShown (Shown.Export id view) (S.content office.old) (Ok text.items))
+        (λ why. IsShown (Shown.Export id view) (S.content office.old) (Err why)) }
 {
     match view {
         View::Timing => timing_csv_of(alloc, office, id),
@@ -104,10 +104,9 @@ fn export<S: Shelf>(
 /// What is printed of an office.
 fn shown_of<S: Shelf>(alloc: Global, office: &mut Office<S>, shown: Shown) -> Result<Vec<u8>, Fault>
     ensures kept { KeepsShelf S.Shelf office.old office.new }
-    ensures text { IfOk result (λ text. S.is_honest office.new →
-        ShowsText shown (S.content office.old) text.items) }
-    ensures fault { IfErr result (λ why. S.is_honest office.new →
-        IsNotShown shown (S.content office.old) why) }
+    ensures shown { S.is_honest office.new → MatchResult result
+        (λ text. IsShown shown (S.content office.old) (Ok text.items))
+        (λ why. IsShown shown (S.content office.old) (Err why)) }
 {
     match shown {
         Shown::Sheet { id } => sheet_of(alloc, office, id),

@@ -7,7 +7,7 @@ use Rattle.std.specs.{Char.digit_value, List.list_all, Cmp.Derive.both_true, Res
 use Rattle.std.specs.Str.Parse.{IsNumeral, digits_value}
 use Rattle.clap.proofs.WalkLemmas.{both}
 use Rattle.clap.specs.Walk.{Text}
-use Rattle.signal_office_line.specs.Job.{is_numeral, number_of}
+use Rattle.signal_office_line.specs.Job.{are_digits, number_of}
 
 -- the test of digits decides what `parse` asks of them
 all_digits : (ds : Text) → list_all (λ c. nat_lt (digit_value c) 10) ds ≡ true → AllDigits 10 ds
@@ -20,13 +20,13 @@ digits_all : (ds : Text) → AllDigits 10 ds → list_all (λ c. nat_lt (digit_v
 digits_all [] h = refl
 digits_all (c ∷ cs) h = both_true (lt-ltb (digit_value c) 10 h.0) (digits_all cs h.1)
 
-numeral : (ds : Text) → is_numeral ds ≡ true → IsNumeral 10 ds
+numeral : (ds : Text) → are_digits ds ≡ true → IsNumeral 10 ds
 numeral ds e =
     let parts = both (nat_lt 0 (length ds)) _ e in
     (ltb-true 0 (length ds) parts.0, all_digits ds parts.1)
 
-is_numeral_of : (ds : Text) → IsNumeral 10 ds → is_numeral ds ≡ true
-is_numeral_of ds h = both_true (lt-ltb 0 (length ds) h.0) (digits_all ds h.1)
+are_digits_of : (ds : Text) → IsNumeral 10 ds → are_digits ds ≡ true
+are_digits_of ds h = both_true (lt-ltb 0 (length ds) h.0) (digits_all ds h.1)
 
 -- a choice by a test that fails, and by one that holds
 refuted : (b : Bool) (n : ℕ) → (b ≡ true → ⊥) → None ≡ (if b then Some n else None)
@@ -38,10 +38,10 @@ held b n e = rw e refl
 
 -- what the test of a number says
 in_range : (most : ℕ) (ds : Text)
-    → (is_numeral ds && (nat_le 1 (digits_value 10 ds) && nat_le (digits_value 10 ds) most)) ≡ true
+    → (are_digits ds && (nat_le 1 (digits_value 10 ds) && nat_le (digits_value 10 ds) most)) ≡ true
     → IsNumeral 10 ds × (1 ≤ digits_value 10 ds) × (digits_value 10 ds ≤ most)
 in_range most ds e =
-    let parts = both (is_numeral ds) _ e in
+    let parts = both (are_digits ds) _ e in
     let range = both (nat_le 1 (digits_value 10 ds)) _ parts.1 in (
       numeral ds parts.0,
       leb-true 1 (digits_value 10 ds) range.0,
@@ -86,4 +86,4 @@ inside most n ds (h, e) low high =
     let l : 1 ≤ digits_value 10 ds = omega (arith, e, low) in
     let m : digits_value 10 ds ≤ most = omega (arith, e, high) in
     let range = both_true (le-leb 1 (digits_value 10 ds) l) (le-leb (digits_value 10 ds) most m) in
-    ap Some (sym e) ∙ held _ _ (both_true (is_numeral_of ds h) range)
+    ap Some (sym e) ∙ held _ _ (both_true (are_digits_of ds h) range)

@@ -48,13 +48,13 @@ abbrev pub ◌>>=◌ : {A B : Type 0} → Option A → (A → Option B) → Opti
 given >>= next = option_and_then next given
 
 -- one decimal digit or more, and nothing else
-abbrev pub is_numeral : Text → Bool
-is_numeral digits = nat_lt 0 (length digits) && list_all (λ c. nat_lt (digit_value c) 10) digits
+abbrev pub are_digits : Text → Bool
+are_digits digits = nat_lt 0 (length digits) && list_all (λ c. nat_lt (digit_value c) 10) digits
 
 -- the number that digits write, where it is one from 1 to most
 abbrev pub number_of : ℕ → Text → Option ℕ
 number_of most digits =
-    if is_numeral digits && (nat_le 1 (digits_value 10 digits)
+    if are_digits digits && (nat_le 1 (digits_value 10 digits)
     && nat_le (digits_value 10 digits) most)
     then Some (digits_value 10 digits)
     else None
@@ -207,8 +207,8 @@ export_at rows = do
   Some (shown.Export id view)
 
 -- what stands under the name of a command
-abbrev pub named : {A : Type 0} → Text → List (Text × A) → Option A
-named name among = option_map (λ c. c.1) (find (λ c. bytes_eq name c.0) among)
+abbrev pub under : {A : Type 0} → Text → List (Text × A) → Option A
+under name among = option_map (λ c. c.1) (find (λ c. bytes_eq name c.0) among)
 
 -- the commands that show something of an office, with what they show
 abbrev pub shows : List (Text × (List Row → Option Shown))
@@ -226,7 +226,7 @@ shows =
     ∷ (codes "export", export_at) ∷ []
 
 abbrev pub shown_at : Text → List Row → Option Shown
-shown_at name rows = option_and_then (λ what. what rows) (named name shows)
+shown_at name rows = option_and_then (λ what. what rows) (under name shows)
 
 abbrev pub show_at : Text → List Row → Option Asked
 show_at name rows = do
@@ -245,7 +245,7 @@ jobs =
 
 -- what the command of a name asks for, where its values are there and its numbers in their ranges
 abbrev pub job_at : Text → List Row → Option Asked
-job_at name rows = option_map_or (λ what. what rows) (named name jobs) (show_at name rows)
+job_at name rows = option_map_or (λ what. what rows) (under name jobs) (show_at name rows)
 
 -- what the found command asks for
 abbrev pub job_in : Option (Text × List Row) → Option Asked

@@ -28,8 +28,8 @@ value_refusals None = kind.ValueValidation ∷ []
 value_refusals (Some job) = []
 
 -- the kinds of refusal of the words: those of `clap`, and where it takes the words that of a value
-abbrev pub refusals_of : List Text → Kinds
-refusals_of words =
+abbrev pub word_refusals : List Text → Kinds
+word_refusals words =
     or_else (clap_refusals words) (value_refusals (job_in (subcommand_of signal_app words)))
 
 -- memory ran out, or the refusal is of one of the kinds

@@ -3,7 +3,7 @@
 ghost use Rattle.std.specs.Prelude.{◌≡◌, IfOk, false, map};
 ghost use Rattle.clap.specs.Simple.{App, with_subcommand};
 ghost use Rattle.clap.specs.Walk.{rule_of};
-ghost use Rattle.signal_office_line.specs.CommandLine.{Reads, with_subcommands};
+ghost use Rattle.signal_office_line.specs.CommandLine.{ParsesAs, with_subcommands};
 ghost use Rattle.signal_office_line.specs.Arguments.{app_for, rule_for};
 
 use clap::{Arg, ArgAction, Command};
@@ -68,7 +68,7 @@ fn arg_of<'a>(alloc: Global, argument: &Argument<'a>) -> Arg<'a>
 
 /// A command as `clap` takes it.
 fn command_of<'a>(alloc: Global, usage: &Usage<'a>) -> Result<Command<'a>, AllocError>
-    ensures { IfOk result (λ c. Reads c (app_for usage.now)) }
+    ensures { IfOk result (λ c. ParsesAs c (app_for usage.now)) }
 {
     let Usage(name, about, arguments) = *usage;
     let mut command = Command::new(alloc, name).about(about);
@@ -83,9 +83,9 @@ fn with_command<'a>(
     program: Result<Command<'a>, AllocError>,
     command: Result<Command<'a>, AllocError>,
 ) -> Result<Command<'a>, AllocError>
-    ensures { (app inner : App) → IfOk program.entry (λ c. Reads c app) →
-        IfOk command.entry (λ c. Reads c inner) →
-        IfOk result (λ c. Reads c (with_subcommand app inner.top)) }
+    ensures { (app inner : App) → IfOk program.entry (λ c. ParsesAs c app) →
+        IfOk command.entry (λ c. ParsesAs c inner) →
+        IfOk result (λ c. ParsesAs c (with_subcommand app inner.top)) }
 {
     program?.subcommand(command?)
 }
@@ -96,8 +96,8 @@ pub(crate) fn with_commands<'a>(
     program: Command<'a>,
     commands: &[Usage<'a>],
 ) -> Result<Command<'a>, AllocError>
-    ensures { (app : App) → Reads program.entry app →
-        IfOk result (λ c. Reads c (with_subcommands app (map app_for commands.now))) }
+    ensures { (app : App) → ParsesAs program.entry app →
+        IfOk result (λ c. ParsesAs c (with_subcommands app (map app_for commands.now))) }
 {
     let mut program = program;
     for usage in commands {

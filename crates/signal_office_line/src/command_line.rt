@@ -1,7 +1,7 @@
 //! The words that the program takes, with what its help says of them.
 
 ghost use Rattle.std.specs.Prelude.{IfOk};
-ghost use Rattle.signal_office_line.specs.CommandLine.{Reads, signal_app};
+ghost use Rattle.signal_office_line.specs.CommandLine.{ParsesAs, signal_app};
 
 use crate::arguments::{
     Argument, EXPLAIN, FILE_OR_MEMORY, FOUND_FILE, Form, ID, MADE_FILE, Usage, with_commands,
@@ -279,7 +279,7 @@ const COMMANDS: &[Usage<'static>] = &[
 
 /// The command line of the program.
 pub(crate) fn command_line<'a>(alloc: Global) -> Result<Command<'a>, AllocError>
-    ensures { IfOk result (λ c. Reads c signal_app) }
+    ensures { IfOk result (λ c. ParsesAs c signal_app) }
 {
     let program = Command::new(alloc, "signal_office")
         .about("The office of a city's traffic signals: timing plans, cabinets and stock")

@@ -8,7 +8,7 @@ ghost use Rattle.clap.specs.Values.{kind_of};
 ghost use Rattle.signal_office_line.specs.CommandLine.{signal_app};
 ghost use Rattle.signal_office_line.specs.Job.{asked, job_in};
 ghost use Rattle.signal_office_line.specs.Refusals.{IsJudged, IsRefusalTold, IsRefusedBy};
-ghost use Rattle.signal_office_line.specs.Refusals.{clap_refusals, refusals_of};
+ghost use Rattle.signal_office_line.specs.Refusals.{clap_refusals, word_refusals};
 
 use crate::command_line::command_line;
 use crate::jobs::job_at;
@@ -184,7 +184,7 @@ pub fn job_of<'a>(alloc: Global, words: &'a [&'a str]) -> Result<Job<&'a str>, J
     // A refusal is one that `clap` gives or, of words that it takes and that state no job, that of
     // a value.
     ensures refused { IfErr result (λ fault.
-        IsRefusedBy (refusals_of (map (λ word. word.now) words.entry.now)) fault) }
+        IsRefusedBy (word_refusals (map (λ word. word.now) words.entry.now)) fault) }
     // Words that `clap` takes, and that ask for a job, are refused only where memory ran out.
     ensures answered { IfErr result (λ fault.
         takes signal_app (map (λ word. word.now) words.entry.now) ≡ true →

@@ -1,13 +1,13 @@
 use Rattle.std.proofs.Common.{inl, ap, subst, ◌∙◌}
 use Rattle.signal_office_jobs.proofs.in_file.migrate.Goals as goal
 use Rattle.signal_office_jobs.specs.Printing.{joined, migrated_line}
-use Rattle.signal_office_jobs.specs.Tasks.{Tells}
+use Rattle.signal_office_jobs.specs.Tasks.{TellsOutcome}
 
 pub returns : goal.returns
 returns g c = inl (record {
   ended = c.migrate-ended.result;
   counted = c.migrate-ended.ensures;
   done = c.migrated.result;
-  tells = subst (λ outcome. Tells migrated_line (λ _. 0) outcome c.migrated.result) (c.joined.ensures ∙ ap joined c.told.ensures) c.migrated.ensures;
+  tells = subst (λ outcome. TellsOutcome migrated_line (λ _. 0) outcome c.migrated.result) (c.joined.ensures ∙ ap joined c.told.ensures) c.migrated.ensures;
   prints = c.print_done.ensures;
 })

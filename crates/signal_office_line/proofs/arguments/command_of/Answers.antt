@@ -2,8 +2,8 @@ use Rattle.std.proofs.Common.{List, map, ap, subst, ◌∙◌}
 use Rattle.std.proofs.lemmas.List.{take_all}
 use Rattle.clap.specs.{declared.builder.command.Command.Command, declared.builder.command.Command.TheOpen.Command-F, Simple.app_of_fields}
 use Rattle.clap.specs.Simple.{new_app}
-use Rattle.signal_office_line.specs.{Arguments.rule_for, CommandLine.Reads, CommandLine.with_rules, declared.arguments.Argument.Argument}
-use Rattle.signal_office_line.proofs.CommandLemmas.{Reads-arg, Reads-more}
+use Rattle.signal_office_line.specs.{Arguments.rule_for, CommandLine.ParsesAs, CommandLine.with_rules, declared.arguments.Argument.Argument}
+use Rattle.signal_office_line.proofs.CommandLemmas.{ParsesAs-arg, ParsesAs-more}
 use Rattle.signal_office_line.proofs.arguments.command_of.Goals as goal
 
 pub loop-argument-init : goal.loop-argument-init
@@ -14,14 +14,14 @@ loop-argument-init c = record {
 
 pub loop-argument-preserved : goal.loop-argument-preserved
 loop-argument-preserved c =
-    let added = Reads-arg _ _ _ _ _ c.loop-argument.invariant c.arg_of.ensures.rule
+    let added = ParsesAs-arg _ _ _ _ _ c.loop-argument.invariant c.arg_of.ensures.rule
     c.arg_of.ensures.local c.in_ok-command.ensures in
-    Reads-more _ _ c.args.usage.now.2.now c.loop-argument.argument-index _
+    ParsesAs-more _ _ c.args.usage.now.2.now c.loop-argument.argument-index _
     c.loop-argument-test.true added
 
 pub returns : goal.returns
 returns c =
-    subst (λ (xs : List Argument). Reads c.loop-argument.command
+    subst (λ (xs : List Argument). ParsesAs c.loop-argument.command
     (with_rules (new_app c.args.usage.now.0.now) (map rule_for xs)))
     (take_all c.loop-argument.argument-index c.args.usage.now.2.now c.loop-argument-test.false)
     c.loop-argument.invariant
