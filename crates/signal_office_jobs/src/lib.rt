@@ -1,9 +1,9 @@
 //! The jobs that the program's words ask for, over any office: in memory, or in a file that others
 //! open; from a source of bytes to its two outputs.
 //!
-//! A new command that only shows an office is an arm of `shown_of` (`task.rt`), with its text and
-//! its faults in `specs/Shown`. Each other one is an arm of `run_job` (`program.rt`) and a row of
-//! `Printed`, and where it works over the office of a file a `Task` with a row of `TaskDoes`.
+//! A new command that only shows an office is an arm of `shown_of` (`task.rt`) and a row of
+//! `IsShown`. Each other one is an arm of `run_job` (`program.rt`) and a row of `Printed`, and where
+//! it works over the office of a file a `Task` with an arm of `done_by` and a row of `TaskDoes`.
 #![tactic(auto)]
 
 mod done;
