@@ -61,25 +61,25 @@ OfTables says fault id tables (Err why) = fault why × OfOffice tables (λ offic
 
 -- WHAT IS SHOWN of the tables as what was asked for, or why nothing is
 abbrev pub IsShown : Shown → Content → Result (List ℕ) Fault → Type 0
-IsShown (shown.Sheet id) tables =
-    OfOne (λ office text. IsSheetOf office id text) (MeetsDamage tables (command.Timing id)) (λ office why. TellsUnknown office id why) tables
+IsShown (shown.Sheet id) tables result =
+    OfOne (λ office text. IsSheetOf office id text) (MeetsDamage tables (command.Timing id)) (λ office why. TellsUnknown office id why) tables result
 IsShown (shown.Overdue day most) tables (Ok text) = OfOffice tables (λ office. IsReportOf office day most text) × IsWholeReport tables day most text
 IsShown (shown.Overdue day most) tables (Err why) = IsFaultOfAll (MeetsDamage tables (command.Overdue day)) why
-IsShown (shown.List csv) tables =
-    OfAll (λ office text. text ≡ list_written csv (intersections_of office)) (HasAnyDamagedIntersection tables) tables
-IsShown (shown.Stock csv) tables =
-    OfAll (λ office text. text ≡ stock_written csv (stock_of office.register)) (MeetsDamage tables command.Stock) tables
-IsShown (shown.Orders id) tables =
-    OfOne (λ office text. IsOrdersListOf office id text) (MeetsOrdersDamage tables id) (λ office why. TellsOrders office id why) tables
-IsShown (shown.Cabinet id) tables =
-    OfOne (λ office text. IsRegisterOf office id text) (MeetsRegisterDamage tables id) (λ office why. TellsUnknown office id why) tables
-IsShown (shown.Export id view.Timing) tables = OfTables (ExportsTiming tables id) (λ why. IsUnshown (ShowsTiming tables id) why) id tables
-IsShown (shown.Export id view.Draft) tables = OfTables (ExportsDraft tables id) (λ why. IsUnshown (ShowsDraft tables id) why) id tables
-IsShown (shown.Export id view.Cabinet) tables = OfTables (ExportsCabinet tables id) (λ why. IsUnshown (ShowsCabinet tables id) why) id tables
-IsShown (shown.Diagram id pattern) tables = OfTables (DrawsTiming tables id pattern) (λ why. DrawsNoTiming tables id pattern why) id tables
-IsShown (shown.Page id) tables =
+IsShown (shown.List csv) tables result =
+    OfAll (λ office text. text ≡ list_written csv (intersections_of office)) (HasAnyDamagedIntersection tables) tables result
+IsShown (shown.Stock csv) tables result =
+    OfAll (λ office text. text ≡ stock_written csv (stock_of office.register)) (MeetsDamage tables command.Stock) tables result
+IsShown (shown.Orders id) tables result =
+    OfOne (λ office text. IsOrdersListOf office id text) (MeetsOrdersDamage tables id) (λ office why. TellsOrders office id why) tables result
+IsShown (shown.Cabinet id) tables result =
+    OfOne (λ office text. IsRegisterOf office id text) (MeetsRegisterDamage tables id) (λ office why. TellsUnknown office id why) tables result
+IsShown (shown.Export id view.Timing) tables result = OfTables (ExportsTiming tables id) (λ why. IsUnshown (ShowsTiming tables id) why) id tables result
+IsShown (shown.Export id view.Draft) tables result = OfTables (ExportsDraft tables id) (λ why. IsUnshown (ShowsDraft tables id) why) id tables result
+IsShown (shown.Export id view.Cabinet) tables result = OfTables (ExportsCabinet tables id) (λ why. IsUnshown (ShowsCabinet tables id) why) id tables result
+IsShown (shown.Diagram id pattern) tables result = OfTables (DrawsTiming tables id pattern) (λ why. DrawsNoTiming tables id pattern why) id tables result
+IsShown (shown.Page id) tables result =
     OfTables (λ text. OfOffice tables (λ office. IsPageOf office id text) × IsWholePage tables id text)
-    (λ why. why ≢ fault.Memory → IsRefusedShowing tables id why) id tables
+    (λ why. why ≢ fault.Memory → IsRefusedShowing tables id why) id tables result
 
 -- what is shown is told with status 0, or why it is not
 abbrev pub ShowsAs : Shown → Content → Result Done Fault → Type 0

@@ -25,3 +25,17 @@ returns-in-Abandon g c =
     let files = office_files f.held f.is_clean f.keeps f.refused f.migrated in
     done_so files (asked c.args.job.now) _ (ends_of (g.R.Source.told c.args.source.now) (g.W.Sink.told c.args.out.now))
     (ends_of (g.R.Source.told c.args.source.now) (g.W.Sink.told c.abandon.new.out)) c.abandon.result (ap asked c.in-Abandon.is) (refl, c.abandon.ensures)
+
+pub returns-in-CompareDraft : goal.returns-in-CompareDraft
+returns-in-CompareDraft g c =
+    let f = g.F.OfficeInFile in
+    let files = office_files f.held f.is_clean f.keeps f.refused f.migrated in
+    done_so files (asked c.args.job.now) _ (ends_of (g.R.Source.told c.args.source.now) (g.W.Sink.told c.args.out.now))
+    (ends_of (g.R.Source.told c.args.source.now) (g.W.Sink.told c.in_file.new.out)) c.in_file.result (ap asked c.in-CompareDraft.is) (refl, c.in_file.ensures)
+
+pub returns-in-CompareFiles : goal.returns-in-CompareFiles
+returns-in-CompareFiles g c =
+    let f = g.F.OfficeInFile in
+    let files = office_files f.held f.is_clean f.keeps f.refused f.migrated in
+    done_so files (asked c.args.job.now) _ (ends_of (g.R.Source.told c.args.source.now) (g.W.Sink.told c.args.out.now))
+    (ends_of (g.R.Source.told c.args.source.now) (g.W.Sink.told c.compare_plans.new.out)) c.compare_plans.result (ap asked c.in-CompareFiles.is) (refl, c.compare_plans.ensures)
