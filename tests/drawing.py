@@ -28,7 +28,8 @@ LAYERS = {
     "wire": (1, 1, "reads requests (2), writes answers (4)", "machine, no rows",
              ("office_http",)),
     "texts": (0, 2, "CSV, lists, pictures, pages", "plans and replies", (
-        "office_files", "office_listings", "signal_page", "signal_diagram", "signal_compare")),
+        "office_files", "office_spreadsheets", "office_listings", "signal_page", "signal_diagram",
+        "signal_compare")),
     "desk": (1, 2, "reads, decides, gives changes (3)", "machine and tables", ("office_desk",)),
     "tables": (1, 3, "eight maps: memory or SQL (5)", "rows and records", ("office_tables",)),
     "machine": (1, 4, "what each command means", "no storage", ("office_machine",)),
@@ -287,8 +288,10 @@ def picture():
 
 def layer_of(name):
     """The layer of a crate; none of a test."""
-    fits = (it for it, (*_, fronts) in LAYERS.items() if name.startswith(fronts))
-    return None if name in TESTS or name == "office_lives" else next(fits)
+    if name in TESTS or name == "office_lives":
+        return None
+    fits = [it for it, (*_, fronts) in LAYERS.items() if name.startswith(fronts)]
+    return fits[0] if fits else sys.exit(f"drawing.py: LAYERS has no layer for {name}")
 
 
 def layer_arrows():
