@@ -11,4 +11,5 @@ mod RevisingLemmas
 mod StandingLemmas
 pub mod SheetLemmas
 pub mod ShownLemmas
+pub mod StopLemmas
 pub mod UnknownLemmas

@@ -18,5 +18,6 @@ pub mod Revising
 pub mod Replacing
 pub mod Sheet
 pub mod Showing
+pub mod Stopping
 pub mod Explaining
 pub mod Telling

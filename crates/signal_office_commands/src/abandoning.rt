@@ -2,6 +2,7 @@
 
 ghost use Rattle.signal_office_commands.specs.Commands.{Abandons};
 ghost use Rattle.office_desk.specs.Running.{MakesTables};
+ghost use Rattle.signal_office_commands.specs.Stopping.{AfterAbandoning, StopLeaves};
 
 use crate::editing::moved;
 use office_desk::office::Office;
@@ -22,6 +23,7 @@ pub fn abandon_draft<S: Shelf>(
     ensures honest { S.is_honest office.new → S.is_honest office.old }
     ensures abandons { MakesTables S.Shelf office.old office.new
         (λ old new. Abandons id clerk.now old new result) }
+    ensures stop { StopLeaves S.Shelf office.old office.new (AfterAbandoning id clerk.now) }
 {
     let clerk = clerk.clone()?;
     let reply = office.run(alloc, &Command::Abandon { id, clerk });

@@ -3,6 +3,7 @@
 ghost use Rattle.std.specs.Prelude.{◌≡◌};
 ghost use Rattle.signal_office_commands.specs.Commands.{Adds, entered_told};
 ghost use Rattle.office_desk.specs.Running.{MakesTables};
+ghost use Rattle.signal_office_commands.specs.Stopping.{AfterAdding, StopLeaves};
 
 use crate::refused::fault_of;
 use office_desk::office::Office;
@@ -47,6 +48,7 @@ pub fn add_intersection<S: Shelf>(
     ensures honest { S.is_honest office.new → S.is_honest office.old }
     ensures adds { MakesTables S.Shelf office.old office.new
         (λ old new. Adds id interval name.now old new result) }
+    ensures stop { StopLeaves S.Shelf office.old office.new (AfterAdding id interval name.now) }
 {
     let name = name.clone()?;
     let reply = office.run(alloc, &Command::AddIntersection { id, interval, name });

@@ -1,11 +1,12 @@
 //! A draft that is edited by a plan's CSV file, and committed.
 
-ghost use Rattle.std.specs.Prelude.{◌≡◌};
+ghost use Rattle.std.specs.Prelude.{◌≡◌, true};
 ghost use Rattle.signal_office_commands.specs.Editing.{begun, commit_commands, commit_told};
 ghost use Rattle.signal_office_commands.specs.Editing.{drafted};
 ghost use Rattle.signal_office_commands.specs.Editing.{edit_commands, edit_told, moved, opened};
 ghost use Rattle.signal_office_commands.specs.Editing.{is_due, Does, EditsAs, Goes};
 ghost use Rattle.office_desk.specs.Running.{MakesTables};
+ghost use Rattle.signal_office_commands.specs.Stopping.{AfterEditing, AfterOneOf, StopLeaves};
 
 use crate::refused::fault_of;
 use draft_core::changes::Changes;
@@ -107,6 +108,7 @@ fn run_edit<S: Shelf>(
     ensures honest { S.is_honest office.new → S.is_honest office.old }
     ensures does { MakesTables S.Shelf office.old office.new
         (λ old new. Does edit_told old commands.now new result) }
+    ensures stop { StopLeaves S.Shelf office.old office.new (AfterOneOf commands.now) }
 {
     edit_told(office.run_all(alloc, commands)?)
 }
@@ -121,6 +123,7 @@ fn run_commit<S: Shelf>(
     ensures honest { S.is_honest office.new → S.is_honest office.old }
     ensures does { MakesTables S.Shelf office.old office.new
         (λ old new. Does commit_told old commands.now new result) }
+    ensures stop { StopLeaves S.Shelf office.old office.new (AfterOneOf commands.now) }
 {
     commit_told(&office.run_all(alloc, commands)?)
 }
@@ -138,6 +141,8 @@ fn edit_draft<S: Shelf>(
     ensures honest { S.is_honest office.new → S.is_honest office.old }
     ensures does { MakesTables S.Shelf office.old office.new
         (λ old new. Does edit_told old (edit_commands id clerk.now changes) new result) }
+    ensures stop { StopLeaves S.Shelf office.old office.new
+        (AfterOneOf (edit_commands id clerk.now changes)) }
 {
     let (first, second) = (clerk.clone()?, clerk.clone()?);
     let commands = [
@@ -163,6 +168,8 @@ fn commit_draft<S: Shelf>(
     ensures honest { S.is_honest office.new → S.is_honest office.old }
     ensures does { MakesTables S.Shelf office.old office.new
         (λ old new. Does commit_told old (commit_commands id clerk.now) new result) }
+    ensures stop { StopLeaves S.Shelf office.old office.new
+        (AfterOneOf (commit_commands id clerk.now)) }
 {
     let (first, second, third) = (clerk.clone()?, clerk.clone()?, clerk.clone()?);
     let commands = [
@@ -192,6 +199,8 @@ pub(crate) fn commit_where_due<S: Shelf>(
     ensures honest { S.is_honest office.new → S.is_honest office.old }
     ensures goes { MakesTables S.Shelf office.old office.new
         (λ old new. Goes due id clerk.now old new result) }
+    ensures stop { StopLeaves S.Shelf office.old office.new
+        (λ old found. (due ≡ true) × AfterOneOf (commit_commands id clerk.now) old found) }
 {
     if due {
         return commit_draft(alloc, office, id, clerk);
@@ -214,6 +223,8 @@ pub fn edit_plan<S: Shelf>(
     ensures honest { S.is_honest office.new → S.is_honest office.old }
     ensures edits { MakesTables S.Shelf office.old office.new
         (λ old new. EditsAs bytes.now id clerk.now commit old new result) }
+    ensures stop { StopLeaves S.Shelf office.old office.new
+        (AfterEditing bytes.now id clerk.now commit) }
 {
     let changes = Changes::new(read_timing_csv(alloc, bytes)?);
     let violations = edit_draft(alloc, office, id, clerk, changes)?;

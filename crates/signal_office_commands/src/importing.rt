@@ -3,6 +3,7 @@
 ghost use Rattle.signal_office_commands.specs.Importing.{Imports, import_told};
 ghost use Rattle.std.specs.Prelude.{◌≡◌};
 ghost use Rattle.office_desk.specs.Running.{MakesTables};
+ghost use Rattle.signal_office_commands.specs.Stopping.{AfterImporting, StopLeaves};
 
 use crate::refused::fault_of;
 use office_desk::office::Office;
@@ -46,6 +47,7 @@ pub fn import_csv<S: Shelf>(
     ensures honest { S.is_honest office.new → S.is_honest office.old }
     ensures imports { MakesTables S.Shelf office.old office.new
         (λ old new. Imports bytes.now old new result) }
+    ensures stop { StopLeaves S.Shelf office.old office.new (AfterImporting bytes.now) }
 {
     let records = Records::new(read_records_csv(alloc, bytes)?);
     let reply = office.run(alloc, &Command::Import { records });

@@ -1,0 +1,47 @@
+-- What a stop leaves of a command that changes the tables, as it is run and after it.
+use Rattle.std.specs.Prelude.{◌≡◌, ◌⊎◌, ℕ, Bool, true, List, [], ◌∷◌, Ok}
+use Rattle.office_tables_shelf.specs.Content.{Content}
+use Rattle.office_tables_shelf.specs.declared.shelf.Shelf.{Ghosts}
+use Rattle.cabinet_core.specs.declared.command.RecordCommand.{RecordCommand}
+use Rattle.signal_records.specs.declared.record.Change.{Change}
+use Rattle.signal_rules.specs.declared.violation.Violation.{Violation}
+use Rattle.office_files.specs.Changes.{changes_of}
+use Rattle.office_files.specs.Records.{commands_of}
+use Rattle.office_desk.specs.Answers.{AnswersAny, IsAfterStep}
+use Rattle.office_desk.specs.Running.{TellsTables}
+use Rattle.office_machine.specs.declared.command.Command.{Command}
+use Rattle.office_machine.specs.declared.command.Command.TheVariants as command
+use Rattle.office_machine.specs.declared.reply.Reply.{Reply}
+use Rattle.signal_office_commands.specs.Asking.{Ran}
+use Rattle.signal_office_commands.specs.Editing.{commit_commands, edit_commands, edit_told, is_due}
+
+-- On a clean disk a stop leaves what it could before, or such tables, made of those that an open database held.
+abbrev pub StopLeaves : {S : Type 0} → Ghosts S → (old new : S) → (Content → Content → Type 0) → Type 0
+StopLeaves g old new After =
+    TellsTables g old new (λ tables. (found : Content) → g.may_leave new found → g.may_leave old found ⊎ After tables found)
+
+-- tables after the own step of one of the commands, whether or not it was answered; those before it were run in turn
+abbrev pub AfterOneOf : List Command → Content → Content → Type 0
+AfterOneOf [] old found = ⊥
+AfterOneOf (command ∷ commands) old found =
+    IsAfterStep old command found
+    ⊎ ((reply : Reply) × (middle : Content) × AnswersAny old command reply middle × AfterOneOf commands middle found)
+
+-- tables after an intersection was added, a draft was dropped, the records of a file were imported: all of them
+abbrev pub AfterAdding : (id interval : ℕ) → (name : List ℕ) → Content → Content → Type 0
+AfterAdding id interval name old found = IsAfterStep old (command.AddIntersection id interval name) found
+
+abbrev pub AfterAbandoning : (id : ℕ) → (clerk : List ℕ) → Content → Content → Type 0
+AfterAbandoning id clerk old found = IsAfterStep old (command.Abandon id clerk) found
+
+abbrev pub AfterImporting : (bytes : List ℕ) → Content → Content → Type 0
+AfterImporting bytes old found =
+    (records : List RecordCommand) × (commands_of bytes ≡ Ok records) × IsAfterStep old (command.Import records) found
+
+-- Tables after a step of the edit; or, where a commit is asked for and the edited draft breaks no rule, after a step of the commit.
+abbrev pub AfterEditing : (bytes : List ℕ) → (id : ℕ) → (clerk : List ℕ) → (commit : Bool) → Content → Content → Type 0
+AfterEditing bytes id clerk commit old found =
+    (changes : List Change) × (changes_of bytes ≡ Ok changes)
+    × (AfterOneOf (edit_commands id clerk changes) old found
+    ⊎ ((middle : Content) × (violations : List Violation) × Ran edit_told old (edit_commands id clerk changes) middle (Ok violations)
+    × (is_due commit violations ≡ true) × AfterOneOf (commit_commands id clerk) middle found))
