@@ -1,5 +1,6 @@
 pub mod MemoryLemmas
 pub mod PrintingLemmas
+mod RevisedLemmas
 pub mod RunLemmas
 pub mod ShownLemmas
 pub mod TaskLemmas

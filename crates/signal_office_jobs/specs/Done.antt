@@ -6,6 +6,9 @@ use Rattle.signal_compare.specs.Text.{comparison_text}
 use Rattle.office_files.specs.Timing.{changes_csv_text}
 use Rattle.signal_reasons.specs.declared.reason.Explained.{Explained}
 use Rattle.signal_rules.specs.declared.violation.Violation.{Violation}
+use Rattle.signal_office_commands.specs.declared.revising.Outcome.{Outcome}
+use Rattle.signal_office_commands.specs.declared.revising.Outcome.TheVariants.{Open, Same, Committed}
+use Rattle.signal_office_commands.specs.declared.revising.Revised.{Revised}
 use Rattle.signal_office_faults.specs.declared.fault.Fault.{Fault}
 use Rattle.signal_office_faults.specs.declared.fault.Fault.TheVariants as fault
 use Rattle.signal_office_jobs.specs.declared.done.Done.{Done}
@@ -32,18 +35,21 @@ abbrev pub explained_status : List Explained → ℕ
 explained_status found = if length found == 0 then 0 else 3
 
 -- the status of an edited draft: 3 where it was to be committed, and breaks a rule
-abbrev pub edited_status : Bool → List Violation → ℕ
-edited_status commit violations = if commit then checked_status violations else 0
+abbrev pub edited_status : Bool → Outcome → List Violation → ℕ
+edited_status commit Same violations = 0
+edited_status commit Open violations = if commit then checked_status violations else 0
+edited_status commit Committed violations = if commit then checked_status violations else 0
 
 -- the status of a comparison: 4 where the plans differ
 abbrev pub compared_status : List Difference → ℕ
 compared_status differences = if length differences == 0 then 0 else 4
 
--- whether an edited draft was committed; one that was to be, and was not, is told
-abbrev pub commit_line : (commit committed : Bool) → List ℕ
-commit_line commit true = codes "committed\n"
-commit_line true false = codes "not committed: the draft stays open; go on with edit, or drop it with abandon\n"
-commit_line false false = []
+-- what became of an edited draft; that one which was to be committed was not is told
+abbrev pub outcome_line : (commit : Bool) → Outcome → List ℕ
+outcome_line commit Same = codes "no changes\n"
+outcome_line commit Committed = codes "committed\n"
+outcome_line true Open = codes "not committed: the draft stays open; go on with edit, or drop it with abandon\n"
+outcome_line false Open = []
 
 -- what plans differ in, as a text or as CSV
 abbrev pub compared_text : (csv : Bool) → List Difference → List ℕ

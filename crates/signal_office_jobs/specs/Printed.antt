@@ -1,5 +1,5 @@
 -- What each job prints, the status or fault that comes of it, and what becomes of the office.
-use Rattle.std.specs.Prelude.{◌≡◌, ◌≢◌, ℕ, Bool, true, false, List, Option, Some, None, Result, Ok, Err, unwrap_or}
+use Rattle.std.specs.Prelude.{◌≡◌, ◌≢◌, ℕ, Bool, true, false, List, Option, Some, None, Result, Ok, Err, option_map, unwrap_or}
 use Rattle.office_desk.specs.StandFor.{StandForSound}
 use Rattle.office_files.specs.Changes.{changes_of}
 use Rattle.office_files.specs.declared.fault.CsvFault.{CsvFault}
@@ -24,6 +24,10 @@ use Rattle.signal_office_faults.specs.declared.fault.Fault.TheVariants as fault
 use Rattle.signal_office_in_file.specs.Ended.{Answers, EndsOver, FileView, file_view, told_by}
 use Rattle.signal_office_in_file.specs.declared.Ended.{Ended}
 use Rattle.signal_office_line.specs.Job.{Asked}
+use Rattle.clap.specs.Walk.{Text}
+use Rattle.signal_office_commands.specs.declared.revising.EditMode.{EditMode}
+use Rattle.signal_office_line.specs.declared.job.CsvFile.{CsvFile}
+use Rattle.signal_office_line.specs.declared.job.Edit.{Edit}
 use Rattle.signal_office_line.specs.declared.job.Job.TheVariants as job
 use Rattle.signal_office_line.specs.declared.shows.PlanShown.{PlanShown}
 use Rattle.signal_office_line.specs.declared.shows.PlanShown.TheVariants as plan
@@ -32,9 +36,9 @@ use Rattle.signal_reasons.specs.declared.reason.Explained.{Explained}
 use Rattle.signal_rules.specs.declared.violation.Violation.{Violation}
 use Rattle.signal_office_jobs.specs.Done.{checked_status, compared_status, compared_text, explained_status, status_of, text_of}
 use Rattle.signal_office_jobs.specs.Memory.{ServesInMemory, new_office}
-use Rattle.signal_office_jobs.specs.Printing.{InFoundFile, InNewFile, Looking, Made, MigratesFile, Naming, OnDay, Output, PrintsDone, Reading, Silent}
+use Rattle.signal_office_jobs.specs.Printing.{InFoundFile, InNewFile, Looking, Made, MigratesFile, Naming, OnDay, Output, PrintsDone, ReadingAnyCsv, ReadingCsv, Silent}
 use Rattle.signal_office_jobs.specs.Shown.{ShowsAs}
-use Rattle.signal_office_jobs.specs.Tasks.{AbandonsAs, AddsAs, ComparesAs, EditsBy, ImportsAs, ServesAs}
+use Rattle.signal_office_jobs.specs.Tasks.{AbandonsAs, AddsAs, ComparesAs, ComparesWith, EditsBy, ImportsAs, ServesAs}
 use Rattle.signal_office_jobs.specs.declared.done.Done.{Done}
 use Rattle.signal_office_line.specs.declared.shows.Shown.{Shown}
 use Rattle.signal_office_line.specs.declared.shows.Shown.TheVariants as shown
@@ -122,6 +126,10 @@ Shows view it = InFoundFile view (Looking (ShowsAs it))
 abbrev pub all_intersections : ℕ
 all_intersections = 9_999
 
+-- how an edit changes a plan
+abbrev pub mode_of : {T : Type 0} → Edit T → EditMode
+mode_of edit = record { replace = edit.replace; commit = edit.commit }
+
 -- WHAT IS PRINTED for each job; the answers of `batch` are said by `JobDoes`.
 abbrev pub Printed : {Left : Type 0} → OfficeFiles Left → Asked → Output
 Printed files (job.Batch db) start end result = ⊥
@@ -134,16 +142,19 @@ Printed files (job.Add db id interval name) start end result =
     Naming 120 name fault.Name (InNewFile files.view (Silent (AddsAs id interval name))) start end result
 Printed files (job.Migrate db) start end result = MigratesFile files.view files.migrated start end result
 Printed files (job.Import db csv) start end result =
-    Reading (λ records. InNewFile files.view (Silent (ImportsAs records))) start end result
+    ReadingCsv csv.padded (λ records. InNewFile files.view (Silent (ImportsAs records))) start end result
 Printed files (job.Edit e) start end result =
     Naming 40 e.clerk fault.Clerk
-    (Reading (λ plan. InFoundFile files.view (Silent (EditsBy plan e.id e.clerk e.commit e.explain)))) start end result
+    (ReadingAnyCsv (option_map (λ (csv : CsvFile Text). csv.padded) e.csv) (λ plan. InFoundFile files.view
+    (Silent (EditsBy plan e.id e.clerk (mode_of e) e.explain)))) start end result
 Printed files (job.Abandon db clerk id) start end result =
     Naming 40 clerk fault.Clerk (InFoundFile files.view (Silent (AbandonsAs id clerk))) start end result
 Printed files (job.CompareDraft db id csv) start end result = InFoundFile files.view (Looking (ComparesAs id csv)) start end result
+Printed files (job.CompareRunning db id plan csv) start end result =
+    ReadingCsv plan.padded (λ other. InFoundFile files.view (Looking (ComparesWith id other csv))) start end result
 Printed files (job.CompareFiles first second csv) start end result =
-    Reading (λ plan. Reading (λ other. Made (Compares csv plan other))) start end result
-Printed files (job.ShowPlan csv it) start end result = Reading (λ plan. Made (ShowsPlan it plan)) start end result
+    ReadingCsv first.padded (λ plan. ReadingCsv second.padded (λ other. Made (Compares csv plan other))) start end result
+Printed files (job.ShowPlan csv it) start end result = ReadingCsv csv.padded (λ plan. Made (ShowsPlan it plan)) start end result
 
 -- what each job does: the input is read by `batch` alone
 abbrev pub JobDoes : {Left : Type 0} → OfficeFiles Left → Asked → Exchange

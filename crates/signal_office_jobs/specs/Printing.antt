@@ -1,9 +1,10 @@
 -- What a command prints, as its outputs take it.
-use Rattle.std.specs.Prelude.{◌≡◌, ◌⊎◌, ℕ, Bool, true, false, List, ◌++◌, codes, decimal, Result, Ok, Err}
+use Rattle.std.specs.Prelude.{◌≡◌, ◌⊎◌, ℕ, Bool, true, false, List, [], Option, Some, None, ◌++◌, codes, decimal, Result, Ok, Err}
 use Rattle.std.specs.Io.KnownBytes.{Appends}
 use Rattle.cabinet_core.specs.Day.{SpellsDay}
 use Rattle.office_http_framing.specs.Ends.{AppendsPart, FailsOrGivesNone, Told}
 use Rattle.office_tables_shelf.specs.Content.{Content}
+use Rattle.office_spreadsheets.specs.Padded.{unpadded_text}
 use Rattle.signal_office_faults.specs.Lines.{IsUnreadFile}
 use Rattle.signal_office_faults.specs.declared.fault.Fault.{Fault}
 use Rattle.signal_office_faults.specs.declared.fault.Fault.TheVariants as fault
@@ -73,6 +74,23 @@ OnDay word next start end result =
 abbrev pub Reading : (List ℕ → Output) → Output
 Reading next start end result =
     ((bytes : List ℕ) × next bytes start end result) ⊎ ((why : Fault) × IsUnreadFile why × TellsNothing why start end result)
+
+-- the text of a CSV file: its bytes, or those of a file whose records are padded, without that
+abbrev pub text_in : (padded : Bool) → (bytes : List ℕ) → List ℕ
+text_in true bytes = unpadded_text bytes
+text_in false bytes = bytes
+
+-- the same of a file that may be left out, which has no record then
+abbrev pub text_in_any : (padded : Option Bool) → (bytes : List ℕ) → List ℕ
+text_in_any (Some padded) bytes = text_in padded bytes
+text_in_any None bytes = []
+
+-- a CSV file was read, and this is done with its text; or it was not
+abbrev pub ReadingCsv : (padded : Bool) → (List ℕ → Output) → Output
+ReadingCsv padded next = Reading (λ bytes. next (text_in padded bytes))
+
+abbrev pub ReadingAnyCsv : (padded : Option Bool) → (List ℕ → Output) → Output
+ReadingAnyCsv padded next = Reading (λ bytes. next (text_in_any padded bytes))
 
 -- ---- the file of an office
 

@@ -13,9 +13,9 @@ use Rattle.office_machine.specs.Office.{Office}
 use Rattle.office_tables_shelf.specs.Content.{Content}
 use Rattle.signal_compare.specs.declared.difference.Difference.{Difference}
 use Rattle.signal_office_commands.specs.Commands.{Adds, Abandons}
-use Rattle.signal_office_commands.specs.Comparing.{ComparesDraft, ComparesNoDraft}
+use Rattle.signal_office_commands.specs.Comparing.{ComparesDraft, ComparesNoDraft, ComparesNoRunning, ComparesRunning}
 use Rattle.signal_office_commands.specs.Importing.{Imports}
-use Rattle.signal_office_commands.specs.Editing.{EditsAs}
+use Rattle.signal_office_commands.specs.Revising.{RevisesAs}
 use Rattle.signal_office_commands.specs.Explaining.{ExplainsDraft}
 use Rattle.signal_office_commands.specs.Showing.{ShowsDraft}
 use Rattle.signal_rules.specs.declared.violation.Violation.{Violation}
@@ -25,15 +25,18 @@ use Rattle.office_files.specs.Violations.{violations_text}
 use Rattle.signal_office_commands.specs.declared.adding.Entered.{Entered}
 use Rattle.signal_office_commands.specs.declared.adding.Entered.TheVariants as entered
 use Rattle.signal_office_commands.specs.declared.importing.Imported.{Imported}
-use Rattle.signal_office_commands.specs.declared.editing.Edited.{Edited}
+use Rattle.signal_office_commands.specs.declared.revising.EditMode.{EditMode}
+use Rattle.signal_office_commands.specs.declared.revising.Outcome.{Outcome}
+use Rattle.signal_office_commands.specs.declared.revising.Outcome.TheVariants.{Open, Same, Committed}
+use Rattle.signal_office_commands.specs.declared.revising.Revised.{Revised}
 use Rattle.signal_office_faults.specs.declared.fault.Fault.{Fault}
 use Rattle.signal_office_faults.specs.declared.fault.Fault.TheVariants as fault
-use Rattle.signal_office_jobs.specs.Done.{TellsAs, commit_line, compared_status, compared_text, edited_status, status_of, text_of}
+use Rattle.signal_office_jobs.specs.Done.{TellsAs, compared_status, compared_text, edited_status, outcome_line, status_of, text_of}
 use Rattle.signal_office_jobs.specs.Serving.{ServesPort}
 use Rattle.signal_office_jobs.specs.Shown.{ShowsAs}
 use Rattle.signal_office_jobs.specs.declared.done.Done.{Done}
 use Rattle.signal_office_jobs.specs.declared.task.Task.{Task}
-use Rattle.signal_office_jobs.specs.declared.task.Task.TheVariants.{Serve, Show, Add, Import, Edit, Abandon, Compare}
+use Rattle.signal_office_jobs.specs.declared.task.Task.TheVariants.{Serve, Show, Add, Import, Edit, Abandon, Compare, CompareWith}
 
 -- a server, an intersection that is added and an import begin a new office where there is none;
 -- whatever asks, or changes a plan, does not
@@ -83,25 +86,26 @@ abbrev pub ImportsAs : (csv : List ℕ) → Content → Result Done Fault → Co
 ImportsAs csv old result new = (imported : Result Imported Fault) × Imports csv old new imported × TellsOutcome imported_line (λ _. 0) imported result
 
 -- The rules that an edited draft breaks, as they are told: where that is asked and the draft stays open, those of the draft that the tables hold, each with
--- its reason.
-abbrev pub IsBroken : (explain committed : Bool) → (id : ℕ) → Content → List Violation → (text : List ℕ) → Type 0
-IsBroken true false id tables violations text = (found : List Explained) × ExplainsDraft tables id found × (text ≡ explained_text_of found)
-IsBroken true true id tables violations text = text ≡ violations_text violations
-IsBroken false committed id tables violations text = text ≡ violations_text violations
+-- its reason. Of a draft that would be the committed set nothing is told.
+abbrev pub IsBroken : (explain : Bool) → Outcome → (id : ℕ) → Content → List Violation → (text : List ℕ) → Type 0
+IsBroken explain Same id tables violations text = text ≡ []
+IsBroken true Open id tables violations text = (found : List Explained) × ExplainsDraft tables id found × (text ≡ explained_text_of found)
+IsBroken false Open id tables violations text = text ≡ violations_text violations
+IsBroken explain Committed id tables violations text = text ≡ violations_text violations
 
--- The edit is told: its fault; or what the draft breaks, and whether it was committed. A fault after the edit is why a draft with reasons is not shown, or
+-- The edit is told: its fault; or what the draft breaks, and what became of it. A fault after the edit is why a draft with reasons is not shown, or
 -- that memory was refused.
-abbrev pub TellsEdit : (commit explain : Bool) → (id : ℕ) → Content → Result Edited Fault → Result Done Fault → Type 0
-TellsEdit commit explain id tables (Ok edited) (Ok done) =
-    (broken : List ℕ) × IsBroken explain edited.committed id tables edited.violations broken
-    × (text_of done ≡ broken ++ commit_line commit edited.committed) × (status_of done ≡ edited_status commit edited.violations)
-TellsEdit commit explain id tables (Ok edited) (Err why) =
-    why ≢ fault.Memory → (explain ≡ true) × (edited.committed ≡ false) × ShowsDraft tables id (Err why)
+abbrev pub TellsEdit : (commit explain : Bool) → (id : ℕ) → Content → Result Revised Fault → Result Done Fault → Type 0
+TellsEdit commit explain id tables (Ok revised) (Ok done) =
+    (broken : List ℕ) × IsBroken explain revised.outcome id tables revised.violations broken
+    × (text_of done ≡ broken ++ outcome_line commit revised.outcome) × (status_of done ≡ edited_status commit revised.outcome revised.violations)
+TellsEdit commit explain id tables (Ok revised) (Err why) =
+    why ≢ fault.Memory → (explain ≡ true) × (revised.outcome ≡ Open) × ShowsDraft tables id (Err why)
 TellsEdit commit explain id tables (Err why) result = result ≡ Err why
 
-abbrev pub EditsBy : (csv : List ℕ) → (id : ℕ) → (clerk : List ℕ) → (commit explain : Bool) → Content → Result Done Fault → Content → Type 0
-EditsBy csv id clerk commit explain old result new =
-    (edited : Result Edited Fault) × EditsAs csv id clerk commit old new edited × TellsEdit commit explain id new edited result
+abbrev pub EditsBy : (csv : List ℕ) → (id : ℕ) → (clerk : List ℕ) → (mode : EditMode) → (explain : Bool) → Content → Result Done Fault → Content → Type 0
+EditsBy csv id clerk mode explain old result new =
+    (revised : Result Revised Fault) × RevisesAs csv id clerk mode old new revised × TellsEdit mode.commit explain id new revised result
 
 abbrev pub AbandonsAs : (id : ℕ) → (clerk : List ℕ) → Content → Result Done Fault → Content → Type 0
 AbandonsAs id clerk old result new = (moved : Result ⊤ Fault) × Abandons id clerk old new moved × TellsOutcome (λ _. codes "abandoned\n") (λ _. 0) moved result
@@ -112,12 +116,19 @@ ComparesAs id csv old (Ok done) = (found : List Difference) × ComparesDraft old
     × (text_of done ≡ compared_text csv found) × (status_of done ≡ compared_status found)
 ComparesAs id csv old (Err why) = why ≢ fault.Memory → ComparesNoDraft old id why
 
+-- the same of what the plan of a file differs in from the committed set
+abbrev pub ComparesWith : (id : ℕ) → (plan : List ℕ) → (csv : Bool) → Content → Result Done Fault → Type 0
+ComparesWith id plan csv old (Ok done) = (found : List Difference) × ComparesRunning old id plan found
+    × (text_of done ≡ compared_text csv found) × (status_of done ≡ compared_status found)
+ComparesWith id plan csv old (Err why) = why ≢ fault.Memory → ComparesNoRunning old id plan why
+
 -- What a task makes of the tables, what it gives, and what its output took. A task that only shows leaves both as they were.
 abbrev pub TaskDoes : Task → Content → Result Done Fault → Content → Told → Told → Type 0
 TaskDoes (Serve port count) old result new start end = ServesAs port count old result new start end
 TaskDoes (Show shown) old result new start end = (new ≡ old) × (end ≡ start) × ShowsAs shown old result
 TaskDoes (Add id interval name) old result new start end = AddsAs id interval name.now old result new × (end ≡ start)
 TaskDoes (Import csv) old result new start end = ImportsAs csv.now old result new × (end ≡ start)
-TaskDoes (Edit id clerk csv commit explain) old result new start end = EditsBy csv.now id clerk.now commit explain old result new × (end ≡ start)
+TaskDoes (Edit id clerk csv mode explain) old result new start end = EditsBy csv.now id clerk.now mode explain old result new × (end ≡ start)
 TaskDoes (Abandon id clerk) old result new start end = AbandonsAs id clerk.now old result new × (end ≡ start)
 TaskDoes (Compare id csv) old result new start end = (new ≡ old) × (end ≡ start) × ComparesAs id csv old result
+TaskDoes (CompareWith id plan csv) old result new start end = (new ≡ old) × (end ≡ start) × ComparesWith id plan.now csv old result

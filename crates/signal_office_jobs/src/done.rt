@@ -2,9 +2,9 @@
 
 ghost use Rattle.std.specs.Prelude.{◌≡◌, ◌++◌, IfOk};
 ghost use Rattle.office_files.specs.Violations.{violations_text};
-ghost use Rattle.signal_office_jobs.specs.Done.{TellsAs, checked_status, commit_line};
-ghost use Rattle.signal_office_jobs.specs.Done.{compared_status, compared_text, edited_status};
-ghost use Rattle.signal_office_jobs.specs.Done.{explained_status, status_of, text_of};
+ghost use Rattle.signal_office_jobs.specs.Done.{TellsAs, checked_status, compared_status};
+ghost use Rattle.signal_office_jobs.specs.Done.{compared_text, edited_status, explained_status};
+ghost use Rattle.signal_office_jobs.specs.Done.{outcome_line, status_of, text_of};
 ghost use Rattle.signal_office_jobs.specs.Printing.{Prints, PrintsDone, joined, migrated_line};
 ghost use Rattle.signal_office_jobs.specs.Tasks.{TellsOutcome, entered_line, imported_line};
 ghost use Rattle.signal_reasons.specs.Texts.{explained_text_of};
@@ -12,7 +12,7 @@ ghost use Rattle.signal_reasons.specs.Texts.{explained_text_of};
 use office_files::{changes_csv, violation_text};
 use office_http::{Sink, write_all};
 use signal_compare::{Difference, changes, comparison_text};
-use signal_office_commands::{Edited, Entered, Fault, Imported};
+use signal_office_commands::{Entered, Fault, Imported, Outcome, Revised};
 use signal_reasons::{Explained, explained_text};
 use signal_records::NoMemory;
 use signal_rules::Violation;
@@ -28,27 +28,46 @@ const DIFFERS: u8 = 4;
 const NOT_COMMITTED: &[u8] =
     b"not committed: the draft stays open; go on with edit, or drop it with abandon\n";
 
-/// The rules that an edited draft breaks, with the line that tells whether it was committed.
-fn with_commit(broken: Vec<u8>, committed: bool, commit: bool) -> Result<Vec<u8>, NoMemory>
-    ensures { IfOk result (λ text. text.items ≡ broken.items ++ commit_line commit committed) }
+/// The line that tells what became of an edited draft.
+fn outcome_line(commit: bool, outcome: Outcome) -> &'static [u8]
+    ensures { result.now ≡ outcome_line commit outcome }
+{
+    match outcome {
+        Outcome::Same => b"no changes\n",
+        Outcome::Committed => b"committed\n",
+        Outcome::Open if commit => NOT_COMMITTED,
+        Outcome::Open => b"",
+    }
+}
+
+/// The rules that an edited draft breaks, with that line.
+fn with_outcome(broken: Vec<u8>, outcome: Outcome, commit: bool) -> Result<Vec<u8>, NoMemory>
+    ensures { IfOk result (λ text. text.items ≡ broken.items ++ outcome_line commit outcome) }
 {
     let mut text = broken;
-    if committed {
-        text.extend_from_slice(b"committed\n")?;
-    } else if commit {
-        text.extend_from_slice(NOT_COMMITTED)?;
-    }
+    text.extend_from_slice(outcome_line(commit, outcome))?;
     Ok(text)
 }
 
-/// The status of an edited draft.
-fn edited_status(edited: &Edited, commit: bool) -> u8
-    ensures { result ≡ edited_status commit edited.now.violations }
+/// The status of a draft that was to be committed or not.
+fn commit_status(commit: bool, violations: &[Violation]) -> u8
+    ensures { result ≡ edited_status commit Outcome.Open violations.now }
 {
-    if commit && !edited.violations.as_slice().is_empty() {
+    if commit && !violations.is_empty() {
         HAS_VIOLATIONS
     } else {
         0
+    }
+}
+
+/// The status of an edited draft.
+fn edited_status(revised: &Revised, commit: bool) -> u8
+    ensures { result ≡ edited_status commit revised.now.outcome revised.now.violations }
+{
+    match revised.outcome {
+        Outcome::Same => 0,
+        Outcome::Open => commit_status(commit, revised.violations.as_slice()),
+        Outcome::Committed => commit_status(commit, revised.violations.as_slice()),
     }
 }
 
@@ -114,14 +133,14 @@ impl Done {
         Ok(Done::with(line.into_bytes()))
     }
 
-    /// The rules that an edited draft breaks, which are told already, and whether it was committed.
-    /// A commit that was asked for and not made is told, and by the status.
-    pub(crate) fn editing(broken: Vec<u8>, edited: &Edited, commit: bool) -> Result<Done, Fault>
-        ensures { TellsAs (broken.items ++ commit_line commit edited.now.committed)
-            (edited_status commit edited.now.violations) result }
+    /// The rules that an edited draft breaks, which are told already, and what became of it. A
+    /// commit that was asked for and not made is told, and by the status.
+    pub(crate) fn editing(broken: Vec<u8>, revised: &Revised, commit: bool) -> Result<Done, Fault>
+        ensures { TellsAs (broken.items ++ outcome_line commit revised.now.outcome)
+            (edited_status commit revised.now.outcome revised.now.violations) result }
     {
-        let text = with_commit(broken, edited.committed, commit)?;
-        let status = edited_status(edited, commit);
+        let text = with_outcome(broken, revised.outcome, commit)?;
+        let status = edited_status(revised, commit);
         Ok(Done { text, status })
     }
 

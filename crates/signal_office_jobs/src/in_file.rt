@@ -1,23 +1,26 @@
 //! Jobs over the office of a file.
 
-ghost use Rattle.std.specs.Prelude.{◌≡◌, Option, unwrap_or};
+ghost use Rattle.std.specs.Prelude.{◌≡◌, Option, option_map, unwrap_or};
 ghost use Rattle.signal_office_in_file.specs.Ended.{file_view};
 ghost use Rattle.signal_office_faults.specs.declared.fault.Fault.TheVariants as fault;
 ghost use Rattle.signal_office_jobs.specs.Printed.{Shows, all_intersections};
 ghost use Rattle.signal_office_jobs.specs.Printing.{InFile, InFoundFile, InNewFile, IsDayRead};
 ghost use Rattle.signal_office_jobs.specs.Printing.{IsNameRead, MigratesFile, Naming, OnDay};
-ghost use Rattle.signal_office_jobs.specs.Printing.{Reading, Silent};
-ghost use Rattle.signal_office_jobs.specs.Tasks.{AbandonsAs, AddsAs, EditsBy, ImportsAs};
+ghost use Rattle.signal_office_jobs.specs.Printing.{Looking, ReadingAnyCsv, ReadingCsv, Silent};
+ghost use Rattle.signal_office_jobs.specs.Printed.{mode_of};
+ghost use Rattle.signal_office_jobs.specs.Tasks.{AbandonsAs, AddsAs, ComparesWith, EditsBy};
+ghost use Rattle.signal_office_jobs.specs.Tasks.{ImportsAs};
 ghost use Rattle.signal_office_jobs.specs.Tasks.{TaskDoes, makes_file};
 
 use crate::done::{Done, joined, migrated, print_done};
+use crate::reading::{read_any_csv, read_csv};
 use crate::task::Task;
 use cabinet_core::{Day, read_day};
 use office_http::Sink;
-use signal_office_commands::Fault;
-use signal_office_faults::{is_missing, read_file};
+use signal_office_commands::{EditMode, Fault};
+use signal_office_faults::is_missing;
 use signal_office_in_file::OfficeInFile;
-use signal_office_line::{Edit, Shown};
+use signal_office_line::{CsvFile, Edit, Shown};
 use signal_records::{InterId, Interval, Words};
 use std::alloc::Global;
 
@@ -146,15 +149,44 @@ pub(crate) fn import<F: OfficeInFile, W: Sink>(
     rt: &HostRuntime,
     alloc: Global,
     db: &str,
-    csv: &str,
+    csv: &CsvFile<&str>,
     out: &mut W,
 ) -> Result<u8, Fault>
     ensures { let view = file_view F.held F.is_clean F.keeps F.refused in
-        Reading (λ records. InNewFile view (Silent (ImportsAs records)))
+        ReadingCsv csv.now.padded (λ records. InNewFile view (Silent (ImportsAs records)))
         (W.told out.old) (W.told out.new) result }
 {
-    let csv = &read_file(rt, csv)?;
+    let csv = &read_csv(rt, alloc, csv)?;
     in_file::<F, W>(rt, alloc, db, &Task::Import { csv }, out)
+}
+
+/// Prints what the plan in a CSV file differs in from the committed timing set of an intersection.
+pub(crate) fn compare_running<F: OfficeInFile, W: Sink>(
+    rt: &HostRuntime,
+    alloc: Global,
+    db: &str,
+    id: InterId,
+    plan: &CsvFile<&str>,
+    csv: bool,
+    out: &mut W,
+) -> Result<u8, Fault>
+    ensures { let view = file_view F.held F.is_clean F.keeps F.refused in
+        ReadingCsv plan.now.padded
+        (λ other. InFoundFile view (Looking (ComparesWith id other csv)))
+        (W.told out.old) (W.told out.new) result }
+{
+    let plan = &read_csv(rt, alloc, plan)?;
+    in_file::<F, W>(rt, alloc, db, &Task::CompareWith { id, plan, csv }, out)
+}
+
+/// How an edit changes a plan.
+fn mode_of(edit: &Edit<&str>) -> EditMode
+    ensures { result ≡ mode_of edit.now }
+{
+    EditMode {
+        replace: edit.replace,
+        commit: edit.commit,
+    }
 }
 
 /// Changes a plan by a CSV file, for a clerk whose name is known.
@@ -166,17 +198,17 @@ fn edit_by<F: OfficeInFile, W: Sink>(
     out: &mut W,
 ) -> Result<u8, Fault>
     ensures { let view = file_view F.held F.is_clean F.keeps F.refused in
-        Reading (λ plan. InFoundFile view
-        (Silent (EditsBy plan edit.now.id clerk.now edit.now.commit edit.now.explain)))
+        ReadingAnyCsv (option_map (λ csv. csv.padded) edit.now.csv) (λ plan. InFoundFile view
+        (Silent (EditsBy plan edit.now.id clerk.now (mode_of edit.now) edit.now.explain)))
         (W.told out.old) (W.told out.new) result }
 {
-    let csv = &read_file(rt, edit.csv)?;
-    let (id, commit, explain) = (edit.id, edit.commit, edit.explain);
+    let csv = &read_any_csv(rt, alloc, &edit.csv)?;
+    let (id, mode, explain) = (edit.id, mode_of(edit), edit.explain);
     let task = Task::Edit {
         id,
         clerk,
         csv,
-        commit,
+        mode,
         explain,
     };
     in_file::<F, W>(rt, alloc, edit.db, &task, out)
@@ -191,8 +223,9 @@ pub(crate) fn edit_plan<F: OfficeInFile, W: Sink>(
 ) -> Result<u8, Fault>
     ensures { let view = file_view F.held F.is_clean F.keeps F.refused in
         let clerk = edit.now.clerk.now in
-        Naming 40 clerk fault.Clerk (Reading (λ plan. InFoundFile view
-        (Silent (EditsBy plan edit.now.id clerk edit.now.commit edit.now.explain))))
+        Naming 40 clerk fault.Clerk
+        (ReadingAnyCsv (option_map (λ csv. csv.padded) edit.now.csv) (λ plan. InFoundFile view
+        (Silent (EditsBy plan edit.now.id clerk (mode_of edit.now) edit.now.explain))))
         (W.told out.old) (W.told out.new) result }
 {
     let clerk = &named(alloc, edit.clerk, Fault::Clerk)?;

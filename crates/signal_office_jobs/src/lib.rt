@@ -11,6 +11,7 @@ mod in_file;
 mod memory;
 mod plans;
 mod program;
+mod reading;
 mod serving;
 mod task;
 

@@ -2,15 +2,15 @@
 
 ghost use Rattle.std.specs.Prelude.{◌≡◌};
 ghost use Rattle.signal_office_jobs.specs.Printed.{Compares, ShowsPlan};
-ghost use Rattle.signal_office_jobs.specs.Printing.{Made, Reading};
+ghost use Rattle.signal_office_jobs.specs.Printing.{Made, ReadingCsv};
 
 use crate::done::{Done, print_done};
+use crate::reading::read_csv;
 use office_http::Sink;
 use signal_office_commands::{
     Fault, compare_files, diagram_in, page_in, reasons_in, violations_in,
 };
-use signal_office_faults::read_file;
-use signal_office_line::PlanShown;
+use signal_office_line::{CsvFile, PlanShown};
 use std::alloc::Global;
 
 /// Tells what is shown of a plan.
@@ -33,14 +33,14 @@ fn shown_in(alloc: Global, csv: &[u8], shown: PlanShown) -> Result<Done, Fault>
 pub(crate) fn show_plan<W: Sink>(
     rt: &HostRuntime,
     alloc: Global,
-    path: &str,
+    csv: &CsvFile<&str>,
     shown: PlanShown,
     out: &mut W,
 ) -> Result<u8, Fault>
-    ensures { Reading (λ plan. Made (ShowsPlan shown plan)) (W.told out.old) (W.told out.new)
-        result }
+    ensures { ReadingCsv csv.now.padded (λ plan. Made (ShowsPlan shown plan)) (W.told out.old)
+        (W.told out.new) result }
 {
-    let bytes = read_file(rt, path)?;
+    let bytes = read_csv(rt, alloc, csv)?;
     print_done(shown_in(alloc, &bytes, shown), out)
 }
 
@@ -56,15 +56,15 @@ fn compared(alloc: Global, first: &[u8], second: &[u8], csv: bool) -> Result<Don
 pub(crate) fn compare_plans<W: Sink>(
     rt: &HostRuntime,
     alloc: Global,
-    first: &str,
-    second: &str,
+    first: &CsvFile<&str>,
+    second: &CsvFile<&str>,
     csv: bool,
     out: &mut W,
 ) -> Result<u8, Fault>
-    ensures { Reading (λ plan. Reading (λ other. Made (Compares csv plan other)))
-        (W.told out.old) (W.told out.new) result }
+    ensures { ReadingCsv first.now.padded (λ plan. ReadingCsv second.now.padded
+        (λ other. Made (Compares csv plan other))) (W.told out.old) (W.told out.new) result }
 {
-    let plan = read_file(rt, first)?;
-    let other = read_file(rt, second)?;
+    let plan = read_csv(rt, alloc, first)?;
+    let other = read_csv(rt, alloc, second)?;
     print_done(compared(alloc, &plan, &other, csv), out)
 }

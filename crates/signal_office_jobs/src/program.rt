@@ -10,7 +10,9 @@ ghost use Rattle.signal_office_jobs.specs.Runs.{job_asked};
 ghost use Rattle.signal_office_jobs.specs.Printing.{Prints};
 
 use crate::done::print_done;
-use crate::in_file::{abandon, add, edit_plan, import, in_file, migrate, overdue, show_of};
+use crate::in_file::{
+    abandon, add, compare_running, edit_plan, import, in_file, migrate, overdue, show_of,
+};
 use crate::memory::{open_in_memory, serve_new_office};
 use crate::plans::{compare_plans, show_plan};
 use crate::task;
@@ -130,6 +132,9 @@ fn run_job<F: OfficeInFile, R: Source, W: Sink>(
         Job::Abandon { db, clerk, id } => abandon::<F, W>(rt, alloc, db, clerk, *id, out),
         Job::CompareDraft { db, id, csv } => {
             in_file::<F, W>(rt, alloc, db, &Task::Compare { id: *id, csv: *csv }, out)
+        }
+        Job::CompareRunning { db, id, plan, csv } => {
+            compare_running::<F, W>(rt, alloc, db, *id, plan, *csv, out)
         }
         Job::CompareFiles { first, second, csv } => {
             compare_plans(rt, alloc, first, second, *csv, out)

@@ -3,7 +3,7 @@
 ghost use Rattle.std.specs.Prelude.{◌≡◌, ◌≢◌, true, false, Ok, Err, IfErr, IfOk, MatchResult};
 ghost use Rattle.office_tables_shelf.specs.Keeps.{KeepsShelf};
 ghost use Rattle.signal_office_jobs.specs.Shown.{IsShown, ShowsAs};
-ghost use Rattle.signal_office_jobs.specs.Tasks.{AbandonsAs, AddsAs, ComparesAs, EditsBy};
+ghost use Rattle.signal_office_jobs.specs.Tasks.{AbandonsAs, AddsAs, ComparesAs, ComparesWith, EditsBy};
 ghost use Rattle.signal_office_jobs.specs.Tasks.{ImportsAs, IsBroken, ServesAs, TaskDoes};
 ghost use Rattle.signal_office_commands.specs.Showing.{ShowsDraft};
 
@@ -14,14 +14,15 @@ use office_files::violation_text;
 use office_http::Sink;
 use office_tables_shelf::shelf::Shelf;
 use signal_office_commands::{
-    Edited, Fault, abandon_draft, add_intersection, cabinet_csv_of, cabinet_of, diagram_of,
-    draft_csv_of, draft_differences, draft_reasons, edit_plan, import_csv, list_of, orders_of,
-    overdue_of, page_of, sheet_of, stock_of, timing_csv_of,
+    EditMode, Fault, Outcome, Revised, abandon_draft, add_intersection, cabinet_csv_of, cabinet_of,
+    diagram_of, draft_csv_of, draft_differences, draft_reasons, import_csv, list_of, orders_of,
+    overdue_of, page_of, revise_plan, running_differences, sheet_of, stock_of, timing_csv_of,
 };
 use signal_office_in_file::OfficeTask;
 use signal_office_line::{Shown, View};
 use signal_reasons::explained_text;
 use signal_records::{InterId, Interval, Words};
+use signal_rules::Violation;
 use std::alloc::Global;
 
 /// What an office over the tables of a file is opened for: a job whose names and CSV file are read,
@@ -51,7 +52,7 @@ pub enum Task<'a> {
         id: InterId,
         clerk: &'a Words<40>,
         csv: &'a [u8],
-        commit: bool,
+        mode: EditMode,
         explain: bool,
     },
     /// The draft of an intersection, which is dropped.
@@ -62,6 +63,12 @@ pub enum Task<'a> {
     /// What an intersection's draft changes, as a text or as CSV.
     Compare {
         id: InterId,
+        csv: bool,
+    },
+    /// What the plan of a CSV file differs in from what is committed, as a text or as CSV.
+    CompareWith {
+        id: InterId,
+        plan: &'a [u8],
         csv: bool,
     },
 }
@@ -174,46 +181,67 @@ fn import<S: Shelf>(alloc: Global, office: &mut Office<S>, csv: &[u8]) -> Result
     Done::importing(alloc, imported)
 }
 
-/// The rules that an edited draft breaks, with their reasons where that is asked. One that is
-/// committed breaks none.
-fn broken_by<S: Shelf>(
+/// The rules that a draft breaks which stays open, with their reasons where that is asked.
+fn open_rules<S: Shelf>(
     alloc: Global,
     office: &mut Office<S>,
     id: InterId,
-    edited: &Edited,
+    violations: &[Violation],
     explain: bool,
 ) -> Result<Vec<u8>, Fault>
     ensures kept { KeepsShelf S.Shelf office.old office.new }
     ensures told { IfOk result (λ text. S.is_honest office.new → IsBroken explain
-        edited.now.committed id (S.content office.old) edited.now.violations text.items) }
+        Outcome.Open id (S.content office.old) violations.now text.items) }
     ensures fault { IfErr result (λ why. why ≢ Fault.Memory → S.is_honest office.new →
-        (explain ≡ true) × (edited.now.committed ≡ false)
-        × ShowsDraft (S.content office.old) id (Err why)) }
+        (explain ≡ true) × ShowsDraft (S.content office.old) id (Err why)) }
 {
-    if explain && !edited.committed {
+    if explain {
         Ok(explained_text(alloc, &draft_reasons(alloc, office, id)?)?)
     } else {
-        Ok(violation_text(alloc, edited.violations.as_slice())?)
+        Ok(violation_text(alloc, violations)?)
     }
 }
 
-/// Edits a draft by a plan's CSV file, and tells whether it was committed.
+/// The rules that an edited draft breaks, with their reasons where that is asked. One that is
+/// committed breaks none, and of one that would be the committed set nothing is told.
+fn broken_by<S: Shelf>(
+    alloc: Global,
+    office: &mut Office<S>,
+    id: InterId,
+    revised: &Revised,
+    explain: bool,
+) -> Result<Vec<u8>, Fault>
+    ensures kept { KeepsShelf S.Shelf office.old office.new }
+    ensures told { IfOk result (λ text. S.is_honest office.new → IsBroken explain
+        revised.now.outcome id (S.content office.old) revised.now.violations text.items) }
+    ensures fault { IfErr result (λ why. why ≢ Fault.Memory → S.is_honest office.new →
+        (explain ≡ true) × (revised.now.outcome ≡ Outcome.Open)
+        × ShowsDraft (S.content office.old) id (Err why)) }
+{
+    match revised.outcome {
+        Outcome::Same => Ok(Vec::new(alloc)),
+        Outcome::Committed => Ok(violation_text(alloc, revised.violations.as_slice())?),
+        Outcome::Open => open_rules(alloc, office, id, revised.violations.as_slice(), explain),
+    }
+}
+
+/// Edits a draft by a plan's CSV file, and tells what became of it.
 fn edit<S: Shelf>(
     alloc: Global,
     office: &mut Office<S>,
     id: InterId,
     clerk: &Words<40>,
     csv: &[u8],
-    commit: bool,
+    mode: EditMode,
     explain: bool,
 ) -> Result<Done, Fault>
     ensures honest { S.is_honest office.new → S.is_honest office.old }
-    ensures does { S.is_honest office.new → EditsBy csv.now id clerk.now commit explain
+    ensures does { S.is_honest office.new → EditsBy csv.now id clerk.now mode explain
         (S.content office.old) result (S.content office.new) }
 {
-    let edited = edit_plan(alloc, office, id, clerk, csv, commit)?;
-    let broken = broken_by(alloc, office, id, &edited, explain)?;
-    Done::editing(broken, &edited, commit)
+    let revised = revise_plan(alloc, office, id, clerk, csv, mode)?;
+    let broken = broken_by(alloc, office, id, &revised, explain)?;
+    Done::editing(broken, &revised, mode.commit)
 }
 
 /// Drops the draft of an intersection, and tells that.
@@ -245,6 +273,22 @@ fn compare<S: Shelf>(
     Done::comparing(alloc, &differences, csv)
 }
 
+/// Tells what the plan of a file differs in from what is committed.
+fn compare_with<S: Shelf>(
+    alloc: Global,
+    office: &mut Office<S>,
+    id: InterId,
+    plan: &[u8],
+    csv: bool,
+) -> Result<Done, Fault>
+    ensures kept { KeepsShelf S.Shelf office.old office.new }
+    ensures does { S.is_honest office.new →
+        ComparesWith id plan.now csv (S.content office.old) result }
+{
+    let differences = running_differences(alloc, office, id, plan)?;
+    Done::comparing(alloc, &differences, csv)
+}
+
 /// Does a task, and gives what is to be printed once the file is closed, with the status.
 fn done_by<S: Shelf, W: Sink>(
     rt: &HostRuntime,
@@ -267,11 +311,12 @@ fn done_by<S: Shelf, W: Sink>(
             id,
             clerk,
             csv,
-            commit,
+            mode,
             explain,
-        } => edit(alloc, office, id, clerk, csv, commit, explain),
+        } => edit(alloc, office, id, clerk, csv, mode, explain),
         Task::Abandon { id, clerk } => abandon(alloc, office, id, clerk),
         Task::Compare { id, csv } => compare(alloc, office, id, csv),
+        Task::CompareWith { id, plan, csv } => compare_with(alloc, office, id, plan, csv),
     }
 }
 

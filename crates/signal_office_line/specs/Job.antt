@@ -1,5 +1,5 @@
 -- The job that a command line states, by the command and the values that `clap` finds in it.
-use Rattle.std.specs.Prelude.{ℕ, ◌&&◌, Bool, true, false, if◌then◌else◌, List, [], ◌∷◌, length}
+use Rattle.std.specs.Prelude.{ℕ, ◌&&◌, Bool, true, false, not, if◌then◌else◌, List, [], ◌∷◌, length}
 use Rattle.std.specs.Prelude.{Option, Some, None, option_map, option_and_then, codes, nat_lt}
 use Rattle.std.specs.Prelude.{nat_le, find, unwrap_or}
 use Rattle.std.specs.Borrow.{Bor}
@@ -9,6 +9,7 @@ use Rattle.std.specs.Option.{option_map_or}
 use Rattle.std.specs.Str.{bytes_eq}
 use Rattle.std.specs.Str.Parse.{digits_value, without_leading_plus}
 use Rattle.clap.specs.Walk.{Row, Text, first_of}
+use Rattle.signal_office_line.specs.declared.job.CsvFile.{CsvFile}
 use Rattle.signal_office_line.specs.declared.job.Job.{Job}
 use Rattle.signal_office_line.specs.declared.job.Job.TheVariants as job
 use Rattle.signal_office_line.specs.declared.shows.PlanShown.TheVariants as plan
@@ -21,6 +22,9 @@ use Rattle.signal_office_line.specs.declared.shows.View.TheVariants as view
 abbrev pub Asked : Type 0
 Asked = Job Text
 
+abbrev pub file_asked : CsvFile (Bor Text) → CsvFile Text
+file_asked file = record { path = file.path.now; padded = file.padded }
+
 abbrev pub asked : Job (Bor Text) → Asked
 asked (job.Batch db) = job.Batch (option_map (λ (s : Bor Text). s.now) db)
 asked (job.Serve port count db) = job.Serve port count (option_map (λ (s : Bor Text). s.now) db)
@@ -28,19 +32,21 @@ asked (job.Show db it) = job.Show db.now it
 asked (job.Overdue db first day) = job.Overdue db.now first day.now
 asked (job.Add db id interval name) = job.Add db.now id interval name.now
 asked (job.Migrate db) = job.Migrate db.now
-asked (job.Import db csv) = job.Import db.now csv.now
+asked (job.Import db csv) = job.Import db.now (file_asked csv)
 asked (job.Edit e) = job.Edit (record {
   db = e.db.now;
   clerk = e.clerk.now;
   id = e.id;
-  csv = e.csv.now;
+  csv = option_map file_asked e.csv;
+  replace = e.replace;
   commit = e.commit;
   explain = e.explain;
 })
 asked (job.Abandon db clerk id) = job.Abandon db.now clerk.now id
 asked (job.CompareDraft db id csv) = job.CompareDraft db.now id csv
-asked (job.CompareFiles first second csv) = job.CompareFiles first.now second.now csv
-asked (job.ShowPlan csv it) = job.ShowPlan csv.now it
+asked (job.CompareRunning db id plan csv) = job.CompareRunning db.now id (file_asked plan) csv
+asked (job.CompareFiles first second csv) = job.CompareFiles (file_asked first) (file_asked second) csv
+asked (job.ShowPlan csv it) = job.ShowPlan (file_asked csv) it
 
 -- what comes next, where there is a value
 infixl 10 ◌>>=◌
@@ -77,6 +83,10 @@ choice_at most id rows = choice_of most (first_of id rows)
 abbrev pub flag_at : Text → List Row → Bool
 flag_at id rows = option_map_or (λ word. bytes_eq word (codes "true")) (first_of id rows) false
 
+-- the CSV file of an argument, and whether its records are padded
+abbrev pub csv_at : Text → List Row → Option (CsvFile Text)
+csv_at id rows = option_map (λ path. record { path = path; padded = flag_at (codes "padded") rows }) (first_of id rows)
+
 -- `batch [--db FILE]`
 abbrev pub batch_at : List Row → Option Asked
 batch_at rows = Some (job.Batch (first_of (codes "db") rows))
@@ -105,10 +115,10 @@ overdue_at rows = do
   day ← first_of (codes "DAY") rows
   Some (job.Overdue db first day)
 
--- `verify-file [--explain] CSV`
+-- `verify-file [--explain] [--padded] CSV`
 abbrev pub verify_file_at : List Row → Option Asked
 verify_file_at rows = do
-  csv ← first_of (codes "CSV") rows
+  csv ← csv_at (codes "CSV") rows
   Some (job.ShowPlan csv (plan.Violations (flag_at (codes "explain") rows)))
 
 -- `migrate --db FILE`
@@ -117,25 +127,32 @@ migrate_at rows = do
   db ← first_of (codes "db") rows
   Some (job.Migrate db)
 
--- `import --db FILE CSV`
+-- `import --db FILE [--padded] CSV`
 abbrev pub import_at : List Row → Option Asked
 import_at rows = do
   db ← first_of (codes "db") rows
-  csv ← first_of (codes "CSV") rows
+  csv ← csv_at (codes "CSV") rows
   Some (job.Import db csv)
 
--- `edit --db FILE --clerk NAME [--commit] [--explain] ID CSV`
+-- the file of an edit, which may be left out where a draft is committed as it is
+abbrev pub edited_file : Option (CsvFile Text) → (commit replace : Bool) → Option (Option (CsvFile Text))
+edited_file (Some csv) commit replace = Some (Some csv)
+edited_file None commit replace = if commit && not replace then Some None else None
+
+-- `edit --db FILE --clerk NAME [--replace] [--commit] [--explain] [--padded] ID CSV`, or
+-- `edit --db FILE --clerk NAME --commit [--explain] ID`
 abbrev pub edit_at : List Row → Option Asked
 edit_at rows = do
   db ← first_of (codes "db") rows
   clerk ← first_of (codes "clerk") rows
   id ← number_at 9_999 (codes "ID") rows
-  csv ← first_of (codes "CSV") rows
+  csv ← edited_file (csv_at (codes "CSV") rows) (flag_at (codes "commit") rows) (flag_at (codes "replace") rows)
   Some (job.Edit (record {
     db = db;
     clerk = clerk;
     id = id;
     csv = csv;
+    replace = flag_at (codes "replace") rows;
     commit = flag_at (codes "commit") rows;
     explain = flag_at (codes "explain") rows;
   }))
@@ -148,22 +165,24 @@ abandon_at rows = do
   id ← number_at 9_999 (codes "ID") rows
   Some (job.Abandon db clerk id)
 
--- `compare [--csv] PLAN OTHER`, or `compare --db FILE [--csv] ID`
-abbrev pub comparison_of : Option Text → Option Text → List Row → Option Asked
+-- `compare [--csv] [--padded] PLAN OTHER`, or `compare --db FILE [--csv] [--padded] ID [OTHER]`
+abbrev pub comparison_of : Option Text → Option (CsvFile Text) → List Row → Option Asked
 comparison_of None (Some other) rows = do
-  plan ← first_of (codes "PLAN") rows
+  plan ← csv_at (codes "PLAN") rows
   Some (job.CompareFiles plan other (flag_at (codes "csv") rows))
 comparison_of (Some db) None rows = do
   id ← number_at 9_999 (codes "PLAN") rows
   Some (job.CompareDraft db id (flag_at (codes "csv") rows))
+comparison_of (Some db) (Some other) rows = do
+  id ← number_at 9_999 (codes "PLAN") rows
+  Some (job.CompareRunning db id other (flag_at (codes "csv") rows))
 comparison_of None None rows = None
-comparison_of (Some db) (Some other) rows = None
 
 abbrev pub compare_at : List Row → Option Asked
-compare_at rows = comparison_of (first_of (codes "db") rows) (first_of (codes "OTHER") rows) rows
+compare_at rows = comparison_of (first_of (codes "db") rows) (csv_at (codes "OTHER") rows) rows
 
--- `diagram --db FILE ID PATTERN`, or `diagram --file CSV PATTERN`
-abbrev pub drawing_of : Option Text → Option Text → Option Text → List Row → Option Asked
+-- `diagram --db FILE ID PATTERN`, or `diagram --file CSV [--padded] PATTERN`
+abbrev pub drawing_of : Option Text → Option (CsvFile Text) → Option Text → List Row → Option Asked
 drawing_of (Some db) None (Some word) rows = do
   id ← number_at 9_999 (codes "ID") rows
   pattern ← number_at 48 (codes "PATTERN") rows
@@ -175,11 +194,11 @@ drawing_of _ _ _ rows = None
 
 abbrev pub diagram_at : List Row → Option Asked
 diagram_at rows =
-    drawing_of (first_of (codes "db") rows) (first_of (codes "file") rows)
+    drawing_of (first_of (codes "db") rows) (csv_at (codes "file") rows)
     (first_of (codes "PATTERN") rows) rows
 
--- `page --db FILE ID`, or `page --file CSV`
-abbrev pub showing_of : Option Text → Option Text → Option Text → List Row → Option Asked
+-- `page --db FILE ID`, or `page --file CSV [--padded]`
+abbrev pub showing_of : Option Text → Option (CsvFile Text) → Option Text → List Row → Option Asked
 showing_of (Some db) None (Some word) rows = do
   id ← number_at 9_999 (codes "ID") rows
   Some (job.Show db (shown.Page id))
@@ -188,7 +207,7 @@ showing_of _ _ _ rows = None
 
 abbrev pub page_at : List Row → Option Asked
 page_at rows =
-    showing_of (first_of (codes "db") rows) (first_of (codes "file") rows)
+    showing_of (first_of (codes "db") rows) (csv_at (codes "file") rows)
     (first_of (codes "ID") rows) rows
 
 -- what is exported: the committed timing set, but with `--draft` the draft, with `--cabinet` the

@@ -24,6 +24,10 @@ pub(crate) const FOUND_FILE: &str = "The SQLite file that keeps the tables; it h
 /// What it says of `--explain`.
 pub(crate) const EXPLAIN: &str = "Print beside each rule that is broken the numbers that break it";
 
+/// What it says of `--padded`.
+pub(crate) const PADDED: &str =
+    "Drop the empty fields with which a spreadsheet pads the records of CSV";
+
 /// What it says of the number of an intersection.
 pub(crate) const ID: &str = "The intersection's number, 1 to 9999";
 

@@ -4,7 +4,8 @@ ghost use Rattle.std.specs.Prelude.{IfOk};
 ghost use Rattle.signal_office_line.specs.CommandLine.{ParsesAs, signal_app};
 
 use crate::arguments::{
-    Argument, EXPLAIN, FILE_OR_MEMORY, FOUND_FILE, Form, ID, MADE_FILE, Usage, with_commands,
+    Argument, EXPLAIN, FILE_OR_MEMORY, FOUND_FILE, Form, ID, MADE_FILE, PADDED, Usage,
+    with_commands,
 };
 use clap::Command;
 use std::alloc::{AllocError, Global};
@@ -128,6 +129,7 @@ const COMMANDS: &[Usage<'static>] = &[
          where one is broken",
         &[
             Argument("explain", Form::Flag, EXPLAIN),
+            Argument("padded", Form::Flag, PADDED),
             Argument(
                 "CSV",
                 Form::Word,
@@ -146,6 +148,7 @@ const COMMANDS: &[Usage<'static>] = &[
          were new",
         &[
             Argument("db", Form::Needed("FILE"), MADE_FILE),
+            Argument("padded", Form::Flag, PADDED),
             Argument(
                 "CSV",
                 Form::Word,
@@ -176,16 +179,25 @@ const COMMANDS: &[Usage<'static>] = &[
                 "Who edits, 1 to 40 bytes; a transaction of another clerk is not touched",
             ),
             Argument(
+                "replace",
+                Form::Flag,
+                "The draft becomes the plan of CSV: rows that it does not have are removed. \
+                 Without it they stay",
+            ),
+            Argument(
                 "commit",
                 Form::Flag,
-                "Commit the draft where it breaks no rule; ends with status 3 where it breaks one",
+                "Commit the draft where it breaks no rule; ends with status 3 where it breaks \
+                 one. A plan that is as it stands is not committed",
             ),
             Argument("explain", Form::Flag, EXPLAIN),
+            Argument("padded", Form::Flag, PADDED),
             Argument("ID", Form::Word, ID),
             Argument(
                 "CSV",
-                Form::Word,
-                "The file; one record for each row that is put or removed",
+                Form::SecondWord,
+                "The file; one record for each row that is put or removed. With --commit it may \
+                 be left out: the clerk's draft is committed as it is",
             ),
         ],
     ),
@@ -207,13 +219,14 @@ const COMMANDS: &[Usage<'static>] = &[
                 "db",
                 Form::Choice("FILE"),
                 "The SQLite file that keeps the tables: compares the committed plan of an \
-                 intersection with its draft",
+                 intersection with its draft, or with the plan of OTHER",
             ),
             Argument(
                 "csv",
                 Form::Flag,
                 "Print the changes as CSV, as `edit` takes them",
             ),
+            Argument("padded", Form::Flag, PADDED),
             Argument(
                 "PLAN",
                 Form::Word,
@@ -222,7 +235,7 @@ const COMMANDS: &[Usage<'static>] = &[
             Argument(
                 "OTHER",
                 Form::SecondWord,
-                "The CSV file of the other plan; not with --db",
+                "The CSV file of the other plan; with --db it may be left out",
             ),
         ],
     ),
@@ -241,6 +254,7 @@ const COMMANDS: &[Usage<'static>] = &[
                 Form::Choice("FILE"),
                 "The CSV file of a plan, with the pattern's number alone",
             ),
+            Argument("padded", Form::Flag, PADDED),
             Argument(
                 "ID",
                 Form::Word,
@@ -268,6 +282,7 @@ const COMMANDS: &[Usage<'static>] = &[
                 Form::Choice("FILE"),
                 "The CSV file of a plan, which is shown alone",
             ),
+            Argument("padded", Form::Flag, PADDED),
             Argument(
                 "ID",
                 Form::SecondWord,

@@ -18,15 +18,24 @@ use clap::{ArgMatches, Error};
 use signal_values::{InterId, Interval};
 use std::alloc::{AllocError, Global};
 
-/// An edit of an intersection's plan by a CSV file, in a transaction of a clerk. The draft is
-/// committed where that is asked, and its violations are printed with
-/// their reasons where that is.
+/// A CSV file, and whether its records are padded with empty fields.
+#[derive(Clone, Copy)]
+pub struct CsvFile<T> {
+    pub path: T,
+    pub padded: bool,
+}
+
+/// An edit of an intersection's plan by a CSV file, in a transaction of a clerk. Without a file the
+/// clerk's draft is committed as it is. Where the file is the whole plan, rows that it does not
+/// have are removed. The draft is committed where that is asked, and its violations are printed
+/// with their reasons where that is.
 #[derive(Clone, Copy)]
 pub struct Edit<T> {
     pub db: T,
     pub clerk: T,
     pub id: InterId,
-    pub csv: T,
+    pub csv: Option<CsvFile<T>>,
+    pub replace: bool,
     pub commit: bool,
     pub explain: bool,
 }
@@ -72,7 +81,7 @@ pub enum Job<T> {
     /// Take the records of a CSV file in turn: all of them, or none.
     Import {
         db: T,
-        csv: T,
+        csv: CsvFile<T>,
     },
     /// Change a plan by a CSV file.
     Edit(Edit<T>),
@@ -88,15 +97,23 @@ pub enum Job<T> {
         id: InterId,
         csv: bool,
     },
+    /// Print what the plan in a CSV file differs in from the committed timing set of an
+    /// intersection, as a text or as CSV.
+    CompareRunning {
+        db: T,
+        id: InterId,
+        plan: CsvFile<T>,
+        csv: bool,
+    },
     /// Print what the plans in two CSV files differ in, as a text or as CSV.
     CompareFiles {
-        first: T,
-        second: T,
+        first: CsvFile<T>,
+        second: CsvFile<T>,
         csv: bool,
     },
     /// Print what is shown of the plan in a CSV file.
     ShowPlan {
-        csv: T,
+        csv: CsvFile<T>,
         shown: PlanShown,
     },
 }

@@ -5,10 +5,11 @@ ghost use Rattle.clap.specs.Matches.{found_of};
 ghost use Rattle.clap.specs.Walk.{rows_of};
 ghost use Rattle.signal_office_line.specs.Job.{abandon_at, add_at, asked, batch_at, compare_at};
 ghost use Rattle.signal_office_line.specs.Job.{diagram_at, edit_at, import_at, job_at, migrate_at};
-ghost use Rattle.signal_office_line.specs.Job.{number_at, overdue_at, page_at, serve_at, show_at};
+ghost use Rattle.signal_office_line.specs.Job.{csv_at, edited_file, file_asked, number_at};
+ghost use Rattle.signal_office_line.specs.Job.{overdue_at, page_at, serve_at, show_at};
 ghost use Rattle.signal_office_line.specs.Job.{verify_file_at};
 
-use crate::job::{Edit, Job};
+use crate::job::{CsvFile, Edit, Job};
 use crate::shows::{PlanShown, Shown, shown_at};
 use crate::values::{choice, flag, intersection, number, word};
 use clap::ArgMatches;
@@ -29,6 +30,32 @@ fn interval(matches: &ArgMatches<'_>, id: &str) -> Option<Interval>
     ensures { result ≡ number_at 3_650 id.now (rows_of (found_of matches.now)) }
 {
     Interval::new(number(matches, id, 3_650)?)
+}
+
+/// The CSV file of an argument, where it was given.
+fn csv_file<'a>(matches: &ArgMatches<'a>, id: &str) -> Option<CsvFile<&'a str>>
+    ensures { option_map file_asked result
+        ≡ csv_at id.now (rows_of (found_of matches.entry.now)) }
+{
+    let path = word(matches, id)?;
+    let padded = flag(matches, "padded");
+    Some(CsvFile { path, padded })
+}
+
+/// The file of an edit, which may be left out where a draft is committed as it is.
+fn edited_file<'a>(
+    csv: Option<CsvFile<&'a str>>,
+    commit: bool,
+    replace: bool,
+) -> Option<Option<CsvFile<&'a str>>>
+    ensures { option_map (λ csv. option_map file_asked csv) result
+        ≡ edited_file (option_map file_asked csv.entry) commit replace }
+{
+    match csv {
+        Some(csv) => Some(Some(csv)),
+        None if commit && !replace => Some(None),
+        None => None,
+    }
 }
 
 /// `batch [--db FILE]`.
@@ -75,11 +102,11 @@ fn add<'a>(matches: &ArgMatches<'a>) -> Option<Job<&'a str>>
     })
 }
 
-/// `verify-file [--explain] CSV`.
+/// `verify-file [--explain] [--padded] CSV`.
 fn verify_file<'a>(matches: &ArgMatches<'a>) -> Option<Job<&'a str>>
     ensures { option_map asked result ≡ verify_file_at (rows_of (found_of matches.entry.now)) }
 {
-    let csv = word(matches, "CSV")?;
+    let csv = csv_file(matches, "CSV")?;
     let explain = flag(matches, "explain");
     let shown = PlanShown::Violations { explain };
     Some(Job::ShowPlan { csv, shown })
@@ -93,30 +120,33 @@ fn migrate<'a>(matches: &ArgMatches<'a>) -> Option<Job<&'a str>>
     Some(Job::Migrate { db })
 }
 
-/// `import --db FILE CSV`.
+/// `import --db FILE [--padded] CSV`.
 fn import<'a>(matches: &ArgMatches<'a>) -> Option<Job<&'a str>>
     ensures { option_map asked result ≡ import_at (rows_of (found_of matches.entry.now)) }
 {
     let db = word(matches, "db")?;
-    let csv = word(matches, "CSV")?;
+    let csv = csv_file(matches, "CSV")?;
     Some(Job::Import { db, csv })
 }
 
-/// `edit --db FILE --clerk NAME [--commit] [--explain] ID CSV`.
+/// `edit --db FILE --clerk NAME [--replace] [--commit] [--explain] [--padded] ID CSV`, or
+/// `edit --db FILE --clerk NAME --commit [--explain] ID`.
 fn edit<'a>(matches: &ArgMatches<'a>) -> Option<Job<&'a str>>
     ensures { option_map asked result ≡ edit_at (rows_of (found_of matches.entry.now)) }
 {
     let db = word(matches, "db")?;
     let clerk = word(matches, "clerk")?;
     let id = intersection(matches, "ID")?;
-    let csv = word(matches, "CSV")?;
+    let replace = flag(matches, "replace");
     let commit = flag(matches, "commit");
+    let csv = edited_file(csv_file(matches, "CSV"), commit, replace)?;
     let explain = flag(matches, "explain");
     Some(Job::Edit(Edit {
         db,
         clerk,
         id,
         csv,
+        replace,
         commit,
         explain,
     }))
@@ -132,29 +162,33 @@ fn abandon<'a>(matches: &ArgMatches<'a>) -> Option<Job<&'a str>>
     Some(Job::Abandon { db, clerk, id })
 }
 
-/// `compare [--csv] PLAN OTHER`, or `compare --db FILE [--csv] ID`.
+/// `compare [--csv] [--padded] PLAN OTHER`, or `compare --db FILE [--csv] [--padded] ID [OTHER]`.
 fn compare<'a>(matches: &ArgMatches<'a>) -> Option<Job<&'a str>>
     ensures { option_map asked result ≡ compare_at (rows_of (found_of matches.entry.now)) }
 {
     let csv = flag(matches, "csv");
-    match (word(matches, "db"), word(matches, "OTHER")) {
+    match (word(matches, "db"), csv_file(matches, "OTHER")) {
         (None, Some(second)) => {
-            let first = word(matches, "PLAN")?;
+            let first = csv_file(matches, "PLAN")?;
             Some(Job::CompareFiles { first, second, csv })
         }
         (Some(db), None) => {
             let id = intersection(matches, "PLAN")?;
             Some(Job::CompareDraft { db, id, csv })
         }
-        _ => None,
+        (Some(db), Some(plan)) => {
+            let id = intersection(matches, "PLAN")?;
+            Some(Job::CompareRunning { db, id, plan, csv })
+        }
+        (None, None) => None,
     }
 }
 
-/// `diagram --db FILE ID PATTERN`, or `diagram --file CSV PATTERN`.
+/// `diagram --db FILE ID PATTERN`, or `diagram --file CSV [--padded] PATTERN`.
 fn diagram<'a>(matches: &ArgMatches<'a>) -> Option<Job<&'a str>>
     ensures { option_map asked result ≡ diagram_at (rows_of (found_of matches.entry.now)) }
 {
-    let (db, file) = (word(matches, "db"), word(matches, "file"));
+    let (db, file) = (word(matches, "db"), csv_file(matches, "file"));
     match (db, file, word(matches, "PATTERN")) {
         (Some(db), None, Some(_)) => {
             let id = intersection(matches, "ID")?;
@@ -171,11 +205,11 @@ fn diagram<'a>(matches: &ArgMatches<'a>) -> Option<Job<&'a str>>
     }
 }
 
-/// `page --db FILE ID`, or `page --file CSV`.
+/// `page --db FILE ID`, or `page --file CSV [--padded]`.
 fn page<'a>(matches: &ArgMatches<'a>) -> Option<Job<&'a str>>
     ensures { option_map asked result ≡ page_at (rows_of (found_of matches.entry.now)) }
 {
-    let (db, file) = (word(matches, "db"), word(matches, "file"));
+    let (db, file) = (word(matches, "db"), csv_file(matches, "file"));
     match (db, file, word(matches, "ID")) {
         (Some(db), None, Some(_)) => {
             let id = intersection(matches, "ID")?;

@@ -13,5 +13,5 @@ mod jobs;
 mod shows;
 mod values;
 
-pub use job::{Edit, Job, JobFault, job_of};
+pub use job::{CsvFile, Edit, Job, JobFault, job_of};
 pub use shows::{PlanShown, Shown, View};

@@ -3,7 +3,7 @@ use Rattle.signal_office_commands.specs.Explaining.{ExplainsDraft}
 use Rattle.signal_office_commands.specs.Showing.{ShowsDraft}
 use Rattle.signal_office_commands.proofs.HonestLemmas.{honest_tells}
 use Rattle.signal_office_jobs.proofs.ShownLemmas.{not_memory}
-use Rattle.signal_office_jobs.proofs.task.broken_by.Goals as goal
+use Rattle.signal_office_jobs.proofs.task.open_rules.Goals as goal
 
 pub returns-in_err-draft_reasons-clause-fault : goal.returns-in_err-draft_reasons-clause-fault
 returns-in_err-draft_reasons-clause-fault g c =
