@@ -85,12 +85,15 @@ def showing(text_of):
 @showing
 def listed(office, as_csv):
     """All intersections by number."""
-    rows = [(id, it.revision, it.state, it.owner or "-", len(it.committed), it.name)
-            for id, it in sorted(office.intersections.items())]
+    listed = sorted(office.intersections.items())
     if as_csv:
-        return write_csv(rows)
-    form = "{:>6}{:>8}  {:11}  {:12}{:>6}  {}\n"
-    lines = [form.format(*row) for row in [("No", "Rev", "State", "Owner", "Rows", "Name"), *rows]]
+        return write_csv((id, it.revision, it.state, it.owner or "", len(it.committed), it.name,
+                          it.interval) for id, it in listed)
+    rows = [(id, it.revision, it.state, it.owner or "-", len(it.committed), it.interval, it.name)
+            for id, it in listed]
+    form = "{:>6}{:>8}  {:11}  {:12}{:>6}{:>6}  {}\n"
+    heading = "No", "Rev", "State", "Owner", "Rows", "Days", "Name"
+    lines = [form.format(*row) for row in [heading, *rows]]
     return "".join(lines) + f"Count {len(rows)}\n"
 
 

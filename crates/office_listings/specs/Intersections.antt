@@ -22,27 +22,32 @@ abbrev pub owner_word : Option Holder → List ℕ
 owner_word None = codes "-"
 owner_word (Some holder) = holder.owner
 
--- both, left in 11 and 12 places
+-- in a record nothing stands for nobody, since a clerk may be called by a dash
+abbrev pub owner_field : Option Holder → List ℕ
+owner_field None = []
+owner_field (Some holder) = holder.owner
+
+-- state and owner, left in 11 and 12 places
 abbrev pub holder_columns : Option Holder → List ℕ
 holder_columns holder =
     codes "  " ++ left_aligned 11 (state_word holder) ++ codes "  " ++ left_aligned 12 (owner_word holder)
 
--- `    12       1  transaction  Ana             12  Main St`
+-- `    12       1  transaction  Ana             12   365  Main St`
 abbrev pub intersection_line : ListedIntersection → List ℕ
 intersection_line i =
     number_in 6 i.id ++ number_in 8 i.revision ++ holder_columns i.holder ++ number_in 6 i.rows
-    ++ codes "  " ++ i.name ++ codes "\n"
+    ++ number_in 6 i.interval ++ codes "  " ++ i.name ++ codes "\n"
 
 -- the heading, a line for each, and their count
 abbrev pub intersections_listing : List ListedIntersection → List ℕ
 intersections_listing list =
-    codes "    No     Rev  State        Owner         Rows  Name\n" ++ flat_map intersection_line list
+    codes "    No     Rev  State        Owner         Rows  Days  Name\n" ++ flat_map intersection_line list
     ++ count_line (length list)
 
 -- the fields of one
 abbrev pub intersection_fields : ListedIntersection → List (List ℕ)
 intersection_fields i =
-    decimal i.id ∷ decimal i.revision ∷ state_word i.holder ∷ owner_word i.holder ∷ decimal i.rows ∷ i.name ∷ []
+    decimal i.id ∷ decimal i.revision ∷ state_word i.holder ∷ owner_field i.holder ∷ decimal i.rows ∷ i.name ∷ decimal i.interval ∷ []
 
 -- a record for each
 abbrev pub intersections_csv_text : List ListedIntersection → List ℕ

@@ -3,3 +3,4 @@ pub mod Intersections
 pub mod Stock
 pub mod Orders
 pub mod Cabinet
+pub mod Overdue

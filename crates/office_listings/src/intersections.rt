@@ -3,7 +3,7 @@
 ghost use Rattle.std.specs.Prelude.{◌≡◌, ◌++◌, All, OnOk, IfOk, IsUtf8, string_bytes};
 ghost use Rattle.csv.specs.Records.{fields_of};
 ghost use Rattle.office_listings.specs.Intersections.{owner_word, stage_word, state_word};
-ghost use Rattle.office_listings.specs.Intersections.{holder_columns, intersection_line};
+ghost use Rattle.office_listings.specs.Intersections.{holder_columns, intersection_line, owner_field};
 ghost use Rattle.office_listings.specs.Intersections.{intersections_listing};
 ghost use Rattle.office_listings.specs.Intersections.{intersection_fields, intersections_csv_text};
 
@@ -47,6 +47,16 @@ fn owner_word(holder: &Option<Holder>) -> &str
     }
 }
 
+/// Who holds the draft; nothing where nobody does, since a clerk may be called by a dash.
+fn owner_field(holder: &Option<Holder>) -> &str
+    ensures { result.now ≡ owner_field holder.now }
+{
+    match holder {
+        None => "",
+        Some(holder) => holder.owner.as_str(),
+    }
+}
+
 /// Appends state and owner.
 fn push_holder(text: &mut String, holder: &Option<Holder>) -> Result<(), AllocError>
     ensures { OnOk result (string_bytes text.new ≡
@@ -68,16 +78,18 @@ fn push_intersection(text: &mut String, listed: &ListedIntersection) -> Result<(
     push_long_number(text, u64::from(listed.revision.get()))?;
     push_holder(text, &listed.holder)?;
     push_number(text, listed.rows as u64)?;
+    push_number(text, u64::from(listed.interval.get()))?;
     writeln!(text, "  {name}")
 }
 
 /// The list of intersections: a heading, a line for each with its number, revision, state, owner or
-/// `-`, number of committed rows, and name, and their count. A longer owner stands whole.
+/// `-`, number of committed rows, days from one inspection to the next, and name, and their count. A
+/// longer owner stands whole.
 pub fn intersections_text(alloc: Global, list: &[ListedIntersection]) -> Result<Vec<u8>, NoMemory>
     ensures { IfOk result (λ text. text.items ≡ intersections_listing list.now) }
 {
     let mut text = String::new(alloc);
-    text.push_str("    No     Rev  State        Owner         Rows  Name\n")?;
+    text.push_str("    No     Rev  State        Owner         Rows  Days  Name\n")?;
     for listed in list {
         push_intersection(&mut text, listed)?;
     }
@@ -93,12 +105,14 @@ fn listed_record(alloc: Global, listed: &ListedIntersection) -> Result<ByteRecor
     let id = listed.id.get();
     let revision = listed.revision.get();
     let state = state_word(&listed.holder);
-    let owner = owner_word(&listed.holder);
+    let owner = owner_field(&listed.holder);
     let rows = listed.rows;
     let name = listed.name.as_str();
+    let interval = listed.interval.get();
     let id = format!(in alloc; "{id}")?;
     let revision = format!(in alloc; "{revision}")?;
     let rows = format!(in alloc; "{rows}")?;
+    let interval = format!(in alloc; "{interval}")?;
     let fields = [
         id.as_bytes(),
         revision.as_bytes(),
@@ -106,12 +120,13 @@ fn listed_record(alloc: Global, listed: &ListedIntersection) -> Result<ByteRecor
         owner.as_bytes(),
         rows.as_bytes(),
         name.as_bytes(),
+        interval.as_bytes(),
     ];
     ByteRecord::from_fields(alloc, &fields)
 }
 
 /// The list of intersections as CSV: a record for each with its number, revision, state, owner or
-/// `-`, number of committed rows, and name. It is UTF-8.
+/// nothing, number of committed rows, name, and days from one inspection to the next. It is UTF-8.
 pub fn intersections_csv(alloc: Global, list: &[ListedIntersection]) -> Result<Vec<u8>, NoMemory>
     ensures text { IfOk result (λ text. text.items ≡ intersections_csv_text list.now) }
     ensures utf8 { IfOk result (λ text. IsUtf8 text.items) }

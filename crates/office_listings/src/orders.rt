@@ -1,14 +1,20 @@
-//! The list of open orders.
+//! The lists of open orders.
 
-ghost use Rattle.std.specs.Prelude.{◌≡◌, ◌++◌, OnOk, IfOk, filter, map, string_bytes};
+ghost use Rattle.std.specs.Prelude.{◌≡◌, ◌++◌, All, OnOk, IfOk, IsUtf8, filter, map, string_bytes};
+ghost use Rattle.csv.specs.Records.{fields_of};
 ghost use Rattle.cabinet_core.specs.Orders.{is_open};
 ghost use Rattle.office_listings.specs.Orders.{order_on, open_orders, open_order_line};
-ghost use Rattle.office_listings.specs.Orders.{orders_listing};
+ghost use Rattle.office_listings.specs.Orders.{order_columns, orders_listing};
+ghost use Rattle.office_listings.specs.Orders.{order_named, named_orders, named_order_line};
+ghost use Rattle.office_listings.specs.Orders.{named_orders_listing, named_order_fields};
+ghost use Rattle.office_listings.specs.Orders.{orders_csv_text};
 
 use crate::columns::{push_count, push_day, push_long_number, push_number, push_word};
-use cabinet_core::Order;
+use cabinet_core::{Order, write_day};
+use csv::ByteRecord;
+use office_files::csv_file;
 use office_machine::reply::CabinetShown;
-use signal_records::{InterId, NoMemory};
+use signal_records::{InterId, NoMemory, Words};
 use std::alloc::{AllocError, Global};
 use std::fmt::Write;
 
@@ -17,6 +23,13 @@ use std::fmt::Write;
 pub struct OpenOrder {
     pub id: InterId,
     pub order: Order,
+}
+
+/// An open order, with the number and the name of its intersection.
+#[derive(Drop)]
+pub struct NamedOrder {
+    pub name: Words<120>,
+    pub listed: OpenOrder,
 }
 
 /// Appends those of some orders on an intersection that are open.
@@ -42,19 +55,68 @@ pub fn add_open_orders(found: &mut Vec<OpenOrder>, cabinet: &CabinetShown) -> Re
     add_open(found, cabinet.id, cabinet.view.orders.as_slice())
 }
 
-/// Appends the line of an order.
-fn push_order(text: &mut String, listed: &OpenOrder) -> Result<(), AllocError>
+/// An order with the number and the name of its intersection.
+fn order_named(name: &Words<120>, id: InterId, order: &Order) -> Result<NamedOrder, NoMemory>
+    ensures { IfOk result (λ named. named ≡ order_named name.now id order.now) }
+{
+    let name = name.clone()?;
+    let order = order.clone()?;
+    Ok(NamedOrder {
+        name,
+        listed: OpenOrder { id, order },
+    })
+}
+
+/// Appends those of some orders that are open, with the name of their intersection.
+fn add_named(
+    found: &mut Vec<NamedOrder>,
+    name: &Words<120>,
+    id: InterId,
+    orders: &[Order],
+) -> Result<(), NoMemory>
+    ensures { OnOk result (found.new.items ≡
+        found.old.items ++ map (order_named name.now id) (filter is_open orders.now)) }
+{
+    for order in orders {
+        if order.closing.is_none() {
+            found.push(order_named(name, id, order)?)?;
+        }
+    }
+    Ok(())
+}
+
+/// Appends the open orders of a cabinet, by their numbers, with the name of its intersection.
+pub fn add_named_orders(
+    found: &mut Vec<NamedOrder>,
+    name: &Words<120>,
+    cabinet: &CabinetShown,
+) -> Result<(), NoMemory>
+    ensures { OnOk result (found.new.items ≡ found.old.items ++ named_orders name.now cabinet.now) }
+{
+    add_named(found, name, cabinet.id, cabinet.view.orders.as_slice())
+}
+
+/// Appends what stands first in the line of an order: up to the clerk who opened it.
+fn push_columns(text: &mut String, listed: &OpenOrder) -> Result<(), AllocError>
     ensures { OnOk result (string_bytes text.new ≡
-        string_bytes text.old ++ open_order_line listed.now) }
+        string_bytes text.old ++ order_columns listed.now) }
 {
     let order = &listed.order;
-    let what = order.text.as_str();
     push_number(text, u64::from(listed.id.get()))?;
     push_long_number(text, u64::from(order.number.get()))?;
     text.push_str("  ")?;
     push_day(text, order.opened)?;
     text.push_str("  ")?;
-    push_word(text, order.clerk.as_str(), 12)?;
+    push_word(text, order.clerk.as_str(), 12)
+}
+
+/// Appends the line of an order.
+fn push_order(text: &mut String, listed: &OpenOrder) -> Result<(), AllocError>
+    ensures { OnOk result (string_bytes text.new ≡
+        string_bytes text.old ++ open_order_line listed.now) }
+{
+    let what = listed.order.text.as_str();
+    push_columns(text, listed)?;
     writeln!(text, "  {what}")
 }
 
@@ -71,4 +133,70 @@ pub fn orders_text(alloc: Global, orders: &[OpenOrder]) -> Result<Vec<u8>, NoMem
     }
     push_count(&mut text, orders.len())?;
     Ok(text.into_bytes())
+}
+
+/// Appends the line of an order, with the name of its intersection.
+fn push_named(text: &mut String, named: &NamedOrder) -> Result<(), AllocError>
+    ensures { OnOk result (string_bytes text.new ≡
+        string_bytes text.old ++ named_order_line named.now) }
+{
+    let what = named.listed.order.text.as_str();
+    push_columns(text, &named.listed)?;
+    text.push_str("  ")?;
+    push_word(text, named.name.as_str(), 24)?;
+    writeln!(text, "  {what}")
+}
+
+/// The list of open orders of several intersections: the same with the name of the intersection
+/// before what is to be done.
+pub fn named_orders_text(alloc: Global, orders: &[NamedOrder]) -> Result<Vec<u8>, NoMemory>
+    ensures { IfOk result (λ text. text.items ≡ named_orders_listing orders.now) }
+{
+    let mut text = String::new(alloc);
+    text.push_str("    No   Order  Opened      Clerk         Name                      Text\n")?;
+    for order in orders {
+        push_named(&mut text, order)?;
+    }
+    push_count(&mut text, orders.len())?;
+    Ok(text.into_bytes())
+}
+
+/// The fields of an open order.
+fn named_record(alloc: Global, named: &NamedOrder) -> Result<ByteRecord, NoMemory>
+    ensures fields { IfOk result (λ row. fields_of row ≡ named_order_fields named.now) }
+    ensures texts { OnOk result (All IsUtf8 (named_order_fields named.now)) }
+{
+    let order = &named.listed.order;
+    let id = named.listed.id.get();
+    let number = order.number.get();
+    let name = named.name.as_str();
+    let clerk = order.clerk.as_str();
+    let what = order.text.as_str();
+    let id = format!(in alloc; "{id}")?;
+    let number = format!(in alloc; "{number}")?;
+    let day = write_day(alloc, order.opened)?;
+    let opened = day.as_str();
+    let fields = [
+        id.as_bytes(),
+        name.as_bytes(),
+        number.as_bytes(),
+        opened.as_bytes(),
+        clerk.as_bytes(),
+        what.as_bytes(),
+    ];
+    ByteRecord::from_fields(alloc, &fields)
+}
+
+/// The list of open orders as CSV: a record for each with the number and the name of its
+/// intersection, its number, the day on which it was opened, the clerk who opened it, and what is
+/// to be done. It is UTF-8.
+pub fn orders_csv(alloc: Global, orders: &[NamedOrder]) -> Result<Vec<u8>, NoMemory>
+    ensures text { IfOk result (λ text. text.items ≡ orders_csv_text orders.now) }
+    ensures utf8 { IfOk result (λ text. IsUtf8 text.items) }
+{
+    let mut records = Vec::new(alloc);
+    for listed in orders {
+        records.push(named_record(alloc, listed)?)?;
+    }
+    csv_file(alloc, &records)
 }

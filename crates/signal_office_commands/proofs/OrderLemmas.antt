@@ -10,32 +10,31 @@ use Rattle.office_machine.specs.declared.command.Command.TheVariants as command
 use Rattle.office_machine.specs.{Listed.intersection_listed, Listed.intersections_of, Office.Office, Office.Intersection}
 use Rattle.office_machine.specs.declared.intersections.ListedIntersection.{ListedIntersection}
 use Rattle.office_desk.proofs.{IntersectionTable.Entry, ListedIntersections.each_there}
-use Rattle.office_listings.specs.declared.orders.OpenOrder.{OpenOrder}
-use Rattle.signal_office_commands.specs.{Fault.IsFaultOfQuery, Fault.TellsUnknown, Listing.AreOpen, Listing.MeetsOrdersDamage, Listing.TellsOrders, Listing.open_in, Listing.open_on}
-use Rattle.signal_office_commands.proofs.FaultLemmas.{known_tells_memory}
+use Rattle.office_listings.specs.declared.orders.NamedOrder.{NamedOrder}
+use Rattle.signal_office_commands.specs.{Fault.IsFaultOfQuery, Fault.TellsUnknown, Listing.MeetsOrdersDamage, Listing.named_in, Listing.named_on}
 use Rattle.signal_office_faults.specs.declared.fault.Fault.{Fault}
 use Rattle.signal_office_faults.specs.declared.fault.Fault.TheVariants as told
 
 -- those of some intersections
-abbrev pub open_of : Office → List ListedIntersection → List OpenOrder
-open_of office list = flat_map (λ (listed : ListedIntersection). open_on office listed.id) list
+abbrev pub named_of : Office → List ListedIntersection → List NamedOrder
+named_of office list = flat_map (λ (listed : ListedIntersection). named_on office listed.id listed.name) list
 
 -- those of the next come last
-pub orders_more : (office : Office) (list : List ListedIntersection) (i : ℕ) (listed : ListedIntersection) (old new : List OpenOrder)
-    → i < length list → listed ≡ get_or list i listed → old ≡ open_of office (take i list) → new ≡ old ++ open_on office listed.id
-    → new ≡ open_of office (take (i + 1) list)
+pub orders_more : (office : Office) (list : List ListedIntersection) (i : ℕ) (listed : ListedIntersection) (old new : List NamedOrder)
+    → i < length list → listed ≡ get_or list i listed → old ≡ named_of office (take i list) → new ≡ old ++ named_on office listed.id listed.name
+    → new ≡ named_of office (take (i + 1) list)
 orders_more office list i listed old new low at before after =
     let next : take (i + 1) list ≡ take i list ++ listed ∷ [] = take_more list i listed low ∙ ap (λ x. take i list ++ x ∷ []) (sym at) in
     rw (after, before, next, flat_map-append) (simp append-nil)
 
-over_entries : (office : Office) (es : List Entry) → open_of office (map intersection_listed es) ≡ flat_map (λ e. open_on office e.0) es
+over_entries : (office : Office) (es : List Entry) → named_of office (map intersection_listed es) ≡ flat_map (λ e. named_on office e.0 e.1.name) es
 over_entries office [] = refl
-over_entries office (e ∷ es) = ap (λ rest. open_on office e.0 ++ rest) (over_entries office es)
+over_entries office (e ∷ es) = ap (λ rest. named_on office e.0 e.1.name ++ rest) (over_entries office es)
 
 -- those of all that are listed are all
-pub all_open : (office : Office) (list : List ListedIntersection) (found : List OpenOrder) → list ≡ intersections_of office
-    → found ≡ open_of office list → found ≡ open_in office
-all_open office list found all is = is ∙ ap (λ xs. open_of office xs) all ∙ over_entries office (entries office.intersections)
+pub all_open : (office : Office) (list : List ListedIntersection) (found : List NamedOrder) → list ≡ intersections_of office
+    → found ≡ named_of office list → found ≡ named_in office
+all_open office list found all is = is ∙ ap (λ xs. named_of office xs) all ∙ over_entries office (entries office.intersections)
 
 -- ---- an intersection that is listed is there
 
@@ -109,8 +108,3 @@ all_whole tables list lists sound whole (inr damaged) =
     (λ e. ¬ MeetsDamage tables (command.Cabinet e.0)) tables.intersection lists.rows (intersection_key id)
     stored.0 lists.lists (each_row tables lists.rows (subst (AreWhole tables) lists.found_is whole)) stored.1 in
     is.1 (subst (λ n. MeetsDamage tables (command.Cabinet n)) (same_number id is.0.0 is.2) damaged.1)
-
--- out of memory tells of no unknown intersection
-pub open_tells : (office : Office) (id : Option ℕ) (orders : List OpenOrder) → AreOpen office id orders → TellsOrders office id told.Memory
-open_tells office None orders open_orders = λ e. cc
-open_tells office (Some id) orders open_orders = known_tells_memory office id open_orders.0

@@ -10,9 +10,11 @@ use Rattle.office_machine.specs.declared.reply.Reply.{Reply}
 use Rattle.office_machine.specs.declared.command.Command.TheVariants as command
 use Rattle.office_machine.specs.declared.reply.Reply.TheVariants as reply
 use Rattle.office_listings.specs.Cabinet.{cabinet_register}
+use Rattle.office_listings.specs.Orders.{named_orders, orders_csv_text}
 use Rattle.signal_office_commands.proofs.AskingLemmas.{step_taken}
 use Rattle.signal_office_faults.specs.declared.fault.Fault.{Fault}
 use Rattle.signal_office_commands.specs.Cabinet.{IsCabinetOf, IsRegisterOf, IsStateOf}
+use Rattle.signal_office_commands.specs.Listing.{IsOrdersCsvOf}
 
 shown_state : (id : ℕ) (found : Option Intersection) (state : IntersectionState)
     → shown found (λ i. reply.State (state_shown id i)) ≡ reply.State state
@@ -59,6 +61,13 @@ pub register_is : (office : Office) (id : ℕ) (text : List ℕ) (state : Inters
     → text ≡ cabinet_register cabinet.id state.name state.interval cabinet.view → IsRegisterOf office id text
 register_is office id text state cabinet (i, there, shows) (known, is) printed =
     (i, there, printed ∙ (λ k. cabinet_register (is k).id (shows k).name (shows k).interval (is k).view))
+
+-- and the open orders with its name
+pub csv_is : (office : Office) (id : ℕ) (text : List ℕ) (state : IntersectionState) (cabinet : CabinetShown)
+    → IsStateOf office id state → IsCabinetOf office id cabinet
+    → text ≡ orders_csv_text (named_orders state.name cabinet) → IsOrdersCsvOf office (Some id) text
+csv_is office id text state cabinet (i, there, shows) (known, is) printed =
+    (i, there, printed ∙ (λ k. orders_csv_text (named_orders (shows k).name (is k))))
 
 -- a fault that is handed on is that which was told
 pub handed : {A : Type 0} (result : Result A Fault) (fault told : Fault) → IsErrAnd result (λ why. why ≡ fault) → result ≡ Err told → fault ≡ told

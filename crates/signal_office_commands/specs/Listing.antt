@@ -1,21 +1,23 @@
 -- What the lists show: intersections, stock, open orders.
-use Rattle.std.specs.Prelude.{◌≡◌, ◌≢◌, ◌⊎◌, ℕ, Bool, if◌then◌else◌, List, flat_map, Option, Some, None}
-use Rattle.std.specs.FinMap.{entries}
+use Rattle.std.specs.Prelude.{◌≡◌, ◌≢◌, ◌⊎◌, ℕ, Bool, true, false, if◌then◌else◌, List, flat_map, Option, Some, None}
+use Rattle.std.specs.FinMap.{entries, get}
 use Rattle.office_tables_shelf.specs.Content.{Content}
 use Rattle.office_tables_shelf.specs.Damage.{HasAnyDamagedIntersection}
 use Rattle.office_desk.specs.Damage.{MeetsDamage}
-use Rattle.office_machine.specs.Office.{Office}
+use Rattle.office_machine.specs.Office.{Office, Intersection}
 use Rattle.office_machine.specs.Step.{cabinet_shown}
 use Rattle.office_machine.specs.declared.command.Command.TheVariants as command
 use Rattle.office_machine.specs.declared.intersections.ListedIntersection.{ListedIntersection}
 use Rattle.office_listings.specs.Intersections.{intersections_csv_text, intersections_listing}
 use Rattle.office_listings.specs.Orders.{open_orders, orders_listing}
+use Rattle.office_listings.specs.Orders.{named_orders, named_orders_listing, orders_csv_text}
 use Rattle.office_listings.specs.Stock.{stock_csv_text, stock_listing}
+use Rattle.office_listings.specs.declared.orders.NamedOrder.{NamedOrder}
 use Rattle.office_listings.specs.declared.orders.OpenOrder.{OpenOrder}
 use Rattle.signal_office_commands.specs.Fault.{TellsUnknown}
 use Rattle.signal_office_faults.specs.declared.fault.Fault.{Fault}
 use Rattle.signal_office_faults.specs.declared.fault.Fault.TheVariants as told
-use Rattle.signal_office_commands.specs.Cabinet.{IsThere}
+use Rattle.signal_office_commands.specs.Cabinet.{IsThere, MeetsRegisterDamage}
 
 -- as CSV or as a text
 abbrev pub list_written : Bool → List ListedIntersection → List ℕ
@@ -26,18 +28,31 @@ stock_written csv parts = if csv then stock_csv_text parts else stock_listing pa
 
 -- ---- open orders
 
--- those of an intersection
+-- those of an intersection, and the same with its name
 abbrev pub open_on : Office → ℕ → List OpenOrder
 open_on office id = open_orders (cabinet_shown office.register id)
 
--- those of all, by the numbers of the intersections
-abbrev pub open_in : Office → List OpenOrder
-open_in office = flat_map (λ e. open_on office e.0) (entries office.intersections)
+abbrev pub named_on : Office → ℕ → List ℕ → List NamedOrder
+named_on office id name = named_orders name (cabinet_shown office.register id)
 
--- those that were asked for, of an intersection that is there or of all
-abbrev pub AreOpen : Office → Option ℕ → List OpenOrder → Type 0
-AreOpen office None orders = orders ≡ open_in office
-AreOpen office (Some id) orders = IsThere office id × (orders ≡ open_on office id)
+-- those of all, by the numbers of the intersections
+abbrev pub named_in : Office → List NamedOrder
+named_in office = flat_map (λ e. named_on office e.0 e.1.name) (entries office.intersections)
+
+-- as CSV or as a text
+abbrev pub named_written : Bool → List NamedOrder → List ℕ
+named_written csv orders = if csv then orders_csv_text orders else named_orders_listing orders
+
+-- the text is the list of those that were asked for: of an intersection that is there, or of all with their names
+abbrev pub IsOrdersListOf : Office → Option ℕ → List ℕ → Type 0
+IsOrdersListOf office None text = text ≡ named_written false (named_in office)
+IsOrdersListOf office (Some id) text = IsThere office id × (text ≡ orders_listing (open_on office id))
+
+-- the same as CSV, which always has names
+abbrev pub IsOrdersCsvOf : Office → Option ℕ → List ℕ → Type 0
+IsOrdersCsvOf office None text = text ≡ named_written true (named_in office)
+IsOrdersCsvOf office (Some id) text =
+    (i : Intersection) × (get office.intersections id ≡ Some i) × (text ≡ orders_csv_text (named_on office id i.name))
 
 -- an unknown intersection is told only of one that was asked for
 abbrev pub TellsOrders : Office → Option ℕ → Fault → Type 0
@@ -49,6 +64,7 @@ abbrev pub MeetsOrdersDamage : Content → Option ℕ → Type 0
 MeetsOrdersDamage tables None = HasAnyDamagedIntersection tables ⊎ ((id : ℕ) × MeetsDamage tables (command.Cabinet id))
 MeetsOrdersDamage tables (Some id) = MeetsDamage tables (command.Cabinet id)
 
--- the text is their list
-abbrev pub IsOrdersListOf : Office → Option ℕ → List ℕ → Type 0
-IsOrdersListOf office id text = (orders : List OpenOrder) × AreOpen office id orders × (text ≡ orders_listing orders)
+-- and for that as CSV, which asks for the name too
+abbrev pub MeetsOrdersCsvDamage : Content → Option ℕ → Type 0
+MeetsOrdersCsvDamage tables None = MeetsOrdersDamage tables None
+MeetsOrdersCsvDamage tables (Some id) = MeetsRegisterDamage tables id

@@ -8,6 +8,7 @@ use Rattle.office_machine.specs.Office.{Office}
 use Rattle.office_machine.specs.declared.command.Command.TheVariants as command
 use Rattle.office_machine.specs.Step.{overdue_on}
 use Rattle.office_files.specs.Overdue.{overdue_report}
+use Rattle.office_listings.specs.Overdue.{overdue_csv_text}
 
 -- the text is the report of the first so many intersections that are overdue in the office on the day
 abbrev pub IsReportOf : Office → ℕ → ℕ → List ℕ → Type 0
@@ -18,3 +19,12 @@ IsReportOf office day most text =
 abbrev pub IsWholeReport : Content → ℕ → ℕ → List ℕ → Type 0
 IsWholeReport tables day most text =
     (rows : List OverdueRow) × (text ≡ overdue_report day rows) × (length rows < most → ¬ MeetsDamage tables (command.Overdue day))
+
+-- the same of the list as CSV
+abbrev pub IsOverdueCsvOf : Office → ℕ → ℕ → List ℕ → Type 0
+IsOverdueCsvOf office day most text =
+    (rows : List OverdueRow) × (map listed rows ≡ take most (overdue_on office day)) × (text ≡ overdue_csv_text rows)
+
+abbrev pub IsWholeOverdueCsv : Content → ℕ → ℕ → List ℕ → Type 0
+IsWholeOverdueCsv tables day most text =
+    (rows : List OverdueRow) × (text ≡ overdue_csv_text rows) × (length rows < most → ¬ MeetsDamage tables (command.Overdue day))

@@ -1,35 +1,42 @@
 //! The open orders of an intersection, or of all.
 
-ghost use Rattle.std.specs.Prelude.{◌≡◌, ◌++◌, Err, None, IfOk, IfErr, OnOk};
+ghost use Rattle.std.specs.Prelude.{◌≡◌, ◌≢◌, ◌++◌, Err, None, Some, IfOk, IfErr, OnOk};
 ghost use Rattle.office_tables_shelf.specs.Keeps.{KeepsShelf};
 ghost use Rattle.office_desk.specs.Damage.{MeetsDamage};
+ghost use Rattle.office_listings.specs.Orders.{orders_listing};
 ghost use Rattle.office_machine.specs.declared.command.Command.TheVariants as command;
 ghost use Rattle.signal_office_commands.specs.Fault.{IsFaultOfQuery, TellsUnknown};
-ghost use Rattle.signal_office_commands.specs.Cabinet.{IsThere};
-ghost use Rattle.signal_office_commands.specs.Listing.{open_on, AreOpen, TellsOrders};
-ghost use Rattle.signal_office_commands.specs.Listing.{MeetsOrdersDamage, IsOrdersListOf};
+ghost use Rattle.signal_office_commands.specs.Cabinet.{IsThere, MeetsRegisterDamage};
+ghost use Rattle.signal_office_commands.specs.Listing.{open_on, named_on, named_in, named_written};
+ghost use Rattle.signal_office_commands.specs.Listing.{IsOrdersListOf, MeetsOrdersDamage};
+ghost use Rattle.signal_office_commands.specs.Listing.{IsOrdersCsvOf, MeetsOrdersCsvDamage};
+ghost use Rattle.signal_office_commands.specs.Listing.{TellsOrders};
 ghost use Rattle.office_desk.specs.Running.{TellsTables};
 ghost use Rattle.signal_office_commands.specs.Asking.{TellsOffice};
 
-use crate::querying::{cabinet_asked, intersections_asked};
+use crate::querying::{cabinet_asked, intersections_asked, state_asked};
 use office_desk::office::Office;
-use office_listings::{OpenOrder, add_open_orders, orders_text};
+use office_listings::{
+    NamedOrder, add_named_orders, add_open_orders, named_orders_text, orders_csv, orders_text,
+};
 use office_tables_shelf::shelf::Shelf;
 use signal_office_faults::Fault;
-use signal_records::InterId;
+use signal_records::{InterId, NoMemory, Words};
 use std::alloc::Global;
 
-/// Appends the open orders of an intersection.
+/// Appends the open orders of an intersection, with its name.
 fn add_orders_on<S: Shelf>(
     alloc: Global,
     office: &mut Office<S>,
-    found: &mut Vec<OpenOrder>,
+    found: &mut Vec<NamedOrder>,
     id: InterId,
+    name: &Words<120>,
 ) -> Result<(), Fault>
     ensures kept { KeepsShelf S.Shelf office.old office.new }
     ensures clean { S.is_clean office.new → S.is_clean office.old }
     ensures added { OnOk result (TellsOffice S.Shelf office.old office.new
-        (λ before. IsThere before id × (found.new.items ≡ found.old.items ++ open_on before id))) }
+        (λ before. IsThere before id
+        × (found.new.items ≡ found.old.items ++ named_on before id name.now))) }
     ensures whole { OnOk result (TellsTables S.Shelf office.old office.new
         (λ tables. ¬ MeetsDamage tables (command.Cabinet id))) }
     ensures refused { IfErr result IsFaultOfQuery }
@@ -39,16 +46,19 @@ fn add_orders_on<S: Shelf>(
         (λ before. TellsUnknown before id fault)) }
 {
     let cabinet = cabinet_asked(alloc, office, id)?;
-    add_open_orders(found, &cabinet)?;
+    add_named_orders(found, name, &cabinet)?;
     Ok(())
 }
 
 /// The open orders of all intersections, by the numbers of these.
-fn all_orders<S: Shelf>(alloc: Global, office: &mut Office<S>) -> Result<Vec<OpenOrder>, Fault>
+pub(crate) fn all_orders<S: Shelf>(
+    alloc: Global,
+    office: &mut Office<S>,
+) -> Result<Vec<NamedOrder>, Fault>
     ensures kept { KeepsShelf S.Shelf office.old office.new }
     ensures clean { S.is_clean office.new → S.is_clean office.old }
-    ensures open { IfOk result (λ found. TellsOffice S.Shelf office.old office.new
-        (λ before. AreOpen before None found.items)) }
+    ensures open_ones { IfOk result (λ found. TellsOffice S.Shelf office.old office.new
+        (λ before. found.items ≡ named_in before)) }
     ensures whole { IfOk result (λ _. TellsTables S.Shelf office.old office.new
         (λ tables. ¬ MeetsOrdersDamage tables None)) }
     ensures refused { IfErr result IsFaultOfQuery }
@@ -60,39 +70,82 @@ fn all_orders<S: Shelf>(alloc: Global, office: &mut Office<S>) -> Result<Vec<Ope
     let list = intersections_asked(alloc, office)?;
     let mut found = Vec::new(alloc);
     for listed in list.as_slice() {
-        add_orders_on(alloc, office, &mut found, listed.id)?;
+        add_orders_on(alloc, office, &mut found, listed.id, &listed.name)?;
     }
     Ok(found)
 }
 
-/// The open orders that are asked for: of an intersection, or of all.
-fn orders_asked<S: Shelf>(
-    alloc: Global,
-    office: &mut Office<S>,
-    id: Option<InterId>,
-) -> Result<Vec<OpenOrder>, Fault>
-    ensures kept { KeepsShelf S.Shelf office.old office.new }
-    ensures clean { S.is_clean office.new → S.is_clean office.old }
-    ensures open { IfOk result (λ found. TellsOffice S.Shelf office.old office.new
-        (λ before. AreOpen before id found.items)) }
-    ensures whole { IfOk result (λ _. TellsTables S.Shelf office.old office.new
-        (λ tables. ¬ MeetsOrdersDamage tables id)) }
-    ensures refused { IfErr result IsFaultOfQuery }
-    ensures damaged { result ≡ Err Fault.Damaged → TellsTables S.Shelf office.old office.new
-        (λ tables. MeetsOrdersDamage tables id) }
-    ensures fault { IfErr result (λ fault. TellsOffice S.Shelf office.old office.new
-        (λ before. TellsOrders before id fault)) }
+fn named_written(alloc: Global, csv: bool, orders: &[NamedOrder]) -> Result<Vec<u8>, NoMemory>
+    ensures { IfOk result (λ text. text.items ≡ named_written csv orders.now) }
 {
-    let Some(id) = id else {
-        return all_orders(alloc, office);
-    };
-    let mut found = Vec::new(alloc);
-    add_orders_on(alloc, office, &mut found, id)?;
-    Ok(found)
+    if csv {
+        orders_csv(alloc, orders)
+    } else {
+        named_orders_text(alloc, orders)
+    }
 }
 
-/// The list of the open orders of an intersection, or of all in the order of their numbers. The
-/// office is as it was.
+/// The list of the open orders of all intersections, as a text or as CSV.
+fn list_of_all<S: Shelf>(alloc: Global, office: &mut Office<S>, csv: bool) -> Result<Vec<u8>, Fault>
+    ensures kept { KeepsShelf S.Shelf office.old office.new }
+    ensures clean { S.is_clean office.new → S.is_clean office.old }
+    ensures orders { IfOk result (λ text. TellsOffice S.Shelf office.old office.new
+        (λ before. text.items ≡ named_written csv (named_in before))) }
+    ensures whole { IfOk result (λ _. TellsTables S.Shelf office.old office.new
+        (λ tables. ¬ MeetsOrdersDamage tables None)) }
+    ensures refused { IfErr result IsFaultOfQuery }
+    ensures damaged { result ≡ Err Fault.Damaged → TellsTables S.Shelf office.old office.new
+        (λ tables. MeetsOrdersDamage tables None) }
+    ensures fault { IfErr result (λ fault. TellsOffice S.Shelf office.old office.new
+        (λ before. TellsOrders before None fault)) }
+{
+    let found = all_orders(alloc, office)?;
+    Ok(named_written(alloc, csv, found.as_slice())?)
+}
+
+/// The list of the open orders of an intersection.
+fn list_on<S: Shelf>(alloc: Global, office: &mut Office<S>, id: InterId) -> Result<Vec<u8>, Fault>
+    ensures kept { KeepsShelf S.Shelf office.old office.new }
+    ensures clean { S.is_clean office.new → S.is_clean office.old }
+    ensures orders { IfOk result (λ text. TellsOffice S.Shelf office.old office.new
+        (λ before. IsOrdersListOf before (Some id) text.items)) }
+    ensures whole { IfOk result (λ _. TellsTables S.Shelf office.old office.new
+        (λ tables. ¬ MeetsDamage tables (command.Cabinet id))) }
+    ensures refused { IfErr result IsFaultOfQuery }
+    ensures damaged { result ≡ Err Fault.Damaged → TellsTables S.Shelf office.old office.new
+        (λ tables. MeetsDamage tables (command.Cabinet id)) }
+    ensures fault { IfErr result (λ fault. TellsOffice S.Shelf office.old office.new
+        (λ before. TellsUnknown before id fault)) }
+{
+    let cabinet = cabinet_asked(alloc, office, id)?;
+    let mut found = Vec::new(alloc);
+    add_open_orders(&mut found, &cabinet)?;
+    Ok(orders_text(alloc, found.as_slice())?)
+}
+
+/// The same as CSV, with the name of the intersection.
+fn csv_on<S: Shelf>(alloc: Global, office: &mut Office<S>, id: InterId) -> Result<Vec<u8>, Fault>
+    ensures kept { KeepsShelf S.Shelf office.old office.new }
+    ensures clean { S.is_clean office.new → S.is_clean office.old }
+    ensures orders { IfOk result (λ text. TellsOffice S.Shelf office.old office.new
+        (λ before. IsOrdersCsvOf before (Some id) text.items)) }
+    ensures whole { IfOk result (λ _. TellsTables S.Shelf office.old office.new
+        (λ tables. ¬ MeetsRegisterDamage tables id)) }
+    ensures refused { IfErr result IsFaultOfQuery }
+    ensures damaged { result ≡ Err Fault.Damaged → TellsTables S.Shelf office.old office.new
+        (λ tables. MeetsRegisterDamage tables id) }
+    ensures fault { IfErr result (λ fault. TellsOffice S.Shelf office.old office.new
+        (λ before. TellsUnknown before id fault)) }
+{
+    let state = state_asked(alloc, office, id)?;
+    let cabinet = cabinet_asked(alloc, office, id)?;
+    let mut found = Vec::new(alloc);
+    add_named_orders(&mut found, &state.name, &cabinet)?;
+    Ok(orders_csv(alloc, found.as_slice())?)
+}
+
+/// The list of the open orders of an intersection, or of all in the order of their numbers, with
+/// their names. The office is as it was.
 pub fn orders_of<S: Shelf>(
     alloc: Global,
     office: &mut Office<S>,
@@ -116,6 +169,38 @@ pub fn orders_of<S: Shelf>(
     ensures fault { IfErr result (λ fault. TellsOffice S.Shelf office.old office.new
         (λ before. TellsOrders before id fault)) }
 {
-    let found = orders_asked(alloc, office, id)?;
-    Ok(orders_text(alloc, found.as_slice())?)
+    match id {
+        None => list_of_all(alloc, office, false),
+        Some(id) => list_on(alloc, office, id),
+    }
+}
+
+/// The same as CSV, with the name of each intersection. The office is as it was.
+pub fn orders_csv_of<S: Shelf>(
+    alloc: Global,
+    office: &mut Office<S>,
+    id: Option<InterId>,
+) -> Result<Vec<u8>, Fault>
+    // It changes nothing.
+    ensures kept { KeepsShelf S.Shelf office.old office.new }
+    ensures clean { S.is_clean office.new → S.is_clean office.old }
+    ensures orders { IfOk result (λ text. TellsOffice S.Shelf office.old office.new
+        (λ before. IsOrdersCsvOf before id text.items)) }
+    // No row that is read and is no record is passed over.
+    ensures whole { IfOk result (λ _. TellsTables S.Shelf office.old office.new
+        (λ tables. ¬ MeetsOrdersCsvDamage tables id)) }
+    // Where it fails, the intersection is unknown, memory or the database refused, or a row that
+    // is read is no record.
+    ensures refused { IfErr result IsFaultOfQuery }
+    ensures damaged { result ≡ Err Fault.Damaged → TellsTables S.Shelf office.old office.new
+        (λ tables. MeetsOrdersCsvDamage tables id) }
+    // An unknown intersection is told where one was asked for that the office does not have, and
+    // only there.
+    ensures fault { IfErr result (λ fault. TellsOffice S.Shelf office.old office.new
+        (λ before. TellsOrders before id fault)) }
+{
+    match id {
+        None => list_of_all(alloc, office, true),
+        Some(id) => csv_on(alloc, office, id),
+    }
 }

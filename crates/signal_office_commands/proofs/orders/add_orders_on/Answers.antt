@@ -12,7 +12,7 @@ pub returns-in_err-cabinet-clause-fault : goal.returns-in_err-cabinet-clause-fau
 returns-in_err-cabinet-clause-fault g c =
     on_fault _ c.in_err-cabinet.field-0.0 _ c.from_residual.ensures.1 c.in_err-cabinet.ensures.fault
 
-pub returns-in_err-add_open_orders-clause-fault : goal.returns-in_err-add_open_orders-clause-fault
-returns-in_err-add_open_orders-clause-fault g c =
-    on_fault _ told.Memory _ c.from_residual-in_err-add_open_orders.ensures.1 (λ clean tables held before stands.
+pub returns-in_err-add_named_orders-clause-fault : goal.returns-in_err-add_named_orders-clause-fault
+returns-in_err-add_named_orders-clause-fault g c =
+    on_fault _ told.Memory _ c.from_residual-in_err-add_named_orders.ensures.1 (λ clean tables held before stands.
     known_tells_memory before c.args.id (c.in_ok-cabinet.ensures.cabinet clean tables held before stands).0)

@@ -3,7 +3,7 @@ use Rattle.std.proofs.lemmas.List.{take_all}
 use Rattle.office_desk_timing.specs.Listing.{ListsRows}
 use Rattle.signal_office_commands.proofs.AskingLemmas.{◌then◌, still_held}
 use Rattle.signal_office_commands.proofs.FaultLemmas.{on_fault}
-use Rattle.signal_office_commands.proofs.OrderLemmas.{AreWhole, all_open, all_whole, known_at, known_tells, listed_fault, listed_known, open_of, orders_more, whole_more}
+use Rattle.signal_office_commands.proofs.OrderLemmas.{AreWhole, all_open, all_whole, known_at, known_tells, listed_fault, listed_known, named_of, orders_more, whole_more}
 use Rattle.signal_office_commands.proofs.QueryLemmas.{handed}
 use Rattle.signal_office_faults.specs.declared.fault.Fault.{Fault}
 use Rattle.signal_office_faults.specs.declared.fault.Fault.TheVariants as told
@@ -39,12 +39,12 @@ loop-listed-preserved g c =
       clean = λ clean. so_far.clean (back clean);
     }
 
-pub returns-clause-open : goal.returns-clause-open
-returns-clause-open g c = λ clean tables held before stands.
+pub returns-clause-open_ones : goal.returns-clause-open_ones
+returns-clause-open_ones g c = λ clean tables held before stands.
     let items = c.as_slice-listed-items.result.now in
     let so_far = c.loop-listed.invariant in
     all_open before items c.loop-listed.found.items (so_far.all clean tables held before stands)
-    (so_far.orders clean tables held before stands ∙ ap (λ list. open_of before list) (take_all c.loop-listed.listed-index items (omega arith)))
+    (so_far.orders clean tables held before stands ∙ ap (λ list. named_of before list) (take_all c.loop-listed.listed-index items (omega arith)))
 
 pub returns-clause-whole : goal.returns-clause-whole
 returns-clause-whole g c = λ clean tables held.

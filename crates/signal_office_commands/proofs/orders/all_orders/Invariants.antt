@@ -4,7 +4,7 @@ use Rattle.office_desk.specs.Running.{TellsTables}
 use Rattle.office_desk_timing.specs.Listing.{ListsRows}
 use Rattle.office_machine.specs.Listed.{intersections_of}
 use Rattle.signal_office_commands.specs.Asking.{TellsOffice}
-use Rattle.signal_office_commands.proofs.OrderLemmas.{AreWhole, open_of}
+use Rattle.signal_office_commands.proofs.OrderLemmas.{AreWhole, named_of}
 use Rattle.signal_office_commands.proofs.orders.all_orders.Given as goal
 
 -- the orders of the first intersections of the list, which are those of the office, and whose rows are no damaged ones
@@ -15,7 +15,7 @@ invariant-loop-listed g l =
       all : TellsOffice shelf l.fn.office l.office (λ before. l.listed-items ≡ intersections_of before);
       lists : TellsTables shelf l.fn.office l.office (λ tables. ListsRows tables l.listed-items);
       sound : TellsTables shelf l.fn.office l.office (λ tables. ¬ HasAnyDamagedIntersection tables);
-      orders : TellsOffice shelf l.fn.office l.office (λ before. l.found.items ≡ open_of before (take l.listed-index l.listed-items));
+      orders : TellsOffice shelf l.fn.office l.office (λ before. l.found.items ≡ named_of before (take l.listed-index l.listed-items));
       whole : TellsTables shelf l.fn.office l.office (λ tables. AreWhole tables (take l.listed-index l.listed-items));
       kept : KeepsShelf shelf l.fn.office l.office;
       clean : shelf.is_clean l.office → shelf.is_clean l.fn.office;

@@ -1,24 +1,24 @@
-use Rattle.std.proofs.Common.{◌∙◌, Err, ap}
-use Rattle.office_listings.specs.Orders.{orders_listing}
-use Rattle.signal_office_commands.proofs.{FaultLemmas.on_fault, OrderLemmas.open_tells, QueryLemmas.handed}
-use Rattle.signal_office_faults.specs.declared.fault.Fault.{Fault}
-use Rattle.signal_office_faults.specs.declared.fault.Fault.TheVariants as told
+use Rattle.std.proofs.Common.{subst, sym}
+use Rattle.std.specs.Prelude.{IfErr, IfOk}
+use Rattle.signal_office_commands.specs.{Asking.TellsOffice, Listing.IsOrdersListOf, Listing.TellsOrders}
 use Rattle.signal_office_commands.proofs.orders.orders_of.Goals as goal
 
-pub returns-clause-orders : goal.returns-clause-orders
-returns-clause-orders g c = λ clean tables held before stands.
-    (c.in_ok-found.found.items, c.in_ok-found.ensures.open clean tables held before stands, c.in_ok-orders_text.ensures ∙ ap orders_listing c.as_slice.ensures.value)
+pub returns-in-None-clause-orders : goal.returns-in-None-clause-orders
+returns-in-None-clause-orders g c =
+    subst (λ id. IfOk c.list_of_all.result (λ text. TellsOffice g.S.Shelf c.args.office.now c.list_of_all.new.office (λ before. IsOrdersListOf before id text.items)))
+    (sym c.in-None.is) c.list_of_all.ensures.orders
 
-pub returns-in_err-found-clause-damaged : goal.returns-in_err-found-clause-damaged
-returns-in_err-found-clause-damaged g c = λ is.
-    let fault = handed _ c.in_err-found.field-0.0 told.Damaged c.from_residual.ensures.1 is in
-    c.orders_asked.ensures.damaged (c.in_err-found.was ∙ ap (λ (f : Fault). Err f) fault)
+pub returns-in-None-clause-fault : goal.returns-in-None-clause-fault
+returns-in-None-clause-fault g c =
+    subst (λ id. IfErr c.list_of_all.result (λ fault. TellsOffice g.S.Shelf c.args.office.now c.list_of_all.new.office (λ before. TellsOrders before id fault)))
+    (sym c.in-None.is) c.list_of_all.ensures.fault
 
-pub returns-in_err-found-clause-fault : goal.returns-in_err-found-clause-fault
-returns-in_err-found-clause-fault g c =
-    on_fault _ c.in_err-found.field-0.0 _ c.from_residual.ensures.1 c.in_err-found.ensures.fault
+pub returns-in-Some-clause-orders : goal.returns-in-Some-clause-orders
+returns-in-Some-clause-orders g c =
+    subst (λ id. IfOk c.list_on.result (λ text. TellsOffice g.S.Shelf c.args.office.now c.list_on.new.office (λ before. IsOrdersListOf before id text.items)))
+    (sym c.in-Some.is) c.list_on.ensures.orders
 
-pub returns-in_err-orders_text-clause-fault : goal.returns-in_err-orders_text-clause-fault
-returns-in_err-orders_text-clause-fault g c =
-    on_fault _ told.Memory _ c.from_residual-in_err-orders_text.ensures.1 (λ clean tables held before stands.
-    open_tells before c.args.id c.in_ok-found.found.items (c.in_ok-found.ensures.open clean tables held before stands))
+pub returns-in-Some-clause-fault : goal.returns-in-Some-clause-fault
+returns-in-Some-clause-fault g c =
+    subst (λ id. IfErr c.list_on.result (λ fault. TellsOffice g.S.Shelf c.args.office.now c.list_on.new.office (λ before. TellsOrders before id fault)))
+    (sym c.in-Some.is) c.list_on.ensures.fault
