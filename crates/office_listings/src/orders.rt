@@ -78,7 +78,8 @@ fn add_named(
         found.old.items ++ map (order_named name.now id) (filter is_open orders.now)) }
 {
     for order in orders {
-        if order.closing.is_none() {
+        let is_open = order.closing.is_none();
+        if is_open {
             found.push(order_named(name, id, order)?)?;
         }
     }

@@ -69,6 +69,6 @@ pub fn overdue_csv_of<S: Shelf>(
 {
     match office.overdue_first(alloc, day, most) {
         Ok(rows) => Ok(overdue_csv(alloc, rows.as_slice())?),
-        Err(refusal) => Err(fault_of(refusal)),
+        Err(why) => Err(fault_of(why)),
     }
 }
