@@ -48,14 +48,14 @@ returns-clause-stop g c = λ clean tables held found may.
     elim (c.revise.ensures.stop clean tables (still_held g.S.Shelf _ _ tables c.standing_in.ensures.kept held) found may) [
       | inl was ↦ inl (c.standing_in.ensures.kept.same_outcomes found was)
       | inr after ↦ inr (
-          c.in_ok-asked.asked.items,
-          c.in_ok-asked.ensures.changes,
-          c.in_ok-standing.standing,
-          c.in_ok-standing.ensures.shown (c.revise.ensures.clean clean) tables held,
-          c.in_ok-changes.changes,
-          c.in_ok-changes.ensures,
-          after,
-        )
+        c.in_ok-asked.asked.items,
+        c.in_ok-asked.ensures.changes,
+        c.in_ok-standing.standing,
+        c.in_ok-standing.ensures.shown (c.revise.ensures.clean clean) tables held,
+        c.in_ok-changes.changes,
+        c.in_ok-changes.ensures,
+        after,
+      )
     ]
 
 pub returns-in_err-asked-clause-stop : goal.returns-in_err-asked-clause-stop
