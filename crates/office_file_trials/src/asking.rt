@@ -33,12 +33,16 @@ impl Asked {
 }
 
 impl OfficeTask<Reply> for Asked {
-    ghost use Rattle.std.specs.Prelude.{◌≡◌, Ok};
+    ghost use Rattle.std.specs.Prelude.{◌≡◌, Ok, ⊤};
     ghost use Rattle.office_machine.specs.declared.reply.Reply.{Reply};
 
     // Of the tables it promises nothing here: what it made of them is tried.
     ghost does = { λ task old done new start end. (reply : Reply) × (done ≡ Ok reply)
         × (end ≡ start) };
+
+    ghost leaves = { λ task old found. ⊤ };
+
+    ghost says = { λ task start end. end ≡ start };
 
     fn done_with<S: Shelf, W: Sink>(
         &self,

@@ -4,8 +4,8 @@
 use crate::asking::Asked;
 use crate::migrating::former;
 use office_lives::{
-    migrated_and_served, served_after_a_stop, served_around, served_over, served_twice,
-    served_unclosed,
+    done_unclosed, migrated_and_served, served_after_a_command, served_after_a_stop, served_around,
+    served_over, served_twice, served_unclosed,
 };
 use office_row_files::ends::{Cut, Feed, Keep};
 use office_row_files::trouble::{Trouble, compare, holds};
@@ -101,6 +101,40 @@ fn live_unclosed(alloc: Global) -> Result<(), Trouble> {
     Err(Trouble::Unprepared("a file that is not closed"))
 }
 
+/// A command that adds the intersection is stopped, and the stream after it shows it.
+fn live_after_a_command(rt: &HostRuntime, alloc: Global) -> Result<(), Trouble> {
+    let files = stopping(alloc, &[], true, u64::MAX)?;
+    let (mut out, mut reader, mut writer) = (sink(alloc), source(93, 127), sink(alloc));
+    let task = Asked::adding(alloc)?;
+    let lived = served_after_a_command(rt, alloc, files, &task, &mut out, &mut reader, &mut writer);
+    holds(lived.is_some(), "a run after a command that was stopped")?;
+    compare(
+        alloc,
+        "a stream after a command that was stopped",
+        told(89, 273),
+        &writer.bytes,
+    )
+}
+
+/// The database file fails as it is closed after the command, and the next run shows the
+/// intersection, where the command had added it by then.
+fn live_undone(rt: &HostRuntime, alloc: Global) -> Result<(), Trouble> {
+    let task = Asked::adding(alloc)?;
+    let mut shown = 0;
+    for calls in 0..64 {
+        let files = stopping(alloc, &[], false, calls)?;
+        let mut out = sink(alloc);
+        if let Some(left) = done_unclosed(rt, alloc, files, &task, &mut out) {
+            let (mut reader, mut writer) = (source(93, 127), sink(alloc));
+            let lived = served_over(alloc, left, &mut reader, &mut writer);
+            if lived.is_some() && writer.bytes.as_slice() == told(89, 273) {
+                shown += 1;
+            }
+        }
+    }
+    holds(shown > 0, "a command over files that were not closed")
+}
+
 /// Lets files live through two runs and more.
 pub fn try_lives(rt: &HostRuntime) -> Result<(), Trouble> {
     let alloc = rt.alloc();
@@ -109,11 +143,16 @@ pub fn try_lives(rt: &HostRuntime) -> Result<(), Trouble> {
     live_on(alloc)?;
     live_around(rt, alloc)?;
     live_unclosed(alloc)?;
+    live_after_a_command(rt, alloc)?;
+    live_undone(rt, alloc)?;
     println!(rt;
         "two runs over the same files, closed, stopped or migrated in between: the second goes on"
     )?;
     println!(rt;
         "a command between two runs, and a run over files that were not closed: it goes on"
+    )?;
+    println!(rt;
+        "a run after a command that was stopped, or whose files were not closed: it goes on"
     )?;
     Ok(())
 }

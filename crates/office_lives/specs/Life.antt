@@ -29,6 +29,8 @@ pub data Lived : Type 1 where
   unclosed : (limit : ℕ) → (start end : Ends) → Lived
   -- a command did this to the tables that it found, and the file was closed
   command : (does : Content → Content → Type 0) → Lived
+  -- a command was begun, and then the run was stopped, at whichever of its calls on the disk, or the file could not be closed, or the disk failed
+  command_to_a_stop : (leaves : Content → Content → Type 0) → Lived
   -- the tables of version 1 were brought to today's, and the file was closed
   migrated : Lived
   -- the file was refused, or nothing was changed
@@ -47,6 +49,7 @@ module _ {D : Type 0} (g : Disk D) where
   Made (to_a_stop limit start end outcome) old new = IsServedToAStop (file_state {D = D} {g = g}) limit start end old outcome new
   Made (unclosed limit start end) old new = ∥ (new ≡ old) ⊎ IsCutShortIn g limit start end old new ∥₁
   Made (command does) old new = does old new
+  Made (command_to_a_stop leaves) old new = ∥ leaves old new ∥₁
   Made migrated old new = (new ≡ old) ⊎ ((before : Office) → StandForSoundIn version_1 old before → StandAnew new before)
   Made refused old new = new ≡ old
 

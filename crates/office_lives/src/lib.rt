@@ -3,10 +3,12 @@
 #![tactic(auto)]
 
 mod commands;
+mod cutting;
 mod failing;
 mod lives;
 mod stopping;
 
 pub use commands::{Around, served_around};
+pub use cutting::{CutShort, done_unclosed, served_after_a_command};
 pub use failing::{served_over, served_unclosed};
 pub use lives::{Outcome, Twice, migrated_and_served, served_after_a_stop, served_twice};

@@ -1,11 +1,12 @@
 -- A revision that was made, and one that was not.
-use Rattle.std.proofs.Common.{◌≡◌, ◌⊎◌, ◌&&◌, not, ℕ, Bool, List, Result, Ok, Err, inl, inr, subst, sym, ap, ◌∙◌}
+use Rattle.std.proofs.Common.{◌≡◌, ◌⊎◌, ◌&&◌, not, true, ℕ, Bool, List, Result, Ok, Err, inl, inr, subst, sym, ap, ◌∙◌}
 use Rattle.std.specs.{Prelude.IfOk, Prelude.is_none, Result.IsErrAnd}
 use Rattle.office_desk.specs.Running.{MakesTables}
 use Rattle.office_tables_shelf.specs.{Content.Content, declared.shelf.Shelf.Ghosts}
-use Rattle.signal_office_commands.proofs.{EditLemmas.was_run, ReplacingLemmas.leaves}
-use Rattle.signal_office_commands.specs.{Editing.Does, Editing.Goes, Editing.is_due, Replacing.LeavesPlan}
+use Rattle.signal_office_commands.proofs.{EditLemmas.was_run, ReplacingLemmas.leaves, StopLemmas.stop_by, StopLemmas.stop_then}
+use Rattle.signal_office_commands.specs.{Editing.Does, Editing.Goes, Editing.commit_commands, Editing.is_due, Replacing.LeavesPlan}
 use Rattle.signal_office_commands.specs.Revising.{Drafts, Ends, Finishes, RevisesAs, Stays, WouldBe, revise_commands, revise_told}
+use Rattle.signal_office_commands.specs.Stopping.{AfterDrafting, AfterOneOf, StopLeaves}
 use Rattle.signal_office_commands.specs.declared.revising.{EditMode.EditMode, Revised.Revised}
 use Rattle.signal_office_commands.specs.declared.standing.StandingPlan.{StandingPlan}
 use Rattle.signal_office_faults.specs.declared.fault.Fault.{Fault}
@@ -54,3 +55,16 @@ plan_left_by g old new bytes id clerk mode (Ok done) makes = λ clean tables hel
       by_made : (after before : Content) → RevisesAs bytes id clerk mode before after (Ok done) → LeavesPlan bytes id mode done.outcome before after
       by_made after before (inl revises) = leaves bytes id clerk mode before after done revises
       by_made after before (inr (why, is, none, how)) = absurd (apart done why is)
+
+-- what a stop leaves of a draft that was changed, and committed where it is due
+pub drafting_stops : {S : Type 0} (g : Ghosts S) (old middle new : S) (may : Bool) (id : ℕ) (clerk : List ℕ) (changes : List Change) (violations : List Violation) (due : Bool)
+    → due ≡ is_due may violations → (g.is_clean new → g.is_clean middle)
+    → MakesTables g old middle (λ tables made. Does revise_told tables (revise_commands id clerk changes) made (Ok violations))
+    → StopLeaves g old middle (AfterOneOf (revise_commands id clerk changes))
+    → StopLeaves g middle new (λ tables found. (due ≡ true) × AfterOneOf (commit_commands id clerk) tables found)
+    → StopLeaves g old new (AfterDrafting may id clerk changes)
+drafting_stops g old middle new may id clerk changes violations due is clean does first second =
+    stop_by g old new _ _ (λ tables found after. elim after [
+      | inl draft ↦ inl draft
+      | inr commits ↦ inr (commits.0, violations, was_run violations told.Memory commits.1, sym is ∙ commits.2.0, commits.2.1)
+    ]) (stop_then g old middle new _ _ _ clean does first second)

@@ -1,5 +1,5 @@
 -- What a stop leaves of a command that changes the tables, as it is run and after it.
-use Rattle.std.specs.Prelude.{◌≡◌, ◌⊎◌, ℕ, Bool, true, List, [], ◌∷◌, Ok}
+use Rattle.std.specs.Prelude.{◌≡◌, ◌⊎◌, ◌&&◌, ℕ, Bool, true, not, List, [], ◌∷◌, Ok}
 use Rattle.office_tables_shelf.specs.Content.{Content}
 use Rattle.office_tables_shelf.specs.declared.shelf.Shelf.{Ghosts}
 use Rattle.cabinet_core.specs.declared.command.RecordCommand.{RecordCommand}
@@ -14,6 +14,10 @@ use Rattle.office_machine.specs.declared.command.Command.TheVariants as command
 use Rattle.office_machine.specs.declared.reply.Reply.{Reply}
 use Rattle.signal_office_commands.specs.Asking.{Ran}
 use Rattle.signal_office_commands.specs.Editing.{commit_commands, edit_commands, edit_told, is_due}
+use Rattle.signal_office_commands.specs.Revising.{WouldBe, revise_commands, revise_told}
+use Rattle.signal_office_commands.specs.Standing.{AreWanted, ShowsStanding, base_of}
+use Rattle.signal_office_commands.specs.declared.revising.EditMode.{EditMode}
+use Rattle.signal_office_commands.specs.declared.standing.StandingPlan.{StandingPlan}
 
 -- On a clean disk a stop leaves what it could before, or such tables, made of those that an open database held.
 abbrev pub StopLeaves : {S : Type 0} → Ghosts S → (old new : S) → (Content → Content → Type 0) → Type 0
@@ -45,3 +49,21 @@ AfterEditing bytes id clerk commit old found =
     × (AfterOneOf (edit_commands id clerk changes) old found
     ⊎ ((middle : Content) × (violations : List Violation) × Ran edit_told old (edit_commands id clerk changes) middle (Ok violations)
     × (is_due commit violations ≡ true) × AfterOneOf (commit_commands id clerk) middle found))
+
+-- the same of a draft that is taken up and changed, and may be committed
+abbrev pub AfterDrafting : (may_commit : Bool) → (id : ℕ) → (clerk : List ℕ) → List Change → Content → Content → Type 0
+AfterDrafting may_commit id clerk changes old found =
+    AfterOneOf (revise_commands id clerk changes) old found
+    ⊎ ((middle : Content) × (violations : List Violation) × Ran revise_told old (revise_commands id clerk changes) middle (Ok violations)
+    × (is_due may_commit violations ≡ true) × AfterOneOf (commit_commands id clerk) middle found)
+
+-- a plan is revised by changes of what stands: it may be committed where that is asked, and it would not be the committed set
+abbrev pub AfterChanging : (commit : Bool) → StandingPlan → (id : ℕ) → (clerk : List ℕ) → List Change → Content → Content → Type 0
+AfterChanging commit standing id clerk changes old found =
+    (same : Bool) × WouldBe commit standing changes same × AfterDrafting (commit && not same) id clerk changes old found
+
+-- it is revised by the file's changes, or by those that make its plan
+abbrev pub AfterRevising : (bytes : List ℕ) → (id : ℕ) → (clerk : List ℕ) → EditMode → Content → Content → Type 0
+AfterRevising bytes id clerk mode old found =
+    (asked : List Change) × (changes_of bytes ≡ Ok asked) × (standing : StandingPlan) × ShowsStanding old id standing
+    × (changes : List Change) × AreWanted mode.replace (base_of standing) asked changes × AfterChanging mode.commit standing id clerk changes old found

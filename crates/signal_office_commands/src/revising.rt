@@ -8,6 +8,8 @@ ghost use Rattle.signal_office_commands.specs.Revising.{Ends, Finishes, RevisesA
 ghost use Rattle.signal_office_commands.specs.Revising.{as_it_stands, checked, outcome_of};
 ghost use Rattle.signal_office_commands.specs.Revising.{reopened, revise_commands, revise_told};
 ghost use Rattle.signal_office_commands.specs.Revising.{taken_up};
+ghost use Rattle.signal_office_commands.specs.Stopping.{AfterChanging, AfterDrafting, AfterOneOf};
+ghost use Rattle.signal_office_commands.specs.Stopping.{AfterRevising, StopLeaves};
 
 use crate::editing::{begun, commit_where_due, drafted, is_due, moved};
 use crate::standing::{StandingPlan, standing_in};
@@ -105,6 +107,7 @@ fn run_revision<S: Shelf>(
     ensures honest { S.is_honest office.new → S.is_honest office.old }
     ensures does { MakesTables S.Shelf office.old office.new
         (λ old new. Does revise_told old commands.now new result) }
+    ensures stop { StopLeaves S.Shelf office.old office.new (AfterOneOf commands.now) }
 {
     revise_told(office.run_all(alloc, commands)?)
 }
@@ -121,6 +124,8 @@ fn change_draft<S: Shelf>(
     ensures honest { S.is_honest office.new → S.is_honest office.old }
     ensures does { MakesTables S.Shelf office.old office.new
         (λ old new. Does revise_told old (revise_commands id clerk.now changes) new result) }
+    ensures stop { StopLeaves S.Shelf office.old office.new
+        (AfterOneOf (revise_commands id clerk.now changes)) }
 {
     let (first, second, third) = (clerk.clone()?, clerk.clone()?, clerk.clone()?);
     let fourth = clerk.clone()?;
@@ -174,6 +179,8 @@ fn finish<S: Shelf>(
     ensures honest { S.is_honest office.new → S.is_honest office.old }
     ensures ends { MakesTables S.Shelf office.old office.new
         (λ old new. Finishes commit same id clerk.now changes old new result) }
+    ensures stop { StopLeaves S.Shelf office.old office.new
+        (AfterDrafting (commit && not same) id clerk.now changes) }
 {
     let violations = change_draft(alloc, office, id, clerk, changes)?;
     let due = is_due(may_commit(commit, same), &violations);
@@ -224,6 +231,8 @@ fn revise<S: Shelf>(
     ensures honest { S.is_honest office.new → S.is_honest office.old }
     ensures ends { MakesTables S.Shelf office.old office.new
         (λ old new. Ends commit standing.now id clerk.now changes old new result) }
+    ensures stop { StopLeaves S.Shelf office.old office.new
+        (AfterChanging commit standing.now id clerk.now changes) }
 {
     let same = would_be(alloc, standing, changes.as_slice(), commit)?;
     if standing.is_idle(same) {
@@ -245,6 +254,8 @@ fn revise_by<S: Shelf>(
     ensures honest { S.is_honest office.new → S.is_honest office.old }
     ensures revises { MakesTables S.Shelf office.old office.new
         (λ old new. RevisesAs bytes.now id clerk.now mode old new result) }
+    ensures stop { StopLeaves S.Shelf office.old office.new
+        (AfterRevising bytes.now id clerk.now mode) }
 {
     let asked = read_timing_csv(alloc, bytes)?;
     let standing = standing_in(alloc, office, id)?;
@@ -269,6 +280,8 @@ pub fn revise_plan<S: Shelf>(
     ensures honest { S.is_honest office.new → S.is_honest office.old }
     ensures revises { MakesTables S.Shelf office.old office.new
         (λ old new. RevisesAs bytes.now id clerk.now mode old new result) }
+    ensures stop { StopLeaves S.Shelf office.old office.new
+        (AfterRevising bytes.now id clerk.now mode) }
     // The plan that is left is the one that was asked for.
     ensures plan { IfOk result (λ done. MakesTables S.Shelf office.old office.new
         (λ old new. LeavesPlan bytes.now id mode done.outcome old new)) }

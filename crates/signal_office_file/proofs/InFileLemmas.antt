@@ -5,7 +5,7 @@ use Rattle.sqlite_disk.specs.declared.Disk.{Ghosts as Disk}
 use Rattle.sqlite_disk.specs.declared.Files.{Files}
 use Rattle.office_tables.specs.Content.{Content}
 use Rattle.signal_office_faults.specs.declared.fault.Fault.{Fault}
-use Rattle.signal_office_in_file.specs.Ended.{EndsOver, FileView, IsCounted}
+use Rattle.signal_office_in_file.specs.Ended.{EndsOver, FileView, IsBegun, IsCounted, Work}
 use Rattle.signal_office_in_file.specs.declared.Ended.{Ended}
 use Rattle.signal_office_in_file.specs.declared.Ended.TheVariants.{Unopened, Refused, Closed, Unclosed}
 use Rattle.signal_office_file.specs.Files.{AreNew, HoldIn}
@@ -14,12 +14,12 @@ use Rattle.signal_office_file.specs.Left.{IsCleanFile}
 use Rattle.signal_office_file.specs.declared.left.FileLeft.{FileLeft}
 
 module _ {D : Type 0} (g : Disk D) (image : Image) (files : Files D) (new : AreNew g files image) where
-  pub ends_at : {T : Type 0} (does : Content → T → Content → Type 0) (untouched : Type 0) (r : Ended T (FileLeft D g))
-      → EndsOver (files_view g files) does untouched r → EndsOver (view_at g image) does untouched r
-  ends_at does untouched (Unopened why) it = it
-  ends_at does untouched (Refused why back) it = (it.0, (files, new, it.1))
-  ends_at does untouched (Closed done back) it = λ clean. let x = it clean in (x.0, x.1, subst (λ (i : Image). HoldIn i x.0) new.seen x.2, x.3, x.4)
-  ends_at does untouched (Unclosed why back) it = tt
+  pub ends_at : {T : Type 0} (work : Work T) (r : Ended T (FileLeft D g))
+      → EndsOver (files_view g files) work r → EndsOver (view_at g image) work r
+  ends_at work (Unopened why) it = it
+  ends_at work (Refused why back) it = (it.0, (files, new, it.1))
+  ends_at work (Closed done back) it = λ clean. let x = it clean in (x.0, x.1, subst (λ (i : Image). HoldIn i x.0) new.seen x.2, x.3, x.4)
+  ends_at work (Unclosed why back) it = λ clean. let x = it clean in (x.0, subst (λ (i : Image). HoldIn i x.0) new.seen x.1, x.2)
 
   pub counted_at : (r : Ended (Result ℕ Fault) (FileLeft D g)) → IsCounted IsCleanFile (IsMigrated files) (λ back why. IsRefusedFor files why back) r
       → IsCounted IsCleanFile (IsMigratedAt image) (IsRefusedAt image) r
@@ -30,16 +30,27 @@ module _ {D : Type 0} (g : Disk D) (image : Image) (files : Files D) (new : AreN
   counted_at (Unclosed why back) it = tt
 
 -- an end stays what it is where what is left of the file takes another form
-module _ {T L M : Type 0} (form : L → M) (view : FileView M) (does : Content → T → Content → Type 0) (untouched : Type 0) where
-  ends_so : (ended : Ended T L) → EndsOver (view_by form view) does untouched ended → EndsOver view does untouched (map_left form ended)
+module _ {T L M : Type 0} (form : L → M) (view : FileView M) (work : Work T) where
+  ends_so : (ended : Ended T L) → EndsOver (view_by form view) work ended → EndsOver view work (map_left form ended)
   ends_so (Unopened why) it = it
   ends_so (Refused why left) it = it
   ends_so (Closed done left) it = it
   ends_so (Unclosed why left) it = it
 
-  pub mapped_ends : (ended : Ended T L) → EndsOver (view_by form view) does untouched ended
-      → (result : Ended T M) → result ≡ map_left form ended → EndsOver view does untouched result
-  mapped_ends ended it result is = subst (EndsOver view does untouched) (sym is) (ends_so ended it)
+  pub mapped_ends : (ended : Ended T L) → EndsOver (view_by form view) work ended
+      → (result : Ended T M) → result ≡ map_left form ended → EndsOver view work result
+  mapped_ends ended it result is = subst (EndsOver view work) (sym is) (ends_so ended it)
+
+module _ {T L M : Type 0} (form : L → M) (untouched begun : Type 0) where
+  begun_so : (ended : Ended T L) → IsBegun untouched begun ended → IsBegun untouched begun (map_left form ended)
+  begun_so (Unopened why) it = it
+  begun_so (Refused why left) it = it
+  begun_so (Closed done left) it = it
+  begun_so (Unclosed why left) it = it
+
+  pub mapped_begun : (ended : Ended T L) → IsBegun untouched begun ended
+      → (result : Ended T M) → result ≡ map_left form ended → IsBegun untouched begun result
+  mapped_begun ended it result is = subst (IsBegun untouched begun) (sym is) (begun_so ended it)
 
 module _ {L M : Type 0} (form : L → M) (is_clean : M → Type 0) (migrated : M → ℕ → Type 0) (refused : M → Fault → Type 0) where
   abbrev Counts : Ended (Result ℕ Fault) L → Type 0

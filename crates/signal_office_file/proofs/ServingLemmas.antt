@@ -1,9 +1,12 @@
 -- What a stop leaves of a stream that was served.
-use Rattle.std.proofs.Common.{◌≡◌, Result, List, [], ◌∷◌, ℕ, sym, subst}
+use Rattle.std.proofs.Common.{◌≡◌, ◌⊎◌, Result, List, [], ◌∷◌, ℕ, sym, subst}
 use Rattle.std.proofs.Math.Logic.{∥∥₁_map}
 use Rattle.sqlite.specs.{Held.Held, State.State}
 use Rattle.office_machine.specs.Office.{Office}
-use Rattle.office_tables.specs.Content.{Content}
+use Rattle.office_tables.specs.{Calls.IsHonest, Content.Content, Stored.content_now}
+use Rattle.office_tables_shelf.specs.Counts.{no_writes}
+use Rattle.signal_office_in_file.specs.Stopping.{AfterRequest}
+use Rattle.signal_office_in_file.proofs.StopLemmas.{left_of_run}
 use Rattle.office_tables_open.specs.SqlShelf.{MayLeave, SqlView}
 use Rattle.office_desk.specs.StandFor.{StandForSound}
 use Rattle.office_http.specs.Protocol.{office_protocol}
@@ -22,6 +25,15 @@ leaves_less protocol storage may held old before (request ∷ requests) (answer 
     (it.0, it.1, it.2, leaves_less protocol storage _ it.0 it.1 run.0 requests answers after run.2 more less kept new fewer it.3)
 leaves_less protocol storage may held old before [] (answer ∷ answers) after run more less kept new fewer it = it
 leaves_less protocol storage may held old before (request ∷ requests) [] after run more less kept new fewer it = it
+
+-- whatever a stop leaves of the connection at the end are the tables that the stream found, or those after one of its requests
+pub served_leaves : {S : Type 0} (state_of : Held S → State) (held : Content) (before : Office) (last : SqlView S) (after : Office) (requests : List PlainRequest) (answers : List (List ℕ))
+    → ServesFiles state_of held before last after requests answers
+    → (found : Content) → MayLeave (state_of last.conn) found → (found ≡ held) ⊎ AfterRequest before requests answers found
+served_leaves {S = S} state_of held before last after requests answers it found may =
+    left_of_run {S = SqlView S} (λ (shelf : SqlView S). IsHonest (state_of shelf.conn)) (λ (shelf : SqlView S). content_now (state_of shelf.conn)) (λ (shelf : SqlView S). shelf.counts)
+    (λ (shelf : SqlView S) (tables : Content). MayLeave (state_of shelf.conn) tables) (λ tables. tables ≡ held) held no_writes before requests answers after it.serves.ran.run
+    (λ tables. MayLeave (state_of last.conn) tables) it.kept last.counts it.serves.ran.leaves found may
 
 -- whatever a stop leaves of the connection at the end, it leaves of the stream
 pub served_to_a_stop : {S : Type 0} (state_of : Held S → State) (held : Content) (last : SqlView S) (limit : ℕ) (start end : Ends) (outcome : Result Served ServeFault) (found : Content)

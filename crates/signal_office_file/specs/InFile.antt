@@ -13,7 +13,7 @@ use Rattle.signal_office_in_file.specs.Ended.{FileView, file_view}
 use Rattle.signal_office_in_file.specs.declared.Ended.{Ended}
 use Rattle.signal_office_in_file.specs.declared.Ended.TheVariants.{Unopened, Refused, Closed, Unclosed}
 use Rattle.signal_office_file.specs.Files.{AreNew, HoldIn, KeepTables}
-use Rattle.signal_office_file.specs.Left.{IsCleanFile, IsRefusedIn, LeavesDatabases, MayLeaveOf}
+use Rattle.signal_office_file.specs.Left.{IsCleanFile, IsRefusedIn, LeavesDatabases, LeavesToday, MayLeaveOf}
 use Rattle.signal_office_file.specs.Migrating.{ClosedMigrated}
 use Rattle.signal_office_file.specs.Told.{told_of}
 use Rattle.signal_office_file.specs.declared.left.FileLeft.{FileLeft}
@@ -40,13 +40,17 @@ module _ {D : Type 0} {g : Disk D} where
   IsNotMigrated files why (left.Closed back) = (cause : OpenFault) × (why ≡ told_of cause) × (AreClean g back.log back.db → ClosedMigrated g files (Err cause) back)
   IsNotMigrated files why _ = ⊥
 
+  -- They are not closed: whatever a stop leaves of them is a database with today's version, and its tables are such.
+  abbrev pub LeavesTables : FileLeft D g → (Content → Type 0) → Type 0
+  LeavesTables back Holds = LeavesDatabases back × LeavesToday back × ((found : Content) → MayLeaveOf back found → Holds found)
+
   -- why the files were refused
   abbrev pub IsRefusedFor : Files D → Fault → FileLeft D g → Type 0
   IsRefusedFor files why back = IsRefusedIn files why back ⊎ IsNotMigrated files why back
 
 -- what the jobs know of two files
 abbrev pub files_view : {D : Type 0} (g : Disk D) → Files D → FileView (FileLeft D g)
-files_view g files = file_view (HoldIn (image_of g files)) IsCleanFile IsKept (λ back why. IsRefusedFor files why back)
+files_view g files = file_view (HoldIn (image_of g files)) IsCleanFile IsKept (λ back why. IsRefusedFor files why back) LeavesTables
 
 -- Work over two files ended, and they were closed after it, on a disk that returned what was written: so before it.
 abbrev pub WasClean : {D : Type 0} (g : Disk D) {T : Type 0} → Files D → Ended T (FileLeft D g) → Type 0
@@ -68,7 +72,7 @@ abbrev pub IsMigratedAt : {D : Type 0} {g : Disk D} → Image → FileLeft D g �
 IsMigratedAt {D} {g} image back rows = (files : Files D) × AreNew g files image × IsMigrated files back rows
 
 abbrev pub view_at : {D : Type 0} (g : Disk D) → Image → FileView (FileLeft D g)
-view_at g image = file_view (HoldIn image) IsCleanFile IsKept (IsRefusedAt image)
+view_at g image = file_view (HoldIn image) IsCleanFile IsKept (IsRefusedAt image) LeavesTables
 
 -- the same end, with what is left of the file in another form
 abbrev pub map_left : {T L M : Type 0} → (L → M) → Ended T L → Ended T M
@@ -79,4 +83,4 @@ map_left form (Unclosed why left) = Unclosed why (form left)
 
 -- what is known of a file, by another form of what is left of it
 abbrev pub view_by : {L M : Type 0} → (L → M) → FileView M → FileView L
-view_by form view = file_view view.held (λ left. view.is_clean (form left)) (λ left. view.keeps (form left)) (λ left. view.refused (form left))
+view_by form view = file_view view.held (λ left. view.is_clean (form left)) (λ left. view.keeps (form left)) (λ left. view.refused (form left)) (λ left. view.leaves (form left))

@@ -2,7 +2,8 @@
 
 ghost use Rattle.std.specs.Prelude.{◌≡◌};
 ghost use Rattle.office_http_framing.specs.Serve.{ends_of};
-ghost use Rattle.signal_office_in_file.specs.Ended.{Answers, EndsOver, IsCounted};
+ghost use Rattle.signal_office_in_file.specs.Ended.{EndsOver, IsBegun, IsCounted};
+ghost use Rattle.signal_office_in_file.specs.Ended.{stream_work, task_work};
 ghost use Rattle.sqlite.specs.WalFiles.{image_at};
 ghost use Rattle.signal_office_file.specs.InFile.{IsLeftOpen, IsMigrated, IsMigratedAt};
 ghost use Rattle.signal_office_file.specs.InFile.{IsRefusedAt, IsRefusedFor, WasClean};
@@ -44,9 +45,12 @@ pub fn done_in<D: Disk + Drop, Done: Drop, T: OfficeTask<Done>, W: Sink>(
     task: &T,
     out: &mut W,
 ) -> Ended<Result<Done, Fault>, FileLeft<D>>
-    ensures ends { EndsOver (files_view D.Disk files)
+    ensures ends { EndsOver (files_view D.Disk files) (task_work
         (λ old done new. T.does task.now old done new (W.told out.old) (W.told out.new))
-        (out.new ≡ out.old) result }
+        (T.leaves task.now) (out.new ≡ out.old)) result }
+    // The output took what the task says before the files are closed, whatever the disk did.
+    ensures said { IsBegun (out.new ≡ out.old)
+        (T.says task.now (W.told out.old) (W.told out.new)) result }
     ensures clean { WasClean D.Disk files result }
 {
     let office = match open_file(alloc, files, options) {
@@ -70,10 +74,10 @@ pub fn answered_in<D: Disk + Drop, R: Source, W: Sink>(
     out: &mut W,
     max_requests: u32,
 ) -> Ended<Result<Served, ServeFault>, FileLeft<D>>
-    ensures ends { EndsOver (files_view D.Disk files)
-        (Answers max_requests (ends_of (R.told source.old) (W.told out.old))
-        (ends_of (R.told source.new) (W.told out.new)))
-        ((source.new ≡ source.old) × (out.new ≡ out.old)) result }
+    ensures ends { EndsOver (files_view D.Disk files) (stream_work max_requests
+        (ends_of (R.told source.old) (W.told out.old))
+        (ends_of (R.told source.new) (W.told out.new))
+        ((source.new ≡ source.old) × (out.new ≡ out.old))) result }
     ensures clean { WasClean D.Disk files result }
     // Where they could not be closed, a stop leaves of them what one leaves of the stream.
     ensures unclosed { IsLeftOpen D.Disk files (IsCutShortIn D.Disk max_requests
@@ -136,9 +140,11 @@ fn done_at<S: Begin, Done: Drop, T: OfficeTask<Done>, W: Sink>(
     task: &T,
     out: &mut W,
 ) -> Ended<Result<Done, Fault>, FileLeft<FileFrom<S>>>
-    ensures { EndsOver (view_at ⟦<FileFrom<S> as Disk>⟧ (image_at S.Start))
+    ensures ends { EndsOver (view_at ⟦<FileFrom<S> as Disk>⟧ (image_at S.Start)) (task_work
         (λ old done new. T.does task.now old done new (W.told out.old) (W.told out.new))
-        (out.new ≡ out.old) result }
+        (T.leaves task.now) (out.new ≡ out.old)) result }
+    ensures said { IsBegun (out.new ≡ out.old)
+        (T.says task.now (W.told out.old) (W.told out.new)) result }
 {
     match files_at(rt, path, S::begin()) {
         Ok((files, options)) => done_in(rt, alloc, files, options, task, out),
@@ -156,9 +162,9 @@ fn answered_at<S: Begin, R: Source, W: Sink>(
     max_requests: u32,
 ) -> Ended<Result<Served, ServeFault>, FileLeft<FileFrom<S>>>
     ensures { EndsOver (view_at ⟦<FileFrom<S> as Disk>⟧ (image_at S.Start))
-        (Answers max_requests (ends_of (R.told source.old) (W.told out.old))
-        (ends_of (R.told source.new) (W.told out.new)))
-        ((source.new ≡ source.old) × (out.new ≡ out.old)) result }
+        (stream_work max_requests (ends_of (R.told source.old) (W.told out.old))
+        (ends_of (R.told source.new) (W.told out.new))
+        ((source.new ≡ source.old) × (out.new ≡ out.old))) result }
 {
     match files_at(rt, path, S::begin()) {
         Ok((files, options)) => answered_in(alloc, files, options, source, out, max_requests),
@@ -205,7 +211,7 @@ pub struct TablesInFile;
 
 impl OfficeInFile for TablesInFile {
     ghost use Rattle.signal_office_file.specs.Files.{HoldIn};
-    ghost use Rattle.signal_office_file.specs.InFile.{IsKept};
+    ghost use Rattle.signal_office_file.specs.InFile.{IsKept, LeavesTables};
 
     type Left = SystemFile;
 
@@ -216,6 +222,8 @@ impl OfficeInFile for TablesInFile {
     ghost keeps = { λ file tables. IsKept file.left tables };
 
     ghost refused = { λ file why. IsRefusedAt (image_at ⟦<Wary as Start>⟧) file.left why };
+
+    ghost leaves = { λ file says. LeavesTables file.left says };
 
     ghost migrated = { λ file rows. IsMigratedAt (image_at ⟦<Wary as Start>⟧) file.left rows };
 

@@ -11,27 +11,49 @@ use Rattle.office_machine.specs.Office.{Office}
 use Rattle.office_tables_shelf.specs.Content.{Content}
 use Rattle.signal_office_faults.specs.declared.fault.Fault.{Fault}
 use Rattle.signal_office_faults.specs.declared.fault.Fault.TheVariants as fault
+use Rattle.signal_office_in_file.specs.Stopping.{AnswersToAStop}
 use Rattle.signal_office_in_file.specs.declared.Ended.{Ended}
 use Rattle.signal_office_in_file.specs.declared.Ended.TheVariants.{Unopened, Refused, Closed, Unclosed}
 
 -- what is known of a file: the tables that it held as it was opened; and of what is left of it, whether the disk has returned what was written, which tables
--- it holds, closed, as the next opening finds them, and which fault it was refused with
+-- it holds, closed, as the next opening finds them, which fault it was refused with, and, where it was not closed, that such tables alone are what a stop leaves,
+-- as the next opening takes them
 pub record FileView (Left : Type 0) : Type 1 where
   pub held : Content → Type 0
   pub is_clean : Left → Type 0
   pub keeps : Left → Content → Type 0
   pub refused : Left → Fault → Type 0
+  pub leaves : Left → (Content → Type 0) → Type 0
 
-abbrev pub file_view : {Left : Type 0} → (Content → Type 0) → (Left → Type 0) → (Left → Content → Type 0) → (Left → Fault → Type 0) → FileView Left
-file_view held is_clean keeps refused = record { held = held; is_clean = is_clean; keeps = keeps; refused = refused }
+abbrev pub file_view : {Left : Type 0} → (Content → Type 0) → (Left → Type 0) → (Left → Content → Type 0) → (Left → Fault → Type 0)
+    → (Left → (Content → Type 0) → Type 0) → FileView Left
+file_view held is_clean keeps refused leaves =
+    record { held = held; is_clean = is_clean; keeps = keeps; refused = refused; leaves = leaves }
+
+-- what work over tables does where they are kept after it; what is known of it where a stop leaves such tables of it alone; and that nothing was done
+pub record Work (T : Type 0) : Type 1 where
+  pub does : Content → T → Content → Type 0
+  pub stops : Content → (leaves : (Content → Type 0) → Type 0) → Type 0
+  pub untouched : Type 0
 
 -- The work was done, once, over the tables that the file held, and they are kept in the file; or nothing was done, since the system did not open the file,
--- or the file was refused. Where the file could not be closed that is told, whatever came of the work.
-abbrev pub EndsOver : {Left T : Type 0} → FileView Left → (does : Content → T → Content → Type 0) → (untouched : Type 0) → Ended T Left → Type 0
-EndsOver view does untouched (Unopened why) = untouched × ((why ≡ fault.Store) ⊎ (why ≡ fault.Memory))
-EndsOver view does untouched (Refused why left) = untouched × view.refused left why
-EndsOver view does untouched (Closed done left) = view.is_clean left → (old : Content) × (new : Content) × view.held old × does old done new × view.keeps left new
-EndsOver view does untouched (Unclosed why left) = Unit {0}
+-- or the file was refused. Where the file could not be closed that is told, whatever came of the work, and a stop leaves of it what one leaves of the work.
+abbrev pub EndsOver : {Left T : Type 0} → FileView Left → Work T → Ended T Left → Type 0
+EndsOver view work (Unopened why) = work.untouched × ((why ≡ fault.Store) ⊎ (why ≡ fault.Memory))
+EndsOver view work (Refused why left) = work.untouched × view.refused left why
+EndsOver view work (Closed done left) = view.is_clean left → (old : Content) × (new : Content) × view.held old × work.does old done new × view.keeps left new
+EndsOver view work (Unclosed why left) = view.is_clean left → (old : Content) × view.held old × work.stops old (view.leaves left)
+
+-- The work was begun, and this was done, whatever the disk did; or nothing was.
+abbrev pub IsBegun : {Left T : Type 0} → (untouched begun : Type 0) → Ended T Left → Type 0
+IsBegun untouched begun (Unopened why) = untouched
+IsBegun untouched begun (Refused why left) = untouched
+IsBegun untouched begun (Closed done left) = begun
+IsBegun untouched begun (Unclosed why left) = begun
+
+-- a task: what it makes of tables and gives, and which tables a stop leaves of it
+abbrev pub task_work : {T : Type 0} → (does : Content → T → Content → Type 0) → (leaves : Content → Content → Type 0) → (untouched : Type 0) → Work T
+task_work does leaves untouched = record { does = does; stops = λ old left. left (leaves old); untouched = untouched }
 
 -- The requests were run from the office that the tables stood for, and the tables stand for the office after them.
 pub record RunsOver (new : Content) (before after : Office) (requests : List PlainRequest) (answers : List (List ℕ)) : Type 0 where
@@ -41,6 +63,11 @@ pub record RunsOver (new : Content) (before after : Office) (requests : List Pla
 -- a stream was served so from whichever office the tables stood for
 abbrev pub Answers : ℕ → Ends → Ends → Content → Result Served ServeFault → Content → Type 0
 Answers limit start end old outcome new = (before : Office) → StandForSound old before → (after : Office) × Did office_protocol (RunsOver new before after) limit start end outcome
+
+-- a stream of requests that is answered
+abbrev pub stream_work : ℕ → Ends → Ends → (untouched : Type 0) → Work (Result Served ServeFault)
+stream_work limit start end untouched =
+    record { does = Answers limit start end; stops = AnswersToAStop limit start end; untouched = untouched }
 
 -- A migration was made, and its rows are those that were counted; or it was refused, and the tables are as they were. Nothing is counted that was not closed.
 abbrev pub IsCounted : {Left : Type 0} → (is_clean : Left → Type 0) → (migrated : Left → ℕ → Type 0) → (refused : Left → Fault → Type 0) → Ended (Result ℕ Fault) Left → Type 0

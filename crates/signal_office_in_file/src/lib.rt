@@ -46,9 +46,16 @@ pub trait OfficeTask<Done> {
     ghost use Rattle.office_http_framing.specs.Ends.{Told};
     ghost use Rattle.office_tables_shelf.specs.Content.{Content};
     ghost use Rattle.signal_office_faults.specs.declared.fault.Fault.{Fault};
+    ghost use Rattle.signal_office_in_file.specs.Stopping.{StopsWithin};
 
     // What it makes of the tables, what it gives, and what its output took.
     ghost does: { Self → Content → Result Done Fault → Content → Told → Told → Type 0 };
+
+    // Which tables a stop may leave of it, begun over the first ones.
+    ghost leaves: { Self → Content → Content → Type 0 };
+
+    // What its output took, whatever the disk did.
+    ghost says: { Self → Told → Told → Type 0 };
 
     /// Does it by an office, which is given back.
     fn done_with<S: Shelf, W: Sink>(
@@ -58,10 +65,13 @@ pub trait OfficeTask<Done> {
         office: Office<S>,
         out: &mut W,
     ) -> (Office<S>, Result<Done, Fault>)
+        ensures clean { S.is_clean result.0 → S.is_clean office }
         ensures honest { S.is_honest result.0 → S.is_honest office }
         ensures does { S.is_clean result.0 → S.is_honest result.0 →
             does self.now (S.content office) result.1 (S.content result.0)
-            (W.told out.old) (W.told out.new) };
+            (W.told out.old) (W.told out.new) }
+        ensures stop { StopsWithin S.Shelf office result.0 (leaves self.now) }
+        ensures said { says self.now (W.told out.old) (W.told out.new) };
 }
 
 /// How the office of a file is opened, used and closed again. The jobs know no database.
@@ -70,7 +80,8 @@ pub trait OfficeInFile {
     ghost use Rattle.office_http_framing.specs.Serve.{ends_of};
     ghost use Rattle.office_tables_shelf.specs.Content.{Content};
     ghost use Rattle.signal_office_faults.specs.declared.fault.Fault.{Fault};
-    ghost use Rattle.signal_office_in_file.specs.Ended.{Answers, EndsOver, IsCounted, file_view};
+    ghost use Rattle.signal_office_in_file.specs.Ended.{EndsOver, IsBegun, IsCounted, file_view};
+    ghost use Rattle.signal_office_in_file.specs.Ended.{stream_work, task_work};
 
     /// What is left of the file.
     type Left: Drop;
@@ -87,6 +98,9 @@ pub trait OfficeInFile {
     // It was refused with this fault, and is left as it was.
     ghost refused: { Self.Left → Fault → Type 0 };
 
+    // It is not closed, and a stop leaves such tables of it, as the next opening takes them.
+    ghost leaves: { Self.Left → (Content → Type 0) → Type 0 };
+
     // It is closed, and holds what became of its tables: so many rows were written anew.
     ghost migrated: { Self.Left → ℕ → Type 0 };
 
@@ -98,9 +112,11 @@ pub trait OfficeInFile {
         task: &T,
         out: &mut W,
     ) -> Ended<Result<Done, Fault>, Self::Left>
-        ensures { EndsOver (file_view held is_clean keeps refused)
+        ensures ends { EndsOver (file_view held is_clean keeps refused leaves) (task_work
             (λ old done new. T.does task.now old done new (W.told out.old) (W.told out.new))
-            (out.new ≡ out.old) result };
+            (T.leaves task.now) (out.new ≡ out.old)) result }
+        ensures said { IsBegun (out.new ≡ out.old)
+            (T.says task.now (W.told out.old) (W.told out.new)) result };
 
     /// Answers the requests of the source over the tables of a file.
     fn answer<R: Source, W: Sink>(
@@ -111,10 +127,10 @@ pub trait OfficeInFile {
         out: &mut W,
         max_requests: u32,
     ) -> Ended<Result<Served, ServeFault>, Self::Left>
-        ensures { EndsOver (file_view held is_clean keeps refused)
-            (Answers max_requests (ends_of (R.told source.old) (W.told out.old))
-            (ends_of (R.told source.new) (W.told out.new)))
-            ((source.new ≡ source.old) × (out.new ≡ out.old)) result };
+        ensures { EndsOver (file_view held is_clean keeps refused leaves) (stream_work max_requests
+            (ends_of (R.told source.old) (W.told out.old))
+            (ends_of (R.told source.new) (W.told out.new))
+            ((source.new ≡ source.old) × (out.new ≡ out.old))) result };
 
     /// Brings the tables of a file to today's version, and gives how many rows were written anew.
     fn migrate(

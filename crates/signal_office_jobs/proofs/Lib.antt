@@ -3,4 +3,5 @@ pub mod PrintingLemmas
 mod RevisedLemmas
 pub mod RunLemmas
 pub mod ShownLemmas
+pub mod StopLemmas
 pub mod TaskLemmas

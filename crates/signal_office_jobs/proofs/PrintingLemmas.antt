@@ -4,20 +4,25 @@ use Rattle.std.specs.Prelude.{IsErrAnd, Result}
 use Rattle.office_http_framing.specs.Ends.{Told}
 use Rattle.office_tables_shelf.specs.Content.{Content}
 use Rattle.signal_office_faults.specs.declared.fault.Fault.{Fault}
-use Rattle.signal_office_in_file.specs.Ended.{EndsOver, FileView}
+use Rattle.signal_office_in_file.specs.Ended.{EndsOver, FileView, IsBegun, task_work}
 use Rattle.signal_office_in_file.specs.declared.Ended.{Ended}
 use Rattle.signal_office_in_file.specs.declared.Ended.TheVariants.{Unopened, Refused, Closed, Unclosed}
 use Rattle.signal_office_jobs.specs.Printing.{Output, ReadingAnyCsv, ReadingCsv, TellsNothing, text_in, text_in_any}
 
--- work over a file is also what follows from it
-pub ends_weaker : {Left T : Type 0} (view : FileView Left) (does follows : Content → T → Content → Type 0) (untouched quiet : Type 0)
-    → ((old : Content) (done : T) (new : Content) → does old done new → follows old done new) → (untouched → quiet)
-    → (ended : Ended T Left) → EndsOver view does untouched ended → EndsOver view follows quiet ended
-ends_weaker view does follows untouched quiet weaker still (Unopened why) it = (still it.0, it.1)
-ends_weaker view does follows untouched quiet weaker still (Refused why left) it = (still it.0, it.1)
-ends_weaker view does follows untouched quiet weaker still (Closed done left) it = λ clean.
-    let x = it clean in (x.0, x.1, x.2, weaker x.0 done x.1 x.3, x.4)
-ends_weaker view does follows untouched quiet weaker still (Unclosed why left) it = tt
+-- where nothing was done, that is also what follows from it
+pub ends_quietly : {Left T : Type 0} (view : FileView Left) (does : Content → T → Content → Type 0) (leaves : Content → Content → Type 0) (untouched quiet : Type 0)
+    → (untouched → quiet) → (ended : Ended T Left) → EndsOver view (task_work does leaves untouched) ended → EndsOver view (task_work does leaves quiet) ended
+ends_quietly view does leaves untouched quiet still (Unopened why) it = (still it.0, it.1)
+ends_quietly view does leaves untouched quiet still (Refused why left) it = (still it.0, it.1)
+ends_quietly view does leaves untouched quiet still (Closed done left) it = it
+ends_quietly view does leaves untouched quiet still (Unclosed why left) it = it
+
+pub begun_quietly : {Left T : Type 0} (untouched quiet begun : Type 0) → (untouched → quiet) → (ended : Ended T Left)
+    → IsBegun untouched begun ended → IsBegun quiet begun ended
+begun_quietly untouched quiet begun still (Unopened why) it = still it
+begun_quietly untouched quiet begun still (Refused why left) it = still it
+begun_quietly untouched quiet begun still (Closed done left) it = it
+begun_quietly untouched quiet begun still (Unclosed why left) it = it
 
 -- a fault that is handed on, where nothing was printed
 pub fails : (why : Fault) (start : Told) (result : Result ℕ Fault) → IsErrAnd result (λ it. it ≡ why) → TellsNothing why start start result

@@ -6,3 +6,4 @@ pub mod Runs
 pub mod Serving
 pub mod Shown
 pub mod Tasks
+pub mod Stopped

@@ -21,7 +21,7 @@ use Rattle.signal_office_commands.specs.Plan.{AreOfPlan}
 use Rattle.signal_office_faults.specs.Lines.{fault_of_stream}
 use Rattle.signal_office_faults.specs.declared.fault.Fault.{Fault}
 use Rattle.signal_office_faults.specs.declared.fault.Fault.TheVariants as fault
-use Rattle.signal_office_in_file.specs.Ended.{Answers, EndsOver, FileView, file_view, told_by}
+use Rattle.signal_office_in_file.specs.Ended.{EndsOver, FileView, file_view, stream_work, told_by}
 use Rattle.signal_office_in_file.specs.declared.Ended.{Ended}
 use Rattle.signal_office_line.specs.Job.{Asked}
 use Rattle.clap.specs.Walk.{Text}
@@ -36,9 +36,9 @@ use Rattle.signal_reasons.specs.declared.reason.Explained.{Explained}
 use Rattle.signal_rules.specs.declared.violation.Violation.{Violation}
 use Rattle.signal_office_jobs.specs.Done.{checked_status, compared_status, compared_text, explained_status, status_of, text_of}
 use Rattle.signal_office_jobs.specs.Memory.{ServesInMemory, new_office}
-use Rattle.signal_office_jobs.specs.Printing.{InFoundFile, InNewFile, Looking, Made, MigratesFile, Naming, OnDay, Output, PrintsDone, ReadingAnyCsv, ReadingCsv, Silent}
+use Rattle.signal_office_jobs.specs.Printing.{InFoundFile, InNewFile, Made, MigratesFile, Naming, OnDay, Output, PrintsDone, ReadingAnyCsv, ReadingCsv, abandoning, adding, editing, importing, looking, serving}
 use Rattle.signal_office_jobs.specs.Shown.{ShowsAs}
-use Rattle.signal_office_jobs.specs.Tasks.{AbandonsAs, AddsAs, ComparesAs, ComparesWith, EditsBy, ImportsAs, ServesAs}
+use Rattle.signal_office_jobs.specs.Tasks.{ComparesAs, ComparesWith, ServesAs}
 use Rattle.signal_office_jobs.specs.declared.done.Done.{Done}
 use Rattle.signal_office_line.specs.declared.shows.Shown.{Shown}
 use Rattle.signal_office_line.specs.declared.shows.Shown.TheVariants as shown
@@ -49,8 +49,8 @@ pub record OfficeFiles (Left : Type 0) : Type 1 where
   pub migrated : Left → ℕ → Type 0
 
 abbrev pub office_files : {Left : Type 0} → (Content → Type 0) → (Left → Type 0) → (Left → Content → Type 0) → (Left → Fault → Type 0)
-    → (Left → ℕ → Type 0) → OfficeFiles Left
-office_files held is_clean keeps refused migrated = record { view = file_view held is_clean keeps refused; migrated = migrated }
+    → (Left → (Content → Type 0) → Type 0) → (Left → ℕ → Type 0) → OfficeFiles Left
+office_files held is_clean keeps refused leaves migrated = record { view = file_view held is_clean keeps refused leaves; migrated = migrated }
 
 -- what a run does from the start of its input and output to their ends, and the status or the fault that comes of it
 abbrev pub Exchange : Type 1
@@ -81,7 +81,7 @@ BatchInMemory start end result =
 -- the same by the office of a file
 abbrev pub BatchOver : {Left : Type 0} → FileView Left → Exchange
 BatchOver {Left} view start end result =
-    (ended : Ended (Result Served ServeFault) Left) × EndsOver view (Answers batch_limit start end) (end ≡ start) ended
+    (ended : Ended (Result Served ServeFault) Left) × EndsOver view (stream_work batch_limit start end (end ≡ start)) ended
     × (result ≡ status_over (told_by ended))
 
 -- a port was served by a new office in memory
@@ -120,7 +120,7 @@ ShowsPlan plan.Page csv (Err why) = why ≢ fault.Memory → IsNoPlan csv why
 
 -- what is shown of the office of a file, which has to be there
 abbrev pub Shows : {Left : Type 0} → FileView Left → Shown → Output
-Shows view it = InFoundFile view (Looking (ShowsAs it))
+Shows view it = InFoundFile view (looking (ShowsAs it))
 
 -- the most intersections of an office
 abbrev pub all_intersections : ℕ
@@ -134,24 +134,24 @@ mode_of edit = record { replace = edit.replace; commit = edit.commit }
 abbrev pub Printed : {Left : Type 0} → OfficeFiles Left → Asked → Output
 Printed files (job.Batch db) start end result = ⊥
 Printed files (job.Serve port count None) start end result = ServesNew port count start end result
-Printed files (job.Serve port count (Some db)) start end result = InNewFile files.view (ServesAs port count) start end result
+Printed files (job.Serve port count (Some db)) start end result = InNewFile files.view (serving port count) start end result
 Printed files (job.Show db it) start end result = Shows files.view it start end result
 Printed files (job.Overdue db first day) start end result =
     OnDay day (λ on. Shows files.view (shown.Overdue on (unwrap_or first all_intersections))) start end result
 Printed files (job.Add db id interval name) start end result =
-    Naming 120 name fault.Name (InNewFile files.view (Silent (AddsAs id interval name))) start end result
+    Naming 120 name fault.Name (InNewFile files.view (adding id interval name)) start end result
 Printed files (job.Migrate db) start end result = MigratesFile files.view files.migrated start end result
 Printed files (job.Import db csv) start end result =
-    ReadingCsv csv.padded (λ records. InNewFile files.view (Silent (ImportsAs records))) start end result
+    ReadingCsv csv.padded (λ records. InNewFile files.view (importing records)) start end result
 Printed files (job.Edit e) start end result =
     Naming 40 e.clerk fault.Clerk
     (ReadingAnyCsv (option_map (λ (csv : CsvFile Text). csv.padded) e.csv) (λ plan. InFoundFile files.view
-    (Silent (EditsBy plan e.id e.clerk (mode_of e) e.explain)))) start end result
+    (editing plan e.id e.clerk (mode_of e) e.explain))) start end result
 Printed files (job.Abandon db clerk id) start end result =
-    Naming 40 clerk fault.Clerk (InFoundFile files.view (Silent (AbandonsAs id clerk))) start end result
-Printed files (job.CompareDraft db id csv) start end result = InFoundFile files.view (Looking (ComparesAs id csv)) start end result
+    Naming 40 clerk fault.Clerk (InFoundFile files.view (abandoning id clerk)) start end result
+Printed files (job.CompareDraft db id csv) start end result = InFoundFile files.view (looking (ComparesAs id csv)) start end result
 Printed files (job.CompareRunning db id plan csv) start end result =
-    ReadingCsv plan.padded (λ other. InFoundFile files.view (Looking (ComparesWith id other csv))) start end result
+    ReadingCsv plan.padded (λ other. InFoundFile files.view (looking (ComparesWith id other csv))) start end result
 Printed files (job.CompareFiles first second csv) start end result =
     ReadingCsv first.padded (λ plan. ReadingCsv second.padded (λ other. Made (Compares csv plan other))) start end result
 Printed files (job.ShowPlan csv it) start end result = ReadingCsv csv.padded (λ plan. Made (ShowsPlan it plan)) start end result

@@ -5,14 +5,19 @@ use Rattle.cabinet_core.specs.Day.{SpellsDay}
 use Rattle.office_http_framing.specs.Ends.{AppendsPart, FailsOrGivesNone, Told}
 use Rattle.office_tables_shelf.specs.Content.{Content}
 use Rattle.office_spreadsheets.specs.Padded.{unpadded_text}
+use Rattle.signal_office_commands.specs.Stopping.{AfterAbandoning, AfterAdding, AfterImporting, AfterRevising}
+use Rattle.signal_office_commands.specs.declared.revising.EditMode.{EditMode}
 use Rattle.signal_office_faults.specs.Lines.{IsUnreadFile}
 use Rattle.signal_office_faults.specs.declared.fault.Fault.{Fault}
 use Rattle.signal_office_faults.specs.declared.fault.Fault.TheVariants as fault
-use Rattle.signal_office_in_file.specs.Ended.{EndsOver, FileView, IsCounted, told_by}
+use Rattle.signal_office_in_file.specs.Ended.{EndsOver, FileView, IsBegun, IsCounted, task_work, told_by}
+use Rattle.signal_office_in_file.specs.Stopping.{SameOr}
 use Rattle.signal_office_in_file.specs.declared.Ended.{Ended}
 use Rattle.signal_office_jobs.specs.Done.{status_of, text_of}
-use Rattle.signal_office_jobs.specs.Tasks.{TellsOutcome}
+use Rattle.signal_office_jobs.specs.Stopped.{AfterServing, SaysPort, TaskLeaves, TaskSays}
+use Rattle.signal_office_jobs.specs.Tasks.{AbandonsAs, AddsAs, EditsBy, ImportsAs, ServesAs, TaskDoes, TellsOutcome}
 use Rattle.signal_office_jobs.specs.declared.done.Done.{Done}
+use Rattle.signal_office_jobs.specs.declared.task.Task.{Task}
 use Rattle.signal_values.specs.Words.{AreWords}
 
 -- what an output took from its start to its end, and the status that came of it, or the fault
@@ -94,24 +99,56 @@ ReadingAnyCsv padded next = Reading (λ bytes. next (text_in_any padded bytes))
 
 -- ---- the file of an office
 
--- what a task does to tables and to its output, and what it gives
-abbrev pub Effect : Type 1
-Effect = Content → Result Done Fault → Content → Told → Told → Type 0
+-- what a task does to tables and to its output, and what it gives; which tables a stop leaves of it; and what it prints before the file is closed, whatever
+-- the disk does
+pub record Effect : Type 1 where
+  pub does : Content → Result Done Fault → Content → Told → Told → Type 0
+  pub leaves : Content → Content → Type 0
+  pub says : Told → Told → Type 0
 
--- it prints nothing before the file is closed
-abbrev pub Silent : (Content → Result Done Fault → Content → Type 0) → Effect
-Silent makes old done new start end = makes old done new × (end ≡ start)
+-- a change: it prints nothing before the file is closed, and a stop leaves the tables as they were, or after it
+abbrev pub silent : (Content → Result Done Fault → Content → Type 0) → (After : Content → Content → Type 0) → Effect
+silent makes After = record {
+  does = λ old done new start end. makes old done new × (end ≡ start);
+  leaves = SameOr After;
+  says = λ start end. end ≡ start;
+}
 
--- it leaves the tables as they were, too
-abbrev pub Looking : (Content → Result Done Fault → Type 0) → Effect
-Looking shows old done new start end = (new ≡ old) × (end ≡ start) × shows old done
+-- what only shows leaves the tables as they were, too
+abbrev pub looking : (Content → Result Done Fault → Type 0) → Effect
+looking shows = record {
+  does = λ old done new start end. (new ≡ old) × (end ≡ start) × shows old done;
+  leaves = λ old found. found ≡ old;
+  says = λ start end. end ≡ start;
+}
+
+-- a port that is served, an intersection that is added, records that are imported, a plan that is edited, a draft that is dropped
+abbrev pub serving : (port count : ℕ) → Effect
+serving port count = record { does = ServesAs port count; leaves = AfterServing; says = SaysPort port count }
+
+abbrev pub adding : (id interval : ℕ) → (name : List ℕ) → Effect
+adding id interval name = silent (AddsAs id interval name) (AfterAdding id interval name)
+
+abbrev pub importing : (records : List ℕ) → Effect
+importing records = silent (ImportsAs records) (AfterImporting records)
+
+abbrev pub editing : (plan : List ℕ) → (id : ℕ) → (clerk : List ℕ) → EditMode → (explain : Bool) → Effect
+editing plan id clerk mode explain = silent (EditsBy plan id clerk mode explain) (AfterRevising plan id clerk mode)
+
+abbrev pub abandoning : (id : ℕ) → (clerk : List ℕ) → Effect
+abandoning id clerk = silent (AbandonsAs id clerk) (AfterAbandoning id clerk)
+
+-- what a task does
+abbrev pub effect_of : Task → Effect
+effect_of task = record { does = TaskDoes task; leaves = TaskLeaves task; says = TaskSays task }
 
 -- The task was done over the tables that the file held, and what it came to is printed once the file is closed, which holds the tables after it; or the file was
--- refused or not closed, and that is told.
-pub record WorksOver {Left : Type 0} (view : FileView Left) (does : Effect) (start end : Told) (result : Result ℕ Fault) : Type 0 where
+-- refused or not closed, and that is told: then a stop leaves of it what one leaves of the task.
+pub record WorksOver {Left : Type 0} (view : FileView Left) (effect : Effect) (start end : Told) (result : Result ℕ Fault) : Type 0 where
   pub ended : Ended (Result Done Fault) Left
   pub middle : Told
-  pub over : EndsOver view (λ old done new. does old done new start middle) (middle ≡ start) ended
+  pub over : EndsOver view (task_work (λ old done new. effect.does old done new start middle) effect.leaves (middle ≡ start)) ended
+  pub said : IsBegun (middle ≡ start) (effect.says start middle) ended
   pub prints : PrintsDone (joined (told_by ended)) middle end result
 
 -- The file is not there, or empty without a log, and is not to be made; or memory for the name of its log was refused.
@@ -120,8 +157,8 @@ IsMissing absent why = (why ≡ absent) ⊎ (why ≡ fault.Memory)
 
 -- the same of a file that is made where there is none, or of one that has to be there
 abbrev pub InFile : {Left : Type 0} → FileView Left → (makes : Bool) → Effect → Output
-InFile view makes does start end result =
-    WorksOver view does start end result
+InFile view makes effect start end result =
+    WorksOver view effect start end result
     ⊎ ((makes ≡ false) × (why : Fault) × IsMissing fault.File why × TellsNothing why start end result)
 
 abbrev pub InNewFile : {Left : Type 0} → FileView Left → Effect → Output

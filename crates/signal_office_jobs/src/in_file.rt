@@ -6,11 +6,10 @@ ghost use Rattle.signal_office_faults.specs.declared.fault.Fault.TheVariants as 
 ghost use Rattle.signal_office_jobs.specs.Printed.{Shows, all_intersections};
 ghost use Rattle.signal_office_jobs.specs.Printing.{InFile, InFoundFile, InNewFile, IsDayRead};
 ghost use Rattle.signal_office_jobs.specs.Printing.{IsNameRead, MigratesFile, Naming, OnDay};
-ghost use Rattle.signal_office_jobs.specs.Printing.{Looking, ReadingAnyCsv, ReadingCsv, Silent};
+ghost use Rattle.signal_office_jobs.specs.Printing.{ReadingAnyCsv, ReadingCsv, abandoning, adding};
+ghost use Rattle.signal_office_jobs.specs.Printing.{editing, effect_of, importing, looking};
 ghost use Rattle.signal_office_jobs.specs.Printed.{mode_of};
-ghost use Rattle.signal_office_jobs.specs.Tasks.{AbandonsAs, AddsAs, ComparesWith, EditsBy};
-ghost use Rattle.signal_office_jobs.specs.Tasks.{ImportsAs};
-ghost use Rattle.signal_office_jobs.specs.Tasks.{TaskDoes, makes_file};
+ghost use Rattle.signal_office_jobs.specs.Tasks.{ComparesWith, makes_file};
 
 use crate::done::{Done, joined, migrated, print_done};
 use crate::reading::{read_any_csv, read_csv};
@@ -56,8 +55,8 @@ pub(crate) fn in_file<F: OfficeInFile, W: Sink>(
     task: &Task<'_>,
     out: &mut W,
 ) -> Result<u8, Fault>
-    ensures { InFile (file_view F.held F.is_clean F.keeps F.refused) (makes_file task.now)
-        (TaskDoes task.now) (W.told out.old) (W.told out.new) result }
+    ensures { InFile (file_view F.held F.is_clean F.keeps F.refused F.leaves) (makes_file task.now)
+        (effect_of task.now) (W.told out.old) (W.told out.new) result }
 {
     if !task.makes_file() && is_missing(rt, alloc, path)? {
         return Err(Fault::File);
@@ -74,7 +73,7 @@ pub(crate) fn show_of<F: OfficeInFile, W: Sink>(
     shown: Shown,
     out: &mut W,
 ) -> Result<u8, Fault>
-    ensures { Shows (file_view F.held F.is_clean F.keeps F.refused) shown (W.told out.old)
+    ensures { Shows (file_view F.held F.is_clean F.keeps F.refused F.leaves) shown (W.told out.old)
         (W.told out.new) result }
 {
     in_file::<F, W>(rt, alloc, path, &Task::Show(shown), out)
@@ -97,7 +96,7 @@ pub(crate) fn overdue<F: OfficeInFile, W: Sink>(
     word: &str,
     out: &mut W,
 ) -> Result<u8, Fault>
-    ensures { let view = file_view F.held F.is_clean F.keeps F.refused in
+    ensures { let view = file_view F.held F.is_clean F.keeps F.refused F.leaves in
         OnDay word.now
         (λ day. Shows view (Shown.Overdue day (unwrap_or first all_intersections)))
         (W.told out.old) (W.told out.new) result }
@@ -117,8 +116,8 @@ pub(crate) fn add<F: OfficeInFile, W: Sink>(
     name: &str,
     out: &mut W,
 ) -> Result<u8, Fault>
-    ensures { let view = file_view F.held F.is_clean F.keeps F.refused in
-        Naming 120 name.now fault.Name (InNewFile view (Silent (AddsAs id interval name.now)))
+    ensures { let view = file_view F.held F.is_clean F.keeps F.refused F.leaves in
+        Naming 120 name.now fault.Name (InNewFile view (adding id interval name.now))
         (W.told out.old) (W.told out.new) result }
 {
     let name = &named(alloc, name, Fault::Name)?;
@@ -134,7 +133,7 @@ pub(crate) fn migrate<F: OfficeInFile, W: Sink>(
     path: &str,
     out: &mut W,
 ) -> Result<u8, Fault>
-    ensures { MigratesFile (file_view F.held F.is_clean F.keeps F.refused) F.migrated
+    ensures { MigratesFile (file_view F.held F.is_clean F.keeps F.refused F.leaves) F.migrated
         (W.told out.old) (W.told out.new) result }
 {
     if is_missing(rt, alloc, path)? {
@@ -152,8 +151,8 @@ pub(crate) fn import<F: OfficeInFile, W: Sink>(
     csv: &CsvFile<&str>,
     out: &mut W,
 ) -> Result<u8, Fault>
-    ensures { let view = file_view F.held F.is_clean F.keeps F.refused in
-        ReadingCsv csv.now.padded (λ records. InNewFile view (Silent (ImportsAs records)))
+    ensures { let view = file_view F.held F.is_clean F.keeps F.refused F.leaves in
+        ReadingCsv csv.now.padded (λ records. InNewFile view (importing records))
         (W.told out.old) (W.told out.new) result }
 {
     let csv = &read_csv(rt, alloc, csv)?;
@@ -170,9 +169,9 @@ pub(crate) fn compare_running<F: OfficeInFile, W: Sink>(
     csv: bool,
     out: &mut W,
 ) -> Result<u8, Fault>
-    ensures { let view = file_view F.held F.is_clean F.keeps F.refused in
+    ensures { let view = file_view F.held F.is_clean F.keeps F.refused F.leaves in
         ReadingCsv plan.now.padded
-        (λ other. InFoundFile view (Looking (ComparesWith id other csv)))
+        (λ other. InFoundFile view (looking (ComparesWith id other csv)))
         (W.told out.old) (W.told out.new) result }
 {
     let plan = &read_csv(rt, alloc, plan)?;
@@ -197,9 +196,9 @@ fn edit_by<F: OfficeInFile, W: Sink>(
     clerk: &Words<40>,
     out: &mut W,
 ) -> Result<u8, Fault>
-    ensures { let view = file_view F.held F.is_clean F.keeps F.refused in
+    ensures { let view = file_view F.held F.is_clean F.keeps F.refused F.leaves in
         ReadingAnyCsv (option_map (λ csv. csv.padded) edit.now.csv) (λ plan. InFoundFile view
-        (Silent (EditsBy plan edit.now.id clerk.now (mode_of edit.now) edit.now.explain)))
+        (editing plan edit.now.id clerk.now (mode_of edit.now) edit.now.explain))
         (W.told out.old) (W.told out.new) result }
 {
     let csv = &read_any_csv(rt, alloc, &edit.csv)?;
@@ -221,11 +220,11 @@ pub(crate) fn edit_plan<F: OfficeInFile, W: Sink>(
     edit: &Edit<&str>,
     out: &mut W,
 ) -> Result<u8, Fault>
-    ensures { let view = file_view F.held F.is_clean F.keeps F.refused in
+    ensures { let view = file_view F.held F.is_clean F.keeps F.refused F.leaves in
         let clerk = edit.now.clerk.now in
         Naming 40 clerk fault.Clerk
         (ReadingAnyCsv (option_map (λ csv. csv.padded) edit.now.csv) (λ plan. InFoundFile view
-        (Silent (EditsBy plan edit.now.id clerk (mode_of edit.now) edit.now.explain))))
+        (editing plan edit.now.id clerk (mode_of edit.now) edit.now.explain)))
         (W.told out.old) (W.told out.new) result }
 {
     let clerk = &named(alloc, edit.clerk, Fault::Clerk)?;
@@ -241,8 +240,8 @@ pub(crate) fn abandon<F: OfficeInFile, W: Sink>(
     id: InterId,
     out: &mut W,
 ) -> Result<u8, Fault>
-    ensures { let view = file_view F.held F.is_clean F.keeps F.refused in
-        Naming 40 clerk.now fault.Clerk (InFoundFile view (Silent (AbandonsAs id clerk.now)))
+    ensures { let view = file_view F.held F.is_clean F.keeps F.refused F.leaves in
+        Naming 40 clerk.now fault.Clerk (InFoundFile view (abandoning id clerk.now))
         (W.told out.old) (W.told out.new) result }
 {
     let clerk = &named(alloc, clerk, Fault::Clerk)?;

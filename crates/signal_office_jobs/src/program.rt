@@ -57,7 +57,7 @@ fn batch<F: OfficeInFile, R: Source, W: Sink>(
     source: &mut R,
     out: &mut W,
 ) -> Result<u8, Fault>
-    ensures { let files = office_files F.held F.is_clean F.keeps F.refused F.migrated in
+    ensures { let files = office_files F.held F.is_clean F.keeps F.refused F.leaves F.migrated in
         JobDoes files (Job.Batch (option_map (λ path. path.now) db.now))
         (ends_of (R.told source.old) (W.told out.old))
         (ends_of (R.told source.new) (W.told out.new)) result }
@@ -93,7 +93,7 @@ fn serve<F: OfficeInFile, W: Sink>(
     db: &Option<&str>,
     out: &mut W,
 ) -> Result<u8, Fault>
-    ensures { Printed (office_files F.held F.is_clean F.keeps F.refused F.migrated)
+    ensures { Printed (office_files F.held F.is_clean F.keeps F.refused F.leaves F.migrated)
         (Job.Serve port count (option_map (λ path. path.now) db.now)) (W.told out.old)
         (W.told out.new) result }
 {
@@ -111,7 +111,7 @@ fn run_job<F: OfficeInFile, R: Source, W: Sink>(
     source: &mut R,
     out: &mut W,
 ) -> Result<u8, Fault>
-    ensures { let files = office_files F.held F.is_clean F.keeps F.refused F.migrated in
+    ensures { let files = office_files F.held F.is_clean F.keeps F.refused F.leaves F.migrated in
         JobDoes files (asked job.now) (ends_of (R.told source.old) (W.told out.old))
         (ends_of (R.told source.new) (W.told out.new)) result }
 {
@@ -180,7 +180,7 @@ fn do_found<F: OfficeInFile, R: Source, W: Sink, E: Sink>(
     out: &mut W,
     err: &mut E,
 ) -> Result<u8, Fault>
-    ensures { let files = office_files F.held F.is_clean F.keeps F.refused F.migrated in
+    ensures { let files = office_files F.held F.is_clean F.keeps F.refused F.leaves F.migrated in
         DoesFound files (job_asked found.now)
         (ends_of (R.told source.old) (W.told out.old))
         (ends_of (R.told source.new) (W.told out.new))
@@ -217,7 +217,7 @@ pub fn run_words<F: OfficeInFile, R: Source, W: Sink, E: Sink>(
     // What the words ask for is done, over the office of the file that it names: what is printed is
     // the text of that, with its status, or a part of it where the output failed; a fault is said
     // by its line, with status 1. Words that are refused, or ask for help, do nothing else.
-    ensures { let files = office_files F.held F.is_clean F.keeps F.refused F.migrated in
+    ensures { let files = office_files F.held F.is_clean F.keeps F.refused F.leaves F.migrated in
         RunsWords files (map (λ word. word.now) words.now)
         (ends_of (R.told source.old) (W.told out.old))
         (ends_of (R.told source.new) (W.told out.new))

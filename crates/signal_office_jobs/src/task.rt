@@ -6,6 +6,10 @@ ghost use Rattle.signal_office_jobs.specs.Shown.{IsShown, ShowsAs};
 ghost use Rattle.signal_office_jobs.specs.Tasks.{AbandonsAs, AddsAs, ComparesAs, ComparesWith, EditsBy};
 ghost use Rattle.signal_office_jobs.specs.Tasks.{ImportsAs, IsBroken, ServesAs, TaskDoes};
 ghost use Rattle.signal_office_commands.specs.Showing.{ShowsDraft};
+ghost use Rattle.signal_office_commands.specs.Stopping.{AfterAbandoning, AfterAdding};
+ghost use Rattle.signal_office_commands.specs.Stopping.{AfterImporting, AfterRevising, StopLeaves};
+ghost use Rattle.signal_office_in_file.specs.Stopping.{StopsWithin};
+ghost use Rattle.signal_office_jobs.specs.Stopped.{AfterServing, SaysPort, TaskLeaves, TaskSays};
 
 use crate::done::Done;
 use crate::serving::serve_port;
@@ -97,6 +101,7 @@ fn export<S: Shelf>(
     view: View,
 ) -> Result<Vec<u8>, Fault>
     ensures kept { KeepsShelf S.Shelf office.old office.new }
+    ensures clean { S.is_clean office.new → S.is_clean office.old }
     ensures shown { S.is_honest office.new → MatchResult result
         (λ text. IsShown (Shown.Export id view) (S.content office.old) (Ok text.items))
         (λ why. IsShown (Shown.Export id view) (S.content office.old) (Err why)) }
@@ -111,6 +116,7 @@ fn export<S: Shelf>(
 /// What is printed of an office.
 fn shown_of<S: Shelf>(alloc: Global, office: &mut Office<S>, shown: Shown) -> Result<Vec<u8>, Fault>
     ensures kept { KeepsShelf S.Shelf office.old office.new }
+    ensures clean { S.is_clean office.new → S.is_clean office.old }
     ensures shown { S.is_honest office.new → MatchResult result
         (λ text. IsShown shown (S.content office.old) (Ok text.items))
         (λ why. IsShown shown (S.content office.old) (Err why)) }
@@ -137,7 +143,10 @@ pub(crate) fn serve<S: Shelf, W: Sink>(
     count: u32,
     out: &mut W,
 ) -> Result<Done, Fault>
+    ensures clean { S.is_clean office.new → S.is_clean office.old }
     ensures honest { S.is_honest office.new → S.is_honest office.old }
+    ensures stop { StopsWithin S.Shelf office.old office.new AfterServing }
+    ensures said { SaysPort port count (W.told out.old) (W.told out.new) }
     ensures does { S.is_clean office.new → S.is_honest office.new →
         ServesAs port count (S.content office.old) result (S.content office.new)
         (W.told out.old) (W.told out.new) }
@@ -150,6 +159,7 @@ pub(crate) fn serve<S: Shelf, W: Sink>(
 /// Gives what is shown of the office.
 fn show<S: Shelf>(alloc: Global, office: &mut Office<S>, shown: Shown) -> Result<Done, Fault>
     ensures kept { KeepsShelf S.Shelf office.old office.new }
+    ensures clean { S.is_clean office.new → S.is_clean office.old }
     ensures does { S.is_honest office.new → ShowsAs shown (S.content office.old) result }
 {
     Ok(Done::with(shown_of(alloc, office, shown)?))
@@ -163,7 +173,9 @@ fn add<S: Shelf>(
     interval: Interval,
     name: &Words<120>,
 ) -> Result<Done, Fault>
+    ensures clean { S.is_clean office.new → S.is_clean office.old }
     ensures honest { S.is_honest office.new → S.is_honest office.old }
+    ensures stop { StopLeaves S.Shelf office.old office.new (AfterAdding id interval name.now) }
     ensures does { S.is_honest office.new →
         AddsAs id interval name.now (S.content office.old) result (S.content office.new) }
 {
@@ -173,7 +185,9 @@ fn add<S: Shelf>(
 
 /// Imports the records of a CSV file, and tells how many were new.
 fn import<S: Shelf>(alloc: Global, office: &mut Office<S>, csv: &[u8]) -> Result<Done, Fault>
+    ensures clean { S.is_clean office.new → S.is_clean office.old }
     ensures honest { S.is_honest office.new → S.is_honest office.old }
+    ensures stop { StopLeaves S.Shelf office.old office.new (AfterImporting csv.now) }
     ensures does { S.is_honest office.new →
         ImportsAs csv.now (S.content office.old) result (S.content office.new) }
 {
@@ -190,6 +204,7 @@ fn open_rules<S: Shelf>(
     explain: bool,
 ) -> Result<Vec<u8>, Fault>
     ensures kept { KeepsShelf S.Shelf office.old office.new }
+    ensures clean { S.is_clean office.new → S.is_clean office.old }
     ensures told { IfOk result (λ text. S.is_honest office.new → IsBroken explain
         Outcome.Open id (S.content office.old) violations.now text.items) }
     ensures fault { IfErr result (λ why. why ≢ Fault.Memory → S.is_honest office.new →
@@ -212,6 +227,7 @@ fn broken_by<S: Shelf>(
     explain: bool,
 ) -> Result<Vec<u8>, Fault>
     ensures kept { KeepsShelf S.Shelf office.old office.new }
+    ensures clean { S.is_clean office.new → S.is_clean office.old }
     ensures told { IfOk result (λ text. S.is_honest office.new → IsBroken explain
         revised.now.outcome id (S.content office.old) revised.now.violations text.items) }
     ensures fault { IfErr result (λ why. why ≢ Fault.Memory → S.is_honest office.new →
@@ -235,7 +251,10 @@ fn edit<S: Shelf>(
     mode: EditMode,
     explain: bool,
 ) -> Result<Done, Fault>
+    ensures clean { S.is_clean office.new → S.is_clean office.old }
     ensures honest { S.is_honest office.new → S.is_honest office.old }
+    ensures stop { StopLeaves S.Shelf office.old office.new
+        (AfterRevising csv.now id clerk.now mode) }
     ensures does { S.is_honest office.new → EditsBy csv.now id clerk.now mode explain
         (S.content office.old) result (S.content office.new) }
 {
@@ -251,7 +270,9 @@ fn abandon<S: Shelf>(
     id: InterId,
     clerk: &Words<40>,
 ) -> Result<Done, Fault>
+    ensures clean { S.is_clean office.new → S.is_clean office.old }
     ensures honest { S.is_honest office.new → S.is_honest office.old }
+    ensures stop { StopLeaves S.Shelf office.old office.new (AfterAbandoning id clerk.now) }
     ensures does { S.is_honest office.new →
         AbandonsAs id clerk.now (S.content office.old) result (S.content office.new) }
 {
@@ -267,6 +288,7 @@ fn compare<S: Shelf>(
     csv: bool,
 ) -> Result<Done, Fault>
     ensures kept { KeepsShelf S.Shelf office.old office.new }
+    ensures clean { S.is_clean office.new → S.is_clean office.old }
     ensures does { S.is_honest office.new → ComparesAs id csv (S.content office.old) result }
 {
     let differences = draft_differences(alloc, office, id)?;
@@ -282,6 +304,7 @@ fn compare_with<S: Shelf>(
     csv: bool,
 ) -> Result<Done, Fault>
     ensures kept { KeepsShelf S.Shelf office.old office.new }
+    ensures clean { S.is_clean office.new → S.is_clean office.old }
     ensures does { S.is_honest office.new →
         ComparesWith id plan.now csv (S.content office.old) result }
 {
@@ -297,7 +320,10 @@ fn done_by<S: Shelf, W: Sink>(
     task: &Task<'_>,
     out: &mut W,
 ) -> Result<Done, Fault>
+    ensures clean { S.is_clean office.new → S.is_clean office.old }
     ensures honest { S.is_honest office.new → S.is_honest office.old }
+    ensures stop { StopsWithin S.Shelf office.old office.new (TaskLeaves task.now) }
+    ensures said { TaskSays task.now (W.told out.old) (W.told out.new) }
     ensures does { S.is_clean office.new → S.is_honest office.new →
         TaskDoes task.now (S.content office.old) result (S.content office.new)
         (W.told out.old) (W.told out.new) }
@@ -322,8 +348,13 @@ fn done_by<S: Shelf, W: Sink>(
 
 impl OfficeTask<Done> for Task<'_> {
     ghost use Rattle.signal_office_jobs.specs.Tasks.{TaskDoes};
+    ghost use Rattle.signal_office_jobs.specs.Stopped.{TaskLeaves, TaskSays};
 
     ghost does = { λ task old result new start end. TaskDoes task old result new start end };
+
+    ghost leaves = { λ task old found. TaskLeaves task old found };
+
+    ghost says = { λ task start end. TaskSays task start end };
 
     fn done_with<S: Shelf, W: Sink>(
         &self,

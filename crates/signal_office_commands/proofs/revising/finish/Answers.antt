@@ -1,5 +1,7 @@
-use Rattle.std.proofs.Common.{Ok, Err, inl, inr, ap, ◌∙◌}
-use Rattle.signal_office_commands.proofs.RevisedLemmas.{drafts, finishes_not}
+use Rattle.std.proofs.Common.{Ok, Err, inl, inr, not, ap, ◌∙◌}
+use Rattle.std.specs.Prelude.{◌&&◌}
+use Rattle.signal_office_commands.proofs.RevisedLemmas.{drafting_stops, drafts, finishes_not}
+use Rattle.signal_office_commands.proofs.StopLemmas.{stop_by}
 use Rattle.signal_office_commands.proofs.revising.finish.Goals as goal
 use Rattle.signal_office_commands.specs.{Editing.is_due, Revising.outcome_of}
 
@@ -38,3 +40,18 @@ returns-in_err-commit_where_due-clause-ends g c = λ clean tables held.
           )),
       rest.2,
     )
+
+pub returns-clause-stop : goal.returns-clause-stop
+returns-clause-stop g c =
+    drafting_stops g.S.Shelf c.args.office.now _ _ (c.args.commit && not c.args.same) c.args.id c.args.clerk.now c.args.changes c.in_ok-violations.violations _
+    (c.is_due-due.ensures ∙ ap (λ m. is_due m c.in_ok-violations.violations) c.may_commit.ensures)
+    c.commit_where_due.ensures.clean c.in_ok-violations.ensures.does c.in_ok-violations.ensures.stop c.in_ok-commit_where_due.ensures.stop
+
+pub returns-in_err-commit_where_due-clause-stop : goal.returns-in_err-commit_where_due-clause-stop
+returns-in_err-commit_where_due-clause-stop g c =
+    drafting_stops g.S.Shelf c.args.office.now _ _ (c.args.commit && not c.args.same) c.args.id c.args.clerk.now c.args.changes c.in_ok-violations.violations _
+    (c.is_due-due.ensures ∙ ap (λ m. is_due m c.in_ok-violations.violations) c.may_commit.ensures)
+    c.commit_where_due.ensures.clean c.in_ok-violations.ensures.does c.in_ok-violations.ensures.stop c.in_err-commit_where_due.ensures.stop
+
+pub returns-in_err-violations-clause-stop : goal.returns-in_err-violations-clause-stop
+returns-in_err-violations-clause-stop g c = stop_by g.S.Shelf _ _ _ _ (λ tables found after. inl after) c.in_err-violations.ensures.stop

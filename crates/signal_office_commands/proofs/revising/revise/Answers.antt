@@ -1,5 +1,6 @@
 use Rattle.std.proofs.Common.{Ok, ap, inl, refl, rules, subst, sym, true, false, ◌∙◌}
 use Rattle.signal_office_commands.proofs.RevisedLemmas.{ends_so, err_is}
+use Rattle.signal_office_commands.proofs.StopLemmas.{stop_by, stop_none}
 use Rattle.signal_office_commands.proofs.revising.revise.Goals as goal
 use Rattle.signal_office_commands.specs.Revising.{WouldBe}
 
@@ -22,3 +23,14 @@ returns-then-is_idle-clause-ends g c = λ clean tables held. (
 
 pub returns-in_err-same-clause-ends : goal.returns-in_err-same-clause-ends
 returns-in_err-same-clause-ends g c = λ clean tables held. (tables, inl (search rules, refl), held)
+
+pub returns-clause-stop : goal.returns-clause-stop
+returns-clause-stop g c =
+    stop_by g.S.Shelf _ _ _ _ (λ tables found after.
+    (c.in_ok-same.same, subst (λ changes. WouldBe c.args.commit c.args.standing.now changes c.in_ok-same.same) c.as_slice.ensures.list c.in_ok-same.ensures, after)) c.finish.ensures.stop
+
+pub returns-then-is_idle-clause-stop : goal.returns-then-is_idle-clause-stop
+returns-then-is_idle-clause-stop g c = stop_none g.S.Shelf _ _
+
+pub returns-in_err-same-clause-stop : goal.returns-in_err-same-clause-stop
+returns-in_err-same-clause-stop g c = stop_none g.S.Shelf _ _

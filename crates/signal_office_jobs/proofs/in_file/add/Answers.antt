@@ -2,8 +2,7 @@ use Rattle.std.proofs.Common.{inl, inr, subst}
 use Rattle.signal_office_in_file.specs.Ended.{file_view}
 use Rattle.signal_office_jobs.proofs.PrintingLemmas.{fails}
 use Rattle.signal_office_jobs.proofs.in_file.add.Goals as goal
-use Rattle.signal_office_jobs.specs.Printing.{InNewFile, Silent}
-use Rattle.signal_office_jobs.specs.Tasks.{AddsAs}
+use Rattle.signal_office_jobs.specs.Printing.{InNewFile, adding}
 
 pub returns-in_err-name : goal.returns-in_err-name
 returns-in_err-name g c = inr (_, c.in_err-name.ensures, fails _ _ c.from_residual.result c.from_residual.ensures.1)
@@ -11,10 +10,10 @@ returns-in_err-name g c = inr (_, c.in_err-name.ensures, fails _ _ c.from_residu
 pub returns : goal.returns
 returns g c =
     let f = g.F.OfficeInFile in
-    let view = file_view f.held f.is_clean f.keeps f.refused in
+    let view = file_view f.held f.is_clean f.keeps f.refused f.leaves in
     let told = g.W.Sink.told in
     inl (
       c.in_ok-name.ensures.0,
-      subst (λ name. InNewFile view (Silent (AddsAs c.args.id c.args.interval name)) (told c.args.out.now) (told c.in_file.new.out) c.in_file.result)
+      subst (λ name. InNewFile view (adding c.args.id c.args.interval name) (told c.args.out.now) (told c.in_file.new.out) c.in_file.result)
           c.in_ok-name.ensures.1 c.in_file.ensures,
     )

@@ -2,7 +2,7 @@ use Rattle.std.proofs.Common.{inr, ◌∙◌}
 use Rattle.signal_office_in_file.specs.Ended.{file_view}
 use Rattle.signal_office_jobs.proofs.PrintingLemmas.{fails, read_so}
 use Rattle.signal_office_jobs.proofs.in_file.compare_running.Goals as goal
-use Rattle.signal_office_jobs.specs.Printing.{InFoundFile, Looking}
+use Rattle.signal_office_jobs.specs.Printing.{InFoundFile, looking}
 use Rattle.signal_office_jobs.specs.Tasks.{ComparesWith}
 
 pub returns-in_err-plan : goal.returns-in_err-plan
@@ -11,8 +11,8 @@ returns-in_err-plan g c = inr (_, c.in_err-plan.ensures.fault, fails _ _ c.from_
 pub returns : goal.returns
 returns g c =
     let f = g.F.OfficeInFile in
-    let view = file_view f.held f.is_clean f.keeps f.refused in
+    let view = file_view f.held f.is_clean f.keeps f.refused f.leaves in
     let told = g.W.Sink.told in
     let found = c.in_ok-plan.ensures.text in
-    read_so c.args.plan.now.padded (λ other. InFoundFile view (Looking (ComparesWith c.args.id other c.args.csv))) c.deref.result.now
+    read_so c.args.plan.now.padded (λ other. InFoundFile view (looking (ComparesWith c.args.id other c.args.csv))) c.deref.result.now
     (told c.args.out.now) (told c.in_file.new.out) c.in_file.result (found.0, c.deref.ensures.value ∙ found.1) c.in_file.ensures

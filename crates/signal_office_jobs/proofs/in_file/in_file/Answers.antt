@@ -1,8 +1,9 @@
 use Rattle.std.proofs.Common.{◌≡◌, inl, ap, subst, ◌∙◌}
 use Rattle.signal_office_in_file.specs.Ended.{file_view}
-use Rattle.signal_office_jobs.proofs.PrintingLemmas.{ends_weaker}
+use Rattle.signal_office_jobs.proofs.PrintingLemmas.{begun_quietly, ends_quietly}
 use Rattle.signal_office_jobs.proofs.in_file.in_file.Goals as goal
 use Rattle.signal_office_jobs.specs.Printing.{PrintsDone, joined}
+use Rattle.signal_office_jobs.specs.Stopped.{TaskLeaves, TaskSays}
 use Rattle.signal_office_jobs.specs.Tasks.{TaskDoes}
 
 pub returns : goal.returns
@@ -13,11 +14,11 @@ returns g c =
     inl (record {
       ended = c.do_task-ended.result;
       middle = middle;
-      over = ends_weaker (file_view f.held f.is_clean f.keeps f.refused)
-          (λ old done new. TaskDoes c.args.task.now old done new (told c.args.out.now) middle)
-          (λ old done new. TaskDoes c.args.task.now old done new (told c.args.out.now) middle)
-          (c.do_task-ended.new.out ≡ c.args.out.now) (middle ≡ told c.args.out.now)
-          (λ old done new it. it) (ap told) c.do_task-ended.result c.do_task-ended.ensures;
+      over = ends_quietly (file_view f.held f.is_clean f.keeps f.refused f.leaves)
+          (λ old done new. TaskDoes c.args.task.now old done new (told c.args.out.now) middle) (TaskLeaves c.args.task.now)
+          (c.do_task-ended.new.out ≡ c.args.out.now) (middle ≡ told c.args.out.now) (ap told) c.do_task-ended.result c.do_task-ended.ensures.ends;
+      said = begun_quietly (c.do_task-ended.new.out ≡ c.args.out.now) (middle ≡ told c.args.out.now) (TaskSays c.args.task.now (told c.args.out.now) middle)
+          (ap told) c.do_task-ended.result c.do_task-ended.ensures.said;
       prints = subst (λ done. PrintsDone done middle (told c.print_done.new.out) c.print_done.result)
           (c.joined.ensures ∙ ap joined c.told.ensures) c.print_done.ensures;
     })

@@ -11,7 +11,7 @@ returns-in_err-day g c = inr (_, c.in_err-day.ensures, fails _ _ c.from_residual
 pub returns : goal.returns
 returns g c =
     let f = g.F.OfficeInFile in
-    let view = file_view f.held f.is_clean f.keeps f.refused in
+    let view = file_view f.held f.is_clean f.keeps f.refused f.leaves in
     let told = g.W.Sink.told in
     inl (
       c.in_ok-day.day,

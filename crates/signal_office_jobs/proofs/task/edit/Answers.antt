@@ -4,6 +4,7 @@ use Rattle.signal_office_commands.proofs.HonestLemmas.{honest_makes}
 use Rattle.signal_office_commands.specs.Showing.{ShowsDraft}
 use Rattle.signal_office_commands.specs.declared.revising.Outcome.TheVariants.{Open}
 use Rattle.signal_office_jobs.proofs.RevisedLemmas.{not_explained}
+use Rattle.signal_office_jobs.proofs.StopLemmas.{asked_after}
 use Rattle.signal_office_jobs.proofs.task.edit.Goals as goal
 
 pub returns-clause-does : goal.returns-clause-does
@@ -28,3 +29,9 @@ pub returns-in_err-revised-clause-does : goal.returns-in_err-revised-clause-does
 returns-in_err-revised-clause-does g c = λ honest.
     let edits = honest_makes g.S.Shelf g.met.S.Shelf.honest_is_clean _ _ (λ old new. RevisesAs c.args.csv.now c.args.id c.args.clerk.now c.args.mode old new (Err c.in_err-revised.field-0.0)) c.in_err-revised.ensures.revises honest in
     search rules
+
+pub returns-clause-stop : goal.returns-clause-stop
+returns-clause-stop g c = asked_after g.S.Shelf _ _ _ _ c.in_ok-revised.ensures.stop c.broken_by.ensures.clean c.broken_by.ensures.kept
+
+pub returns-in_err-broken-clause-stop : goal.returns-in_err-broken-clause-stop
+returns-in_err-broken-clause-stop g c = asked_after g.S.Shelf _ _ _ _ c.in_ok-revised.ensures.stop c.broken_by.ensures.clean c.broken_by.ensures.kept

@@ -1,0 +1,83 @@
+//! A command that is stopped, or whose file could not be closed, and the run over what is left of
+//! its files.
+
+ghost use Rattle.std.specs.Prelude.{◌∷◌, [], IfSome};
+ghost use Rattle.sqlite.specs.Files.{image_of};
+ghost use Rattle.sqlite.specs.WalReads.{AreClean};
+ghost use Rattle.office_http_framing.specs.Serve.{ends_of};
+ghost use Rattle.office_tables.specs.Content.{Content};
+ghost use Rattle.signal_office_file.specs.Files.{HoldIn, KeepTables};
+ghost use Rattle.signal_office_file.specs.Left.{IsCleanFile, LeavesDatabases, MayLeaveOf};
+ghost use Rattle.office_lives.specs.Life.{Life, Made};
+ghost use Rattle.office_lives.specs.Life.{command_to_a_stop, in_order};
+
+use crate::lives::{MOST, Outcome, served_once};
+use crate::stopping::stopped;
+use office_http::{Sink, Source};
+use signal_office_faults::Fault;
+use signal_office_file::{FileLeft, done_in, open_file};
+use signal_office_in_file::{Ended, OfficeTask};
+use sqlite::Options;
+use sqlite_disk::{Crash, Disk, Files};
+use std::alloc::Global;
+
+/// What a command gave that was stopped, how the stream after it ended, and the files after both.
+#[derive(Drop)]
+pub struct CutShort<D: Disk, Done> {
+    pub done: Result<Done, Fault>,
+    pub outcome: Outcome,
+    pub files: Files<D>,
+}
+
+/// Does a command, stops, and serves a stream over what a stop leaves of the files. A stop at any
+/// moment of the command is one: its disk does nothing more from then on.
+pub fn served_after_a_command<D: Crash + Drop, Done: Drop, T: OfficeTask<Done>, R: Source, W: Sink>(
+    rt: &HostRuntime,
+    alloc: Global,
+    files: Files<D>,
+    task: &T,
+    out: &mut W,
+    reader: &mut R,
+    writer: &mut W,
+) -> Option<CutShort<D, Done>>
+    ensures lives { IfSome result (λ it. AreClean D.Disk it.files.log it.files.db →
+        (old : Content) × (last : Content) × HoldIn (image_of D.Disk files) old
+        × Life D.Disk old (command_to_a_stop (T.leaves task.now) ∷ in_order MOST
+        (ends_of (R.told reader.old) (W.told writer.old))
+        (ends_of (R.told reader.new) (W.told writer.new)) it.outcome
+        ∷ []) last × KeepTables D.Disk it.files last) }
+    ensures said { IfSome result (λ _. T.says task.now (W.told out.old) (W.told out.new)) }
+{
+    let Ok(office) = open_file(alloc, files, Options::new(1)) else {
+        return None;
+    };
+    let (office, done) = task.done_with(rt, alloc, office, out);
+    let files = stopped(office);
+    let (outcome, files) = served_once(alloc, files, reader, writer)?;
+    Some(CutShort {
+        done,
+        outcome,
+        files,
+    })
+}
+
+/// Does a command over files that cannot be closed after it, and gives what is left of them.
+pub fn done_unclosed<D: Disk + Drop, Done: Drop, T: OfficeTask<Done>, W: Sink>(
+    rt: &HostRuntime,
+    alloc: Global,
+    files: Files<D>,
+    task: &T,
+    out: &mut W,
+) -> Option<FileLeft<D>>
+    ensures databases { IfSome result (λ left. IsCleanFile left → LeavesDatabases left) }
+    ensures made { IfSome result (λ left. IsCleanFile left →
+        (old : Content) × HoldIn (image_of D.Disk files) old
+        × ((found : Content) → ∥ MayLeaveOf left found ∥₁ →
+        Made D.Disk (command_to_a_stop (T.leaves task.now)) old found)) }
+    ensures said { IfSome result (λ _. T.says task.now (W.told out.old) (W.told out.new)) }
+{
+    match done_in(rt, alloc, files, Options::new(1), task, out) {
+        Ended::Unclosed(_fault, left) => Some(left),
+        _ => None,
+    }
+}
