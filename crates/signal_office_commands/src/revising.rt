@@ -112,6 +112,30 @@ fn run_revision<S: Shelf>(
     revise_told(office.run_all(alloc, commands)?)
 }
 
+/// The commands of a revision: a transaction is taken up, and its draft changed and shown.
+fn revision(
+    alloc: Global,
+    id: InterId,
+    clerk: &Words<40>,
+    changes: Changes,
+) -> Result<Vec<Command>, NoMemory>
+    ensures { IfOk result (λ commands. commands.items ≡ revise_commands id clerk.now changes) }
+{
+    let (first, second, third) = (clerk.clone()?, clerk.clone()?, clerk.clone()?);
+    let edit = Command::Edit {
+        id,
+        clerk: clerk.clone()?,
+        changes,
+    };
+    Ok(vec![in alloc;
+        Command::Begin { id, clerk: first },
+        Command::Check { id, clerk: second },
+        Command::Reopen { id, clerk: third },
+        edit,
+        Command::Draft { id },
+    ]?)
+}
+
 /// Takes up a transaction, changes its draft, and gives the rules that it breaks.
 fn change_draft<S: Shelf>(
     alloc: Global,
@@ -127,20 +151,8 @@ fn change_draft<S: Shelf>(
     ensures stop { StopLeaves S.Shelf office.old office.new
         (AfterOneOf (revise_commands id clerk.now changes)) }
 {
-    let (first, second, third) = (clerk.clone()?, clerk.clone()?, clerk.clone()?);
-    let fourth = clerk.clone()?;
-    let commands = [
-        Command::Begin { id, clerk: first },
-        Command::Check { id, clerk: second },
-        Command::Reopen { id, clerk: third },
-        Command::Edit {
-            id,
-            clerk: fourth,
-            changes,
-        },
-        Command::Draft { id },
-    ];
-    run_revision(alloc, office, &commands)
+    let commands = revision(alloc, id, clerk, changes)?;
+    run_revision(alloc, office, commands.as_slice())
 }
 
 /// What became of a draft that would be the committed set, or not, and was due to be committed, or
