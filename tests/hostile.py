@@ -45,7 +45,7 @@ ON_FILES = (
     ["cabinet", "12"],
     ["page", "12"],
 )
-MAKERS = ("batch", "import", "add")  # they make the file where there is none
+MAKERS = ("batch", "add")  # they make the file where there is none
 failed = []
 
 

@@ -12,7 +12,7 @@ from model.refusal import Refused
 from model.wire import UNAVAILABLE
 
 NOTHING, OLD, TODAY = "no tables", "tables of version 1", "tables"
-MAKERS = ("batch", "serve", "add", "import")  # they make the file where there is none
+MAKERS = ("batch", "serve", "add")  # they make the file where there is none
 STORE = "fault: store"
 NO_TABLES = (*range(1, 10), 31)  # refusals for which no table is looked at
 

@@ -142,7 +142,7 @@ Printed files (job.Add db id interval name) start end result =
     Naming 120 name fault.Name (InNewFile files.view (adding id interval name)) start end result
 Printed files (job.Migrate db) start end result = MigratesFile files.view files.migrated start end result
 Printed files (job.Import db csv) start end result =
-    ReadingCsv csv.padded (λ records. InNewFile files.view (importing records)) start end result
+    ReadingCsv csv.padded (λ records. InFoundFile files.view (importing records)) start end result
 Printed files (job.Edit e) start end result =
     Naming 40 e.clerk fault.Clerk
     (ReadingAnyCsv (option_map (λ (csv : CsvFile Text). csv.padded) e.csv) (λ plan. InFoundFile files.view

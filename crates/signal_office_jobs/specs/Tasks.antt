@@ -38,12 +38,11 @@ use Rattle.signal_office_jobs.specs.declared.done.Done.{Done}
 use Rattle.signal_office_jobs.specs.declared.task.Task.{Task}
 use Rattle.signal_office_jobs.specs.declared.task.Task.TheVariants.{Serve, Show, Add, Import, Edit, Abandon, Compare, CompareWith}
 
--- a server, an intersection that is added and an import begin a new office where there is none;
--- whatever asks, or changes a plan, does not
+-- a server and an intersection that is added begin a new office where there is none; whatever asks, changes a plan, or takes records
+-- of an office's cabinets, does not: a mistyped name is no office
 abbrev pub makes_file : Task → Bool
 makes_file (Serve port count) = true
 makes_file (Add id interval name) = true
-makes_file (Import csv) = true
 makes_file _ = false
 
 -- The result tells of what was done: its fault; or, where it was done, this text and status, or that memory for the text was refused.

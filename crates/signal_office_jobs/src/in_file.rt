@@ -143,7 +143,7 @@ pub(crate) fn migrate<F: OfficeInFile, W: Sink>(
     print_done(migrated(alloc, joined(ended.told())), out)
 }
 
-/// Takes the records of a CSV file into the office of a file.
+/// Takes the records of a CSV file into the office of a file, which has to be there.
 pub(crate) fn import<F: OfficeInFile, W: Sink>(
     rt: &HostRuntime,
     alloc: Global,
@@ -152,7 +152,7 @@ pub(crate) fn import<F: OfficeInFile, W: Sink>(
     out: &mut W,
 ) -> Result<u8, Fault>
     ensures { let view = file_view F.held F.is_clean F.keeps F.refused F.leaves in
-        ReadingCsv csv.now.padded (λ records. InNewFile view (importing records))
+        ReadingCsv csv.now.padded (λ records. InFoundFile view (importing records))
         (W.told out.old) (W.told out.new) result }
 {
     let csv = &read_csv(rt, alloc, csv)?;

@@ -81,15 +81,12 @@ impl Task<'_> {
     ghost use Rattle.std.specs.Prelude.{◌≡◌};
     ghost use Rattle.signal_office_jobs.specs.Tasks.{makes_file};
 
-    /// Whether it makes the file where there is none. What only asks, or changes a plan that has to
-    /// be there, does not: a mistyped name is no office.
+    /// Whether it makes the file where there is none. What only asks, changes a plan that has to be
+    /// there, or takes records of cabinets that have to be, does not: a mistyped name is no office.
     pub(crate) fn makes_file(&self) -> bool
         ensures { result ≡ makes_file self.now }
     {
-        matches!(
-            self,
-            Task::Serve { .. } | Task::Add { .. } | Task::Import { .. }
-        )
+        matches!(self, Task::Serve { .. } | Task::Add { .. })
     }
 }
 

@@ -147,7 +147,7 @@ const COMMANDS: &[Usage<'static>] = &[
         "Takes the cabinet records of a CSV file in turn, all of them or none; says how many \
          were new",
         &[
-            Argument("db", Form::Needed("FILE"), MADE_FILE),
+            Argument("db", Form::Needed("FILE"), FOUND_FILE),
             Argument("padded", Form::Flag, PADDED),
             Argument(
                 "CSV",
