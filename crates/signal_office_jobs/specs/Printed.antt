@@ -136,8 +136,8 @@ Printed files (job.Batch db) start end result = ⊥
 Printed files (job.Serve port count None) start end result = ServesNew port count start end result
 Printed files (job.Serve port count (Some db)) start end result = InNewFile files.view (serving port count) start end result
 Printed files (job.Show db it) start end result = Shows files.view it start end result
-Printed files (job.Overdue db first day) start end result =
-    OnDay day (λ on. Shows files.view (shown.Overdue on (unwrap_or first all_intersections))) start end result
+Printed files (job.Overdue db first csv day) start end result =
+    OnDay day (λ on. Shows files.view (shown.Overdue on (unwrap_or first all_intersections) csv)) start end result
 Printed files (job.Add db id interval name) start end result =
     Naming 120 name fault.Name (InNewFile files.view (adding id interval name)) start end result
 Printed files (job.Migrate db) start end result = MigratesFile files.view files.migrated start end result

@@ -1,5 +1,5 @@
 -- What is shown of the tables of an office, and why it is not.
-use Rattle.std.specs.Prelude.{◌≡◌, ◌≢◌, ◌⊎◌, ℕ, List, Result, Ok, Err}
+use Rattle.std.specs.Prelude.{◌≡◌, ◌≢◌, ◌⊎◌, ℕ, true, false, List, Result, Ok, Err}
 use Rattle.cabinet_core.specs.Stock.{stock_of}
 use Rattle.office_desk.specs.Damage.{MeetsDamage}
 use Rattle.office_desk.specs.StandFor.{StandForSound}
@@ -13,8 +13,8 @@ use Rattle.signal_office_commands.specs.Drawing.{DrawsTiming, DrawsNoTiming}
 use Rattle.signal_office_commands.specs.Exporting.{ExportsTiming, ExportsDraft, ExportsCabinet}
 use Rattle.signal_office_commands.specs.Fault.{IsFaultOfQuery, IsUnshown, TellsUnknown}
 use Rattle.signal_office_commands.specs.Intersection.{IsRefusedShowing, IsWholePage}
-use Rattle.signal_office_commands.specs.Listing.{IsOrdersListOf, MeetsOrdersDamage, TellsOrders, list_written, stock_written}
-use Rattle.signal_office_commands.specs.Overdue.{IsReportOf, IsWholeReport}
+use Rattle.signal_office_commands.specs.Listing.{IsOrdersCsvOf, IsOrdersListOf, MeetsOrdersCsvDamage, MeetsOrdersDamage, TellsOrders, list_written, stock_written}
+use Rattle.signal_office_commands.specs.Overdue.{IsOverdueCsvOf, IsReportOf, IsWholeOverdueCsv, IsWholeReport}
 use Rattle.signal_office_commands.specs.Paging.{IsPageOf}
 use Rattle.signal_office_commands.specs.Sheet.{IsSheetOf}
 use Rattle.signal_office_commands.specs.Showing.{ShowsTiming, ShowsDraft, ShowsCabinet}
@@ -63,14 +63,18 @@ OfTables says fault id tables (Err why) = fault why × OfOffice tables (λ offic
 abbrev pub IsShown : Shown → Content → Result (List ℕ) Fault → Type 0
 IsShown (shown.Sheet id) tables result =
     OfOne (λ office text. IsSheetOf office id text) (MeetsDamage tables (command.Timing id)) (λ office why. TellsUnknown office id why) tables result
-IsShown (shown.Overdue day most) tables (Ok text) = OfOffice tables (λ office. IsReportOf office day most text) × IsWholeReport tables day most text
-IsShown (shown.Overdue day most) tables (Err why) = IsFaultOfAll (MeetsDamage tables (command.Overdue day)) why
+IsShown (shown.Overdue day most false) tables (Ok text) = OfOffice tables (λ office. IsReportOf office day most text) × IsWholeReport tables day most text
+IsShown (shown.Overdue day most false) tables (Err why) = IsFaultOfAll (MeetsDamage tables (command.Overdue day)) why
+IsShown (shown.Overdue day most true) tables (Ok text) = OfOffice tables (λ office. IsOverdueCsvOf office day most text) × IsWholeOverdueCsv tables day most text
+IsShown (shown.Overdue day most true) tables (Err why) = IsFaultOfAll (MeetsDamage tables (command.Overdue day)) why
 IsShown (shown.List csv) tables result =
     OfAll (λ office text. text ≡ list_written csv (intersections_of office)) (HasAnyDamagedIntersection tables) tables result
 IsShown (shown.Stock csv) tables result =
     OfAll (λ office text. text ≡ stock_written csv (stock_of office.register)) (MeetsDamage tables command.Stock) tables result
-IsShown (shown.Orders id) tables result =
+IsShown (shown.Orders id false) tables result =
     OfOne (λ office text. IsOrdersListOf office id text) (MeetsOrdersDamage tables id) (λ office why. TellsOrders office id why) tables result
+IsShown (shown.Orders id true) tables result =
+    OfOne (λ office text. IsOrdersCsvOf office id text) (MeetsOrdersCsvDamage tables id) (λ office why. TellsOrders office id why) tables result
 IsShown (shown.Cabinet id) tables result =
     OfOne (λ office text. IsRegisterOf office id text) (MeetsRegisterDamage tables id) (λ office why. TellsUnknown office id why) tables result
 IsShown (shown.Export id view.Timing) tables result = OfTables (ExportsTiming tables id) (λ why. IsUnshown (ShowsTiming tables id) why) id tables result

@@ -86,24 +86,25 @@ fn most_of(first: Option<u32>) -> usize
     first.unwrap_or(ALL_INTERSECTIONS) as usize
 }
 
-/// Prints the report of the intersections that are overdue on the day of a word, which is read
-/// before the file is opened.
+/// Prints the intersections that are overdue on the day of a word, which is read before the file is
+/// opened.
 pub(crate) fn overdue<F: OfficeInFile, W: Sink>(
     rt: &HostRuntime,
     alloc: Global,
     path: &str,
     first: Option<u32>,
+    csv: bool,
     word: &str,
     out: &mut W,
 ) -> Result<u8, Fault>
     ensures { let view = file_view F.held F.is_clean F.keeps F.refused F.leaves in
         OnDay word.now
-        (λ day. Shows view (Shown.Overdue day (unwrap_or first all_intersections)))
+        (λ day. Shows view (Shown.Overdue day (unwrap_or first all_intersections) csv))
         (W.told out.old) (W.told out.new) result }
 {
     let day = day_of(word)?;
     let most = most_of(first);
-    show_of::<F, W>(rt, alloc, path, Shown::Overdue { day, most }, out)
+    show_of::<F, W>(rt, alloc, path, Shown::Overdue { day, most, csv }, out)
 }
 
 /// Adds an intersection, whose name is read before the file is opened.

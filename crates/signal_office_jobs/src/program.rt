@@ -119,7 +119,12 @@ fn run_job<F: OfficeInFile, R: Source, W: Sink>(
         Job::Batch { db } => batch::<F, R, W>(rt, alloc, db, source, out),
         Job::Serve { port, count, db } => serve::<F, W>(rt, alloc, *port, *count, db, out),
         Job::Show { db, shown } => show_of::<F, W>(rt, alloc, db, *shown, out),
-        Job::Overdue { db, first, day } => overdue::<F, W>(rt, alloc, db, *first, day, out),
+        Job::Overdue {
+            db,
+            first,
+            csv,
+            day,
+        } => overdue::<F, W>(rt, alloc, db, *first, *csv, day, out),
         Job::Add {
             db,
             id,

@@ -13,14 +13,16 @@ ghost use Rattle.signal_office_jobs.specs.Stopped.{AfterServing, SaysPort, TaskL
 
 use crate::done::Done;
 use crate::serving::serve_port;
+use cabinet_core::Day;
 use office_desk::office::Office;
 use office_files::violation_text;
 use office_http::Sink;
 use office_tables_shelf::shelf::Shelf;
 use signal_office_commands::{
     EditMode, Fault, Outcome, Revised, abandon_draft, add_intersection, cabinet_csv_of, cabinet_of,
-    diagram_of, draft_csv_of, draft_differences, draft_reasons, import_csv, list_of, orders_of,
-    overdue_of, page_of, revise_plan, running_differences, sheet_of, stock_of, timing_csv_of,
+    diagram_of, draft_csv_of, draft_differences, draft_reasons, import_csv, list_of, orders_csv_of,
+    orders_of, overdue_csv_of, overdue_of, page_of, revise_plan, running_differences, sheet_of,
+    stock_of, timing_csv_of,
 };
 use signal_office_in_file::OfficeTask;
 use signal_office_line::{Shown, View};
@@ -113,6 +115,43 @@ fn export<S: Shelf>(
     }
 }
 
+/// The intersections that are overdue on a day, as a report or as CSV.
+fn overdue<S: Shelf>(
+    alloc: Global,
+    office: &mut Office<S>,
+    day: Day,
+    most: usize,
+    csv: bool,
+) -> Result<Vec<u8>, Fault>
+    ensures kept { KeepsShelf S.Shelf office.old office.new }
+    ensures shown { S.is_honest office.new → MatchResult result
+        (λ text. IsShown (Shown.Overdue day most csv) (S.content office.old) (Ok text.items))
+        (λ why. IsShown (Shown.Overdue day most csv) (S.content office.old) (Err why)) }
+{
+    match csv {
+        true => overdue_csv_of(alloc, office, day, most),
+        false => overdue_of(alloc, office, day, most),
+    }
+}
+
+/// The open orders of an intersection, or of all, as a text or as CSV.
+fn orders<S: Shelf>(
+    alloc: Global,
+    office: &mut Office<S>,
+    id: Option<InterId>,
+    csv: bool,
+) -> Result<Vec<u8>, Fault>
+    ensures kept { KeepsShelf S.Shelf office.old office.new }
+    ensures shown { S.is_honest office.new → MatchResult result
+        (λ text. IsShown (Shown.Orders id csv) (S.content office.old) (Ok text.items))
+        (λ why. IsShown (Shown.Orders id csv) (S.content office.old) (Err why)) }
+{
+    match csv {
+        true => orders_csv_of(alloc, office, id),
+        false => orders_of(alloc, office, id),
+    }
+}
+
 /// What is printed of an office.
 fn shown_of<S: Shelf>(alloc: Global, office: &mut Office<S>, shown: Shown) -> Result<Vec<u8>, Fault>
     ensures kept { KeepsShelf S.Shelf office.old office.new }
@@ -123,10 +162,10 @@ fn shown_of<S: Shelf>(alloc: Global, office: &mut Office<S>, shown: Shown) -> Re
 {
     match shown {
         Shown::Sheet { id } => sheet_of(alloc, office, id),
-        Shown::Overdue { day, most } => overdue_of(alloc, office, day, most),
+        Shown::Overdue { day, most, csv } => overdue(alloc, office, day, most, csv),
         Shown::List { csv } => list_of(alloc, office, csv),
         Shown::Stock { csv } => stock_of(alloc, office, csv),
-        Shown::Orders { id } => orders_of(alloc, office, id),
+        Shown::Orders { id, csv } => orders(alloc, office, id, csv),
         Shown::Cabinet { id } => cabinet_of(alloc, office, id),
         Shown::Export { id, view } => export(alloc, office, id, view),
         Shown::Diagram { id, pattern } => diagram_of(alloc, office, id, pattern),

@@ -29,7 +29,7 @@ abbrev pub asked : Job (Bor Text) → Asked
 asked (job.Batch db) = job.Batch (option_map (λ (s : Bor Text). s.now) db)
 asked (job.Serve port count db) = job.Serve port count (option_map (λ (s : Bor Text). s.now) db)
 asked (job.Show db it) = job.Show db.now it
-asked (job.Overdue db first day) = job.Overdue db.now first day.now
+asked (job.Overdue db first csv day) = job.Overdue db.now first csv day.now
 asked (job.Add db id interval name) = job.Add db.now id interval name.now
 asked (job.Migrate db) = job.Migrate db.now
 asked (job.Import db csv) = job.Import db.now (file_asked csv)
@@ -107,13 +107,13 @@ add_at rows = do
   name ← first_of (codes "NAME") rows
   Some (job.Add db id interval name)
 
--- `overdue --db FILE [--first N] DAY`
+-- `overdue --db FILE [--first N] [--csv] DAY`
 abbrev pub overdue_at : List Row → Option Asked
 overdue_at rows = do
   db ← first_of (codes "db") rows
   first ← choice_at 9_999 (codes "first") rows
   day ← first_of (codes "DAY") rows
-  Some (job.Overdue db first day)
+  Some (job.Overdue db first (flag_at (codes "csv") rows) day)
 
 -- `verify-file [--explain] [--padded] CSV`
 abbrev pub verify_file_at : List Row → Option Asked
@@ -238,8 +238,8 @@ shows =
     ∷ (codes "list", λ rows. Some (shown.List (flag_at (codes "csv") rows)))
     -- `stock --db FILE [--csv]`
     ∷ (codes "stock", λ rows. Some (shown.Stock (flag_at (codes "csv") rows)))
-    -- `orders --db FILE [ID]`
-    ∷ (codes "orders", λ rows. option_map shown.Orders (choice_at 9_999 (codes "ID") rows))
+    -- `orders --db FILE [--csv] [ID]`
+    ∷ (codes "orders", λ rows. option_map (λ id. shown.Orders id (flag_at (codes "csv") rows)) (choice_at 9_999 (codes "ID") rows))
     -- `cabinet --db FILE ID`
     ∷ (codes "cabinet", λ rows. option_map shown.Cabinet (number_at 9_999 (codes "ID") rows))
     ∷ (codes "export", export_at) ∷ []

@@ -53,6 +53,11 @@ const COMMANDS: &[Usage<'static>] = &[
                  without it all are",
             ),
             Argument(
+                "csv",
+                Form::Flag,
+                "Print them as CSV, without heading or count",
+            ),
+            Argument(
                 "DAY",
                 Form::Word,
                 "The day, as YYYY-MM-DD, from 1970-01-01 to 2199-12-31",
@@ -107,6 +112,11 @@ const COMMANDS: &[Usage<'static>] = &[
         "Prints the open work orders of an intersection, or of all",
         &[
             Argument("db", Form::Needed("FILE"), FOUND_FILE),
+            Argument(
+                "csv",
+                Form::Flag,
+                "Print them as CSV, without heading or count",
+            ),
             Argument(
                 "ID",
                 Form::SecondWord,

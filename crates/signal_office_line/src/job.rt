@@ -61,10 +61,12 @@ pub enum Job<T> {
         db: T,
         shown: Shown,
     },
-    /// Print the intersections that are overdue on a day, at most so many, 1 to 9999.
+    /// Print the intersections that are overdue on a day, at most so many, 1 to 9999, as a report
+    /// or as CSV.
     Overdue {
         db: T,
         first: Option<u32>,
+        csv: bool,
         day: T,
     },
     /// Add an intersection.

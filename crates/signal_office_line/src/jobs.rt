@@ -76,14 +76,20 @@ fn serve<'a>(matches: &ArgMatches<'a>) -> Option<Job<&'a str>>
     Some(Job::Serve { port, count, db })
 }
 
-/// `overdue --db FILE [--first N] DAY`.
+/// `overdue --db FILE [--first N] [--csv] DAY`.
 fn overdue<'a>(matches: &ArgMatches<'a>) -> Option<Job<&'a str>>
     ensures { option_map asked result ≡ overdue_at (rows_of (found_of matches.entry.now)) }
 {
     let db = word(matches, "db")?;
     let first = choice(matches, "first", 9_999)?;
+    let csv = flag(matches, "csv");
     let day = word(matches, "DAY")?;
-    Some(Job::Overdue { db, first, day })
+    Some(Job::Overdue {
+        db,
+        first,
+        csv,
+        day,
+    })
 }
 
 /// `add --db FILE ID INTERVAL NAME`.

@@ -26,14 +26,14 @@ pub enum View {
 pub enum Shown {
     /// The timing sheet of an intersection.
     Sheet { id: InterId },
-    /// The report of the intersections that are overdue on a day, at most so many.
-    Overdue { day: Day, most: usize },
+    /// The intersections that are overdue on a day, at most so many, as a report or as CSV.
+    Overdue { day: Day, most: usize, csv: bool },
     /// All intersections, as a text or as CSV.
     List { csv: bool },
     /// What is on hand of each part, as a text or as CSV.
     Stock { csv: bool },
-    /// The open orders of an intersection, or of all.
-    Orders { id: Option<InterId> },
+    /// The open orders of an intersection, or of all, as a text or as CSV.
+    Orders { id: Option<InterId>, csv: bool },
     /// The register of an intersection's cabinet.
     Cabinet { id: InterId },
     /// What is kept of an intersection, as CSV.
@@ -97,6 +97,7 @@ pub(crate) fn shown_at(name: &str, matches: &ArgMatches<'_>) -> Option<Shown>
         },
         "orders" => Shown::Orders {
             id: chosen_intersection(matches, "ID")?,
+            csv: flag(matches, "csv"),
         },
         "cabinet" => Shown::Cabinet {
             id: intersection(matches, "ID")?,

@@ -16,6 +16,6 @@ returns g c =
     inl (
       c.in_ok-day.day,
       c.in_ok-day.ensures,
-      subst (λ most. Shows view (shown.Overdue c.in_ok-day.day most) (told c.args.out.now) (told c.show_of.new.out) c.show_of.result)
+      subst (λ most. Shows view (shown.Overdue c.in_ok-day.day most c.args.csv) (told c.args.out.now) (told c.show_of.new.out) c.show_of.result)
           c.most_of-most.ensures c.show_of.ensures,
     )

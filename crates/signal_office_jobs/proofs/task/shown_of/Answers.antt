@@ -7,12 +7,6 @@ returns-in-Sheet-clause-shown g c =
     (and_whole g.S.Shelf g.met.S.Shelf.honest_is_clean c.args.office.now c.sheet_of.new.office _ _ c.sheet_of.result c.sheet_of.ensures.sheet c.sheet_of.ensures.whole)
     (of_one g.S.Shelf g.met.S.Shelf.honest_is_clean c.args.office.now c.sheet_of.new.office _ _ c.sheet_of.result c.sheet_of.ensures.refused c.sheet_of.ensures.damaged c.sheet_of.ensures.fault)
 
-pub returns-in-Overdue-clause-shown : goal.returns-in-Overdue-clause-shown
-returns-in-Overdue-clause-shown g c =
-    shown_so g.S.Shelf g.met.S.Shelf.honest_is_clean c.args.office.now c.overdue_of.new.office c.overdue_of.result (λ text. text.items) _ _ c.in-Overdue.is
-    (and_whole g.S.Shelf g.met.S.Shelf.honest_is_clean c.args.office.now c.overdue_of.new.office _ _ c.overdue_of.result c.overdue_of.ensures.report c.overdue_of.ensures.whole)
-    (of_all g.S.Shelf g.met.S.Shelf.honest_is_clean c.args.office.now c.overdue_of.new.office _ c.overdue_of.result c.overdue_of.ensures.fault c.overdue_of.ensures.damaged)
-
 pub returns-in-List-clause-shown : goal.returns-in-List-clause-shown
 returns-in-List-clause-shown g c =
     shown_so g.S.Shelf g.met.S.Shelf.honest_is_clean c.args.office.now c.list_of.new.office c.list_of.result (λ text. text.items) _ _ c.in-List.is
@@ -24,12 +18,6 @@ returns-in-Stock-clause-shown g c =
     shown_so g.S.Shelf g.met.S.Shelf.honest_is_clean c.args.office.now c.stock_of.new.office c.stock_of.result (λ text. text.items) _ _ c.in-Stock.is
     (and_whole g.S.Shelf g.met.S.Shelf.honest_is_clean c.args.office.now c.stock_of.new.office _ _ c.stock_of.result c.stock_of.ensures.stock c.stock_of.ensures.whole)
     (of_all g.S.Shelf g.met.S.Shelf.honest_is_clean c.args.office.now c.stock_of.new.office _ c.stock_of.result c.stock_of.ensures.fault c.stock_of.ensures.damaged)
-
-pub returns-in-Orders-clause-shown : goal.returns-in-Orders-clause-shown
-returns-in-Orders-clause-shown g c =
-    shown_so g.S.Shelf g.met.S.Shelf.honest_is_clean c.args.office.now c.orders_of.new.office c.orders_of.result (λ text. text.items) _ _ c.in-Orders.is
-    (and_whole g.S.Shelf g.met.S.Shelf.honest_is_clean c.args.office.now c.orders_of.new.office _ _ c.orders_of.result c.orders_of.ensures.orders c.orders_of.ensures.whole)
-    (of_one g.S.Shelf g.met.S.Shelf.honest_is_clean c.args.office.now c.orders_of.new.office _ _ c.orders_of.result c.orders_of.ensures.refused c.orders_of.ensures.damaged c.orders_of.ensures.fault)
 
 pub returns-in-Cabinet-clause-shown : goal.returns-in-Cabinet-clause-shown
 returns-in-Cabinet-clause-shown g c =
