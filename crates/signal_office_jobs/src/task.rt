@@ -124,6 +124,7 @@ fn overdue<S: Shelf>(
     csv: bool,
 ) -> Result<Vec<u8>, Fault>
     ensures kept { KeepsShelf S.Shelf office.old office.new }
+    ensures clean { S.is_clean office.new → S.is_clean office.old }
     ensures shown { S.is_honest office.new → MatchResult result
         (λ text. IsShown (Shown.Overdue day most csv) (S.content office.old) (Ok text.items))
         (λ why. IsShown (Shown.Overdue day most csv) (S.content office.old) (Err why)) }
@@ -142,6 +143,7 @@ fn orders<S: Shelf>(
     csv: bool,
 ) -> Result<Vec<u8>, Fault>
     ensures kept { KeepsShelf S.Shelf office.old office.new }
+    ensures clean { S.is_clean office.new → S.is_clean office.old }
     ensures shown { S.is_honest office.new → MatchResult result
         (λ text. IsShown (Shown.Orders id csv) (S.content office.old) (Ok text.items))
         (λ why. IsShown (Shown.Orders id csv) (S.content office.old) (Err why)) }
