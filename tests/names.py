@@ -36,11 +36,11 @@ MEANT = {
         "IsDeliveryAt IsInspectionAt IsOrderAt",
 }
 LEFT = """
-    Adds Answers AreInOrder AreWithin FollowsLine IsAfterStep IsFound IsKept IsLeftOpen IsOneOf IsQuery IsThere
+    Adds Answers AreInOrder Ends AreWithin FollowsLine IsAfterStep IsFound IsKept IsLeftOpen IsOneOf IsQuery IsThere
     Keeps Lacks Line Lists ListsRows Migrates Puts Ran Rows Run StaysOpen Writes
-    agree_at begun changes_of clearance command_of counted greatest intersection_rows is_among
-    is_of keyed list listed moved open_by open_orders opening_of parts
-    rows_of subject_of
+    agree_at begun changes_of checked clearance command_of counted greatest intersection_rows is_among
+    is_of is_same keyed list listed mode_of moved open_by open_orders opening_of order_columns parts
+    reopened rows_of subject_of text_in
 """
 
 
