@@ -120,7 +120,7 @@ fn live_after_a_command(rt: &HostRuntime, alloc: Global) -> Result<(), Trouble> 
 /// intersection, where the command had added it by then.
 fn live_undone(rt: &HostRuntime, alloc: Global) -> Result<(), Trouble> {
     let task = Asked::adding(alloc)?;
-    let mut shown = 0;
+    let mut is_shown = false;
     for calls in 0..64 {
         let files = stopping(alloc, &[], false, calls)?;
         let mut out = sink(alloc);
@@ -128,11 +128,11 @@ fn live_undone(rt: &HostRuntime, alloc: Global) -> Result<(), Trouble> {
             let (mut reader, mut writer) = (source(93, 127), sink(alloc));
             let lived = served_over(alloc, left, &mut reader, &mut writer);
             if lived.is_some() && writer.bytes.as_slice() == told(89, 273) {
-                shown += 1;
+                is_shown = true;
             }
         }
     }
-    holds(shown > 0, "a command over files that were not closed")
+    holds(is_shown, "a command over files that were not closed")
 }
 
 /// Lets files live through two runs and more.
