@@ -36,7 +36,7 @@ def checked(text):
     for line in [*text.split("\n"), "run"]:
         word, _, rest = line.partition(" ")
         if word in ("run", "file") and told is not None:
-            yield files[name], bool(flags), told
+            yield files[name], "--explain" in flags, told
         if word == "file":
             name, files[rest], told = rest, "", None
         elif word == "|":
@@ -44,7 +44,8 @@ def checked(text):
         elif word == "run":
             command, *flags = rest.split(" ")
             name = flags.pop() if flags else None
-            told = [] if command == "verify-file" and name in files else None
+            is_read = command == "verify-file" and name in files and "--padded" not in flags
+            told = [] if is_read else None
         elif word == "room":
             told = None
         elif word in ("out", "err") and told is not None:
