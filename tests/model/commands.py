@@ -4,7 +4,7 @@ A command is a function of an office and of its values. It yields after each cha
 since a stop may leave those before it, and gives the status and the text that it prints."""
 from . import fields, rules
 from .fields import write_csv
-from .plan import read_change
+from .plan import apply, read_change
 from .refusal import NAMES, Refused
 from .register import read_record
 from .wire import read_each
@@ -46,14 +46,26 @@ def take(office, csv):
 
 
 def edit(office, id, clerk, csv, commits):
-    """Changes the draft, in a transaction that it begins or in the clerk's own, and commits it
-    where that is asked and no rule is broken."""
+    """Changes the draft, in a transaction that it begins or in the clerk's own, whose draft is
+    opened again where it was handed over or checked. Commits it where that is asked, no rule is
+    broken and it is not the committed plan; for one that would be that plan nothing is begun."""
     changes = read_each(read_change, fields.read_csv(csv))
-    if office.find(id).state == "normal":
+    it = office.find(id)
+    stands = it.committed if it.state == "normal" else it.draft
+    is_same = commits and apply(stands, changes) == it.committed
+    if is_same and it.state == "normal":
+        return 0, "no changes\n"
+    if it.state == "normal":
         office.begin(id, clerk)
         yield
+    for name, state in (("check", "verify"), ("reopen", "done")):
+        if office.find(id).state == state:
+            office.step(name, id, clerk)
+            yield
     office.edit(id, clerk, changes)
     yield
+    if is_same:
+        return 0, "no changes\n"
     text = violation_lines(office.find(id).draft)
     if not commits:
         return 0, text
