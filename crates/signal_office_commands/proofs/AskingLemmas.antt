@@ -1,5 +1,5 @@
 -- What is known of the reply to a command, and to a query.
-use Rattle.std.proofs.Common.{◌≡◌, ◌≢◌, ◌∙◌, inl, inr, Result, sym, subst}
+use Rattle.std.proofs.Common.{◌≡◌, ◌≢◌, ◌⊎◌, ◌∙◌, inl, inr, Result, Ok, Err, sym, subst}
 use Rattle.office_tables_shelf.specs.{Content.Content, Keeps.KeepsShelf, Shelf.IsKept, declared.counts.WriteCounts.WriteCounts, declared.shelf.Shelf.Ghosts}
 use Rattle.office_tables_shelf.proofs.KeptLemmas.{kept_on}
 use Rattle.office_desk.specs.{Answers.AnswersAny, Changes.IsRefused, Damage.IsTurnedAway, Running.HoldsTables, Running.IsRun, Running.MakesTables, Running.TellsTables}
@@ -20,6 +20,11 @@ pub not_turned : (asked : Command) (reply : Reply) → ¬ IsRefused reply → ¬
 not_turned asked reply accepted (inl (inl damaged)) = accepted (subst IsRefused (sym damaged) tt)
 not_turned asked reply accepted (inl (inr unavailable)) = accepted (subst IsRefused (sym unavailable) tt)
 not_turned asked reply accepted (inr import) = accepted import.1
+
+-- where there is a value, memory was not refused
+pub was_run : {A E P Q : Type 0} (x : A) (e : E) → P ⊎ ((Ok x ≡ Err e) × Q) → P
+was_run x e (inl it) = it
+was_run x e (inr want) = let same : Ok x ≡ Err e = want.0 in absurd cc
 
 -- ---- what is made of a reply
 

@@ -1,5 +1,4 @@
 pub mod AskingLemmas
-mod EditLemmas
 pub mod FaultLemmas
 pub mod HonestLemmas
 pub mod OrderLemmas

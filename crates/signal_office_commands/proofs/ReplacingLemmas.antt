@@ -10,9 +10,9 @@ use Rattle.office_machine.specs.declared.command.Command.TheVariants as command
 use Rattle.office_machine.specs.declared.refusal.Refusal.TheVariants as refusal
 use Rattle.office_machine.specs.declared.reply.Reply.TheVariants as reply
 use Rattle.office_tables_shelf.specs.Content.{Content}
-use Rattle.signal_office_commands.proofs.{EditLemmas.was_run, RevisingLemmas.held_base, RevisingLemmas.revised_draft, RevisingLemmas.revised_set, ShownLemmas.timing_found, ShownLemmas.rows_drafted}
+use Rattle.signal_office_commands.proofs.{AskingLemmas.was_run, RevisingLemmas.held_base, RevisingLemmas.revised_draft, RevisingLemmas.revised_set, ShownLemmas.timing_found, ShownLemmas.rows_drafted}
 use Rattle.office_files.specs.Changes.{changes_of}
-use Rattle.signal_office_commands.specs.{Asking.Answered, Asking.Ran, Editing.Goes, Editing.commit_commands, Editing.commit_told, Editing.is_due, Showing.ShowsDraft, Showing.ShowsTiming, Showing.draft_shown, Showing.timing_shown}
+use Rattle.signal_office_commands.specs.{Asking.Answered, Asking.Ran, Committing.Goes, Committing.commit_commands, Committing.commit_told, Committing.is_due, Showing.ShowsDraft, Showing.ShowsTiming, Showing.draft_shown, Showing.timing_shown}
 use Rattle.signal_office_commands.specs.Replacing.{LeavesPlan, LeftPlan, TellsNoChange, base_at, draft_set, plan_wanted}
 use Rattle.signal_office_commands.specs.Revising.{Drafts, Ends, Finishes, Revises, Stays, WouldBe, outcome_of}
 use Rattle.signal_office_commands.specs.Standing.{AreWanted, ShowsIfOpen, base_from, base_of, if_open}

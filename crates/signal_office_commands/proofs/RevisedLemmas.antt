@@ -3,8 +3,8 @@ use Rattle.std.proofs.Common.{◌≡◌, ◌⊎◌, ◌&&◌, not, true, ℕ, Bo
 use Rattle.std.specs.{Prelude.IfOk, Prelude.is_none, Result.IsErrAnd}
 use Rattle.office_desk.specs.Running.{MakesTables}
 use Rattle.office_tables_shelf.specs.{Content.Content, declared.shelf.Shelf.Ghosts}
-use Rattle.signal_office_commands.proofs.{EditLemmas.was_run, ReplacingLemmas.leaves, StopLemmas.stop_by, StopLemmas.stop_then}
-use Rattle.signal_office_commands.specs.{Editing.Does, Editing.Goes, Editing.commit_commands, Editing.is_due, Replacing.LeavesPlan}
+use Rattle.signal_office_commands.proofs.{AskingLemmas.was_run, ReplacingLemmas.leaves, StopLemmas.stop_by, StopLemmas.stop_then}
+use Rattle.signal_office_commands.specs.{Committing.Does, Committing.Goes, Committing.commit_commands, Committing.is_due, Replacing.LeavesPlan}
 use Rattle.signal_office_commands.specs.Revising.{Drafts, Ends, Finishes, RevisesAs, Stays, WouldBe, revise_commands, revise_told}
 use Rattle.signal_office_commands.specs.Stopping.{AfterDrafting, AfterOneOf, StopLeaves}
 use Rattle.signal_office_commands.specs.declared.revising.{EditMode.EditMode, Revised.Revised}

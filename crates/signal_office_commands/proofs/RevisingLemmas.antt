@@ -15,8 +15,8 @@ use Rattle.office_machine.specs.declared.command.Command.TheVariants as command
 use Rattle.office_machine.specs.declared.refusal.Refusal.TheVariants as refusal
 use Rattle.office_machine.specs.declared.reply.Reply.TheVariants as reply
 use Rattle.office_tables_shelf.specs.Content.{Content}
-use Rattle.signal_office_commands.specs.Editing.{◌>>=◌, commit_commands, commit_told, drafted, moved}
-use Rattle.signal_office_commands.specs.Revising.{revise_commands, revise_told, taken_up}
+use Rattle.signal_office_commands.specs.Committing.{◌>>=◌, commit_commands, commit_told, moved}
+use Rattle.signal_office_commands.specs.Revising.{drafted, revise_commands, revise_told, taken_up}
 use Rattle.signal_office_commands.specs.{Replacing.base_at, Replacing.draft_set}
 use Rattle.signal_office_faults.specs.declared.fault.Fault.{Fault}
 use Rattle.signal_records.specs.TimingSet.{Rows, after_changes}

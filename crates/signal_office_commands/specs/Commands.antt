@@ -10,7 +10,7 @@ use Rattle.signal_office_faults.specs.declared.fault.Fault.{Fault}
 use Rattle.signal_office_faults.specs.declared.fault.Fault.TheVariants as told
 use Rattle.signal_office_commands.specs.declared.adding.Entered.{Entered}
 use Rattle.signal_office_commands.specs.declared.adding.Entered.TheVariants as entered
-use Rattle.signal_office_commands.specs.Editing.{moved}
+use Rattle.signal_office_commands.specs.Committing.{moved}
 
 -- what is told of the reply to an intersection that is to be added
 abbrev pub entered_told : Reply → Result Entered Fault

@@ -1,9 +1,9 @@
 pub mod Asking
 pub mod Cabinet
 pub mod Commands
+pub mod Committing
 pub mod Comparing
 pub mod Drawing
-pub mod Editing
 pub mod Exporting
 pub mod Fault
 pub mod Importing

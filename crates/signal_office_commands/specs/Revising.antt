@@ -1,6 +1,6 @@
 -- A plan's CSV file that revises a plan: its draft is edited, and committed where that is asked.
 use Rattle.std.specs.Prelude.{◌≡◌, ◌⊎◌, ◌&&◌, ℕ, Bool, true, false, not, is_none, List, [], ◌∷◌, Result, Ok, Err}
-use Rattle.draft_core.specs.declared.refusal.DraftRefusal.TheVariants.{NotVerify, NotDone}
+use Rattle.draft_core.specs.declared.refusal.DraftRefusal.TheVariants.{NotNormal, NotVerify, NotDone}
 use Rattle.office_files.specs.Changes.{changes_of}
 use Rattle.office_machine.specs.declared.command.Command.{Command}
 use Rattle.office_machine.specs.declared.command.Command.TheVariants as command
@@ -9,7 +9,8 @@ use Rattle.office_machine.specs.declared.reply.Reply.{Reply}
 use Rattle.office_machine.specs.declared.reply.Reply.TheVariants as reply
 use Rattle.office_tables_shelf.specs.Content.{Content}
 use Rattle.signal_office_commands.specs.Asking.{IsUnread, Ran}
-use Rattle.signal_office_commands.specs.Editing.{◌>>=◌, Does, Goes, begun, drafted, is_due, moved}
+use Rattle.signal_office_commands.specs.Committing.{◌>>=◌, Does, Goes, is_due, moved}
+use Rattle.signal_office_commands.specs.Refused.{fault_of}
 use Rattle.signal_office_commands.specs.Standing.{AreWanted, IsNotStanding, ShowsStanding, TellsSame, base_of}
 use Rattle.signal_office_commands.specs.declared.revising.EditMode.{EditMode}
 use Rattle.signal_office_commands.specs.declared.revising.Outcome.{Outcome}
@@ -29,6 +30,11 @@ revise_commands id clerk changes =
     command.Begin id clerk ∷ command.Check id clerk ∷ command.Reopen id clerk
     ∷ command.Edit id clerk changes ∷ command.Draft id ∷ []
 
+-- a step was made, or a transaction is under way
+abbrev pub begun : Reply → Result Unit Fault
+begun (reply.Refused (refusal.Draft NotNormal)) = Ok tt
+begun other = moved other
+
 -- a step was made, or the draft is in another state
 abbrev pub checked : Reply → Result Unit Fault
 checked (reply.Refused (refusal.Draft NotVerify)) = Ok tt
@@ -44,6 +50,12 @@ taken_up first second third = do
   _ ← begun first
   _ ← checked second
   reopened third
+
+-- the rules that the draft breaks
+abbrev pub drafted : Reply → Result (List Violation) Fault
+drafted (reply.Draft draft) = Ok draft.violations
+drafted (reply.Refused why) = Err (fault_of why)
+drafted other = Err told.Store
 
 -- what is told of the replies: the first step that was refused, or the rules that the draft breaks
 abbrev pub revise_told : List Reply → Result (List Violation) Fault

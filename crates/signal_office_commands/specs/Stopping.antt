@@ -13,7 +13,7 @@ use Rattle.office_machine.specs.declared.command.Command.{Command}
 use Rattle.office_machine.specs.declared.command.Command.TheVariants as command
 use Rattle.office_machine.specs.declared.reply.Reply.{Reply}
 use Rattle.signal_office_commands.specs.Asking.{Ran}
-use Rattle.signal_office_commands.specs.Editing.{commit_commands, edit_commands, edit_told, is_due}
+use Rattle.signal_office_commands.specs.Committing.{commit_commands, is_due}
 use Rattle.signal_office_commands.specs.Revising.{WouldBe, revise_commands, revise_told}
 use Rattle.signal_office_commands.specs.Standing.{AreWanted, ShowsStanding, base_of}
 use Rattle.signal_office_commands.specs.declared.revising.EditMode.{EditMode}
@@ -42,15 +42,7 @@ abbrev pub AfterImporting : (bytes : List ℕ) → Content → Content → Type 
 AfterImporting bytes old found =
     (records : List RecordCommand) × (commands_of bytes ≡ Ok records) × IsAfterStep old (command.Import records) found
 
--- Tables after a step of the edit; or, where a commit is asked for and the edited draft breaks no rule, after a step of the commit.
-abbrev pub AfterEditing : (bytes : List ℕ) → (id : ℕ) → (clerk : List ℕ) → (commit : Bool) → Content → Content → Type 0
-AfterEditing bytes id clerk commit old found =
-    (changes : List Change) × (changes_of bytes ≡ Ok changes)
-    × (AfterOneOf (edit_commands id clerk changes) old found
-    ⊎ ((middle : Content) × (violations : List Violation) × Ran edit_told old (edit_commands id clerk changes) middle (Ok violations)
-    × (is_due commit violations ≡ true) × AfterOneOf (commit_commands id clerk) middle found))
-
--- the same of a draft that is taken up and changed, and may be committed
+-- Tables after a step of a revision; or, where the draft may be committed and breaks no rule, after a step of the commit.
 abbrev pub AfterDrafting : (may_commit : Bool) → (id : ℕ) → (clerk : List ℕ) → List Change → Content → Content → Type 0
 AfterDrafting may_commit id clerk changes old found =
     AfterOneOf (revise_commands id clerk changes) old found

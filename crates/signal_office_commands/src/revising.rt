@@ -2,16 +2,18 @@
 
 ghost use Rattle.std.specs.Prelude.{◌≡◌, ◌&&◌, not, IfOk};
 ghost use Rattle.office_desk.specs.Running.{MakesTables};
-ghost use Rattle.signal_office_commands.specs.Editing.{Does};
+ghost use Rattle.signal_office_commands.specs.Committing.{Does};
 ghost use Rattle.signal_office_commands.specs.Replacing.{LeavesPlan};
 ghost use Rattle.signal_office_commands.specs.Revising.{Ends, Finishes, RevisesAs, WouldBe};
-ghost use Rattle.signal_office_commands.specs.Revising.{as_it_stands, checked, outcome_of};
+ghost use Rattle.signal_office_commands.specs.Revising.{as_it_stands, begun, checked, drafted};
+ghost use Rattle.signal_office_commands.specs.Revising.{outcome_of};
 ghost use Rattle.signal_office_commands.specs.Revising.{reopened, revise_commands, revise_told};
 ghost use Rattle.signal_office_commands.specs.Revising.{taken_up};
 ghost use Rattle.signal_office_commands.specs.Stopping.{AfterChanging, AfterDrafting, AfterOneOf};
 ghost use Rattle.signal_office_commands.specs.Stopping.{AfterRevising, StopLeaves};
 
-use crate::editing::{begun, commit_where_due, drafted, is_due, moved};
+use crate::committing::{commit_where_due, is_due, moved};
+use crate::refused::fault_of;
 use crate::standing::{StandingPlan, standing_in};
 use draft_core::changes::Changes;
 use draft_core::refusal::DraftRefusal;
@@ -53,6 +55,16 @@ pub struct Revised {
     pub outcome: Outcome,
 }
 
+/// A transaction is begun, or one is under way.
+fn begun(reply: &Reply) -> Result<(), Fault>
+    ensures { result ≡ begun reply.now }
+{
+    match reply {
+        Reply::Refused(Refusal::Draft(DraftRefusal::NotNormal)) => Ok(()),
+        reply => moved(reply),
+    }
+}
+
 /// A draft that was handed over is checked, or was not handed over.
 fn checked(reply: &Reply) -> Result<(), Fault>
     ensures { result ≡ checked reply.now }
@@ -80,6 +92,17 @@ fn taken_up(first: &Reply, second: &Reply, third: &Reply) -> Result<(), Fault>
     begun(first)?;
     checked(second)?;
     reopened(third)
+}
+
+/// The rules that a shown draft breaks.
+fn drafted(reply: Reply) -> Result<Violations, Fault>
+    ensures { result ≡ drafted reply }
+{
+    match reply {
+        Reply::Draft(draft) => Ok(draft.violations),
+        Reply::Refused(refusal) => Err(fault_of(refusal)),
+        _ => Err(Fault::Store),
+    }
 }
 
 /// What is told of the replies to the commands of a revision.

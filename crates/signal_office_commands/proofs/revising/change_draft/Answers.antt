@@ -1,6 +1,6 @@
 use Rattle.std.proofs.Common.{◌≡◌, rules, subst}
 use Rattle.office_desk.specs.Running.{MakesTables}
-use Rattle.signal_office_commands.specs.Editing.{Does}
+use Rattle.signal_office_commands.specs.Committing.{Does}
 use Rattle.signal_office_commands.specs.Revising.{revise_commands, revise_told}
 use Rattle.signal_office_commands.specs.Stopping.{AfterOneOf, StopLeaves}
 use Rattle.signal_office_commands.proofs.revising.change_draft.Goals as goal

@@ -3,7 +3,7 @@ use Rattle.std.specs.Prelude.{◌&&◌}
 use Rattle.signal_office_commands.proofs.RevisedLemmas.{drafting_stops, drafts, finishes_not}
 use Rattle.signal_office_commands.proofs.StopLemmas.{stop_by}
 use Rattle.signal_office_commands.proofs.revising.finish.Goals as goal
-use Rattle.signal_office_commands.specs.{Editing.is_due, Revising.outcome_of}
+use Rattle.signal_office_commands.specs.{Committing.is_due, Revising.outcome_of}
 
 pub returns-clause-ends : goal.returns-clause-ends
 returns-clause-ends g c = λ clean tables held.

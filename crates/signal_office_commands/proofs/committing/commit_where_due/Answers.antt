@@ -1,6 +1,6 @@
 use Rattle.std.proofs.Common.{rules}
 use Rattle.signal_office_commands.proofs.StopLemmas.{stop_by, stop_none}
-use Rattle.signal_office_commands.proofs.editing.commit_where_due.Goals as goal
+use Rattle.signal_office_commands.proofs.committing.commit_where_due.Goals as goal
 
 pub returns-then-due-clause-goes : goal.returns-then-due-clause-goes
 returns-then-due-clause-goes g c = λ clean tables held.
