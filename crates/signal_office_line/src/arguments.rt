@@ -10,23 +10,22 @@ use clap::{Arg, ArgAction, Command};
 use std::alloc::{AllocError, Global};
 
 /// What the help says of `--db FILE` where the file is made.
-pub(crate) const MADE_FILE: &str =
-    "The SQLite file that keeps the tables; made where there is none";
+pub(crate) const MADE_FILE: &str = "The SQLite file of the tables; it is made if there is none";
 
 /// What it says where tables in memory will do.
 pub(crate) const FILE_OR_MEMORY: &str =
-    "The SQLite file that keeps the tables; made where there is none. Without it they are in \
+    "The SQLite file of the tables; it is made if there is none. Without --db the tables are in \
      memory and are gone at the end";
 
 /// What it says where none is made.
-pub(crate) const FOUND_FILE: &str = "The SQLite file that keeps the tables; it has to be there";
+pub(crate) const FOUND_FILE: &str = "The SQLite file of the tables; it must be there";
 
 /// What it says of `--explain`.
-pub(crate) const EXPLAIN: &str = "Print beside each rule that is broken the numbers that break it";
+pub(crate) const EXPLAIN: &str = "Also print, for each broken rule, the numbers that break it";
 
 /// What it says of `--padded`.
 pub(crate) const PADDED: &str =
-    "Drop the empty fields with which a spreadsheet pads the records of CSV";
+    "Drop the empty fields with which spreadsheets pad the records of CSV";
 
 /// What it says of the number of an intersection.
 pub(crate) const ID: &str = "The intersection's number, 1 to 9999";

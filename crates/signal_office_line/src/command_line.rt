@@ -14,26 +14,27 @@ use std::alloc::{AllocError, Global};
 const COMMANDS: &[Usage<'static>] = &[
     Usage(
         "batch",
-        "Answers the HTTP requests on standard input, at most 1,000,000, on standard output",
+        "Reads HTTP requests from standard input, at most 1,000,000, and writes the answers to \
+         standard output",
         &[Argument("db", Form::Choice("FILE"), FILE_OR_MEMORY)],
     ),
     Usage(
         "serve",
-        "Listens on 127.0.0.1 and answers HTTP requests, one connection after the other",
+        "Listens on 127.0.0.1 and answers HTTP requests, one connection at a time",
         &[
             Argument("port", Form::Needed("N"), "The TCP port, 1 to 65535"),
             Argument(
                 "count",
                 Form::Choice("N"),
-                "The connections that are served before the program ends, 1 to 1000000, which is \
-                 what it serves without it; each has at most 10,000 requests",
+                "How many connections to serve before the program ends, 1 to 1000000 (default \
+                 1000000); each may send at most 10,000 requests",
             ),
             Argument("db", Form::Choice("FILE"), FILE_OR_MEMORY),
         ],
     ),
     Usage(
         "sheet",
-        "Prints the timing sheet of an intersection: the committed plan, times in seconds, \
+        "Prints the timing sheet of an intersection's committed plan; times in seconds, \
          distances in feet",
         &[
             Argument("db", Form::Needed("FILE"), FOUND_FILE),
@@ -42,21 +43,17 @@ const COMMANDS: &[Usage<'static>] = &[
     ),
     Usage(
         "overdue",
-        "Prints the intersections that were never inspected or whose inspection fell due \
-         before a day, and how many are listed",
+        "Prints the intersections that were never inspected, or whose inspection was due \
+         before a day, and how many they are",
         &[
             Argument("db", Form::Needed("FILE"), FOUND_FILE),
             Argument(
                 "first",
                 Form::Choice("N"),
-                "The most intersections that are listed, 1 to 9999, those with the lowest numbers; \
-                 without it all are",
+                "List at most N intersections, 1 to 9999, those with the lowest numbers; without \
+                 it all are listed",
             ),
-            Argument(
-                "csv",
-                Form::Flag,
-                "Print them as CSV, without heading or count",
-            ),
+            Argument("csv", Form::Flag, "Print as CSV, without heading or count"),
             Argument(
                 "DAY",
                 Form::Word,
@@ -66,14 +63,14 @@ const COMMANDS: &[Usage<'static>] = &[
     ),
     Usage(
         "add",
-        "Adds an intersection; says whether it was new, or is there with the same values",
+        "Adds an intersection; says whether it is new, or is there already with the same values",
         &[
             Argument("db", Form::Needed("FILE"), MADE_FILE),
             Argument("ID", Form::Word, ID),
             Argument(
                 "INTERVAL",
                 Form::Word,
-                "The days from one inspection of its cabinet to the next, 1 to 3650",
+                "Days from one inspection of its cabinet to the next, 1 to 3650",
             ),
             Argument(
                 "NAME",
@@ -84,50 +81,38 @@ const COMMANDS: &[Usage<'static>] = &[
     ),
     Usage(
         "list",
-        "Prints all intersections with their revision, the state and owner of their \
-         transaction, and how many rows are committed",
+        "Prints all intersections: the days between inspections, the revision, the state and \
+         owner of the draft, and how many rows are committed",
         &[
             Argument("db", Form::Needed("FILE"), FOUND_FILE),
-            Argument(
-                "csv",
-                Form::Flag,
-                "Print them as CSV, without heading or count",
-            ),
+            Argument("csv", Form::Flag, "Print as CSV, without heading or count"),
         ],
     ),
     Usage(
         "stock",
-        "Prints what is on hand of each part that was ever delivered",
+        "Prints how many of each part are on hand, of all parts that were ever delivered",
         &[
             Argument("db", Form::Needed("FILE"), FOUND_FILE),
-            Argument(
-                "csv",
-                Form::Flag,
-                "Print it as CSV, without heading or count",
-            ),
+            Argument("csv", Form::Flag, "Print as CSV, without heading or count"),
         ],
     ),
     Usage(
         "orders",
-        "Prints the open work orders of an intersection, or of all",
+        "Prints the open work orders of an intersection, or of all intersections",
         &[
             Argument("db", Form::Needed("FILE"), FOUND_FILE),
-            Argument(
-                "csv",
-                Form::Flag,
-                "Print them as CSV, without heading or count",
-            ),
+            Argument("csv", Form::Flag, "Print as CSV, without heading or count"),
             Argument(
                 "ID",
                 Form::SecondWord,
-                "The intersection's number, 1 to 9999; without it those of all are printed",
+                "The intersection's number, 1 to 9999; without it all are printed",
             ),
         ],
     ),
     Usage(
         "cabinet",
-        "Prints the register of an intersection's cabinet: when its next inspection is due, \
-         its inspections, its orders with their used parts and closings",
+        "Prints the records of an intersection's cabinet: when its next inspection is due, its \
+         inspections, and its work orders with their used parts and closings",
         &[
             Argument("db", Form::Needed("FILE"), FOUND_FILE),
             Argument("ID", Form::Word, ID),
@@ -136,33 +121,33 @@ const COMMANDS: &[Usage<'static>] = &[
     Usage(
         "verify-file",
         "Checks the timing plan in a CSV file against the fourteen rules; ends with status 3 \
-         where one is broken",
+         if it breaks one",
         &[
             Argument("explain", Form::Flag, EXPLAIN),
             Argument("padded", Form::Flag, PADDED),
             Argument(
                 "CSV",
                 Form::Word,
-                "The file; one record for each phase, sequence, split and pattern",
+                "The CSV file: one record for each phase, sequence, split and pattern",
             ),
         ],
     ),
     Usage(
         "migrate",
-        "Brings a file of an older version to today's; says how many rows were written anew",
+        "Brings a file of an older version to today's; says how many rows were rewritten",
         &[Argument("db", Form::Needed("FILE"), FOUND_FILE)],
     ),
     Usage(
         "import",
         "Takes the cabinet records of a CSV file in turn, all of them or none; says how many \
-         were new",
+         are new",
         &[
             Argument("db", Form::Needed("FILE"), FOUND_FILE),
             Argument("padded", Form::Flag, PADDED),
             Argument(
                 "CSV",
                 Form::Word,
-                "The file; one record for each inspection, order, used part, closing and delivery",
+                "The CSV file: one record for each inspection, order, used part, closing and delivery",
             ),
         ],
     ),
@@ -179,26 +164,26 @@ const COMMANDS: &[Usage<'static>] = &[
     ),
     Usage(
         "edit",
-        "Changes a timing plan by a CSV file, in a transaction that stays open; prints the \
-         rules that the draft breaks",
+        "Changes a timing plan by a CSV file, in a draft that stays open; prints the rules \
+         that the draft breaks",
         &[
             Argument("db", Form::Needed("FILE"), FOUND_FILE),
             Argument(
                 "clerk",
                 Form::Needed("NAME"),
-                "Who edits, 1 to 40 bytes; a transaction of another clerk is not touched",
+                "Who edits, 1 to 40 bytes; the draft of another clerk is not touched",
             ),
             Argument(
                 "replace",
                 Form::Flag,
-                "The draft becomes the plan of CSV: rows that it does not have are removed. \
+                "Make the draft exactly the plan of CSV: remove the rows that CSV does not have. \
                  Without it they stay",
             ),
             Argument(
                 "commit",
                 Form::Flag,
-                "Commit the draft where it breaks no rule; ends with status 3 where it breaks \
-                 one. A plan that is as it stands is not committed",
+                "Commit the draft if it breaks no rule; ends with status 3 if it breaks one. A \
+                 plan that would not change is not committed",
             ),
             Argument("explain", Form::Flag, EXPLAIN),
             Argument("padded", Form::Flag, PADDED),
@@ -206,14 +191,14 @@ const COMMANDS: &[Usage<'static>] = &[
             Argument(
                 "CSV",
                 Form::SecondWord,
-                "The file; one record for each row that is put or removed. With --commit it may \
-                 be left out: the clerk's draft is committed as it is",
+                "The CSV file: one record for each row to put or remove. With --commit it may be \
+                 left out; the clerk's draft is then committed as it is",
             ),
         ],
     ),
     Usage(
         "abandon",
-        "Drops the draft of an intersection, whoever holds it, and ends its transaction",
+        "Drops the draft of an intersection, whoever holds it",
         &[
             Argument("db", Form::Needed("FILE"), FOUND_FILE),
             Argument("clerk", Form::Needed("NAME"), "Who drops it, 1 to 40 bytes"),
@@ -222,14 +207,14 @@ const COMMANDS: &[Usage<'static>] = &[
     ),
     Usage(
         "compare",
-        "Prints what two timing plans differ in, or what a draft changes; ends with status 4 \
-         where they differ",
+        "Prints the differences between two timing plans, or what a draft changes; ends with \
+         status 4 if there are any",
         &[
             Argument(
                 "db",
                 Form::Choice("FILE"),
-                "The SQLite file that keeps the tables: compares the committed plan of an \
-                 intersection with its draft, or with the plan of OTHER",
+                "The SQLite file of the tables: compares the committed plan of an intersection \
+                 with its draft, or with the plan of OTHER",
             ),
             Argument(
                 "csv",
@@ -256,7 +241,7 @@ const COMMANDS: &[Usage<'static>] = &[
             Argument(
                 "db",
                 Form::Choice("FILE"),
-                "The SQLite file that keeps the tables: draws a committed plan, with ID and \
+                "The SQLite file of the tables: draws a pattern of a committed plan, with ID and \
                  PATTERN",
             ),
             Argument(
@@ -279,18 +264,18 @@ const COMMANDS: &[Usage<'static>] = &[
     ),
     Usage(
         "page",
-        "Prints an intersection as one HTML page: its plan with the pictures of all patterns, \
-         its draft, its cabinet; or the plan of a file",
+        "Prints an intersection as one HTML page: its plan with pictures of all patterns, its \
+         draft and its cabinet; or the plan of a file",
         &[
             Argument(
                 "db",
                 Form::Choice("FILE"),
-                "The SQLite file that keeps the tables: shows an intersection, with ID",
+                "The SQLite file of the tables: shows an intersection, with ID",
             ),
             Argument(
                 "file",
                 Form::Choice("FILE"),
-                "The CSV file of a plan, which is shown alone",
+                "The CSV file of a plan, to show that alone",
             ),
             Argument("padded", Form::Flag, PADDED),
             Argument(
