@@ -147,7 +147,7 @@ const COMMANDS: &[Usage<'static>] = &[
             Argument(
                 "CSV",
                 Form::Word,
-                "The CSV file: one record for each inspection, order, used part, closing and delivery",
+                "The CSV file: one record for each inspection, order, used part, closing, delivery",
             ),
         ],
     ),
