@@ -1,21 +1,22 @@
 -- Why a command line states no job.
-use Rattle.std.specs.Prelude.{◌≡◌, ◌≢◌, ◌⊎◌, ⊤, List, [], ◌∷◌, Option, Some, None, option_map}
+use Rattle.std.specs.Prelude.{◌≡◌, ◌≢◌, ◌⊎◌, ⊤, List, [], ◌∷◌, Option, Some, None}
 use Rattle.std.specs.Prelude.{Result, Ok, Err}
-use Rattle.std.specs.Borrow.{Bor}
 use Rattle.std.specs.declared.alloc.AllocError.{AllocError}
 use Rattle.clap.specs.Faults.{fault_of}
 use Rattle.clap.specs.Kinds.{IsAmong, Kinds, or_else}
 use Rattle.clap.specs.Simple.{subcommand_of, subcommand_rows_of}
 use Rattle.clap.specs.Values.{kind_of}
-use Rattle.clap.specs.Walk.{Text}
+use Rattle.clap.specs.Walk.{Row, Text, first_of}
 use Rattle.clap.specs.declared.error.Error.{Error}
 use Rattle.clap.specs.declared.error.kind.ErrorKind.TheVariants as kind
 use Rattle.clap.specs.declared.parser.matches.ArgMatches.{ArgMatches}
-use Rattle.signal_office_line.specs.declared.job.Job.{Job}
+use Rattle.signal_office_line.specs.declared.job.Found.{Found}
+use Rattle.signal_office_line.specs.declared.job.Found.TheVariants as found
 use Rattle.signal_office_line.specs.declared.job.JobFault.{JobFault}
 use Rattle.signal_office_line.specs.declared.job.JobFault.TheVariants.{Refused, NoMemory}
 use Rattle.signal_office_line.specs.CommandLine.{signal_app}
-use Rattle.signal_office_line.specs.Job.{Asked, asked, job_in}
+use Rattle.signal_office_line.specs.Job.{Asked, asked, job_in, number_at}
+use Rattle.signal_office_line.specs.declared.refusals.NumberArgument.{NumberArgument}
 
 -- the kinds of refusal that `clap` answers to the words, help that they ask for among them; words
 -- that it takes have none
@@ -43,10 +44,19 @@ IsToldAs error fault =
     ((kind_of error ≡ kind.OutOfMemory) × (fault ≡ NoMemory))
     ⊎ ((kind_of error ≢ kind.OutOfMemory) × (fault ≡ Refused error))
 
--- what is told of the words, by what `clap` answered to them: the job that its command states, if
--- any, or its refusal
-abbrev pub IsJudged : Result ArgMatches Error → Result (Option (Job (Bor Text))) JobFault → Type 0
-IsJudged (Ok matches) (Ok found) = option_map asked found ≡ job_in (subcommand_rows_of matches)
+-- a word of the argument is given, and is no number of its range
+abbrev pub IsWrongNumber : NumberArgument → (word : Text) → List Row → Type 0
+IsWrongNumber argument word rows =
+    (first_of argument.id.now rows ≡ Some word) × (number_at argument.most argument.id.now rows ≡ None)
+
+-- the job that the command of the words states, or that it states none
+abbrev pub IsFoundIn : ArgMatches → Found → Type 0
+IsFoundIn matches (found.Job job) = Some (asked job) ≡ job_in (subcommand_rows_of matches)
+IsFoundIn matches (found.NoJob rest) = None ≡ job_in (subcommand_rows_of matches)
+
+-- what is told of the words, by what `clap` answered to them: that, or its refusal
+abbrev pub IsJudged : Result ArgMatches Error → Result Found JobFault → Type 0
+IsJudged (Ok matches) (Ok found) = IsFoundIn matches found
 IsJudged (Err error) (Err fault) = IsToldAs error fault
 IsJudged (Ok matches) (Err fault) = ⊥
 IsJudged (Err error) (Ok found) = ⊥

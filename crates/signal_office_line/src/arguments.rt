@@ -70,7 +70,7 @@ fn arg_of<'a>(alloc: Global, argument: &Argument<'a>) -> Arg<'a>
 }
 
 /// A command as `clap` takes it.
-fn command_of<'a>(alloc: Global, usage: &Usage<'a>) -> Result<Command<'a>, AllocError>
+pub(crate) fn command_of<'a>(alloc: Global, usage: &Usage<'a>) -> Result<Command<'a>, AllocError>
     ensures { IfOk result (λ c. ParsesAs c (app_for usage.now)) }
 {
     let Usage(name, about, arguments) = *usage;

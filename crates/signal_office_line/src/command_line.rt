@@ -4,11 +4,14 @@ ghost use Rattle.std.specs.Prelude.{IfOk};
 ghost use Rattle.signal_office_line.specs.CommandLine.{ParsesAs, signal_app};
 
 use crate::arguments::{
-    Argument, EXPLAIN, FILE_OR_MEMORY, FOUND_FILE, Form, ID, MADE_FILE, PADDED, Usage,
+    Argument, EXPLAIN, FILE_OR_MEMORY, FOUND_FILE, Form, ID, MADE_FILE, PADDED, Usage, command_of,
     with_commands,
 };
 use clap::Command;
 use std::alloc::{AllocError, Global};
+
+/// The program's version, as the newest heading of CHANGELOG.md has it, and that of its tables.
+const VERSION: &str = "2026-11-27, tables of version 2";
 
 /// The commands, in the order of the help.
 const COMMANDS: &[Usage<'static>] = &[
@@ -293,6 +296,20 @@ pub(crate) fn command_line<'a>(alloc: Global) -> Result<Command<'a>, AllocError>
 {
     let program = Command::new(alloc, "signal_office")
         .about("The office of a city's traffic signals: timing plans, cabinets and stock")
+        .version(VERSION)
         .subcommand_required(true);
     with_commands(alloc, program, COMMANDS)
+}
+
+/// A command of the program by itself, as its usage names it; the program where it has no such
+/// command.
+pub(crate) fn command_named<'a>(alloc: Global, name: &str) -> Result<Command<'a>, AllocError> {
+    for usage in COMMANDS {
+        let Usage(own, ..) = *usage;
+        if *own == *name {
+            let shown = format!(in alloc; "signal_office {name}")?;
+            return command_of(alloc, usage)?.bin_name(shown.as_str());
+        }
+    }
+    command_line(alloc)
 }

@@ -7,11 +7,12 @@ ghost use Rattle.clap.specs.Takes.{takes};
 ghost use Rattle.clap.specs.Values.{kind_of};
 ghost use Rattle.signal_office_line.specs.CommandLine.{signal_app};
 ghost use Rattle.signal_office_line.specs.Job.{asked, job_in};
-ghost use Rattle.signal_office_line.specs.Refusals.{IsJudged, IsRefusalTold, IsRefusedBy};
-ghost use Rattle.signal_office_line.specs.Refusals.{clap_refusals, word_refusals};
+ghost use Rattle.signal_office_line.specs.Refusals.{IsFoundIn, IsJudged, IsRefusalTold};
+ghost use Rattle.signal_office_line.specs.Refusals.{IsRefusedBy, clap_refusals, word_refusals};
 
 use crate::command_line::command_line;
 use crate::jobs::job_at;
+use crate::refusals::value_refusal;
 use crate::shows::{PlanShown, Shown};
 use clap::error::ErrorKind;
 use clap::{ArgMatches, Error};
@@ -141,12 +142,6 @@ impl From<Error> for JobFault {
     }
 }
 
-/// Why words that state no job are refused.
-const NO_JOB: &str =
-    "a number is out of its range: --port is 1 to 65535, --count 1 to 1000000, --first and ID \
-    1 to 9999, INTERVAL 1 to 3650, PATTERN 1 to 48; or words are too few, too many, or not to be \
-    given together";
-
 /// What `clap` answers to the words.
 fn matches_of<'a>(alloc: Global, words: &'a [&'a str]) -> Result<ArgMatches<'a>, Error>
     ensures found { IfOk result (λ matches. subcommand_rows_of matches
@@ -159,23 +154,34 @@ fn matches_of<'a>(alloc: Global, words: &'a [&'a str]) -> Result<ArgMatches<'a>,
     command_line(alloc)?.try_get_matches_from(words)
 }
 
-/// What `clap` answers where it is to refuse a value.
-fn value_refusal(alloc: Global) -> Result<Error, AllocError>
-    ensures { IfOk result (λ error. kind_of error ≡ ErrorKind.ValueValidation) }
+/// What stands in the words that `clap` takes: a job, or none in what it found.
+#[derive(Drop)]
+enum Found<'a> {
+    Job(Job<&'a str>),
+    NoJob(ArgMatches<'a>),
+}
+
+/// The job that the found command asks for, if any.
+fn found_in<'a>(matches: ArgMatches<'a>) -> Found<'a>
+    ensures { IsFoundIn matches.entry result }
 {
-    command_line(alloc)?.error(ErrorKind::ValueValidation, NO_JOB)
+    let job = match matches.subcommand() {
+        Some((name, inner)) => job_at(name, inner),
+        None => None,
+    };
+    match job {
+        Some(job) => Found::Job(job),
+        None => Found::NoJob(matches),
+    }
 }
 
 /// What the words ask for, if anything, by what `clap` answered to them. Out of memory is told
 /// exactly where `clap` told it.
-fn judged<'a>(answer: Result<ArgMatches<'a>, Error>) -> Result<Option<Job<&'a str>>, JobFault>
+fn judged<'a>(answer: Result<ArgMatches<'a>, Error>) -> Result<Found<'a>, JobFault>
     ensures { IsJudged answer.entry result }
 {
     match answer {
-        Ok(matches) => match matches.subcommand() {
-            Some((name, inner)) => Ok(job_at(name, inner)),
-            None => Ok(None),
-        },
+        Ok(matches) => Ok(found_in(matches)),
         Err(error) => Err(JobFault::from(error)),
     }
 }
@@ -212,8 +218,8 @@ pub fn job_of<'a>(alloc: Global, words: &'a [&'a str]) -> Result<Job<&'a str>, J
         fault ≡ JobFault.NoMemory) }
 {
     match judged(matches_of(alloc, words)) {
-        Ok(Some(job)) => Ok(job),
-        Ok(None) => Err(value_refused(value_refusal(alloc))),
+        Ok(Found::Job(job)) => Ok(job),
+        Ok(Found::NoJob(matches)) => Err(value_refused(value_refusal(alloc, &matches))),
         Err(fault) => Err(fault),
     }
 }

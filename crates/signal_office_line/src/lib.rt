@@ -10,6 +10,7 @@ mod arguments;
 mod command_line;
 mod job;
 mod jobs;
+mod refusals;
 mod shows;
 mod values;
 

@@ -9,7 +9,9 @@ returns c =
     c.with_commands.ensures signal_top (record {
       app_is = ap app_of_fields c.subcommand_required-program.ensures
           ∙ ap (on_top (λ s. record s { subcommand_required = true }))
-          (ap app_of_fields c.about.ensures ∙ c.new.ensures.app);
+          (ap app_of_fields c.version.ensures ∙ ap (on_top (λ s. record s { has_version = true }))
+          (ap app_of_fields c.about.ensures ∙ c.new.ensures.app));
       local = ap (λ (x : Command-F Command). x.has_globals) c.subcommand_required-program.ensures
-          ∙ (ap (λ (x : Command-F Command). x.has_globals) c.about.ensures ∙ c.new.ensures.local);
+          ∙ (ap (λ (x : Command-F Command). x.has_globals) c.version.ensures
+          ∙ (ap (λ (x : Command-F Command). x.has_globals) c.about.ensures ∙ c.new.ensures.local));
     })
