@@ -9,6 +9,7 @@
 - In all documents: each link leads somewhere, each file named by its path is there, no line passes
   100 columns but in tables, and nothing is named that a reader does not have. README.md has at most
   150 lines, all have at most 24,000 words, and README.md and docs/PROOF.md have one headline.
+- What `--version` prints is the newest heading of CHANGELOG.md.
 - No line of crates.txt names a crate of this repository that its crate does not use.
 
 Builds nothing. Prints what is wrong, and ends with status 1 then.
@@ -117,6 +118,14 @@ def wrong_sizes():
         yield "README.md and docs/PROOF.md have different headlines"
 
 
+def wrong_version():
+    """What `--version` prints, where it is not the newest heading of CHANGELOG.md."""
+    newest = re.search(r"^## (.*)$", (TOP / "CHANGELOG.md").read_text(), re.MULTILINE)[1]
+    source = TOP / "crates/signal_office_line/src/command_line.rt"
+    if f'VERSION: &str = "{newest}"' not in source.read_text():
+        yield f"CHANGELOG.md begins with {newest}, and {source.name} has another version"
+
+
 def written_by_scripts():
     if not calls.is_written():
         yield "docs/CALLS.md is out of date: tests/calls.py --write"
@@ -141,7 +150,8 @@ def main():
     known = words()
     wrong = [*missing_names("PROOF.md", known), *missing_names("ARCHITECTURE.md", known)]
     wrong += [*missing_links(), *missing_files(), *wrong_lines(), *wrong_sizes()]
-    wrong += [*written_by_scripts(), *unused_crates()]
+    wrong += [*written_by_scripts(), *wrong_version()]
+    wrong += unused_crates()
     print("\n".join(wrong) if wrong else "ok")
     sys.exit(1 if wrong else 0)
 
