@@ -30,6 +30,47 @@ pub(crate) const PADDED: &str =
 /// What it says of the number of an intersection.
 pub(crate) const ID: &str = "The intersection's number, 1 to 9999";
 
+/// What the help of a command says of its statuses.
+pub(crate) const STATUSES: &str = "Status: 0 done, 1 a fault, 2 refused words";
+
+/// What the help says of the records of a plan, and of the statuses of a command that reads them.
+pub(crate) const PLAN_RECORDS: &str = "\
+Records of CSV, the fields in this order:
+  phase,PHASE,RING,MIN_GREEN,PASSAGE,MAX1,YELLOW,RED,MATES
+  phase, the same, then WALK,CLEAR,WIDTH,SETBACK,SHORT,LEAD
+  seq,SEQUENCE,RING,PHASES
+  split,SPLIT,PHASE,TIME,MODE,COORD
+  pattern,PATTERN,CYCLE,OFFSET,SPLIT,SEQUENCE
+Seconds: MIN_GREEN, MAX1, WALK, CLEAR, LEAD, TIME, CYCLE, OFFSET
+Tenths of a second: PASSAGE, YELLOW, RED. Tenths of a foot: WIDTH, SETBACK
+MATES, PHASES: numbers with one space between them. SHORT, COORD: 0 or 1. MODE: 2 to 7
+
+Status: 0 done, 1 a fault or a bad record, 2 refused words,
+3 the plan breaks a rule (verify-file, edit --commit), 4 the plans differ (compare)";
+
+/// What the help says of the records that change a plan, and of the statuses of `edit`.
+pub(crate) const PLAN_CHANGES: &str = "\
+Records of CSV: those of a plan, which `verify-file --help` lists, and
+  remove,phase,PHASE
+  remove,seq,SEQUENCE,RING
+  remove,split,SPLIT,PHASE
+  remove,pattern,PATTERN
+
+Status: 0 done, 1 a fault or a bad record, 2 refused words,
+3 a draft that was to be committed breaks a rule";
+
+/// What the help says of the records of cabinets, and of the statuses of `import`.
+pub(crate) const CABINET_RECORDS: &str = "\
+Records of CSV, the fields in this order:
+  inspection,ID,NUMBER,DAY,CLERK,TEXT
+  order,ID,NUMBER,DAY,CLERK,TEXT
+  use,ID,ORDER,LINE,PART,COUNT
+  close,ID,ORDER,DAY,CLERK
+  delivery,PART,NUMBER,DAY,COUNT
+DAY: YYYY-MM-DD. PART: a part's code. COUNT: pieces
+
+Status: 0 done, 1 a fault, a bad or a refused record (then none is taken), 2 refused words";
+
 /// How an argument is given.
 #[derive(Clone, Copy)]
 pub(crate) enum Form<'a> {
@@ -49,9 +90,15 @@ pub(crate) enum Form<'a> {
 #[derive(Clone, Copy)]
 pub(crate) struct Argument<'a>(pub &'a str, pub Form<'a>, pub &'a str);
 
-/// A command: its name, what the help says of it, and its arguments in their order.
+/// A command: its name, what the help says of it, its arguments in their order, and what the help
+/// says after these.
 #[derive(Clone, Copy)]
-pub(crate) struct Usage<'a>(pub &'a str, pub &'a str, pub &'a [Argument<'a>]);
+pub(crate) struct Usage<'a>(
+    pub &'a str,
+    pub &'a str,
+    pub &'a [Argument<'a>],
+    pub &'a str,
+);
 
 /// An argument as `clap` takes it.
 fn arg_of<'a>(alloc: Global, argument: &Argument<'a>) -> Arg<'a>
@@ -73,8 +120,8 @@ fn arg_of<'a>(alloc: Global, argument: &Argument<'a>) -> Arg<'a>
 pub(crate) fn command_of<'a>(alloc: Global, usage: &Usage<'a>) -> Result<Command<'a>, AllocError>
     ensures { IfOk result (λ c. ParsesAs c (app_for usage.now)) }
 {
-    let Usage(name, about, arguments) = *usage;
-    let mut command = Command::new(alloc, name).about(about);
+    let Usage(name, about, arguments, after) = *usage;
+    let mut command = Command::new(alloc, name).about(about).after_help(after);
     for argument in arguments {
         command = command.arg(arg_of(alloc, argument))?;
     }

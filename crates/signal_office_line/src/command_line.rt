@@ -4,8 +4,8 @@ ghost use Rattle.std.specs.Prelude.{IfOk};
 ghost use Rattle.signal_office_line.specs.CommandLine.{ParsesAs, signal_app};
 
 use crate::arguments::{
-    Argument, EXPLAIN, FILE_OR_MEMORY, FOUND_FILE, Form, ID, MADE_FILE, PADDED, Usage, command_of,
-    with_commands,
+    Argument, CABINET_RECORDS, EXPLAIN, FILE_OR_MEMORY, FOUND_FILE, Form, ID, MADE_FILE, PADDED,
+    PLAN_CHANGES, PLAN_RECORDS, STATUSES, Usage, command_of, with_commands,
 };
 use clap::Command;
 use std::alloc::{AllocError, Global};
@@ -20,6 +20,7 @@ const COMMANDS: &[Usage<'static>] = &[
         "Reads HTTP requests from standard input, at most 1,000,000, and writes the answers to \
          standard output",
         &[Argument("db", Form::Choice("FILE"), FILE_OR_MEMORY)],
+        STATUSES,
     ),
     Usage(
         "serve",
@@ -34,6 +35,7 @@ const COMMANDS: &[Usage<'static>] = &[
             ),
             Argument("db", Form::Choice("FILE"), FILE_OR_MEMORY),
         ],
+        STATUSES,
     ),
     Usage(
         "sheet",
@@ -43,6 +45,7 @@ const COMMANDS: &[Usage<'static>] = &[
             Argument("db", Form::Needed("FILE"), FOUND_FILE),
             Argument("ID", Form::Word, ID),
         ],
+        STATUSES,
     ),
     Usage(
         "overdue",
@@ -63,6 +66,7 @@ const COMMANDS: &[Usage<'static>] = &[
                 "The day, as YYYY-MM-DD, from 1970-01-01 to 2199-12-31",
             ),
         ],
+        STATUSES,
     ),
     Usage(
         "add",
@@ -81,6 +85,7 @@ const COMMANDS: &[Usage<'static>] = &[
                 "Its name, 1 to 120 bytes without control characters",
             ),
         ],
+        STATUSES,
     ),
     Usage(
         "list",
@@ -90,6 +95,7 @@ const COMMANDS: &[Usage<'static>] = &[
             Argument("db", Form::Needed("FILE"), FOUND_FILE),
             Argument("csv", Form::Flag, "Print as CSV, without heading or count"),
         ],
+        STATUSES,
     ),
     Usage(
         "stock",
@@ -98,6 +104,7 @@ const COMMANDS: &[Usage<'static>] = &[
             Argument("db", Form::Needed("FILE"), FOUND_FILE),
             Argument("csv", Form::Flag, "Print as CSV, without heading or count"),
         ],
+        STATUSES,
     ),
     Usage(
         "orders",
@@ -111,6 +118,7 @@ const COMMANDS: &[Usage<'static>] = &[
                 "The intersection's number, 1 to 9999; without it all are printed",
             ),
         ],
+        STATUSES,
     ),
     Usage(
         "cabinet",
@@ -120,6 +128,7 @@ const COMMANDS: &[Usage<'static>] = &[
             Argument("db", Form::Needed("FILE"), FOUND_FILE),
             Argument("ID", Form::Word, ID),
         ],
+        STATUSES,
     ),
     Usage(
         "verify-file",
@@ -134,11 +143,13 @@ const COMMANDS: &[Usage<'static>] = &[
                 "The CSV file: one record for each phase, sequence, split and pattern",
             ),
         ],
+        PLAN_RECORDS,
     ),
     Usage(
         "migrate",
         "Brings a file of an older version to today's; says how many rows were rewritten",
         &[Argument("db", Form::Needed("FILE"), FOUND_FILE)],
+        STATUSES,
     ),
     Usage(
         "import",
@@ -153,6 +164,7 @@ const COMMANDS: &[Usage<'static>] = &[
                 "The CSV file: one record for each inspection, order, used part, closing, delivery",
             ),
         ],
+        CABINET_RECORDS,
     ),
     Usage(
         "export",
@@ -164,6 +176,7 @@ const COMMANDS: &[Usage<'static>] = &[
             Argument("cabinet", Form::Flag, "Print the cabinet"),
             Argument("ID", Form::Word, ID),
         ],
+        STATUSES,
     ),
     Usage(
         "edit",
@@ -198,6 +211,7 @@ const COMMANDS: &[Usage<'static>] = &[
                  left out; the clerk's draft is then committed as it is",
             ),
         ],
+        PLAN_CHANGES,
     ),
     Usage(
         "abandon",
@@ -207,6 +221,7 @@ const COMMANDS: &[Usage<'static>] = &[
             Argument("clerk", Form::Needed("NAME"), "Who drops it, 1 to 40 bytes"),
             Argument("ID", Form::Word, ID),
         ],
+        STATUSES,
     ),
     Usage(
         "compare",
@@ -236,6 +251,7 @@ const COMMANDS: &[Usage<'static>] = &[
                 "The CSV file of the other plan; with --db it may be left out",
             ),
         ],
+        PLAN_RECORDS,
     ),
     Usage(
         "diagram",
@@ -264,6 +280,7 @@ const COMMANDS: &[Usage<'static>] = &[
                 "The pattern's number, 1 to 48; not with --file",
             ),
         ],
+        PLAN_RECORDS,
     ),
     Usage(
         "page",
@@ -287,6 +304,7 @@ const COMMANDS: &[Usage<'static>] = &[
                 "The intersection's number, 1 to 9999; not with --file",
             ),
         ],
+        PLAN_RECORDS,
     ),
 ];
 

@@ -8,8 +8,9 @@ use Rattle.signal_office_line.proofs.arguments.command_of.Goals as goal
 
 pub loop-argument-init : goal.loop-argument-init
 loop-argument-init c = record {
-  app_is = ap app_of_fields c.about-command.ensures ∙ c.new.ensures.app;
-  local = ap (λ (x : Command-F Command). x.has_globals) c.about-command.ensures ∙ c.new.ensures.local;
+  app_is = ap app_of_fields c.after_help-command.ensures ∙ (ap app_of_fields c.about.ensures ∙ c.new.ensures.app);
+  local = ap (λ (x : Command-F Command). x.has_globals) c.after_help-command.ensures
+      ∙ (ap (λ (x : Command-F Command). x.has_globals) c.about.ensures ∙ c.new.ensures.local);
 }
 
 pub loop-argument-preserved : goal.loop-argument-preserved
