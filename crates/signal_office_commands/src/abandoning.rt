@@ -4,7 +4,7 @@ ghost use Rattle.signal_office_commands.specs.Commands.{Abandons};
 ghost use Rattle.office_desk.specs.Running.{MakesTables};
 ghost use Rattle.signal_office_commands.specs.Stopping.{AfterAbandoning, StopLeaves};
 
-use crate::editing::moved;
+use crate::committing::moved;
 use office_desk::office::Office;
 use office_machine::command::Command;
 use office_tables_shelf::shelf::Shelf;

@@ -50,13 +50,13 @@ IsWrongNumber argument word rows =
     (first_of argument.id.now rows ≡ Some word) × (number_at argument.most argument.id.now rows ≡ None)
 
 -- the job that the command of the words states, or that it states none
-abbrev pub IsFoundIn : ArgMatches → Found → Type 0
-IsFoundIn matches (found.Job job) = Some (asked job) ≡ job_in (subcommand_rows_of matches)
-IsFoundIn matches (found.NoJob rest) = None ≡ job_in (subcommand_rows_of matches)
+abbrev pub IsJobFound : ArgMatches → Found → Type 0
+IsJobFound matches (found.Job job) = Some (asked job) ≡ job_in (subcommand_rows_of matches)
+IsJobFound matches (found.NoJob rest) = None ≡ job_in (subcommand_rows_of matches)
 
 -- what is told of the words, by what `clap` answered to them: that, or its refusal
 abbrev pub IsJudged : Result ArgMatches Error → Result Found JobFault → Type 0
-IsJudged (Ok matches) (Ok found) = IsFoundIn matches found
+IsJudged (Ok matches) (Ok found) = IsJobFound matches found
 IsJudged (Err error) (Err fault) = IsToldAs error fault
 IsJudged (Ok matches) (Err fault) = ⊥
 IsJudged (Err error) (Ok found) = ⊥

@@ -31,10 +31,10 @@ pub(crate) const PADDED: &str =
 pub(crate) const ID: &str = "The intersection's number, 1 to 9999";
 
 /// What the help of a command says of its statuses.
-pub(crate) const STATUSES: &str = "Status: 0 done, 1 a fault, 2 refused words";
+const STATUSES: &str = "Status: 0 done, 1 a fault, 2 refused words";
 
 /// What the help says of the records of a plan, and of the statuses of a command that reads them.
-pub(crate) const PLAN_RECORDS: &str = "\
+const PLAN_RECORDS: &str = "\
 Records of CSV, the fields in this order:
   phase,PHASE,RING,MIN_GREEN,PASSAGE,MAX1,YELLOW,RED,MATES
   phase, the same, then WALK,CLEAR,WIDTH,SETBACK,SHORT,LEAD
@@ -49,7 +49,7 @@ Status: 0 done, 1 a fault or a bad record, 2 refused words,
 3 the plan breaks a rule (verify-file, edit --commit), 4 the plans differ (compare)";
 
 /// What the help says of the records that change a plan, and of the statuses of `edit`.
-pub(crate) const PLAN_CHANGES: &str = "\
+const PLAN_CHANGES: &str = "\
 Records of CSV: those of a plan, which `verify-file --help` lists, and
   remove,phase,PHASE
   remove,seq,SEQUENCE,RING
@@ -60,7 +60,7 @@ Status: 0 done, 1 a fault or a bad record, 2 refused words,
 3 a draft that was to be committed breaks a rule";
 
 /// What the help says of the records of cabinets, and of the statuses of `import`.
-pub(crate) const CABINET_RECORDS: &str = "\
+const CABINET_RECORDS: &str = "\
 Records of CSV, the fields in this order:
   inspection,ID,NUMBER,DAY,CLERK,TEXT
   order,ID,NUMBER,DAY,CLERK,TEXT
@@ -70,6 +70,26 @@ Records of CSV, the fields in this order:
 DAY: YYYY-MM-DD. PART: a part's code. COUNT: pieces
 
 Status: 0 done, 1 a fault, a bad or a refused record (then none is taken), 2 refused words";
+
+/// What the help of a command says after its arguments.
+#[derive(Clone, Copy)]
+pub(crate) enum Ending {
+    Statuses,
+    PlanRecords,
+    PlanChanges,
+    CabinetRecords,
+}
+
+impl Ending {
+    fn text(self) -> &'static str {
+        match self {
+            Ending::Statuses => STATUSES,
+            Ending::PlanRecords => PLAN_RECORDS,
+            Ending::PlanChanges => PLAN_CHANGES,
+            Ending::CabinetRecords => CABINET_RECORDS,
+        }
+    }
+}
 
 /// How an argument is given.
 #[derive(Clone, Copy)]
@@ -93,12 +113,7 @@ pub(crate) struct Argument<'a>(pub &'a str, pub Form<'a>, pub &'a str);
 /// A command: its name, what the help says of it, its arguments in their order, and what the help
 /// says after these.
 #[derive(Clone, Copy)]
-pub(crate) struct Usage<'a>(
-    pub &'a str,
-    pub &'a str,
-    pub &'a [Argument<'a>],
-    pub &'a str,
-);
+pub(crate) struct Usage<'a>(pub &'a str, pub &'a str, pub &'a [Argument<'a>], pub Ending);
 
 /// An argument as `clap` takes it.
 fn arg_of<'a>(alloc: Global, argument: &Argument<'a>) -> Arg<'a>
@@ -120,8 +135,10 @@ fn arg_of<'a>(alloc: Global, argument: &Argument<'a>) -> Arg<'a>
 pub(crate) fn command_of<'a>(alloc: Global, usage: &Usage<'a>) -> Result<Command<'a>, AllocError>
     ensures { IfOk result (λ c. ParsesAs c (app_for usage.now)) }
 {
-    let Usage(name, about, arguments, after) = *usage;
-    let mut command = Command::new(alloc, name).about(about).after_help(after);
+    let Usage(name, about, arguments, ending) = *usage;
+    let mut command = Command::new(alloc, name)
+        .about(about)
+        .after_help(ending.text());
     for argument in arguments {
         command = command.arg(arg_of(alloc, argument))?;
     }

@@ -4,8 +4,8 @@ ghost use Rattle.std.specs.Prelude.{IfOk};
 ghost use Rattle.signal_office_line.specs.CommandLine.{ParsesAs, signal_app};
 
 use crate::arguments::{
-    Argument, CABINET_RECORDS, EXPLAIN, FILE_OR_MEMORY, FOUND_FILE, Form, ID, MADE_FILE, PADDED,
-    PLAN_CHANGES, PLAN_RECORDS, STATUSES, Usage, command_of, with_commands,
+    Argument, EXPLAIN, Ending, FILE_OR_MEMORY, FOUND_FILE, Form, ID, MADE_FILE, PADDED, Usage,
+    command_of, with_commands,
 };
 use clap::Command;
 use std::alloc::{AllocError, Global};
@@ -20,7 +20,7 @@ const COMMANDS: &[Usage<'static>] = &[
         "Reads HTTP requests from standard input, at most 1,000,000, and writes the answers to \
          standard output",
         &[Argument("db", Form::Choice("FILE"), FILE_OR_MEMORY)],
-        STATUSES,
+        Ending::Statuses,
     ),
     Usage(
         "serve",
@@ -35,7 +35,7 @@ const COMMANDS: &[Usage<'static>] = &[
             ),
             Argument("db", Form::Choice("FILE"), FILE_OR_MEMORY),
         ],
-        STATUSES,
+        Ending::Statuses,
     ),
     Usage(
         "sheet",
@@ -45,7 +45,7 @@ const COMMANDS: &[Usage<'static>] = &[
             Argument("db", Form::Needed("FILE"), FOUND_FILE),
             Argument("ID", Form::Word, ID),
         ],
-        STATUSES,
+        Ending::Statuses,
     ),
     Usage(
         "overdue",
@@ -66,7 +66,7 @@ const COMMANDS: &[Usage<'static>] = &[
                 "The day, as YYYY-MM-DD, from 1970-01-01 to 2199-12-31",
             ),
         ],
-        STATUSES,
+        Ending::Statuses,
     ),
     Usage(
         "add",
@@ -85,7 +85,7 @@ const COMMANDS: &[Usage<'static>] = &[
                 "Its name, 1 to 120 bytes without control characters",
             ),
         ],
-        STATUSES,
+        Ending::Statuses,
     ),
     Usage(
         "list",
@@ -95,7 +95,7 @@ const COMMANDS: &[Usage<'static>] = &[
             Argument("db", Form::Needed("FILE"), FOUND_FILE),
             Argument("csv", Form::Flag, "Print as CSV, without heading or count"),
         ],
-        STATUSES,
+        Ending::Statuses,
     ),
     Usage(
         "stock",
@@ -104,7 +104,7 @@ const COMMANDS: &[Usage<'static>] = &[
             Argument("db", Form::Needed("FILE"), FOUND_FILE),
             Argument("csv", Form::Flag, "Print as CSV, without heading or count"),
         ],
-        STATUSES,
+        Ending::Statuses,
     ),
     Usage(
         "orders",
@@ -118,7 +118,7 @@ const COMMANDS: &[Usage<'static>] = &[
                 "The intersection's number, 1 to 9999; without it all are printed",
             ),
         ],
-        STATUSES,
+        Ending::Statuses,
     ),
     Usage(
         "cabinet",
@@ -128,7 +128,7 @@ const COMMANDS: &[Usage<'static>] = &[
             Argument("db", Form::Needed("FILE"), FOUND_FILE),
             Argument("ID", Form::Word, ID),
         ],
-        STATUSES,
+        Ending::Statuses,
     ),
     Usage(
         "verify-file",
@@ -143,13 +143,13 @@ const COMMANDS: &[Usage<'static>] = &[
                 "The CSV file: one record for each phase, sequence, split and pattern",
             ),
         ],
-        PLAN_RECORDS,
+        Ending::PlanRecords,
     ),
     Usage(
         "migrate",
         "Brings a file of an older version to today's; says how many rows were rewritten",
         &[Argument("db", Form::Needed("FILE"), FOUND_FILE)],
-        STATUSES,
+        Ending::Statuses,
     ),
     Usage(
         "import",
@@ -164,7 +164,7 @@ const COMMANDS: &[Usage<'static>] = &[
                 "The CSV file: one record for each inspection, order, used part, closing, delivery",
             ),
         ],
-        CABINET_RECORDS,
+        Ending::CabinetRecords,
     ),
     Usage(
         "export",
@@ -176,7 +176,7 @@ const COMMANDS: &[Usage<'static>] = &[
             Argument("cabinet", Form::Flag, "Print the cabinet"),
             Argument("ID", Form::Word, ID),
         ],
-        STATUSES,
+        Ending::Statuses,
     ),
     Usage(
         "edit",
@@ -211,7 +211,7 @@ const COMMANDS: &[Usage<'static>] = &[
                  left out; the clerk's draft is then committed as it is",
             ),
         ],
-        PLAN_CHANGES,
+        Ending::PlanChanges,
     ),
     Usage(
         "abandon",
@@ -221,7 +221,7 @@ const COMMANDS: &[Usage<'static>] = &[
             Argument("clerk", Form::Needed("NAME"), "Who drops it, 1 to 40 bytes"),
             Argument("ID", Form::Word, ID),
         ],
-        STATUSES,
+        Ending::Statuses,
     ),
     Usage(
         "compare",
@@ -251,7 +251,7 @@ const COMMANDS: &[Usage<'static>] = &[
                 "The CSV file of the other plan; with --db it may be left out",
             ),
         ],
-        PLAN_RECORDS,
+        Ending::PlanRecords,
     ),
     Usage(
         "diagram",
@@ -280,7 +280,7 @@ const COMMANDS: &[Usage<'static>] = &[
                 "The pattern's number, 1 to 48; not with --file",
             ),
         ],
-        PLAN_RECORDS,
+        Ending::PlanRecords,
     ),
     Usage(
         "page",
@@ -304,7 +304,7 @@ const COMMANDS: &[Usage<'static>] = &[
                 "The intersection's number, 1 to 9999; not with --file",
             ),
         ],
-        PLAN_RECORDS,
+        Ending::PlanRecords,
     ),
 ];
 

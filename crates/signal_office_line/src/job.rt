@@ -7,7 +7,7 @@ ghost use Rattle.clap.specs.Takes.{takes};
 ghost use Rattle.clap.specs.Values.{kind_of};
 ghost use Rattle.signal_office_line.specs.CommandLine.{signal_app};
 ghost use Rattle.signal_office_line.specs.Job.{asked, job_in};
-ghost use Rattle.signal_office_line.specs.Refusals.{IsFoundIn, IsJudged, IsRefusalTold};
+ghost use Rattle.signal_office_line.specs.Refusals.{IsJobFound, IsJudged, IsRefusalTold};
 ghost use Rattle.signal_office_line.specs.Refusals.{IsRefusedBy, clap_refusals, word_refusals};
 
 use crate::command_line::command_line;
@@ -163,7 +163,7 @@ enum Found<'a> {
 
 /// The job that the found command asks for, if any.
 fn found_in<'a>(matches: ArgMatches<'a>) -> Found<'a>
-    ensures { IsFoundIn matches.entry result }
+    ensures { IsJobFound matches.entry result }
 {
     let job = match matches.subcommand() {
         Some((name, inner)) => job_at(name, inner),
