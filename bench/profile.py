@@ -4,7 +4,7 @@ functions, each with its share of 100 of a run, with what it calls.
     python3 bench/profile.py [PROGRAM] [--write]
 
 It does a twentieth of each stream, and the whole of a file. It lists functions of this repository,
-of the database, of the readers of JSON and CSV, and of memory, with at least eight of 100 in some
+of the database, of the readers of JSON and CSV, and of memory, with at least twelve of 100 in some
 work. With --write the table goes into docs/MEASUREMENTS.md. Needs valgrind.
 """
 import pathlib
@@ -19,7 +19,7 @@ from program import found
 
 WORKS = ("add and ask", "all of 60", "4 of 60", "opening")
 HEADS = ("add and ask", "all rows", "4 rows", "opening")  # of these works
-LEAST = 8  # of 100
+LEAST = 12  # of 100
 OTHERS = {"sqlite", "serde_json", "json", "csv"}
 MEMORY = {
     "rattle_alloc": "memory taken", "rattle_realloc": "memory grown",
